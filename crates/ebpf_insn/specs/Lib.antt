@@ -1,0 +1,4 @@
+pub mod Registers
+pub mod Slot
+pub mod Program
+pub mod Faults

@@ -1,0 +1,60 @@
+//! A decoded program.
+
+ghost use Rattle.std.specs.Prelude.{◌≡◌, ◌≤◌, length};
+ghost use Rattle.std.specs.Option.{option_copied};
+ghost use Rattle.ebpf_insn.specs.Program.{instructions, insn_at};
+
+use crate::insn::Insn;
+use std::marker::Model;
+
+/// A program: 1 to 4096 slots, each with the instruction that begins there or, in the second half of a wide
+/// instruction, with none.
+///
+/// Contracts see it as the list of its slots. Only [`crate::decode::decode`] makes one.
+#[derive(Drop)]
+pub struct Program {
+    slots: Vec<Option<Insn>>,
+    len: usize,
+}
+
+impl Model for Program {
+    ghost use Rattle.std.specs.Prelude.{List, Option, ◌≡◌, ◌<◌, ◌≤◌, length};
+    ghost use Rattle.ebpf_insn.specs.declared.insn.Insn.{Insn};
+    ghost use Rattle.ebpf_insn.specs.Program.{instructions};
+
+    ghost Value = { List (Option Insn) };
+
+    ghost view = { λ p. p.slots.items };
+
+    ghost invariant = {
+        λ p. (0 < length p.slots.items) × (length p.slots.items ≤ 4096) × (p.len ≡ length (instructions p.slots.items))
+    };
+}
+
+impl Program {
+    /// How many instructions the program has: a wide one counts once.
+    pub fn len(&self) -> usize
+        ensures { result ≡ length (instructions self.now) }
+    {
+        self.len
+    }
+
+    /// How many slots the program has, 1 to 4096.
+    pub fn slots(&self) -> usize
+        ensures value { result ≡ length self.now }
+        ensures bound { result ≤ 4096 }
+        ensures some { 1 ≤ result }
+    {
+        self.slots.len()
+    }
+
+    /// The instruction that begins at a slot: `None` in a second half, and outside the program.
+    pub fn at(&self, slot: usize) -> Option<&Insn>
+        ensures { option_copied result ≡ insn_at self.now slot }
+    {
+        match self.slots.get(slot) {
+            Some(Some(insn)) => Some(insn),
+            _ => None,
+        }
+    }
+}

@@ -1,0 +1,32 @@
+//! A slot of eight bytes, and its fields.
+
+ghost use Rattle.std.specs.Prelude.{◌≡◌, ◌≤◌, length};
+ghost use Rattle.ebpf_insn.specs.Slot.{slot_at};
+
+use byteorder::{ByteOrder, LittleEndian};
+
+/// The fields of a slot, as unsigned numbers (RFC 9669, section 3.1). The registers are the nibbles as they stand, 0 to
+/// 15; a signed field is cast where an instruction is made of it.
+#[derive(Clone, Copy, Debug, PartialEq, Eq)]
+pub struct Slot {
+    pub opcode: u8,
+    pub dst: u8,
+    pub src: u8,
+    pub offset: u16,
+    pub imm: u32,
+}
+
+/// Reads the slot that the bytes begin with.
+pub fn read_slot(bytes: &[u8]) -> Slot
+    requires { 8 ≤ length bytes.now }
+    ensures { result ≡ slot_at bytes.now }
+{
+    let registers = bytes[1];
+    Slot {
+        opcode: bytes[0],
+        dst: registers % 16,
+        src: registers / 16,
+        offset: LittleEndian::read_u16(&bytes[2..]),
+        imm: LittleEndian::read_u32(&bytes[4..]),
+    }
+}
