@@ -2,7 +2,7 @@
 
 ghost use Rattle.std.specs.Prelude.{◌≡◌, ◌≤◌, length};
 ghost use Rattle.std.specs.Option.{option_copied};
-ghost use Rattle.ebpf_insn.specs.Program.{instructions, insn_at};
+ghost use Rattle.ebpf_insn.specs.Program.{instructions, insn_at, IsWellFormed};
 
 use crate::insn::Insn;
 use std::marker::Model;
@@ -18,17 +18,15 @@ pub struct Program {
 }
 
 impl Model for Program {
-    ghost use Rattle.std.specs.Prelude.{List, Option, ◌≡◌, ◌<◌, ◌≤◌, length};
+    ghost use Rattle.std.specs.Prelude.{List, Option, ◌≡◌, length};
     ghost use Rattle.ebpf_insn.specs.declared.insn.Insn.{Insn};
-    ghost use Rattle.ebpf_insn.specs.Program.{instructions};
+    ghost use Rattle.ebpf_insn.specs.Program.{instructions, IsWellFormed};
 
     ghost Value = { List (Option Insn) };
 
     ghost view = { λ p. p.slots.items };
 
-    ghost invariant = {
-        λ p. (0 < length p.slots.items) × (length p.slots.items ≤ 4096) × (p.len ≡ length (instructions p.slots.items))
-    };
+    ghost invariant = { λ p. IsWellFormed p.slots.items × (p.len ≡ length (instructions p.slots.items)) };
 }
 
 impl Program {
@@ -44,6 +42,7 @@ impl Program {
         ensures value { result ≡ length self.now }
         ensures bound { result ≤ 4096 }
         ensures some { 1 ≤ result }
+        ensures formed { IsWellFormed self.now }
     {
         self.slots.len()
     }

@@ -1,0 +1,133 @@
+//! The edges that leave an instruction.
+
+ghost use Rattle.std.specs.Prelude.{◌≡◌, ◌≤◌, ◌<◌, ◌+◌, ℕ, ℤ, pos, negsuc, ◌+ℤ◌, ◌≤ℤ◌, Option, Some, None, length, IfOk, IfErr, IfSome, MatchResult, MatchOption, OnOk, false, true};
+ghost use Rattle.ebpf_insn.specs.Program.{insn_at, slots_in, IsWellFormed};
+ghost use Rattle.ebpf_flow.specs.Edges.{falls, displacement_of, fall_of, jump_of, edges_of, is_reached};
+ghost use Rattle.ebpf_flow.specs.Flow.{jump_fault, fall_fault, insn_fault, LeadsForward};
+
+use crate::fault::FlowCode;
+use ebpf_insn::insn::Insn;
+use ebpf_insn::program::Program;
+
+/// Where an instruction leads: the slot after it, the target of its jump, both, or for an exit neither.
+#[derive(Clone, Copy, Debug, PartialEq, Eq)]
+pub struct Edges {
+    /// The slot after the instruction, unless it is a jump without condition or an exit.
+    pub fall: Option<u16>,
+    /// The slot that a jump or a branch leads to.
+    pub jump: Option<u16>,
+}
+
+// The edges that leave the instruction at a slot, or the first code that refuses it.
+pub(crate) fn edges_from(
+    program: &Program,
+    slot: usize,
+    insn: Insn,
+    reaches: bool,
+) -> Result<Edges, FlowCode>
+    requires inside { slot < length program.now }
+    requires here { insn_at program.now slot ≡ Some insn }
+    requires reached { reaches ≡ is_reached program.now slot }
+    ensures fine { OnOk result (insn_fault program.now slot (Some insn) ≡ None) }
+    ensures edges { IfOk result (λ e. e ≡ edges_of (Some insn) slot) }
+    ensures fall { IfOk result (λ e. LeadsForward program.now slot e.fall) }
+    ensures jump { IfOk result (λ e. LeadsForward program.now slot e.jump) }
+    ensures refused { IfErr result (λ code. insn_fault program.now slot (Some insn) ≡ Some code) }
+{
+    let jump = jump_from(program, slot, insn)?;
+    let fall = fall_from(program, slot, insn, reaches)?;
+    Ok(Edges { fall, jump })
+}
+
+// How many slots past the next one an instruction may jump.
+fn displacement_of(insn: Insn) -> Option<i64>
+    ensures value { result ≡ displacement_of insn }
+    ensures low { IfSome result (λ z. negsuc 2147483647 ≤ℤ z) }
+    ensures high { IfSome result (λ z. z ≤ℤ pos 2147483647) }
+{
+    match insn {
+        Insn::Jump { offset } => Some(offset as i64),
+        Insn::JumpFar { offset } => Some(offset as i64),
+        Insn::Branch { offset, .. } => Some(offset as i64),
+        _ => None,
+    }
+}
+
+// The target of the jump, or the first code that refuses it.
+fn jump_from(program: &Program, slot: usize, insn: Insn) -> Result<Option<u16>, FlowCode>
+    requires { slot < length program.now }
+    ensures fine { OnOk result (jump_fault program.now slot (displacement_of insn) (jump_of insn slot) ≡ None) }
+    ensures edge { IfOk result (λ e. e ≡ jump_of insn slot) }
+    ensures forward { IfOk result (LeadsForward program.now slot) }
+    ensures refused { IfErr result (λ code. jump_fault program.now slot (displacement_of insn) (jump_of insn slot) ≡ Some code) }
+{
+    let Some(displacement) = displacement_of(insn) else {
+        return Ok(None);
+    };
+    let slots = program.slots();
+    let to = slot as i64 + 1 + displacement;
+    if to < 0 || to >= slots as i64 {
+        return Err(FlowCode::F1);
+    }
+    let to = to as usize;
+    if program.at(to).is_none() {
+        return Err(FlowCode::F2);
+    }
+    if to <= slot {
+        return Err(FlowCode::F3);
+    }
+    Ok(Some(to as u16))
+}
+
+// The slot after the instruction, or the first code that refuses going on.
+fn fall_from(
+    program: &Program,
+    slot: usize,
+    insn: Insn,
+    reaches: bool,
+) -> Result<Option<u16>, FlowCode>
+    requires inside { slot < length program.now }
+    requires here { insn_at program.now slot ≡ Some insn }
+    requires reached { reaches ≡ is_reached program.now slot }
+    ensures fine { OnOk result (fall_fault program.now slot insn ≡ None) }
+    ensures edge { IfOk result (λ e. e ≡ fall_of insn slot) }
+    ensures forward { IfOk result (LeadsForward program.now slot) }
+    ensures refused { IfErr result (λ code. fall_fault program.now slot insn ≡ Some code) }
+{
+    let slots = program.slots();
+    let falls = falls(insn);
+    let next = slot + slots_in(insn);
+    if falls && next >= slots {
+        return Err(FlowCode::F4);
+    }
+    if !reaches {
+        return Err(FlowCode::F5);
+    }
+    if falls {
+        Ok(Some(next as u16))
+    } else {
+        Ok(None)
+    }
+}
+
+// The instruction goes on to the slot after it.
+fn falls(insn: Insn) -> bool
+    ensures { result ≡ falls insn }
+{
+    match insn {
+        Insn::Jump { .. } | Insn::JumpFar { .. } | Insn::Exit => false,
+        _ => true,
+    }
+}
+
+// How many slots an instruction takes up.
+fn slots_in(insn: Insn) -> usize
+    ensures value { result ≡ slots_in insn }
+    ensures some { 1 ≤ result }
+    ensures few { result ≤ 2 }
+{
+    match insn {
+        Insn::Wide { .. } => 2,
+        _ => 1,
+    }
+}

@@ -1,0 +1,32 @@
+//! The kinds of object that programs allocate.
+
+ghost use Rattle.std.specs.Prelude.{◌≡◌, length};
+
+/// A kind of object: its size in bytes, 1 to 4096, and the byte that fills a new one.
+#[derive(Clone, Copy, Debug, PartialEq, Eq)]
+pub struct KindRow {
+    pub name: &'static str,
+    pub size: u32,
+    pub fill: u8,
+}
+
+/// The kinds that the caches have, by number.
+pub fn kinds() -> [KindRow; 3] {
+    [
+        KindRow {
+            name: "cell",
+            size: 16,
+            fill: 0x00,
+        },
+        KindRow {
+            name: "record",
+            size: 64,
+            fill: 0xff,
+        },
+        KindRow {
+            name: "block",
+            size: 512,
+            fill: 0x5a,
+        },
+    ]
+}

@@ -1,0 +1,10 @@
+//! Abstract states: what is known before a slot of every run that comes there.
+//!
+//! A state has the eleven registers, the 64 words of the stack, and the references that are held. The crate above walks
+//! a program with them; this one says what they are and how two of them are joined where paths meet.
+#![tactic(auto)]
+
+pub mod kinds;
+pub mod value;
+pub mod word;
+// pub mod state;

@@ -1,0 +1,72 @@
+//! Abstract values.
+
+ghost use Rattle.std.specs.Prelude.{◌≡◌};
+ghost use Rattle.ebpf_state.specs.Abstract.{joined_value, is_unset, is_pointer, is_may, IsProper};
+
+use ebpf_range::range::{Range, hull};
+
+/// What is known of a register, or of a value that was spilled to the stack.
+#[derive(Clone, Copy, Debug, PartialEq, Eq)]
+pub enum Abs {
+    /// Nothing: it may not be read.
+    Unset,
+    /// A number of the range.
+    Num(Range),
+    /// The frame pointer moved by this many bytes, which are known exactly.
+    Stk(i64),
+    /// The context's first byte moved by a number of bytes between these two.
+    Ctx(i64, i64),
+    /// The object that the call at this slot was granted, moved by a number of bytes between these two.
+    Ob(u16, i64, i64),
+    /// What the call at this slot answered, not yet compared with null: the object, or 0.
+    May(u16),
+}
+
+impl Abs {
+    /// It may not be read.
+    pub fn is_unset(self) -> bool
+        ensures { result ≡ is_unset self }
+    {
+        match self {
+            Abs::Unset => true,
+            _ => false,
+        }
+    }
+
+    /// It is a pointer to the stack, the context or an object.
+    pub fn is_pointer(self) -> bool
+        ensures { result ≡ is_pointer self }
+    {
+        match self {
+            Abs::Stk(_) | Abs::Ctx(_, _) | Abs::Ob(_, _, _) => true,
+            _ => false,
+        }
+    }
+
+    /// It is an answer that was not compared with null yet.
+    pub fn is_may(self) -> bool
+        ensures { result ≡ is_may self }
+    {
+        match self {
+            Abs::May(_) => true,
+            _ => false,
+        }
+    }
+
+    /// What is known where two paths meet, one of which knows each.
+    pub fn join(self, other: Abs) -> Abs
+        requires left { IsProper self }
+        requires right { IsProper other }
+        ensures value { result ≡ joined_value self other }
+        ensures proper { IsProper result }
+    {
+        match (self, other) {
+            (Abs::Num(a), Abs::Num(b)) => Abs::Num(hull(a, b)),
+            (Abs::Stk(a), Abs::Stk(b)) if a == b => Abs::Stk(a),
+            (Abs::Ctx(a, b), Abs::Ctx(c, d)) => Abs::Ctx(a.min(c), b.max(d)),
+            (Abs::Ob(r, a, b), Abs::Ob(q, c, d)) if r == q => Abs::Ob(r, a.min(c), b.max(d)),
+            (Abs::May(r), Abs::May(q)) if r == q => Abs::May(r),
+            _ => Abs::Unset,
+        }
+    }
+}

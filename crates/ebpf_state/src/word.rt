@@ -1,0 +1,47 @@
+//! What is known of the words of the stack.
+
+ghost use Rattle.std.specs.Prelude.{◌≡◌};
+ghost use Rattle.ebpf_state.specs.Abstract.{IsProper};
+ghost use Rattle.ebpf_state.specs.Words.{joined_word, spill_or_nothing, IsProperWord};
+
+use crate::value::Abs;
+
+/// What is known of one of the 64 aligned words of the stack. Word `w` covers the offsets `8w - 512` to `8w - 505` from
+/// the frame pointer.
+#[derive(Clone, Copy, Debug, PartialEq, Eq)]
+pub enum Word {
+    /// A value that was stored as a whole.
+    Spill(Abs),
+    /// The bytes that are set: bit `j` stands for byte `j` of the word.
+    Bytes(u8),
+}
+
+impl Word {
+    /// What is known where two paths meet, one of which knows each.
+    pub fn join(self, other: Word) -> Word
+        requires left { IsProperWord self }
+        requires right { IsProperWord other }
+        ensures value { result ≡ joined_word self other }
+        ensures proper { IsProperWord result }
+    {
+        match (self, other) {
+            (Word::Bytes(a), Word::Bytes(b)) => Word::Bytes(a & b),
+            (Word::Spill(Abs::Num(_)), Word::Bytes(b)) => Word::Bytes(b),
+            (Word::Bytes(a), Word::Spill(Abs::Num(_))) => Word::Bytes(a),
+            (Word::Spill(a), Word::Spill(b)) => spill_or_nothing(a.join(b)),
+            _ => Word::Bytes(0),
+        }
+    }
+}
+
+// A spill of a value, or a word of which nothing is known.
+fn spill_or_nothing(value: Abs) -> Word
+    requires { IsProper value }
+    ensures value { result ≡ spill_or_nothing value }
+    ensures proper { IsProperWord result }
+{
+    match value {
+        Abs::Unset => Word::Bytes(0),
+        value => Word::Spill(value),
+    }
+}
