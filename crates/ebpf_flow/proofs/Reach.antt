@@ -18,9 +18,5 @@ pub reached_by-more : (p : List (Option Insn)) (m k : ℕ) (old : Bool) → old 
 unfolding reached_by
 reached_by-more p m k old e = rw (add-one, e) refl
 
-pub no_fault : {C : Type 0} (f : ℕ → Option C) → lowest f 0 ≡ None
-unfolding lowest
-no_fault f = refl
-
 pub fault_here : (p : List (Option Insn)) (slot : ℕ) (fault : FlowFault) → slot < length p → lowest (flow_fault_at p) slot ≡ None → ((code : FlowCode) × (fault ≡ Bad slot code) × (flow_fault_at p slot ≡ Some code)) → IsFlowFault p fault
 fault_here p slot fault inside before h = rw h.1 (lowest-some (flow_fault_at p) slot h.0 (length p) before h.2 inside)

@@ -3,6 +3,11 @@ use Rattle.std.proofs.Common.{◌≡◌, ℕ, zero, suc, ◌+◌, ◌<◌, Optio
 use Rattle.std.proofs.lemmas.Bool.{cases_lt}
 use Rattle.ebpf_insn.specs.Faults.{lowest, lowest_with}
 
+-- there is no slot below 0
+pub lowest-zero : {C : Type 0} (f : ℕ → Option C) → lowest f 0 ≡ None
+unfolding lowest
+lowest-zero f = refl
+
 -- no fault up to here, and none here
 pub lowest-none : {C : Type 0} (f : ℕ → Option C) (n : ℕ) → lowest f n ≡ None → f n ≡ None → lowest f (n + 1) ≡ None
 unfolding lowest

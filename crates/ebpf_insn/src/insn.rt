@@ -1,5 +1,7 @@
 //! Instructions as values (RFC 9669, sections 4 and 5).
 
+ghost use Rattle.std.specs.Prelude.{◌≡◌};
+
 use crate::register::Reg;
 
 /// How many low bits of its operands an operation or a comparison reads.
@@ -9,6 +11,21 @@ pub enum Width {
     W32,
     /// 64 bits: the classes ALU64 and JMP.
     W64,
+}
+
+impl Width {
+    ghost use Rattle.ebpf_insn.specs.Arithmetic.{immediate};
+
+    /// The number that an immediate stands for: at 64 bits it is sign-extended, at 32 it keeps its own bits (RFC 9669,
+    /// section 4.1).
+    pub fn immediate(self, imm: i32) -> u64
+        ensures { result ≡ immediate self imm }
+    {
+        match self {
+            Width::W32 => imm.cast_unsigned() as u64,
+            Width::W64 => (imm as i64).cast_unsigned(),
+        }
+    }
 }
 
 /// How many bytes a load or a store moves (RFC 9669, section 5).

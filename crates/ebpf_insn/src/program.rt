@@ -32,7 +32,8 @@ impl Model for Program {
 impl Program {
     /// How many instructions the program has: a wide one counts once.
     pub fn len(&self) -> usize
-        ensures { result ≡ length (instructions self.now) }
+        ensures value { result ≡ length (instructions self.now) }
+        ensures bound { result ≤ 4096 }
     {
         self.len
     }

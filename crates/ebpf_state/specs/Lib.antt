@@ -1,2 +1,4 @@
 pub mod Abstract
 pub mod Words
+pub mod StateView
+pub mod States

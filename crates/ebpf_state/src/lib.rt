@@ -7,4 +7,5 @@
 pub mod kinds;
 pub mod value;
 pub mod word;
-// pub mod state;
+pub mod held;
+pub mod state;

@@ -1,13 +1,14 @@
-// A library with one function.
+//! The verdict on a program: whether every run of it keeps within what it may touch.
+//!
+//! [`verify::verify`] walks a program once, in the order of its slots, and keeps for each slot what is known of every
+//! run that comes there. It refuses the lowest slot whose rule refuses what is known there; where it refuses none, it
+//! makes a [`verified::Verified`], and no run of that program traps.
 #![tactic(auto)]
 
-ghost use Rattle.std.specs.Prelude.{◌≡◌};
-ghost use Rattle.ebpf_verify.specs.Echo.{echo_of};
-
-// The `ensures` clause is the contract: what `echo` returns is `echo_of` of its argument, a definition
-// in `specs/Echo.antt`, which a caller's clause can cite too.
-pub fn echo(x: usize) -> usize
-    ensures { result ≡ echo_of x }
-{
-    x
-}
+pub mod decl;
+pub mod fault;
+pub mod pointer;
+pub mod rules;
+pub mod arrival;
+pub mod verified;
+pub mod verify;

@@ -1,12 +1,12 @@
 use Rattle.std.proofs.Common.{◌≡◌, ◌≤◌, ◌<◌, ◌+◌, ℕ, length, slice_index_or, false, None, Some, arith, refl, sym, ap, ◌∙◌, subst, below_more}
 use Rattle.std.proofs.lemmas.Result.{err_from_is_err_and}
 use Rattle.std.proofs.lemmas.List.{length_push}
-use Rattle.ebpf_insn.proofs.FaultLemmas.{lowest-none, lowest-some}
+use Rattle.ebpf_insn.proofs.FaultLemmas.{lowest-zero, lowest-none, lowest-some}
 use Rattle.ebpf_insn.proofs.ListLemmas.{each_push}
 use Rattle.ebpf_insn.specs.Faults.{lowest}
 use Rattle.ebpf_flow.specs.Edges.{edges_at, reached_by}
 use Rattle.ebpf_flow.specs.Flow.{flow_fault_at, LeadsForward}
-use Rattle.ebpf_flow.proofs.Reach.{reached_by-none, reached_by-more, no_fault, fault_here}
+use Rattle.ebpf_flow.proofs.Reach.{reached_by-none, reached_by-more, fault_here}
 use Rattle.ebpf_flow.proofs.check.check.Goals as goal
 
 pub loop-slot-init : goal.loop-slot-init
@@ -16,7 +16,7 @@ loop-slot-init c = record {
   flags = c.in_ok-reached.ensures.len;
   reached = λ k lt. c.in_ok-reached.ensures.first k lt ∙ sym (reached_by-none c.args.program k);
   len = ap length c.new-edges.ensures.items;
-  fine = no_fault (flow_fault_at c.args.program);
+  fine = lowest-zero (flow_fault_at c.args.program);
   forward = λ k lt. absurd (omega arith);
   each = λ k lt. absurd (omega arith);
 }

@@ -1,0 +1,37 @@
+-- The instructions of a program, and those below a slot.
+use Rattle.std.proofs.Common.{◌≡◌, ℕ, zero, suc, ◌+◌, ◌<◌, ◌≤◌, List, [], ◌∷◌, length, take, Option, Some, None, arith}
+use Rattle.ebpf_insn.specs.declared.insn.Insn.{Insn}
+use Rattle.ebpf_insn.specs.Program.{instructions, insn_at, count_below}
+
+-- there are at most as many instructions as slots
+pub instructions-length : (p : List (Option Insn)) → length (instructions p) ≤ length p
+instructions-length [] = omega arith
+instructions-length (None ∷ p) = omega (arith, instructions-length p)
+instructions-length (Some i ∷ p) = omega (arith, instructions-length p)
+
+-- no more stand below a slot than below a later one
+pub count_below-mono : (p : List (Option Insn)) (j k : ℕ) → j ≤ k → count_below p j ≤ count_below p k
+count_below-mono [] zero k le = omega arith
+count_below-mono [] (suc j) zero le = absurd (omega arith)
+count_below-mono [] (suc j) (suc k) le = omega arith
+count_below-mono (o ∷ p) zero k le = omega arith
+count_below-mono (o ∷ p) (suc j) zero le = absurd (omega arith)
+count_below-mono (None ∷ p) (suc j) (suc k) le = count_below-mono p j k (omega arith)
+count_below-mono (Some i ∷ p) (suc j) (suc k) le = omega (arith, count_below-mono p j k (omega arith))
+
+-- an instruction counts below every later slot
+pub count_below-more : (p : List (Option Insn)) (j k : ℕ) (i : Insn) → insn_at p j ≡ Some i → j < k → count_below p j < count_below p k
+count_below-more [] j k i at lt = absurd (cc)
+count_below-more (o ∷ p) j zero i at lt = absurd (omega arith)
+count_below-more (None ∷ p) zero (suc k) i at lt = absurd (cc)
+count_below-more (Some x ∷ p) zero (suc k) i at lt = omega arith
+count_below-more (None ∷ p) (suc j) (suc k) i at lt = count_below-more p j k i at (omega arith)
+count_below-more (Some x ∷ p) (suc j) (suc k) i at lt = omega (arith, count_below-more p j k i at (omega arith))
+
+-- and no more than all there are
+pub count_below-all : (p : List (Option Insn)) (k : ℕ) → count_below p k ≤ length (instructions p)
+count_below-all [] zero = omega arith
+count_below-all [] (suc k) = omega arith
+count_below-all (o ∷ p) zero = omega arith
+count_below-all (None ∷ p) (suc k) = count_below-all p k
+count_below-all (Some i ∷ p) (suc k) = omega (arith, count_below-all p k)

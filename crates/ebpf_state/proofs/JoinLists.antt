@@ -1,0 +1,46 @@
+-- Two lists that are joined, element by element.
+use Rattle.std.proofs.Common.{◌≡◌, ◌≢◌, ℕ, zero, suc, ◌+◌, ◌<◌, ◌≤◌, List, [], ◌∷◌, length, get_or, set, refl, sym, ap, ◌∙◌, subst, arith, below_more, length-set}
+use Rattle.std.specs.Prelude.{All}
+use Rattle.std.proofs.lemmas.List.{ext_get_or, get_or-set_same, get_or-set_other}
+use Rattle.std.proofs.lemmas.List.Elements.{All-set}
+use Rattle.ebpf_state.specs.States.{joined_list}
+
+pub joined_list-length : {X : Type 0} (join : X → X → X) (s t : List X) → length s ≡ length t → length (joined_list join s t) ≡ length s
+joined_list-length join [] t e = refl
+joined_list-length join (a ∷ s) [] e = absurd (omega arith)
+joined_list-length join (a ∷ s) (b ∷ t) e = omega (arith, joined_list-length join s t (omega arith))
+
+pub joined_list-index : {X : Type 0} (join : X → X → X) (d : X) (s t : List X) (k : ℕ) → length s ≡ length t → k < length s → get_or (joined_list join s t) k d ≡ join (get_or s k d) (get_or t k d)
+joined_list-index join d [] t k e lt = absurd (omega arith)
+joined_list-index join d (a ∷ s) [] k e lt = absurd (omega arith)
+joined_list-index join d (a ∷ s) (b ∷ t) zero e lt = refl
+joined_list-index join d (a ∷ s) (b ∷ t) (suc k) e lt = joined_list-index join d s t k (omega arith) (omega arith)
+
+-- a list whose first i elements are joined, and whose others are those of the left one
+pub record IsJoining {X : Type 0} (join : X → X → X) (P : X → Type 0) (d : X) (left right joined : List X) (i : ℕ) : Type 0 where
+  pub whole : length joined ≡ length left
+  pub same : length left ≡ length right
+  pub proper : All P joined
+  pub done : (k : ℕ) → k < i → get_or joined k d ≡ join (get_or left k d) (get_or right k d)
+  pub rest : (k : ℕ) → i ≤ k → get_or joined k d ≡ get_or left k d
+
+pub joining_none : {X : Type 0} (join : X → X → X) (P : X → Type 0) (d : X) (left right : List X) → length left ≡ length right → All P left → IsJoining join P d left right left 0
+joining_none join P d left right e proper = record { whole = refl; same = e; proper = proper; done = λ k lt. absurd (omega arith); rest = λ k le. refl }
+
+pub joining_more : {X : Type 0} (join : X → X → X) (P : X → Type 0) (d : X) (left right joined : List X) (i : ℕ) (x : X) → i < length left → IsJoining join P d left right joined i → x ≡ join (get_or joined i d) (get_or right i d) → P x → IsJoining join P d left right (set joined i x) (i + 1)
+joining_more join P d left right joined i x lt h e p =
+    let inside : i < length joined = omega (arith, h.whole) in
+    record {
+      whole = length-set joined i x ∙ h.whole;
+      same = h.same;
+      proper = All-set P joined i x p h.proper;
+      done = below_more _ _
+          (λ k below. let other : k ≢ i = omega arith in get_or-set_other joined i k x d other ∙ h.done k below)
+          (get_or-set_same joined i x d inside ∙ (e ∙ ap (λ a. join a (get_or right i d)) (h.rest i (omega arith))));
+      rest = λ k le. let other : k ≢ i = omega arith in get_or-set_other joined i k x d other ∙ h.rest k (omega arith);
+    }
+
+pub joining_all : {X : Type 0} (join : X → X → X) (P : X → Type 0) (d : X) (left right joined : List X) (i : ℕ) → length left ≡ i → IsJoining join P d left right joined i → joined ≡ joined_list join left right
+joining_all join P d left right joined i e h =
+    let long = joined_list-length join left right h.same in
+    ext_get_or d joined (joined_list join left right) (omega (arith, h.whole)) (λ k lt. h.done k (omega (arith, h.whole)) ∙ sym (joined_list-index join d left right k h.same (omega (arith, h.whole))))

@@ -1,0 +1,2 @@
+pub mod JoinLists
+pub mod SameHeld

@@ -1,0 +1,16 @@
+use Rattle.std.proofs.Common.{◌≡◌, length, arith, sym, ◌∙◌, ap}
+use Rattle.ebpf_state.specs.Words.{joined_word, IsProperWord}
+use Rattle.ebpf_state.specs.declared.word.Word.TheVariants.{Spill}
+use Rattle.ebpf_state.specs.declared.value.Abs.TheVariants.{Unset}
+use Rattle.ebpf_state.proofs.JoinLists.{joining_none, joining_more, joining_all}
+use Rattle.ebpf_state.proofs.state.joined_words.Goals as goal
+
+pub loop-i-init : goal.loop-i-init
+loop-i-init c = joining_none joined_word IsProperWord (Spill Unset) c.args.left.now c.args.right.now (c.told-left ∙ sym c.told-right) c.requires.left
+
+pub loop-i-preserved : goal.loop-i-preserved
+loop-i-preserved c =
+    joining_more joined_word IsProperWord (Spill Unset) c.args.left.now c.args.right.now c.loop-i.joined c.loop-i.i c.join.result (omega arith) c.loop-i.invariant c.join.ensures.value c.join.ensures.proper
+
+pub returns-clause-value : goal.returns-clause-value
+returns-clause-value c = joining_all joined_word IsProperWord (Spill Unset) c.args.left.now c.args.right.now c.loop-i.joined c.loop-i.i (omega arith) c.loop-i.invariant

@@ -1,0 +1,5 @@
+pub mod Subject
+pub mod Pointers
+pub mod Rules
+pub mod Entry
+pub mod Verdict

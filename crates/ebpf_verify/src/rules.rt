@@ -1,0 +1,205 @@
+//! The rules of the instructions: what refuses one, and what is known after it.
+
+ghost use Rattle.std.specs.Prelude.{◌≡◌};
+ghost use Rattle.ebpf_state.specs.Abstract.{IsProper};
+ghost use Rattle.ebpf_verify.specs.Rules.{operand, blurs_stack, alu_refusal, copy_refusal, low_refusal, sum_refusal, numbers_refusal, exit_refusal, refusal, result_of, low_value, numbers_value, after_fall};
+
+use crate::fault::VerifyCode;
+use crate::pointer::sum_value;
+use ebpf_insn::insn::{AluOp, Insn, Source, Width};
+use ebpf_insn::register::Reg;
+use ebpf_range::range::Range;
+use ebpf_range::sums::{add, low};
+use ebpf_state::state::State;
+use ebpf_state::value::Abs;
+
+/// The first code that refuses an instruction, where the state is known before it.
+pub fn refusal(insn: Insn, state: &State) -> Option<VerifyCode>
+    ensures { result ≡ refusal insn state.now }
+{
+    match insn {
+        Insn::Alu {
+            width,
+            op,
+            dst,
+            src,
+        } => alu_refusal(width, op, state.reg(dst), operand(state, width, src), dst),
+        Insn::Exit => exit_refusal(state.reg(Reg::R0), state.held()),
+        _ => Some(VerifyCode::V0),
+    }
+}
+
+/// Says in the state what is known after an instruction that is not refused, on the edge to the slot after it; `None`
+/// where nothing goes there.
+pub fn after_fall(insn: Insn, mut state: State) -> Option<State>
+    ensures { result ≡ after_fall insn state }
+{
+    match insn {
+        Insn::Alu {
+            width,
+            op,
+            dst,
+            src,
+        } => {
+            let right = operand(&state, width, src);
+            let left = state.reg(dst);
+            state.set(dst, result_of(width, op, left, right));
+            Some(state)
+        }
+        _ => None,
+    }
+}
+
+// What is known of a second operand.
+fn operand(state: &State, width: Width, source: Source) -> Abs
+    ensures value { result ≡ operand state.now width source }
+    ensures proper { IsProper result }
+{
+    match source {
+        Source::Register(register) => state.reg(register),
+        Source::Imm(imm) => Abs::Num(Range::constant(width.immediate(imm))),
+    }
+}
+
+fn alu_refusal(width: Width, op: AluOp, left: Abs, right: Abs, dst: Reg) -> Option<VerifyCode>
+    requires left { IsProper left }
+    requires right { IsProper right }
+    ensures { result ≡ alu_refusal width op left right dst }
+{
+    match (width, op) {
+        (Width::W64, AluOp::Mov) => copy_refusal(right, dst),
+        (Width::W32, AluOp::Mov) => low_refusal(right, dst),
+        (Width::W64, AluOp::Add) => sum_refusal(left, right, dst),
+        (Width::W32, AluOp::Add) => numbers_refusal(left, right, dst),
+        _ => Some(VerifyCode::V0),
+    }
+}
+
+fn copy_refusal(src: Abs, dst: Reg) -> Option<VerifyCode>
+    ensures { result ≡ copy_refusal src dst }
+{
+    if src.is_unset() {
+        Some(VerifyCode::V1)
+    } else if dst == Reg::R10 {
+        Some(VerifyCode::V2)
+    } else {
+        None
+    }
+}
+
+fn low_refusal(src: Abs, dst: Reg) -> Option<VerifyCode>
+    ensures { result ≡ low_refusal src dst }
+{
+    if src.is_unset() {
+        Some(VerifyCode::V1)
+    } else if dst == Reg::R10 {
+        Some(VerifyCode::V2)
+    } else if src.is_may() {
+        Some(VerifyCode::V11)
+    } else if src.is_pointer() {
+        Some(VerifyCode::V3)
+    } else {
+        None
+    }
+}
+
+fn numbers_refusal(left: Abs, right: Abs, dst: Reg) -> Option<VerifyCode>
+    ensures { result ≡ numbers_refusal left right dst }
+{
+    if left.is_unset() || right.is_unset() {
+        Some(VerifyCode::V1)
+    } else if dst == Reg::R10 {
+        Some(VerifyCode::V2)
+    } else if left.is_may() || right.is_may() {
+        Some(VerifyCode::V11)
+    } else if left.is_pointer() || right.is_pointer() {
+        Some(VerifyCode::V3)
+    } else {
+        None
+    }
+}
+
+fn sum_refusal(left: Abs, right: Abs, dst: Reg) -> Option<VerifyCode>
+    requires left { IsProper left }
+    requires right { IsProper right }
+    ensures { result ≡ sum_refusal left right dst }
+{
+    if left.is_unset() || right.is_unset() {
+        Some(VerifyCode::V1)
+    } else if dst == Reg::R10 {
+        Some(VerifyCode::V2)
+    } else if left.is_may() || right.is_may() {
+        Some(VerifyCode::V11)
+    } else if left.is_pointer() && right.is_pointer() {
+        Some(VerifyCode::V3)
+    } else if blurs_stack(left, right) || blurs_stack(right, left) {
+        Some(VerifyCode::V3)
+    } else if sum_value(left, right).is_none() {
+        Some(VerifyCode::V4)
+    } else {
+        None
+    }
+}
+
+// A pointer to the stack would be moved by a number that isn't known exactly.
+fn blurs_stack(pointer: Abs, by: Abs) -> bool
+    ensures { result ≡ blurs_stack pointer by }
+{
+    match (pointer, by) {
+        (Abs::Stk(_), Abs::Num(by)) => by.lo != by.hi,
+        _ => false,
+    }
+}
+
+fn exit_refusal(result_value: Abs, held: usize) -> Option<VerifyCode>
+    ensures { result ≡ exit_refusal result_value held }
+{
+    if result_value.is_unset() {
+        Some(VerifyCode::V1)
+    } else if held > 0 {
+        Some(VerifyCode::V17)
+    } else if result_value.is_pointer() || result_value.is_may() {
+        Some(VerifyCode::V18)
+    } else {
+        None
+    }
+}
+
+// What is known of the result that is written.
+fn result_of(width: Width, op: AluOp, left: Abs, right: Abs) -> Abs
+    requires left { IsProper left }
+    requires right { IsProper right }
+    ensures value { result ≡ result_of width op left right }
+    ensures proper { IsProper result }
+{
+    match (width, op) {
+        (Width::W64, AluOp::Mov) => right,
+        (Width::W32, AluOp::Mov) => low_value(right),
+        (Width::W64, AluOp::Add) => sum_value(left, right).unwrap_or(Abs::Unset),
+        (Width::W32, AluOp::Add) => numbers_value(left, right),
+        _ => Abs::Unset,
+    }
+}
+
+fn low_value(value: Abs) -> Abs
+    requires { IsProper value }
+    ensures value { result ≡ low_value value }
+    ensures proper { IsProper result }
+{
+    match value {
+        Abs::Num(a) => Abs::Num(low(a)),
+        _ => Abs::Unset,
+    }
+}
+
+fn numbers_value(left: Abs, right: Abs) -> Abs
+    requires left { IsProper left }
+    requires right { IsProper right }
+    ensures value { result ≡ numbers_value left right }
+    ensures proper { IsProper result }
+{
+    match (left, right) {
+        (Abs::Num(a), Abs::Num(b)) => Abs::Num(add(Width::W32, a, b)),
+        _ => Abs::Unset,
+    }
+}
