@@ -4,7 +4,8 @@ use Rattle.std.specs.Prelude.{is_none}
 use Rattle.std.specs.List.{flat_map}
 use Rattle.ebpf_insn.specs.declared.insn.Insn.{Insn}
 use Rattle.ebpf_insn.specs.declared.insn.Insn.TheVariants as insn
-use Rattle.ebpf_insn.specs.Program.{placed, slots_in, insn_at, instructions, IsWellFormed}
+use Rattle.ebpf_insn.specs.Program.{placed, slots_in, insn_at, instructions}
+use Rattle.ebpf_insn.specs.Encoding.{IsWellFormed}
 
 first_is_insn : (is : List Insn) → 0 < length (flat_map placed is) → is_none (insn_at (flat_map placed is) 0) ≡ false
 first_is_insn [] lt = absurd (omega arith)

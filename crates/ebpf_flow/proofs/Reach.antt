@@ -3,7 +3,7 @@ use Rattle.std.proofs.Common.{◌≡◌, ℕ, ◌+◌, ◌<◌, List, length, Bo
 use Rattle.std.specs.Prelude.{◌==◌, ◌&&◌, ◌||◌}
 use Rattle.ebpf_insn.specs.declared.insn.Insn.{Insn}
 use Rattle.ebpf_insn.specs.Faults.{lowest}
-use Rattle.ebpf_insn.proofs.FaultLemmas.{lowest-some}
+use Rattle.ebpf_insn.proofs.FaultLemmas.{lowest_at}
 use Rattle.ebpf_flow.specs.declared.fault.FlowCode.{FlowCode}
 use Rattle.ebpf_flow.specs.declared.fault.FlowFault.{FlowFault}
 use Rattle.ebpf_flow.specs.declared.fault.FlowFault.TheVariants.{Bad}
@@ -19,4 +19,4 @@ unfolding reached_by
 reached_by-more p m k old e = rw (add-one, e) refl
 
 pub fault_here : (p : List (Option Insn)) (slot : ℕ) (fault : FlowFault) → slot < length p → lowest (flow_fault_at p) slot ≡ None → ((code : FlowCode) × (fault ≡ Bad slot code) × (flow_fault_at p slot ≡ Some code)) → IsFlowFault p fault
-fault_here p slot fault inside before h = rw h.1 (lowest-some (flow_fault_at p) slot h.0 (length p) before h.2 inside)
+fault_here p slot fault inside before h = rw h.1 (lowest_at (flow_fault_at p) slot (length p) h.0 before h.2 inside)

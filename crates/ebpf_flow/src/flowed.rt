@@ -1,7 +1,7 @@
 //! A program whose flow was checked.
 
 ghost use Rattle.std.specs.Prelude.{◌≡◌, ◌<◌, length};
-ghost use Rattle.ebpf_insn.specs.Program.{IsWellFormed};
+ghost use Rattle.ebpf_insn.specs.Encoding.{IsWellFormed};
 ghost use Rattle.ebpf_flow.specs.Edges.{edges_at};
 ghost use Rattle.ebpf_flow.specs.Flow.{AreForward, LeadsForward};
 

@@ -1,36 +1,103 @@
--- How the lowest fault grows with the slots that are looked at.
-use Rattle.std.proofs.Common.{◌≡◌, ℕ, zero, suc, ◌+◌, ◌<◌, Option, Some, None, refl, sym, ap, ◌∙◌, subst, arith, add-one, inl, inr}
+-- What is known of the first test that holds and of the lowest slot that has a code.
+use Rattle.std.proofs.Common.{◌≡◌, ◌⊎◌, ℕ, zero, suc, ◌+◌, ◌<◌, ◌≤◌, Bool, true, false, List, ◌∷◌, Option, Some, None, refl, sym, ◌∙◌, add-one, arith, inl, inr}
+use Rattle.std.proofs.lemmas.Option.{none-some, same_Some, some_pair_parts}
 use Rattle.std.proofs.lemmas.Bool.{cases_lt}
-use Rattle.ebpf_insn.specs.Faults.{lowest, lowest_with}
+use Rattle.ebpf_insn.specs.Faults.{first_of, lowest, lowest_with}
 
--- there is no slot below 0
+-- One slot more.
+lowest-suc : {C : Type 0} (f : ℕ → Option C) (n : ℕ) → lowest f (suc n) ≡ lowest_with (lowest f n) n (f n)
+unfolding lowest
+lowest-suc f n = refl
+
 pub lowest-zero : {C : Type 0} (f : ℕ → Option C) → lowest f 0 ≡ None
 unfolding lowest
 lowest-zero f = refl
 
--- no fault up to here, and none here
-pub lowest-none : {C : Type 0} (f : ℕ → Option C) (n : ℕ) → lowest f n ≡ None → f n ≡ None → lowest f (n + 1) ≡ None
-unfolding lowest
-lowest-none f n before here = rw (add-one, before, here) refl
+pub lowest-more : {C : Type 0} (f : ℕ → Option C) (n : ℕ) → lowest f (n + 1) ≡ lowest_with (lowest f n) n (f n)
+lowest-more f n = rw add-one (lowest-suc f n)
 
--- the first fault stays the lowest
-pub lowest-some : {C : Type 0} (f : ℕ → Option C) (n : ℕ) (c : C) (m : ℕ) → lowest f n ≡ None → f n ≡ Some c → n < m → lowest f m ≡ Some (n, c)
-unfolding lowest
-lowest-some f n c zero before here lt = absurd (omega arith)
-lowest-some f n c (suc m) before here lt = elim (cases_lt n m) [
-  | inl less ↦ rw (lowest-some f n c m before here less) refl
-  | inr more ↦ let same : m ≡ n = omega arith in rw (same, before, here) refl
-]
+-- no code so far, and none here
+pub lowest-more_none : {C : Type 0} (f : ℕ → Option C) (n : ℕ) → lowest f n ≡ None → f n ≡ None → lowest f (n + 1) ≡ None
+lowest-more_none f n before here = rw (lowest-more f n, before, here) refl
 
-none_before : {C : Type 0} (found : Option (ℕ × C)) (slot : ℕ) (code : Option C) → lowest_with found slot code ≡ None → (found ≡ None) × (code ≡ None)
-none_before (Some x) slot code e = absurd (cc)
-none_before None slot None e = (refl, refl)
-none_before None slot (Some x) e = absurd (cc)
+-- no code so far, and one here
+pub lowest-more_some : {C : Type 0} (f : ℕ → Option C) (n : ℕ) (c : C) → lowest f n ≡ None → f n ≡ Some c → lowest f (n + 1) ≡ Some (n, c)
+lowest-more_some f n c before here = rw (lowest-more f n, before, here) refl
 
--- where no slot has a fault, each has none
-pub lowest-none_at : {C : Type 0} (f : ℕ → Option C) (n k : ℕ) → lowest f n ≡ None → k < n → f k ≡ None
-unfolding lowest
-lowest-none_at f zero k e lt = absurd (omega arith)
-lowest-none_at f (suc n) k e lt =
-    let both = none_before (lowest f n) n (f n) e in
-    elim (cases_lt k n) [ inl less ↦ lowest-none_at f n k both.0 less | inr more ↦ let same : k ≡ n = omega arith in subst (λ (j : ℕ). f j ≡ None) (sym same) both.1 ]
+-- what was found stays
+pub lowest_stays : {C : Type 0} (f : ℕ → Option C) (m n : ℕ) (x : ℕ × C) → lowest f m ≡ Some x → m ≤ n → lowest f n ≡ Some x
+lowest_stays f m zero x found le = let e : m ≡ 0 = omega arith in rw e at found
+lowest_stays f m (suc n) x found le =
+    elim (cases_lt n m) [
+      | inl lt ↦ let e : m ≡ suc n = omega arith in rw e at found
+      | inr below ↦ rw (lowest-suc f n, lowest_stays f m n x found below) refl
+    ]
+
+-- the lowest slot that has a code decides, however many follow
+pub lowest_at : {C : Type 0} (f : ℕ → Option C) (slot n : ℕ) (c : C) → lowest f slot ≡ None → f slot ≡ Some c → slot < n → lowest f n ≡ Some (slot, c)
+lowest_at f slot n c before here lt = lowest_stays f (slot + 1) n (slot, c) (lowest-more_some f slot c before here) (omega arith)
+
+-- no slot below has a code
+pub lowest_none : {C : Type 0} (f : ℕ → Option C) (n : ℕ) → ((k : ℕ) → k < n → f k ≡ None) → lowest f n ≡ None
+lowest_none f zero each = lowest-zero f
+lowest_none f (suc n) each =
+    rw (lowest-suc f n, lowest_none f n (λ k lt. each k (omega arith)), each n (omega arith)) refl
+
+-- a slot more left nothing found
+none_with : {C : Type 0} (before : Option (ℕ × C)) (n : ℕ) (here : Option C) → lowest_with before n here ≡ None → (before ≡ None) × (here ≡ None)
+none_with (Some found) n here e = absurd (none-some found (sym e))
+none_with None n (Some c) e = absurd (none-some (n, c) (sym e))
+none_with None n None e = (refl, refl)
+
+-- where none was found, no slot has a code
+pub none_below : {C : Type 0} (f : ℕ → Option C) (n : ℕ) → lowest f n ≡ None → (k : ℕ) → k < n → f k ≡ None
+none_below f zero none k lt = absurd (omega arith)
+none_below f (suc n) none k lt =
+    let last = none_with (lowest f n) n (f n) (sym (lowest-suc f n) ∙ none) in
+    elim (cases_lt k n) [
+      | inl below ↦ none_below f n last.0 k below
+      | inr above ↦ let e : k ≡ n = omega arith in rw e last.1
+    ]
+
+-- none was found among fewer
+pub none_among_fewer : {C : Type 0} (f : ℕ → Option C) (m n : ℕ) → lowest f n ≡ None → m ≤ n → lowest f m ≡ None
+none_among_fewer f m n none le = lowest_none f m (λ k lt. none_below f n none k (omega arith))
+
+-- what is found is a slot's code, and no lower slot has one
+pub record IsLowest {C : Type 0} (f : ℕ → Option C) (n slot : ℕ) (c : C) : Type 0 where
+  pub inside : slot < n
+  pub here : f slot ≡ Some c
+  pub before : lowest f slot ≡ None
+
+found_with : {C : Type 0} (f : ℕ → Option C) (n slot : ℕ) (c : C) (before : Option (ℕ × C)) (here : Option C) → lowest f n ≡ before → f n ≡ here
+    → (lowest f n ≡ Some (slot, c) → IsLowest f n slot c) → lowest_with before n here ≡ Some (slot, c) → IsLowest f (suc n) slot c
+found_with f n slot c (Some found) here was at below e =
+    let h = below (was ∙ e) in
+    record { inside = let lt : slot < n = h.inside in omega arith; here = h.here; before = h.before }
+found_with f n slot c None (Some d) was at below e =
+    let parts = some_pair_parts n slot d c e in
+    record { inside = let same : n ≡ slot = parts.0 in omega arith; here = rw (← parts.0, ← parts.1) at; before = rw (← parts.0) was }
+found_with f n slot c None None was at below e = absurd (none-some (slot, c) e)
+
+pub lowest_is : {C : Type 0} (f : ℕ → Option C) (n slot : ℕ) (c : C) → lowest f n ≡ Some (slot, c) → IsLowest f n slot c
+lowest_is f zero slot c found = absurd (none-some (slot, c) (sym (lowest-zero f) ∙ found))
+lowest_is f (suc n) slot c found =
+    found_with f n slot c (lowest f n) (f n) refl refl (lowest_is f n slot c) (sym (lowest-suc f n) ∙ found)
+
+-- two functions with the same codes below a slot have the same lowest one
+pub lowest_agree : {C : Type 0} (f g : ℕ → Option C) (n : ℕ) → ((k : ℕ) → k < n → f k ≡ g k) → lowest f n ≡ lowest g n
+lowest_agree f g zero same = lowest-zero f ∙ sym (lowest-zero g)
+lowest_agree f g (suc n) same =
+    rw (lowest-suc f n, lowest-suc g n, lowest_agree f g n (λ k lt. same k (omega arith)), same n (omega arith)) refl
+
+-- ---- the first test that holds
+
+-- no test holds
+pub first_of_none : {C : Type 0} (test : Bool) (c : C) (tests : List (Bool × C)) → first_of ((test, c) ∷ tests) ≡ None → (test ≡ false) × (first_of tests ≡ None)
+first_of_none true c tests e = absurd (none-some c (sym e))
+first_of_none false c tests e = (refl, e)
+
+-- one holds: this one, or a later one
+pub first_of_some : {C : Type 0} (test : Bool) (c d : C) (tests : List (Bool × C)) → first_of ((test, c) ∷ tests) ≡ Some d → ((test ≡ true) × (c ≡ d)) ⊎ ((test ≡ false) × (first_of tests ≡ Some d))
+first_of_some true c d tests e = inl (refl, same_Some c d e)
+first_of_some false c d tests e = inr (refl, e)

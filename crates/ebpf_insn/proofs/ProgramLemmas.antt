@@ -1,7 +1,9 @@
 -- The instructions of a program, and those below a slot.
-use Rattle.std.proofs.Common.{◌≡◌, ℕ, zero, suc, ◌+◌, ◌<◌, ◌≤◌, List, [], ◌∷◌, length, take, Option, Some, None, arith}
+use Rattle.std.proofs.Common.{◌≡◌, ℕ, zero, suc, ◌+◌, ◌<◌, ◌≤◌, List, [], ◌∷◌, length, take, Option, Some, None, subst, arith}
 use Rattle.ebpf_insn.specs.declared.insn.Insn.{Insn}
+use Rattle.std.specs.List.{AllByRecursion}
 use Rattle.ebpf_insn.specs.Program.{instructions, insn_at, count_below}
+use Rattle.ebpf_insn.specs.Encoding.{IsDefined}
 
 -- there are at most as many instructions as slots
 pub instructions-length : (p : List (Option Insn)) → length (instructions p) ≤ length p
@@ -35,3 +37,11 @@ count_below-all [] (suc k) = omega arith
 count_below-all (o ∷ p) zero = omega arith
 count_below-all (None ∷ p) (suc k) = count_below-all p k
 count_below-all (Some i ∷ p) (suc k) = omega (arith, count_below-all p k)
+
+-- an instruction of a program has an encoding
+pub defined_at : (p : List (Option Insn)) (k : ℕ) (i : Insn) → AllByRecursion IsDefined (instructions p) → insn_at p k ≡ Some i → IsDefined i
+defined_at [] k i all at = absurd (cc)
+defined_at (None ∷ p) zero i all at = absurd (cc)
+defined_at (None ∷ p) (suc k) i all at = defined_at p k i all at
+defined_at (Some x ∷ p) zero i all at = let same : x ≡ i = cc in subst IsDefined same all.0
+defined_at (Some x ∷ p) (suc k) i all at = defined_at p k i all.1 at

@@ -3,9 +3,16 @@
 //! This crate is the trust boundary: [`decode::decode`] makes a [`program::Program`] of bytes exactly where they are
 //! the encodings of instructions, one after another, and else names the lowest slot that is at fault and why.
 //! Everything above it works on instructions and never sees a byte of a program again.
+//!
+//! To be read in this order: `register`, `insn`, `slot`, `opcode`, `program`, `fault`, `decode`.
 #![tactic(auto)]
 
-pub mod register;
+pub mod decode;
+pub mod fault;
 pub mod insn;
-pub mod slot;
+pub mod opcode;
 pub mod program;
+pub mod register;
+pub mod slot;
+#[cfg(test)]
+mod tests;

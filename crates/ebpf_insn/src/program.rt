@@ -2,7 +2,8 @@
 
 ghost use Rattle.std.specs.Prelude.{◌≡◌, ◌≤◌, length};
 ghost use Rattle.std.specs.Option.{option_copied};
-ghost use Rattle.ebpf_insn.specs.Program.{instructions, insn_at, IsWellFormed};
+ghost use Rattle.ebpf_insn.specs.Program.{instructions, insn_at};
+ghost use Rattle.ebpf_insn.specs.Encoding.{IsWellFormed};
 
 use crate::insn::Insn;
 use std::marker::Model;
@@ -20,7 +21,8 @@ pub struct Program {
 impl Model for Program {
     ghost use Rattle.std.specs.Prelude.{List, Option, ◌≡◌, length};
     ghost use Rattle.ebpf_insn.specs.declared.insn.Insn.{Insn};
-    ghost use Rattle.ebpf_insn.specs.Program.{instructions, IsWellFormed};
+    ghost use Rattle.ebpf_insn.specs.Program.{instructions};
+    ghost use Rattle.ebpf_insn.specs.Encoding.{IsWellFormed};
 
     ghost Value = { List (Option Insn) };
 
@@ -30,6 +32,15 @@ impl Model for Program {
 }
 
 impl Program {
+    // The program of these slots, and how many instructions they hold.
+    pub(crate) fn new(slots: Vec<Option<Insn>>, len: usize) -> Program
+        requires formed { IsWellFormed slots.items }
+        requires count { len ≡ length (instructions slots.items) }
+        ensures { result ≡ slots.items }
+    {
+        Program { slots, len }
+    }
+
     /// How many instructions the program has: a wide one counts once.
     pub fn len(&self) -> usize
         ensures value { result ≡ length (instructions self.now) }

@@ -1,13 +1,11 @@
-// A library with one function.
+//! Runs of accepted programs.
+//!
+//! A [`run::Run`] does one instruction at each [`run::Run::step`]. Its program is a `Verified`, so no instruction of it
+//! traps and none is tested at run time. What it computes is defined in specs/ by a machine that tests every access: the
+//! world of many runs, one event of it, and a run alone in a world of its own.
 #![tactic(auto)]
 
-ghost use Rattle.std.specs.Prelude.{◌≡◌};
-ghost use Rattle.ebpf_machine.specs.Echo.{echo_of};
-
-// The `ensures` clause is the contract: what `echo` returns is `echo_of` of its argument, a definition
-// in `specs/Echo.antt`, which a caller's clause can cite too.
-pub fn echo(x: usize) -> usize
-    ensures { result ≡ echo_of x }
-{
-    x
-}
+pub mod value;
+pub mod objects;
+pub mod holding;
+pub mod execute;

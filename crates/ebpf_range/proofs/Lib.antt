@@ -1,1 +1,2 @@
-mod Wraps
+pub mod Wraps
+pub mod SumLemmas

@@ -4,7 +4,7 @@ use Rattle.std.specs.Prelude.{if◌then◌else◌, ◌==◌}
 use Rattle.ebpf_insn.specs.declared.insn.Insn.{Insn}
 use Rattle.ebpf_insn.specs.Program.{insn_at}
 use Rattle.ebpf_insn.specs.Faults.{lowest}
-use Rattle.ebpf_insn.proofs.FaultLemmas.{lowest-some}
+use Rattle.ebpf_insn.proofs.FaultLemmas.{lowest_at}
 use Rattle.ebpf_flow.specs.Edges.{edges_at}
 use Rattle.ebpf_state.specs.States.{first_state}
 use Rattle.ebpf_verify.specs.declared.arrival.Arrival.{Arrival}
@@ -35,4 +35,4 @@ refusal_here s slot here code e h = ap (refusal_in (insn_at s.program slot)) (sy
 
 pub refused_here : (s : Subject) (slot : ℕ) (here : Arrival) (fault : VerifyFault) → slot < length s.program → lowest (refusal_at s) slot ≡ None → here ≡ arrived s.program slot slot → IsSlotFault slot (refusal_in (insn_at s.program slot) here) fault → IsVerifyFault s fault
 refused_here s slot here NoMemory inside before e h = tt
-refused_here s slot here (Refused at code) inside before e h = rw h.0 (lowest-some (refusal_at s) slot code (length s.program) before (refusal_here s slot here (Some code) e h.1) inside)
+refused_here s slot here (Refused at code) inside before e h = rw h.0 (lowest_at (refusal_at s) slot (length s.program) code before (refusal_here s slot here (Some code) e h.1) inside)

@@ -1,7 +1,8 @@
 -- The verdict on a program.
 use Rattle.std.specs.Prelude.{◌≡◌, ◌≤◌, ℕ, List, length, All, Option, Some, None}
 use Rattle.ebpf_insn.specs.declared.insn.Insn.{Insn}
-use Rattle.ebpf_insn.specs.Program.{insn_at, IsWellFormed}
+use Rattle.ebpf_insn.specs.Program.{insn_at}
+use Rattle.ebpf_insn.specs.Encoding.{IsWellFormed}
 use Rattle.ebpf_flow.specs.Flow.{AreForward}
 use Rattle.ebpf_insn.specs.Faults.{lowest}
 use Rattle.ebpf_state.specs.declared.kinds.KindRow.{KindRow}

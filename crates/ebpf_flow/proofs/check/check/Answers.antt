@@ -1,7 +1,7 @@
 use Rattle.std.proofs.Common.{◌≡◌, ◌≤◌, ◌<◌, ◌+◌, ℕ, length, slice_index_or, false, None, Some, arith, refl, sym, ap, ◌∙◌, subst, below_more}
 use Rattle.std.proofs.lemmas.Result.{err_from_is_err_and}
 use Rattle.std.proofs.lemmas.List.{length_push}
-use Rattle.ebpf_insn.proofs.FaultLemmas.{lowest-zero, lowest-none, lowest-some}
+use Rattle.ebpf_insn.proofs.FaultLemmas.{lowest-zero, lowest-more_none}
 use Rattle.ebpf_insn.proofs.ListLemmas.{each_push}
 use Rattle.ebpf_insn.specs.Faults.{lowest}
 use Rattle.ebpf_flow.specs.Edges.{edges_at, reached_by}
@@ -36,7 +36,7 @@ loop-slot-preserved c =
       flags = c.in_ok-leaving.ensures.len ∙ c.loop-slot.invariant.flags;
       reached = λ k lt. c.in_ok-leaving.ensures.marked k (omega (arith, c.loop-slot.invariant.all)) ∙ reached_by-more c.args.program c.loop-slot.slot k _ (c.loop-slot.invariant.reached k lt);
       len = rw c.in_ok-push.ensures.items (omega (arith, length_push c.loop-slot.edges.items c.in_ok-leaving.leaving, c.loop-slot.invariant.len));
-      fine = lowest-none (flow_fault_at c.args.program) c.loop-slot.slot c.loop-slot.invariant.fine c.in_ok-leaving.ensures.fine;
+      fine = lowest-more_none (flow_fault_at c.args.program) c.loop-slot.slot c.loop-slot.invariant.fine c.in_ok-leaving.ensures.fine;
       forward = below_more _ _ c.loop-slot.invariant.forward (subst (λ e. LeadsForward c.args.program c.loop-slot.slot e.fall × LeadsForward c.args.program c.loop-slot.slot e.jump) c.in_ok-leaving.ensures.edges c.in_ok-leaving.ensures.forward);
       each = rw c.in_ok-push.ensures.items (each_push (edges_at c.args.program) c.loop-slot.edges.items c.in_ok-leaving.leaving c.loop-slot.slot c.loop-slot.invariant.len c.in_ok-leaving.ensures.edges c.loop-slot.invariant.each);
     }

@@ -1,6 +1,6 @@
 use Rattle.std.proofs.Common.{◌≡◌, ◌<◌, ◌≤◌, ◌+◌, ℕ, length, List, slice_index_or, None, Some, arith, refl, sym, ap, ◌∙◌, subst}
 use Rattle.std.proofs.lemmas.Result.{err_from_is_err_and}
-use Rattle.ebpf_insn.proofs.FaultLemmas.{lowest-zero, lowest-none}
+use Rattle.ebpf_insn.proofs.FaultLemmas.{lowest-zero, lowest-more_none}
 use Rattle.ebpf_state.specs.declared.kinds.KindRow.{KindRow}
 use Rattle.ebpf_verify.specs.declared.arrival.Arrival.TheVariants.{Never}
 use Rattle.ebpf_verify.specs.Subject.{Subject}
@@ -32,5 +32,5 @@ loop-slot-preserved c =
       all = c.slots-slots.ensures.value ∙ ap length c.program.ensures.value;
       len = c.in_ok-visit.ensures.len ∙ c.loop-slot.invariant.len;
       came = λ t lo lt. c.in_ok-visit.ensures.sent t (omega arith) (omega (arith, c.loop-slot.invariant.all)) ∙ arrived-more c.args.flowed c.loop-slot.slot t _ _ here (c.loop-slot.invariant.came t (omega arith) lt);
-      fine = lowest-none (refusal_at (record { program = c.args.flowed; decl = c.args.decl; rows = c.in_ok-rows.rows.items })) c.loop-slot.slot c.loop-slot.invariant.fine (refusal_here (record { program = c.args.flowed; decl = c.args.decl; rows = c.in_ok-rows.rows.items }) c.loop-slot.slot _ None here c.in_ok-visit.ensures.fine);
+      fine = lowest-more_none (refusal_at (record { program = c.args.flowed; decl = c.args.decl; rows = c.in_ok-rows.rows.items })) c.loop-slot.slot c.loop-slot.invariant.fine (refusal_here (record { program = c.args.flowed; decl = c.args.decl; rows = c.in_ok-rows.rows.items }) c.loop-slot.slot _ None here c.in_ok-visit.ensures.fine);
     }

@@ -1,0 +1,134 @@
+-- What an accepted operation computes is what its rule says.
+use Rattle.std.proofs.Common.{◌≡◌, ◌≢◌, ℕ, ◌+◌, ◌<◌, ◌≤◌, ◌^◌, ◌%◌, ℤ, pos, ◌+ℤ◌, ◌≤ℤ◌, Bool, true, false, cond, eqb, not, List, [], ◌∷◌, Option, Some, None, Result, Ok, Err, refl, sym, ap, ◌∙◌, subst, arith, rules}
+use Rattle.std.specs.Prelude.{FitsSigned, nat_abs, nat_lt, ◌||◌, ◌&&◌, is_none, unwrap_or, length}
+use Rattle.std.proofs.lemmas.Bool.Decides.{nat_tests}
+use Rattle.std.proofs.lemmas.Int.{ints}
+use Rattle.std.proofs.Math.Nat.{mod-lt}
+use Rattle.ebpf_insn.specs.declared.register.Reg.{Reg}
+use Rattle.ebpf_insn.specs.declared.insn.AluOp.{AluOp}
+use Rattle.ebpf_insn.specs.declared.insn.AluOp.TheVariants as op
+use Rattle.ebpf_insn.specs.declared.insn.Width.{Width}
+use Rattle.ebpf_insn.specs.declared.insn.Width.TheVariants.{W32, W64}
+use Rattle.ebpf_insn.specs.Faults.{first_of}
+use Rattle.ebpf_insn.specs.Arithmetic.{signed_of, sum_at, kept_at}
+use Rattle.ebpf_range.specs.declared.range.Range.{Range}
+use Rattle.ebpf_range.specs.Interval.{IsWithin, low, sum_range}
+use Rattle.ebpf_range.proofs.SumLemmas.{low-sound, sum_of-sound, low_sum-sound}
+use Rattle.ebpf_state.specs.declared.value.Abs.{Abs}
+use Rattle.ebpf_state.specs.declared.value.Abs.TheVariants.{Unset, Num, Stk, Ctx, Ob, May}
+use Rattle.ebpf_state.specs.Abstract.{is_unset, is_pointer, is_may}
+use Rattle.ebpf_verify.specs.declared.fault.VerifyCode.{VerifyCode}
+use Rattle.ebpf_verify.specs.Pointers.{signed_ends, moved_end, with_end, with_ends, moved_by, moved}
+use Rattle.ebpf_verify.specs.Pointers as pointers
+use Rattle.ebpf_verify.specs.Rules.{blurs_stack, is_frame_pointer, copy_refusal, low_refusal, sum_refusal, numbers_refusal, alu_refusal, result_of}
+use Rattle.ebpf_machine.specs.declared.value.Value.{Value}
+use Rattle.ebpf_machine.specs.declared.value.Value.TheVariants.{Number, Stack, Context, Object}
+use Rattle.ebpf_machine.specs.Values.{Trap}
+use Rattle.ebpf_machine.specs.Effect.{moved_value, moved_pointer, sum_of, sum_value, alu_value}
+use Rattle.ebpf_machine.specs.Concretization.{IsOf}
+use Rattle.ebpf_machine.specs.Executable.{FitsValue, IsFine, IsNoTrap, IsComputable}
+use Rattle.ebpf_machine.proofs.Pointers.{signed_between, near_end, near_fits, between_near}
+
+-- the first test of a list fails where no code is given
+pub none_first : {C : Type 0} (t : Bool) (c : C) (rest : Option C) → cond t (Some c) rest ≡ None → (t ≡ false) × (rest ≡ None)
+none_first true c rest e = absurd (cc)
+none_first false c rest e = (refl, e)
+
+neither : (a b : Bool) → (a || b) ≡ false → (a ≡ false) × (b ≡ false)
+neither false false e = (refl, refl)
+neither false true e = absurd (cc)
+neither true b e = absurd (cc)
+
+-- a value that is set
+pub set_value : (a : Abs) (x : Option (Value ℕ)) → is_unset a ≡ false → IsOf a x → (v : Value ℕ) × (x ≡ Some v) × IsOf a (Some v)
+set_value Unset x e h = absurd (cc)
+set_value a (Some v) e h = (v, refl, h)
+set_value (Num a) None e h = absurd h
+set_value (Stk k) None e h = absurd h
+set_value (Ctx a b) None e h = absurd h
+set_value (Ob c a b) None e h = absurd h
+set_value (May c) None e h = absurd h
+
+-- a value that is a number
+pub number_value : (a : Abs) (x : Option (Value ℕ)) → is_unset a ≡ false → is_may a ≡ false → is_pointer a ≡ false → IsOf a x → (n : ℕ) × (r : Range) × (x ≡ Some (Number n)) × (a ≡ Num r) × IsWithin n r × (n < 2 ^ 64)
+number_value Unset x e m p h = absurd (cc)
+number_value (May c) x e m p h = absurd (cc)
+number_value (Stk k) x e m p h = absurd (cc)
+number_value (Ctx a b) x e m p h = absurd (cc)
+number_value (Ob c a b) x e m p h = absurd (cc)
+number_value (Num r) None e m p h = absurd h
+number_value (Num r) (Some (Number n)) e m p h = (n, r, refl, refl, h.0, h.1)
+number_value (Num r) (Some (Stack k)) e m p h = absurd h
+number_value (Num r) (Some (Context k)) e m p h = absurd h
+number_value (Num r) (Some (Object c k)) e m p h = absurd h
+
+-- a result, with what is known of it
+pub record IsComputed (known : Abs) (result : Result (Value ℕ) Trap) : Type 0 where
+  pub v : Value ℕ
+  pub is : result ≡ Ok v
+  pub of : IsOf known (Some v)
+
+pub record IsFitting (known : Abs) (result : Result (Value ℕ) Trap) : Type 0 where
+  pub v : Value ℕ
+  pub is : result ≡ Ok v
+  pub fits : FitsValue v
+  pub of : IsOf known (Some v)
+
+-- a pointer that is moved
+
+one_end : (o : Option ℤ) (k : ℤ → Abs) (q : Abs) → with_end o k ≡ Some q → (e : ℤ) × (o ≡ Some e) × (k e ≡ q)
+one_end None k q h = absurd (cc)
+one_end (Some e) k q h = (e, refl, cc)
+
+two_ends : (o u : Option ℤ) (k : ℤ → ℤ → Abs) (q : Abs) → with_ends o u k ≡ Some q → (e : ℤ) × (f : ℤ) × (o ≡ Some e) × (u ≡ Some f) × (k e f ≡ q)
+two_ends None u k q h = absurd (cc)
+two_ends (Some e) None k q h = absurd (cc)
+two_ends (Some e) (Some f) k q h = (e, f, refl, refl, cc)
+
+-- a number of a constant range, read as a signed one, is either end
+constant_reading : (b : Range) (n : ℕ) (ends : ℤ × ℤ) → not (eqb b.lo b.hi) ≡ false → IsWithin n b → signed_ends b ≡ Some ends → signed_of n ≡ ends.0
+constant_reading b n ends one h e =
+    let same : b.lo ≡ b.hi = ends_meet b.lo b.hi one in
+    let at : n ≡ b.lo = omega arith in
+    ap signed_of at ∙ reading (nat_lt b.hi (2 ^ 63) || _) (signed_of b.lo) (signed_of b.hi) ends e
+  where
+  ends_meet : (lo hi : ℕ) → not (eqb lo hi) ≡ false → lo ≡ hi
+  ends_meet lo hi t = grind (arith, nat_tests)
+  reading : (t : Bool) (lo hi : ℤ) (ends : ℤ × ℤ) → cond t (Some (lo, hi)) None ≡ Some ends → lo ≡ ends.0
+  reading true lo hi ends e = ap (λ (o : Option (ℤ × ℤ)). (unwrap_or o ends).0) e
+  reading false lo hi ends e = absurd (cc)
+
+-- both ends moved by the ends of the number
+moved_between : (a b k low high s : ℤ) (e f : ℤ) → e ≡ a +ℤ low → f ≡ b +ℤ high → a ≤ℤ k → k ≤ℤ b → low ≤ℤ s → s ≤ℤ high → (e ≤ℤ (k +ℤ s)) × ((k +ℤ s) ≤ℤ f)
+moved_between a b k low high s e f p q ak kb ls sh = (omega (arith, ints, p, ak, ls), omega (arith, ints, q, kb, sh))
+
+pub moved_fits : (p q : Abs) (b : Range) (v : Value ℕ) (n : ℕ) → is_pointer p ≡ true → IsOf p (Some v) → IsWithin n b → blurs_stack p (Num b) ≡ false → (ends : Option (ℤ × ℤ)) → signed_ends b ≡ ends → moved_by p ends ≡ Some q → IsFitting q (moved_pointer v n)
+moved_fits Unset q b v n is_p h w clear ends ends_are m = absurd (cc)
+moved_fits (Num a) q b v n is_p h w clear ends ends_are m = absurd (cc)
+moved_fits (May c) q b v n is_p h w clear ends ends_are m = absurd (cc)
+moved_fits (Stk k) q b v n is_p h w clear None ends_are m = absurd (cc)
+moved_fits (Ctx a d) q b v n is_p h w clear None ends_are m = absurd (cc)
+moved_fits (Ob c a d) q b v n is_p h w clear None ends_are m = absurd (cc)
+moved_fits (Stk k) q b (Stack j) n is_p h w clear (Some ends) ends_are m =
+    let one = one_end (moved_end k ends.0) Stk q m in
+    let near = near_end k ends.0 one.0 one.1 in
+    let reading = constant_reading b n ends clear w ends_are in
+    let lands : j +ℤ signed_of n ≡ one.0 = ap (λ (z : ℤ). z +ℤ signed_of n) h ∙ ap (λ (z : ℤ). k +ℤ z) reading ∙ sym near.0 in
+    record { v = Stack (j +ℤ signed_of n); is = refl; fits = near_fits (j +ℤ signed_of n) (rw lands near.1); of = subst (λ (u : Abs). IsOf u (Some (Stack (j +ℤ signed_of n)))) one.2 lands }
+moved_fits (Ctx a d) q b (Context j) n is_p h w clear (Some ends) ends_are m =
+    let two = two_ends (moved_end a ends.0) (moved_end d ends.1) Ctx q m in
+    let near = near_end a ends.0 two.0 two.2 in
+    let far = near_end d ends.1 two.1 two.3 in
+    let reading = signed_between b n ends w ends_are in
+    let inside = moved_between a d j ends.0 ends.1 (signed_of n) two.0 two.1 near.0 far.0 h.0 h.1 reading.0 reading.1 in
+    record { v = Context (j +ℤ signed_of n); is = refl; fits = near_fits (j +ℤ signed_of n) (between_near two.0 two.1 (j +ℤ signed_of n) near.1 far.1 inside.0 inside.1); of = subst (λ (u : Abs). IsOf u (Some (Context (j +ℤ signed_of n)))) two.4 inside }
+moved_fits (Ob c a d) q b (Object at j) n is_p h w clear (Some ends) ends_are m =
+    let two = two_ends (moved_end a ends.0) (moved_end d ends.1) (Ob c) q m in
+    let near = near_end a ends.0 two.0 two.2 in
+    let far = near_end d ends.1 two.1 two.3 in
+    let reading = signed_between b n ends w ends_are in
+    let inside = moved_between a d j ends.0 ends.1 (signed_of n) two.0 two.1 near.0 far.0 h.1 h.2 reading.0 reading.1 in
+    record { v = Object at (j +ℤ signed_of n); is = refl; fits = near_fits (j +ℤ signed_of n) (between_near two.0 two.1 (j +ℤ signed_of n) near.1 far.1 inside.0 inside.1); of = subst (λ (u : Abs). IsOf u (Some (Object at (j +ℤ signed_of n)))) two.4 (h.0, inside.0, inside.1) }
+moved_fits (Stk k) q b _ n is_p h w clear (Some ends) ends_are m = absurd h
+moved_fits (Ctx a d) q b _ n is_p h w clear (Some ends) ends_are m = absurd h
+moved_fits (Ob c a d) q b _ n is_p h w clear (Some ends) ends_are m = absurd h

@@ -1,0 +1,157 @@
+-- The world: ledgers, owners, object bytes and runs. Each access is tested against the owners.
+use Rattle.std.specs.Prelude.{◌≡◌, ℕ, ◌+◌, ◌++◌, ◌==◌, nat_lt, nat_le, Bool, true, false, not, ◌&&◌, ◌||◌, if◌then◌else◌, List, [], ◌∷◌, length, filter, replicate, pos, Option, Some, None, is_none, Result, Ok, Err, slice_get, slice_set, slice_index_or}
+use Rattle.std.specs.List.{list_any}
+use Rattle.ebpf_insn.specs.Program.{insn_at}
+use Rattle.ebpf_state.specs.declared.kinds.KindRow.{KindRow}
+use Rattle.ebpf_verify.specs.Subject.{Subject}
+use Rattle.ebpf_machine.specs.declared.value.Value.{Value}
+use Rattle.ebpf_machine.specs.declared.value.Value.TheVariants.{Stack, Context}
+use Rattle.ebpf_machine.specs.Values.{Trap, Frame, empty_stack}
+use Rattle.ebpf_machine.specs.Effect.{Effect, Goes, Ends, Traps, effect_at}
+
+-- how the world names an object: its slot, and the call that was granted it
+abbrev pub Name : Type 0
+Name = ℕ × ℕ
+
+pub data Status : Type 0 where
+  Going : Status
+  Exited : (result : ℕ) → Status
+  Trapped : (trap : Trap) → Status
+
+pub record Running : Type 0 where
+  pub subject : Subject
+  pub context : List ℕ
+  pub pc : ℕ
+  pub frame : Frame Name
+  pub executed : ℕ
+  pub status : Status
+
+-- a run holds a slot, by the call at this place of its program
+pub record Owner : Type 0 where
+  pub slot : ℕ
+  pub run : ℕ
+  pub at : ℕ
+
+-- the slots of each kind, in the order of the kinds; who owns which; the bytes of each slot of a ledger; the runs
+pub record World : Type 0 where
+  pub rows : List KindRow
+  pub ledgers : List (List ℕ)
+  pub owners : List Owner
+  pub bytes : List (ℕ × List ℕ)
+  pub runs : List Running
+
+-- the answer that an event brings to a call of new
+pub data Answer : Type 0 where
+  Absent : Answer
+  Null : Answer
+  Slot : (slot : ℕ) → Answer
+
+-- why an event is not legal, in the order in which it is tested
+pub data Illegal : Type 0 where
+  NoSuchRun : Illegal
+  RunEnded : Illegal
+  SlotNotHome : Illegal
+  SlotOfAnotherKind : Illegal
+  AnswerUnasked : Illegal
+  AnswerMissing : Illegal
+  SlotInLedger : Illegal
+  SlotNotReapable : Illegal
+  NoSuchProgramOrKind : Illegal
+  WrongContext : Illegal
+
+abbrev pub is_in : ℕ → List ℕ → Bool
+is_in slot slots = list_any (λ s. s == slot) slots
+
+abbrev pub is_in_ledger : World → ℕ → Bool
+is_in_ledger w slot = list_any (is_in slot) w.ledgers
+
+abbrev pub is_owned : World → ℕ → Bool
+is_owned w slot = list_any (λ o. o.slot == slot) w.owners
+
+-- in a ledger, and held by no run
+abbrev pub is_home : World → ℕ → Bool
+is_home w slot = is_in_ledger w slot && not (is_owned w slot)
+
+-- how many objects a run holds
+abbrev pub holds_of : World → ℕ → ℕ
+holds_of w run = length (filter (λ o. o.run == run) w.owners)
+
+abbrev pub first_registers : {N : Type 0} → List (Option (Value N))
+first_registers = None ∷ Some (Context (pos 0)) ∷ None ∷ None ∷ None ∷ None ∷ None ∷ None ∷ None ∷ None ∷ Some (Stack (pos 0)) ∷ []
+
+abbrev pub first_frame : {N : Type 0} → Frame N
+first_frame = record { registers = first_registers; stack = empty_stack; output = [] }
+
+-- a run before its first instruction
+abbrev pub first_run : Subject → List ℕ → Running
+first_run subject context = record { subject = subject; context = context; pc = 0; frame = first_frame; executed = 0; status = Going }
+
+-- the run after an instruction; one that traps changes nothing but the status and the count
+abbrev pub run_after : Effect Name → Running → Running
+run_after (Goes to frame) r = record r { pc = to; frame = frame; executed = r.executed + 1 }
+run_after (Ends n) r = record r { status = Exited n; executed = r.executed + 1 }
+run_after (Traps trap) r = record r { status = Trapped trap; executed = r.executed + 1 }
+
+-- Start: one more run of an accepted program
+abbrev pub started : Subject → List ℕ → World → World
+started subject context w = record w { runs = w.runs ++ first_run subject context ∷ [] }
+
+-- why an answered slot is refused
+abbrev pub answer_fault : World → Answer → Option Illegal
+answer_fault w (Slot slot) = if is_home w slot then Some AnswerUnasked else Some SlotNotHome
+answer_fault w Null = Some AnswerUnasked
+answer_fault w Absent = None
+
+abbrev pub or_illegal : Option Illegal → World → Result World Illegal
+or_illegal (Some why) w = Err why
+or_illegal None w = Ok w
+
+abbrev pub with_run : World → ℕ → Running → World
+with_run w run r = record w { runs = slice_set w.runs run r }
+
+abbrev pub done_by : World → ℕ → Running → Running
+done_by w run r = run_after (effect_at (insn_at r.subject.program r.pc) r.pc (holds_of w run) r.frame) r
+
+abbrev pub going_on : Status → World → ℕ → Answer → Running → Result World Illegal
+going_on Going w run answer r = or_illegal (answer_fault w answer) (with_run w run (done_by w run r))
+going_on _ w run answer r = Err RunEnded
+
+abbrev pub executed_by : Option Running → World → ℕ → Answer → Result World Illegal
+executed_by None w run answer = Err NoSuchRun
+executed_by (Some r) w run answer = going_on r.status w run answer r
+
+-- Exec: one run does the instruction at its pc. No instruction asks for an object yet, so every answer is unasked.
+abbrev pub executed : World → ℕ → Answer → Result World Illegal
+executed w run answer = executed_by (slice_get w.runs run) w run answer
+
+abbrev pub with_slot : List (List ℕ) → ℕ → ℕ → List (List ℕ)
+with_slot ledgers kind slot = slice_set ledgers kind (slice_index_or ledgers kind [] ++ slot ∷ [])
+
+abbrev pub without_slot : List (List ℕ) → ℕ → ℕ → List (List ℕ)
+without_slot ledgers kind slot = slice_set ledgers kind (filter (λ s. not (s == slot)) (slice_index_or ledgers kind []))
+
+-- the bytes of a new object of a kind
+abbrev pub image_of : KindRow → List ℕ
+image_of row = replicate row.size row.fill
+
+abbrev pub grown_by : Option KindRow → ℕ → ℕ → World → Result World Illegal
+grown_by None kind slot w = Err NoSuchProgramOrKind
+grown_by (Some row) kind slot w = if is_in_ledger w slot then Err SlotInLedger else Ok (record w {
+    ledgers = with_slot w.ledgers kind slot;
+    bytes = w.bytes ++ (slot, image_of row) ∷ [];
+  })
+
+-- Grow: a slot that is in no ledger joins that of a kind, with its image
+abbrev pub grown : ℕ → ℕ → World → Result World Illegal
+grown kind slot w = grown_by (slice_get w.rows kind) kind slot w
+
+abbrev pub reaped_by : Option KindRow → ℕ → ℕ → World → Result World Illegal
+reaped_by None kind slot w = Err NoSuchProgramOrKind
+reaped_by (Some row) kind slot w = if is_owned w slot || not (is_in slot (slice_index_or w.ledgers kind [])) then Err SlotNotReapable else Ok (record w {
+    ledgers = without_slot w.ledgers kind slot;
+    bytes = filter (λ b. not (b.0 == slot)) w.bytes;
+  })
+
+-- Reap: a home slot leaves the ledger of its kind
+abbrev pub reaped : ℕ → ℕ → World → Result World Illegal
+reaped kind slot w = reaped_by (slice_get w.rows kind) kind slot w

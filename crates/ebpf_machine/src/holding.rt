@@ -1,0 +1,9 @@
+//! An object that a run holds.
+
+/// An object, with the call that was granted it and its kind.
+pub struct Holding<H> {
+    /// The slot of the call.
+    pub call: u16,
+    pub kind: u8,
+    pub object: H,
+}
