@@ -38,3 +38,8 @@ followed (j ∷ is) (suc k) i at lt = behind (Some j) (flat_map placed is) k i (
 
 pub next_is_insn : (p : List (Option Insn)) (k : ℕ) (i : Insn) → IsWellFormed p → insn_at p k ≡ Some i → k + slots_in i < length p → is_none (insn_at p (k + slots_in i)) ≡ false
 next_is_insn p k i formed = subst (λ (q : List (Option Insn)). IsFollowed q k i) (sym formed.placed) (followed (instructions p) k i)
+
+pub slot_zero_is_insn : (p : List (Option Insn)) → IsWellFormed p → is_none (insn_at p 0) ≡ false
+slot_zero_is_insn p formed =
+    let some : 0 < length (flat_map placed (instructions p)) = subst (λ (q : List (Option Insn)). 0 < length q) formed.placed formed.some in
+    subst (λ (q : List (Option Insn)). is_none (insn_at q 0) ≡ false) (sym formed.placed) (first_is_insn (instructions p) some)

@@ -4,3 +4,6 @@ pub mod Pointers
 pub mod Operations
 pub mod Additions
 pub mod Soundness
+pub mod Projection
+pub mod AloneLemmas
+pub mod Steps

@@ -1,5 +1,5 @@
 -- An instruction that is not refused does not trap, and what it sends on speaks of the run after it.
-use Rattle.std.proofs.Common.{◌≡◌, ◌≢◌, ℕ, zero, suc, ◌+◌, ◌<◌, ◌≤◌, Bool, true, false, cond, List, length, get_or, set, Option, Some, None, Result, Ok, Err, refl, sym, ap, ◌∙◌, subst, arith, rules, inl, inr, ◌⊎◌, length-set}
+use Rattle.std.proofs.Common.{◌≡◌, ◌≢◌, ℕ, zero, suc, ◌+◌, ◌<◌, ◌≤◌, Bool, true, false, cond, List, [], length, get_or, set, Option, Some, None, Result, Ok, Err, refl, sym, ap, ◌∙◌, subst, arith, rules, inl, inr, ◌⊎◌, length-set}
 use Rattle.std.specs.Prelude.{ℤ, FitsSigned, ◌||◌, nat_lt, is_none}
 use Rattle.std.specs.Int.{w32}
 use Rattle.std.proofs.lemmas.List.{get_or-set_same, get_or-set_other}
@@ -24,7 +24,7 @@ use Rattle.ebpf_state.specs.declared.value.Abs.{Abs}
 use Rattle.ebpf_state.specs.declared.value.Abs.TheVariants.{Unset, Num}
 use Rattle.ebpf_state.specs.Abstract.{is_unset, is_pointer, is_may}
 use Rattle.ebpf_state.specs.StateView.{StateView}
-use Rattle.ebpf_state.specs.States.{register_of, with_register}
+use Rattle.ebpf_state.specs.States.{register_of, with_register, first_state}
 use Rattle.ebpf_verify.specs.declared.arrival.Arrival.{Arrival}
 use Rattle.ebpf_verify.specs.declared.arrival.Arrival.TheVariants.{Never, Entered, Differ}
 use Rattle.ebpf_verify.specs.Rules.{refusal, operand, result_of, is_frame_pointer, exit_refusal, after_fall}
@@ -34,6 +34,7 @@ use Rattle.ebpf_machine.specs.declared.value.Value.{Value}
 use Rattle.ebpf_machine.specs.declared.value.Value.TheVariants.{Number, Stack, Context, Object}
 use Rattle.ebpf_machine.specs.Values.{Trap, Frame, read, source_value}
 use Rattle.ebpf_machine.specs.Effect.{Effect, Goes, Ends, Traps, effect, written, with_value, exits, alu_value}
+use Rattle.ebpf_machine.specs.World.{first_registers}
 use Rattle.ebpf_machine.specs.Concretization.{IsOf, AreOf, Arrives}
 use Rattle.ebpf_machine.specs.Executable.{IsExecutable, IsNumber}
 use Rattle.ebpf_machine.proofs.Joins.{IsWhole}
@@ -141,3 +142,20 @@ pub slot_stepped : (p : List (Option Insn)) (calls : List ℕ) (k : ℕ) (i : In
 slot_stepped p calls k i Never frame at defined entered w lr h fine = absurd h
 slot_stepped p calls k i Differ frame at defined entered w lr h fine = absurd (cc)
 slot_stepped p calls k i (Entered s) frame at defined entered w lr h fine = insn_stepped p calls k i s frame at defined entered w lr h fine
+
+-- the first registers are as the first state says
+pub first_holds : AreOf first_state first_registers []
+first_holds = record { each = first_each; held = λ call there. there } where
+  first_each : (k : ℕ) → k < 11 → IsOf (get_or first_state.registers k Unset) (get_or first_registers k None)
+  first_each zero lt = tt
+  first_each (suc zero) lt = (omega (arith, ints), omega (arith, ints))
+  first_each (suc (suc zero)) lt = tt
+  first_each (suc (suc (suc zero))) lt = tt
+  first_each (suc (suc (suc (suc zero)))) lt = tt
+  first_each (suc (suc (suc (suc (suc zero))))) lt = tt
+  first_each (suc (suc (suc (suc (suc (suc zero)))))) lt = tt
+  first_each (suc (suc (suc (suc (suc (suc (suc zero))))))) lt = tt
+  first_each (suc (suc (suc (suc (suc (suc (suc (suc zero)))))))) lt = tt
+  first_each (suc (suc (suc (suc (suc (suc (suc (suc (suc zero))))))))) lt = tt
+  first_each (suc (suc (suc (suc (suc (suc (suc (suc (suc (suc zero)))))))))) lt = refl
+  first_each (suc (suc (suc (suc (suc (suc (suc (suc (suc (suc (suc k))))))))))) lt = tt

@@ -6,3 +6,4 @@ pub mod Alone
 pub mod Concretization
 pub mod RunView
 pub mod Executable
+pub mod Turns

@@ -3,9 +3,13 @@
 //! A [`run::Run`] does one instruction at each [`run::Run::step`]. Its program is a `Verified`, so no instruction of it
 //! traps and none is tested at run time. What it computes is defined in specs/ by a machine that tests every access: the
 //! world of many runs, one event of it, and a run alone in a world of its own.
+//!
+//! To be read in this order: `value`, `objects`, `holding`, `execute`, `report`, `run`.
 #![tactic(auto)]
 
-pub mod value;
-pub mod objects;
-pub mod holding;
 pub mod execute;
+pub mod holding;
+pub mod objects;
+pub mod report;
+pub mod run;
+pub mod value;

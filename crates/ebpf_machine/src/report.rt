@@ -1,0 +1,76 @@
+//! What a run is found to have done.
+
+ghost use Rattle.std.specs.Prelude.{◌≡◌};
+
+use std::marker::Model;
+
+/// The numbers that a run added to its output, in order. Contracts see it as the list.
+#[derive(Debug, Drop)]
+pub struct Output {
+    numbers: Vec<u64>,
+}
+
+impl Model for Output {
+    ghost use Rattle.std.specs.Prelude.{List, ℕ};
+
+    ghost Value = { List ℕ };
+
+    ghost view = { λ o. o.numbers.items };
+}
+
+impl Output {
+    /// An output of these numbers.
+    pub fn new(numbers: Vec<u64>) -> Output
+        ensures { result ≡ numbers.items }
+    {
+        Output { numbers }
+    }
+
+    pub fn as_slice(&self) -> &[u64]
+        ensures { result.now ≡ self.now }
+    {
+        &self.numbers
+    }
+}
+
+/// For each call of `new` that a run made, in order, whether it was granted. Contracts see it as the list.
+#[derive(Debug, Drop)]
+pub struct Answers {
+    granted: Vec<bool>,
+}
+
+impl Model for Answers {
+    ghost use Rattle.std.specs.Prelude.{List, Bool};
+
+    ghost Value = { List Bool };
+
+    ghost view = { λ a. a.granted.items };
+}
+
+impl Answers {
+    /// These answers.
+    pub fn new(granted: Vec<bool>) -> Answers
+        ensures { result ≡ granted.items }
+    {
+        Answers { granted }
+    }
+
+    pub fn as_slice(&self) -> &[bool]
+        ensures { result.now ≡ self.now }
+    {
+        &self.granted
+    }
+}
+
+/// What a run did until it exited, or until it was given up.
+#[derive(Debug, Drop)]
+pub struct Report {
+    /// The number that it returned, or `None` where it was given up before its exit.
+    pub exit: Option<u64>,
+    pub output: Output,
+    /// How many instructions it did.
+    pub executed: u64,
+    pub answers: Answers,
+    /// The most objects that it held at one time.
+    pub peak: u64,
+}
