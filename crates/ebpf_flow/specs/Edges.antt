@@ -1,12 +1,9 @@
 -- The edges of a program, and which of its slots are refused for them (RFC 9669, section 4.3).
-use Rattle.std.specs.Prelude.{◌≡◌, ◌<◌, ◌+◌, ℕ, zero, suc, ℤ, pos, negsuc, ◌+ℤ◌, List, [], ◌∷◌, length, Bool, true, false, not, ◌&&◌, ◌||◌, if◌then◌else◌, ◌==◌, nat_lt, nat_le, Option, Some, None, is_none}
+use Rattle.std.specs.Prelude.{◌+◌, ℕ, zero, suc, ℤ, pos, negsuc, ◌+ℤ◌, List, Bool, true, false, ◌&&◌, ◌||◌, if◌then◌else◌, ◌==◌, Option, Some, None}
 use Rattle.ebpf_insn.specs.declared.insn.Insn.{Insn}
 use Rattle.ebpf_insn.specs.declared.insn.Insn.TheVariants as insn
 use Rattle.ebpf_insn.specs.Program.{insn_at, slots_in}
-use Rattle.ebpf_insn.specs.Faults.{first_of, lowest}
 use Rattle.ebpf_flow.specs.declared.edges.Edges.{Edges}
-use Rattle.ebpf_flow.specs.declared.fault.FlowCode.{FlowCode}
-use Rattle.ebpf_flow.specs.declared.fault.FlowCode.TheVariants.{F1, F2, F3, F4, F5}
 
 -- the instruction goes on to the slot after it
 abbrev pub falls : Insn → Bool

@@ -1,5 +1,5 @@
 -- The flow fault of a program, and the programs that have none.
-use Rattle.std.specs.Prelude.{◌≡◌, ◌<◌, ◌+◌, ℕ, ℤ, pos, ◌+ℤ◌, List, [], ◌∷◌, length, Bool, true, false, not, ◌&&◌, if◌then◌else◌, ◌==◌, nat_lt, nat_le, Option, Some, None, is_none, slice_get, IfSome}
+use Rattle.std.specs.Prelude.{◌≡◌, ◌<◌, ◌+◌, ℕ, ℤ, List, [], ◌∷◌, length, Bool, true, false, not, ◌&&◌, nat_le, Option, Some, None, is_none, slice_get, IfSome}
 use Rattle.ebpf_insn.specs.declared.insn.Insn.{Insn}
 use Rattle.ebpf_insn.specs.Program.{insn_at, slots_in}
 use Rattle.ebpf_insn.specs.Faults.{first_of, lowest}
@@ -8,7 +8,7 @@ use Rattle.ebpf_flow.specs.declared.fault.FlowCode.TheVariants.{F1, F2, F3, F4, 
 use Rattle.ebpf_flow.specs.declared.fault.FlowFault.{FlowFault}
 use Rattle.ebpf_flow.specs.declared.fault.FlowFault.TheVariants.{Bad, NoMemory}
 use Rattle.ebpf_flow.specs.declared.edges.Edges.{Edges}
-use Rattle.ebpf_flow.specs.Edges.{falls, displacement_of, fall_of, jump_of, is_reached, edges_at}
+use Rattle.ebpf_flow.specs.Edges.{falls, displacement_of, jump_of, is_reached, edges_at}
 
 -- the tests of a jump
 abbrev pub is_outside : List (Option Insn) → Option ℕ → Bool

@@ -5,7 +5,7 @@
 //! the crates above see slots.
 #![tactic(auto)]
 
+pub mod check;
 pub mod edges;
 pub mod fault;
 pub mod flowed;
-pub mod check;

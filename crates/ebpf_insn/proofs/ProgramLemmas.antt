@@ -1,5 +1,5 @@
 -- The instructions of a program, and those below a slot.
-use Rattle.std.proofs.Common.{◌≡◌, ℕ, zero, suc, ◌+◌, ◌<◌, ◌≤◌, List, [], ◌∷◌, length, take, Option, Some, None, subst, arith}
+use Rattle.std.proofs.Common.{◌≡◌, ℕ, zero, suc, ◌<◌, ◌≤◌, List, [], ◌∷◌, length, Option, Some, None, subst, arith}
 use Rattle.ebpf_insn.specs.declared.insn.Insn.{Insn}
 use Rattle.std.specs.List.{AllByRecursion}
 use Rattle.ebpf_insn.specs.Program.{instructions, insn_at, count_below}

@@ -121,11 +121,21 @@ pub enum Insn {
         src: Reg,
     },
     /// `dst = 0 - dst`.
-    Neg { width: Width, dst: Reg },
+    Neg {
+        width: Width,
+        dst: Reg,
+    },
     /// Takes the low `bits` (16, 32 or 64) of `dst` in another order (RFC 9669, section 4.2).
-    Swap { order: Order, bits: u8, dst: Reg },
+    Swap {
+        order: Order,
+        bits: u8,
+        dst: Reg,
+    },
     /// Loads a 64-bit number. It takes two slots (RFC 9669, section 5.4).
-    Wide { dst: Reg, value: u64 },
+    Wide {
+        dst: Reg,
+        value: u64,
+    },
     /// Loads from memory (RFC 9669, sections 5.1 and 5.2).
     Load {
         size: Size,
@@ -142,9 +152,13 @@ pub enum Insn {
         src: Source,
     },
     /// Jumps always, by the slot's offset.
-    Jump { offset: i16 },
+    Jump {
+        offset: i16,
+    },
     /// Jumps always, by the slot's immediate.
-    JumpFar { offset: i32 },
+    JumpFar {
+        offset: i32,
+    },
     /// Jumps where the condition holds (RFC 9669, section 4.3).
     Branch {
         width: Width,
@@ -154,7 +168,9 @@ pub enum Insn {
         offset: i16,
     },
     /// Calls the helper of this number.
-    Call { number: i32 },
+    Call {
+        number: i32,
+    },
     /// Ends the run with the number in `r0`.
     Exit,
 }

@@ -23,12 +23,7 @@ use Rattle.ebpf_machine.specs.Values.{Trap}
 use Rattle.ebpf_machine.specs.Effect.{moved_value, moved_pointer, sum_of, sum_value, alu_value}
 use Rattle.ebpf_machine.specs.Concretization.{IsOf}
 use Rattle.ebpf_machine.specs.Executable.{FitsValue, IsFine, IsNoTrap, IsComputable}
-use Rattle.ebpf_machine.proofs.Operations.{none_first, set_value, number_value, IsComputed, IsFitting, moved_fits}
-
-neither : (a b : Bool) → (a || b) ≡ false → (a ≡ false) × (b ≡ false)
-neither false false e = (refl, refl)
-neither false true e = absurd (cc)
-neither true b e = absurd (cc)
+use Rattle.ebpf_machine.proofs.Operations.{none_first, neither, set_value, number_value, IsComputed, IsFitting, moved_fits}
 
 -- a sum of two numbers at 64 bits
 numbers_fit : (a b : Range) (m n : ℕ) → IsWithin m a × (m < 2 ^ 64) → IsWithin n b × (n < 2 ^ 64) → IsFitting (Num (sum_range W64 a b)) (sum_of W64 (Number m) (Number n))

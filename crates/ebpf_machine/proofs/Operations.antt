@@ -34,7 +34,8 @@ pub none_first : {C : Type 0} (t : Bool) (c : C) (rest : Option C) → cond t (S
 none_first true c rest e = absurd (cc)
 none_first false c rest e = (refl, e)
 
-neither : (a b : Bool) → (a || b) ≡ false → (a ≡ false) × (b ≡ false)
+-- a choice of two fails where both do
+pub neither : (a b : Bool) → (a || b) ≡ false → (a ≡ false) × (b ≡ false)
 neither false false e = (refl, refl)
 neither false true e = absurd (cc)
 neither true b e = absurd (cc)

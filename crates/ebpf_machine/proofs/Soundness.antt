@@ -39,7 +39,7 @@ use Rattle.ebpf_machine.specs.Concretization.{IsOf, AreOf, Arrives}
 use Rattle.ebpf_machine.specs.Executable.{IsExecutable, IsNumber}
 use Rattle.ebpf_machine.proofs.Joins.{IsWhole}
 use Rattle.ebpf_machine.proofs.Entries.{fall_arrives, IsWhole-arrived}
-use Rattle.ebpf_machine.proofs.Operations.{none_first, number_value, IsComputed}
+use Rattle.ebpf_machine.proofs.Operations.{none_first, neither, number_value, IsComputed}
 use Rattle.ebpf_machine.proofs.Additions.{alu_sound, IsSound}
 
 number_of-lt : (r : Reg) → number_of r < 11
@@ -115,11 +115,6 @@ ends_number None to after h e = h
 
 is_number : (x : Option (Value ℕ)) (n : ℕ) → x ≡ Some (Number n) → IsNumber x
 is_number x n e = rw e tt
-
-neither : (a b : Bool) → (a || b) ≡ false → (a ≡ false) × (b ≡ false)
-neither false false e = (refl, refl)
-neither false true e = absurd (cc)
-neither true b e = absurd (cc)
 
 returns_number : (a : Abs) (held : ℕ) (x : Option (Value ℕ)) → exit_refusal a held ≡ None → IsOf a x → IsNumber x
 returns_number a held x fine h =

@@ -1,8 +1,7 @@
 -- Ranges: which numbers they hold, and the table of the ranges of results.
-use Rattle.std.specs.Prelude.{◌≡◌, ◌<◌, ◌≤◌, ◌+◌, ◌-◌, ◌/◌, ◌%◌, ◌^◌, ℕ, if◌then◌else◌, ◌==◌, nat_lt, nat_le, min, max}
+use Rattle.std.specs.Prelude.{◌≤◌, ◌+◌, ◌-◌, ◌/◌, ◌%◌, ◌^◌, ℕ, if◌then◌else◌, ◌==◌, nat_lt, nat_le, min, max}
 use Rattle.ebpf_insn.specs.declared.insn.Width.{Width}
 use Rattle.ebpf_insn.specs.declared.insn.Width.TheVariants.{W32, W64}
-use Rattle.ebpf_insn.specs.Arithmetic.{modulus}
 use Rattle.ebpf_range.specs.declared.range.Range.{Range}
 
 -- the range holds the number

@@ -6,3 +6,5 @@
 
 pub mod range;
 pub mod sums;
+#[cfg(test)]
+mod tests;

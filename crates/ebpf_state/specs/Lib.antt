@@ -1,3 +1,4 @@
+pub mod Kinds
 pub mod Abstract
 pub mod Words
 pub mod StateView

@@ -1,6 +1,6 @@
 //! The kinds of object that programs allocate.
 
-ghost use Rattle.std.specs.Prelude.{◌≡◌, length};
+ghost use Rattle.ebpf_state.specs.Kinds.{AreKinds};
 
 /// A kind of object: its size in bytes, 1 to 4096, and the byte that fills a new one.
 #[derive(Clone, Copy, Debug, PartialEq, Eq)]
@@ -11,7 +11,9 @@ pub struct KindRow {
 }
 
 /// The kinds that the caches have, by number.
-pub fn kinds() -> [KindRow; 3] {
+pub fn kinds() -> [KindRow; 3]
+    ensures { AreKinds result }
+{
     [
         KindRow {
             name: "cell",

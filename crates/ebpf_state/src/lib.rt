@@ -9,3 +9,5 @@ pub mod value;
 pub mod word;
 pub mod held;
 pub mod state;
+#[cfg(test)]
+mod tests;

@@ -103,7 +103,8 @@ impl State {
         requires { IsProper value }
         ensures { self.new ≡ with_register self.old register value }
     {
-        self.registers[register.number()] = value;
+        let number = register.number();
+        self.registers[number] = value;
     }
 
     /// What is known where two paths meet, one of which knows each.

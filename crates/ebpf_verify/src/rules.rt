@@ -2,7 +2,7 @@
 
 ghost use Rattle.std.specs.Prelude.{◌≡◌};
 ghost use Rattle.ebpf_state.specs.Abstract.{IsProper};
-ghost use Rattle.ebpf_verify.specs.Rules.{operand, blurs_stack, alu_refusal, copy_refusal, low_refusal, sum_refusal, numbers_refusal, exit_refusal, refusal, result_of, low_value, numbers_value, after_fall};
+ghost use Rattle.ebpf_verify.specs.Rules.{operand, blurs_stack, alu_refusal, copy_refusal, low_refusal, sum_refusal, numbers_refusal, exit_refusal, refusal, result_of, low_value, numbers_value, after_fall, is_frame_pointer};
 
 use crate::fault::VerifyCode;
 use crate::pointer::sum_value;
@@ -80,7 +80,7 @@ fn copy_refusal(src: Abs, dst: Reg) -> Option<VerifyCode>
 {
     if src.is_unset() {
         Some(VerifyCode::V1)
-    } else if dst == Reg::R10 {
+    } else if is_frame_pointer(dst) {
         Some(VerifyCode::V2)
     } else {
         None
@@ -92,7 +92,7 @@ fn low_refusal(src: Abs, dst: Reg) -> Option<VerifyCode>
 {
     if src.is_unset() {
         Some(VerifyCode::V1)
-    } else if dst == Reg::R10 {
+    } else if is_frame_pointer(dst) {
         Some(VerifyCode::V2)
     } else if src.is_may() {
         Some(VerifyCode::V11)
@@ -108,7 +108,7 @@ fn numbers_refusal(left: Abs, right: Abs, dst: Reg) -> Option<VerifyCode>
 {
     if left.is_unset() || right.is_unset() {
         Some(VerifyCode::V1)
-    } else if dst == Reg::R10 {
+    } else if is_frame_pointer(dst) {
         Some(VerifyCode::V2)
     } else if left.is_may() || right.is_may() {
         Some(VerifyCode::V11)
@@ -126,7 +126,7 @@ fn sum_refusal(left: Abs, right: Abs, dst: Reg) -> Option<VerifyCode>
 {
     if left.is_unset() || right.is_unset() {
         Some(VerifyCode::V1)
-    } else if dst == Reg::R10 {
+    } else if is_frame_pointer(dst) {
         Some(VerifyCode::V2)
     } else if left.is_may() || right.is_may() {
         Some(VerifyCode::V11)
@@ -139,6 +139,13 @@ fn sum_refusal(left: Abs, right: Abs, dst: Reg) -> Option<VerifyCode>
     } else {
         None
     }
+}
+
+// The register is the read-only frame pointer.
+fn is_frame_pointer(register: Reg) -> bool
+    ensures { result ≡ is_frame_pointer register }
+{
+    register == Reg::R10
 }
 
 // A pointer to the stack would be moved by a number that isn't known exactly.

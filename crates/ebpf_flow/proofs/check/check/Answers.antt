@@ -1,10 +1,9 @@
-use Rattle.std.proofs.Common.{◌≡◌, ◌≤◌, ◌<◌, ◌+◌, ℕ, length, slice_index_or, false, None, Some, arith, refl, sym, ap, ◌∙◌, subst, below_more}
+use Rattle.std.proofs.Common.{◌<◌, length, arith, sym, ap, ◌∙◌, subst, below_more}
 use Rattle.std.proofs.lemmas.Result.{err_from_is_err_and}
 use Rattle.std.proofs.lemmas.List.{length_push}
 use Rattle.ebpf_insn.proofs.FaultLemmas.{lowest-zero, lowest-more_none}
 use Rattle.ebpf_insn.proofs.ListLemmas.{each_push}
-use Rattle.ebpf_insn.specs.Faults.{lowest}
-use Rattle.ebpf_flow.specs.Edges.{edges_at, reached_by}
+use Rattle.ebpf_flow.specs.Edges.{edges_at}
 use Rattle.ebpf_flow.specs.Flow.{flow_fault_at, LeadsForward}
 use Rattle.ebpf_flow.proofs.Reach.{reached_by-none, reached_by-more, fault_here}
 use Rattle.ebpf_flow.proofs.check.check.Goals as goal

@@ -1,5 +1,5 @@
-use Rattle.std.proofs.Common.{◌≡◌, ◌+◌, ◌<◌, length, arith}
-use Rattle.ebpf_insn.specs.Program.{slots_in, insn_at}
+use Rattle.std.proofs.Common.{◌+◌, ◌<◌, length, arith}
+use Rattle.ebpf_insn.specs.Program.{slots_in}
 use Rattle.ebpf_flow.proofs.Next.{next_is_insn}
 use Rattle.ebpf_flow.proofs.edges.fall_from.Goals as goal
 use Rattle.ebpf_flow.proofs.edges.fall_from.Goals.{else-falls-via-then-falls+else-next-slots, else-falls-via-else-falls}

@@ -1,4 +1,4 @@
-use Rattle.std.proofs.Common.{◌≡◌, ◌≤◌, ◌<◌, ◌+◌, ◌-◌, ◌*◌, ◌%◌, arith}
+use Rattle.std.proofs.Common.{◌+◌, arith}
 use Rattle.ebpf_range.proofs.Wraps.{mod-wraps}
 use Rattle.ebpf_range.proofs.sums.sum_below.Goals as goal
 

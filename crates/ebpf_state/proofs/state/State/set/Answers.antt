@@ -5,8 +5,8 @@ use Rattle.ebpf_state.proofs.state.State.set.Goals as goal
 
 pub invariant_of-self : goal.invariant_of-self
 invariant_of-self c = record {
-  registers_are = length-set c.self.inside.registers c.number.result c.args.value ∙ c.self.invariant.registers_are;
+  registers_are = length-set c.self.inside.registers c.number-number.result c.args.value ∙ c.self.invariant.registers_are;
   words_are = c.self.invariant.words_are;
-  proper = All-set IsProper c.self.inside.registers c.number.result c.args.value c.requires c.self.invariant.proper;
+  proper = All-set IsProper c.self.inside.registers c.number-number.result c.args.value c.requires c.self.invariant.proper;
   proper_words = c.self.invariant.proper_words;
 }

@@ -1,0 +1,33 @@
+// The same loop over the atomics of Rust's std: rustc -O plain_rust.rs
+use std::sync::atomic::{AtomicU64, Ordering};
+use std::thread;
+use std::time::Instant;
+
+const ROUNDS: u32 = 3_000_000;
+
+fn plain_pairs(words: &[AtomicU64], slot: usize) {
+    for _ in 0..ROUNDS {
+        if words[slot].compare_exchange(0, 24578, Ordering::SeqCst, Ordering::SeqCst).is_ok() {
+            words[slot].swap(0, Ordering::SeqCst);
+        }
+    }
+}
+
+fn main() {
+    let words: Vec<AtomicU64> = (0..256).map(|_| AtomicU64::new(0)).collect();
+    for _ in 0..2 {
+        for threads in [1, 2, 4] {
+            for apart in [64, 0] {
+                let start = Instant::now();
+                thread::scope(|s| {
+                    for i in 0..threads {
+                        let words = &words;
+                        s.spawn(move || plain_pairs(words, i * apart));
+                    }
+                });
+                let place = if apart == 0 { "one slot" } else { "own slots" };
+                println!("{threads} threads, {place}: Rust's std {} ns", start.elapsed().as_nanos() / ROUNDS as u128);
+            }
+        }
+    }
+}

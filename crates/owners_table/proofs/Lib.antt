@@ -1,0 +1,11 @@
+pub mod Sums
+pub mod Lists
+pub mod Dealing
+pub mod Joining
+pub mod Holding
+pub mod OwningSteps
+pub mod OwningLaw
+pub mod OwningStart
+pub mod OwningEnd
+pub mod DrawingSteps
+pub mod DrawingEnd

@@ -1,0 +1,135 @@
+-- What the words of a closed table are, by the lists of its seats.
+use Rattle.std.proofs.Common.{◌≡◌, ℕ, zero, suc, ◌+◌, ◌<◌, ◌≤◌, List, [], ◌∷◌, ◌++◌, length, get_or, take, map, reverse, replicate, All, sym, refl, ap, ◌∙◌, arith}
+use Rattle.std.specs.Prelude.{sum_by}
+use Rattle.std.proofs.lemmas.List.{length-take-le, get_or-take}
+use mathlib.Core.Logic.{dite}
+use mathlib.Core.Option.{some, some-injective, some-ne-none}
+use native.Mathlib.Decide.{dec_le}
+use lib.ListN.{get_elem?}
+use Rattle.atomic_table.specs.Table.{State}
+use Rattle.owners_table.specs.Owning.{SeatView, OwnersView, Owned, IsLeft, IsSlotWord, Holds, HasOneOwner, weigh, word_at, held_by, owner_of, sheet}
+use Rattle.owners_table.proofs.Sums.{sum_by-none, sum_by-member, sum_by-whole}
+use Rattle.owners_table.proofs.Joining.{sum_by-joined, length-joined}
+use Rattle.owners_table.proofs.Lists.{only, once, differs, differs-same, words-of_run, words-of_none, words-outside, weigh-flat_map, word_at-same, word_at-none}
+use Rattle.owners_table.proofs.OwningSteps.{View, listed}
+use Rattle.owners_table.proofs.OwningLaw.{entries-words}
+
+-- the last state, in which one seat has the sheets of these
+pub left-by : (o : OwnersView) (seats : List SeatView) (st : State (Unit {0}) View) (id : ℕ) → Owned o.slots o.seats st → get_elem? st.views id ≡ some (reverse (map sheet seats)) → IsLeft o seats st.words
+left-by o seats st id r at = record {
+  wide = r.wide;
+  words = r.words;
+  spare = r.spare;
+  some = λ h. let a = same h in let b = sum_by-member (sum_by (listed h)) st.views id (reverse (map sheet seats)) at in let c = r.listed h in omega arith;
+  all = λ whole h.
+      let a = same h in
+      let n = length-joined sheet seats in
+      let q = r.sheets in
+      let b = sum_by-whole (listed h) st.views id (reverse (map sheet seats)) at (omega arith) in
+      let c = r.listed h in
+      omega arith;
+}
+  where
+    same : (h : ℕ → ℕ → ℕ) → weigh h (held_by seats) ≡ sum_by (listed h) (reverse (map sheet seats))
+    same h = weigh-flat_map h (λ (s : SeatView). s.held) seats ∙ sym (sum_by-joined sheet (listed h) seats)
+
+-- the last state, with no seat
+pub left-none : (o : OwnersView) (seats : List SeatView) (st : State (Unit {0}) View) → Owned o.slots o.seats st → seats ≡ [] → IsLeft o seats st.words
+left-none o seats st r empty = record {
+  wide = r.wide;
+  words = r.words;
+  spare = r.spare;
+  some = λ h. let a = nothing h in omega arith;
+  all = λ whole h. let a = nothing h in let n = ap length empty in let q = r.sheets in let z = sum_by-none (listed h) st.views (omega arith) in let c = r.listed h in omega arith;
+}
+  where
+    nothing : (h : ℕ → ℕ → ℕ) → weigh h (held_by seats) ≡ 0
+    nothing h = ap (λ (ss : List SeatView). weigh h (held_by ss)) empty
+
+-- seats that hold nothing have no entry
+all-empty : (seats : List SeatView) → All (λ s. s.held ≡ []) seats → held_by seats ≡ []
+all-empty [] none = refl
+all-empty (s ∷ ss) none = λ i. none zero s (omega arith) i ++ all-empty ss (λ k d l. none (suc k) d (omega arith)) i
+
+-- a list of zeros
+zeros-only : (n : ℕ) (xs : List ℕ) → length xs ≡ n → ((k : ℕ) → k < n → get_or xs k 0 ≡ 0) → xs ≡ replicate n 0
+zeros-only zero [] e each = refl
+zeros-only zero (x ∷ xs) e each = absurd (omega arith)
+zeros-only (suc n) [] e each = absurd (omega arith)
+zeros-only (suc n) (x ∷ xs) e each = λ i. each zero (omega arith) i ∷ zeros-only n xs (omega arith) (λ k l. each (suc k) (omega arith)) i
+
+module _ (o : OwnersView) (seats : List SeatView) (ws : List ℕ) (left : IsLeft o seats ws) where
+  abbrev entries : List (ℕ × ℕ)
+  entries = held_by seats
+
+  -- a slot that some seat holds is a run's
+  owned : (slot : ℕ) → Holds slot entries → (slot < o.slots) × (4096 ≤ get_or ws slot 0)
+  owned slot has =
+      let wide = left.wide in
+      let a = left.some (only slot once) in
+      let within : slot < length ws = dite (dec_le (length ws) slot) (λ out. let z = words-outside slot once 0 ws (omega arith) in absurd (omega arith)) (λ inside. omega arith) in
+      let run : 4096 ≤ get_or ws slot 0 = dite (dec_le 4096 (get_or ws slot 0)) (λ run. run) (λ free. let z = words-of_none slot once ws within (omega arith) in absurd (omega arith)) in
+      let spare = left.spare in (
+        dite (dec_le o.slots slot) (λ out. let e : slot ≡ o.slots = omega arith in let w = ap (λ k. get_or ws k 0) e in absurd (omega arith)) (λ inside. omega arith),
+        run,
+      )
+
+  left-held : (slot : ℕ) → Holds slot entries → (slot < o.slots) × (get_or ws slot 0 ≡ word_at slot entries)
+  left-held slot has =
+      let own = owned slot has in
+      let wide = left.wide in
+      let inside = own.0 in
+      let w : ℕ = get_or ws slot 0 in
+      let a = left.some (only slot (differs w)) in
+      let b = words-of_run slot (differs w) ws (omega arith) own.1 in
+      let d = differs-same w in
+      (own.0, sym (word_at-same slot w entries has (omega arith)))
+
+  module _ (whole : length seats ≡ o.seats) where
+    left-one : (slot : ℕ) → slot < o.slots → HasOneOwner ws entries slot
+    left-one slot inside = let wide = left.wide in entries-words entries ws (left.all whole) slot (omega arith)
+
+    left-words : (slot : ℕ) → slot < o.slots → get_or ws slot 0 ≡ word_at slot entries
+    left-words slot inside =
+        let wide = left.wide in
+        let a = left.all whole (only slot once) in
+        dite (dec_le 4096 (get_or ws slot 0))
+        (λ run. let b = words-of_run slot once ws (omega arith) run in (left-held slot (omega arith)).1)
+        (λ free.
+        let b = words-of_none slot once ws (omega arith) (omega arith) in
+        let z = word_at-none slot entries (omega arith) in
+        let w = nought (get_or ws slot 0) (left.words slot) (omega arith) in
+        omega arith)
+      where
+        nought : (w : ℕ) → IsSlotWord w → w < 4096 → w ≡ 0
+        nought w is l = dite (dec_le w 0) (λ z. omega arith) (λ some. let m = is (omega arith) in absurd (omega arith))
+
+    left-free : All (λ s. s.held ≡ []) seats → take o.slots ws ≡ replicate o.slots 0
+    left-free none =
+        let wide = left.wide in
+        let empty : entries ≡ [] = all-empty seats none in
+        zeros-only o.slots (take o.slots ws) (length-take-le o.slots ws (omega arith))
+        (λ slot inside. get_or-take o.slots ws slot 0 inside ∙ (left-words slot inside ∙ ap (word_at slot) empty))
+
+  -- the same of the words that were read of all slots
+  module _ (xs : List ℕ) (read : xs ≡ take o.slots ws) where
+    at : (slot : ℕ) → slot < o.slots → get_or xs slot 0 ≡ get_or ws slot 0
+    at slot inside = ap (λ (l : List ℕ). get_or l slot 0) read ∙ get_or-take o.slots ws slot 0 inside
+
+    pub read-held : (slot : ℕ) → Holds slot entries → (slot < o.slots) × (get_or xs slot 0 ≡ word_at slot entries)
+    read-held slot has = let l = left-held slot has in (l.0, at slot l.0 ∙ l.1)
+
+    pub read-words : length seats ≡ o.seats → (slot : ℕ) → slot < o.slots → get_or xs slot 0 ≡ word_at slot entries
+    read-words whole slot inside = at slot inside ∙ left-words whole slot inside
+
+    pub read-one : length seats ≡ o.seats → (slot : ℕ) → slot < o.slots → HasOneOwner xs entries slot
+    read-one whole slot inside = left-one whole slot inside ∙ ap (owner_of slot) (sym (at slot inside))
+
+    pub read-free : length seats ≡ o.seats → All (λ s. s.held ≡ []) seats → xs ≡ replicate o.slots 0
+    read-free whole none = read ∙ left-free whole none
+
+-- one more word is read
+pub take-next : (ws : List ℕ) (k w : ℕ) → get_elem? ws k ≡ some w → take (k + 1) ws ≡ take k ws ++ w ∷ []
+take-next [] k w e = absurd (some-ne-none w (sym e))
+take-next (x ∷ xs) zero w e = λ i. some-injective x w e i ∷ []
+take-next (x ∷ xs) (suc k) w e = let n : suc k + 1 ≡ suc (k + 1) = omega arith in ap (λ m. take m (x ∷ xs)) n ∙ ap (λ l. x ∷ l) (take-next xs k w e)

@@ -1,0 +1,4 @@
+pub mod Marking
+pub mod Sheets
+pub mod Owning
+pub mod Drawing

@@ -1,0 +1,140 @@
+-- Who owns which slot. The word of a slot is 0 where the slot is free, and the word of a mark where a run owns it; words below 4096 are no run's.
+-- What a seat holds, and what its claims found, are lists of entries: a slot with a word.
+use Rattle.std.specs.Prelude.{◌≡◌, ℕ, suc, ◌+◌, ◌<◌, ◌≤◌, ◌==◌, nat_lt, if◌then◌else◌, List, [], ◌∷◌, ◌++◌, length, slice_index, sum_by, count_by, filter, flat_map}
+use Rattle.atomic_table.specs.Table.{State, Me, Step}
+use Rattle.atomic_table.specs.Seated.{TableId}
+use Rattle.atomic_table.specs.declared.shared.Seat.{Seat}
+use Rattle.owners_table.specs.declared.owning.OwnerSheet.{OwnerSheet}
+use Rattle.owners_table.specs.Marking.{IsMarkWord}
+use Rattle.owners_table.specs.Sheets.{tally, sheet_count, first_or}
+
+-- what the word of a slot can be
+abbrev pub IsSlotWord : ℕ → Type 0
+IsSlotWord w = 0 < w → IsMarkWord w
+
+-- the entries of the slot
+abbrev pub entries_of : ℕ → List (ℕ × ℕ) → List (ℕ × ℕ)
+entries_of slot es = filter (λ e. e.0 == slot) es
+
+-- some entry is of the slot
+abbrev pub Holds : ℕ → List (ℕ × ℕ) → Type 0
+Holds slot es = 0 < count_by (λ e. e.0 == slot) es
+
+-- the word of the first entry of the slot, and 0 where it has none
+abbrev pub word_at : ℕ → List (ℕ × ℕ) → ℕ
+word_at slot [] = 0
+word_at slot (e ∷ es) = if e.0 == slot then e.1 else word_at slot es
+
+-- the list without the first entry of the slot
+abbrev pub without : ℕ → List (ℕ × ℕ) → List (ℕ × ℕ)
+without slot [] = []
+without slot (e ∷ es) = if e.0 == slot then es else e ∷ without slot es
+
+-- no slot has an entry in both lists
+abbrev pub Apart : List (ℕ × ℕ) → List (ℕ × ℕ) → Type 0
+Apart xs ys = (slot : ℕ) → Holds slot xs → Holds slot ys → ⊥
+
+-- the entries weighed by h, a weight for each slot and word, and added up
+abbrev pub weigh : (ℕ → ℕ → ℕ) → List (ℕ × ℕ) → ℕ
+weigh h es = sum_by (λ e. h e.0 e.1) es
+
+-- a slot's word weighs nothing where it is no run's
+abbrev pub weigh_word : (ℕ → ℕ → ℕ) → ℕ → ℕ → ℕ
+weigh_word h slot w = if nat_lt w 4096 then 0 else h slot w
+
+-- the words of the slots from `slot` on, weighed and added up
+abbrev pub weigh_words : (ℕ → ℕ → ℕ) → ℕ → List ℕ → ℕ
+weigh_words h slot [] = 0
+weigh_words h slot (w ∷ ws) = weigh_word h slot w + weigh_words h (suc slot) ws
+
+-- The rule of the table. There is a sheet for each seat made. However slots and words are weighed, the lists of all sheets weigh what the words of runs weigh: they have those entries, each once, and no other.
+pub record Owned (slots seats : ℕ) (s : State (Unit {0}) (List OwnerSheet)) : Type 0 where
+  pub wide : length s.words ≡ slots + 1
+  pub spare : slice_index s.words slots ≡ 0
+  pub words : (slot : ℕ) → IsSlotWord (slice_index s.words slot)
+  pub sheets : sheet_count s.views ≡ seats
+  pub listed : (h : ℕ → ℕ → ℕ) → tally (λ t. weigh h t.held) s.views ≡ weigh_words h 0 s.words
+
+-- the entries of all lists
+abbrev pub all_held : List (List OwnerSheet) → List (ℕ × ℕ)
+all_held views = flat_map (λ sheets. flat_map (λ t. t.held) sheets) views
+
+-- what a slot with this word has in the lists: where the word is a run's, one entry with that word, and else none
+abbrev pub owner_of : ℕ → ℕ → List (ℕ × ℕ)
+owner_of slot w = if nat_lt w 4096 then [] else (slot, w) ∷ []
+
+-- all the entries of the slot, in whatever list, are what its word says
+abbrev pub HasOneOwner : List ℕ → List (ℕ × ℕ) → ℕ → Type 0
+HasOneOwner words es slot = entries_of slot es ≡ owner_of slot (slice_index words slot)
+
+-- the rule says this of each slot
+abbrev pub EachHasOneOwner : Type 0
+EachHasOneOwner = (slots seats : ℕ) (s : State (Unit {0}) (List OwnerSheet)) → Owned slots seats s → (slot : ℕ) → slot < slots → HasOneOwner s.words (all_held s.views) slot
+
+abbrev pub blank : OwnerSheet
+blank = record { held = []; tries = 0; notes = [] }
+
+-- the sheet after a claim of the slot that found this word
+abbrev pub after_claim : ℕ → ℕ → ℕ → OwnerSheet → OwnerSheet
+after_claim slot word found t = record { held = if found == 0 then (slot, word) ∷ t.held else t.held; tries = t.tries + 1; notes = t.notes ++ (slot, found) ∷ [] }
+
+-- the sheet after a release of the slot
+abbrev pub after_release : ℕ → OwnerSheet → OwnerSheet
+after_release slot t = record { held = without slot t.held; tries = t.tries; notes = t.notes }
+
+-- What a claim tells a seat of one sheet: what it found, and that this was the seat's own word where it had the slot
+abbrev pub claimed : Step (Unit {0}) → Me (Unit {0}) (List OwnerSheet) → ℕ → Me (Unit {0}) (List OwnerSheet) → Type 0
+claimed st m found m' =
+    (m'.1 ≡ m.1) × IsSlotWord found
+    × ((t : OwnerSheet) → m.0 ≡ t ∷ [] → (m'.0 ≡ after_claim st.word st.second found t ∷ []) × (Holds st.word t.held → (0 < found) × (found ≡ word_at st.word t.held)))
+
+-- what a release tells a seat of one sheet
+abbrev pub released : Step (Unit {0}) → Me (Unit {0}) (List OwnerSheet) → ℕ → Me (Unit {0}) (List OwnerSheet) → Type 0
+released st m found m' = (m'.1 ≡ m.1) × ((t : OwnerSheet) → m.0 ≡ t ∷ [] → m'.0 ≡ after_release st.word t ∷ [])
+
+-- what a look tells a seat of two sheets: their lists have no slot in common
+abbrev pub looked : Step (Unit {0}) → Me (Unit {0}) (List OwnerSheet) → ℕ → Me (Unit {0}) (List OwnerSheet) → Type 0
+looked st m found m' = (m' ≡ m) × ((t u : OwnerSheet) → m.0 ≡ t ∷ u ∷ [] → Apart t.held u.held)
+
+-- What contracts see of a seat: its table, the entries that it holds, how many claims it made, and what each found
+pub record SeatView : Type 0 where
+  pub table : TableId
+  pub held : List (ℕ × ℕ)
+  pub tries : ℕ
+  pub notes : List (ℕ × ℕ)
+
+-- a seat that was just made
+abbrev pub fresh : TableId → SeatView
+fresh table = record { table = table; held = []; tries = 0; notes = [] }
+
+abbrev pub sheet_of : Seat (Unit {0}) (List OwnerSheet) → OwnerSheet
+sheet_of p = first_or blank p.me.0
+
+abbrev pub seat_view : Seat (Unit {0}) (List OwnerSheet) → SeatView
+seat_view p = record { table = p.table_id; held = (sheet_of p).held; tries = (sheet_of p).tries; notes = (sheet_of p).notes }
+
+-- the seat has one sheet
+abbrev pub IsSingle : Seat (Unit {0}) (List OwnerSheet) → Type 0
+IsSingle p = (p.me.0 ≡ sheet_of p ∷ []) × (p.me.1 ≡ [])
+
+-- What contracts see of a table: which it is, how many slots it has, and how many seats were made
+pub record OwnersView : Type 0 where
+  pub table : TableId
+  pub slots : ℕ
+  pub seats : ℕ
+
+-- the entries that the seats hold
+abbrev pub held_by : List SeatView → List (ℕ × ℕ)
+held_by seats = flat_map (λ s. s.held) seats
+
+-- what was done with a seat
+abbrev pub sheet : SeatView → OwnerSheet
+sheet s = record { held = s.held; tries = s.tries; notes = s.notes }
+
+-- What is left of a table that was closed with these seats: the words keep the rule, the seats' lists weigh no more than they do, and as much where these are all the seats that were made
+pub record IsLeft (table : OwnersView) (seats : List SeatView) (ws : List ℕ) : Type 0 where
+  pub wide : length ws ≡ table.slots + 1
+  pub words : (slot : ℕ) → IsSlotWord (slice_index ws slot)
+  pub spare : slice_index ws table.slots ≡ 0
+  pub some : (h : ℕ → ℕ → ℕ) → weigh h (held_by seats) ≤ weigh_words h 0 ws
+  pub all : length seats ≡ table.seats → (h : ℕ → ℕ → ℕ) → weigh h (held_by seats) ≡ weigh_words h 0 ws

@@ -1,0 +1,19 @@
+//! Who owns which slot, and who has which number: what makes "no object is ever held by two runs" true of threads.
+//!
+//! [`owners::Owners`] keeps one word a slot. One compare-exchange claims a slot, one exchange releases it, and a seat,
+//! which a thread steps with, lists the slots that it holds. [`tickets::Tickets`] keeps one word, the next number,
+//! which one fetch-add draws.
+//!
+//! What it promises: two seats of one table never hold one slot; a claim is granted exactly where its exchange found the
+//! slot free, and is else told the mark that it found; no number is drawn twice, and once a seat was told that there are
+//! no more, each was drawn. No call here waits for another thread, so none takes a handle.
+#![tactic(auto)]
+
+mod drawing;
+pub mod mark;
+pub mod owners;
+mod owning;
+mod sheets;
+#[cfg(test)]
+mod tests;
+pub mod tickets;

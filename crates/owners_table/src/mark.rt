@@ -1,0 +1,34 @@
+//! Whose a slot is, as one word.
+
+ghost use Rattle.std.specs.Prelude.{◌≡◌, ◌<◌};
+ghost use Rattle.owners_table.specs.Marking.{mark_word, IsMarkWord};
+
+/// The run that owns a slot, and the call of its program that was granted it.
+#[derive(Clone, Copy, PartialEq, Eq, Debug)]
+pub struct Mark {
+    /// The number of the run.
+    pub run: u32,
+    /// The instruction slot of the call, below 4096.
+    pub at: u16,
+    pub ghost short: { at < 4096 },
+}
+
+impl Mark {
+    /// The mark as a word of the table: 4096 or more, so that 0 is left for a free slot and the words between for others.
+    pub fn word(self) -> u64
+        ensures value { result ≡ mark_word self.run self.at }
+        ensures range { IsMarkWord result }
+    {
+        (u64::from(self.run) + 1) * 4096 + u64::from(self.at)
+    }
+
+    // The one mark that has this word.
+    pub(crate) fn of_word(word: u64) -> Mark
+        requires { IsMarkWord word }
+        ensures { mark_word result.run result.at ≡ word }
+    {
+        let run = (word / 4096 - 1) as u32;
+        let at = (word % 4096) as u16;
+        Mark { run, at }
+    }
+}

@@ -1,0 +1,199 @@
+//! The table of owners.
+
+ghost use Rattle.std.specs.Prelude.{◌≡◌, ◌+◌, ◌<◌, [], ◌∷◌, ◌++◌, ℕ, map, reverse, replicate, slice_index, vec_len, All, IfSome, IfNone, IfOk, OnOk, IfErr, IsErrAnd};
+ghost use Rattle.std.specs.Slots.{slots_items, slots_len, IsFull};
+ghost use Rattle.owners_table.specs.Marking.{mark_word};
+ghost use Rattle.owners_table.specs.Owning.{Holds, Apart, HasOneOwner, EachHasOneOwner, IsLeft, fresh, sheet, held_by, without, word_at};
+
+use crate::mark::Mark;
+use crate::owning::{Claim, Look, OwnerSheet, Owning, Release, Size};
+use crate::sheets::Sheets;
+use atomic_table::{Closed, Seat, Table};
+use std::alloc::{AllocError, Global};
+use std::collections::LinkedList;
+use std::marker::Model;
+
+/// A claim found that the slot has this owner.
+#[derive(Clone, Copy, PartialEq, Eq, Debug)]
+pub struct Taken {
+    pub owner: Mark,
+}
+
+/// A word for each slot, and one more that stays 0, with which seats are joined and parted.
+///
+/// Contracts see which table it is, its slots, and how many seats were made.
+#[derive(Drop)]
+pub struct Owners {
+    table: Table<(), LinkedList<OwnerSheet>, Size, Owning, Global>,
+}
+
+impl Model for Owners {
+    ghost use Rattle.std.specs.Prelude.{◌≡◌, ◌+◌};
+    ghost use Rattle.owners_table.specs.Owning.{OwnersView};
+
+    ghost Value = { OwnersView };
+
+    ghost view = { λ o. record { table = o.table.shared.table_id; slots = o.table.shared.key.slots; seats = o.table.shared.key.seats } };
+
+    ghost invariant = { λ o. (o.table.shared.table_id.words ≡ o.table.shared.key.slots + 1) × (o.table.shared.table_id.slots ≡ 0) };
+}
+
+/// What a thread claims slots with. It has no bytes. One that is dropped leaves its slots owned.
+///
+/// Contracts see its table, the slots that it holds, each with its word, how many claims it made, and the word that each
+/// of them found.
+#[derive(Drop)]
+pub struct OwnerSeat {
+    seat: Seat<(), LinkedList<OwnerSheet>>,
+}
+
+impl Model for OwnerSeat {
+    ghost use Rattle.owners_table.specs.Owning.{SeatView, seat_view, IsSingle};
+
+    ghost Value = { SeatView };
+
+    ghost view = { λ s. seat_view s.seat };
+
+    ghost invariant = { λ s. IsSingle s.seat };
+}
+
+impl Owners {
+    /// A table whose slots are all free, and its seats. Each number below `slots` is a slot.
+    ///
+    /// # Errors
+    /// There was no memory: nothing was made.
+    pub fn new(
+        alloc: Global,
+        slots: u32,
+        seats: u32,
+    ) -> Result<(Owners, Vec<OwnerSeat>), AllocError>
+        requires { 0 < seats }
+        ensures table { IfOk result (λ r. (r.0.slots ≡ slots) × (r.0.seats ≡ seats)) }
+        ensures seats { IfOk result (λ r. (vec_len r.1 ≡ seats) × All (λ s. s ≡ fresh r.0.table) r.1.items) }
+    {
+        let size = Size {
+            slots: u64::from(slots),
+            seats: u64::from(seats),
+        };
+        let free = vec![in alloc; 0; slots as usize + 1]?;
+        let (table, mut rest) = Table::of_words(alloc, free.as_slice(), &size)?;
+        let mut all = Vec::with_capacity(alloc, seats as usize)?;
+        for _i in 1..seats {
+            let seat = table.shared.split_seat::<Sheets>(&mut rest);
+            all.push_reserved(OwnerSeat { seat });
+        }
+        all.push_reserved(OwnerSeat { seat: rest });
+        Ok((Owners { table }, all))
+    }
+
+    /// Takes the slot for the mark where it is free, by one compare-exchange, which is when the claim takes effect.
+    pub fn claim(&self, seat: &mut OwnerSeat, slot: u32, mark: Mark) -> Result<(), Taken>
+        requires table { seat.old.table ≡ self.now.table }
+        requires slot { slot < self.now.slots }
+        ensures table { seat.new.table ≡ seat.old.table }
+        ensures tries { seat.new.tries ≡ seat.old.tries + 1 }
+        ensures ok { OnOk result ((seat.new.held ≡ (slot, mark_word mark.run mark.at) ∷ seat.old.held) × (seat.new.notes ≡ seat.old.notes ++ (slot, 0) ∷ [])) }
+        ensures taken { IfErr result (λ t. (seat.new.held ≡ seat.old.held) × (seat.new.notes ≡ seat.old.notes ++ (slot, mark_word t.owner.run t.owner.at) ∷ [])) }
+        // A seat that has the slot already is told its own mark.
+        ensures own { Holds slot seat.old.held → IsErrAnd result (λ t. mark_word t.owner.run t.owner.at ≡ word_at slot seat.old.held) }
+    {
+        let found = self
+            .table
+            .shared
+            .compare_exchange::<Claim>(&mut seat.seat, slot as usize, 0, mark.word());
+        if found == 0 {
+            return Ok(());
+        }
+        Err(Taken {
+            owner: Mark::of_word(found),
+        })
+    }
+
+    /// Gives the slot up, by one exchange, which is when the release takes effect.
+    pub fn release(&self, seat: &mut OwnerSeat, slot: u32)
+        requires table { seat.old.table ≡ self.now.table }
+        requires slot { slot < self.now.slots }
+        requires holds { Holds slot seat.old.held }
+        ensures { seat.new ≡ record seat.old { held = without slot seat.old.held } }
+    {
+        self.table
+            .shared
+            .swap::<Release>(&mut seat.seat, slot as usize, 0);
+    }
+
+    /// Gives both seats back as they were: they hold no slot in common.
+    pub fn meet(&self, first: OwnerSeat, second: OwnerSeat) -> (OwnerSeat, OwnerSeat)
+        requires first { first.table ≡ self.now.table }
+        requires second { second.table ≡ self.now.table }
+        ensures same { (result.0 ≡ first) × (result.1 ≡ second) }
+        ensures apart { Apart first.held second.held }
+    {
+        let OwnerSeat { seat: mut both } = first;
+        let OwnerSeat { seat: other } = second;
+        let shared = &self.table.shared;
+        shared.join_seat::<Sheets>(&mut both, other);
+        shared.load::<Look>(&mut both, 0);
+        let one = shared.split_seat::<Sheets>(&mut both);
+        (OwnerSeat { seat: one }, OwnerSeat { seat: both })
+    }
+
+    // All seats as one, with their sheets, the last one's first. `None` where there is no seat.
+    fn joined(&self, mut seats: Vec<OwnerSeat>) -> Option<Seat<(), LinkedList<OwnerSheet>>>
+        requires { All (λ s. s.table ≡ self.now.table) seats.items }
+        ensures none { IfNone result (seats.items ≡ []) }
+        ensures some { IfSome result (λ p. (p.table_id ≡ self.now.table) × (p.me ≡ (reverse (map sheet seats.items), []))) }
+    {
+        let OwnerSeat { seat: mut all } = seats.pop()?;
+        while let Some(other) = seats.pop() {
+            let OwnerSeat { seat } = other;
+            self.table.shared.join_seat::<Sheets>(&mut all, seat);
+        }
+        Some(all)
+    }
+
+    // Ends the table, and leaves its words.
+    fn ended(self, seats: Vec<OwnerSeat>) -> Closed<(), Global>
+        requires { All (λ s. s.table ≡ self.table) seats.items }
+        ensures full { IsFull result.words × (slots_len result.words ≡ self.slots + 1) × (slots_len result.slots ≡ 0) }
+        ensures left { IsLeft self seats.items (slots_items result.words) }
+    {
+        let joined = self.joined(seats);
+        let Owners { table } = self;
+        let Some(all) = joined else {
+            return table.close();
+        };
+        table.close_with(all)
+    }
+
+    /// Ends the table, and gives the words of its slots, in order: 0 for a slot that is free, else the word of its owner's
+    /// mark.
+    ///
+    /// # Errors
+    /// There was no memory for the words: the table and the seats are gone.
+    pub fn close(self, alloc: Global, seats: Vec<OwnerSeat>) -> Result<Vec<u64>, AllocError>
+        requires { All (λ s. s.table ≡ self.table) seats.items }
+        ensures len { IfOk result (λ ws. vec_len ws ≡ self.slots) }
+        // A slot that one of the seats holds has the word that its list says.
+        ensures held { IfOk result (λ ws. (slot : ℕ) → Holds slot (held_by seats.items) → (slot < self.slots) × (slice_index ws.items slot ≡ word_at slot (held_by seats.items))) }
+        // Where these are all the seats that were made, each word is the one in their lists, and 0 where they have none.
+        ensures words { IfOk result (λ ws. vec_len seats ≡ self.seats → (slot : ℕ) → slot < self.slots → slice_index ws.items slot ≡ word_at slot (held_by seats.items)) }
+        ensures one { IfOk result (λ ws. vec_len seats ≡ self.seats → (slot : ℕ) → slot < self.slots → HasOneOwner ws.items (held_by seats.items) slot) }
+        // Where besides they hold nothing, all slots are free.
+        ensures free { IfOk result (λ ws. vec_len seats ≡ self.seats → All (λ s. s.held ≡ []) seats.items → ws.items ≡ replicate self.slots 0) }
+    {
+        let count = self.table.word_count() - 1;
+        let mut words = Vec::with_capacity(alloc, count)?;
+        let closed = self.ended(seats);
+        for slot in 0..count {
+            words.push_reserved(closed.word(slot));
+        }
+        closed.free();
+        Ok(words)
+    }
+}
+
+/// The rule of every table, in other words: where a slot's word is a run's, the lists of all its seats together have one
+/// entry of the slot, and that has this word; where it is not, they have none. Nothing is computed.
+pub fn each_slot_has_one_owner()
+    ensures { EachHasOneOwner }
+{}

@@ -1,0 +1,57 @@
+//! The rule of the owners' table: what a seat knows, what always holds, and what each step tells.
+
+use atomic_table::{Play, TableRule};
+use std::collections::LinkedList;
+
+/// How many slots the table has, and how many seats were made.
+#[derive(Clone, Copy)]
+pub struct Size {
+    pub slots: u64,
+    pub seats: u64,
+}
+
+/// What was done with one seat: the slots that it holds, each with its word, how many claims it made, and the word that
+/// each of them found. No value of it is made.
+pub struct OwnerSheet {
+    pub held: LinkedList<(u64, u64)>,
+    pub tries: u64,
+    pub notes: LinkedList<(u64, u64)>,
+}
+
+pub struct Owning;
+
+impl TableRule<(), LinkedList<OwnerSheet>, Size> for Owning {
+    ghost use Rattle.std.specs.Prelude.{replicate};
+    ghost use Rattle.owners_table.specs.Owning.{Owned, blank};
+
+    ghost holds = { λ z. Owned z.slots z.seats };
+
+    ghost first = { λ z. replicate z.seats blank };
+}
+
+/// A compare-exchange from 0 to the word of a mark.
+pub struct Claim;
+
+impl Play<(), LinkedList<OwnerSheet>> for Claim {
+    ghost use Rattle.owners_table.specs.Owning.{claimed};
+
+    ghost then = { claimed };
+}
+
+/// An exchange to 0.
+pub struct Release;
+
+impl Play<(), LinkedList<OwnerSheet>> for Release {
+    ghost use Rattle.owners_table.specs.Owning.{released};
+
+    ghost then = { released };
+}
+
+/// A load.
+pub struct Look;
+
+impl Play<(), LinkedList<OwnerSheet>> for Look {
+    ghost use Rattle.owners_table.specs.Owning.{looked};
+
+    ghost then = { looked };
+}

@@ -1,0 +1,321 @@
+-- The slabs' map of slots, and what is kept beside it, after a change of one page.
+use Rattle.std.proofs.Common.{not, map, ◌≡◌, ◌≢◌, ℕ, zero, suc, ◌-◌, take, ◌+◌, ◌*◌, ◌/◌, ◌%◌, ◌<◌, ◌≤◌, ◌==◌, if◌then◌else◌, Bool, true, false, cond, List, [], ◌∷◌, ◌++◌, length, get_or, set, replicate, Some, refl, sym, ap, subst, ◌∙◌, arith, inl, inr, ◌⊎◌}
+use Rattle.std.specs.Prelude.{slice_get}
+use Rattle.std.proofs.lemmas.Bool.{cases_eq, cases_lt, false≢true}
+use Rattle.std.proofs.lemmas.List.{length_push, length-set, get_or-set_same, get_or-set_other, get_or_past, get_or_default, get_or-map, map-set, set-get_or, length-map}
+use Rattle.std.proofs.lemmas.Option.{slice_get_within, slice_get_past, get_or_from_slice_get}
+use Rattle.slab_layer.specs.declared.place.Place.{Place}
+use Rattle.slab_layer.specs.declared.place.Place.TheVariants.{Home, Out}
+use Rattle.slab_layer.specs.Stacks.{times, HasSame, selected}
+use Rattle.slab_layer.specs.Slots.{Pages, place_of, IsHome, is_home, has_home, outs_in, out_count, Moves, AddsPage, RemovesPage}
+use Rattle.slab_layer.specs.Shelf.{IsShelf}
+use Rattle.slab_layer.proofs.Selecting.{hit, one, times-selected-set, length-selected-set, length-selected-le, found, selected_some, popped_each, popped_here}
+
+slice_get-set_same : {A : Type 0} (xs : List A) (i : ℕ) (a : A) → i < length xs → slice_get (set xs i a) i ≡ Some a
+slice_get-set_same [] i a within = absurd (omega arith)
+slice_get-set_same (x ∷ xs) zero a within = refl
+slice_get-set_same (x ∷ xs) (suc i) a within = slice_get-set_same xs i a (omega arith)
+
+slice_get-set_other : {A : Type 0} (xs : List A) (i j : ℕ) (a : A) → j ≢ i → slice_get (set xs i a) j ≡ slice_get xs j
+slice_get-set_other [] i j a other = refl
+slice_get-set_other (x ∷ xs) zero zero a other = absurd (other refl)
+slice_get-set_other (x ∷ xs) zero (suc j) a other = refl
+slice_get-set_other (x ∷ xs) (suc i) zero a other = refl
+slice_get-set_other (x ∷ xs) (suc i) (suc j) a other = slice_get-set_other xs i j a (λ same. other (ap suc same))
+
+-- the map after a change of one page
+pub place_of-set_here : (pages : Pages) (p x : ℕ) (ps : List Place) → p < length pages → x / 256 ≡ p → place_of (set pages p ps) x ≡ slice_get ps (x % 256)
+place_of-set_here pages p x ps within here = ap (λ qs. slice_get qs (x % 256)) (ap (λ k. get_or (set pages p ps) k []) here ∙ get_or-set_same pages p ps [] within)
+
+pub place_of-set_other : (pages : Pages) (p x : ℕ) (ps : List Place) → x / 256 ≢ p → place_of (set pages p ps) x ≡ place_of pages x
+place_of-set_other pages p x ps other = ap (λ qs. slice_get qs (x % 256)) (get_or-set_other pages p (x / 256) ps [] other)
+
+-- one object moves
+pub moved : (pages : Pages) (p s : ℕ) (a : Place) → p < length pages → s / 256 ≡ p → s % 256 < length (get_or pages p []) → Moves pages (set pages p (set (get_or pages p []) (s % 256) a)) s a
+moved pages p s a within here inside = record {
+  moved = place_of-set_here pages p s _ within here ∙ slice_get-set_same (get_or pages p []) (s % 256) a inside;
+  others = λ x other. elim (cases_eq (x / 256) p) [
+    | inl same ↦
+        let apart : x % 256 ≢ s % 256 = λ e. other (omega arith) in
+        place_of-set_here pages p x _ within same ∙ (slice_get-set_other (get_or pages p []) (s % 256) (x % 256) a apart ∙ sym (ap (λ k. slice_get (get_or pages k []) (x % 256)) same))
+    | inr differ ↦ place_of-set_other pages p x _ differ
+  ];
+}
+
+-- a page is removed
+pub removed : (pages : Pages) (p : ℕ) → p < length pages → RemovesPage pages (set pages p []) p
+removed pages p within = record {
+  removed = λ x here. place_of-set_here pages p x [] within here;
+  others = λ x other. place_of-set_other pages p x [] other;
+}
+
+slice_get-replicate : (n i : ℕ) (a : Place) → i < n → slice_get (replicate n a) i ≡ Some a
+slice_get-replicate zero i a within = absurd (omega arith)
+slice_get-replicate (suc n) zero a within = refl
+slice_get-replicate (suc n) (suc i) a within = slice_get-replicate n i a (omega arith)
+
+pub length-homes : (n : ℕ) → length (replicate n Home) ≡ n
+length-homes zero = refl
+length-homes (suc n) = ap suc (length-homes n)
+
+-- a page is added
+pub added : (pages olds : Pages) (p n : ℕ) → n ≤ 256 → p < length pages → ((k : ℕ) → get_or pages k [] ≡ get_or olds k []) → AddsPage olds (set pages p (replicate n Home)) p n
+added pages olds p n few within same = record {
+  added = λ i inside.
+      let x = p * 256 + i in
+      let here : x / 256 ≡ p = omega arith in
+      let index : x % 256 ≡ i = omega arith in
+      place_of-set_here pages p x (replicate n Home) within here ∙ (ap (λ k. slice_get (replicate n Home) k) index ∙ slice_get-replicate n i Home inside);
+  only = λ i past low.
+      let x = p * 256 + i in
+      let here : x / 256 ≡ p = omega arith in
+      let index : x % 256 ≡ i = omega arith in
+      let short = length-homes n in
+      place_of-set_here pages p x (replicate n Home) within here ∙ (ap (λ k. slice_get (replicate n Home) k) index ∙ slice_get_past (replicate n Home) i (omega arith));
+  others = λ x other. place_of-set_other pages p x _ other ∙ ap (λ qs. slice_get qs (x % 256)) (same (x / 256));
+}
+
+-- counts
+abbrev out_weight : Place → ℕ
+out_weight p = cond (is_home p) 0 1
+
+outs_in-set : (ps : List Place) (i : ℕ) (a d : Place) → i < length ps → outs_in (set ps i a) + out_weight (get_or ps i d) ≡ outs_in ps + out_weight a
+outs_in-set [] i a d within = absurd (omega arith)
+outs_in-set (Home ∷ ps) zero Home d within = refl
+outs_in-set (Home ∷ ps) zero Out d within = omega arith
+outs_in-set (Out ∷ ps) zero Home d within = omega arith
+outs_in-set (Out ∷ ps) zero Out d within = omega arith
+outs_in-set (Home ∷ ps) (suc i) a d within = outs_in-set ps i a d (omega arith)
+outs_in-set (Out ∷ ps) (suc i) a d within = omega (arith, outs_in-set ps i a d (omega arith))
+
+pub outs_in-out : (ps : List Place) (i : ℕ) → slice_get ps i ≡ Some Home → outs_in (set ps i Out) ≡ outs_in ps + 1
+outs_in-out ps i was =
+    let e = outs_in-set ps i Out Home (slice_get_within ps i Home was) in
+    let f : out_weight (get_or ps i Home) ≡ 0 = ap out_weight (get_or_from_slice_get ps i Home Home was) in
+    omega arith
+
+pub outs_in-home : (ps : List Place) (i : ℕ) → slice_get ps i ≡ Some Out → outs_in (set ps i Home) + 1 ≡ outs_in ps
+outs_in-home ps i was =
+    let e = outs_in-set ps i Home Out (slice_get_within ps i Out was) in
+    let f : out_weight (get_or ps i Out) ≡ 1 = ap out_weight (get_or_from_slice_get ps i Out Out was) in
+    omega arith
+
+pub outs_in-homes : (n : ℕ) → outs_in (replicate n Home) ≡ 0
+outs_in-homes zero = refl
+outs_in-homes (suc n) = outs_in-homes n
+
+outs_in-le : (ps : List Place) → outs_in ps ≤ length ps
+outs_in-le [] = omega arith
+outs_in-le (Home ∷ ps) = omega (arith, outs_in-le ps)
+outs_in-le (Out ∷ ps) = omega (arith, outs_in-le ps)
+
+pub out_count-set : (pages : Pages) (p : ℕ) (ps : List Place) → p < length pages → out_count (set pages p ps) + outs_in (get_or pages p []) ≡ out_count pages + outs_in ps
+out_count-set [] p ps within = absurd (omega arith)
+out_count-set (qs ∷ qss) zero ps within = omega arith
+out_count-set (qs ∷ qss) (suc p) ps within = omega (arith, out_count-set qss p ps (omega arith))
+
+out_count-le : (pages : Pages) → ((p : ℕ) → length (get_or pages p []) ≤ 256) → out_count pages ≤ 256 * length pages
+out_count-le [] small = omega arith
+out_count-le (qs ∷ qss) small = omega (arith, outs_in-le qs, small 0, out_count-le qss (λ p. small (suc p)))
+
+-- homes
+has_home_at : (ps : List Place) (i : ℕ) → slice_get ps i ≡ Some Home → has_home ps ≡ true
+has_home_at [] i at = absurd cc
+has_home_at (Home ∷ ps) i at = refl
+has_home_at (Out ∷ ps) zero at = absurd cc
+has_home_at (Out ∷ ps) (suc i) at = has_home_at ps i at
+
+pub has_home-set : (ps : List Place) (i : ℕ) → i < length ps → has_home (set ps i Home) ≡ true
+has_home-set ps i within = has_home_at (set ps i Home) i (slice_get-set_same ps i Home within)
+
+pub has_home-homes : (n : ℕ) → 0 < n → has_home (replicate n Home) ≡ true
+has_home-homes zero some = absurd (omega arith)
+has_home-homes (suc n) some = refl
+
+-- what is kept, after a change of one page
+pub shelf-set : (pages : Pages) (numbers partial after : List ℕ) (out left p : ℕ) (ps : List Place) → IsShelf pages numbers partial out → p < length pages → length ps ≤ 256 → HasSame after (selected has_home 0 (set pages p ps)) → left + outs_in (get_or pages p []) ≡ out + outs_in ps → IsShelf (set pages p ps) numbers after left
+shelf-set pages numbers partial after out left p ps shelf within few stacked counted = record {
+  sized = elim shelf.sized [ inl none ↦ inl (omega (arith, length-set pages p ps)) | inr all ↦ inr (omega (arith, length-set pages p ps)) ];
+  small = λ q. elim (cases_eq q p) [
+    | inl same ↦ rw (same, get_or-set_same pages p ps [] within) few
+    | inr other ↦ rw (get_or-set_other pages p q ps [] other) (shelf.small q)
+  ];
+  numbered = λ q inside. shelf.numbered q (omega (arith, length-set pages p ps));
+  stacked = stacked;
+  counted = omega (arith, out_count-set pages p ps within, shelf.counted);
+}
+
+-- no page begins or ends to have an object at home
+pub stack-same : (pages : Pages) (partial : List ℕ) (p : ℕ) (ps : List Place) → HasSame partial (selected has_home 0 pages) → p < length pages → has_home ps ≡ has_home (get_or pages p []) → HasSame partial (selected has_home 0 (set pages p ps))
+stack-same pages partial p ps same within is = record {
+  count = let e = length-selected-set has_home pages 0 p ps [] within in let f = ap one is in omega (arith, same.count);
+  each = λ x. let e = times-selected-set has_home pages 0 p p x ps [] (omega arith) within in let f = ap (λ b. hit b p x) is in omega (arith, same.each x);
+}
+
+-- the page's last object at home is gone
+pub stack-less : (pages : Pages) (partial rest : List ℕ) (p : ℕ) (ps : List Place) → HasSame partial (selected has_home 0 pages) → p < length pages → has_home ps ≡ false → has_home (get_or pages p []) ≡ true → length rest + 1 ≡ length partial → ((x : ℕ) → times x rest + (if p == x then 1 else 0) ≡ times x partial) → HasSame rest (selected has_home 0 (set pages p ps))
+stack-less pages partial rest p ps same within now was count each = record {
+  count = let e = length-selected-set has_home pages 0 p ps [] within in let f = ap one now in let h = ap one was in omega (arith, same.count);
+  each = λ x. let e = times-selected-set has_home pages 0 p p x ps [] (omega arith) within in let f = ap (λ b. hit b p x) now in let h = ap (λ b. hit b p x) was in omega (arith, same.each x, each x);
+}
+
+-- the page's first object is home
+pub stack-more : (pages : Pages) (partial : List ℕ) (p : ℕ) (ps : List Place) → HasSame partial (selected has_home 0 pages) → p < length pages → has_home ps ≡ true → has_home (get_or pages p []) ≡ false → HasSame (partial ++ p ∷ []) (selected has_home 0 (set pages p ps)) × (length partial < length pages)
+stack-more pages partial p ps same within now was = (record { count = count; each = each }, room)
+  where
+    count : length (partial ++ p ∷ []) ≡ length (selected has_home 0 (set pages p ps))
+    count = let e = length-selected-set has_home pages 0 p ps [] within in let f = ap one now in let h = ap one was in omega (arith, same.count, length_push partial p)
+
+    each : (x : ℕ) → times x (partial ++ p ∷ []) ≡ times x (selected has_home 0 (set pages p ps))
+    each x = let e = times-selected-set has_home pages 0 p p x ps [] (omega arith) within in let f = ap (λ b. hit b p x) now in let h = ap (λ b. hit b p x) was in omega (arith, same.each x, popped_each partial p x)
+
+    room : length partial < length pages
+    room = omega (arith, count, length_push partial p, length-selected-le has_home (set pages p ps) 0, length-set pages p ps)
+
+-- the page on top of the stack has an object at home
+pub top_has_home : (pages : Pages) (rest : List ℕ) (p : ℕ) → HasSame (rest ++ p ∷ []) (selected has_home 0 pages) → (p < length pages) × (has_home (get_or pages p []) ≡ true)
+top_has_home pages rest p same =
+    let some = popped_here rest p in
+    let at = found has_home pages 0 p (omega (arith, same.each p)) in
+    let is : p ≡ at.0 = omega (arith, at.2) in
+    let P : ℕ → Type 0 = λ k. (k < length pages) × (has_home (get_or pages k []) ≡ true) in
+    subst P (sym is) (at.1, at.3 [])
+
+-- where no page is on the stack, no slot is home
+pub none_home : (pages : Pages) (slot : ℕ) → length (selected has_home 0 pages) ≡ 0 → IsHome pages slot → ⊥
+none_home pages slot none home = elim (cases_lt (slot / 256) (length pages)) [
+  | inl within ↦ let some = selected_some has_home pages 0 (slot / 256) [] within (has_home_at (get_or pages (slot / 256) []) (slot % 256) home) in omega arith
+  | inr past ↦ let e : get_or pages (slot / 256) [] ≡ [] = get_or_past pages (slot / 256) [] past in absurd (has_none e)
+]
+  where
+    has_none : get_or pages (slot / 256) [] ≡ [] → ⊥
+    has_none e = let f : slice_get [] (slot % 256) ≡ Some Home = subst (λ qs. slice_get qs (slot % 256) ≡ Some Home) e home in cc
+
+-- an out is one of at most 256 * 256
+pub shelf_few : (pages : Pages) (numbers partial : List ℕ) (out : ℕ) → IsShelf pages numbers partial out → out ≤ 65536
+shelf_few pages numbers partial out shelf = few shelf.sized
+  where
+    few : (length pages ≡ 0) ⊎ (length pages ≡ 256) → out ≤ 65536
+    few (inl none) = omega (arith, shelf.counted, out_count-le pages shelf.small)
+    few (inr all) = omega (arith, shelf.counted, out_count-le pages shelf.small)
+
+-- the stack after an object was taken
+after_take : (b : Bool) (pages : Pages) (partial rest : List ℕ) (p : ℕ) (ps : List Place) → has_home ps ≡ b → HasSame partial (selected has_home 0 pages) → partial ≡ rest ++ p ∷ [] → p < length pages → has_home (get_or pages p []) ≡ true → HasSame (if not b then rest else partial) (selected has_home 0 (set pages p ps))
+after_take true pages partial rest p ps now same top within was = stack-same pages partial p ps same within (now ∙ sym was)
+after_take false pages partial rest p ps now same top within was = stack-less pages partial rest p ps same within now was (sym (ap length top ∙ length_push rest p)) (λ x. sym (ap (times x) top ∙ popped_each rest p x))
+
+-- the stack after an object was given
+after_give : (b : Bool) (pages : Pages) (partial : List ℕ) (p : ℕ) (ps : List Place) → has_home (get_or pages p []) ≡ b → HasSame partial (selected has_home 0 pages) → p < length pages → has_home ps ≡ true → HasSame (if not b then partial ++ p ∷ [] else partial) (selected has_home 0 (set pages p ps))
+after_give true pages partial p ps was same within now = stack-same pages partial p ps same within (now ∙ sym was)
+after_give false pages partial p ps was same within now = (stack-more pages partial p ps same within now was).0
+
+-- the same of slabs, each with its places and its number
+module _ {X : Type 0} (places : X → List Place) (number : X → ℕ) where
+  pub places_read : (xs : List X) (at : ℕ) (x : X) → at < length xs → x ≡ get_or xs at x → get_or (map places xs) at [] ≡ places x
+  places_read xs at x within read = get_or-map places xs at x [] within ∙ ap places (sym read)
+
+  pub shelf_after : (xs : List X) (at : ℕ) (old new : X) (partial after : List ℕ) (out left : ℕ) → IsShelf (map places xs) (map number xs) partial out → at < length xs → old ≡ get_or xs at old → number new ≡ number old → length (places new) ≤ 256 → HasSame after (selected has_home 0 (set (map places xs) at (places new))) → left + outs_in (places old) ≡ out + outs_in (places new) → IsShelf (map places (set xs at new)) (map number (set xs at new)) after left
+  shelf_after xs at old new partial after out left shelf within read same few stacked counted =
+      let inside : at < length (map places xs) = omega (arith, length-map xs places) in
+      let was = places_read xs at old within read in
+      let balance : left + outs_in (get_or (map places xs) at []) ≡ out + outs_in (places new) = rw was counted in
+      let stays : set (map number xs) at (number new) ≡ map number xs =
+      ap (λ n. set (map number xs) at n) (same ∙ (ap number read ∙ sym (get_or-map number xs at old 0 within))) ∙ set-get_or (map number xs) at 0 in
+      let P : Pages → List ℕ → Type 0 = λ ps ns. IsShelf ps ns after left in
+      subst (λ (ps : Pages). P ps (map number (set xs at new))) (sym (map-set places xs at new))
+      (subst (λ (ns : List ℕ). P (set (map places xs) at (places new)) ns) (sym (map-set number xs at new ∙ stays))
+      (shelf-set (map places xs) (map number xs) partial after out left at (places new) shelf inside few stacked balance))
+
+  -- an object is taken from the page on top of the stack
+  pub shelf_taken : (xs : List X) (at i : ℕ) (old new : X) (partial rest after : List ℕ) (out : ℕ) (b : Bool) → IsShelf (map places xs) (map number xs) partial out → partial ≡ rest ++ at ∷ [] → at < length xs → old ≡ get_or xs at old → number new ≡ number old → slice_get (places old) i ≡ Some Home → places new ≡ set (places old) i Out → b ≡ has_home (places new) → after ≡ (if not b then rest else partial) → IsShelf (map places (set xs at new)) (map number (set xs at new)) after (out + 1)
+  shelf_taken xs at i old new partial rest after out b shelf top within read same was is now then' =
+      let inside : at < length (map places xs) = omega (arith, length-map xs places) in
+      let reads = places_read xs at old within read in
+      let few : length (places new) ≤ 256 = rw (is, length-set (places old) i Out, sym reads) (shelf.small at) in
+      let stands : has_home (get_or (map places xs) at []) ≡ true = rw reads (has_home_at (places old) i was) in
+      let H : List ℕ → Type 0 = λ ns. HasSame ns (selected has_home 0 (set (map places xs) at (places new))) in
+      let stacked = subst H (sym then') (after_take b (map places xs) partial rest at (places new) (sym now) shelf.stacked top inside stands) in
+      let count : outs_in (places new) ≡ outs_in (places old) + 1 = ap outs_in is ∙ outs_in-out (places old) i was in
+      shelf_after xs at old new partial after out (out + 1) shelf within read same few stacked (omega (arith, count))
+
+  -- an object is given back to its page
+  pub shelf_given : (xs : List X) (at i : ℕ) (old new : X) (partial after : List ℕ) (out left : ℕ) (b : Bool) → IsShelf (map places xs) (map number xs) partial out → at < length xs → old ≡ get_or xs at old → number new ≡ number old → slice_get (places old) i ≡ Some Out → places new ≡ set (places old) i Home → b ≡ has_home (places old) → after ≡ (if not b then partial ++ at ∷ [] else partial) → left + 1 ≡ out → IsShelf (map places (set xs at new)) (map number (set xs at new)) after left
+  shelf_given xs at i old new partial after out left b shelf within read same was is before then' less =
+      let inside : at < length (map places xs) = omega (arith, length-map xs places) in
+      let reads = places_read xs at old within read in
+      let few : length (places new) ≤ 256 = rw (is, length-set (places old) i Home, sym reads) (shelf.small at) in
+      let now : has_home (places new) ≡ true = ap has_home is ∙ has_home-set (places old) i (slice_get_within (places old) i Out was) in
+      let H : List ℕ → Type 0 = λ ns. HasSame ns (selected has_home 0 (set (map places xs) at (places new))) in
+      let stacked = subst H (sym then') (after_give b (map places xs) partial at (places new) (ap has_home reads ∙ sym before) shelf.stacked inside now) in
+      let count : outs_in (places new) + 1 ≡ outs_in (places old) = ap (λ n. n + 1) (ap outs_in is) ∙ outs_in-home (places old) i was in
+      shelf_after xs at old new partial after out left shelf within read same few stacked (omega (arith, count))
+
+  -- there is room for a page that gets its first object
+  pub room_given : (xs : List X) (at i : ℕ) (old : X) (partial : List ℕ) (out : ℕ) → IsShelf (map places xs) (map number xs) partial out → at < length xs → old ≡ get_or xs at old → slice_get (places old) i ≡ Some Out → has_home (places old) ≡ false → length partial < length xs
+  room_given xs at i old partial out shelf within read was none =
+      let inside : at < length (map places xs) = omega (arith, length-map xs places) in
+      let now = has_home-set (places old) i (slice_get_within (places old) i Out was) in
+      let more = stack-more (map places xs) partial at (set (places old) i Home) shelf.stacked inside now (ap has_home (places_read xs at old within read) ∙ none) in
+      omega (arith, more.1, length-map xs places)
+
+  -- the map moves one slot
+  pub moves : (xs : List X) (s at : ℕ) (a : Place) (old new : X) → at < length xs → old ≡ get_or xs at old → s / 256 ≡ at → s % 256 < length (places old) → places new ≡ set (places old) (s % 256) a → Moves (map places xs) (map places (set xs at new)) s a
+  moves xs s at a old new within read here inside is =
+      let reads = places_read xs at old within read in
+      let there : at < length (map places xs) = omega (arith, length-map xs places) in
+      let L : List Place → Type 0 = λ ps. s % 256 < length ps in
+      let M : List Place → Type 0 = λ ps. Moves (map places xs) (set (map places xs) at (set ps (s % 256) a)) s a in
+      let made = subst M reads (moved (map places xs) at s a there here (subst L (sym reads) inside)) in
+      rw (map-set places xs at new, is) made
+
+-- a list is read through another that is equal
+pub top_read : (ds partial : List ℕ) (p : ℕ) → ds ≡ partial → ds ≡ take (length ds - 1) ds ++ p ∷ [] → partial ≡ take (length partial - 1) partial ++ p ∷ []
+top_read ds partial p same top = let P : List ℕ → Type 0 = λ ns. ns ≡ take (length ns - 1) ns ++ p ∷ [] in subst P same top
+
+-- with an empty stack no slot is home
+pub shelf_none : (ds : List ℕ) (pages : Pages) (numbers partial : List ℕ) (out slot : ℕ) → ds ≡ partial → ds ≡ [] → IsShelf pages numbers partial out → IsHome pages slot → ⊥
+shelf_none ds pages numbers partial out slot same none shelf home =
+    let e : length partial ≡ 0 = ap length (sym same ∙ none) in
+    none_home pages slot (omega (arith, shelf.stacked.count)) home
+
+-- the element that was written
+pub read_set : {X : Type 0} (xs : List X) (at : ℕ) (new y : X) → at < length xs → y ≡ get_or (set xs at new) at y → y ≡ new
+read_set xs at new y within read = read ∙ get_or-set_same xs at new y within
+
+module _ {X : Type 0} (places : X → List Place) (number : X → ℕ) where
+  -- the page on top of the stack is in the table
+  pub top_within : (xs : List X) (partial rest : List ℕ) (p out : ℕ) → IsShelf (map places xs) (map number xs) partial out → partial ≡ rest ++ p ∷ [] → p < length xs
+  top_within xs partial rest p out shelf top =
+      let H : List ℕ → Type 0 = λ ns. HasSame ns (selected has_home 0 (map places xs)) in
+      omega (arith, length-map xs places, (top_has_home (map places xs) rest p (subst H top shelf.stacked)).0)
+
+  -- and has an object at home
+  pub top_home : (xs : List X) (partial rest : List ℕ) (p out : ℕ) (x : X) → IsShelf (map places xs) (map number xs) partial out → partial ≡ rest ++ p ∷ [] → x ≡ get_or xs p x → has_home (places x) ≡ true
+  top_home xs partial rest p out x shelf top read =
+      let H : List ℕ → Type 0 = λ ns. HasSame ns (selected has_home 0 (map places xs)) in
+      ap has_home (sym (places_read places number xs p x (top_within xs partial rest p out shelf top) read)) ∙ (top_has_home (map places xs) rest p (subst H top shelf.stacked)).1
+
+  -- where the object of a slot is, by its slab
+  pub place_at : (xs : List X) (at s : ℕ) (x : X) → at < length xs → x ≡ get_or xs at x → s / 256 ≡ at → place_of (map places xs) s ≡ slice_get (places x) (s % 256)
+  place_at xs at s x within read here = ap (λ qs. slice_get qs (s % 256)) (ap (λ k. get_or (map places xs) k []) here ∙ places_read places number xs at x within read)
+
+  -- the slab at a place has noted that place
+  pub number_is : (xs : List X) (at out : ℕ) (partial : List ℕ) (x : X) → IsShelf (map places xs) (map number xs) partial out → at < length xs → x ≡ get_or xs at x → number x ≡ at
+  number_is xs at out partial x shelf within read = ap number read ∙ (sym (get_or-map number xs at x 0 within) ∙ shelf.numbered at (omega (arith, length-map xs places)))
+
+-- two reads of one element
+pub same_read : {X : Type 0} (xs : List X) (i : ℕ) (x y : X) → i < length xs → x ≡ get_or xs i x → y ≡ get_or xs i y → x ≡ y
+same_read xs i x y within xs' ys = xs' ∙ (get_or_default xs i x y within ∙ sym ys)
+
+-- where an object is out, the count isn't 0
+pub out_some : {X : Type 0} (places : X → List Place) (number : X → ℕ) (xs : List X) (at i : ℕ) (old : X) (partial : List ℕ) (out : ℕ) → IsShelf (map places xs) (map number xs) partial out → at < length xs → old ≡ get_or xs at old → slice_get (places old) i ≡ Some Out → 1 ≤ out
+out_some places number xs at i old partial out shelf within read was =
+    let inside : at < length (map places xs) = omega (arith, length-map xs places) in
+    let e = out_count-set (map places xs) at [] inside in
+    let f = ap outs_in (places_read places number xs at old within read) in
+    let h = outs_in-home (places old) i was in
+    omega (arith, shelf.counted)
+
+pub from_not : (b : Bool) → not b ≡ true → b ≡ false
+from_not true e = absurd (false≢true e)
+from_not false e = refl

@@ -1,0 +1,4 @@
+pub mod Selecting
+pub mod Homes
+pub mod Changes
+pub mod Pages

@@ -1,0 +1,174 @@
+-- Pages that come and go.
+use Rattle.std.proofs.Common.{map, ◌≡◌, ℕ, zero, suc, ◌+◌, ◌*◌, ◌/◌, ◌%◌, ◌<◌, ◌≤◌, ◌==◌, if◌then◌else◌, Bool, true, false, cond, List, [], ◌∷◌, ◌++◌, IsTrue, ◌↔◌, length, get_or, set, replicate, Some, is_some, refl, sym, ap, subst, ◌∙◌, arith, inl, inr, ◌⊎◌}
+use Rattle.std.specs.Prelude.{slice_get, slice_index}
+use Rattle.std.specs.List.{All}
+use Rattle.std.proofs.lemmas.Bool.{cases_lt, false≢true}
+use Rattle.std.proofs.lemmas.List.{get_or_past, map-set, length-map, nil_from_length}
+use Rattle.std.proofs.lemmas.List.Elements.{All-head, All-tail}
+use Rattle.std.proofs.lemmas.Bool.Decides.{nat_tests}
+use Rattle.slab_layer.specs.declared.place.Place.{Place}
+use Rattle.slab_layer.specs.declared.place.Place.TheVariants.{Home, Out}
+use Rattle.slab_layer.specs.Stacks.{times, HasSame, selected}
+use Rattle.slab_layer.specs.Slots.{Pages, place_of, IsOut, Has, has_home, outs_in, out_count, AddsPage, RemovesPage}
+use Rattle.slab_layer.specs.Shelf.{IsShelf}
+use Rattle.slab_layer.proofs.Changes.{places_read, shelf_after, stack-more, stack-less, number_is, outs_in-home, outs_in-homes, has_home-homes, length-homes, added, removed}
+
+first_place : (pages : Pages) (p : ℕ) → place_of pages (p * 256) ≡ slice_get (get_or pages p []) 0
+first_place pages p =
+    let q : p * 256 / 256 ≡ p = omega arith in
+    let r : p * 256 % 256 ≡ 0 = omega arith in
+    ap (λ k. slice_get (get_or pages k []) (p * 256 % 256)) q ∙ ap (λ k. slice_get (get_or pages p []) k) r
+
+first_some : (ps : List Place) → 0 < length ps → is_some (slice_get ps 0) ≡ true
+first_some [] some = absurd (omega arith)
+first_some (p ∷ ps) some = refl
+
+some_first : (ps : List Place) → is_some (slice_get ps 0) ≡ true → 0 < length ps
+some_first [] e = absurd (false≢true e)
+some_first (p ∷ ps) e = omega arith
+
+-- a page is had where it has slots
+pub has_from : (pages : Pages) (p : ℕ) → 0 < length (get_or pages p []) → Has pages p
+has_from pages p some = ap is_some (first_place pages p) ∙ first_some (get_or pages p []) some
+
+pub from_has : (pages : Pages) (p : ℕ) → Has pages p → 0 < length (get_or pages p [])
+from_has pages p has = some_first (get_or pages p []) (sym (ap is_some (first_place pages p)) ∙ has)
+
+pub not_had : (pages : Pages) (p : ℕ) → (Has pages p → ⊥) → get_or pages p [] ≡ []
+not_had pages p none = elim (cases_lt 0 (length (get_or pages p []))) [
+  | inl some ↦ absurd (none (has_from pages p some))
+  | inr empty ↦ nil_from_length (get_or pages p []) (omega arith)
+]
+
+pub has_within : (pages : Pages) (p : ℕ) → Has pages p → p < length pages
+has_within pages p has = elim (cases_lt p (length pages)) [
+  | inl within ↦ within
+  | inr past ↦ let some = from_has pages p has in let e = ap length (get_or_past pages p [] past) in absurd (omega arith)
+]
+
+-- a table of pages that aren't had
+selected-vacant : (pages : Pages) (from : ℕ) → ((p : ℕ) → get_or pages p [] ≡ []) → selected has_home from pages ≡ []
+selected-vacant [] from none = refl
+selected-vacant (qs ∷ qss) from none = rw (none 0) (selected-vacant qss (suc from) (λ p. none (suc p)))
+
+count-vacant : (pages : Pages) → ((p : ℕ) → get_or pages p [] ≡ []) → out_count pages ≡ 0
+count-vacant [] none = refl
+count-vacant (qs ∷ qss) none = let e = ap outs_in (none 0) in omega (arith, count-vacant qss (λ p. none (suc p)))
+
+pub shelf_filled : (olds pages : Pages) (numbers noted partial : List ℕ) (out : ℕ) → length olds ≡ 0 → IsShelf olds numbers partial out → length pages ≡ 256 → ((p : ℕ) → get_or pages p [] ≡ []) → ((p : ℕ) → p < 256 → slice_index noted p ≡ p) → IsShelf pages noted partial out
+shelf_filled olds pages numbers noted partial out none shelf all vacant numbered =
+    let e : olds ≡ [] = nil_from_length olds none in
+    let old : HasSame partial [] = subst (λ (ps : Pages). HasSame partial (selected has_home 0 ps)) e shelf.stacked in
+    let f = ap out_count e in
+    record {
+      sized = inr all;
+      small = λ p. let g = ap length (vacant p) in omega arith;
+      numbered = λ p within. numbered p (omega arith);
+      stacked = subst (λ (ns : List ℕ). HasSame partial ns) (sym (selected-vacant pages 0 vacant)) old;
+      counted = omega (arith, shelf.counted, count-vacant pages vacant);
+    }
+
+-- a number whose element passes is selected
+pub selected_times : {A : Type 0} (test : A → Bool) (xs : List A) (from i n : ℕ) (d : A) → n ≡ from + i → i < length xs → test (get_or xs i d) ≡ true → 0 < times n (selected test from xs)
+selected_times test [] from i n d is within pass = absurd (omega arith)
+selected_times test (x ∷ xs) from zero n d is within pass = rw pass (counted (omega arith))
+  where
+    counted : from ≡ n → 0 < (if from == n then 1 else 0) + times n (selected test (suc from) xs)
+    counted e = grind (arith, nat_tests)
+selected_times test (x ∷ xs) from (suc i) n d is within pass = later (test x) (selected_times test xs (suc from) i n d (omega arith) (omega arith) pass)
+  where
+    later : (b : Bool) → 0 < times n (selected test (suc from) xs) → 0 < times n (cond b (from ∷ selected test (suc from) xs) (selected test (suc from) xs))
+    later true h = omega arith
+    later false h = h
+
+idle_home : (ps : List Place) → 0 < length ps → outs_in ps ≡ 0 → has_home ps ≡ true
+idle_home [] some idle = absurd (omega arith)
+idle_home (Home ∷ ps) some idle = refl
+idle_home (Out ∷ ps) some idle = absurd (omega arith)
+
+pub no_out : (ps : List Place) (i : ℕ) → outs_in ps ≡ 0 → slice_get ps i ≡ Some Out → ⊥
+no_out ps i idle out = let e = outs_in-home ps i out in omega arith
+
+out_exists : (ps : List Place) → 0 < outs_in ps → (i : ℕ) × (i < length ps) × (slice_get ps i ≡ Some Out)
+out_exists [] some = absurd (omega arith)
+out_exists (Out ∷ ps) some = (0, omega arith, refl)
+out_exists (Home ∷ ps) some = let rest = out_exists ps some in (suc rest.0, omega (arith, rest.1), rest.2)
+
+module _ {X : Type 0} (places : X → List Place) (number : X → ℕ) where
+  -- a page is grown
+  pub shelf_grown : (xs : List X) (at n out : ℕ) (old new : X) (partial : List ℕ) → IsShelf (map places xs) (map number xs) partial out → at < length xs → old ≡ get_or xs at old → get_or (map places xs) at [] ≡ [] → number new ≡ at → places new ≡ replicate n Home → 0 < n → n ≤ 256 → IsShelf (map places (set xs at new)) (map number (set xs at new)) (partial ++ at ∷ []) out × (length partial < length xs)
+  shelf_grown xs at n out old new partial shelf within read vacant noted is some few =
+      let inside : at < length (map places xs) = omega (arith, length-map xs places) in
+      let none : places old ≡ [] = sym (places_read places number xs at old within read) ∙ vacant in
+      let now : has_home (places new) ≡ true = ap has_home is ∙ has_home-homes n some in
+      let was : has_home (get_or (map places xs) at []) ≡ false = ap has_home vacant in
+      let more = stack-more (map places xs) partial at (places new) shelf.stacked inside now was in
+      let short : length (places new) ≤ 256 = let e = ap length is ∙ length-homes n in omega arith in
+      let count : out + outs_in (places old) ≡ out + outs_in (places new) = let e = ap outs_in none in let f = ap outs_in is ∙ outs_in-homes n in omega arith in
+      (shelf_after places number xs at old new partial (partial ++ at ∷ []) out out shelf within read (noted ∙ sym (number_is places number xs at out partial old shelf within read)) short more.0 count, omega (arith, more.1, length-map xs places))
+
+  pub grown : (xs : List X) (olds : Pages) (at n : ℕ) (new : X) → at < length xs → ((k : ℕ) → get_or (map places xs) k [] ≡ get_or olds k []) → places new ≡ replicate n Home → n ≤ 256 → AddsPage olds (map places (set xs at new)) at n
+  grown xs olds at n new within same is few =
+      let inside : at < length (map places xs) = omega (arith, length-map xs places) in
+      rw (map-set places xs at new, is) (added (map places xs) olds at n few inside same)
+
+  -- a page is reaped
+  pub on_stack : (xs : List X) (at out : ℕ) (partial : List ℕ) → IsShelf (map places xs) (map number xs) partial out → at < length xs → 0 < length (get_or (map places xs) at []) → outs_in (get_or (map places xs) at []) ≡ 0 → 0 < times at partial
+  on_stack xs at out partial shelf within had idle =
+      let inside : at < length (map places xs) = omega (arith, length-map xs places) in
+      let there = selected_times has_home (map places xs) 0 at at [] (omega arith) inside (idle_home (get_or (map places xs) at []) had idle) in
+      omega (arith, shelf.stacked.each at)
+
+  pub shelf_reaped : (xs : List X) (at out : ℕ) (old new : X) (partial after : List ℕ) → IsShelf (map places xs) (map number xs) partial out → at < length xs → old ≡ get_or xs at old → 0 < length (get_or (map places xs) at []) → outs_in (get_or (map places xs) at []) ≡ 0 → number new ≡ at → places new ≡ [] → length after + 1 ≡ length partial → ((x : ℕ) → times x after + (if at == x then 1 else 0) ≡ times x partial) → IsShelf (map places (set xs at new)) (map number (set xs at new)) after out
+  shelf_reaped xs at out old new partial after shelf within read had idle noted is count each =
+      let inside : at < length (map places xs) = omega (arith, length-map xs places) in
+      let was = idle_home (get_or (map places xs) at []) had idle in
+      let less = stack-less (map places xs) partial after at (places new) shelf.stacked inside (ap has_home is) was count each in
+      let short : length (places new) ≤ 256 = let e = ap length is in omega arith in
+      let reads = ap outs_in (places_read places number xs at old within read) in
+      let balance : out + outs_in (places old) ≡ out + outs_in (places new) = let e = ap outs_in is in omega arith in
+      shelf_after places number xs at old new partial after out out shelf within read (noted ∙ sym (number_is places number xs at out partial old shelf within read)) short less balance
+
+  pub reaped : (xs : List X) (at : ℕ) (new : X) → at < length xs → places new ≡ [] → RemovesPage (map places xs) (map places (set xs at new)) at
+  reaped xs at new within is =
+      let inside : at < length (map places xs) = omega (arith, length-map xs places) in
+      rw (map-set places xs at new, is) (removed (map places xs) at inside)
+
+  pub idle_page : (xs : List X) (at slot : ℕ) → outs_in (get_or (map places xs) at []) ≡ 0 → slot / 256 ≡ at → IsOut (map places xs) slot → ⊥
+  idle_page xs at slot idle here out = no_out (get_or (map places xs) at []) (slot % 256) idle (sym (ap (λ k. slice_get (get_or (map places xs) k []) (slot % 256)) here) ∙ out)
+
+  busy_at : (xs : List X) (k : ℕ) → All (λ s. 0 < length (places s) → 0 < outs_in (places s)) xs → k < length xs → 0 < length (get_or (map places xs) k []) → 0 < outs_in (get_or (map places xs) k [])
+  busy_at [] k busy within had = absurd (omega arith)
+  busy_at (x ∷ xs) zero busy within had = All-head (λ (s : X). 0 < length (places s) → 0 < outs_in (places s)) x xs busy had
+  busy_at (x ∷ xs) (suc k) busy within had = busy_at xs k (All-tail (λ (s : X). 0 < length (places s) → 0 < outs_in (places s)) x xs busy) (omega arith) had
+
+  -- where no page is idle, each has a slot that is out
+  pub busy_page : (xs : List X) (numbers partial : List ℕ) (out page : ℕ) → IsShelf (map places xs) numbers partial out → All (λ s. 0 < length (places s) → 0 < outs_in (places s)) xs → Has (map places xs) page → (slot : ℕ) × (slot / 256 ≡ page) × IsOut (map places xs) slot
+  busy_page xs numbers partial out page shelf busy has = found (get_or (map places xs) page []) refl
+    where
+      within : page < length xs
+      within = omega (arith, has_within (map places xs) page has, length-map xs places)
+
+      found : (ps : List Place) → get_or (map places xs) page [] ≡ ps → (slot : ℕ) × (slot / 256 ≡ page) × IsOut (map places xs) slot
+      found ps is =
+          let some : 0 < outs_in ps = subst (λ (qs : List Place). 0 < outs_in qs) is (busy_at xs page busy within (from_has (map places xs) page has)) in
+          let at = out_exists ps some in
+          let few : length ps ≤ 256 = subst (λ (qs : List Place). length qs ≤ 256) is (shelf.small page) in
+          let here : (page * 256 + at.0) / 256 ≡ page = omega (arith, at.1) in
+          let index : (page * 256 + at.0) % 256 ≡ at.0 = omega (arith, at.1) in
+          (page * 256 + at.0, here, ap (λ k. slice_get (get_or (map places xs) k []) ((page * 256 + at.0) % 256)) here ∙ (ap (λ qs. slice_get qs ((page * 256 + at.0) % 256)) is ∙ (ap (λ k. slice_get ps k) index ∙ at.2)))
+
+-- a table that was filled and one with other room have the places that they had
+pub grown_same : {X : Type 0} (places : X → List Place) (xs ys zs : List X) → ((p : ℕ) → get_or (map places xs) p [] ≡ get_or (map places ys) p []) → ys ≡ zs → (p : ℕ) → get_or (map places xs) p [] ≡ get_or (map places zs) p []
+grown_same places xs ys zs filled same p = filled p ∙ ap (λ ws. get_or (map places ws) p []) same
+
+-- room for all pages
+pub room_for_all : (m len cap before : ℕ) → (m ≡ 0) ⊎ (m ≡ 256) → m ≡ len → (len ≡ 0 → 256 ≤ cap) → len ≤ before → before ≤ cap → 256 ≤ cap
+room_for_all m len cap before (inl none) same fresh kept grew = fresh (omega arith)
+room_for_all m len cap before (inr all) same fresh kept grew = omega arith
+
+-- a page is had where its slab has slots
+pub has_here : {X : Type 0} (places : X → List Place) (number : X → ℕ) (xs : List X) (at : ℕ) (x : X) (b : Bool) → at < length xs → x ≡ get_or xs at x → IsTrue b ↔ (0 < length (places x)) → IsTrue b ↔ Has (map places xs) at
+has_here places number xs at x b within read is =
+    let e : length (get_or (map places xs) at []) ≡ length (places x) = ap length (places_read places number xs at x within read) in
+    ((λ t. has_from (map places xs) at (let some = is.0 t in omega arith)), (λ h. is.1 (let some = from_has (map places xs) at h in omega arith)))

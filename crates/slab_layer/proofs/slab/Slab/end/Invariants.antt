@@ -1,0 +1,5 @@
+use Rattle.std.proofs.Common.{vec_len}
+use Rattle.slab_layer.proofs.slab.Slab.end.Given as goal
+
+abbrev pub decreases-loop-object : goal.decreases-loop-object
+decreases-loop-object g l = vec_len l.home

@@ -1,0 +1,109 @@
+use Rattle.std.proofs.Common.{◌≡◌, ◌<◌, ◌/◌, ◌⊎◌, ◌∙◌, ap, sym, subst, set, replicate, length, map, vec_len, vec_capacity, arith, rules}
+use Rattle.std.proofs.lemmas.List.{length-map}
+use Rattle.slab_layer.specs.declared.place.Place.TheVariants.{Home}
+use Rattle.slab_layer.specs.Slots.{Pages, Has, AddsPage, out_count}
+use Rattle.slab_layer.specs.Shelf.{IsShelf}
+use Rattle.slab_layer.proofs.Homes.{row_objects}
+use Rattle.slab_layer.proofs.Pages.{shelf_grown, grown, grown_same, not_had, room_for_all}
+use Rattle.slab_layer.proofs.slabs.Slabs.grow.Goals as goal
+
+pub push_if-requires : goal.push_if-requires
+push_if-requires g c = λ _.
+    let xs = c.fill_table.new.slabs.items in
+    let olds = map (λ s. s.places.items) c.self.inside.slabs.items in
+    let at = c.first-page.result in
+    let n = 4096 / g.K.Kind.SIZE in
+    let row = row_objects _ g.K.Kind.is_row in
+    let partial = c.reserve_tables.new.partial.items in
+    let kept : IsShelf (map (λ s. s.places.items) c.reserve_tables.new.slabs.items) (map (λ s. s.page) c.reserve_tables.new.slabs.items) partial c.self.inside.out = rw (c.reserve_tables.ensures.slabs, c.reserve_tables.ensures.partial) c.self.invariant.0 in
+    let shelf = c.fill_table.ensures.shelf partial c.self.inside.out kept in
+    let all : length xs ≡ 256 = c.fill_table.ensures.all (subst (λ m. (m ≡ 0) ⊎ (m ≡ 256)) (length-map c.reserve_tables.new.slabs.items (λ s. s.places.items)) kept.sized) in
+    let page : at ≡ c.args.span.first = c.first-page.ensures in
+    let within : at < length xs = omega (arith, c.args.span.within, c.args.span.some) in
+    let same = grown_same (λ s. s.places.items) xs c.reserve_tables.new.slabs.items c.self.inside.slabs.items c.fill_table.ensures.same c.reserve_tables.ensures.slabs in
+    let H : Pages → Type 0 = λ v. Has v at → ⊥ in
+    let free : Has olds at → ⊥ = subst H (sym c.self.view_is) (subst (λ m. Has c.args.self.now m → ⊥) (sym page) c.requires.not_had) in
+    let vacant = same at ∙ not_had olds at free in
+    let new = c.replace-vacant.new.dest in
+    let is : new.places.items ≡ replicate n Home = ap (λ s. s.places.items) c.replace-vacant.ensures.after ∙ c.new-2.ensures.places in
+    let noted : new.page ≡ at = ap (λ s. s.page) c.replace-vacant.ensures.after ∙ (c.new-2.ensures.page ∙ sym page) in
+    let both = shelf_grown (λ s. s.places.items) (λ s. s.page) xs at n c.self.inside.out c.index_mut.result.now new partial shelf within c.index_mut.ensures.value vacant noted is row.0 row.1 in
+    let wide : vec_len c.self.inside.slabs ≡ length c.self.inside.slabs.items = search rules in
+    let whole = c.self.invariant.0.sized in
+    let cap = room_for_all (length olds) (vec_len c.self.inside.slabs) (vec_capacity c.reserve_tables.new.partial) (vec_capacity c.self.inside.partial) whole (length-map c.self.inside.slabs.items (λ s. s.places.items) ∙ sym wide) c.in-Ok.ensures.room_open c.self.invariant.1 c.reserve_tables.ensures.capacity in
+    let low : vec_len c.reserve_tables.new.partial ≡ length partial = search rules in
+    omega (arith, both.1)
+
+pub invariant_of-self-2 : goal.invariant_of-self-2
+invariant_of-self-2 g c =
+    let xs = c.fill_table.new.slabs.items in
+    let olds = map (λ s. s.places.items) c.self.inside.slabs.items in
+    let at = c.first-page.result in
+    let n = 4096 / g.K.Kind.SIZE in
+    let row = row_objects _ g.K.Kind.is_row in
+    let partial = c.reserve_tables.new.partial.items in
+    let kept : IsShelf (map (λ s. s.places.items) c.reserve_tables.new.slabs.items) (map (λ s. s.page) c.reserve_tables.new.slabs.items) partial c.self.inside.out = rw (c.reserve_tables.ensures.slabs, c.reserve_tables.ensures.partial) c.self.invariant.0 in
+    let shelf = c.fill_table.ensures.shelf partial c.self.inside.out kept in
+    let all : length xs ≡ 256 = c.fill_table.ensures.all (subst (λ m. (m ≡ 0) ⊎ (m ≡ 256)) (length-map c.reserve_tables.new.slabs.items (λ s. s.places.items)) kept.sized) in
+    let page : at ≡ c.args.span.first = c.first-page.ensures in
+    let within : at < length xs = omega (arith, c.args.span.within, c.args.span.some) in
+    let same = grown_same (λ s. s.places.items) xs c.reserve_tables.new.slabs.items c.self.inside.slabs.items c.fill_table.ensures.same c.reserve_tables.ensures.slabs in
+    let H : Pages → Type 0 = λ v. Has v at → ⊥ in
+    let free : Has olds at → ⊥ = subst H (sym c.self.view_is) (subst (λ m. Has c.args.self.now m → ⊥) (sym page) c.requires.not_had) in
+    let vacant = same at ∙ not_had olds at free in
+    let new = c.replace-vacant.new.dest in
+    let is : new.places.items ≡ replicate n Home = ap (λ s. s.places.items) c.replace-vacant.ensures.after ∙ c.new-2.ensures.places in
+    let noted : new.page ≡ at = ap (λ s. s.page) c.replace-vacant.ensures.after ∙ (c.new-2.ensures.page ∙ sym page) in
+    let both = shelf_grown (λ s. s.places.items) (λ s. s.page) xs at n c.self.inside.out c.index_mut.result.now new partial shelf within c.index_mut.ensures.value vacant noted is row.0 row.1 in
+    let wide : vec_len c.self.inside.slabs ≡ length c.self.inside.slabs.items = search rules in
+    let whole = c.self.invariant.0.sized in
+    let cap = room_for_all (length olds) (vec_len c.self.inside.slabs) (vec_capacity c.reserve_tables.new.partial) (vec_capacity c.self.inside.partial) whole (length-map c.self.inside.slabs.items (λ s. s.places.items) ∙ sym wide) c.in-Ok.ensures.room_open c.self.invariant.1 c.reserve_tables.ensures.capacity in
+    let high : vec_len c.fill_table.new.slabs ≡ length xs = search rules in
+    (rw c.push_if.ensures.items both.0, omega (arith, c.push_if.ensures.capacity))
+
+pub returns-clause-added : goal.returns-clause-added
+returns-clause-added g c =
+    let xs = c.fill_table.new.slabs.items in
+    let olds = map (λ s. s.places.items) c.self.inside.slabs.items in
+    let at = c.first-page.result in
+    let n = 4096 / g.K.Kind.SIZE in
+    let row = row_objects _ g.K.Kind.is_row in
+    let partial = c.reserve_tables.new.partial.items in
+    let kept : IsShelf (map (λ s. s.places.items) c.reserve_tables.new.slabs.items) (map (λ s. s.page) c.reserve_tables.new.slabs.items) partial c.self.inside.out = rw (c.reserve_tables.ensures.slabs, c.reserve_tables.ensures.partial) c.self.invariant.0 in
+    let shelf = c.fill_table.ensures.shelf partial c.self.inside.out kept in
+    let all : length xs ≡ 256 = c.fill_table.ensures.all (subst (λ m. (m ≡ 0) ⊎ (m ≡ 256)) (length-map c.reserve_tables.new.slabs.items (λ s. s.places.items)) kept.sized) in
+    let page : at ≡ c.args.span.first = c.first-page.ensures in
+    let within : at < length xs = omega (arith, c.args.span.within, c.args.span.some) in
+    let same = grown_same (λ s. s.places.items) xs c.reserve_tables.new.slabs.items c.self.inside.slabs.items c.fill_table.ensures.same c.reserve_tables.ensures.slabs in
+    let H : Pages → Type 0 = λ v. Has v at → ⊥ in
+    let free : Has olds at → ⊥ = subst H (sym c.self.view_is) (subst (λ m. Has c.args.self.now m → ⊥) (sym page) c.requires.not_had) in
+    let vacant = same at ∙ not_had olds at free in
+    let new = c.replace-vacant.new.dest in
+    let is : new.places.items ≡ replicate n Home = ap (λ s. s.places.items) c.replace-vacant.ensures.after ∙ c.new-2.ensures.places in
+    let noted : new.page ≡ at = ap (λ s. s.page) c.replace-vacant.ensures.after ∙ (c.new-2.ensures.page ∙ sym page) in
+    let A : Pages → Type 0 = λ v. AddsPage v (map (λ s. s.places.items) (set xs at new)) at n in
+    subst (λ m. AddsPage c.args.self.now (map (λ s. s.places.items) (set xs at new)) m n) page (subst A c.self.view_is (grown (λ s. s.places.items) (λ s. s.page) xs olds at n new within same is row.1))
+
+pub returns-clause-counted : goal.returns-clause-counted
+returns-clause-counted g c =
+    let xs = c.fill_table.new.slabs.items in
+    let olds = map (λ s. s.places.items) c.self.inside.slabs.items in
+    let at = c.first-page.result in
+    let n = 4096 / g.K.Kind.SIZE in
+    let row = row_objects _ g.K.Kind.is_row in
+    let partial = c.reserve_tables.new.partial.items in
+    let kept : IsShelf (map (λ s. s.places.items) c.reserve_tables.new.slabs.items) (map (λ s. s.page) c.reserve_tables.new.slabs.items) partial c.self.inside.out = rw (c.reserve_tables.ensures.slabs, c.reserve_tables.ensures.partial) c.self.invariant.0 in
+    let shelf = c.fill_table.ensures.shelf partial c.self.inside.out kept in
+    let all : length xs ≡ 256 = c.fill_table.ensures.all (subst (λ m. (m ≡ 0) ⊎ (m ≡ 256)) (length-map c.reserve_tables.new.slabs.items (λ s. s.places.items)) kept.sized) in
+    let page : at ≡ c.args.span.first = c.first-page.ensures in
+    let within : at < length xs = omega (arith, c.args.span.within, c.args.span.some) in
+    let same = grown_same (λ s. s.places.items) xs c.reserve_tables.new.slabs.items c.self.inside.slabs.items c.fill_table.ensures.same c.reserve_tables.ensures.slabs in
+    let H : Pages → Type 0 = λ v. Has v at → ⊥ in
+    let free : Has olds at → ⊥ = subst H (sym c.self.view_is) (subst (λ m. Has c.args.self.now m → ⊥) (sym page) c.requires.not_had) in
+    let vacant = same at ∙ not_had olds at free in
+    let new = c.replace-vacant.new.dest in
+    let is : new.places.items ≡ replicate n Home = ap (λ s. s.places.items) c.replace-vacant.ensures.after ∙ c.new-2.ensures.places in
+    let noted : new.page ≡ at = ap (λ s. s.page) c.replace-vacant.ensures.after ∙ (c.new-2.ensures.page ∙ sym page) in
+    let both = shelf_grown (λ s. s.places.items) (λ s. s.page) xs at n c.self.inside.out c.index_mut.result.now new partial shelf within c.index_mut.ensures.value vacant noted is row.0 row.1 in
+    let C : Pages → Type 0 = λ v. out_count (map (λ s. s.places.items) (set xs at new)) ≡ out_count v in
+    subst C c.self.view_is (sym both.0.counted ∙ c.self.invariant.0.counted)

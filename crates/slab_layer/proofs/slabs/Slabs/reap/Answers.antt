@@ -1,0 +1,100 @@
+use Rattle.std.proofs.Common.{◌≡◌, ◌<◌, ◌/◌, ◌∙◌, [], ℕ, ap, sym, subst, get_or, set, length, map, arith}
+use Rattle.std.specs.List.{All}
+use Rattle.std.proofs.lemmas.Option.{IfSome_then}
+use Rattle.slab_layer.specs.Slots.{Pages, Has, IsOut, RemovesPage, outs_in, out_count}
+use Rattle.slab_layer.proofs.Changes.{number_is}
+use Rattle.slab_layer.proofs.Pages.{on_stack, shelf_reaped, reaped, idle_page, busy_page, has_from}
+use Rattle.slab_layer.proofs.slabs.Slabs.reap.Goals as goal
+
+pub returns-in_default-clause-none : goal.returns-in_default-clause-none
+returns-in_default-clause-none g c = λ page has.
+    let xs = c.self.inside.slabs.items in
+    let B : Pages → Type 0 = λ v. (slot : ℕ) × (slot / 256 ≡ page) × IsOut v slot in
+    let H : Pages → Type 0 = λ v. Has v page in
+    let busy : All (λ s. 0 < length s.places.items → 0 < outs_in s.places.items) xs = subst (λ ys. All (λ s. 0 < length s.places.items → 0 < outs_in s.places.items) ys) c.deref.ensures.value c.in_default.ensures.none in
+    subst B c.self.view_is (busy_page (λ s. s.places.items) (λ s. s.page) xs (map (λ s. s.page) xs) c.self.inside.partial.items c.self.inside.out page c.self.invariant.0 busy (subst H (sym c.self.view_is) has))
+
+pub take_number-requires : goal.take_number-requires
+take_number-requires g c =
+    let xs = c.self.inside.slabs.items in
+    let at = c.in-Some.at in
+    let partial = c.self.inside.partial.items in
+    let shelf = c.self.invariant.0 in
+    let within : at < length xs = subst (λ ys. at < length ys) c.deref.ensures.value c.in-Some.ensures.within in
+    let had : 0 < length (get_or (map (λ s. s.places.items) xs) at []) = subst (λ ys. 0 < length (get_or (map (λ s. s.places.items) ys) at [])) c.deref.ensures.value c.in-Some.ensures.had in
+    let idle : outs_in (get_or (map (λ s. s.places.items) xs) at []) ≡ 0 = subst (λ ys. outs_in (get_or (map (λ s. s.places.items) ys) at []) ≡ 0) c.deref.ensures.value c.in-Some.ensures.idle in
+    on_stack (λ s. s.places.items) (λ s. s.page) xs at c.self.inside.out partial shelf within had idle
+
+pub invariant_of-self : goal.invariant_of-self
+invariant_of-self g c =
+    let xs = c.self.inside.slabs.items in
+    let at = c.in-Some.at in
+    let partial = c.self.inside.partial.items in
+    let shelf = c.self.invariant.0 in
+    let within : at < length xs = subst (λ ys. at < length ys) c.deref.ensures.value c.in-Some.ensures.within in
+    let had : 0 < length (get_or (map (λ s. s.places.items) xs) at []) = subst (λ ys. 0 < length (get_or (map (λ s. s.places.items) ys) at [])) c.deref.ensures.value c.in-Some.ensures.had in
+    let idle : outs_in (get_or (map (λ s. s.places.items) xs) at []) ≡ 0 = subst (λ ys. outs_in (get_or (map (λ s. s.places.items) ys) at []) ≡ 0) c.deref.ensures.value c.in-Some.ensures.idle in
+    let new = c.replace-slab.new.dest in
+    let none : new.places.items ≡ [] = ap (λ s. s.places.items) c.replace-slab.ensures.after ∙ c.vacant.ensures.places in
+    let noted : new.page ≡ at = ap (λ s. s.page) c.replace-slab.ensures.after ∙ c.vacant.ensures.page in
+    let after = shelf_reaped (λ s. s.places.items) (λ s. s.page) xs at c.self.inside.out c.index_mut.result.now new partial c.take_number.new.numbers.items shelf within c.index_mut.ensures.value had idle noted none c.take_number.ensures.count c.take_number.ensures.each in
+    (after, omega (arith, c.self.invariant.1, c.take_number.ensures.capacity))
+
+pub returns-clause-had : goal.returns-clause-had
+returns-clause-had g c =
+    let xs = c.self.inside.slabs.items in
+    let at = c.in-Some.at in
+    let partial = c.self.inside.partial.items in
+    let shelf = c.self.invariant.0 in
+    let within : at < length xs = subst (λ ys. at < length ys) c.deref.ensures.value c.in-Some.ensures.within in
+    let had : 0 < length (get_or (map (λ s. s.places.items) xs) at []) = subst (λ ys. 0 < length (get_or (map (λ s. s.places.items) ys) at [])) c.deref.ensures.value c.in-Some.ensures.had in
+    let idle : outs_in (get_or (map (λ s. s.places.items) xs) at []) ≡ 0 = subst (λ ys. outs_in (get_or (map (λ s. s.places.items) ys) at []) ≡ 0) c.deref.ensures.value c.in-Some.ensures.idle in
+    let page : c.replace-slab.result.page ≡ at = ap (λ s. s.page) c.replace-slab.ensures.value ∙ number_is (λ s. s.places.items) (λ s. s.page) xs at c.self.inside.out partial c.index_mut.result.now shelf within c.index_mut.ensures.value in
+    let H : Pages → Type 0 = λ v. Has v at in
+    IfSome_then c.end.result c.end.ensures.page (λ s p. subst (λ k. Has c.args.self.now k) (sym (p.0 ∙ page)) (subst H c.self.view_is (has_from (map (λ s. s.places.items) xs) at had)))
+
+pub returns-clause-idle : goal.returns-clause-idle
+returns-clause-idle g c =
+    let xs = c.self.inside.slabs.items in
+    let at = c.in-Some.at in
+    let partial = c.self.inside.partial.items in
+    let shelf = c.self.invariant.0 in
+    let within : at < length xs = subst (λ ys. at < length ys) c.deref.ensures.value c.in-Some.ensures.within in
+    let had : 0 < length (get_or (map (λ s. s.places.items) xs) at []) = subst (λ ys. 0 < length (get_or (map (λ s. s.places.items) ys) at [])) c.deref.ensures.value c.in-Some.ensures.had in
+    let idle : outs_in (get_or (map (λ s. s.places.items) xs) at []) ≡ 0 = subst (λ ys. outs_in (get_or (map (λ s. s.places.items) ys) at []) ≡ 0) c.deref.ensures.value c.in-Some.ensures.idle in
+    let page : c.replace-slab.result.page ≡ at = ap (λ s. s.page) c.replace-slab.ensures.value ∙ number_is (λ s. s.places.items) (λ s. s.page) xs at c.self.inside.out partial c.index_mut.result.now shelf within c.index_mut.ensures.value in
+    IfSome_then c.end.result c.end.ensures.page (λ s p. λ slot here out.
+    let O : Pages → Type 0 = λ v. IsOut v slot in
+    idle_page (λ s. s.places.items) (λ s. s.page) xs at slot idle (here ∙ (p.0 ∙ page)) (subst O (sym c.self.view_is) out))
+
+pub returns-clause-removed : goal.returns-clause-removed
+returns-clause-removed g c =
+    let xs = c.self.inside.slabs.items in
+    let at = c.in-Some.at in
+    let partial = c.self.inside.partial.items in
+    let shelf = c.self.invariant.0 in
+    let within : at < length xs = subst (λ ys. at < length ys) c.deref.ensures.value c.in-Some.ensures.within in
+    let had : 0 < length (get_or (map (λ s. s.places.items) xs) at []) = subst (λ ys. 0 < length (get_or (map (λ s. s.places.items) ys) at [])) c.deref.ensures.value c.in-Some.ensures.had in
+    let idle : outs_in (get_or (map (λ s. s.places.items) xs) at []) ≡ 0 = subst (λ ys. outs_in (get_or (map (λ s. s.places.items) ys) at []) ≡ 0) c.deref.ensures.value c.in-Some.ensures.idle in
+    let new = c.replace-slab.new.dest in
+    let none : new.places.items ≡ [] = ap (λ s. s.places.items) c.replace-slab.ensures.after ∙ c.vacant.ensures.places in
+    let noted : new.page ≡ at = ap (λ s. s.page) c.replace-slab.ensures.after ∙ c.vacant.ensures.page in
+    let page : c.replace-slab.result.page ≡ at = ap (λ s. s.page) c.replace-slab.ensures.value ∙ number_is (λ s. s.places.items) (λ s. s.page) xs at c.self.inside.out partial c.index_mut.result.now shelf within c.index_mut.ensures.value in
+    let R : Pages → Type 0 = λ v. RemovesPage v (map (λ s. s.places.items) (set xs at new)) at in
+    IfSome_then c.end.result c.end.ensures.page (λ s p. subst (λ k. RemovesPage c.args.self.now (map (λ s. s.places.items) (set xs at new)) k) (sym (p.0 ∙ page)) (subst R c.self.view_is (reaped (λ s. s.places.items) (λ s. s.page) xs at new within none)))
+
+pub returns-clause-counted : goal.returns-clause-counted
+returns-clause-counted g c =
+    let xs = c.self.inside.slabs.items in
+    let at = c.in-Some.at in
+    let partial = c.self.inside.partial.items in
+    let shelf = c.self.invariant.0 in
+    let within : at < length xs = subst (λ ys. at < length ys) c.deref.ensures.value c.in-Some.ensures.within in
+    let had : 0 < length (get_or (map (λ s. s.places.items) xs) at []) = subst (λ ys. 0 < length (get_or (map (λ s. s.places.items) ys) at [])) c.deref.ensures.value c.in-Some.ensures.had in
+    let idle : outs_in (get_or (map (λ s. s.places.items) xs) at []) ≡ 0 = subst (λ ys. outs_in (get_or (map (λ s. s.places.items) ys) at []) ≡ 0) c.deref.ensures.value c.in-Some.ensures.idle in
+    let new = c.replace-slab.new.dest in
+    let none : new.places.items ≡ [] = ap (λ s. s.places.items) c.replace-slab.ensures.after ∙ c.vacant.ensures.places in
+    let noted : new.page ≡ at = ap (λ s. s.page) c.replace-slab.ensures.after ∙ c.vacant.ensures.page in
+    let after = shelf_reaped (λ s. s.places.items) (λ s. s.page) xs at c.self.inside.out c.index_mut.result.now new partial c.take_number.new.numbers.items shelf within c.index_mut.ensures.value had idle noted none c.take_number.ensures.count c.take_number.ensures.each in
+    let C : Pages → Type 0 = λ v. out_count (map (λ s. s.places.items) (set xs at new)) ≡ out_count v in
+    subst C c.self.view_is (sym after.counted ∙ shelf.counted)

@@ -1,0 +1,5 @@
+pub mod Kinds
+pub mod Images
+pub mod Stacks
+pub mod Slots
+pub mod Shelf

@@ -1,0 +1,49 @@
+//! The memory of a slab, before it is one.
+//!
+//! *The idea.* A slab needs memory in many pieces: the bytes of each object, and two tables. All of it is got
+//! first and put together here. If a piece is refused, those got before it are freed and nothing else has
+//! happened yet.
+//!
+//! *The invariant.* There are as many pieces as a page has objects, each as long as an object, and room in
+//! both tables for as many entries.
+//!
+//! *The reason.* A slab is then made of its room in steps that can't fail, so that no half-made one has to be
+//! taken apart.
+
+ghost use Rattle.std.specs.Prelude.{◌≡◌, ◌≤◌, ◌/◌, length, vec_len, vec_capacity, All};
+
+use crate::kind::{Kind, objects_of_a_page};
+use crate::object::{Home, Obj};
+use crate::place::Place;
+use std::alloc::{AllocError, Global};
+
+/// Memory for the objects of a page and for the tables of their slab.
+pub struct Room<K: Kind> {
+    pub bytes: Vec<Vec<u8>>,
+    pub places: Vec<Place>,
+    pub home: Vec<Obj<K, Home>>,
+    ghost each: { All (λ b. length b.items ≡ K.SIZE) bytes.items },
+    ghost all: { vec_len bytes ≡ 4096 / K.SIZE },
+    ghost no_places: { vec_len places ≡ 0 },
+    ghost few_places: { 4096 / K.SIZE ≤ vec_capacity places },
+    ghost none_home: { vec_len home ≡ 0 },
+    ghost few_home: { 4096 / K.SIZE ≤ vec_capacity home },
+}
+
+impl<K: Kind> Room<K> {
+    /// The memory of one slab, or none of it.
+    pub fn new(alloc: Global) -> Result<Room<K>, AllocError> {
+        let count = objects_of_a_page::<K>();
+        let mut bytes = Vec::with_capacity(alloc, count)?;
+        for _index in 0..count {
+            bytes.push_reserved(vec![in alloc; 0; K::SIZE]?);
+        }
+        let places = Vec::with_capacity(alloc, count)?;
+        let home = Vec::with_capacity(alloc, count)?;
+        Ok(Room {
+            bytes,
+            places,
+            home,
+        })
+    }
+}

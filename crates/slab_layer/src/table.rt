@@ -1,0 +1,127 @@
+//! The two tables of the slabs of a kind, and the steps on each.
+//!
+//! *The idea* (Bonwick 1994, section 3.2). A cache finds the slab of an object by the object's page, and a slab
+//! with a free object at the head of a list. Here the first is a table with a slab for each page number, the
+//! second a stack of page numbers.
+//!
+//! *The invariant.* The table is empty or has all 256 places; those of pages that aren't had are vacant.
+//!
+//! *The reason.* A table of all places is filled once, with the first page, and never moves a slab: so a page
+//! comes and goes by a write in its place, and only the stack has to be searched, when a page is given up.
+
+ghost use Rattle.std.specs.Prelude.{◌≡◌, ◌≢◌, ◌⊎◌, List, ℕ, ◌≤◌, ◌<◌, ◌+◌, ◌==◌, ◌-◌, if◌then◌else◌, true, [], ◌∷◌, ◌++◌, take, map, length, vec_len, vec_capacity, slice_index, slice_index_or, All, IfSome, IfNone, OnOk};
+ghost use Rattle.slab_layer.specs.Slots.{outs_in};
+ghost use Rattle.slab_layer.specs.Stacks.{times};
+ghost use Rattle.slab_layer.specs.Shelf.{IsShelf};
+
+use crate::kind::Kind;
+use crate::slab::Slab;
+use std::alloc::{AllocError, Global};
+
+/// The most pages.
+const MOST_PAGES: u32 = 256;
+
+/// Makes room for all pages in both tables, where the first has none yet.
+pub fn reserve_tables<K: Kind>(
+    slabs: &mut Vec<Slab<K>>,
+    partial: &mut Vec<u32>,
+) -> Result<(), AllocError>
+    ensures slabs { slabs.new.items ≡ slabs.old.items }
+    ensures partial { partial.new.items ≡ partial.old.items }
+    ensures room { OnOk result (vec_len slabs.old ≡ 0 → 256 ≤ vec_capacity slabs.new) }
+    ensures room_open { OnOk result (vec_len slabs.old ≡ 0 → 256 ≤ vec_capacity partial.new) }
+    ensures capacity { vec_capacity partial.old ≤ vec_capacity partial.new }
+{
+    if slabs.is_empty() {
+        slabs.reserve(MOST_PAGES as usize)?;
+        partial.reserve(MOST_PAGES as usize)?;
+    }
+    Ok(())
+}
+
+/// Fills the table with the places of pages that aren't had.
+fn add_vacant<K: Kind>(slabs: &mut Vec<Slab<K>>, alloc: Global)
+    requires none { vec_len slabs.old ≡ 0 }
+    requires room { 256 ≤ vec_capacity slabs.old }
+    ensures all { length slabs.new.items ≡ 256 }
+    ensures vacant { (page : ℕ) → slice_index_or (map (λ s. s.places.items) slabs.new.items) page [] ≡ [] }
+    ensures numbered { (page : ℕ) → page < 256 → slice_index (map (λ s. s.page) slabs.new.items) page ≡ page }
+{
+    for page in 0..MOST_PAGES {
+        slabs.push_reserved(Slab::vacant(alloc, page));
+    }
+}
+
+/// Fills the table with the places of pages that aren't had, where it has none yet.
+pub fn fill_table<K: Kind>(slabs: &mut Vec<Slab<K>>, alloc: Global)
+    requires { vec_len slabs.old ≡ 0 → 256 ≤ vec_capacity slabs.old }
+    ensures shelf { (partial : List ℕ) (out : ℕ)
+        → IsShelf (map (λ s. s.places.items) slabs.old.items) (map (λ s. s.page) slabs.old.items) partial out
+        → IsShelf (map (λ s. s.places.items) slabs.new.items) (map (λ s. s.page) slabs.new.items) partial out }
+    ensures all { (length slabs.old.items ≡ 0) ⊎ (length slabs.old.items ≡ 256) → length slabs.new.items ≡ 256 }
+    ensures same { (page : ℕ) → slice_index_or (map (λ s. s.places.items) slabs.new.items) page []
+        ≡ slice_index_or (map (λ s. s.places.items) slabs.old.items) page [] }
+{
+    if slabs.is_empty() {
+        add_vacant(slabs, alloc);
+    }
+}
+
+/// The place of the lowest slab that is idle.
+pub fn idle_at<K: Kind>(slabs: &[Slab<K>]) -> Option<usize>
+    ensures within { IfSome result (λ i. i < length slabs.now) }
+    ensures had { IfSome result (λ i. 0 < length (slice_index_or (map (λ s. s.places.items) slabs.now) i [])) }
+    ensures idle { IfSome result (λ i. outs_in (slice_index_or (map (λ s. s.places.items) slabs.now) i []) ≡ 0) }
+    ensures none { IfNone result (All (λ s. 0 < length s.places.items → 0 < outs_in s.places.items) slabs.now) }
+{
+    for (i, slab) in slabs.iter().enumerate() {
+        if slab.is_idle() {
+            return Some(i);
+        }
+    }
+    None
+}
+
+/// The last number of a list.
+pub fn last_number(numbers: &[u32]) -> Option<u32>
+    ensures last { IfSome result (λ n. numbers.now ≡ take (length numbers.now - 1) numbers.now ++ n ∷ []) }
+    ensures none { IfNone result (numbers.now ≡ []) }
+{
+    numbers.last().copied()
+}
+
+/// Takes the last number off where the flag is set.
+pub fn pop_if(numbers: &mut Vec<u32>, flag: bool)
+    ensures items { numbers.new.items ≡ (if flag then take (length numbers.old.items - 1) numbers.old.items else numbers.old.items) }
+    ensures capacity { vec_capacity numbers.new ≡ vec_capacity numbers.old }
+{
+    if flag {
+        numbers.pop();
+    }
+}
+
+/// Puts a number at the end where the flag is set.
+pub fn push_if(numbers: &mut Vec<u32>, flag: bool, number: u32)
+    requires { flag ≡ true → vec_len numbers.old < vec_capacity numbers.old }
+    ensures items { numbers.new.items ≡ (if flag then numbers.old.items ++ number ∷ [] else numbers.old.items) }
+    ensures capacity { vec_capacity numbers.new ≡ vec_capacity numbers.old }
+{
+    if flag {
+        numbers.push_reserved(number);
+    }
+}
+
+/// Takes a number out of a list that has it.
+pub fn take_number(numbers: &mut Vec<u32>, number: u32)
+    requires { 0 < times number numbers.old.items }
+    ensures each { (x : ℕ) → times x numbers.new.items + (if number == x then 1 else 0) ≡ times x numbers.old.items }
+    ensures count { length numbers.new.items + 1 ≡ length numbers.old.items }
+    ensures capacity { vec_capacity numbers.new ≡ vec_capacity numbers.old }
+{
+    for i in 0..numbers.len() {
+        if numbers[i] == number {
+            numbers.remove(i);
+            return;
+        }
+    }
+}
