@@ -1,5 +1,5 @@
 -- Moves and sums that are accepted compute what their rules say.
-use Rattle.std.proofs.Common.{◌≡◌, ℕ, ◌+◌, ◌<◌, ◌≤◌, ◌^◌, ◌%◌, ℤ, Bool, true, false, cond, not, List, [], ◌∷◌, Option, Some, None, Result, Ok, Err, refl, sym, ap, ◌∙◌, subst, arith, rules}
+use Rattle.std.proofs.Common.{◌≡◌, ℕ, ◌+◌, ◌<◌, ◌^◌, ◌%◌, true, false, Option, Some, None, Result, Ok, refl, subst, arith}
 use Rattle.std.specs.Prelude.{◌||◌, ◌&&◌, is_none, unwrap_or}
 use Rattle.std.proofs.Math.Nat.{mod-lt}
 use Rattle.ebpf_insn.specs.declared.register.Reg.{Reg}
@@ -9,7 +9,7 @@ use Rattle.ebpf_insn.specs.declared.insn.Width.{Width}
 use Rattle.ebpf_insn.specs.declared.insn.Width.TheVariants.{W32, W64}
 use Rattle.ebpf_insn.specs.Arithmetic.{sum_at, kept_at}
 use Rattle.ebpf_range.specs.declared.range.Range.{Range}
-use Rattle.ebpf_range.specs.Interval.{IsWithin, low, sum_range}
+use Rattle.ebpf_range.specs.Interval.{IsWithin, sum_range}
 use Rattle.ebpf_range.proofs.SumLemmas.{low-sound, sum_of-sound, low_sum-sound}
 use Rattle.ebpf_state.specs.declared.value.Abs.{Abs}
 use Rattle.ebpf_state.specs.declared.value.Abs.TheVariants.{Unset, Num, Stk, Ctx, Ob, May}
@@ -115,8 +115,8 @@ sum_sound left right x y dst fine h k =
     let w = set_value right y set.1 k in
     (b.0, at_values left right x y v.0 w.0 v.1 w.1 (summed left right v.0 w.0 a.0 m.0 p.0 c.0 t.0 v.2 w.2))
   where
-  at_values : (left right : Abs) (x y : Option (Value ℕ)) (v w : Value ℕ) → x ≡ Some v → y ≡ Some w → IsSummed left right (Some v) (Some w) → IsSummed left right x y
-  at_values left right x y v w e f h = rw (e, f) h
+    at_values : (left right : Abs) (x y : Option (Value ℕ)) (v w : Value ℕ) → x ≡ Some v → y ≡ Some w → IsSummed left right (Some v) (Some w) → IsSummed left right x y
+    at_values left right x y v w e f h = rw (e, f) h
 
 low_fits : (n : ℕ) → n % 2 ^ 32 < 2 ^ 64
 low_fits n = omega arith
@@ -154,8 +154,8 @@ copy_sound right y dst fine k =
     let w = set_value right y a.0 k in
     (b.0, copied right y w.0 w.1 w.2)
   where
-  copied : (right : Abs) (y : Option (Value ℕ)) (v : Value ℕ) → y ≡ Some v → IsOf right (Some v) → IsComputed right (moved_value W64 y)
-  copied right y v e h = rw e (record { v = v; is = refl; of = h })
+    copied : (right : Abs) (y : Option (Value ℕ)) (v : Value ℕ) → y ≡ Some v → IsOf right (Some v) → IsComputed right (moved_value W64 y)
+    copied right y v e h = rw e (record { v = v; is = refl; of = h })
 
 -- a move at 32 bits
 pub low_move_sound : (right : Abs) (y : Option (Value ℕ)) (dst : Reg) → low_refusal right dst ≡ None → IsOf right y → (is_frame_pointer dst ≡ false) × IsComputed (low_value right) (moved_value W32 y)

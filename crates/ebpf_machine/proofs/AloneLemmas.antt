@@ -1,13 +1,12 @@
 -- The run alone goes on as the run does, and stays once it has ended.
-use Rattle.std.proofs.Common.{◌≡◌, ℕ, zero, suc, ◌+◌, ◌-◌, ◌<◌, ◌≤◌, max, Bool, true, false, List, [], ◌∷◌, length, Option, Some, None, Result, Ok, Err, refl, sym, ap, ◌∙◌, subst, arith, add-one}
-use Rattle.std.specs.Prelude.{map, slice_get}
+use Rattle.std.proofs.Common.{◌≡◌, ℕ, zero, suc, ◌+◌, ◌-◌, ◌≤◌, max, Bool, List, [], ◌∷◌, length, Option, Some, None, refl, sym, ap, ◌∙◌, arith, add-one}
 use Rattle.ebpf_insn.specs.declared.insn.Insn.{Insn}
 use Rattle.ebpf_insn.specs.Program.{insn_at, instructions}
 use Rattle.ebpf_verify.specs.Subject.{Subject}
 use Rattle.ebpf_machine.specs.declared.value.Value.{Value}
 use Rattle.ebpf_machine.specs.Values.{Frame}
 use Rattle.ebpf_machine.specs.Effect.{Effect, Goes, Ends, Traps, effect, effect_at}
-use Rattle.ebpf_machine.specs.World.{World, Running, Status, Going, Exited, Trapped, Owner, Name, Absent, executed, run_after, done_by, holds_of, first_run}
+use Rattle.ebpf_machine.specs.World.{Running, Status, Going, Exited, Name, executed, run_after, first_run}
 use Rattle.ebpf_machine.specs.Alone.{Alone, alone_first, alone_next, alone_after, outcome_of, outcome_alone, Outcome}
 use Rattle.ebpf_machine.specs.RunView.{RunState, frame_with, frame_seen, status_of, IsSeenAs, IsAloneAs, first_state_of}
 use Rattle.ebpf_machine.proofs.Projection.{effect-seen, effect_seen}
@@ -25,8 +24,8 @@ goes_next a run e only unowned going does = record {
   peak = rw (only, going, unowned) (no_more a.peak);
 }
   where
-  no_more : (n : ℕ) → max n 0 ≡ n
-  no_more n = omega arith
+    no_more : (n : ℕ) → max n 0 ≡ n
+    no_more n = omega arith
 
 -- a run that ended stays
 pub ended_next : (a : Alone) (run : Running) (n : ℕ) → a.world.runs ≡ run ∷ [] → run.status ≡ Exited n → alone_next a ≡ a
@@ -121,7 +120,8 @@ outcome_is r n h ended few =
     ∙ outcome_with (alone_after r.executed r.subject r.context r.answers) h.run h.only
     ∙ parts h.run.status (Exited n) h.run.frame.output r.output h.run.executed r.executed _ r.peak status (ap (λ (f : Frame ℕ). f.output) h.same.frame) h.same.executed h.peak
   where
-  outcome_with : (a : Alone) (run : Running) → a.world.runs ≡ run ∷ [] → outcome_of a ≡ record { status = run.status; output = run.frame.output; executed = run.executed; peak = a.peak }
-  outcome_with a run only = rw only refl
-  parts : (s t : Status) (o u : List ℕ) (e f p q : ℕ) → s ≡ t → o ≡ u → e ≡ f → p ≡ q → outcome s o e p ≡ outcome t u f q
-  parts s t o u e f p q a b c d = rw (a, b, c, d) refl
+    outcome_with : (a : Alone) (run : Running) → a.world.runs ≡ run ∷ [] → outcome_of a ≡ record { status = run.status; output = run.frame.output; executed = run.executed; peak = a.peak }
+    outcome_with a run only = rw only refl
+
+    parts : (s t : Status) (o u : List ℕ) (e f p q : ℕ) → s ≡ t → o ≡ u → e ≡ f → p ≡ q → outcome s o e p ≡ outcome t u f q
+    parts s t o u e f p q a b c d = rw (a, b, c, d) refl

@@ -1,5 +1,5 @@
 -- What a lower slot sends comes to a slot.
-use Rattle.std.proofs.Common.{◌≡◌, ℕ, zero, suc, ◌+◌, ◌<◌, ◌≤◌, Bool, true, false, cond, eqb, List, length, Option, Some, None, refl, sym, ap, ◌∙◌, subst, arith, rules, inl, inr, length-set}
+use Rattle.std.proofs.Common.{◌≡◌, ℕ, zero, suc, ◌<◌, Bool, true, false, cond, eqb, List, length, Option, Some, None, refl, ◌∙◌, subst, arith, inl, inr, length-set}
 use Rattle.std.proofs.lemmas.Bool.{cases_lt}
 use Rattle.std.proofs.lemmas.Bool.Decides.{nat_tests}
 use Rattle.ebpf_insn.specs.declared.insn.Insn.{Insn}
@@ -8,13 +8,12 @@ use Rattle.ebpf_insn.specs.Registers.{number_of}
 use Rattle.ebpf_insn.specs.Program.{insn_at}
 use Rattle.ebpf_flow.specs.declared.edges.Edges.{Edges}
 use Rattle.ebpf_flow.specs.Edges.{edges_at, leads_to, fall_of}
-use Rattle.ebpf_state.specs.declared.value.Abs.{Abs}
 use Rattle.ebpf_state.specs.StateView.{StateView}
 use Rattle.ebpf_state.specs.States.{first_state, register_of}
 use Rattle.ebpf_verify.specs.declared.arrival.Arrival.{Arrival}
 use Rattle.ebpf_verify.specs.declared.arrival.Arrival.TheVariants.{Never, Entered, Differ}
-use Rattle.ebpf_verify.specs.Rules.{after_fall, after_jump, result_of, operand}
-use Rattle.ebpf_verify.specs.Entry.{with_state, with_edge, with_sent, arrived, entry_of}
+use Rattle.ebpf_verify.specs.Rules.{after_fall, result_of, operand}
+use Rattle.ebpf_verify.specs.Entry.{with_edge, with_sent, arrived, entry_of}
 use Rattle.ebpf_machine.specs.declared.value.Value.{Value}
 use Rattle.ebpf_machine.specs.Concretization.{AreOf, Arrives}
 use Rattle.ebpf_machine.proofs.Joins.{IsWhole, IsWhole-with_state, Arrives-with_state_old, Arrives-with_state_new}
@@ -79,8 +78,8 @@ fall_arrives p from to i s after regs calls at entered whole makes whole_after e
     sent_arrives p to from to regs calls lt
     (rw (at, entered) (new_by_edge (after_fall i s) after (leads_to (fall_of i from) to) (arrived p from to) regs calls makes leads whole_after (IsWhole-arrived p from to) h))
   where
-  eqb_same : (n : ℕ) → eqb n n ≡ true
-  eqb_same n = grind (arith, nat_tests)
+    eqb_same : (n : ℕ) → eqb n n ≡ true
+    eqb_same n = grind (arith, nat_tests)
 
 -- the first state comes to slot 0
 pub first_arrives : (p : List (Option Insn)) (regs : List (Option (Value ℕ))) (calls : List ℕ) → AreOf first_state regs calls → Arrives (entry_of p 0) regs calls

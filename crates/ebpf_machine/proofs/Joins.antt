@@ -1,6 +1,6 @@
 -- A join speaks of what either side speaks of.
-use Rattle.std.proofs.Common.{◌≡◌, ◌≢◌, ℕ, zero, suc, ◌+◌, ◌<◌, ◌≤◌, min, max, ℤ, pos, ◌≤ℤ◌, Bool, true, false, cond, not, eqb, List, [], ◌∷◌, length, get_or, Option, Some, None, refl, sym, ap, ◌∙◌, subst, arith, rules, inl, inr, ◌⊎◌}
-use Rattle.std.specs.Prelude.{Contains, map, ◌&&◌}
+use Rattle.std.proofs.Common.{◌≡◌, ℕ, ◌≤◌, min, max, ℤ, ◌≤ℤ◌, Bool, true, false, cond, eqb, List, [], ◌∷◌, length, get_or, Option, Some, None, refl, sym, ◌∙◌, subst, arith, rules}
+use Rattle.std.specs.Prelude.{Contains, ◌&&◌}
 use Rattle.std.specs.Ordering.{int_eq}
 use Rattle.std.specs.Int.{int_min, int_max}
 use Rattle.std.proofs.lemmas.Bool.Decides.{nat_tests}
@@ -12,7 +12,7 @@ use Rattle.ebpf_state.specs.declared.held.Held.{Held}
 use Rattle.ebpf_state.specs.Abstract.{joined_value}
 use Rattle.ebpf_state.specs.Words.{joined_word}
 use Rattle.ebpf_state.specs.StateView.{StateView}
-use Rattle.ebpf_state.specs.States.{joined_list, joined_state, is_same_held, is_same_reference}
+use Rattle.ebpf_state.specs.States.{joined_list, is_same_held, is_same_reference}
 use Rattle.ebpf_state.proofs.JoinLists.{joined_list-index, joined_list-length}
 use Rattle.ebpf_verify.specs.declared.arrival.Arrival.{Arrival}
 use Rattle.ebpf_verify.specs.declared.arrival.Arrival.TheVariants.{Never, Entered, Differ}

@@ -1,32 +1,22 @@
 -- What an accepted operation computes is what its rule says.
-use Rattle.std.proofs.Common.{◌≡◌, ◌≢◌, ℕ, ◌+◌, ◌<◌, ◌≤◌, ◌^◌, ◌%◌, ℤ, pos, ◌+ℤ◌, ◌≤ℤ◌, Bool, true, false, cond, eqb, not, List, [], ◌∷◌, Option, Some, None, Result, Ok, Err, refl, sym, ap, ◌∙◌, subst, arith, rules}
-use Rattle.std.specs.Prelude.{FitsSigned, nat_abs, nat_lt, ◌||◌, ◌&&◌, is_none, unwrap_or, length}
+use Rattle.std.proofs.Common.{◌≡◌, ℕ, ◌<◌, ◌^◌, ℤ, ◌+ℤ◌, ◌≤ℤ◌, Bool, true, false, cond, eqb, not, Option, Some, None, Result, Ok, refl, sym, ap, ◌∙◌, subst, arith}
+use Rattle.std.specs.Prelude.{nat_lt, ◌||◌, unwrap_or}
 use Rattle.std.proofs.lemmas.Bool.Decides.{nat_tests}
 use Rattle.std.proofs.lemmas.Int.{ints}
-use Rattle.std.proofs.Math.Nat.{mod-lt}
-use Rattle.ebpf_insn.specs.declared.register.Reg.{Reg}
-use Rattle.ebpf_insn.specs.declared.insn.AluOp.{AluOp}
-use Rattle.ebpf_insn.specs.declared.insn.AluOp.TheVariants as op
-use Rattle.ebpf_insn.specs.declared.insn.Width.{Width}
-use Rattle.ebpf_insn.specs.declared.insn.Width.TheVariants.{W32, W64}
-use Rattle.ebpf_insn.specs.Faults.{first_of}
-use Rattle.ebpf_insn.specs.Arithmetic.{signed_of, sum_at, kept_at}
+use Rattle.ebpf_insn.specs.Arithmetic.{signed_of}
 use Rattle.ebpf_range.specs.declared.range.Range.{Range}
-use Rattle.ebpf_range.specs.Interval.{IsWithin, low, sum_range}
-use Rattle.ebpf_range.proofs.SumLemmas.{low-sound, sum_of-sound, low_sum-sound}
+use Rattle.ebpf_range.specs.Interval.{IsWithin, low}
 use Rattle.ebpf_state.specs.declared.value.Abs.{Abs}
 use Rattle.ebpf_state.specs.declared.value.Abs.TheVariants.{Unset, Num, Stk, Ctx, Ob, May}
 use Rattle.ebpf_state.specs.Abstract.{is_unset, is_pointer, is_may}
-use Rattle.ebpf_verify.specs.declared.fault.VerifyCode.{VerifyCode}
-use Rattle.ebpf_verify.specs.Pointers.{signed_ends, moved_end, with_end, with_ends, moved_by, moved}
-use Rattle.ebpf_verify.specs.Pointers as pointers
-use Rattle.ebpf_verify.specs.Rules.{blurs_stack, is_frame_pointer, copy_refusal, low_refusal, sum_refusal, numbers_refusal, alu_refusal, result_of}
+use Rattle.ebpf_verify.specs.Pointers.{signed_ends, moved_end, with_end, with_ends, moved_by}
+use Rattle.ebpf_verify.specs.Rules.{blurs_stack}
 use Rattle.ebpf_machine.specs.declared.value.Value.{Value}
 use Rattle.ebpf_machine.specs.declared.value.Value.TheVariants.{Number, Stack, Context, Object}
 use Rattle.ebpf_machine.specs.Values.{Trap}
-use Rattle.ebpf_machine.specs.Effect.{moved_value, moved_pointer, sum_of, sum_value, alu_value}
+use Rattle.ebpf_machine.specs.Effect.{moved_pointer}
 use Rattle.ebpf_machine.specs.Concretization.{IsOf}
-use Rattle.ebpf_machine.specs.Executable.{FitsValue, IsFine, IsNoTrap, IsComputable}
+use Rattle.ebpf_machine.specs.Executable.{FitsValue}
 use Rattle.ebpf_machine.proofs.Pointers.{signed_between, near_end, near_fits, between_near}
 
 -- the first test of a list fails where no code is given
@@ -93,11 +83,12 @@ constant_reading b n ends one h e =
     let at : n ≡ b.lo = omega arith in
     ap signed_of at ∙ reading (nat_lt b.hi (2 ^ 63) || _) (signed_of b.lo) (signed_of b.hi) ends e
   where
-  ends_meet : (lo hi : ℕ) → not (eqb lo hi) ≡ false → lo ≡ hi
-  ends_meet lo hi t = grind (arith, nat_tests)
-  reading : (t : Bool) (lo hi : ℤ) (ends : ℤ × ℤ) → cond t (Some (lo, hi)) None ≡ Some ends → lo ≡ ends.0
-  reading true lo hi ends e = ap (λ (o : Option (ℤ × ℤ)). (unwrap_or o ends).0) e
-  reading false lo hi ends e = absurd (cc)
+    ends_meet : (lo hi : ℕ) → not (eqb lo hi) ≡ false → lo ≡ hi
+    ends_meet lo hi t = grind (arith, nat_tests)
+
+    reading : (t : Bool) (lo hi : ℤ) (ends : ℤ × ℤ) → cond t (Some (lo, hi)) None ≡ Some ends → lo ≡ ends.0
+    reading true lo hi ends e = ap (λ (o : Option (ℤ × ℤ)). (unwrap_or o ends).0) e
+    reading false lo hi ends e = absurd (cc)
 
 -- both ends moved by the ends of the number
 moved_between : (a b k low high s : ℤ) (e f : ℤ) → e ≡ a +ℤ low → f ≡ b +ℤ high → a ≤ℤ k → k ≤ℤ b → low ≤ℤ s → s ≤ℤ high → (e ≤ℤ (k +ℤ s)) × ((k +ℤ s) ≤ℤ f)

@@ -1,9 +1,9 @@
 -- Pointers moved by numbers: signed readings keep their order within one sign, and offsets near the base fit 64 bits.
-use Rattle.std.proofs.Common.{◌≡◌, ℕ, ◌+◌, ◌<◌, ◌≤◌, ◌^◌, ℤ, pos, negsuc, ◌+ℤ◌, ◌≤ℤ◌, Bool, true, false, cond, Option, Some, None, refl, sym, ap, ◌∙◌, subst, arith, rules, inl, inr, ◌⊎◌}
+use Rattle.std.proofs.Common.{◌≡◌, ℕ, ◌≤◌, ◌^◌, ℤ, pos, negsuc, ◌+ℤ◌, ◌≤ℤ◌, Bool, true, false, cond, Some, None, refl, sym, subst, arith, rules, inl, inr, ◌⊎◌}
 use Rattle.std.specs.Prelude.{FitsSigned, nat_abs, nat_lt, nat_le, ◌||◌}
 use Rattle.std.specs.Int.{w64}
 use Rattle.std.proofs.lemmas.Bool.Decides.{nat_tests}
-use Rattle.std.proofs.lemmas.Int.{ints, fits_signed_from_abs}
+use Rattle.std.proofs.lemmas.Int.{ints}
 use Rattle.ebpf_insn.specs.Arithmetic.{signed_of}
 use Rattle.ebpf_range.specs.declared.range.Range.{Range}
 use Rattle.ebpf_range.specs.Interval.{IsWithin}
@@ -47,8 +47,8 @@ near_end k by e h =
     let near : nat_abs (k +ℤ by) ≤ 2 ^ 29 = not_above (nat_abs (k +ℤ by)) g.0 in
     (sym g.1, subst (λ (z : ℤ). nat_abs z ≤ 2 ^ 29) g.1 near)
   where
-  not_above : (n : ℕ) → nat_lt (2 ^ 29) n ≡ false → n ≤ 2 ^ 29
-  not_above n t = grind (arith, nat_tests)
+    not_above : (n : ℕ) → nat_lt (2 ^ 29) n ≡ false → n ≤ 2 ^ 29
+    not_above n t = grind (arith, nat_tests)
 
 pub near_fits : (k : ℤ) → nat_abs k ≤ 2 ^ 29 → FitsSigned w64 k
 near_fits (pos n) h = search (rules, ints)

@@ -1,5 +1,5 @@
 -- An instruction does to what a run sees what it does to the run in the world.
-use Rattle.std.proofs.Common.{◌≡◌, ℕ, zero, suc, ◌+◌, Bool, true, false, cond, List, [], ◌∷◌, length, get_or, set, Option, Some, None, Result, Ok, Err, refl, sym, ap, ◌∙◌, subst, rules}
+use Rattle.std.proofs.Common.{◌≡◌, ℕ, zero, suc, ◌+◌, Bool, true, false, cond, List, [], ◌∷◌, get_or, set, Option, Some, None, Result, Ok, Err, refl, sym, ap}
 use Rattle.std.specs.Prelude.{map, nat_lt}
 use Rattle.ebpf_insn.specs.declared.register.Reg.{Reg}
 use Rattle.ebpf_insn.specs.declared.register.Reg.TheVariants.{R0}
@@ -17,9 +17,9 @@ use Rattle.ebpf_verify.specs.Rules.{is_frame_pointer}
 use Rattle.ebpf_machine.specs.declared.value.Value.{Value}
 use Rattle.ebpf_machine.specs.declared.value.Value.TheVariants.{Number, Stack, Context, Object}
 use Rattle.ebpf_machine.specs.Values.{Trap, FramePointerWritten, Leak, Frame, read, source_value}
-use Rattle.ebpf_machine.specs.Effect.{Effect, Goes, Ends, Traps, effect, moved_value, moved_pointer, sum_of, sum_value, alu_value, with_value, written, exits, result_number}
+use Rattle.ebpf_machine.specs.Effect.{Effect, Goes, Ends, Traps, effect, moved_value, sum_of, sum_value, alu_value, with_value, written, exits, result_number}
 use Rattle.ebpf_machine.specs.World.{Name}
-use Rattle.ebpf_machine.specs.RunView.{value_seen, register_seen, cell_seen, frame_seen}
+use Rattle.ebpf_machine.specs.RunView.{value_seen, register_seen, frame_seen}
 
 -- what a run sees of an effect
 abbrev pub effect_seen : Effect Name → Effect ℕ

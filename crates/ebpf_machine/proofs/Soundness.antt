@@ -1,6 +1,6 @@
 -- An instruction that is not refused does not trap, and what it sends on speaks of the run after it.
-use Rattle.std.proofs.Common.{◌≡◌, ◌≢◌, ℕ, zero, suc, ◌+◌, ◌<◌, ◌≤◌, Bool, true, false, cond, List, [], length, get_or, set, Option, Some, None, Result, Ok, Err, refl, sym, ap, ◌∙◌, subst, arith, rules, inl, inr, ◌⊎◌, length-set}
-use Rattle.std.specs.Prelude.{ℤ, FitsSigned, ◌||◌, nat_lt, is_none}
+use Rattle.std.proofs.Common.{◌≡◌, ◌≢◌, ℕ, zero, suc, ◌+◌, ◌<◌, ◌≤◌, false, List, [], length, get_or, set, Option, Some, None, Result, Ok, refl, ◌∙◌, subst, arith, rules, inl, inr, ◌⊎◌, length-set}
+use Rattle.std.specs.Prelude.{ℤ, FitsSigned, ◌||◌, nat_lt}
 use Rattle.std.specs.Int.{w32}
 use Rattle.std.proofs.lemmas.List.{get_or-set_same, get_or-set_other}
 use Rattle.std.proofs.lemmas.Bool.{cases_lt}
@@ -16,10 +16,10 @@ use Rattle.ebpf_insn.specs.declared.insn.AluOp.TheVariants as op
 use Rattle.ebpf_insn.specs.declared.insn.Width.{Width}
 use Rattle.ebpf_insn.specs.declared.insn.Width.TheVariants.{W32, W64}
 use Rattle.ebpf_insn.specs.Registers.{number_of}
-use Rattle.ebpf_insn.specs.Program.{insn_at, slots_in}
+use Rattle.ebpf_insn.specs.Program.{insn_at}
 use Rattle.ebpf_insn.specs.Encoding.{IsDefined, IsSource}
 use Rattle.ebpf_insn.specs.Arithmetic.{immediate}
-use Rattle.ebpf_range.specs.Interval.{IsWithin, constant}
+use Rattle.ebpf_range.specs.Interval.{constant}
 use Rattle.ebpf_state.specs.declared.value.Abs.{Abs}
 use Rattle.ebpf_state.specs.declared.value.Abs.TheVariants.{Unset, Num}
 use Rattle.ebpf_state.specs.Abstract.{is_unset, is_pointer, is_may}
@@ -27,20 +27,20 @@ use Rattle.ebpf_state.specs.StateView.{StateView}
 use Rattle.ebpf_state.specs.States.{register_of, with_register, first_state}
 use Rattle.ebpf_verify.specs.declared.arrival.Arrival.{Arrival}
 use Rattle.ebpf_verify.specs.declared.arrival.Arrival.TheVariants.{Never, Entered, Differ}
-use Rattle.ebpf_verify.specs.Rules.{refusal, operand, result_of, is_frame_pointer, exit_refusal, after_fall}
+use Rattle.ebpf_verify.specs.Rules.{refusal, operand, result_of, is_frame_pointer, exit_refusal}
 use Rattle.ebpf_verify.specs.Entry.{entry_of}
 use Rattle.ebpf_verify.specs.Verdict.{refusal_in}
 use Rattle.ebpf_machine.specs.declared.value.Value.{Value}
 use Rattle.ebpf_machine.specs.declared.value.Value.TheVariants.{Number, Stack, Context, Object}
 use Rattle.ebpf_machine.specs.Values.{Trap, Frame, read, source_value}
-use Rattle.ebpf_machine.specs.Effect.{Effect, Goes, Ends, Traps, effect, written, with_value, exits, alu_value}
+use Rattle.ebpf_machine.specs.Effect.{Goes, effect, written, with_value, exits, alu_value}
 use Rattle.ebpf_machine.specs.World.{first_registers}
 use Rattle.ebpf_machine.specs.Concretization.{IsOf, AreOf, Arrives}
 use Rattle.ebpf_machine.specs.Executable.{IsExecutable, IsNumber}
 use Rattle.ebpf_machine.proofs.Joins.{IsWhole}
-use Rattle.ebpf_machine.proofs.Entries.{fall_arrives, IsWhole-arrived}
-use Rattle.ebpf_machine.proofs.Operations.{none_first, neither, number_value, IsComputed}
-use Rattle.ebpf_machine.proofs.Additions.{alu_sound, IsSound}
+use Rattle.ebpf_machine.proofs.Entries.{fall_arrives}
+use Rattle.ebpf_machine.proofs.Operations.{none_first, neither, number_value}
+use Rattle.ebpf_machine.proofs.Additions.{alu_sound}
 
 number_of-lt : (r : Reg) → number_of r < 11
 number_of-lt r = search rules
@@ -102,8 +102,8 @@ alu_stepped p calls k width o dst src s frame at defined entered ls lr h fine =
       goes_on = λ to after e. moved to after (written_goes (k + 1) frame dst (alu_value width o (read frame dst) (source_value frame width src)) sound.computed.v to after sound.computed.is sound.low e) next;
     }
   where
-  moved : (to : ℕ) (after : Frame ℕ) {from : ℕ} {before : Frame ℕ} → (from ≡ to) × (before ≡ after) → GoesOn p calls k from before → GoesOn p calls k to after
-  moved to after {from} {before} e g = subst (λ (n : ℕ). GoesOn p calls k n after) e.0 (subst (λ (f : Frame ℕ). GoesOn p calls k from f) e.1 g)
+    moved : (to : ℕ) (after : Frame ℕ) {from : ℕ} {before : Frame ℕ} → (from ≡ to) × (before ≡ after) → GoesOn p calls k from before → GoesOn p calls k to after
+    moved to after {from} {before} e g = subst (λ (n : ℕ). GoesOn p calls k n after) e.0 (subst (λ (f : Frame ℕ). GoesOn p calls k from f) e.1 g)
 
 -- an exit
 ends_number : (x : Option (Value ℕ)) (to : ℕ) (after : Frame ℕ) → IsNumber x → exits 0 x ≡ Goes to after → ⊥

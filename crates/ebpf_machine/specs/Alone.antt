@@ -1,8 +1,8 @@
 -- The run alone: one run in a world of its own, fed with answers until it ends.
-use Rattle.std.specs.Prelude.{ℕ, zero, suc, max, List, [], ◌∷◌, Bool, length, map, Option, Some, None, Result, Ok, Err, slice_index_or, slice_get}
+use Rattle.std.specs.Prelude.{ℕ, zero, suc, max, List, [], ◌∷◌, Bool, length, map, Option, Some, None, Result, Ok, Err, slice_get}
 use Rattle.ebpf_insn.specs.Program.{instructions}
 use Rattle.ebpf_verify.specs.Subject.{Subject}
-use Rattle.ebpf_machine.specs.World.{World, Running, Status, Going, Exited, Trapped, Illegal, Absent, first_run, holds_of, executed}
+use Rattle.ebpf_machine.specs.World.{World, Running, Status, Going, Illegal, Absent, first_run, holds_of, executed}
 
 -- the world of one run; the answers to its calls of new that are left; how many were asked for; the most objects that it
 -- held at one time

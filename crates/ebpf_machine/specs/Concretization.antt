@@ -1,5 +1,5 @@
 -- Which runs an abstract state speaks of.
-use Rattle.std.specs.Prelude.{◌≡◌, ◌<◌, ◌^◌, ℕ, ℤ, pos, ◌≤ℤ◌, List, map, Contains, Option, Some, None, slice_index_or}
+use Rattle.std.specs.Prelude.{◌≡◌, ◌<◌, ◌^◌, ℕ, pos, ◌≤ℤ◌, List, map, Contains, Option, Some, None, slice_index_or}
 use Rattle.ebpf_range.specs.Interval.{IsWithin}
 use Rattle.ebpf_state.specs.declared.value.Abs.{Abs}
 use Rattle.ebpf_state.specs.declared.value.Abs.TheVariants.{Unset, Num, Stk, Ctx, Ob, May}

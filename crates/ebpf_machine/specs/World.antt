@@ -1,5 +1,5 @@
 -- The world: ledgers, owners, object bytes and runs. Each access is tested against the owners.
-use Rattle.std.specs.Prelude.{◌≡◌, ℕ, ◌+◌, ◌++◌, ◌==◌, nat_lt, nat_le, Bool, true, false, not, ◌&&◌, ◌||◌, if◌then◌else◌, List, [], ◌∷◌, length, filter, replicate, pos, Option, Some, None, is_none, Result, Ok, Err, slice_get, slice_set, slice_index_or}
+use Rattle.std.specs.Prelude.{ℕ, ◌+◌, ◌++◌, ◌==◌, Bool, not, ◌&&◌, ◌||◌, if◌then◌else◌, List, [], ◌∷◌, length, filter, replicate, pos, Option, Some, None, Result, Ok, Err, slice_get, slice_set, slice_index_or}
 use Rattle.std.specs.List.{list_any}
 use Rattle.ebpf_insn.specs.Program.{insn_at}
 use Rattle.ebpf_state.specs.declared.kinds.KindRow.{KindRow}
@@ -137,9 +137,9 @@ image_of row = replicate row.size row.fill
 abbrev pub grown_by : Option KindRow → ℕ → ℕ → World → Result World Illegal
 grown_by None kind slot w = Err NoSuchProgramOrKind
 grown_by (Some row) kind slot w = if is_in_ledger w slot then Err SlotInLedger else Ok (record w {
-    ledgers = with_slot w.ledgers kind slot;
-    bytes = w.bytes ++ (slot, image_of row) ∷ [];
-  })
+  ledgers = with_slot w.ledgers kind slot;
+  bytes = w.bytes ++ (slot, image_of row) ∷ [];
+})
 
 -- Grow: a slot that is in no ledger joins that of a kind, with its image
 abbrev pub grown : ℕ → ℕ → World → Result World Illegal
@@ -148,9 +148,9 @@ grown kind slot w = grown_by (slice_get w.rows kind) kind slot w
 abbrev pub reaped_by : Option KindRow → ℕ → ℕ → World → Result World Illegal
 reaped_by None kind slot w = Err NoSuchProgramOrKind
 reaped_by (Some row) kind slot w = if is_owned w slot || not (is_in slot (slice_index_or w.ledgers kind [])) then Err SlotNotReapable else Ok (record w {
-    ledgers = without_slot w.ledgers kind slot;
-    bytes = filter (λ b. not (b.0 == slot)) w.bytes;
-  })
+  ledgers = without_slot w.ledgers kind slot;
+  bytes = filter (λ b. not (b.0 == slot)) w.bytes;
+})
 
 -- Reap: a home slot leaves the ledger of its kind
 abbrev pub reaped : ℕ → ℕ → World → Result World Illegal

@@ -1,5 +1,5 @@
 -- What is known of one value.
-use Rattle.std.specs.Prelude.{◌≡◌, ◌≤◌, Bool, true, false, if◌then◌else◌, ◌==◌}
+use Rattle.std.specs.Prelude.{◌≤◌, Bool, true, false, if◌then◌else◌, ◌==◌}
 use Rattle.std.specs.Int.{int_min, int_max}
 use Rattle.std.specs.Ordering.{int_eq}
 use Rattle.ebpf_range.specs.Interval.{hull}

@@ -1,5 +1,5 @@
 -- The first state, reads and writes of registers, and the join of two states.
-use Rattle.std.specs.Prelude.{◌≡◌, ℕ, pos, List, [], ◌∷◌, Bool, true, false, ◌&&◌, ◌==◌, if◌then◌else◌, slice_index_or, slice_set, replicate, Option, Some, None, Result, Ok, Err}
+use Rattle.std.specs.Prelude.{◌≡◌, pos, List, [], ◌∷◌, Bool, true, false, ◌&&◌, ◌==◌, if◌then◌else◌, slice_index_or, slice_set, replicate, Option, Some, None, Result, Ok, Err}
 use Rattle.std.proofs.Math.Bool.{beq}
 use Rattle.ebpf_insn.specs.declared.register.Reg.{Reg}
 use Rattle.ebpf_insn.specs.Registers.{number_of}
@@ -46,10 +46,10 @@ is_same_held _ _ = false
 -- the join of two states, where they hold the same references
 abbrev pub joined_state : StateView → StateView → Option StateView
 joined_state a b = if is_same_held a.held b.held then Some (record {
-    registers = joined_list joined_value a.registers b.registers;
-    words = joined_list joined_word a.words b.words;
-    held = a.held;
-  }) else None
+  registers = joined_list joined_value a.registers b.registers;
+  words = joined_list joined_word a.words b.words;
+  held = a.held;
+}) else None
 
 -- what a join answers
 abbrev pub Joins : Option StateView → Result StateView JoinFault → Type 0

@@ -1,5 +1,5 @@
 -- What is known of a word of the stack.
-use Rattle.std.specs.Prelude.{ℕ, bit_and}
+use Rattle.std.specs.Prelude.{bit_and}
 use Rattle.ebpf_state.specs.declared.value.Abs.{Abs}
 use Rattle.ebpf_state.specs.declared.value.Abs.TheVariants.{Unset, Num}
 use Rattle.ebpf_state.specs.declared.word.Word.{Word}

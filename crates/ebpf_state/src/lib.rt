@@ -4,10 +4,10 @@
 //! a program with them; this one says what they are and how two of them are joined where paths meet.
 #![tactic(auto)]
 
-pub mod kinds;
-pub mod value;
-pub mod word;
 pub mod held;
+pub mod kinds;
 pub mod state;
 #[cfg(test)]
 mod tests;
+pub mod value;
+pub mod word;

@@ -14,7 +14,11 @@ use std::test::*;
 
 #[test]
 fn kinds_are_cell_record_and_block(rt: HostRuntime) {
-    let expected = [("cell", 16, 0x00), ("record", 64, 0xff), ("block", 512, 0x5a)];
+    let expected = [
+        ("cell", 16, 0x00),
+        ("record", 64, 0xff),
+        ("block", 512, 0x5a),
+    ];
     for (row, (name, size, fill)) in kinds().iter().zip(expected) {
         assert_eq!(rt; row.name, name);
         assert_eq!(rt; row.size, size);

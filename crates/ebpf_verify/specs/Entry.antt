@@ -1,5 +1,5 @@
 -- What comes to each slot: the join of what the lower slots send to it.
-use Rattle.std.specs.Prelude.{ℕ, zero, suc, List, Bool, true, false, if◌then◌else◌, ◌==◌, Option, Some, None}
+use Rattle.std.specs.Prelude.{ℕ, zero, suc, List, Bool, if◌then◌else◌, ◌==◌, Option, Some, None}
 use Rattle.ebpf_insn.specs.declared.insn.Insn.{Insn}
 use Rattle.ebpf_insn.specs.Program.{insn_at}
 use Rattle.ebpf_flow.specs.declared.edges.Edges.{Edges}
@@ -8,7 +8,6 @@ use Rattle.ebpf_state.specs.StateView.{StateView}
 use Rattle.ebpf_state.specs.States.{first_state, joined_state}
 use Rattle.ebpf_verify.specs.declared.arrival.Arrival.{Arrival}
 use Rattle.ebpf_verify.specs.declared.arrival.Arrival.TheVariants.{Never, Entered, Differ}
-use Rattle.ebpf_verify.specs.Subject.{Subject}
 use Rattle.ebpf_verify.specs.Rules.{after_fall, after_jump}
 
 abbrev pub entered_or_differ : Option StateView → Arrival

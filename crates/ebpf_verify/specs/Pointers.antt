@@ -1,5 +1,5 @@
 -- Pointers that are moved by numbers.
-use Rattle.std.specs.Prelude.{ℕ, ◌<◌, ◌^◌, ℤ, ◌+ℤ◌, nat_lt, nat_le, nat_abs, ◌||◌, if◌then◌else◌, Option, Some, None}
+use Rattle.std.specs.Prelude.{◌^◌, ℤ, ◌+ℤ◌, nat_lt, nat_le, nat_abs, ◌||◌, if◌then◌else◌, Option, Some, None}
 use Rattle.ebpf_insn.specs.declared.insn.Width.TheVariants.{W64}
 use Rattle.ebpf_insn.specs.Arithmetic.{signed_of}
 use Rattle.ebpf_range.specs.declared.range.Range.{Range}

@@ -1,5 +1,5 @@
 -- The rule of each instruction: the codes that refuse it, in order, and the states that it sends on.
-use Rattle.std.specs.Prelude.{ℕ, ℤ, List, [], ◌∷◌, Bool, true, false, ◌&&◌, ◌||◌, ◌==◌, nat_lt, not, is_none, Option, Some, None, length, unwrap_or}
+use Rattle.std.specs.Prelude.{ℕ, [], ◌∷◌, Bool, true, false, ◌&&◌, ◌||◌, ◌==◌, nat_lt, not, is_none, Option, Some, None, length, unwrap_or}
 use Rattle.ebpf_insn.specs.declared.register.Reg.{Reg}
 use Rattle.ebpf_insn.specs.declared.register.Reg.TheVariants.{R0, R10}
 use Rattle.ebpf_insn.specs.declared.insn.Insn.{Insn}
@@ -12,7 +12,6 @@ use Rattle.ebpf_insn.specs.declared.insn.Width.{Width}
 use Rattle.ebpf_insn.specs.declared.insn.Width.TheVariants.{W32, W64}
 use Rattle.ebpf_insn.specs.Arithmetic.{immediate}
 use Rattle.ebpf_insn.specs.Faults.{first_of}
-use Rattle.ebpf_range.specs.declared.range.Range.{Range}
 use Rattle.ebpf_range.specs.Interval.{constant, low, sum_range}
 use Rattle.ebpf_state.specs.declared.value.Abs.{Abs}
 use Rattle.ebpf_state.specs.declared.value.Abs.TheVariants.{Unset, Num, Stk}

@@ -7,7 +7,7 @@ use Rattle.ebpf_flow.specs.Flow.{AreForward}
 use Rattle.ebpf_insn.specs.Faults.{lowest}
 use Rattle.ebpf_state.specs.declared.kinds.KindRow.{KindRow}
 use Rattle.ebpf_verify.specs.declared.arrival.Arrival.{Arrival}
-use Rattle.ebpf_verify.specs.declared.arrival.Arrival.TheVariants.{Never, Entered, Differ}
+use Rattle.ebpf_verify.specs.declared.arrival.Arrival.TheVariants.{Entered, Differ}
 use Rattle.ebpf_verify.specs.declared.fault.VerifyCode.{VerifyCode}
 use Rattle.ebpf_verify.specs.declared.fault.VerifyCode.TheVariants.{V19}
 use Rattle.ebpf_verify.specs.declared.fault.VerifyFault.{VerifyFault}

@@ -5,10 +5,10 @@
 //! makes a [`verified::Verified`], and no run of that program traps.
 #![tactic(auto)]
 
+pub mod arrival;
 pub mod decl;
 pub mod fault;
 pub mod pointer;
 pub mod rules;
-pub mod arrival;
 pub mod verified;
 pub mod verify;

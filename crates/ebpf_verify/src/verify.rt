@@ -68,11 +68,7 @@ fn first_arrivals(alloc: Global, slots: usize) -> Result<Vec<Arrival>, AllocFail
 }
 
 // Takes what came to a slot, and sends it on, or says why it is refused.
-fn visit(
-    flowed: &Flowed,
-    slot: usize,
-    pending: &mut Vec<Arrival>,
-) -> Result<(), VerifyFault>
+fn visit(flowed: &Flowed, slot: usize, pending: &mut Vec<Arrival>) -> Result<(), VerifyFault>
     requires inside { slot < length flowed.now }
     requires len { length pending.old.items ≡ length flowed.now }
     ensures len { length pending.new.items ≡ length pending.old.items }

@@ -1,4 +1,4 @@
-use Rattle.std.proofs.Common.{sym, ◌∙◌}
+use Rattle.std.proofs.Common.{◌∙◌}
 use Rattle.ebpf_state.proofs.SameHeld.{pointwise-same_held}
 use Rattle.ebpf_state.proofs.state.is_same_held.Goals as goal
 

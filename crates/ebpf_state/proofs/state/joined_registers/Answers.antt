@@ -1,4 +1,4 @@
-use Rattle.std.proofs.Common.{◌≡◌, length, arith, sym, ◌∙◌, ap}
+use Rattle.std.proofs.Common.{arith, sym, ◌∙◌}
 use Rattle.ebpf_state.specs.Abstract.{joined_value, IsProper}
 use Rattle.ebpf_state.specs.declared.value.Abs.TheVariants.{Unset}
 use Rattle.ebpf_state.proofs.JoinLists.{joining_none, joining_more, joining_all}

@@ -1,4 +1,4 @@
-use Rattle.std.proofs.Common.{◌≡◌, length, arith, sym, ◌∙◌, ap}
+use Rattle.std.proofs.Common.{arith, sym, ◌∙◌}
 use Rattle.ebpf_state.specs.Words.{joined_word, IsProperWord}
 use Rattle.ebpf_state.specs.declared.word.Word.TheVariants.{Spill}
 use Rattle.ebpf_state.specs.declared.value.Abs.TheVariants.{Unset}

@@ -1,4 +1,4 @@
-use Rattle.std.proofs.Common.{◌≡◌, ◌∙◌, ap, refl, set, get_or}
+use Rattle.std.proofs.Common.{◌≡◌, ◌∙◌, ap, set, get_or}
 use Rattle.std.proofs.lemmas.List.{set-set, get_or_read}
 use Rattle.ebpf_verify.specs.declared.arrival.Arrival.{Arrival}
 use Rattle.ebpf_verify.specs.declared.arrival.Arrival.TheVariants.{Never}

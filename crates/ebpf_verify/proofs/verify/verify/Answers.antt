@@ -1,10 +1,8 @@
-use Rattle.std.proofs.Common.{◌≡◌, ◌<◌, ◌≤◌, ◌+◌, ℕ, length, List, slice_index_or, None, Some, arith, refl, sym, ap, ◌∙◌, subst}
+use Rattle.std.proofs.Common.{◌<◌, length, List, slice_index_or, None, arith, sym, ap, ◌∙◌, subst}
 use Rattle.std.proofs.lemmas.Result.{err_from_is_err_and}
 use Rattle.ebpf_insn.proofs.FaultLemmas.{lowest-zero, lowest-more_none}
 use Rattle.ebpf_state.specs.declared.kinds.KindRow.{KindRow}
 use Rattle.ebpf_verify.specs.declared.arrival.Arrival.TheVariants.{Never}
-use Rattle.ebpf_verify.specs.Subject.{Subject}
-use Rattle.ebpf_verify.specs.Entry.{arrived}
 use Rattle.ebpf_verify.specs.Verdict.{refusal_at, IsVerifyFault}
 use Rattle.ebpf_verify.proofs.Arrivals.{arrived-zero, arrived-more, refusal_here, refused_here}
 use Rattle.ebpf_verify.proofs.verify.verify.Goals as goal
@@ -23,7 +21,7 @@ returns-in_err-visit-clause-refused c =
     let here = c.loop-slot.invariant.came c.loop-slot.slot (omega arith) (omega arith) in
     let p = err_from_is_err_and c.from_residual-in_err-visit.result c.from_residual-in_err-visit.ensures.1 in
     rw (p.1, p.2) (subst (λ (rows : List KindRow). IsVerifyFault (record { program = c.args.flowed; decl = c.args.decl; rows = rows }) c.in_err-visit.field-0.0) c.in_ok-rows.ensures.items
-        (refused_here (record { program = c.args.flowed; decl = c.args.decl; rows = c.in_ok-rows.rows.items }) c.loop-slot.slot (slice_index_or c.loop-slot.pending.items c.loop-slot.slot Never) c.in_err-visit.field-0.0 inside c.loop-slot.invariant.fine here c.in_err-visit.ensures.refused))
+    (refused_here (record { program = c.args.flowed; decl = c.args.decl; rows = c.in_ok-rows.rows.items }) c.loop-slot.slot (slice_index_or c.loop-slot.pending.items c.loop-slot.slot Never) c.in_err-visit.field-0.0 inside c.loop-slot.invariant.fine here c.in_err-visit.ensures.refused))
 
 pub loop-slot-preserved : goal.loop-slot-preserved
 loop-slot-preserved c =

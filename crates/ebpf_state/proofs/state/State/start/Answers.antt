@@ -1,4 +1,4 @@
-use Rattle.std.proofs.Common.{refl, rules}
+use Rattle.std.proofs.Common.{refl}
 use Rattle.std.proofs.lemmas.List.Elements.{All-from_recursion, All-replicate}
 use Rattle.ebpf_state.specs.declared.word.Word.TheVariants.{Bytes}
 use Rattle.ebpf_state.specs.Abstract.{IsProper}

@@ -1,0 +1,4 @@
+pub mod Known
+pub mod Slots
+pub mod Outcomes
+pub mod Tells

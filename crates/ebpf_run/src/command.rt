@@ -1,0 +1,64 @@
+//! The command line.
+
+use clap::{Arg, ArgAction, ArgMatches, Command, value_parser};
+use std::alloc::{AllocError, Global};
+
+/// What the command line asks for.
+#[derive(Clone, Copy)]
+pub enum Task<'a> {
+    One(OneOptions<'a>),
+}
+
+/// The options of `one`.
+#[derive(Clone, Copy)]
+pub struct OneOptions<'a> {
+    /// The context as hex, or `-` for the empty one.
+    pub context: &'a str,
+    /// The most objects that the program may hold at one time, 0 to 64.
+    pub held: u8,
+    /// Whether each call of `new` is answered null.
+    pub nulls: bool,
+}
+
+/// The commands with their options.
+pub fn command<'a>(alloc: Global) -> Result<Command<'a>, AllocError> {
+    Command::new(alloc, "ebpf_run")
+        .about("Runs small eBPF programs")
+        .subcommand_required(true)
+        .subcommand(one_command(alloc)?)
+}
+
+fn one_command<'a>(alloc: Global) -> Result<Command<'a>, AllocError> {
+    let context = Arg::new(alloc, "context")
+        .long("context")
+        .value_name("HEX")
+        .default_value("-")
+        .help("The context as hex digits, or - for none");
+    let held = Arg::new(alloc, "held")
+        .long("held")
+        .value_name("N")
+        .value_parser(value_parser!(u8).range(0..=64))
+        .default_value("0")
+        .help("How many objects the program may hold at one time, 0 to 64");
+    let nulls = Arg::new(alloc, "nulls")
+        .long("nulls")
+        .action(ArgAction::SetTrue)
+        .help("Answers each call of new with null");
+    Command::new(alloc, "one")
+        .about("Runs the program whose hex is on standard input")
+        .arg(context)?
+        .arg(held)?
+        .arg(nulls)
+}
+
+/// The task that the words of the command line ask for, where they are a command.
+pub fn task_of<'a>(matches: &ArgMatches<'a>) -> Option<Task<'a>> {
+    match matches.subcommand() {
+        Some(("one", given)) => Some(Task::One(OneOptions {
+            context: given.get_str("context").unwrap_or("-"),
+            held: given.get_one::<u8>("held").unwrap_or(0),
+            nulls: given.get_flag("nulls"),
+        })),
+        _ => None,
+    }
+}

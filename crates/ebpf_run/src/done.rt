@@ -1,0 +1,74 @@
+//! How a command ends.
+
+ghost use Rattle.std.specs.Prelude.{◌≡◌};
+ghost use Rattle.ebpf_run.specs.Lines.{fault_name};
+
+use std::alloc::{AllocError, AllocFailed};
+use thiserror::Error;
+
+/// How a command ended that wrote its whole text.
+#[derive(Clone, Copy, Debug, PartialEq, Eq)]
+pub enum Done {
+    /// Everything was accepted and done.
+    Clean,
+    /// The text holds a refusal or a fault.
+    Refused,
+}
+
+/// Why a command didn't write its whole text.
+#[derive(Clone, Copy, Debug, PartialEq, Eq, Error)]
+pub enum EngineFault {
+    /// A read failed. Nothing was written.
+    #[error("input")]
+    Input,
+    /// A write failed, or took nothing. What was written is a beginning of the text.
+    #[error("output")]
+    Output,
+    /// A growth was refused. Nothing was written.
+    #[error("no memory")]
+    NoMemory,
+}
+
+/// Why an input or an option can't be used.
+#[derive(Clone, Copy, Debug, PartialEq, Eq)]
+pub enum FaultCode {
+    /// The input has more than 1,048,576 bytes.
+    S1,
+    /// A number is out of its range.
+    S4,
+    /// What should be hex isn't readable.
+    S5,
+}
+
+impl FaultCode {
+    /// The code as it is written.
+    pub fn name(self) -> &'static str
+        ensures { result.now ≡ fault_name self }
+    {
+        match self {
+            FaultCode::S1 => "S1",
+            FaultCode::S4 => "S4",
+            FaultCode::S5 => "S5",
+        }
+    }
+}
+
+impl<T: Drop> From<AllocFailed<T>> for EngineFault {
+    ghost use Rattle.ebpf_run.specs.declared.done.EngineFault.TheVariants.{NoMemory};
+
+    ghost from_gives = { λ _ e. e ≡ NoMemory };
+
+    fn from(_e: AllocFailed<T>) -> EngineFault {
+        EngineFault::NoMemory
+    }
+}
+
+impl From<AllocError> for EngineFault {
+    ghost use Rattle.ebpf_run.specs.declared.done.EngineFault.TheVariants.{NoMemory};
+
+    ghost from_gives = { λ _ e. e ≡ NoMemory };
+
+    fn from(_e: AllocError) -> EngineFault {
+        EngineFault::NoMemory
+    }
+}

@@ -1,0 +1,88 @@
+//! Runs small eBPF programs from the command line.
+//!
+//! What a command writes is a function of what it reads and of its options, errors included, and it writes nothing else:
+//! that is the contract of [`one::one`], which stands on the contracts of the crates below. This crate adds the hex, the
+//! lines of the text, the store of objects of a single run, and the command line.
+//!
+//! To be read in this order: `done`, `input`, `program_text`, `request`, `store`, `alone`, `text`, `answer`, `output`,
+//! `one`, `command`.
+#![tactic(auto)]
+
+mod alone;
+mod answer;
+mod codes;
+mod command;
+mod done;
+mod input;
+mod one;
+mod output;
+mod program_text;
+mod request;
+mod store;
+mod text;
+
+use crate::command::{Task, command, task_of};
+use crate::done::{Done, EngineFault};
+use crate::one::one;
+use clap::Error;
+use clap::error::ErrorKind;
+use std::process::ExitCode;
+use std::rt::Env;
+use std::{env, io};
+
+// The command line can't be read, or asks for nothing that there is.
+const MISTAKEN: u8 = 2;
+
+fn main(rt: HostRuntime) -> ExitCode {
+    match run(&rt) {
+        Ok(status) => ExitCode::from(status),
+        Err(fault) => {
+            // Nobody is left to tell where standard error is closed too.
+            let _ = eprintln!(rt; "ebpf_run: {fault}");
+            ExitCode::from(1)
+        }
+    }
+}
+
+// Does what the command line asks for, and gives the exit status.
+fn run<R: AllocGlobal + Env + Eprint + Input + Print>(rt: &R) -> Result<u8, EngineFault> {
+    let alloc = rt.alloc();
+    let Ok(words) = env::args(rt) else {
+        return Err(EngineFault::NoMemory);
+    };
+    let Ok(words): Result<Vec<String>, _> = words.collect(alloc) else {
+        return Err(EngineFault::NoMemory);
+    };
+    let matches = match command(alloc)?.try_get_matches_from(words.as_slice()) {
+        Ok(matches) => matches,
+        Err(error) => return tell(rt, &error),
+    };
+    let Some(Task::One(options)) = task_of(&matches) else {
+        return Ok(MISTAKEN);
+    };
+    let mut reader = rt.reader();
+    let mut writer = io::writer(rt);
+    let done = one(
+        alloc,
+        &mut reader,
+        &mut writer,
+        options.context,
+        options.held,
+        options.nulls,
+    )?;
+    Ok(match done {
+        Done::Clean => 0,
+        Done::Refused => 2,
+    })
+}
+
+// Prints why the command line is refused, or the help that it asks for, and gives the exit status.
+fn tell<R: Eprint + Print>(rt: &R, error: &Error) -> Result<u8, EngineFault> {
+    if error.kind() == ErrorKind::OutOfMemory {
+        return Err(EngineFault::NoMemory);
+    }
+    if error.print(rt).is_err() {
+        return Err(EngineFault::Output);
+    }
+    Ok(if error.exit_code() == 0 { 0 } else { MISTAKEN })
+}
