@@ -26,6 +26,7 @@ pub enum FlowFault {
     /// The lowest slot at fault, and the first code that applies there.
     #[error("slot {slot} is refused with {code:?}")]
     Bad { slot: u16, code: FlowCode },
+    /// A growth was refused.
     #[error("out of memory")]
     NoMemory,
 }

@@ -26,6 +26,7 @@ impl Output {
         Output { numbers }
     }
 
+    /// The numbers as a slice.
     pub fn as_slice(&self) -> &[u64]
         ensures { result.now ≡ self.now }
     {
@@ -55,6 +56,7 @@ impl Answers {
         Answers { granted }
     }
 
+    /// The answers as a slice: true where the call was granted.
     pub fn as_slice(&self) -> &[bool]
         ensures { result.now ≡ self.now }
     {
@@ -67,9 +69,11 @@ impl Answers {
 pub struct Report {
     /// The number that it returned, or `None` where it was given up before its exit.
     pub exit: Option<u64>,
+    /// What it added to its output.
     pub output: Output,
     /// How many instructions it did.
     pub executed: u64,
+    /// What its calls of `new` were answered.
     pub answers: Answers,
     /// The most objects that it held at one time.
     pub peak: u64,

@@ -1,14 +1,13 @@
 -- The run alone, and its answers: no instruction asks for an object yet, so none of them is used.
 use Rattle.std.proofs.Common.{◌≡◌, ℕ, zero, suc, List, Bool, Option, Some, None, Result, Ok, Err, refl, sym, ◌∙◌, ap, subst}
 use Rattle.std.specs.Prelude.{IfSome}
-use Rattle.ebpf_insn.specs.Program.{instructions}
 use Rattle.ebpf_verify.specs.Subject.{Subject}
 use Rattle.ebpf_machine.specs.World.{World, Illegal, Absent, Exited, executed}
 use Rattle.ebpf_machine.specs.declared.report.Report.{Report}
-use Rattle.ebpf_machine.specs.declared.run.Turn.TheVariants.{Went, Exited as Exits}
+use Rattle.ebpf_machine.specs.declared.run.Turn.TheVariants.{Exited as Exits}
 use Rattle.ebpf_machine.specs.Turns.{turn_of}
 use Rattle.ebpf_run.specs.Reports.{IsReportOf}
-use Rattle.ebpf_machine.specs.Alone.{Alone, Outcome, advanced, alone_next, alone_after, alone_first, outcome_of, outcome_alone}
+use Rattle.ebpf_machine.specs.Alone.{Alone, advanced, alone_next, alone_after, outcome_of, outcome_alone}
 
 advanced_answers : (r : Result World Illegal) (x : Alone) (b : List Bool) → advanced r (record x { answers = b }) ≡ record (advanced r x) { answers = b }
 advanced_answers (Ok w) x b = refl

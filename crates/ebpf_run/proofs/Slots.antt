@@ -1,9 +1,8 @@
 -- The table of slots, when one is granted or given back.
-use Rattle.std.proofs.Common.{◌≡◌, ◌≢◌, ℕ, ◌+◌, ◌<◌, ◌==◌, Bool, true, false, ◌&&◌, cond, suc, zero, List, [], ◌∷◌, ◌++◌, length, get_or, set, Option, Some, refl, sym, ◌∙◌, ap, subst, arith, if◌then◌else◌}
+use Rattle.std.proofs.Common.{◌≡◌, ◌≢◌, ℕ, ◌+◌, ◌==◌, true, false, ◌&&◌, cond, suc, zero, List, [], ◌∷◌, Some, refl, ◌∙◌, ap, arith, if◌then◌else◌}
 use Rattle.std.specs.Prelude.{slice_get, slice_set}
 use Rattle.std.proofs.lemmas.Option.{slice_get_within, get_or_from_slice_get}
 use Rattle.std.proofs.lemmas.List.Sums.{sum_by-set}
-use Rattle.std.proofs.lemmas.Grind.{common_steps}
 use Rattle.ebpf_run.specs.declared.store.Entry.{Entry}
 use Rattle.ebpf_run.specs.declared.store.Object.{Object}
 use Rattle.ebpf_run.specs.Store.{IsOut, out_of_kind}

@@ -1,5 +1,5 @@
 -- What is asked for by an input and the options, and why they can't be used.
-use Rattle.std.specs.Prelude.{◌≡◌, ℕ, Bool, nat_lt, List, [], ◌∷◌, length, Option, Some, None, is_none, unwrap_or}
+use Rattle.std.specs.Prelude.{◌≡◌, ℕ, nat_lt, List, [], ◌∷◌, length, Option, Some, is_none, unwrap_or}
 use Rattle.ebpf_insn.specs.Faults.{first_of}
 use Rattle.ebpf_run.specs.declared.done.FaultCode.{FaultCode}
 use Rattle.ebpf_run.specs.declared.done.FaultCode.TheVariants.{S1, S4, S5}

@@ -1,5 +1,5 @@
 -- The lines that are written, each as bytes, with numbers in decimal.
-use Rattle.std.specs.Prelude.{ℕ, ◌++◌, List, [], codes, decimal}
+use Rattle.std.specs.Prelude.{ℕ, ◌++◌, List, codes, decimal}
 use Rattle.std.specs.List.{flat_map}
 use Rattle.ebpf_run.specs.declared.done.FaultCode.{FaultCode}
 use Rattle.ebpf_run.specs.declared.done.FaultCode.TheVariants.{S1, S4, S5}

@@ -1,5 +1,5 @@
 -- What the store of one run has granted.
-use Rattle.std.specs.Prelude.{◌≡◌, ◌<◌, ℕ, Bool, true, ◌&&◌, ◌==◌, List, length, count_by, Option, Some, slice_get, slice_index}
+use Rattle.std.specs.Prelude.{◌≡◌, ◌<◌, ℕ, true, ◌&&◌, ◌==◌, List, length, count_by, Some, slice_get, slice_index}
 use Rattle.ebpf_state.specs.Kinds.{kind_sizes, kind_fills}
 use Rattle.ebpf_run.specs.declared.store.Entry.{Entry}
 use Rattle.ebpf_run.specs.declared.store.Object.{Object}

@@ -3,8 +3,7 @@ use Rattle.std.specs.Prelude.{ℕ, List}
 use Rattle.ebpf_machine.specs.Alone.{Outcome}
 use Rattle.ebpf_run.specs.declared.done.Done.{Done}
 use Rattle.ebpf_run.specs.declared.done.Done.TheVariants.{Clean, Refused}
-use Rattle.ebpf_run.specs.declared.done.FaultCode.{FaultCode}
-use Rattle.ebpf_run.specs.Lines.{fault_line, refused_line, run_lines}
+use Rattle.ebpf_run.specs.Lines.{run_lines}
 
 pub record Told : Type 0 where
   pub text : List ℕ

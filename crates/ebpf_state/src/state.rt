@@ -40,6 +40,7 @@ pub enum JoinFault {
     /// They don't hold the same references, tested alike.
     #[error("the paths that meet hold different references")]
     HeldDiffer,
+    /// A growth was refused.
     #[error("out of memory")]
     NoMemory,
 }

@@ -18,6 +18,7 @@ pub struct TicketSheet {
     pub passed: bool,
 }
 
+/// The rule of the tickets, as a type for the table.
 pub struct Drawing;
 
 impl TableRule<(), LinkedList<TicketSheet>, Bounds> for Drawing {

@@ -18,6 +18,7 @@ pub struct OwnerSheet {
     pub notes: LinkedList<(u64, u64)>,
 }
 
+/// The rule of the owners, as a type for the table.
 pub struct Owning;
 
 impl TableRule<(), LinkedList<OwnerSheet>, Size> for Owning {

@@ -1,4 +1,4 @@
-use Rattle.std.proofs.Common.{◌≡◌, ℕ, Option, Some, sym, ◌∙◌}
+use Rattle.std.proofs.Common.{sym, ◌∙◌}
 use Rattle.ebpf_run.proofs.Outcomes.{report_of, exited_number}
 use Rattle.ebpf_run.proofs.alone.run_in.Goals as goal
 

@@ -1,4 +1,4 @@
-use Rattle.std.proofs.Common.{◌≡◌, ℕ, ◌-◌, ◌<◌, length, None}
+use Rattle.std.proofs.Common.{◌≡◌, ◌-◌, length, None}
 use Rattle.ebpf_insn.specs.Program.{instructions}
 use Rattle.ebpf_run.proofs.alone.run_in.Given as goal
 

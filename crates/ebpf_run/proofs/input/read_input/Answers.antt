@@ -1,4 +1,4 @@
-use Rattle.std.proofs.Common.{◌≡◌, ℕ, ◌<◌, ◌≤◌, ◌-◌, length, min, arith}
+use Rattle.std.proofs.Common.{◌<◌, length, arith}
 use Rattle.std.proofs.lemmas.Grind.{common_steps}
 use Rattle.ebpf_run.proofs.Known.{Consumes-chunk, read_whole, read_front}
 use Rattle.ebpf_run.proofs.input.read_input.Goals as goal

@@ -1,4 +1,4 @@
-use Rattle.std.proofs.Common.{refl, sym, ◌∙◌}
+use Rattle.std.proofs.Common.{◌∙◌}
 use Rattle.std.proofs.lemmas.Result.{err_from_is_err_and}
 use Rattle.ebpf_run.proofs.Tells.{Tells-written, Tells-begun}
 use Rattle.ebpf_run.proofs.one.one.Goals as goal

@@ -1,4 +1,4 @@
-use Rattle.std.proofs.Common.{ℕ, ◌≡◌, ◌++◌, take, string_bytes}
+use Rattle.std.proofs.Common.{◌≡◌, ◌++◌, take, string_bytes}
 use Rattle.std.specs.List.{flat_map}
 use Rattle.ebpf_run.specs.Lines.{accepted_line, emit_line}
 use Rattle.ebpf_run.proofs.text.run_lines.Given as goal
