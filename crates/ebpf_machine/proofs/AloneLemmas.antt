@@ -48,19 +48,19 @@ unfolding alone_after
 after_none subject context answers = refl
 
 -- the instruction of the run in the world, seen by the run
-seen_effect : {H : Type 0} (r : RunState H) (run : Running) (i : Insn) → IsSeenAs run r → insn_at r.subject.program r.pc ≡ Some i → (effect_at (insn_at run.subject.program run.pc) run.pc 0 run.frame ≡ effect i run.pc 0 run.frame) × (effect_seen (effect i run.pc 0 run.frame) ≡ effect i r.pc 0 (frame_with r.registers r.output))
+pub seen_effect : {H : Type 0} (r : RunState H) (run : Running) (i : Insn) → IsSeenAs run r → insn_at r.subject.program r.pc ≡ Some i → (effect_at (insn_at run.subject.program run.pc) run.pc 0 run.frame ≡ effect i run.pc 0 run.frame) × (effect_seen (effect i run.pc 0 run.frame) ≡ effect i r.pc 0 (frame_with r.registers r.output))
 seen_effect r run i same at = (
   ap (λ (s : Subject). effect_at (insn_at s.program run.pc) run.pc 0 run.frame) same.subject ∙ ap (λ (n : ℕ). effect_at (insn_at r.subject.program n) run.pc 0 run.frame) same.pc ∙ ap (λ (o : Option Insn). effect_at o run.pc 0 run.frame) at,
   sym (effect-seen i run.pc 0 run.frame) ∙ ap (λ (n : ℕ). effect i n 0 (frame_seen run.frame)) same.pc ∙ ap (effect i r.pc 0) same.frame,
 )
 
 -- an effect that is seen to go on goes on
-seen_goes : (e : Effect Name) (to : ℕ) (after : Frame ℕ) → effect_seen e ≡ Goes to after → (frame : Frame Name) × (e ≡ Goes to frame) × (frame_seen frame ≡ after)
+pub seen_goes : (e : Effect Name) (to : ℕ) (after : Frame ℕ) → effect_seen e ≡ Goes to after → (frame : Frame Name) × (e ≡ Goes to frame) × (frame_seen frame ≡ after)
 seen_goes (Goes n frame) to after h = let there : n ≡ to = cc in (frame, ap (λ (m : ℕ). Goes m frame) there, cc)
 seen_goes (Ends n) to after h = absurd (cc)
 seen_goes (Traps trap) to after h = absurd (cc)
 
-seen_ends : (e : Effect Name) (n : ℕ) → effect_seen e ≡ Ends n → e ≡ Ends n
+pub seen_ends : (e : Effect Name) (n : ℕ) → effect_seen e ≡ Ends n → e ≡ Ends n
 seen_ends (Goes to frame) n h = absurd (cc)
 seen_ends (Ends m) n h = let same : m ≡ n = cc in ap (λ (j : ℕ). Ends j) same
 seen_ends (Traps trap) n h = absurd (cc)

@@ -7,3 +7,5 @@ pub mod Soundness
 pub mod Projection
 pub mod AloneLemmas
 pub mod Steps
+pub mod NextState
+pub mod InWorld

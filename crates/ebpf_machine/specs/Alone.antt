@@ -2,7 +2,7 @@
 use Rattle.std.specs.Prelude.{ℕ, zero, suc, max, List, [], ◌∷◌, Bool, length, map, Option, Some, None, Result, Ok, Err, slice_get}
 use Rattle.ebpf_insn.specs.Program.{instructions}
 use Rattle.ebpf_verify.specs.Subject.{Subject}
-use Rattle.ebpf_machine.specs.World.{World, Running, Status, Going, Illegal, Absent, first_run, holds_of, executed}
+use Rattle.ebpf_machine.specs.World.{World, Running, Status, Going, Illegal, Absent, kinds_of, first_run, holds_of, executed}
 
 -- the world of one run; the answers to its calls of new that are left; how many were asked for; the most objects that it
 -- held at one time
@@ -15,7 +15,7 @@ pub record Alone : Type 0 where
 -- no slots, no owners, and one run at its first instruction
 abbrev pub alone_first : Subject → List ℕ → List Bool → Alone
 alone_first subject context answers = record {
-  world = record { rows = subject.rows; ledgers = map (λ row. []) subject.rows; owners = []; bytes = []; runs = first_run subject context ∷ [] };
+  world = record { kinds = kinds_of subject.rows; ledgers = map (λ row. []) subject.rows; owners = []; bytes = []; runs = first_run subject context ∷ [] };
   answers = answers;
   asked = 0;
   peak = 0;

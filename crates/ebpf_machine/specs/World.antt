@@ -1,5 +1,5 @@
 -- The world: ledgers, owners, object bytes and runs. Each access is tested against the owners.
-use Rattle.std.specs.Prelude.{ℕ, ◌+◌, ◌++◌, ◌==◌, Bool, not, ◌&&◌, ◌||◌, if◌then◌else◌, List, [], ◌∷◌, length, filter, replicate, pos, Option, Some, None, Result, Ok, Err, slice_get, slice_set, slice_index_or}
+use Rattle.std.specs.Prelude.{ℕ, ◌+◌, ◌++◌, ◌==◌, Bool, not, ◌&&◌, ◌||◌, if◌then◌else◌, List, [], ◌∷◌, length, filter, map, replicate, pos, Option, Some, None, Result, Ok, Err, slice_get, slice_set, slice_index_or}
 use Rattle.std.specs.List.{list_any}
 use Rattle.ebpf_insn.specs.Program.{insn_at}
 use Rattle.ebpf_state.specs.declared.kinds.KindRow.{KindRow}
@@ -32,9 +32,17 @@ pub record Owner : Type 0 where
   pub run : ℕ
   pub at : ℕ
 
--- the slots of each kind, in the order of the kinds; who owns which; the bytes of each slot of a ledger; the runs
+-- a kind of object: its size, and the byte that fills a new one
+pub record Kind : Type 0 where
+  pub size : ℕ
+  pub fill : ℕ
+
+abbrev pub kinds_of : List KindRow → List Kind
+kinds_of rows = map (λ row. record { size = row.size; fill = row.fill }) rows
+
+-- the kinds; the slots of each, in their order; who owns which; the bytes of each slot of a ledger; the runs
 pub record World : Type 0 where
-  pub rows : List KindRow
+  pub kinds : List Kind
   pub ledgers : List (List ℕ)
   pub owners : List Owner
   pub bytes : List (ℕ × List ℕ)
@@ -109,11 +117,12 @@ or_illegal None w = Ok w
 abbrev pub with_run : World → ℕ → Running → World
 with_run w run r = record w { runs = slice_set w.runs run r }
 
-abbrev pub done_by : World → ℕ → Running → Running
-done_by w run r = run_after (effect_at (insn_at r.subject.program r.pc) r.pc (holds_of w run) r.frame) r
+-- the run after the instruction at its pc, where it holds so many objects
+abbrev pub run_stepped : ℕ → Running → Running
+run_stepped holds r = run_after (effect_at (insn_at r.subject.program r.pc) r.pc holds r.frame) r
 
 abbrev pub going_on : Status → World → ℕ → Answer → Running → Result World Illegal
-going_on Going w run answer r = or_illegal (answer_fault w answer) (with_run w run (done_by w run r))
+going_on Going w run answer r = or_illegal (answer_fault w answer) (with_run w run (run_stepped (holds_of w run) r))
 going_on _ w run answer r = Err RunEnded
 
 abbrev pub executed_by : Option Running → World → ℕ → Answer → Result World Illegal
@@ -131,27 +140,27 @@ abbrev pub without_slot : List (List ℕ) → ℕ → ℕ → List (List ℕ)
 without_slot ledgers kind slot = slice_set ledgers kind (filter (λ s. not (s == slot)) (slice_index_or ledgers kind []))
 
 -- the bytes of a new object of a kind
-abbrev pub image_of : KindRow → List ℕ
-image_of row = replicate row.size row.fill
+abbrev pub image_of : Kind → List ℕ
+image_of kind = replicate kind.size kind.fill
 
-abbrev pub grown_by : Option KindRow → ℕ → ℕ → World → Result World Illegal
+abbrev pub grown_by : Option Kind → ℕ → ℕ → World → Result World Illegal
 grown_by None kind slot w = Err NoSuchProgramOrKind
-grown_by (Some row) kind slot w = if is_in_ledger w slot then Err SlotInLedger else Ok (record w {
+grown_by (Some k) kind slot w = if is_in_ledger w slot then Err SlotInLedger else Ok (record w {
   ledgers = with_slot w.ledgers kind slot;
-  bytes = w.bytes ++ (slot, image_of row) ∷ [];
+  bytes = w.bytes ++ (slot, image_of k) ∷ [];
 })
 
 -- Grow: a slot that is in no ledger joins that of a kind, with its image
 abbrev pub grown : ℕ → ℕ → World → Result World Illegal
-grown kind slot w = grown_by (slice_get w.rows kind) kind slot w
+grown kind slot w = grown_by (slice_get w.kinds kind) kind slot w
 
-abbrev pub reaped_by : Option KindRow → ℕ → ℕ → World → Result World Illegal
+abbrev pub reaped_by : Option Kind → ℕ → ℕ → World → Result World Illegal
 reaped_by None kind slot w = Err NoSuchProgramOrKind
-reaped_by (Some row) kind slot w = if is_owned w slot || not (is_in slot (slice_index_or w.ledgers kind [])) then Err SlotNotReapable else Ok (record w {
+reaped_by (Some k) kind slot w = if is_owned w slot || not (is_in slot (slice_index_or w.ledgers kind [])) then Err SlotNotReapable else Ok (record w {
   ledgers = without_slot w.ledgers kind slot;
   bytes = filter (λ b. not (b.0 == slot)) w.bytes;
 })
 
 -- Reap: a home slot leaves the ledger of its kind
 abbrev pub reaped : ℕ → ℕ → World → Result World Illegal
-reaped kind slot w = reaped_by (slice_get w.rows kind) kind slot w
+reaped kind slot w = reaped_by (slice_get w.kinds kind) kind slot w

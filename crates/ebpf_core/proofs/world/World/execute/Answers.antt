@@ -1,0 +1,44 @@
+use Rattle.std.proofs.Common.{rules, ◌≡◌, ℕ, true, false, Some, None, Option, refl, arith}
+use Rattle.std.specs.Prelude.{is_some, IfNone}
+use Rattle.std.proofs.lemmas.Option.{slice_get_past, slice_get_read}
+use Rattle.ebpf_machine.specs.World.{NoSuchRun, RunEnded, AnswerUnasked, SlotNotHome}
+use Rattle.ebpf_core.proofs.OneEvent.{executed_none, executed_ended, executed_null, executed_slot, executed_shows}
+use Rattle.ebpf_core.proofs.world.World.execute.Goals as goal
+
+exited : (o : Option ℕ) → is_some o ≡ true → (n : ℕ) × (o ≡ Some n)
+exited None e = absurd (cc)
+exited (Some n) e = (n, refl)
+
+going : (o : Option ℕ) → is_some o ≡ false → o ≡ None
+going None e = refl
+going (Some n) e = absurd (cc)
+
+when_going : (o : Option ℕ) (P : Type 0) → o ≡ None → IfNone o P → P
+when_going None P e h = h
+when_going (Some n) P e h = absurd (cc)
+
+pub returns-then-run-len-clause-refused : goal.returns-then-run-len-clause-refused
+returns-then-run-len-clause-refused c = rw (← c.self.view_is) (λ w h.
+    (NoSuchRun, executed_none w _ c.args.run _ h (slice_get_past c.self.inside.runs.items c.args.run (omega arith)), refl))
+
+pub returns-then-is_some-clause-refused : goal.returns-then-is_some-clause-refused
+returns-then-is_some-clause-refused c = rw (← c.self.view_is) (λ w h.
+    let at = slice_get_read c.self.inside.runs.items _ c.args.run c.index_mut-run.result.now refl (omega arith) c.index_mut-run.ensures.value in
+    let ended = exited c.index_mut-run.result.now.exit (search rules) in
+    (RunEnded, executed_ended w _ c.args.run ended.0 _ c.index_mut-run.result.now h at ended.1, refl))
+
+pub returns-in-Null-clause-refused : goal.returns-in-Null-clause-refused
+returns-in-Null-clause-refused c = rw (← c.self.view_is, c.in-Null.is) (λ w h.
+    let at = slice_get_read c.self.inside.runs.items _ c.args.run c.index_mut-run.result.now refl (omega arith) c.index_mut-run.ensures.value in
+    (AnswerUnasked, executed_null w _ c.args.run c.index_mut-run.result.now h at (going c.index_mut-run.result.now.exit (search rules)), refl))
+
+pub returns-in-Slot-clause-refused : goal.returns-in-Slot-clause-refused
+returns-in-Slot-clause-refused c = rw (← c.self.view_is, c.in-Slot.is) (λ w h.
+    let at = slice_get_read c.self.inside.runs.items _ c.args.run c.index_mut-run.result.now refl (omega arith) c.index_mut-run.ensures.value in
+    (SlotNotHome, executed_slot w _ c.args.run _ c.index_mut-run.result.now h at (going c.index_mut-run.result.now.exit (search rules)), refl))
+
+pub returns-clause-done : goal.returns-clause-done
+returns-clause-done c = rw (← c.self.view_is, c.in-Absent.is) (λ w h.
+    let at = slice_get_read c.self.inside.runs.items _ c.args.run c.index_mut-run.result.now refl (omega arith) c.index_mut-run.ensures.value in
+    let goes = going c.index_mut-run.result.now.exit (search rules) in
+    executed_shows w _ c.args.run c.index_mut-run.result.now c.step_in.new.run h at goes (when_going c.index_mut-run.result.now.exit _ goes c.step_in.ensures))

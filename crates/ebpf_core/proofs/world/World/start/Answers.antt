@@ -1,0 +1,26 @@
+use Rattle.std.proofs.Common.{rules, ◌≡◌, [], ◌∷◌, ◌++◌, refl, ap, ◌∙◌, subst, arith}
+use Rattle.std.specs.Prelude.{length}
+use Rattle.std.proofs.lemmas.Option.{slice_get_past, slice_get_read}
+use Rattle.ebpf_machine.specs.World.{NoSuchProgramOrKind, WrongContext}
+use Rattle.ebpf_machine.specs.Turns.{IsStartFault}
+use Rattle.ebpf_core.proofs.OneEvent.{starting_none, starting_long, starting_shows}
+use Rattle.ebpf_core.proofs.world.World.start.Goals as goal
+
+pub returns-then-program-programs-clause-refused : goal.returns-then-program-programs-clause-refused
+returns-then-program-programs-clause-refused c = rw (← c.self.view_is) (λ w h.
+    (NoSuchProgramOrKind, starting_none c.self.inside.programs.now c.args.program c.args.context w (slice_get_past c.self.inside.programs.now c.args.program (omega arith)), refl))
+
+pub returns-in-Err-ContextLength-clause-refused : goal.returns-in-Err-ContextLength-clause-refused
+returns-in-Err-ContextLength-clause-refused c = rw (← c.self.view_is) (λ w h.
+    let at = slice_get_read c.self.inside.programs.now _ c.args.program c.index-programs-program.result refl (omega arith) c.index-programs-program.is in (
+      WrongContext,
+      starting_long c.self.inside.programs.now c.args.program c.index-programs-program.result c.args.context w at
+          (λ e. subst (IsStartFault (length c.into_bytes.result.items) c.index-programs-program.result.decl.context) c.in-Err-ContextLength.field-0-is c.in-Err-ContextLength.ensures.refused (ap length c.into_bytes.ensures ∙ e)),
+      refl,
+    ))
+
+pub returns-else-is_err-clause-done : goal.returns-else-is_err-clause-done
+returns-else-is_err-clause-done c = rw (← c.self.view_is) (λ w h.
+    let at = slice_get_read c.self.inside.programs.now _ c.args.program c.index-programs-program.result refl (omega arith) c.index-programs-program.is in
+    let pushed : c.push.new.self.items ≡ c.self.inside.runs.items ++ c.in-Ok.run' ∷ [] = search rules in
+    starting_shows c.self.inside.programs.now c.args.program c.index-programs-program.result c.args.context c.into_bytes.result.items w _ c.in-Ok.run' c.push.new.self.items h at c.into_bytes.ensures c.in-Ok.ensures.length c.in-Ok.ensures.started pushed)

@@ -1,0 +1,31 @@
+-- What an event does to the world.
+use Rattle.std.specs.Prelude.{ℕ, ◌==◌, if◌then◌else◌, List, [], length, map, Option, Some, None, Result, Ok, Err, slice_get}
+use Rattle.ebpf_verify.specs.Subject.{Subject}
+use Rattle.ebpf_machine.specs.World.{World, Illegal, NoSuchProgramOrKind, WrongContext, started, executed}
+use Rattle.ebpf_machine.specs.World as world
+use Rattle.ebpf_core.specs.declared.event.Answer.{Answer}
+use Rattle.ebpf_core.specs.declared.event.Answer.TheVariants.{Absent, Null, Slot}
+use Rattle.ebpf_core.specs.declared.event.Event.{Event}
+use Rattle.ebpf_core.specs.declared.event.Event.TheVariants.{Start, Exec, Grow, Reap}
+use Rattle.ebpf_core.specs.Kinds.{world_kinds}
+
+-- the world before any event: a ledger for each kind, with no slot; no runs
+abbrev pub first_world : World
+first_world = record { kinds = world_kinds; ledgers = map (λ kind. []) world_kinds; owners = []; bytes = []; runs = [] }
+
+abbrev pub answer_of : Answer → world.Answer
+answer_of Absent = world.Absent
+answer_of Null = world.Null
+answer_of (Slot slot) = world.Slot slot
+
+-- a run starts, on a context of the length that its program declares
+abbrev pub starting : Option Subject → List ℕ → World → Result World Illegal
+starting None context w = Err NoSuchProgramOrKind
+starting (Some s) context w = if length context == s.decl.context then Ok (started s context w) else Err WrongContext
+
+-- the world after an event, or why the event is not legal. No slot joins a ledger yet, so there is no kind to name.
+abbrev pub happened : List Subject → Event → World → Result World Illegal
+happened programs (Start program context) w = starting (slice_get programs program) context w
+happened programs (Exec run answer) w = executed w run (answer_of answer)
+happened programs (Grow kind slot) w = Err NoSuchProgramOrKind
+happened programs (Reap kind slot) w = Err NoSuchProgramOrKind

@@ -1,0 +1,7 @@
+pub mod Kinds
+pub mod Events
+pub mod Faults
+pub mod Shown
+pub mod Readers
+pub mod Replay
+pub mod Isolation

@@ -1,0 +1,36 @@
+-- What is read of a world.
+use Rattle.std.specs.Prelude.{ℕ, ◌==◌, List, [], Option, Some, None, option_map, slice_get, slice_index_or}
+use Rattle.std.specs.Option.{option_and_then}
+use Rattle.std.specs.List.{find}
+use Rattle.ebpf_machine.specs.World.{World, Running, Owner, Going, Exited, Trapped}
+use Rattle.ebpf_machine.specs.World as world
+use Rattle.ebpf_core.specs.declared.world.Status.{Status}
+use Rattle.ebpf_core.specs.declared.world.Status.TheVariants as status
+
+-- how far a run is; one that trapped is nowhere
+abbrev pub status_of : world.Status → ℕ → Option Status
+status_of Going pc = Some (status.Going pc)
+status_of (Exited n) pc = Some (status.Exited n)
+status_of (Trapped trap) pc = None
+
+abbrev pub status_in : World → ℕ → Option Status
+status_in w run = option_and_then (λ r. status_of r.status r.pc) (slice_get w.runs run)
+
+-- what a run added to its output, and how many instructions it did
+abbrev pub output_in : World → ℕ → Option (List ℕ)
+output_in w run = option_map (λ r. r.frame.output) (slice_get w.runs run)
+
+abbrev pub executed_in : World → ℕ → Option ℕ
+executed_in w run = option_map (λ r. r.executed) (slice_get w.runs run)
+
+-- the run that holds a slot, with the place of the call that was granted it
+abbrev pub owner_in : World → ℕ → Option (ℕ × ℕ)
+owner_in w slot = option_map (λ o. (o.run, o.at)) (find (λ o. o.slot == slot) w.owners)
+
+-- the bytes of a slot of a ledger
+abbrev pub bytes_in : World → ℕ → Option (List ℕ)
+bytes_in w slot = option_map (λ b. b.1) (find (λ b. b.0 == slot) w.bytes)
+
+-- the slots of a kind
+abbrev pub ledger_in : World → ℕ → List ℕ
+ledger_in w kind = slice_index_or w.ledgers kind []

@@ -1,0 +1,93 @@
+//! What can happen in the world.
+
+ghost use Rattle.std.specs.Prelude.{◌≡◌, IfOk};
+
+use std::alloc::{AllocError, Global};
+use std::marker::Model;
+
+/// The bytes that a run's program reads as its context. Contracts see it as the list.
+#[derive(Debug, Drop)]
+pub struct Context {
+    bytes: Vec<u8>,
+}
+
+impl Model for Context {
+    ghost use Rattle.std.specs.Prelude.{List, ℕ};
+
+    ghost Value = { List ℕ };
+
+    ghost view = { λ c. c.bytes.items };
+}
+
+impl Context {
+    /// The context of these bytes.
+    pub fn new(bytes: Vec<u8>) -> Context
+        ensures { result ≡ bytes.items }
+    {
+        Context { bytes }
+    }
+
+    /// The bytes as a slice.
+    pub fn as_slice(&self) -> &[u8]
+        ensures { result.now ≡ self.now }
+    {
+        &self.bytes
+    }
+
+    /// The bytes themselves.
+    pub fn into_bytes(self) -> Vec<u8>
+        ensures { result.items ≡ self }
+    {
+        self.bytes
+    }
+}
+
+/// What an event brings to a call of `new`.
+#[derive(Clone, Copy, Debug, PartialEq, Eq)]
+pub enum Answer {
+    /// Nothing: the instruction is no call of `new`.
+    Absent,
+    /// The call is refused.
+    Null,
+    /// The call is granted this slot.
+    Slot(u32),
+}
+
+/// One atomic step of the world.
+#[derive(Debug, Drop)]
+pub enum Event {
+    /// A run of the program of this number begins, on this context. Runs are numbered in the order of their starts.
+    Start { program: usize, context: Context },
+    /// A run does the instruction at its pc.
+    Exec { run: usize, answer: Answer },
+    /// A slot joins the ledger of a kind.
+    Grow { kind: u8, slot: u32 },
+    /// A slot leaves the ledger of a kind.
+    Reap { kind: u8, slot: u32 },
+}
+
+impl Event {
+    /// The same event. It fails for want of memory alone, which a context takes.
+    pub fn copied(&self, alloc: Global) -> Result<Event, AllocError>
+        ensures { IfOk result (λ event. event ≡ self.now) }
+    {
+        Ok(match self {
+            Event::Start { program, context } => Event::Start {
+                program: *program,
+                context: Context::new(context.as_slice().to_vec(alloc)?),
+            },
+            Event::Exec { run, answer } => Event::Exec {
+                run: *run,
+                answer: *answer,
+            },
+            Event::Grow { kind, slot } => Event::Grow {
+                kind: *kind,
+                slot: *slot,
+            },
+            Event::Reap { kind, slot } => Event::Reap {
+                kind: *kind,
+                slot: *slot,
+            },
+        })
+    }
+}

@@ -1,0 +1,48 @@
+//! The world after a list of events.
+
+ghost use Rattle.std.specs.Prelude.{IfOk, IfErr, List};
+ghost use Rattle.ebpf_core.specs.Replay.{lead, IsReplayed, IsReplayFault};
+ghost use Rattle.ebpf_core.specs.Isolation.{IsAlwaysSafe};
+
+use crate::event::Event;
+use crate::fault::{ApplyFault, ReplayFault};
+use crate::world::World;
+use ebpf_verify::verified::Verified;
+use std::alloc::Global;
+
+/// The world after a list of events over accepted programs, from one with no slots and no runs.
+///
+/// # Errors
+/// `Bad` with the number of the first event that isn't legal, and the first code that applies to it; `NoMemory` where a
+/// growth was refused.
+pub fn replay<'v>(
+    alloc: Global,
+    programs: &'v [Verified],
+    events: &[Event],
+) -> Result<World<'v>, ReplayFault>
+    // It is the world that the events lead to, and there is one exactly where each event is legal.
+    ensures done { IfOk result (IsReplayed programs.now events.now) }
+    ensures refused { IfErr result (IsReplayFault (lead programs.now events.now)) }
+    // The main theorem.
+    ensures safe { IsAlwaysSafe programs.now events.now }
+{
+    accept(programs);
+    let mut world = World::new(alloc, programs)?;
+    for (index, event) in events.iter().enumerate() {
+        match world.apply(event.copied(alloc)?) {
+            Ok(()) => {}
+            Err(ApplyFault::Bad(code)) => return Err(ReplayFault::Bad { index, code }),
+            Err(ApplyFault::NoMemory) => return Err(ReplayFault::NoMemory),
+        }
+    }
+    Ok(world)
+}
+
+// The main theorem: every list of events over accepted programs is safe. That they were accepted is in their type.
+fn accept(programs: &[Verified])
+    ensures { (events : List Event) → IsAlwaysSafe programs.now events }
+{
+    for verified in programs {
+        let _ = verified.program();
+    }
+}

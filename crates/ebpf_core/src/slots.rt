@@ -1,0 +1,79 @@
+//! The slots that a run is granted.
+
+ghost use Rattle.std.specs.Prelude.{◌≡◌, ◌<◌};
+
+use ebpf_machine::objects::Objects;
+use std::sync::ledger::{Book, Ledger, Share};
+
+/// A slot that a run holds.
+#[derive(Clone, Copy, Debug, PartialEq, Eq)]
+pub struct Slot {
+    pub number: u32,
+}
+
+/// What an event answers to a run's instruction.
+///
+/// No slot joins a ledger yet, so there is none to grant: each call of `new` is answered null. Null answers are counted
+/// by contracts alone.
+#[derive(Drop)]
+pub struct Answering<L: Ledger> {
+    book: Book<L>,
+    share: Share<L>,
+    ghost counts: { 0 < share.parts },
+}
+
+impl<L: Ledger> Answering<L> {
+    /// Nothing answered yet, over a new ledger.
+    pub fn new(book: Book<L>, share: Share<L>) -> Answering<L>
+        requires { 0 < share.parts }
+    {
+        Answering { book, share }
+    }
+}
+
+impl<L: Ledger> Objects for Answering<L> {
+    ghost use Rattle.std.specs.Prelude.{[]};
+    ghost use Rattle.ebpf_core.specs.Kinds.{size_of_kind, fill_of_kind};
+
+    type Held = Slot;
+
+    ghost kinds = { 3 };
+
+    ghost size_of = { size_of_kind };
+
+    ghost fill_of = { fill_of_kind };
+
+    ghost kind_of = { λ slot. 0 };
+
+    ghost slot_of = { λ slot. slot.number };
+
+    // No slot is granted.
+    ghost is_out = { λ a slot. ⊥ };
+
+    ghost bytes_of = { λ a slot. [] };
+
+    ghost can_grant = { λ a kind slot. ⊥ };
+
+    ghost can_refuse = { λ a kind. Unit {0} };
+
+    ghost grants = { λ a. 0 };
+
+    ghost nulls = { λ a. a.book.total };
+
+    ghost outs = { λ a kind. 0 };
+
+    fn take(&mut self, _kind: u8, _at: u16) -> Option<Slot> {
+        self.book.add(&mut self.share, 1);
+        None
+    }
+
+    fn give(&mut self, _kind: u8, _object: Slot) {}
+
+    fn bytes<'a>(&'a self, _held: &'a Slot) -> &'a [u8] {
+        &[]
+    }
+
+    fn write(&mut self, _held: &mut Slot, _place: usize, _bytes: &[u8]) {}
+
+    ghost has_size = { λ a slot out. absurd out };
+}

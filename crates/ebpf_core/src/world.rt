@@ -1,0 +1,197 @@
+//! The world.
+
+ghost use Rattle.std.specs.Prelude.{◌≡◌, length, slice_get, option_map, OnOk, OnErr, IfOk, IfErr, IfSome, IfNone};
+ghost use Rattle.ebpf_machine.specs.World.{Running, run_stepped};
+ghost use Rattle.ebpf_core.specs.Events.{first_world, happened};
+ghost use Rattle.ebpf_machine.specs.RunView.{IsSeenAs};
+ghost use Rattle.ebpf_core.specs.declared.event.Event.TheVariants.{Start, Exec};
+ghost use Rattle.ebpf_core.specs.Shown.{Shows, OfWorld, IsDone, IsRefused};
+ghost use Rattle.ebpf_core.specs.Readers.{status_in, output_in, executed_in, owner_in, bytes_in, ledger_in};
+
+use crate::event::{Answer, Context, Event};
+use crate::fault::{ApplyCode, ApplyFault};
+use crate::slots::{Answering, Slot};
+use ebpf_machine::run::{Run, StartFault};
+use ebpf_verify::verified::Verified;
+use std::alloc::{AllocError, Global};
+use std::marker::{Brand, Model};
+use std::sync::ledger::{Blank, Ledger};
+
+/// How far a run is.
+#[derive(Clone, Copy, Debug, PartialEq, Eq)]
+pub enum Status {
+    /// It goes on at the instruction of this slot.
+    Going(u16),
+    /// It has exited with this number.
+    Exited(u64),
+}
+
+/// Runs of accepted programs, with what they share.
+#[derive(Drop)]
+pub struct World<'v> {
+    alloc: Global,
+    programs: &'v [Verified],
+    runs: Vec<Run<'v, Slot>>,
+}
+
+impl<'v> Model for World<'v> {
+    ghost use Rattle.ebpf_core.specs.Shown.{WorldState};
+
+    ghost Value = { WorldState };
+
+    ghost view = { λ w. record { programs = w.programs.now; runs = w.runs.items } };
+}
+
+impl<'v> World<'v> {
+    /// The world of these programs before any event: it has no slots and no runs.
+    ///
+    /// # Errors
+    /// It fails for want of memory alone.
+    pub fn new(alloc: Global, programs: &'v [Verified]) -> Result<World<'v>, AllocError>
+        ensures shows { IfOk result (Shows first_world) }
+        ensures programs { IfOk result (λ w. w.programs ≡ programs.now) }
+    {
+        Ok(World {
+            alloc,
+            programs,
+            runs: Vec::new(alloc),
+        })
+    }
+
+    /// One event.
+    ///
+    /// # Errors
+    /// `Bad` where the event isn't legal, with the first code that applies; `NoMemory` where a growth was refused. The
+    /// world is as it was then.
+    pub fn apply(&mut self, event: Event) -> Result<(), ApplyFault>
+        ensures done { OnOk result (IsDone event self.old self.new) }
+        ensures refused { IfErr result (IsRefused event self.old) }
+        ensures unchanged { OnErr result (self.new ≡ self.old) }
+        ensures programs { self.new.programs ≡ self.old.programs }
+    {
+        match event {
+            Event::Start { program, context } => self.start(program, context),
+            Event::Exec { run, answer } => self.execute(run, answer),
+            Event::Grow { kind: _, slot: _ } => Err(ApplyFault::Bad(ApplyCode::E9)),
+            Event::Reap { kind: _, slot: _ } => Err(ApplyFault::Bad(ApplyCode::E9)),
+        }
+    }
+
+    // A run starts.
+    fn start(&mut self, program: usize, context: Context) -> Result<(), ApplyFault>
+        ensures done { OnOk result (IsDone (Start program context) self.old self.new) }
+        ensures refused { IfErr result (IsRefused (Start program context) self.old) }
+        ensures unchanged { OnErr result (self.new ≡ self.old) }
+        ensures programs { self.new.programs ≡ self.old.programs }
+    {
+        let programs = self.programs;
+        if program >= programs.len() {
+            return Err(ApplyFault::Bad(ApplyCode::E9));
+        }
+        match Run::start(self.alloc, &programs[program], context.into_bytes()) {
+            Ok(run) => {
+                if self.runs.push(run).is_err() {
+                    return Err(ApplyFault::NoMemory);
+                }
+                Ok(())
+            }
+            Err(StartFault::ContextLength) => Err(ApplyFault::Bad(ApplyCode::E10)),
+            Err(StartFault::NoMemory) => Err(ApplyFault::NoMemory),
+        }
+    }
+
+    // A run does the instruction at its pc.
+    fn execute(&mut self, run: usize, answer: Answer) -> Result<(), ApplyFault>
+        ensures done { OnOk result (IsDone (Exec run answer) self.old self.new) }
+        ensures refused { IfErr result (IsRefused (Exec run answer) self.old) }
+        ensures unchanged { OnErr result (self.new ≡ self.old) }
+        ensures programs { self.new.programs ≡ self.old.programs }
+    {
+        if run >= self.runs.len() {
+            return Err(ApplyFault::Bad(ApplyCode::E1));
+        }
+        let run = &mut self.runs[run];
+        if run.exit().is_some() {
+            return Err(ApplyFault::Bad(ApplyCode::E2));
+        }
+        match answer {
+            Answer::Absent => {}
+            Answer::Null => return Err(ApplyFault::Bad(ApplyCode::E5)),
+            Answer::Slot(_) => return Err(ApplyFault::Bad(ApplyCode::E3)),
+        }
+        step_in::<Brand>(run, Blank::new(1));
+        Ok(())
+    }
+
+    /// How many runs were started.
+    pub fn runs(&self) -> usize
+        ensures { OfWorld self.now (λ w. result ≡ length w.runs) }
+    {
+        self.runs.len()
+    }
+
+    // The run of a number.
+    fn run_at(&self, run: usize) -> Option<&Run<'v, Slot>>
+        ensures { option_map (λ r. r.now) result ≡ slice_get self.now.runs run }
+    {
+        self.runs.get(run)
+    }
+
+    /// How far a run is; `None` where there is no such run.
+    pub fn status(&self, run: usize) -> Option<Status>
+        ensures { OfWorld self.now (λ w. result ≡ status_in w run) }
+    {
+        let run = self.run_at(run)?;
+        Some(match run.exit() {
+            Some(number) => Status::Exited(number),
+            None => Status::Going(run.pc() as u16),
+        })
+    }
+
+    /// What a run added to its output; `None` where there is no such run.
+    pub fn output(&self, run: usize) -> Option<&[u64]>
+        ensures { OfWorld self.now (λ w. option_map (λ o. o.now) result ≡ output_in w run) }
+    {
+        Some(self.run_at(run)?.output())
+    }
+
+    /// How many instructions a run did; `None` where there is no such run.
+    pub fn executed(&self, run: usize) -> Option<u64>
+        ensures { OfWorld self.now (λ w. result ≡ executed_in w run) }
+    {
+        Some(self.run_at(run)?.executed())
+    }
+
+    /// The run that holds a slot, and the place in its program of the call that was granted it; `None` where the slot has
+    /// no owner.
+    pub fn owner(&self, slot: u32) -> Option<(usize, u16)>
+        ensures { OfWorld self.now (λ w. result ≡ owner_in w slot) }
+    {
+        None
+    }
+
+    /// The bytes of a slot; `None` where it is in no ledger.
+    pub fn bytes(&self, slot: u32) -> Option<&[u8]>
+        ensures { OfWorld self.now (λ w. option_map (λ b. b.now) result ≡ bytes_in w slot) }
+    {
+        None
+    }
+
+    /// The slots in the ledger of a kind, ascending; none for a number that is no kind.
+    pub fn ledger(&self, kind: u8) -> &[u32]
+        ensures { OfWorld self.now (λ w. result.now ≡ ledger_in w kind) }
+    {
+        &[]
+    }
+}
+
+// One instruction of a run, with a new ledger, in which null answers are counted.
+fn step_in<L: Ledger>(run: &mut Run<Slot>, blank: Blank)
+    requires name { blank.name ≡ L.name }
+    requires parts { (blank.parts ≡ L.parts) × (L.parts ≡ 1) }
+    ensures { IfNone run.old.exit ((shown : Running) → IsSeenAs shown run.old → IsSeenAs (run_stepped 0 shown) run.new) }
+{
+    let (book, share) = blank.open::<L>();
+    let mut answering = Answering::<L>::new(book, share);
+    run.step(&mut answering);
+}
