@@ -9,3 +9,5 @@ pub mod check;
 pub mod edges;
 pub mod fault;
 pub mod flowed;
+#[cfg(test)]
+mod tests;

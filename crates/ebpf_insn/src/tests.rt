@@ -11,92 +11,126 @@ use std::test::*;
 const EXIT: [u8; 8] = [0x95, 0, 0, 0, 0, 0, 0, 0];
 
 // How many instructions the bytes are, or why they are no program.
-fn length_of(rt: HostRuntime, bytes: &[u8]) -> Result<usize, DecodeFault> {
+type Length = Result<usize, DecodeFault>;
+
+fn length_of(rt: HostRuntime, bytes: &[u8]) -> Length {
     let program = decode(rt.alloc(), bytes)?;
     Ok(program.len())
 }
 
+// That the first slot is refused with the code.
+fn refused(code: DecodeCode) -> Length {
+    Err(DecodeFault::Bad { slot: 0, code })
+}
+
 #[test]
-fn one_slot_has_its_first_fault(rt: HostRuntime) {
-    let table: [(&str, &[u8], Option<DecodeCode>); 16] = [
-        ("exit", &EXIT, None),
+fn an_exit_has_its_opcode_alone(rt: HostRuntime) {
+    let table: [(&str, &[u8], Length); 4] = [
+        ("exit", &EXIT, Ok(1)),
         (
             "exit with an immediate",
             &[0x95, 0, 0, 0, 1, 0, 0, 0],
-            Some(DecodeCode::I4),
+            refused(DecodeCode::I4),
         ),
         (
             "exit with an offset",
             &[0x95, 0, 1, 0, 0, 0, 0, 0],
-            Some(DecodeCode::I4),
+            refused(DecodeCode::I4),
         ),
         (
             "exit with a register",
             &[0x95, 1, 0, 0, 0, 0, 0, 0],
-            Some(DecodeCode::I4),
+            refused(DecodeCode::I4),
         ),
+    ];
+    for (name, bytes, expected) in table {
+        assert_eq!(rt; length_of(rt, bytes), expected, "{name}");
+    }
+}
+
+#[test]
+fn registers_are_refused_before_unused_fields(rt: HostRuntime) {
+    let table: [(&str, &[u8], Length); 3] = [
         (
             "a move to register 11",
             &[0xb7, 0x0b, 0, 0, 0, 0, 0, 0],
-            Some(DecodeCode::I3),
+            refused(DecodeCode::I3),
         ),
         (
             "a move with an unused register 11",
             &[0xb7, 0xb0, 0, 0, 0, 0, 0, 0],
-            Some(DecodeCode::I3),
+            refused(DecodeCode::I3),
         ),
         (
             "a move with an unused register 1",
             &[0xb7, 0x10, 0, 0, 0, 0, 0, 0],
-            Some(DecodeCode::I4),
+            refused(DecodeCode::I4),
         ),
+    ];
+    for (name, bytes, expected) in table {
+        assert_eq!(rt; length_of(rt, bytes), expected, "{name}");
+    }
+}
+
+#[test]
+fn a_sign_extending_move_is_refused_by_its_width(rt: HostRuntime) {
+    let table: [(&str, &[u8], Length); 4] = [
         (
             "a move of 8 bits",
             &[0xbf, 0x10, 8, 0, 0, 0, 0, 0],
-            Some(DecodeCode::I8),
+            refused(DecodeCode::I8),
         ),
         (
             "a move of 32 bits at 32 bits",
             &[0xbc, 0x10, 32, 0, 0, 0, 0, 0],
-            Some(DecodeCode::I7),
+            refused(DecodeCode::I7),
         ),
         (
             "a move of 3 bits",
             &[0xbf, 0x10, 3, 0, 0, 0, 0, 0],
-            Some(DecodeCode::I7),
+            refused(DecodeCode::I7),
         ),
         (
             "a move of 3 bits with an immediate",
             &[0xbf, 0x10, 3, 0, 1, 0, 0, 0],
-            Some(DecodeCode::I4),
+            refused(DecodeCode::I4),
         ),
-        ("a jump", &[0x05, 0, 0, 0, 0, 0, 0, 0], Some(DecodeCode::I8)),
+    ];
+    for (name, bytes, expected) in table {
+        assert_eq!(rt; length_of(rt, bytes), expected, "{name}");
+    }
+}
+
+#[test]
+fn an_instruction_to_come_is_not_taken_for_an_unknown_one(rt: HostRuntime) {
+    let table: [(&str, &[u8], Length); 5] = [
+        (
+            "a jump",
+            &[0x05, 0, 0, 0, 0, 0, 0, 0],
+            refused(DecodeCode::I8),
+        ),
         (
             "a wide load without its second slot",
             &[0x18, 0, 0, 0, 0, 0, 0, 0],
-            Some(DecodeCode::I8),
+            refused(DecodeCode::I8),
         ),
         (
             "an atomic operation",
             &[0xdb, 0x10, 0, 0, 0, 0, 0, 0],
-            Some(DecodeCode::I8),
+            refused(DecodeCode::I8),
         ),
         (
             "no opcode",
             &[0xff, 0, 0, 0, 0, 0, 0, 0],
-            Some(DecodeCode::I2),
+            refused(DecodeCode::I2),
         ),
         (
             "no load of 64 signed bits",
             &[0x99, 0x10, 0, 0, 0, 0, 0, 0],
-            Some(DecodeCode::I2),
+            refused(DecodeCode::I2),
         ),
     ];
-    for (name, bytes, fault) in table {
-        let expected = match fault {
-            None => Ok(1),
-            Some(code) => Err(DecodeFault::Bad { slot: 0, code }),
-        };
+    for (name, bytes, expected) in table {
         assert_eq!(rt; length_of(rt, bytes), expected, "{name}");
     }
 }
@@ -126,14 +160,8 @@ fn every_opcode_is_decoded_later_or_unknown(rt: HostRuntime) {
     for opcode in 0..=255u8 {
         let expected = match OPCODES[(opcode / 16) as usize][(opcode % 16) as usize] {
             b'd' => Ok(1),
-            b'x' => Err(DecodeFault::Bad {
-                slot: 0,
-                code: DecodeCode::I8,
-            }),
-            _ => Err(DecodeFault::Bad {
-                slot: 0,
-                code: DecodeCode::I2,
-            }),
+            b'x' => refused(DecodeCode::I8),
+            _ => refused(DecodeCode::I2),
         };
         let bytes = [opcode, 0, 0, 0, 0, 0, 0, 0];
         assert_eq!(rt; length_of(rt, &bytes), expected, "opcode {opcode}");
@@ -142,11 +170,8 @@ fn every_opcode_is_decoded_later_or_unknown(rt: HostRuntime) {
 
 #[test]
 fn bytes_that_are_no_whole_slots_are_refused_at_slot_0(rt: HostRuntime) {
-    let expected = Err(DecodeFault::Bad {
-        slot: 0,
-        code: DecodeCode::I1,
-    });
     for size in 0..8 {
+        let expected = refused(DecodeCode::I1);
         assert_eq!(rt; length_of(rt, &EXIT[..size]), expected, "{size} bytes");
     }
 }

@@ -10,5 +10,7 @@ pub mod decl;
 pub mod fault;
 pub mod pointer;
 pub mod rules;
+#[cfg(test)]
+mod tests;
 pub mod verified;
 pub mod verify;

@@ -1,7 +1,7 @@
 -- Pages that come and go.
 use Rattle.std.proofs.Common.{map, ◌≡◌, ℕ, zero, suc, ◌+◌, ◌*◌, ◌/◌, ◌%◌, ◌<◌, ◌≤◌, ◌==◌, if◌then◌else◌, Bool, true, false, cond, List, [], ◌∷◌, ◌++◌, IsTrue, ◌↔◌, length, get_or, set, replicate, Some, is_some, refl, sym, ap, subst, ◌∙◌, arith, inl, inr, ◌⊎◌}
 use Rattle.std.specs.Prelude.{slice_get, slice_index}
-use Rattle.std.specs.List.{All}
+use Rattle.std.specs.List.{All, AllWithin}
 use Rattle.std.proofs.lemmas.Bool.{cases_lt, false≢true}
 use Rattle.std.proofs.lemmas.List.{get_or_past, map-set, length-map, nil_from_length}
 use Rattle.std.proofs.lemmas.List.Elements.{All-head, All-tail}
@@ -142,21 +142,36 @@ module _ {X : Type 0} (places : X → List Place) (number : X → ℕ) where
   busy_at (x ∷ xs) zero busy within had = All-head (λ (s : X). 0 < length (places s) → 0 < outs_in (places s)) x xs busy had
   busy_at (x ∷ xs) (suc k) busy within had = busy_at xs k (All-tail (λ (s : X). 0 < length (places s) → 0 < outs_in (places s)) x xs busy) (omega arith) had
 
-  -- where no page is idle, each has a slot that is out
-  pub busy_page : (xs : List X) (numbers partial : List ℕ) (out page : ℕ) → IsShelf (map places xs) numbers partial out → All (λ s. 0 < length (places s) → 0 < outs_in (places s)) xs → Has (map places xs) page → (slot : ℕ) × (slot / 256 ≡ page) × IsOut (map places xs) slot
-  busy_page xs numbers partial out page shelf busy has = found (get_or (map places xs) page []) refl
-    where
-      within : page < length xs
-      within = omega (arith, has_within (map places xs) page has, length-map xs places)
+  busy_before : (xs : List X) (at k : ℕ) → AllWithin (λ s. 0 < length (places s) → 0 < outs_in (places s)) xs 0 at → k < at → k < length xs → 0 < length (get_or (map places xs) k []) → 0 < outs_in (get_or (map places xs) k [])
+  busy_before [] at k busy before within had = absurd (omega arith)
+  busy_before (x ∷ xs) zero k busy before within had = absurd (omega arith)
+  busy_before (x ∷ xs) (suc at) zero busy before within had = busy 0 x (omega arith) (omega arith) had
+  busy_before (x ∷ xs) (suc at) (suc k) busy before within had = busy_before xs at k (λ j d low below. busy (suc j) d (omega arith) (omega arith)) (omega arith) (omega arith) had
 
+  had_within : (xs : List X) (page : ℕ) → Has (map places xs) page → page < length xs
+  had_within xs page has = omega (arith, has_within (map places xs) page has, length-map xs places)
+
+  -- a page with an object that is out has a slot that is out
+  out_slot : (xs : List X) (numbers partial : List ℕ) (out page : ℕ) → IsShelf (map places xs) numbers partial out → 0 < outs_in (get_or (map places xs) page []) → (slot : ℕ) × (slot / 256 ≡ page) × IsOut (map places xs) slot
+  out_slot xs numbers partial out page shelf some = found (get_or (map places xs) page []) refl
+    where
       found : (ps : List Place) → get_or (map places xs) page [] ≡ ps → (slot : ℕ) × (slot / 256 ≡ page) × IsOut (map places xs) slot
       found ps is =
-          let some : 0 < outs_in ps = subst (λ (qs : List Place). 0 < outs_in qs) is (busy_at xs page busy within (from_has (map places xs) page has)) in
-          let at = out_exists ps some in
+          let at = out_exists ps (subst (λ (qs : List Place). 0 < outs_in qs) is some) in
           let few : length ps ≤ 256 = subst (λ (qs : List Place). length qs ≤ 256) is (shelf.small page) in
           let here : (page * 256 + at.0) / 256 ≡ page = omega (arith, at.1) in
           let index : (page * 256 + at.0) % 256 ≡ at.0 = omega (arith, at.1) in
           (page * 256 + at.0, here, ap (λ k. slice_get (get_or (map places xs) k []) ((page * 256 + at.0) % 256)) here ∙ (ap (λ qs. slice_get qs ((page * 256 + at.0) % 256)) is ∙ (ap (λ k. slice_get ps k) index ∙ at.2)))
+
+  -- where no page is idle, each has a slot that is out
+  pub busy_page : (xs : List X) (numbers partial : List ℕ) (out page : ℕ) → IsShelf (map places xs) numbers partial out → All (λ s. 0 < length (places s) → 0 < outs_in (places s)) xs → Has (map places xs) page → (slot : ℕ) × (slot / 256 ≡ page) × IsOut (map places xs) slot
+  busy_page xs numbers partial out page shelf busy has =
+      out_slot xs numbers partial out page shelf (busy_at xs page busy (had_within xs page has) (from_has (map places xs) page has))
+
+  -- where no page below one is idle, each of those has a slot that is out
+  pub busy_below : (xs : List X) (numbers partial : List ℕ) (out at page : ℕ) → IsShelf (map places xs) numbers partial out → AllWithin (λ s. 0 < length (places s) → 0 < outs_in (places s)) xs 0 at → page < at → Has (map places xs) page → (slot : ℕ) × (slot / 256 ≡ page) × IsOut (map places xs) slot
+  busy_below xs numbers partial out at page shelf busy before has =
+      out_slot xs numbers partial out page shelf (busy_before xs at page busy before (had_within xs page has) (from_has (map places xs) page has))
 
 -- a table that was filled and one with other room have the places that they had
 pub grown_same : {X : Type 0} (places : X → List Place) (xs ys zs : List X) → ((p : ℕ) → get_or (map places xs) p [] ≡ get_or (map places ys) p []) → ys ≡ zs → (p : ℕ) → get_or (map places xs) p [] ≡ get_or (map places zs) p []

@@ -133,14 +133,10 @@ impl<K: Kind> Obj<K, Ready> {
         ensures slot { result.slot ≡ self.slot }
         ensures bytes { result.bytes.items ≡ self.bytes.items }
     {
-        let Obj {
-            slot,
-            bytes: rest,
-            of: _,
-        } = self;
+        let Obj { of: _, slot, bytes } = self;
         Obj {
             slot,
-            bytes: rest,
+            bytes,
             of: PhantomData,
         }
     }

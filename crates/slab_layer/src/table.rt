@@ -10,6 +10,7 @@
 //! comes and goes by a write in its place, and only the stack has to be searched, when a page is given up.
 
 ghost use Rattle.std.specs.Prelude.{◌≡◌, ◌≢◌, ◌⊎◌, List, ℕ, ◌≤◌, ◌<◌, ◌+◌, ◌==◌, ◌-◌, if◌then◌else◌, true, [], ◌∷◌, ◌++◌, take, map, length, vec_len, vec_capacity, slice_index, slice_index_or, All, IfSome, IfNone, OnOk};
+ghost use Rattle.std.specs.List.{AllWithin};
 ghost use Rattle.slab_layer.specs.Slots.{outs_in};
 ghost use Rattle.slab_layer.specs.Stacks.{times};
 ghost use Rattle.slab_layer.specs.Shelf.{IsShelf};
@@ -72,6 +73,7 @@ pub fn idle_at<K: Kind>(slabs: &[Slab<K>]) -> Option<usize>
     ensures within { IfSome result (λ i. i < length slabs.now) }
     ensures had { IfSome result (λ i. 0 < length (slice_index_or (map (λ s. s.places.items) slabs.now) i [])) }
     ensures idle { IfSome result (λ i. outs_in (slice_index_or (map (λ s. s.places.items) slabs.now) i []) ≡ 0) }
+    ensures lowest { IfSome result (λ i. AllWithin (λ s. 0 < length s.places.items → 0 < outs_in s.places.items) slabs.now 0 i) }
     ensures none { IfNone result (All (λ s. 0 < length s.places.items → 0 < outs_in s.places.items) slabs.now) }
 {
     for (i, slab) in slabs.iter().enumerate() {

@@ -1,9 +1,9 @@
 use Rattle.std.proofs.Common.{◌≡◌, ◌<◌, ◌/◌, ◌∙◌, [], ℕ, ap, sym, subst, get_or, set, length, map, arith}
-use Rattle.std.specs.List.{All}
+use Rattle.std.specs.List.{All, AllWithin}
 use Rattle.std.proofs.lemmas.Option.{IfSome_then}
 use Rattle.slab_layer.specs.Slots.{Pages, Has, IsOut, RemovesPage, outs_in, out_count}
 use Rattle.slab_layer.proofs.Changes.{number_is}
-use Rattle.slab_layer.proofs.Pages.{on_stack, shelf_reaped, reaped, idle_page, busy_page, has_from}
+use Rattle.slab_layer.proofs.Pages.{on_stack, shelf_reaped, reaped, idle_page, busy_page, busy_below, has_from}
 use Rattle.slab_layer.proofs.slabs.Slabs.reap.Goals as goal
 
 pub returns-in_default-clause-none : goal.returns-in_default-clause-none
@@ -66,6 +66,20 @@ returns-clause-idle g c =
     IfSome_then c.end.result c.end.ensures.page (λ s p. λ slot here out.
     let O : Pages → Type 0 = λ v. IsOut v slot in
     idle_page (λ s. s.places.items) (λ s. s.page) xs at slot idle (here ∙ (p.0 ∙ page)) (subst O (sym c.self.view_is) out))
+
+pub returns-clause-lowest : goal.returns-clause-lowest
+returns-clause-lowest g c =
+    let xs = c.self.inside.slabs.items in
+    let at = c.in-Some.at in
+    let partial = c.self.inside.partial.items in
+    let shelf = c.self.invariant.0 in
+    let within : at < length xs = subst (λ ys. at < length ys) c.deref.ensures.value c.in-Some.ensures.within in
+    let busy : AllWithin (λ s. 0 < length s.places.items → 0 < outs_in s.places.items) xs 0 at = subst (λ ys. AllWithin (λ s. 0 < length s.places.items → 0 < outs_in s.places.items) ys 0 at) c.deref.ensures.value c.in-Some.ensures.lowest in
+    let page : c.replace-slab.result.page ≡ at = ap (λ s. s.page) c.replace-slab.ensures.value ∙ number_is (λ s. s.places.items) (λ s. s.page) xs at c.self.inside.out partial c.index_mut.result.now shelf within c.index_mut.ensures.value in
+    IfSome_then c.end.result c.end.ensures.page (λ s p. λ lower before has.
+    let B : Pages → Type 0 = λ v. (slot : ℕ) × (slot / 256 ≡ lower) × IsOut v slot in
+    let H : Pages → Type 0 = λ v. Has v lower in
+    subst B c.self.view_is (busy_below (λ s. s.places.items) (λ s. s.page) xs (map (λ s. s.page) xs) partial c.self.inside.out at lower shelf busy (subst (λ k. lower < k) (p.0 ∙ page) before) (subst H (sym c.self.view_is) has)))
 
 pub returns-clause-removed : goal.returns-clause-removed
 returns-clause-removed g c =
