@@ -1,22 +1,22 @@
 -- What is told of an input is told of what is read of it, and written.
-use Rattle.std.proofs.Common.{◌≡◌, ℕ, ◌<◌, ◌≤◌, Bool, true, false, nat_lt, List, length, take, Option, Some, None, refl, sym, ◌∙◌, ap, subst, arith}
+use Rattle.std.proofs.Common.{◌≡◌, ℕ, ◌<◌, ◌≤◌, Bool, true, false, nat_lt, List, length, take, Option, Some, None, refl, sym, ◌∙◌, subst, arith}
 use Rattle.std.specs.Prelude.{IfSome}
 use Rattle.std.specs.Io.KnownBytes.{Appends}
 use Rattle.std.proofs.lemmas.List.{length-take-le}
 use Rattle.std.proofs.lemmas.Bool.{ltb-true, lt-ltb}
 use Rattle.std.proofs.lemmas.Grind.{common_steps}
-use Rattle.ebpf_insn.specs.declared.fault.DecodeCode.{DecodeCode}
-use Rattle.ebpf_insn.specs.Decoding.{decode_fault}
-use Rattle.ebpf_flow.specs.Flow.{flow_fault}
-use Rattle.ebpf_verify.specs.Subject.{Subject}
-use Rattle.ebpf_run.specs.declared.done.Done.{Done}
-use Rattle.ebpf_run.specs.declared.done.FaultCode.{FaultCode}
-use Rattle.ebpf_run.specs.declared.done.FaultCode.TheVariants.{S1}
-use Rattle.ebpf_run.specs.Input.{read_of}
+use Rattle.ebpf_state.specs.declared.kinds.KindRow.{KindRow}
+use Rattle.ebpf_verify.specs.declared.decl.Decl.{Decl}
+use Rattle.ebpf_script.specs.declared.done.Done.{Done}
+use Rattle.ebpf_script.specs.declared.done.FaultCode.{FaultCode}
+use Rattle.ebpf_script.specs.declared.done.FaultCode.TheVariants.{S1}
+use Rattle.ebpf_script.specs.declared.judge.Judged.{Judged}
+use Rattle.ebpf_script.specs.Input.{read_of}
+use Rattle.ebpf_script.specs.Judging.{IsJudged}
+use Rattle.ebpf_script.specs.Told.{Told}
+use Rattle.ebpf_script.proofs.Known.{front_of_short}
 use Rattle.ebpf_run.specs.Asked.{Asked, asked_for, fault_of}
-use Rattle.ebpf_run.specs.Told.{Told}
-use Rattle.ebpf_run.specs.OneText.{Tells, TellsAsked, TellsBytes, TellsFlow, IsSubjectOf}
-use Rattle.ebpf_run.proofs.Known.{front_of_short}
+use Rattle.ebpf_run.specs.OneText.{Tells, TellsAsked, TellsBytes, TellsJudged, AreGiven}
 
 -- an input that is too long is S1, whatever it holds
 fault_of_long : (input context : List ℕ) (held : ℕ) → 1048576 < length input → fault_of input context held ≡ Some S1
@@ -56,9 +56,13 @@ Tells-begun F None old new bytes seen context held nulls told text read e h f k 
 Tells-begun F (Some all) old new bytes seen context held nulls told text read e h f k =
     λ _. (told, Tells-read all context held nulls told (subst (λ (xs : List ℕ). Tells xs context held nulls told) (e ∙ read) h), subst (λ (xs : List ℕ). (n : ℕ) × (n ≤ length xs) × Appends old new (take n xs)) f k)
 
--- the bytes of a request are a program, of which this is told
-pub told_of_program : (a : Asked) (seen : List ℕ) (nulls : Bool) (s : Subject) (told : Told) → seen ≡ a.bytes → decode_fault seen ≡ None → IsSubjectOf a s → TellsFlow (flow_fault s.program) s a.context nulls told → TellsBytes (decode_fault a.bytes) a nulls told
-told_of_program a seen nulls s told same fine is h =
-    let fault : decode_fault a.bytes ≡ None = ap (λ (bytes : List ℕ). decode_fault bytes) (sym same) ∙ fine in
-    let P : Option (ℕ × DecodeCode) → Type 0 = λ f. TellsBytes f a nulls told in
-    subst P (sym fault) (s, is, h)
+-- the bytes of a request are judged to be this, of which this is told
+pub told_of_judged : (a : Asked) (seen : List ℕ) (decl : Decl) (rows : List KindRow) (was judged : Judged) (nulls : Bool) (told : Told) → seen ≡ a.bytes → AreGiven a decl rows → IsJudged seen decl rows was → was ≡ judged → TellsJudged judged a.context nulls told → TellsBytes a nulls told
+told_of_judged a seen decl rows was judged nulls told same given is e h =
+    (decl, rows, judged, given, subst (λ (j : Judged). IsJudged a.bytes decl rows j) e (subst (λ (bytes : List ℕ). IsJudged bytes decl rows was) same is), h)
+
+-- what is told of the bytes that an input asks for is told of the input
+pub Tells-asked : (input context : List ℕ) (held : ℕ) (nulls : Bool) (a : Asked) (told : Told) → fault_of input context held ≡ None → a ≡ asked_for input context held → TellsBytes a nulls told → Tells input context held nulls told
+Tells-asked input context held nulls a told fine same h =
+    let P : Option FaultCode → Type 0 = λ f. TellsAsked f (asked_for input context held) nulls told in
+    subst P (sym fine) (subst (λ (x : Asked). TellsBytes x nulls told) same h)

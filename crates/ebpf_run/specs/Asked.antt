@@ -1,11 +1,12 @@
 -- What is asked for by an input and the options, and why they can't be used.
 use Rattle.std.specs.Prelude.{◌≡◌, ℕ, nat_lt, List, [], ◌∷◌, length, Option, Some, is_none, unwrap_or}
 use Rattle.ebpf_insn.specs.Faults.{first_of}
-use Rattle.ebpf_run.specs.declared.done.FaultCode.{FaultCode}
-use Rattle.ebpf_run.specs.declared.done.FaultCode.TheVariants.{S1, S4, S5}
+use Rattle.ebpf_script.specs.declared.done.FaultCode.{FaultCode}
+use Rattle.ebpf_script.specs.declared.done.FaultCode.TheVariants.{S1, S4, S5}
+use Rattle.ebpf_script.specs.HexText.{hex_or_dash}
 use Rattle.ebpf_run.specs.declared.request.Stop.{Stop}
 use Rattle.ebpf_run.specs.declared.request.Stop.TheVariants.{Fault, NoMemory}
-use Rattle.ebpf_run.specs.Hex.{program_bytes, context_bytes}
+use Rattle.ebpf_run.specs.ProgramText.{program_bytes}
 
 -- the bytes of a program and of a context, and the most objects to hold at one time
 pub record Asked : Type 0 where
@@ -16,7 +17,7 @@ pub record Asked : Type 0 where
 abbrev pub asked_for : List ℕ → List ℕ → ℕ → Asked
 asked_for input context held = record {
   bytes = unwrap_or (program_bytes input) [];
-  context = unwrap_or (context_bytes context) [];
+  context = unwrap_or (hex_or_dash context) [];
   held = held;
 }
 
@@ -26,8 +27,8 @@ fault_of input context held = first_of (
     (nat_lt 1048576 (length input), S1) ∷
     (is_none (program_bytes input), S5) ∷
     (nat_lt 64 held, S4) ∷
-    (is_none (context_bytes context), S5) ∷
-    (nat_lt 4096 (length (unwrap_or (context_bytes context) [])), S4) ∷
+    (is_none (hex_or_dash context), S5) ∷
+    (nat_lt 4096 (length (unwrap_or (hex_or_dash context) [])), S4) ∷
     [])
 
 -- a stop is the defined fault, or memory ran out

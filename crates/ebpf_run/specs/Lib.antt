@@ -1,9 +1,6 @@
-pub mod Input
-pub mod Hex
+pub mod ProgramText
 pub mod Lines
-pub mod Codes
 pub mod Asked
 pub mod Store
-pub mod Told
 pub mod Reports
 pub mod OneText

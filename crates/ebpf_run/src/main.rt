@@ -1,31 +1,26 @@
 //! Runs small eBPF programs from the command line.
 //!
 //! What a command writes is a function of what it reads and of its options, errors included, and it writes nothing else:
-//! that is the contract of [`one::one`], which stands on the contracts of the crates below. This crate adds the hex, the
-//! lines of the text, the store of objects of a single run, and the command line.
+//! that is the contract of [`one::one`], which stands on the contracts of the crates below. This crate adds what `one`
+//! asks for, the lines of its text, the store of objects of a single run, and the command line.
 //!
-//! To be read in this order: `done`, `input`, `program_text`, `request`, `store`, `alone`, `text`, `answer`, `output`,
-//! `one`, `command`.
+//! To be read in this order: `program_text`, `request`, `store`, `alone`, `text`, `answer`, `one`, `command`.
 #![tactic(auto)]
 
 mod alone;
 mod answer;
-mod codes;
 mod command;
-mod done;
-mod input;
 mod one;
-mod output;
 mod program_text;
 mod request;
 mod store;
 mod text;
 
 use crate::command::{Task, command, task_of};
-use crate::done::{Done, EngineFault};
 use crate::one::one;
 use clap::Error;
 use clap::error::ErrorKind;
+use ebpf_script::done::{Done, EngineFault};
 use std::process::ExitCode;
 use std::rt::Env;
 use std::{env, io};

@@ -2,14 +2,14 @@
 
 ghost use Rattle.std.specs.Prelude.{◌≡◌, ◌≢◌, ◌≤◌, ℕ, IfOk, IfErr, IfSome, length, take};
 ghost use Rattle.std.specs.Io.KnownBytes.{Appends};
-ghost use Rattle.ebpf_run.specs.declared.done.EngineFault.TheVariants.{Output};
-ghost use Rattle.ebpf_run.specs.Told.{Told};
+ghost use Rattle.ebpf_script.specs.declared.done.EngineFault.TheVariants.{Output};
+ghost use Rattle.ebpf_script.specs.Told.{Told};
 ghost use Rattle.ebpf_run.specs.OneText.{Tells};
 
 use crate::answer::answer_input;
-use crate::done::{Done, EngineFault};
-use crate::input::read_input;
-use crate::output::write_text;
+use ebpf_script::done::{Done, EngineFault};
+use ebpf_script::input::read_input;
+use ebpf_script::output::write_text;
 use std::alloc::Global;
 use std::io::{Read, Write};
 

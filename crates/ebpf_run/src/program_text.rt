@@ -1,21 +1,10 @@
 //! The program's bytes, from its text.
 
 ghost use Rattle.std.specs.Prelude.{◌≡◌, IfOk, option_map};
-ghost use Rattle.ebpf_run.specs.Hex.{is_blank, hex_bytes, program_bytes};
+ghost use Rattle.ebpf_run.specs.ProgramText.{is_blank, program_bytes};
 
-use hex::FromHexError;
+use ebpf_script::hex_text::hex_bytes;
 use std::alloc::{AllocError, Global};
-
-/// The bytes that a text of hex digits stands for, in upper or lower case; `None` where it isn't readable.
-pub fn hex_bytes(alloc: Global, text: &[u8]) -> Result<Option<Vec<u8>>, AllocError>
-    ensures { IfOk result (λ r. option_map (λ v. v.items) r ≡ hex_bytes text.now) }
-{
-    match hex::decode(alloc, text) {
-        Ok(bytes) => Ok(Some(bytes)),
-        Err(FromHexError::OutOfMemory) => Err(AllocError),
-        Err(_) => Ok(None),
-    }
-}
 
 /// The program's bytes: blanks may stand anywhere between the digits.
 pub fn program_bytes(alloc: Global, input: &[u8]) -> Result<Option<Vec<u8>>, AllocError>

@@ -1,11 +1,11 @@
 //! What a call of `one` asks for.
 
-ghost use Rattle.std.specs.Prelude.{◌≡◌, IfOk, IfErr, OnOk, option_map, None, length};
-ghost use Rattle.ebpf_run.specs.Hex.{is_dash, context_bytes};
+ghost use Rattle.std.specs.Prelude.{◌≡◌, IfOk, IfErr, OnOk, None, length};
 ghost use Rattle.ebpf_run.specs.Asked.{fault_of, asked_for, IsStop};
 
-use crate::done::FaultCode;
-use crate::program_text::{hex_bytes, program_bytes};
+use crate::program_text::program_bytes;
+use ebpf_script::done::FaultCode;
+use ebpf_script::hex_text::hex_or_dash;
 use ebpf_verify::decl::Decl;
 use std::alloc::{AllocError, Global};
 
@@ -56,7 +56,7 @@ pub fn requested(alloc: Global, input: &[u8], context: &str, held: u8) -> Result
     if held > 64 {
         return Err(Stop::Fault(FaultCode::S4));
     }
-    let Some(context) = context_bytes(alloc, context)? else {
+    let Some(context) = hex_or_dash(alloc, context.as_bytes())? else {
         return Err(Stop::Fault(FaultCode::S5));
     };
     if context.len() > 4096 {
@@ -68,24 +68,4 @@ pub fn requested(alloc: Global, input: &[u8], context: &str, held: u8) -> Result
         context,
         decl,
     })
-}
-
-// The context's bytes; a lone `-` is the empty one. `None` where the text isn't readable.
-fn context_bytes(alloc: Global, text: &str) -> Result<Option<Vec<u8>>, AllocError>
-    ensures { IfOk result (λ r. option_map (λ v. v.items) r ≡ context_bytes text.now) }
-{
-    if is_dash(text.as_bytes()) {
-        return Ok(Some(Vec::new(alloc)));
-    }
-    hex_bytes(alloc, text.as_bytes())
-}
-
-// A lone `-`.
-fn is_dash(text: &[u8]) -> bool
-    ensures { result ≡ is_dash text.now }
-{
-    match text {
-        [c] => *c == b'-',
-        _ => false,
-    }
 }

@@ -1,18 +1,9 @@
 //! The lines that are written.
 
 ghost use Rattle.std.specs.Prelude.{◌≡◌, IfOk, string_bytes, ◌++◌};
-ghost use Rattle.ebpf_run.specs.Lines.{fault_line, refused_line, accepted_line, emit_line, exit_line, run_lines};
+ghost use Rattle.ebpf_run.specs.Lines.{refused_line, accepted_line, emit_line, exit_line, run_lines};
 
-use crate::done::FaultCode;
 use std::alloc::{AllocError, Global};
-
-/// The line of a fault.
-pub fn fault_line(alloc: Global, code: FaultCode) -> Result<String, AllocError>
-    ensures { IfOk result (λ text. string_bytes text ≡ fault_line code) }
-{
-    let name = code.name();
-    format!(in alloc; "fault {name} line 0\n")
-}
 
 /// The line of a program that is refused at a slot.
 pub fn refused_line(alloc: Global, code: &str, slot: u16) -> Result<String, AllocError>

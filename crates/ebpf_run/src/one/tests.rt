@@ -1,5 +1,5 @@
-use crate::done::{Done, EngineFault};
 use crate::one::one;
+use ebpf_script::done::{Done, EngineFault};
 use std::alloc::Global;
 use std::io;
 use std::io::{Read, Write};

@@ -1,7 +1,7 @@
 //! How a command ends.
 
 ghost use Rattle.std.specs.Prelude.{◌≡◌};
-ghost use Rattle.ebpf_run.specs.Lines.{fault_name};
+ghost use Rattle.ebpf_script.specs.Lines.{fault_name};
 
 use std::alloc::{AllocError, AllocFailed};
 use thiserror::Error;
@@ -32,12 +32,24 @@ pub enum EngineFault {
 /// Why an input or an option can't be used.
 #[derive(Clone, Copy, Debug, PartialEq, Eq)]
 pub enum FaultCode {
-    /// The input has more than 1,048,576 bytes.
+    /// The text has more than 1,048,576 bytes.
     S1,
-    /// A number is out of its range.
+    /// A byte is none of tab, newline, carriage return and 0x20 to 0x7e.
+    S2,
+    /// The line has no shape of this command.
+    S3,
+    /// A number isn't decimal, or is out of its range.
     S4,
     /// What should be hex isn't readable.
     S5,
+    /// The name isn't allowed, or is defined already.
+    S6,
+    /// The name isn't defined.
+    S7,
+    /// There is an `arena` already.
+    S8,
+    /// The context of `run` hasn't the declared length.
+    S9,
 }
 
 impl FaultCode {
@@ -47,14 +59,20 @@ impl FaultCode {
     {
         match self {
             FaultCode::S1 => "S1",
+            FaultCode::S2 => "S2",
+            FaultCode::S3 => "S3",
             FaultCode::S4 => "S4",
             FaultCode::S5 => "S5",
+            FaultCode::S6 => "S6",
+            FaultCode::S7 => "S7",
+            FaultCode::S8 => "S8",
+            FaultCode::S9 => "S9",
         }
     }
 }
 
 impl<T: Drop> From<AllocFailed<T>> for EngineFault {
-    ghost use Rattle.ebpf_run.specs.declared.done.EngineFault.TheVariants.{NoMemory};
+    ghost use Rattle.ebpf_script.specs.declared.done.EngineFault.TheVariants.{NoMemory};
 
     ghost from_gives = { λ _ e. e ≡ NoMemory };
 
@@ -64,7 +82,7 @@ impl<T: Drop> From<AllocFailed<T>> for EngineFault {
 }
 
 impl From<AllocError> for EngineFault {
-    ghost use Rattle.ebpf_run.specs.declared.done.EngineFault.TheVariants.{NoMemory};
+    ghost use Rattle.ebpf_script.specs.declared.done.EngineFault.TheVariants.{NoMemory};
 
     ghost from_gives = { λ _ e. e ≡ NoMemory };
 

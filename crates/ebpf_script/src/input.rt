@@ -2,8 +2,8 @@
 
 ghost use Rattle.std.specs.Prelude.{◌≡◌, ◌≢◌, ◌≤◌, ◌<◌, IfOk, IfErr, IfSome, length};
 ghost use Rattle.std.specs.Io.KnownBytes.{Consumes, IsAtEnd};
-ghost use Rattle.ebpf_run.specs.Input.{read_of};
-ghost use Rattle.ebpf_run.specs.declared.done.EngineFault.TheVariants.{Output};
+ghost use Rattle.ebpf_script.specs.Input.{read_of};
+ghost use Rattle.ebpf_script.specs.declared.done.EngineFault.TheVariants.{Output};
 
 use crate::done::EngineFault;
 use std::alloc::Global;

@@ -6,6 +6,8 @@ use Rattle.ebpf_flow.specs.declared.fault.FlowCode.{FlowCode}
 use Rattle.ebpf_flow.specs.declared.fault.FlowCode.TheVariants.{F1, F2, F3, F4, F5}
 use Rattle.ebpf_verify.specs.declared.fault.VerifyCode.{VerifyCode}
 use Rattle.ebpf_verify.specs.declared.fault.VerifyCode.TheVariants.{V0, V1, V2, V3, V4, V5, V6, V7, V8, V9, V10, V11, V12, V13, V14, V15, V16, V17, V18, V19}
+use Rattle.ebpf_script.specs.declared.codes.RefusalCode.{RefusalCode}
+use Rattle.ebpf_script.specs.declared.codes.RefusalCode.TheVariants.{Decode, Flow, Verify}
 
 abbrev pub decode_name : DecodeCode → List ℕ
 decode_name I1 = codes "I1"
@@ -46,3 +48,8 @@ verify_name V16 = codes "V16"
 verify_name V17 = codes "V17"
 verify_name V18 = codes "V18"
 verify_name V19 = codes "V19"
+
+abbrev pub refusal_name : RefusalCode → List ℕ
+refusal_name (Decode code) = decode_name code
+refusal_name (Flow code) = flow_name code
+refusal_name (Verify code) = verify_name code

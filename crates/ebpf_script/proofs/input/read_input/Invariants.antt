@@ -1,6 +1,6 @@
 use Rattle.std.proofs.Common.{◌≡◌, ◌≤◌, ◌-◌, length}
 use Rattle.std.specs.Io.KnownBytes.{Consumes}
-use Rattle.ebpf_run.proofs.input.read_input.Given as goal
+use Rattle.ebpf_script.proofs.input.read_input.Given as goal
 
 abbrev pub invariant-reading : goal.invariant-reading
 invariant-reading g l =

@@ -1,14 +1,38 @@
 //! The codes of refusals, as they are written.
 
 ghost use Rattle.std.specs.Prelude.{◌≡◌};
-ghost use Rattle.ebpf_run.specs.Codes.{decode_name, flow_name, verify_name};
+ghost use Rattle.ebpf_script.specs.Codes.{decode_name, flow_name, verify_name, refusal_name};
 
 use ebpf_flow::fault::FlowCode;
 use ebpf_insn::fault::DecodeCode;
 use ebpf_verify::fault::VerifyCode;
 
-/// The code of bytes that are no program.
-pub fn decode_name(code: DecodeCode) -> &'static str
+/// Why a program is refused, by the stage that refuses it.
+#[derive(Clone, Copy, Debug, PartialEq, Eq)]
+pub enum RefusalCode {
+    /// The bytes are no program.
+    Decode(DecodeCode),
+    /// The flow is at fault.
+    Flow(FlowCode),
+    /// A run may not keep within what it may touch.
+    Verify(VerifyCode),
+}
+
+impl RefusalCode {
+    /// The code as it is written.
+    pub fn name(self) -> &'static str
+        ensures { result.now ≡ refusal_name self }
+    {
+        match self {
+            RefusalCode::Decode(code) => decode_name(code),
+            RefusalCode::Flow(code) => flow_name(code),
+            RefusalCode::Verify(code) => verify_name(code),
+        }
+    }
+}
+
+// The code of bytes that are no program.
+fn decode_name(code: DecodeCode) -> &'static str
     ensures { result.now ≡ decode_name code }
 {
     match code {
@@ -24,8 +48,8 @@ pub fn decode_name(code: DecodeCode) -> &'static str
     }
 }
 
-/// The code of a program whose flow is refused.
-pub fn flow_name(code: FlowCode) -> &'static str
+// The code of a program whose flow is refused.
+fn flow_name(code: FlowCode) -> &'static str
     ensures { result.now ≡ flow_name code }
 {
     match code {
@@ -37,8 +61,8 @@ pub fn flow_name(code: FlowCode) -> &'static str
     }
 }
 
-/// The code of a program that the verifier refuses.
-pub fn verify_name(code: VerifyCode) -> &'static str
+// The code of a program that the verifier refuses.
+fn verify_name(code: VerifyCode) -> &'static str
     ensures { result.now ≡ verify_name code }
 {
     match code {

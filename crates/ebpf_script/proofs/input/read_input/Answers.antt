@@ -1,7 +1,7 @@
 use Rattle.std.proofs.Common.{◌<◌, length, arith}
 use Rattle.std.proofs.lemmas.Grind.{common_steps}
-use Rattle.ebpf_run.proofs.Known.{Consumes-chunk, read_whole, read_front}
-use Rattle.ebpf_run.proofs.input.read_input.Goals as goal
+use Rattle.ebpf_script.proofs.Known.{Consumes-chunk, read_whole, read_front}
+use Rattle.ebpf_script.proofs.input.read_input.Goals as goal
 
 pub returns-then-n-eq0-clause-read : goal.returns-then-n-eq0-clause-read
 returns-then-n-eq0-clause-read g c =

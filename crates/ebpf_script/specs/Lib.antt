@@ -1,0 +1,6 @@
+pub mod Input
+pub mod HexText
+pub mod Codes
+pub mod Judging
+pub mod Lines
+pub mod Told

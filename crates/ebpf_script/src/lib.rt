@@ -1,0 +1,17 @@
+//! What the commands over scripts share with one another and with the command `one`: reading an input, hex, the verdict
+//! on the bytes of a program, and the text that is told.
+//!
+//! A command tells a whole text or a beginning of it, and writes nothing else. So each command is a function from what is
+//! read to an [`answer::Answer`], between [`input::read_input`] and [`output::write_text`].
+//!
+//! To be read in this order: `done`, `input`, `hex_text`, `codes`, `judge`, `text`, `answer`, `output`.
+#![tactic(auto)]
+
+pub mod answer;
+pub mod codes;
+pub mod done;
+pub mod hex_text;
+pub mod input;
+pub mod judge;
+pub mod output;
+pub mod text;
