@@ -1,2 +1,10 @@
 pub mod Known
 pub mod KindLemmas
+pub mod NameLemmas
+pub mod NumberLemmas
+pub mod ScriptLemmas
+pub mod LinesLemmas
+pub mod VerdictLemmas
+pub mod WorldLemmas
+pub mod Written
+pub mod ReplayLemmas

@@ -1,4 +1,4 @@
--- The codes of refusals, as they are written.
+-- The codes of refusals and of events that are not legal, as they are written.
 use Rattle.std.specs.Prelude.{ℕ, List, codes}
 use Rattle.ebpf_insn.specs.declared.fault.DecodeCode.{DecodeCode}
 use Rattle.ebpf_insn.specs.declared.fault.DecodeCode.TheVariants.{I1, I2, I3, I4, I5, I6, I7, I8, I9}
@@ -6,6 +6,8 @@ use Rattle.ebpf_flow.specs.declared.fault.FlowCode.{FlowCode}
 use Rattle.ebpf_flow.specs.declared.fault.FlowCode.TheVariants.{F1, F2, F3, F4, F5}
 use Rattle.ebpf_verify.specs.declared.fault.VerifyCode.{VerifyCode}
 use Rattle.ebpf_verify.specs.declared.fault.VerifyCode.TheVariants.{V0, V1, V2, V3, V4, V5, V6, V7, V8, V9, V10, V11, V12, V13, V14, V15, V16, V17, V18, V19}
+use Rattle.ebpf_core.specs.declared.fault.ApplyCode.{ApplyCode}
+use Rattle.ebpf_core.specs.declared.fault.ApplyCode.TheVariants.{E1, E2, E3, E4, E5, E6, E7, E8, E9, E10}
 use Rattle.ebpf_script.specs.declared.codes.RefusalCode.{RefusalCode}
 use Rattle.ebpf_script.specs.declared.codes.RefusalCode.TheVariants.{Decode, Flow, Verify}
 
@@ -53,3 +55,16 @@ abbrev pub refusal_name : RefusalCode → List ℕ
 refusal_name (Decode code) = decode_name code
 refusal_name (Flow code) = flow_name code
 refusal_name (Verify code) = verify_name code
+
+-- an event that is not legal
+abbrev pub apply_name : ApplyCode → List ℕ
+apply_name E1 = codes "E1"
+apply_name E2 = codes "E2"
+apply_name E3 = codes "E3"
+apply_name E4 = codes "E4"
+apply_name E5 = codes "E5"
+apply_name E6 = codes "E6"
+apply_name E7 = codes "E7"
+apply_name E8 = codes "E8"
+apply_name E9 = codes "E9"
+apply_name E10 = codes "E10"

@@ -4,3 +4,16 @@ pub mod Codes
 pub mod Judging
 pub mod Lines
 pub mod Told
+pub mod ScriptLines
+pub mod Words
+pub mod Numbers
+pub mod Names
+pub mod Shapes
+pub mod Said
+pub mod LineFaults
+pub mod Scripts
+pub mod ReadScripts
+pub mod Verdicts
+pub mod VerdictsKept
+pub mod WorldLines
+pub mod ReplayText

@@ -1,8 +1,9 @@
-//! The codes of refusals, as they are written.
+//! The codes of refusals and of events that aren't legal, as they are written.
 
 ghost use Rattle.std.specs.Prelude.{◌≡◌};
-ghost use Rattle.ebpf_script.specs.Codes.{decode_name, flow_name, verify_name, refusal_name};
+ghost use Rattle.ebpf_script.specs.Codes.{decode_name, flow_name, verify_name, refusal_name, apply_name};
 
+use ebpf_core::fault::ApplyCode;
 use ebpf_flow::fault::FlowCode;
 use ebpf_insn::fault::DecodeCode;
 use ebpf_verify::fault::VerifyCode;
@@ -86,5 +87,23 @@ fn verify_name(code: VerifyCode) -> &'static str
         VerifyCode::V17 => "V17",
         VerifyCode::V18 => "V18",
         VerifyCode::V19 => "V19",
+    }
+}
+
+/// The code of an event that isn't legal.
+pub fn apply_name(code: ApplyCode) -> &'static str
+    ensures { result.now ≡ apply_name code }
+{
+    match code {
+        ApplyCode::E1 => "E1",
+        ApplyCode::E2 => "E2",
+        ApplyCode::E3 => "E3",
+        ApplyCode::E4 => "E4",
+        ApplyCode::E5 => "E5",
+        ApplyCode::E6 => "E6",
+        ApplyCode::E7 => "E7",
+        ApplyCode::E8 => "E8",
+        ApplyCode::E9 => "E9",
+        ApplyCode::E10 => "E10",
     }
 }

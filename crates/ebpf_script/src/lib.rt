@@ -14,4 +14,8 @@ pub mod hex_text;
 pub mod input;
 pub mod judge;
 pub mod output;
+pub mod reader;
+pub mod replay;
 pub mod text;
+pub mod verdicts;
+pub mod world_text;

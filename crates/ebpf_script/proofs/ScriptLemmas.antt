@@ -1,0 +1,52 @@
+-- The programs of a script, by name.
+use Rattle.std.proofs.Common.{◌≡◌, ℕ, ◌+◌, Bool, false, cond, not, List, [], ◌∷◌, ◌++◌, length, map, Option, Some, None, is_some, position, String, string_bytes, refl, sym, ◌∙◌, ap, arith}
+use Rattle.std.proofs.lemmas.List.{map-append}
+use Rattle.std.specs.declared.alloc.Global.{Global}
+use Rattle.std.specs.List.{prefix_len}
+use Rattle.std.specs.Map.{keys_of, lookup}
+use Rattle.std.specs.Str.{bytes_eq}
+use Rattle.std.specs.String.{string_eq}
+use Rattle.indexmap.specs.IndexMap.{IndexMap, get, insert_entry}
+use Rattle.indexmap.proofs.MapLemmas.{some_index}
+use Rattle.indexmap.proofs.CallerLemmas.{insert_entry-new}
+use Rattle.ebpf_script.specs.declared.reader.script.ProgramText.{ProgramText}
+use Rattle.ebpf_script.specs.ReadScripts.{named}
+use Rattle.ebpf_script.specs.Said.{number_of}
+
+prefix_len-map : {X Y : Type 0} (p : Y → Bool) (f : X → Y) (xs : List X) → prefix_len p (map f xs) ≡ prefix_len (λ x. p (f x)) xs
+prefix_len-map p f [] = refl
+prefix_len-map p f (x ∷ xs) = ap (λ (n : ℕ). cond (p (f x)) (1 + n) 0) (prefix_len-map p f xs)
+
+length-mapped : {X Y : Type 0} (f : X → Y) (xs : List X) → length (map f xs) ≡ length xs
+length-mapped f [] = refl
+length-mapped f (x ∷ xs) = omega (arith, length-mapped f xs)
+
+position-map : {X Y : Type 0} (p : Y → Bool) (f : X → Y) (xs : List X) → position p (map f xs) ≡ position (λ x. p (f x)) xs
+position-map p f xs = rw (prefix_len-map (λ y. not (p y)) f xs, length-mapped f xs) refl
+
+-- the number of a name is the index of its key
+pub number_of-entries : (es : List (String Global × ProgramText)) (name : List ℕ) → number_of (map named es) name ≡ position (λ k. bytes_eq name (string_bytes k)) (keys_of es)
+unfolding number_of
+number_of-entries es name = position-map (λ p. bytes_eq name p.name) named es ∙ sym (position-map (λ k. bytes_eq name (string_bytes k)) (λ e. e.0) es)
+
+-- a name has a number where its key is there
+is_defined-entries : (es : List (String Global × ProgramText)) (name : List ℕ) → is_some (number_of (map named es) name) ≡ is_some (lookup (λ k. bytes_eq name (string_bytes k)) es)
+is_defined-entries es name = ap is_some (number_of-entries es name) ∙ some_index (λ k. bytes_eq name (string_bytes k)) es
+
+-- what the map's test for a name says of the name
+pub is_defined-test : (es : List (String Global × ProgramText)) (asked name : List ℕ) (test : Bool) → asked ≡ name → test ≡ is_some (lookup (λ k. bytes_eq asked (string_bytes k)) es) → is_some (number_of (map named es) name) ≡ test
+is_defined-test es asked name test same found = sym (found ∙ (ap (λ (q : List ℕ). is_some (lookup (λ k. bytes_eq q (string_bytes k)) es)) same ∙ sym (is_defined-entries es name)))
+
+-- what the map's index of a name says of the name
+pub number_of-index : (es : List (String Global × ProgramText)) (asked name : List ℕ) (index : Option ℕ) → asked ≡ name → index ≡ position (λ k. bytes_eq asked (string_bytes k)) (keys_of es) → number_of (map named es) name ≡ index
+number_of-index es asked name index same found = sym (found ∙ (ap (λ (q : List ℕ). position (λ k. bytes_eq q (string_bytes k)) (keys_of es)) same ∙ sym (number_of-entries es name)))
+
+none_where : {X : Type 0} (o : Option X) → is_some o ≡ false → o ≡ None
+none_where None h = refl
+none_where (Some x) h = cc
+
+-- a name that is not there goes last
+pub entries-more : {S : Type 0} (m : IndexMap (String Global) ProgramText S) (key : String Global) (text : ProgramText) (asked : List ℕ) (new : List (String Global × ProgramText)) → string_bytes key ≡ asked → false ≡ is_some (lookup (λ k. bytes_eq asked (string_bytes k)) m.entries) → new ≡ insert_entry string_eq m.entries key text → map named new ≡ map named m.entries ++ named (key, text) ∷ []
+entries-more m key text asked new same absent put =
+    let none : get string_eq m key ≡ None = none_where _ (ap (λ (q : List ℕ). is_some (lookup (λ k. bytes_eq q (string_bytes k)) m.entries)) same ∙ sym absent) in
+    ap (λ (es : List (String Global × ProgramText)). map named es) (put ∙ insert_entry-new string_eq m key text none) ∙ map-append named m.entries ((key, text) ∷ [])

@@ -1,0 +1,15 @@
+-- The lines of a script.
+use Rattle.std.specs.Prelude.{ℕ, Bool, ◌==◌, ◌||◌, ◌&&◌, nat_le, List}
+use Rattle.std.specs.List.{slice_split, list_all}
+
+-- what stands between the newlines; behind a last newline that is a blank line more
+abbrev pub script_lines : List ℕ → List (List ℕ)
+script_lines text = slice_split (λ c. c == 10) text
+
+-- a tab, a carriage return, or 0x20 to 0x7e
+abbrev pub is_text_byte : ℕ → Bool
+is_text_byte c = c == 9 || c == 13 || (nat_le 32 c && nat_le c 126)
+
+-- every byte is one of these
+unfoldable pub is_text : List ℕ → Bool
+is_text line = list_all is_text_byte line

@@ -1,0 +1,52 @@
+//! Reads a script: from the bytes of a text to its programs and events, or to its first fault.
+//!
+//! To be read in this order: `words`, `numbers`, `names`, `script`, `statement`, `line`.
+
+ghost use Rattle.std.specs.Prelude.{◌≡◌, IfOk, IfErr};
+ghost use Rattle.ebpf_script.specs.ReadScripts.{said_by, IsScriptStop};
+ghost use Rattle.ebpf_script.specs.Scripts.{script_of};
+
+pub mod line;
+pub mod names;
+pub mod numbers;
+pub mod script;
+pub mod statement;
+pub mod words;
+
+use crate::done::FaultCode;
+use crate::reader::line::read_line;
+use crate::reader::script::{Script, ScriptFault, ScriptStop};
+use indexmap::IndexMap;
+use std::alloc::Global;
+
+/// The script that a text says.
+///
+/// # Errors
+/// `Fault` with the lowest line that has a fault, and its first code; `NoMemory` where a growth was refused.
+#[tactic(auto, unfolding(crate::specs::Scripts::script_of))]
+pub fn read_script(alloc: Global, text: &[u8]) -> Result<Script, ScriptStop>
+    ensures said { IfOk result (λ script. script_of text.now ≡ Ok (said_by script)) }
+    ensures refused { IfErr result (IsScriptStop (script_of text.now)) }
+{
+    if text.len() > 1_048_576 {
+        return Err(ScriptStop::Fault(ScriptFault {
+            code: FaultCode::S1,
+            line: 0,
+        }));
+    }
+    let mut script = Script {
+        programs: IndexMap::new(alloc),
+        events: Vec::new(alloc),
+    };
+    let mut number = 0;
+    for line in text.split(|c| *c == b'\n') {
+        number += 1;
+        if let Err(stop) = read_line(alloc, &mut script, line) {
+            return Err(stop.at(number));
+        }
+    }
+    Ok(script)
+}
+
+#[cfg(test)]
+mod tests;

@@ -1,0 +1,32 @@
+//! The names of programs.
+
+ghost use Rattle.std.specs.Prelude.{◌≡◌, IfSome, is_some};
+ghost use Rattle.ebpf_script.specs.Names.{is_name, is_name_byte};
+
+/// The name that a word is; `None` where it isn't allowed.
+pub fn name_of(word: &[u8]) -> Option<&str>
+    ensures allowed { is_some result ≡ is_name word.now }
+    ensures same { IfSome result (λ name. name.now ≡ word.now) }
+{
+    if !is_name(word) {
+        return None;
+    }
+    str::from_utf8(word).ok()
+}
+
+// 1 to 32 letters, digits, `_` or `-`.
+#[tactic(auto, unfolding(crate::specs::Names::is_name))]
+fn is_name(word: &[u8]) -> bool
+    ensures { result ≡ is_name word.now }
+{
+    if word.is_empty() || word.len() > 32 {
+        return false;
+    }
+    word.iter().all(|c| is_name_byte(*c))
+}
+
+fn is_name_byte(c: u8) -> bool
+    ensures { result ≡ is_name_byte c }
+{
+    c.is_ascii_alphanumeric() || c == b'_' || c == b'-'
+}

@@ -1,0 +1,66 @@
+//! The numbers of a script, each with its range.
+
+ghost use Rattle.std.specs.Prelude.{◌≡◌, ◌≤◌, IfSome};
+ghost use Rattle.ebpf_script.specs.Numbers.{number_to, context_of, held_of, run_of, kind_of, slot_of};
+
+/// The length of a context, 0 to 4096.
+pub fn context_of(word: &[u8]) -> Option<u32>
+    ensures value { result ≡ context_of word.now }
+    ensures small { IfSome result (λ n. n ≤ 4096) }
+{
+    number_to(4096, word)
+}
+
+/// The most objects to hold, 0 to 64.
+pub fn held_of(word: &[u8]) -> Option<u8>
+    ensures value { result ≡ held_of word.now }
+    ensures small { IfSome result (λ n. n ≤ 64) }
+{
+    let held = number_to(64, word)?;
+    Some(held as u8)
+}
+
+/// The number of a run, below 2^32.
+pub fn run_of(word: &[u8]) -> Option<usize>
+    ensures { result ≡ run_of word.now }
+{
+    let run = number_to(u32::MAX, word)?;
+    Some(run as usize)
+}
+
+/// The number of a kind, 0 to 255.
+pub fn kind_of(word: &[u8]) -> Option<u8>
+    ensures { result ≡ kind_of word.now }
+{
+    let kind = number_to(255, word)?;
+    Some(kind as u8)
+}
+
+/// The number of a slot, 0 to 65535.
+pub fn slot_of(word: &[u8]) -> Option<u32>
+    ensures { result ≡ slot_of word.now }
+{
+    number_to(65_535, word)
+}
+
+// The number that a word of decimal digits writes; `None` where it isn't one, or is more than `most`.
+fn number_to(most: u32, word: &[u8]) -> Option<u32>
+    ensures value { result ≡ number_to most word.now }
+    ensures small { IfSome result (λ n. n ≤ most) }
+{
+    if word.is_empty() {
+        return None;
+    }
+    let limit = u64::from(most);
+    let mut value = 0u64;
+    for digit in word {
+        if !digit.is_ascii_digit() {
+            return None;
+        }
+        value = value * 10 + u64::from(*digit - b'0');
+        if value > limit {
+            return None;
+        }
+    }
+    Some(value as u32)
+}

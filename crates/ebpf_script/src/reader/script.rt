@@ -1,0 +1,80 @@
+//! What a reader of scripts makes, and why it stops.
+
+ghost use Rattle.std.specs.Prelude.{◌≡◌};
+
+use crate::done::FaultCode;
+use ebpf_core::event::Event;
+use ebpf_verify::decl::Decl;
+use indexmap::IndexMap;
+use std::alloc::{AllocError, AllocFailed};
+
+/// A program of a script: what its hex says, and what it declares.
+#[derive(Debug, Drop)]
+pub struct ProgramText {
+    pub bytes: Vec<u8>,
+    pub decl: Decl,
+}
+
+/// The programs of a script by their names, in the order of their lines, and its events.
+#[derive(Drop)]
+pub struct Script {
+    pub programs: IndexMap<String, ProgramText>,
+    pub events: Vec<Event>,
+}
+
+/// Why a text is no script: the code, and the line, from 1; line 0 where the text is too long.
+#[derive(Clone, Copy, Debug, PartialEq, Eq)]
+pub struct ScriptFault {
+    pub code: FaultCode,
+    pub line: usize,
+}
+
+/// Why there is no script.
+#[derive(Clone, Copy, Debug, PartialEq, Eq)]
+pub enum ScriptStop {
+    /// The text can't be used.
+    Fault(ScriptFault),
+    NoMemory,
+}
+
+/// Why a line is not read.
+#[derive(Clone, Copy, Debug, PartialEq, Eq)]
+pub enum LineStop {
+    /// The line can't be used.
+    Fault(FaultCode),
+    NoMemory,
+}
+
+impl LineStop {
+    ghost use Rattle.ebpf_script.specs.ReadScripts.{stop_at};
+
+    /// The stop of a script at this line.
+    pub fn at(self, line: usize) -> ScriptStop
+        ensures { result ≡ stop_at self line }
+    {
+        match self {
+            LineStop::Fault(code) => ScriptStop::Fault(ScriptFault { code, line }),
+            LineStop::NoMemory => ScriptStop::NoMemory,
+        }
+    }
+}
+
+impl From<AllocError> for LineStop {
+    ghost use Rattle.ebpf_script.specs.declared.reader.script.LineStop.TheVariants.{NoMemory};
+
+    ghost from_gives = { λ _ e. e ≡ NoMemory };
+
+    fn from(_e: AllocError) -> LineStop {
+        LineStop::NoMemory
+    }
+}
+
+impl<T: Drop> From<AllocFailed<T>> for LineStop {
+    ghost use Rattle.ebpf_script.specs.declared.reader.script.LineStop.TheVariants.{NoMemory};
+
+    ghost from_gives = { λ _ e. e ≡ NoMemory };
+
+    fn from(_e: AllocFailed<T>) -> LineStop {
+        LineStop::NoMemory
+    }
+}

@@ -1,0 +1,96 @@
+//! The command `replay`: programs, and a list of events over runs of them.
+
+ghost use Rattle.std.specs.Prelude.{◌≡◌, ◌≢◌, ◌≤◌, ◌++◌, ℕ, string_bytes, length, take, IfOk, IfErr, IfSome};
+ghost use Rattle.std.specs.Io.KnownBytes.{Appends};
+ghost use Rattle.ebpf_core.specs.Replay.{lead};
+ghost use Rattle.ebpf_script.specs.declared.done.EngineFault.TheVariants.{Output};
+ghost use Rattle.ebpf_script.specs.ReadScripts.{said_by};
+ghost use Rattle.ebpf_script.specs.ReplayText.{TellsReplay, TellsSaid, world_told};
+ghost use Rattle.ebpf_script.specs.Told.{Told};
+
+use crate::answer::Answer;
+use crate::codes::apply_name;
+use crate::done::{Done, EngineFault};
+use crate::input::read_input;
+use crate::output::write_text;
+use crate::reader::read_script;
+use crate::reader::script::{Script, ScriptStop};
+use crate::text::fault_line;
+use crate::verdicts::verdicts_on;
+use crate::world_text::write_world;
+use ebpf_core::event::Event;
+use ebpf_core::fault::ReplayFault;
+use ebpf_core::replay::replay as replay_events;
+use ebpf_verify::verified::Verified;
+use std::alloc::{AllocError, Global};
+use std::io::{Read, Write};
+
+/// Reads a script, judges its programs, makes the world after its events, and writes what became of each.
+///
+/// # Errors
+/// `Input` where a read failed and `NoMemory` where a growth was refused: nothing was written then. `Output` where a write
+/// failed or took nothing.
+pub fn replay<R: Read, W: Write>(
+    alloc: Global,
+    reader: &mut R,
+    writer: &mut W,
+) -> Result<Done, EngineFault>
+    // The text of the input is written, and nothing else.
+    ensures told { IfOk result (λ done. IfSome (R.remaining reader.old) (λ input. (told : Told) × TellsReplay input told × (told.done ≡ done) × Appends (W.contents writer.old) (W.contents writer.new) told.text)) }
+    ensures untouched { IfErr result (λ fault. fault ≢ Output → writer.new ≡ writer.old) }
+    ensures beginning { IfErr result (λ fault. IfSome (R.remaining reader.old) (λ input. fault ≡ Output → (told : Told) × TellsReplay input told × ((n : ℕ) × (n ≤ length told.text) × Appends (W.contents writer.old) (W.contents writer.new) (take n told.text)))) }
+{
+    let input = read_input(alloc, reader)?;
+    let answer = answer_text(alloc, &input)?;
+    write_text(writer, answer.text().as_bytes())?;
+    Ok(answer.done())
+}
+
+// What is told of a text.
+fn answer_text(alloc: Global, text: &[u8]) -> Result<Answer, AllocError>
+    ensures { IfOk result (TellsReplay text.now) }
+{
+    match read_script(alloc, text) {
+        Ok(script) => answer_script(alloc, &script),
+        Err(ScriptStop::Fault(fault)) => {
+            let line = fault_line(alloc, fault.code, fault.line)?;
+            Ok(Answer::new(line, Done::Refused))
+        }
+        Err(ScriptStop::NoMemory) => Err(AllocError),
+    }
+}
+
+// What is told of a script.
+fn answer_script(alloc: Global, script: &Script) -> Result<Answer, AllocError>
+    ensures { IfOk result (TellsSaid (Ok (said_by script.now))) }
+{
+    let verdicts = verdicts_on(alloc, &script.programs)?;
+    if verdicts.refused {
+        return Ok(Answer::new(verdicts.text, Done::Refused));
+    }
+    answer_events(alloc, verdicts.text, &verdicts.accepted, &script.events)
+}
+
+// What is told of the events, behind the verdicts.
+fn answer_events(
+    alloc: Global,
+    text: String,
+    programs: &[Verified],
+    events: &[Event],
+) -> Result<Answer, AllocError>
+    ensures { IfOk result (λ answer. answer ≡ world_told (string_bytes text) (lead programs.now events.now)) }
+{
+    let mut text = text;
+    match replay_events(alloc, programs, events) {
+        Ok(world) => {
+            write_world(&mut text, &world)?;
+            Ok(Answer::new(text, Done::Clean))
+        }
+        Err(ReplayFault::Bad { index, code }) => {
+            let code = apply_name(code);
+            write!(text, "stopped {code} {index}\n")?;
+            Ok(Answer::new(text, Done::Refused))
+        }
+        Err(ReplayFault::NoMemory) => Err(AllocError),
+    }
+}
