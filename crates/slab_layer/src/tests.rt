@@ -1,7 +1,7 @@
 ghost use Rattle.std.specs.Prelude.{◌≡◌};
 ghost use Rattle.vmem_arena.specs.Spans.{pages_of};
 
-use crate::{BlockKind, CellKind, Kind, RecordKind, Slabs};
+use crate::{BlockKind, CellKind, Home, Kind, Obj, RecordKind, Slabs};
 use std::alloc::Global;
 use std::process::Abort;
 use vmem_arena::{Arena, ArenaFault, Span};
@@ -14,6 +14,41 @@ fn page_of(rt: &impl Abort, arena: &mut Arena) -> Span
         Ok(span) => span,
         Err(_) => panic!(rt; "the arena has no page"),
     }
+}
+
+// Takes every object of the slabs, of which there are so many.
+fn take_all<K: Kind>(
+    rt: &impl Abort,
+    slabs: &mut Slabs<K>,
+    held: &mut Vec<Obj<K, Home>>,
+    count: u32,
+) {
+    for taken in 0..count {
+        assert_eq!(rt; slabs.out(), taken);
+        match slabs.take() {
+            Some(object) => {
+                if let Err(failed) = held.push(object) {
+                    slabs.give(failed.value);
+                }
+            }
+            None => panic!(rt; "a slab has an object less"),
+        }
+    }
+    if let Some(object) = slabs.take() {
+        slabs.give(object);
+        panic!(rt; "a slab has an object more");
+    }
+    assert_eq!(rt; slabs.out(), count);
+}
+
+// Gives the objects back; no page is given up before the last of them.
+fn give_all<K: Kind>(rt: &impl Abort, slabs: &mut Slabs<K>, mut held: Vec<Obj<K, Home>>) {
+    while let Some(object) = held.pop() {
+        assert!(rt; slabs.reap().is_none());
+        assert!(rt; slabs.give(object));
+    }
+    held.destroy_empty();
+    assert_eq!(rt; slabs.out(), 0);
 }
 
 // A page of the kind is filled and emptied; it has so many objects.
@@ -34,28 +69,8 @@ fn fills_and_empties<K: Kind>(
         return Err(ArenaFault::NoMemory);
     }
     assert!(rt; slabs.has(0) && !slabs.has(1));
-    for taken in 0..count {
-        assert_eq!(rt; slabs.out(), taken);
-        match slabs.take() {
-            Some(object) => {
-                if let Err(failed) = held.push(object) {
-                    slabs.give(failed.value);
-                }
-            }
-            None => panic!(rt; "a slab has an object less"),
-        }
-    }
-    if let Some(object) = slabs.take() {
-        slabs.give(object);
-        panic!(rt; "a slab has an object more");
-    }
-    assert_eq!(rt; slabs.out(), count);
-    while let Some(object) = held.pop() {
-        assert!(rt; slabs.reap().is_none());
-        assert!(rt; slabs.give(object));
-    }
-    held.destroy_empty();
-    assert_eq!(rt; slabs.out(), 0);
+    take_all(rt, &mut slabs, &mut held, count);
+    give_all(rt, &mut slabs, held);
     match slabs.reap() {
         Some(span) => assert!(rt; arena.give(span)),
         None => panic!(rt; "a slab with nothing out is not given up"),
