@@ -7,6 +7,7 @@ use std::alloc::{AllocError, Global};
 #[derive(Clone, Copy)]
 pub enum Task<'a> {
     One(OneOptions<'a>),
+    Replay,
 }
 
 /// The options of `one`.
@@ -25,7 +26,8 @@ pub fn command<'a>(alloc: Global) -> Result<Command<'a>, AllocError> {
     Command::new(alloc, "ebpf_run")
         .about("Runs small eBPF programs")
         .subcommand_required(true)
-        .subcommand(one_command(alloc)?)
+        .subcommand(one_command(alloc)?)?
+        .subcommand(replay_command(alloc))
 }
 
 fn one_command<'a>(alloc: Global) -> Result<Command<'a>, AllocError> {
@@ -51,6 +53,12 @@ fn one_command<'a>(alloc: Global) -> Result<Command<'a>, AllocError> {
         .arg(nulls)
 }
 
+fn replay_command<'a>(alloc: Global) -> Command<'a> {
+    Command::new(alloc, "replay").about(
+        "Replays the script on standard input: programs, and events over runs of them",
+    )
+}
+
 /// The task that the words of the command line ask for, where they are a command.
 pub fn task_of<'a>(matches: &ArgMatches<'a>) -> Option<Task<'a>> {
     match matches.subcommand() {
@@ -59,6 +67,7 @@ pub fn task_of<'a>(matches: &ArgMatches<'a>) -> Option<Task<'a>> {
             held: given.get_one::<u8>("held").unwrap_or(0),
             nulls: given.get_flag("nulls"),
         })),
+        Some(("replay", _)) => Some(Task::Replay),
         _ => None,
     }
 }

@@ -1,8 +1,9 @@
 //! Runs small eBPF programs from the command line.
 //!
 //! What a command writes is a function of what it reads and of its options, errors included, and it writes nothing else:
-//! that is the contract of [`one::one`], which stands on the contracts of the crates below. This crate adds what `one`
-//! asks for, the lines of its text, the store of objects of a single run, and the command line.
+//! that is the contract of [`one::one`] and of [`ebpf_script::replay::replay`], which stand on the contracts of the crates
+//! below. This crate adds what `one` asks for, the lines of its text, the store of objects of a single run, and the command
+//! line.
 //!
 //! To be read in this order: `program_text`, `request`, `store`, `alone`, `text`, `answer`, `one`, `command`.
 #![tactic(auto)]
@@ -21,6 +22,7 @@ use crate::one::one;
 use clap::Error;
 use clap::error::ErrorKind;
 use ebpf_script::done::{Done, EngineFault};
+use ebpf_script::replay::replay;
 use std::process::ExitCode;
 use std::rt::Env;
 use std::{env, io};
@@ -52,19 +54,22 @@ fn run<R: AllocGlobal + Env + Eprint + Input + Print>(rt: &R) -> Result<u8, Engi
         Ok(matches) => matches,
         Err(error) => return tell(rt, &error),
     };
-    let Some(Task::One(options)) = task_of(&matches) else {
+    let Some(task) = task_of(&matches) else {
         return Ok(MISTAKEN);
     };
     let mut reader = rt.reader();
     let mut writer = io::writer(rt);
-    let done = one(
-        alloc,
-        &mut reader,
-        &mut writer,
-        options.context,
-        options.held,
-        options.nulls,
-    )?;
+    let done = match task {
+        Task::One(options) => one(
+            alloc,
+            &mut reader,
+            &mut writer,
+            options.context,
+            options.held,
+            options.nulls,
+        ),
+        Task::Replay => replay(alloc, &mut reader, &mut writer),
+    }?;
     Ok(match done {
         Done::Clean => 0,
         Done::Refused => 2,
