@@ -12,4 +12,6 @@ pub mod event;
 pub mod fault;
 pub mod replay;
 pub mod slots;
+#[cfg(test)]
+mod tests;
 pub mod world;
