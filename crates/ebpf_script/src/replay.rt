@@ -94,3 +94,8 @@ fn answer_events(
         Err(ReplayFault::NoMemory) => Err(AllocError),
     }
 }
+
+#[cfg(test)]
+mod stream_tests;
+#[cfg(test)]
+mod tests;
