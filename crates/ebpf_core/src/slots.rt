@@ -26,6 +26,8 @@ impl<L: Ledger> Answering<L> {
     /// Nothing answered yet, over a new ledger.
     pub fn new(book: Book<L>, share: Share<L>) -> Answering<L>
         requires { 0 < share.parts }
+        ensures book { result.book ≡ book }
+        ensures share { result.share ≡ share }
     {
         Answering { book, share }
     }
