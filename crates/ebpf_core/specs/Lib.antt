@@ -1,4 +1,5 @@
 pub mod Kinds
+pub mod Granted
 pub mod Events
 pub mod Faults
 pub mod Shown

@@ -119,7 +119,7 @@ impl<'v> World<'v> {
             Answer::Null => return Err(ApplyFault::Bad(ApplyCode::E5)),
             Answer::Slot(_) => return Err(ApplyFault::Bad(ApplyCode::E3)),
         }
-        step_in::<Brand>(run, Blank::new(1));
+        step_in::<Brand>(self.alloc, run, Blank::new(1));
         Ok(())
     }
 
@@ -186,12 +186,12 @@ impl<'v> World<'v> {
 }
 
 // One instruction of a run, with a new ledger, in which null answers are counted.
-fn step_in<L: Ledger>(run: &mut Run<Slot>, blank: Blank)
+fn step_in<L: Ledger>(alloc: Global, run: &mut Run<Slot>, blank: Blank)
     requires name { blank.name ≡ L.name }
     requires parts { (blank.parts ≡ L.parts) × (L.parts ≡ 1) }
     ensures { IfNone run.old.exit ((shown : Running) → IsSeenAs shown run.old → IsSeenAs (run_stepped 0 shown) run.new) }
 {
     let (book, share) = blank.open::<L>();
-    let mut answering = Answering::<L>::new(book, share);
+    let mut answering = Answering::<L>::new(alloc, book, share);
     run.step(&mut answering);
 }

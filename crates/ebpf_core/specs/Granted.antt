@@ -1,0 +1,15 @@
+-- The slot that an event grants.
+use Rattle.std.specs.Prelude.{◌≡◌, ◌<◌, ℕ, ◌==◌, if◌then◌else◌, List, length, Option, Some, None}
+use Rattle.ebpf_core.specs.declared.slots.Slot.{Slot}
+use Rattle.ebpf_core.specs.Kinds.{size_of_kind}
+
+-- it is this one, and its bytes are as many as its kind has
+pub record IsGranted (granted : Option Slot) (bytes : List ℕ) (slot : Slot) : Type 0 where
+  pub this : granted ≡ Some slot
+  pub size : length bytes ≡ size_of_kind slot.kind
+  pub known : slot.kind < 3
+
+-- how many slots of a kind are granted
+abbrev pub granted_of_kind : Option Slot → ℕ → ℕ
+granted_of_kind None kind = 0
+granted_of_kind (Some slot) kind = if kind == slot.kind then 1 else 0
