@@ -1,6 +1,11 @@
-pub mod FaultLemmas
 pub mod ListLemmas
-pub mod ProgramLemmas
+pub mod FaultLemmas
 pub mod SlotBytes
-pub mod Decoded
+pub mod ProgramLemmas
+pub mod Registers
+pub mod Opcodes
+pub mod FromSlots
+pub mod ToSlots
+pub mod InsnBytes
 pub mod ProgramBytes
+pub mod FormLemmas

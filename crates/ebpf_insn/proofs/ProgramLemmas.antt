@@ -1,9 +1,10 @@
 -- The instructions of a program, and those below a slot.
-use Rattle.std.proofs.Common.{◌≡◌, ℕ, zero, suc, ◌<◌, ◌≤◌, List, [], ◌∷◌, length, Option, Some, None, subst, arith}
+use Rattle.std.proofs.Common.{◌≡◌, ℕ, zero, suc, ◌+◌, ◌<◌, ◌≤◌, List, [], ◌∷◌, ◌++◌, length, take, Option, Some, None, refl, ap, ◌∙◌, subst, add-one, arith}
+use Rattle.std.proofs.lemmas.List.Concat.{flat_map-append}
 use Rattle.ebpf_insn.specs.declared.insn.Insn.{Insn}
-use Rattle.std.specs.List.{AllByRecursion}
+use Rattle.std.specs.List.{flat_map, AllByRecursion}
 use Rattle.ebpf_insn.specs.Program.{instructions, insn_at, count_below}
-use Rattle.ebpf_insn.specs.Encoding.{IsDefined}
+use Rattle.ebpf_insn.specs.Encoding.{encoding, IsDefined}
 
 -- there are at most as many instructions as slots
 pub instructions-length : (p : List (Option Insn)) → length (instructions p) ≤ length p
@@ -51,3 +52,20 @@ pub insn_at_within : (p : List (Option Insn)) (k : ℕ) (i : Insn) → insn_at p
 insn_at_within [] k i at = absurd (cc)
 insn_at_within (o ∷ p) zero i at = omega arith
 insn_at_within (o ∷ p) (suc k) i at = omega (arith, insn_at_within p k i at)
+
+-- the instructions of one slot more
+abbrev pub listed_insn : Option Insn → List Insn
+listed_insn None = []
+listed_insn (Some i) = i ∷ []
+
+pub instructions_next : (p : List (Option Insn)) (k : ℕ) → k < length p → instructions (take (suc k) p) ≡ instructions (take k p) ++ listed_insn (insn_at p k)
+instructions_next [] k lt = absurd (omega arith)
+instructions_next (None ∷ p) zero lt = refl
+instructions_next (Some i ∷ p) zero lt = refl
+instructions_next (None ∷ p) (suc k) lt = instructions_next p k (omega arith)
+instructions_next (Some i ∷ p) (suc k) lt = ap (λ (is : List Insn). i ∷ is) (instructions_next p k (omega arith))
+
+-- and their bytes
+pub bytes_next : (p : List (Option Insn)) (k : ℕ) (o : Option Insn) → k < length p → insn_at p k ≡ o → flat_map encoding (instructions (take (k + 1) p)) ≡ flat_map encoding (instructions (take k p)) ++ flat_map encoding (listed_insn o)
+bytes_next p k o lt here =
+    ap (λ (n : ℕ). flat_map encoding (instructions (take n p))) (add-one k) ∙ ap (flat_map encoding) (instructions_next p k lt) ∙ flat_map-append encoding (instructions (take k p)) (listed_insn (insn_at p k)) ∙ ap (λ (x : Option Insn). flat_map encoding (instructions (take k p)) ++ flat_map encoding (listed_insn x)) here

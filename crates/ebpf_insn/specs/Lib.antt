@@ -1,7 +1,10 @@
 pub mod Registers
 pub mod Slot
 pub mod Program
+pub mod Opcodes
+pub mod Fields
 pub mod Encoding
 pub mod Faults
 pub mod Decoding
+pub mod Decoded
 pub mod Arithmetic

@@ -1,6 +1,6 @@
 -- A slot: an opcode, two registers (dst in the low nibble, src in the high one), a 16-bit offset and a 32-bit
 -- immediate, little-endian (RFC 9669, section 3.1).
-use Rattle.std.specs.Prelude.{ℕ, ◌+◌, ◌*◌, ◌/◌, ◌%◌, List, ◌∷◌, ◌++◌, slice_index, drop}
+use Rattle.std.specs.Prelude.{ℕ, ◌+◌, ◌*◌, ◌/◌, ◌%◌, List, [], ◌∷◌, ◌++◌, slice_index, drop, Option, Some, None}
 use Rattle.byteorder.specs.Endian.{little_number, little_bytes}
 use Rattle.ebpf_insn.specs.declared.slot.Slot.{Slot}
 
@@ -17,3 +17,8 @@ slot_at bytes = record {
   offset = little_number 2 (drop 2 bytes);
   imm = little_number 4 (drop 4 bytes);
 }
+
+-- the slots that are there of one
+abbrev pub listed : Option Slot → List Slot
+listed None = []
+listed (Some s) = s ∷ []

@@ -1,14 +1,20 @@
 //! From bytes to a program.
 
-ghost use Rattle.std.specs.Prelude.{◌≡◌, ◌≤◌, ◌<◌, ◌+◌, ◌*◌, [], ◌∷◌, ℕ, take, drop, None, Some, List, Option, length, IfOk, IfErr, OnOk, MatchResult};
+ghost use Rattle.std.specs.Prelude.{◌≡◌, ◌≤◌, ◌<◌, ◌+◌, ◌*◌, [], ◌∷◌, ℕ, take, drop, None, Some, false, List, Option, length, IfOk, IfErr, OnOk, MatchResult};
 ghost use Rattle.ebpf_insn.specs.declared.insn.Insn.{Insn};
 ghost use Rattle.ebpf_insn.specs.declared.fault.DecodeFault.TheVariants.{NoMemory};
-ghost use Rattle.ebpf_insn.specs.Encoding.{slots_of, encoding, IsDefined, IsProgram};
-ghost use Rattle.ebpf_insn.specs.Decoding.{slot_fault, is_later_move, leaves_unused_zero, has_defined_offset, fault_at, decode_fault, IsDecodeFault};
+ghost use Rattle.ebpf_insn.specs.Program.{slots_in};
+ghost use Rattle.ebpf_insn.specs.Encoding.{slots_of, encoding, program_bytes, IsDefined, IsWellFormed, IsProgram};
+ghost use Rattle.ebpf_insn.specs.Decoding.{slot_fault, place_fault, decode_fault, second_at, is_second_half, IsDecodeFault};
+ghost use Rattle.ebpf_insn.specs.Slot.{listed};
 
+use crate::decoded::insn_at_slot;
 use crate::fault::{DecodeCode, DecodeFault};
-use crate::insn::{AluOp, Insn, Source, Width};
-use crate::opcode::{Form, Operand, form_of, is_later};
+use crate::fields::{
+    has_bad_second, has_defined_fields, has_left_out_source, lacks_second, leaves_unused_zero,
+};
+use crate::insn::Insn;
+use crate::opcode::{form_of, is_left_out};
 use crate::program::Program;
 use crate::register::Reg;
 use crate::slot::{Slot, read_slot};
@@ -36,9 +42,24 @@ pub fn decode(alloc: Global, bytes: &[u8]) -> Result<Program, DecodeFault>
     }
     let mut slots = Vec::new(alloc);
     let mut len = 0;
+    let mut is_second_half = false;
     for slot in 0..bytes.len() / 8 {
+        if slot == 4096 {
+            return Err(DecodeFault::Bad {
+                slot: 4096,
+                code: DecodeCode::I9,
+            });
+        }
+        if is_second_half {
+            slots.push(None)?;
+            is_second_half = false;
+            continue;
+        }
         match decode_at(bytes, slot) {
-            Ok(insn) => slots.push(Some(insn))?,
+            Ok(insn) => {
+                slots.push(Some(insn))?;
+                is_second_half = insn.slots() == 2;
+            }
             Err(code) => {
                 return Err(DecodeFault::Bad {
                     slot: slot as u16,
@@ -51,34 +72,44 @@ pub fn decode(alloc: Global, bytes: &[u8]) -> Result<Program, DecodeFault>
     Ok(Program::new(slots, len))
 }
 
-// The instruction at a place in the bytes, or the first code that applies there.
+// The instruction that begins at a place in the bytes, or the first code that applies there.
 fn decode_at(bytes: &[u8], slot: usize) -> Result<Insn, DecodeCode>
-    requires { 8 * slot + 8 ≤ length bytes.now }
-    ensures found { IfOk result (λ i. IsDefined i × (encoding i ≡ take 8 (drop (8 * slot) bytes.now))) }
-    ensures fault { MatchResult result (λ _. fault_at bytes.now slot ≡ None) (λ code. fault_at bytes.now slot ≡ Some code) }
+    requires room { 8 * slot + 8 ≤ length bytes.now }
+    requires first { is_second_half bytes.now slot ≡ false }
+    ensures found { IfOk result (λ i. IsDefined i × (encoding i ≡ take (8 * slots_in i) (drop (8 * slot) bytes.now))) }
+    ensures fault { MatchResult result (λ _. place_fault bytes.now slot ≡ None) (λ code. place_fault bytes.now slot ≡ Some code) }
 {
-    if slot == 4096 {
-        return Err(DecodeCode::I9);
-    }
-    decode_slot(read_slot(&bytes[8 * slot..]))
+    let rest = &bytes[8 * slot..];
+    decode_slot(read_slot(rest), second_slot(rest))
 }
 
-/// The instruction of a slot, or the first code that applies.
+// The slot after the one that the bytes begin with.
+fn second_slot(bytes: &[u8]) -> Option<Slot>
+    ensures { result ≡ second_at bytes.now }
+{
+    if bytes.len() >= 16 {
+        Some(read_slot(&bytes[8..]))
+    } else {
+        None
+    }
+}
+
+/// The instruction of a slot and, where it is a wide one, of the slot after it, or the first code that applies.
 ///
 /// # Errors
-/// `I2` or `I8` for an opcode that isn't decoded, `I8` for a sign-extending move, then `I3`, `I4` and `I7`.
-pub fn decode_slot(slot: Slot) -> Result<Insn, DecodeCode>
-    ensures found { IfOk result (λ i. IsDefined i × (slots_of i ≡ slot ∷ [])) }
-    ensures fault { MatchResult result (λ _. slot_fault slot ≡ None) (λ code. slot_fault slot ≡ Some code) }
+/// `I2` for an opcode that stands for no instruction, `I8` for a form that is left out, then `I3` to `I7` in this order.
+pub fn decode_slot(slot: Slot, second: Option<Slot>) -> Result<Insn, DecodeCode>
+    ensures found { IfOk result (λ i. IsDefined i × (slots_of i ≡ take (slots_in i) (slot ∷ listed second))) }
+    ensures fault { MatchResult result (λ _. slot_fault slot second ≡ None) (λ code. slot_fault slot second ≡ Some code) }
 {
     let Some(form) = form_of(slot.opcode) else {
-        return Err(if is_later(slot.opcode) {
+        return Err(if is_left_out(slot.opcode) {
             DecodeCode::I8
         } else {
             DecodeCode::I2
         });
     };
-    if is_later_move(form, slot.offset) {
+    if has_left_out_source(form, slot.src) {
         return Err(DecodeCode::I8);
     }
     let (Some(dst), Some(src)) = (Reg::new(slot.dst), Reg::new(slot.src)) else {
@@ -87,69 +118,22 @@ pub fn decode_slot(slot: Slot) -> Result<Insn, DecodeCode>
     if !leaves_unused_zero(form, slot) {
         return Err(DecodeCode::I4);
     }
-    if !has_defined_offset(form, slot.offset) {
+    if lacks_second(form, second) {
+        return Err(DecodeCode::I5);
+    }
+    if has_bad_second(form, second) {
+        return Err(DecodeCode::I6);
+    }
+    if !has_defined_fields(form, slot) {
         return Err(DecodeCode::I7);
     }
-    Ok(match form {
-        Form::Alu { width, op, operand } => Insn::Alu {
-            width,
-            op,
-            dst,
-            src: match operand {
-                Operand::Immediate => Source::Imm(slot.imm.cast_signed()),
-                Operand::Register => Source::Register(src),
-            },
-        },
-        Form::Exit => Insn::Exit,
-    })
+    Ok(insn_at_slot(form, slot, second, dst, src))
 }
 
-// A move whose offset makes it a sign-extending one, which is another instruction.
-fn is_later_move(form: Form, offset: u16) -> bool
-    ensures { result ≡ is_later_move form offset }
-{
-    match form {
-        Form::Alu {
-            width,
-            op: AluOp::Mov,
-            operand: Operand::Register,
-        } => offset == 8 || offset == 16 || (offset == 32 && width == Width::W64),
-        _ => false,
-    }
-}
-
-// Whether the fields that the instruction doesn't use are zero.
-fn leaves_unused_zero(form: Form, slot: Slot) -> bool
-    ensures { result ≡ leaves_unused_zero form slot }
-{
-    match form {
-        Form::Alu {
-            op,
-            operand: Operand::Register,
-            ..
-        } => (op == AluOp::Mov || slot.offset == 0) && slot.imm == 0,
-        Form::Alu { .. } => slot.src == 0 && slot.offset == 0,
-        Form::Exit => slot.dst == 0 && slot.src == 0 && slot.offset == 0 && slot.imm == 0,
-    }
-}
-
-// Whether the offset is one that the operation has.
-fn has_defined_offset(form: Form, offset: u16) -> bool
-    ensures { result ≡ has_defined_offset form offset }
-{
-    match form {
-        Form::Alu {
-            op: AluOp::Mov,
-            operand: Operand::Register,
-            ..
-        } => offset == 0,
-        _ => true,
-    }
-}
-
-/// The laws of decoding, whatever memory there is: bytes encode one program at most, and those of a program have no
-/// fault.
+/// The laws of decoding, whatever memory there is: bytes encode one program at most, those of a program have no fault, and
+/// each program has its bytes.
 pub fn bytes_encode_one_program()
     ensures one { (bytes : List ℕ) (p q : List (Option Insn)) → IsProgram bytes p → IsProgram bytes q → p ≡ q }
     ensures fine { (bytes : List ℕ) (p : List (Option Insn)) → IsProgram bytes p → decode_fault bytes ≡ None }
+    ensures back { (p q : List (Option Insn)) → IsWellFormed p → IsProgram (program_bytes p) q → q ≡ p }
 {}

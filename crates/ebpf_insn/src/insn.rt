@@ -1,6 +1,6 @@
 //! Instructions as values (RFC 9669, sections 4 and 5).
 
-ghost use Rattle.std.specs.Prelude.{◌≡◌};
+ghost use Rattle.std.specs.Prelude.{◌≡◌, ◌≤◌};
 
 use crate::register::Reg;
 
@@ -173,4 +173,20 @@ pub enum Insn {
     },
     /// Ends the run with the number in `r0`.
     Exit,
+}
+
+impl Insn {
+    ghost use Rattle.ebpf_insn.specs.Program.{slots_in};
+
+    /// How many slots the instruction takes up: one, or two for a wide one.
+    pub fn slots(self) -> usize
+        ensures value { result ≡ slots_in self }
+        ensures some { 1 ≤ result }
+        ensures few { result ≤ 2 }
+    {
+        match self {
+            Insn::Wide { .. } => 2,
+            _ => 1,
+        }
+    }
 }

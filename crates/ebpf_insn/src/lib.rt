@@ -4,11 +4,15 @@
 //! the encodings of instructions, one after another, and else names the lowest slot that is at fault and why.
 //! Everything above it works on instructions and never sees a byte of a program again.
 //!
-//! To be read in this order: `register`, `insn`, `slot`, `opcode`, `program`, `fault`, `decode`.
+//! To be read in this order: `register`, `insn`, `slot`, `opcode`, `fields`, `program`, `fault`,
+//! `decoded`, `decode`, `encode`.
 #![tactic(auto)]
 
 pub mod decode;
+mod decoded;
+pub mod encode;
 pub mod fault;
+pub mod fields;
 pub mod insn;
 pub mod opcode;
 pub mod program;

@@ -1,64 +1,247 @@
 //! The table of opcodes (RFC 9669, section 3.2).
+//!
+//! The low three bits of an opcode are its class. In the arithmetic and jump classes (4 to 7) the bit 0x08 says where the
+//! second operand comes from, and the high four bits are the code. In the load and store classes (0 to 3) the high three
+//! bits are the mode and the next two the size.
 
-ghost use Rattle.std.specs.Prelude.{◌≡◌};
-ghost use Rattle.ebpf_insn.specs.Decoding.{form_of, is_later};
+ghost use Rattle.std.specs.Prelude.{◌≡◌, ◌/◌, ◌%◌, Some};
+ghost use Rattle.ebpf_insn.specs.Opcodes.{opcode_of, form_of, store_class, alu_class, jump_class, alu_op_of, condition_of, size_code, operand_bit, is_left_out};
 
-use crate::insn::{AluOp, Width};
+use crate::insn::{AluOp, Cond, Order, Size, Width};
 
-/// Where an arithmetic instruction takes its second operand from: the bit 0x08 of the opcode.
+/// Where an instruction takes its second operand from.
 #[derive(Clone, Copy, Debug, PartialEq, Eq)]
 pub enum Operand {
+    /// The immediate of the slot.
     Immediate,
+    /// The register that the slot's src names.
     Register,
 }
 
 /// What an opcode stands for, before the other fields of its slot are looked at.
 #[derive(Clone, Copy, Debug, PartialEq, Eq)]
 pub enum Form {
+    /// An operation on two operands. The offset makes a division or a remainder a signed one, and a move from a register a
+    /// sign-extending one, so `op` is never `SDiv` or `SRem`.
     Alu {
         width: Width,
         op: AluOp,
         operand: Operand,
     },
+    Neg {
+        width: Width,
+    },
+    Swap {
+        order: Order,
+    },
+    /// A load of 64 bits from this slot and the next.
+    Wide,
+    /// A load, never a signed one of eight bytes.
+    Load {
+        size: Size,
+        signed: bool,
+    },
+    Store {
+        size: Size,
+        operand: Operand,
+    },
+    /// A jump by the offset.
+    Jump,
+    /// A jump by the immediate.
+    JumpFar,
+    Branch {
+        width: Width,
+        cond: Cond,
+        operand: Operand,
+    },
+    Call,
     Exit,
 }
 
-/// The form of an opcode, or `None` for those that are not decoded.
+/// The form of an opcode, or `None` where it stands for no instruction of ours.
 pub fn form_of(opcode: u8) -> Option<Form>
     ensures { result ≡ form_of opcode }
 {
-    let alu = |width: Width, op: AluOp, operand: Operand| Some(Form::Alu { width, op, operand });
-    match opcode {
-        0x04 => alu(Width::W32, AluOp::Add, Operand::Immediate),
-        0x0c => alu(Width::W32, AluOp::Add, Operand::Register),
-        0x07 => alu(Width::W64, AluOp::Add, Operand::Immediate),
-        0x0f => alu(Width::W64, AluOp::Add, Operand::Register),
-        0xb4 => alu(Width::W32, AluOp::Mov, Operand::Immediate),
-        0xbc => alu(Width::W32, AluOp::Mov, Operand::Register),
-        0xb7 => alu(Width::W64, AluOp::Mov, Operand::Immediate),
-        0xbf => alu(Width::W64, AluOp::Mov, Operand::Register),
-        0x95 => Some(Form::Exit),
+    match opcode % 8 {
+        0 => wide_form(opcode),
+        1 => load_form(opcode),
+        2 => store_form(opcode, Operand::Immediate),
+        3 => store_form(opcode, Operand::Register),
+        4 => alu_form(opcode, Width::W32),
+        5 => jump_form(opcode, Width::W64),
+        6 => jump_form(opcode, Width::W32),
+        _ => alu_form(opcode, Width::W64),
+    }
+}
+
+// The class LD.
+fn wide_form(opcode: u8) -> Option<Form>
+    requires { opcode % 8 ≡ 0 }
+    ensures { result ≡ form_of opcode }
+{
+    if opcode == 0x18 {
+        Some(Form::Wide)
+    } else {
+        None
+    }
+}
+
+// The class LDX, with the modes of memory (3) and of memory with its sign (4).
+fn load_form(opcode: u8) -> Option<Form>
+    requires { opcode % 8 ≡ 1 }
+    ensures { result ≡ form_of opcode }
+{
+    let size = size(opcode);
+    match opcode / 32 {
+        3 => Some(Form::Load {
+            size,
+            signed: false,
+        }),
+        4 if size != Size::D => Some(Form::Load { size, signed: true }),
         _ => None,
     }
 }
 
-/// Whether an opcode that has no form is still one of an instruction: one that is not decoded yet, or a form that is
-/// left out. Of opcodes that have a form it says nothing of use.
-///
-/// The low three bits are the class; the other five are the code and the source in the arithmetic and jump classes
-/// (4 to 7), the mode and the size in the others.
-pub fn is_later(opcode: u8) -> bool
-    ensures { result ≡ is_later opcode }
+// The classes ST and STX, with the mode of memory (3).
+fn store_form(opcode: u8, operand: Operand) -> Option<Form>
+    requires { opcode % 8 ≡ store_class operand }
+    ensures { result ≡ form_of opcode }
 {
-    let high = opcode / 8;
-    match opcode % 8 {
-        0 => (3 <= high && high <= 6) || (8 <= high && high <= 10),
-        1 => 12 <= high && high <= 18,
-        2 => 12 <= high && high <= 15,
-        3 => (12 <= high && high <= 15) || high == 24 || high == 27,
-        4 => high != 17 && high <= 27,
-        5 => high != 1 && high != 18 && high != 19 && high <= 27,
-        6 => high != 1 && !(16 <= high && high <= 19) && high <= 27,
-        _ => high != 17 && high <= 26,
+    let size = size(opcode);
+    if opcode / 32 == 3 {
+        Some(Form::Store { size, operand })
+    } else {
+        None
     }
+}
+
+// The classes ALU and ALU64.
+fn alu_form(opcode: u8, width: Width) -> Option<Form>
+    requires { opcode % 8 ≡ alu_class width }
+    ensures { result ≡ form_of opcode }
+{
+    match opcode {
+        0x84 | 0x87 => Some(Form::Neg { width }),
+        0xd4 => Some(Form::Swap {
+            order: Order::Little,
+        }),
+        0xdc => Some(Form::Swap { order: Order::Big }),
+        0xd7 => Some(Form::Swap { order: Order::Flip }),
+        _ => {
+            let operand = operand_at(opcode);
+            let op = alu_op(opcode / 16)?;
+            Some(Form::Alu { width, op, operand })
+        }
+    }
+}
+
+// The classes JMP and JMP32.
+fn jump_form(opcode: u8, width: Width) -> Option<Form>
+    requires { opcode % 8 ≡ jump_class width }
+    ensures { result ≡ form_of opcode }
+{
+    match opcode {
+        0x05 => Some(Form::Jump),
+        0x06 => Some(Form::JumpFar),
+        0x85 => Some(Form::Call),
+        0x95 => Some(Form::Exit),
+        _ => {
+            let operand = operand_at(opcode);
+            let cond = condition(opcode / 16)?;
+            Some(Form::Branch {
+                width,
+                cond,
+                operand,
+            })
+        }
+    }
+}
+
+// The operation of an arithmetic code, of the signed and the unsigned one the unsigned.
+fn alu_op(code: u8) -> Option<AluOp>
+    ensures { result ≡ alu_op_of code }
+{
+    match code {
+        0x0 => Some(AluOp::Add),
+        0x1 => Some(AluOp::Sub),
+        0x2 => Some(AluOp::Mul),
+        0x3 => Some(AluOp::Div),
+        0x4 => Some(AluOp::Or),
+        0x5 => Some(AluOp::And),
+        0x6 => Some(AluOp::Lsh),
+        0x7 => Some(AluOp::Rsh),
+        0x9 => Some(AluOp::Rem),
+        0xa => Some(AluOp::Xor),
+        0xb => Some(AluOp::Mov),
+        0xc => Some(AluOp::Arsh),
+        _ => None,
+    }
+}
+
+// The condition of a jump's code.
+fn condition(code: u8) -> Option<Cond>
+    ensures { result ≡ condition_of code }
+{
+    match code {
+        0x1 => Some(Cond::Eq),
+        0x2 => Some(Cond::Gt),
+        0x3 => Some(Cond::Ge),
+        0x4 => Some(Cond::Set),
+        0x5 => Some(Cond::Ne),
+        0x6 => Some(Cond::SGt),
+        0x7 => Some(Cond::SGe),
+        0xa => Some(Cond::Lt),
+        0xb => Some(Cond::Le),
+        0xc => Some(Cond::SLt),
+        0xd => Some(Cond::SLe),
+        _ => None,
+    }
+}
+
+// The size of a load's or a store's opcode.
+fn size(opcode: u8) -> Size
+    ensures { size_code result ≡ opcode / 8 % 4 }
+{
+    match opcode / 8 % 4 {
+        0 => Size::W,
+        1 => Size::H,
+        2 => Size::B,
+        _ => Size::D,
+    }
+}
+
+// Where the second operand comes from, by the bit 0x08.
+fn operand_at(opcode: u8) -> Operand
+    ensures { operand_bit result ≡ opcode / 8 % 2 }
+{
+    if opcode / 8 % 2 == 0 {
+        Operand::Immediate
+    } else {
+        Operand::Register
+    }
+}
+
+/// Whether an opcode that has no form is one of the forms that are left out: packets (20, 28, 30, 40, 48, 50), atomics
+/// (c3, db) and the call through a register (8d).
+pub fn is_left_out(opcode: u8) -> bool
+    ensures { result ≡ is_left_out opcode }
+{
+    matches!(
+        opcode,
+        0x20 | 0x28 | 0x30 | 0x40 | 0x48 | 0x50 | 0xc3 | 0xdb | 0x8d
+    )
+}
+
+/// The opcode of a form, by looking for it in the table.
+pub fn opcode_of(form: Form) -> u8
+    requires { form_of (opcode_of form) ≡ Some form }
+    ensures { result ≡ opcode_of form }
+{
+    for opcode in 0..256u16 {
+        let opcode = opcode as u8;
+        if form_of(opcode) == Some(form) {
+            return opcode;
+        }
+    }
+    unreachable!()
 }

@@ -1,9 +1,10 @@
 //! A slot of eight bytes, and its fields.
 
-ghost use Rattle.std.specs.Prelude.{◌≡◌, ◌≤◌, length};
-ghost use Rattle.ebpf_insn.specs.Slot.{slot_at};
+ghost use Rattle.std.specs.Prelude.{◌≡◌, ◌≤◌, ◌<◌, ◌++◌, OnOk, length};
+ghost use Rattle.ebpf_insn.specs.Slot.{slot_at, bytes_of_slot};
 
 use byteorder::{ByteOrder, LittleEndian};
+use std::alloc::AllocError;
 
 /// The fields of a slot, as unsigned numbers (RFC 9669, section 3.1). The registers are the nibbles as they stand, 0 to
 /// 15; a signed field is cast where an instruction is made of it.
@@ -29,4 +30,21 @@ pub fn read_slot(bytes: &[u8]) -> Slot
         offset: LittleEndian::read_u16(&bytes[2..]),
         imm: LittleEndian::read_u32(&bytes[4..]),
     }
+}
+
+/// Writes the bytes of a slot after the others.
+///
+/// # Errors
+/// A growth was refused.
+pub fn push_slot(bytes: &mut Vec<u8>, slot: Slot) -> Result<(), AllocError>
+    requires dst { slot.dst < 16 }
+    requires src { slot.src < 16 }
+    ensures { OnOk result (bytes.new.items ≡ bytes.old.items ++ bytes_of_slot slot) }
+{
+    let mut fields = [0; 8];
+    fields[0] = slot.opcode;
+    fields[1] = slot.dst + 16 * slot.src;
+    LittleEndian::write_u16(&mut fields[2..], slot.offset);
+    LittleEndian::write_u32(&mut fields[4..], slot.imm);
+    bytes.extend_from_slice(&fields)
 }

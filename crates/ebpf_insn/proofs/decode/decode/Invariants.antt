@@ -10,7 +10,7 @@ invariant-loop-slot l = record {
   even : is_uneven (length l.bytes) ≡ false;
   few : l.slot ≤ 4096;
   fine : lowest (fault_at l.bytes) l.slot ≡ None;
-  read : IsReadSoFar l.bytes l.slot l.slots.items;
+  read : IsReadSoFar l.bytes l.slot l.slots.items l.is_second_half;
   short : l.len ≤ l.slot;
   len : l.len ≡ length (instructions l.slots.items);
 }

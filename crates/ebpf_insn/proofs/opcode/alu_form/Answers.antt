@@ -1,0 +1,29 @@
+use Rattle.std.proofs.Common.{rules, ◌≡◌, ◌+◌, ◌*◌, ◌/◌, ◌%◌, ◌<◌, true, false, Some, None, refl, sym, ap, ◌∙◌, arith, inl, inr}
+use Rattle.std.proofs.lemmas.Bool.Decides.{nat_tests}
+use Rattle.ebpf_insn.specs.declared.opcode.Form.TheVariants as form
+use Rattle.ebpf_insn.specs.declared.insn.Order.TheVariants.{Little, Big, Flip}
+use Rattle.ebpf_insn.specs.Opcodes.{alu_op_of, condition_of, opcode_of, form_of}
+use Rattle.ebpf_insn.proofs.Opcodes.{form_found, form_again, no_form, has_no_form, alu_op_is, condition_is, store_none, alu_none, jump_none}
+use Rattle.ebpf_insn.proofs.opcode.alu_form.Goals as goal
+
+pub returns-in_err-op-in_default : goal.returns-in_err-op-in_default
+returns-in_err-op-in_default c = c.from_residual.ensures ∙ sym (alu_none c.args.opcode c.args.width (search rules) c.requires (grind (arith, nat_tests)) (sym c.alu_op.ensures ∙ c.in_err-op-in_default.was))
+
+pub returns-in-132 : goal.returns-in-132
+returns-in-132 c =
+    sym (form_found c.args.opcode (form.Neg c.args.width) tt (elim c.in-132.is [ inl e ↦ omega (arith, e, c.requires) | inr e ↦ omega (arith, e, c.requires) ]))
+
+pub returns-in-212 : goal.returns-in-212
+returns-in-212 c = sym (form_found c.args.opcode (form.Swap Little) tt (sym c.in-212.is))
+
+pub returns-in-220 : goal.returns-in-220
+returns-in-220 c = sym (form_found c.args.opcode (form.Swap Big) tt (sym c.in-220.is))
+
+pub returns-in-215 : goal.returns-in-215
+returns-in-215 c = sym (form_found c.args.opcode (form.Swap Flip) tt (sym c.in-215.is))
+
+pub returns-in_ok-op-in_default : goal.returns-in_ok-op-in_default
+returns-in_ok-op-in_default c =
+    let found : alu_op_of (c.args.opcode / 16) ≡ Some c.in_ok-op-in_default.op = sym c.alu_op.ensures ∙ c.in_ok-op-in_default.was in
+    let known = alu_op_is (c.args.opcode / 16) c.in_ok-op-in_default.op found in
+    sym (form_found c.args.opcode (form.Alu c.args.width c.in_ok-op-in_default.op c.operand_at-operand.result) known.1 (omega (arith, known.0, c.operand_at-operand.ensures, c.requires)))

@@ -1,0 +1,28 @@
+use Rattle.std.proofs.Common.{rules, ◌≡◌, ◌+◌, ◌*◌, ◌/◌, ◌%◌, ◌<◌, true, false, Some, None, refl, sym, ap, ◌∙◌, arith, inl, inr}
+use Rattle.std.proofs.lemmas.Bool.Decides.{nat_tests}
+use Rattle.ebpf_insn.specs.declared.opcode.Form.TheVariants as form
+use Rattle.ebpf_insn.specs.declared.insn.Order.TheVariants.{Little, Big, Flip}
+use Rattle.ebpf_insn.specs.Opcodes.{alu_op_of, condition_of, opcode_of, form_of}
+use Rattle.ebpf_insn.proofs.Opcodes.{form_found, form_again, no_form, has_no_form, alu_op_is, condition_is, store_none, alu_none, jump_none}
+use Rattle.ebpf_insn.proofs.opcode.jump_form.Goals as goal
+
+pub returns-in_err-cond-in_default : goal.returns-in_err-cond-in_default
+returns-in_err-cond-in_default c = c.from_residual.ensures ∙ sym (jump_none c.args.opcode c.args.width (search rules) c.requires (grind (arith, nat_tests)) (sym c.condition.ensures ∙ c.in_err-cond-in_default.was))
+
+pub returns-in-5 : goal.returns-in-5
+returns-in-5 c = sym (form_found c.args.opcode form.Jump tt (sym c.in-5.is))
+
+pub returns-in-6 : goal.returns-in-6
+returns-in-6 c = sym (form_found c.args.opcode form.JumpFar tt (sym c.in-6.is))
+
+pub returns-in-133 : goal.returns-in-133
+returns-in-133 c = sym (form_found c.args.opcode form.Call tt (sym c.in-133.is))
+
+pub returns-in-149 : goal.returns-in-149
+returns-in-149 c = sym (form_found c.args.opcode form.Exit tt (sym c.in-149.is))
+
+pub returns-in_ok-cond-in_default : goal.returns-in_ok-cond-in_default
+returns-in_ok-cond-in_default c =
+    let found : condition_of (c.args.opcode / 16) ≡ Some c.in_ok-cond-in_default.cond = sym c.condition.ensures ∙ c.in_ok-cond-in_default.was in
+    let known = condition_is (c.args.opcode / 16) c.in_ok-cond-in_default.cond found in
+    sym (form_found c.args.opcode (form.Branch c.args.width c.in_ok-cond-in_default.cond c.operand_at-operand.result) tt (omega (arith, known, c.operand_at-operand.ensures, c.requires)))

@@ -1,0 +1,19 @@
+use Rattle.std.proofs.Common.{rules, ◌≡◌, ◌+◌, ◌*◌, ◌/◌, ◌%◌, ◌<◌, true, false, Some, None, refl, sym, ap, ◌∙◌, arith, inl, inr}
+use Rattle.std.proofs.lemmas.Bool.Decides.{nat_tests}
+use Rattle.ebpf_insn.specs.declared.opcode.Form.TheVariants as form
+use Rattle.ebpf_insn.specs.declared.insn.Order.TheVariants.{Little, Big, Flip}
+use Rattle.ebpf_insn.specs.Opcodes.{alu_op_of, condition_of, opcode_of, form_of}
+use Rattle.ebpf_insn.proofs.Opcodes.{form_found, form_again, no_form, has_no_form, alu_op_is, condition_is, store_none, alu_none, jump_none}
+use Rattle.ebpf_insn.proofs.opcode.load_form.Goals as goal
+
+pub returns-in-3 : goal.returns-in-3
+returns-in-3 c = sym (form_found c.args.opcode (form.Load c.size-size.result false) refl (omega (arith, c.size-size.ensures, c.in-3.is, c.requires)))
+
+pub returns-in-4 : goal.returns-in-4
+returns-in-4 c = sym (form_found c.args.opcode (form.Load c.size-size.result true) (grind (arith, nat_tests)) (omega (arith, c.size-size.ensures, c.in-4.is, c.requires)))
+
+pub returns-in_default : goal.returns-in_default
+returns-in_default c = sym (no_form c.args.opcode (search rules) (grind (arith, nat_tests)))
+
+pub returns-in_default-2 : goal.returns-in_default-2
+returns-in_default-2 c = sym (no_form c.args.opcode (search rules) (grind (arith, nat_tests)))

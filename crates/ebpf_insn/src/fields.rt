@@ -1,0 +1,136 @@
+//! Which fields of its slot an instruction uses, and what they may hold (RFC 9669, sections 3 to 5).
+
+ghost use Rattle.std.specs.Prelude.{◌≡◌};
+ghost use Rattle.ebpf_insn.specs.Fields.{uses, leaves_unused_zero, offset_chooses, has_left_out_source, has_defined_fields, is_move_of, is_swap_of, lacks_second, has_bad_second, is_blank};
+
+use crate::insn::{AluOp, Width};
+use crate::opcode::{Form, Operand};
+use crate::slot::Slot;
+
+/// The fields of a slot that an instruction of some form uses. The others must be zero.
+#[derive(Clone, Copy, Debug, PartialEq, Eq)]
+pub struct UsedFields {
+    pub dst: bool,
+    pub src: bool,
+    pub offset: bool,
+    pub imm: bool,
+}
+
+/// Which fields a form uses.
+pub fn uses(form: Form) -> UsedFields
+    ensures { result ≡ uses form }
+{
+    let (dst, src, offset, imm) = match form {
+        Form::Alu { op, operand, .. } => {
+            let is_register = operand == Operand::Register;
+            (true, is_register, offset_chooses(op, operand), !is_register)
+        }
+        Form::Neg { .. } => (true, false, false, false),
+        Form::Swap { .. } | Form::Wide => (true, false, false, true),
+        Form::Load { .. } => (true, true, true, false),
+        Form::Store { operand, .. } | Form::Branch { operand, .. } => {
+            let is_register = operand == Operand::Register;
+            (true, is_register, true, !is_register)
+        }
+        Form::Jump => (false, false, true, false),
+        Form::JumpFar | Form::Call => (false, false, false, true),
+        Form::Exit => (false, false, false, false),
+    };
+    UsedFields {
+        dst,
+        src,
+        offset,
+        imm,
+    }
+}
+
+// Whether the offset chooses among operations: the sign of a division or a remainder, and how far a move extends one.
+fn offset_chooses(op: AluOp, operand: Operand) -> bool
+    ensures { result ≡ offset_chooses op operand }
+{
+    match op {
+        AluOp::Div | AluOp::Rem => true,
+        AluOp::Mov => operand == Operand::Register,
+        _ => false,
+    }
+}
+
+/// Whether the fields that a form doesn't use are zero in the slot.
+pub fn leaves_unused_zero(form: Form, slot: Slot) -> bool
+    ensures { result ≡ leaves_unused_zero form slot }
+{
+    let uses = uses(form);
+    (uses.dst || slot.dst == 0)
+        && (uses.src || slot.src == 0)
+        && (uses.offset || slot.offset == 0)
+        && (uses.imm || slot.imm == 0)
+}
+
+/// Whether src makes a call or a wide load one of the forms that are left out: calls within a program and by the numbers of
+/// BTF, and loads of what stands for a map, a variable or code.
+pub fn has_left_out_source(form: Form, src: u8) -> bool
+    ensures { result ≡ has_left_out_source form src }
+{
+    match form {
+        Form::Call => 1 <= src && src <= 2,
+        Form::Wide => 1 <= src && src <= 6,
+        _ => false,
+    }
+}
+
+/// Whether the offset and the immediate are ones that the operation has.
+pub fn has_defined_fields(form: Form, slot: Slot) -> bool
+    ensures { result ≡ has_defined_fields form slot }
+{
+    match form {
+        Form::Alu {
+            op: AluOp::Div | AluOp::Rem,
+            ..
+        } => slot.offset <= 1,
+        Form::Alu {
+            width,
+            op: AluOp::Mov,
+            operand: Operand::Register,
+        } => slot.offset == 0 || is_move_of(width, slot.offset),
+        Form::Swap { .. } => is_swap_of(slot.imm),
+        _ => true,
+    }
+}
+
+// Whether there is a sign-extending move of so many bits.
+fn is_move_of(width: Width, bits: u16) -> bool
+    ensures { result ≡ is_move_of width bits }
+{
+    bits == 8 || bits == 16 || (bits == 32 && width == Width::W64)
+}
+
+// Whether there is a byte swap of so many bits.
+fn is_swap_of(bits: u32) -> bool
+    ensures { result ≡ is_swap_of bits }
+{
+    bits == 16 || bits == 32 || bits == 64
+}
+
+/// Whether the slot is of a wide instruction, and no slot follows.
+pub fn lacks_second(form: Form, second: Option<Slot>) -> bool
+    ensures { result ≡ lacks_second form second }
+{
+    form == Form::Wide && second.is_none()
+}
+
+/// Whether the slot is of a wide instruction, and the one that follows holds more than an immediate.
+pub fn has_bad_second(form: Form, second: Option<Slot>) -> bool
+    ensures { result ≡ has_bad_second form second }
+{
+    match (form, second) {
+        (Form::Wide, Some(second)) => !is_blank(second),
+        _ => false,
+    }
+}
+
+// Whether a slot holds nothing but its immediate, as the second half of a wide instruction does.
+fn is_blank(slot: Slot) -> bool
+    ensures { result ≡ is_blank slot }
+{
+    slot.opcode == 0 && slot.dst == 0 && slot.src == 0 && slot.offset == 0
+}
