@@ -27,7 +27,8 @@ use Rattle.ebpf_state.specs.StateView.{StateView}
 use Rattle.ebpf_state.specs.States.{register_of, with_register, first_state}
 use Rattle.ebpf_verify.specs.declared.arrival.Arrival.{Arrival}
 use Rattle.ebpf_verify.specs.declared.arrival.Arrival.TheVariants.{Never, Entered, Differ}
-use Rattle.ebpf_verify.specs.Rules.{refusal, operand, result_of, is_frame_pointer, exit_refusal}
+use Rattle.ebpf_verify.specs.declared.fault.VerifyCode.TheVariants.{V0}
+use Rattle.ebpf_verify.specs.Rules.{alu_refusal, refusal, operand, result_of, is_frame_pointer, exit_refusal}
 use Rattle.ebpf_verify.specs.Entry.{entry_of}
 use Rattle.ebpf_verify.specs.Verdict.{refusal_in}
 use Rattle.ebpf_machine.specs.declared.value.Value.{Value}
@@ -53,10 +54,16 @@ operand_sound : (s : StateView) (frame : Frame ℕ) (calls : List ℕ) (width : 
 operand_sound s frame calls width (Register r) fits h = h.each (number_of r) (number_of-lt r)
 operand_sound s frame calls width (Imm z) fits h = constant_holds width z fits
 
-source_of : (width : Width) (o : AluOp) (dst : Reg) (src : Source) → IsDefined (insn.Alu width o dst src) → IsSource src
-source_of width op.Add dst src h = h
-source_of width op.Mov dst src h = h
-source_of width _ dst src h = absurd h
+-- an instruction without a rule is refused
+without_rule : Some V0 ≡ None → ⊥
+without_rule e = cc
+
+-- what an operation that has a rule reads
+source_of : (width : Width) (o : AluOp) (dst : Reg) (src : Source) (left right : Abs) → IsDefined (insn.Alu width o dst src) → alu_refusal width o left right dst ≡ None → IsSource src
+source_of width op.Add dst src left right h fine = h
+source_of width op.Mov dst src left right h fine = h
+source_of W32 _ dst src left right h fine = absurd (without_rule fine)
+source_of W64 _ dst src left right h fine = absurd (without_rule fine)
 
 -- a write on both sides
 set_at : (s : StateView) (regs : List (Option (Value ℕ))) (calls : List ℕ) (n : ℕ) (a : Abs) (v : Value ℕ) (k : ℕ) → n < length s.registers → n < length regs → k < 11 → AreOf s regs calls → IsOf a (Some v) → (k < n) ⊎ (n ≤ k) → IsOf (get_or (set s.registers n a) k Unset) (get_or (set regs n (Some v)) k None)
@@ -92,7 +99,7 @@ written_goes n frame dst r v to after e low h = same (rw (e, low) at h) where
 -- an operation
 alu_stepped : (p : List (Option Insn)) (calls : List ℕ) (k : ℕ) (width : Width) (o : AluOp) (dst : Reg) (src : Source) (s : StateView) (frame : Frame ℕ) → insn_at p k ≡ Some (insn.Alu width o dst src) → IsDefined (insn.Alu width o dst src) → entry_of p k ≡ Entered s → length s.registers ≡ 11 → length frame.registers ≡ 11 → AreOf s frame.registers calls → refusal (insn.Alu width o dst src) s ≡ None → IsStepped p calls k (insn.Alu width o dst src) frame
 alu_stepped p calls k width o dst src s frame at defined entered ls lr h fine =
-    let sound = alu_sound width o (register_of s dst) (operand s width src) (read frame dst) (source_value frame width src) dst fine (h.each (number_of dst) (number_of-lt dst)) (operand_sound s frame calls width src (source_of width o dst src defined) h) in
+    let sound = alu_sound width o (register_of s dst) (operand s width src) (read frame dst) (source_value frame width src) dst fine (h.each (number_of dst) (number_of-lt dst)) (operand_sound s frame calls width src (source_of width o dst src (register_of s dst) (operand s width src) defined fine) h) in
     let known = result_of width o (register_of s dst) (operand s width src) in
     let there = AreOf-set s frame.registers calls dst known sound.computed.v ls lr h sound.computed.of in
     let arrives = fall_arrives p k (k + 1) (insn.Alu width o dst src) s (with_register s dst known) (set frame.registers (number_of dst) (Some sound.computed.v)) calls at entered ls refl (length-set s.registers (number_of dst) known ∙ ls) refl (omega arith) there in
@@ -130,7 +137,7 @@ insn_stepped p calls k (insn.Alu width o dst src) s frame at defined entered ls 
 insn_stepped p calls k insn.Exit s frame at defined entered ls lr h fine =
     let number = returns_number (register_of s R0) (length s.held) (read frame R0) fine (h.each 0 (omega arith)) in
     record { executable = number; goes_on = λ to after e. absurd (ends_number (read frame R0) to after number e) }
-insn_stepped p calls k _ s frame at defined entered ls lr h fine = absurd (cc)
+insn_stepped p calls k _ s frame at defined entered ls lr h fine = absurd (without_rule fine)
 
 -- one instruction of a program whose slot is not refused
 pub slot_stepped : (p : List (Option Insn)) (calls : List ℕ) (k : ℕ) (i : Insn) (a : Arrival) (frame : Frame ℕ) → insn_at p k ≡ Some i → IsDefined i → entry_of p k ≡ a → IsWhole a → length frame.registers ≡ 11 → Arrives a frame.registers calls → refusal_in (Some i) a ≡ None → IsStepped p calls k i frame
