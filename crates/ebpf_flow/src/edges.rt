@@ -97,7 +97,7 @@ fn fall_from(
 {
     let slots = program.slots();
     let falls = falls(insn);
-    let next = slot + slots_in(insn);
+    let next = slot + insn.slots();
     if falls && next >= slots {
         return Err(FlowCode::F4);
     }
@@ -118,17 +118,5 @@ fn falls(insn: Insn) -> bool
     match insn {
         Insn::Jump { .. } | Insn::JumpFar { .. } | Insn::Exit => false,
         _ => true,
-    }
-}
-
-// How many slots an instruction takes up.
-fn slots_in(insn: Insn) -> usize
-    ensures value { result ≡ slots_in insn }
-    ensures some { 1 ≤ result }
-    ensures few { result ≤ 2 }
-{
-    match insn {
-        Insn::Wide { .. } => 2,
-        _ => 1,
     }
 }
