@@ -8,6 +8,8 @@ use crate::register::Reg;
 use crate::slot::{Slot, read_slot};
 use std::test::*;
 
+mod opcodes;
+
 const EXIT: [u8; 8] = [0x95, 0, 0, 0, 0, 0, 0, 0];
 
 // How many instructions the bytes are, or why they are no program.
