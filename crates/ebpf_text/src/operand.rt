@@ -1,7 +1,7 @@
 //! The texts of operands, each written behind a text. They fail for want of memory alone.
 
 ghost use Rattle.std.specs.Prelude.{◌≡◌, ◌++◌, string_bytes, OnOk};
-ghost use Rattle.ebpf_text.specs.Listing.{source_text, offset_text, place_text};
+ghost use Rattle.ebpf_text.specs.Operands.{source_text, offset_text, place_text};
 
 use ebpf_insn::insn::Source;
 use ebpf_insn::register::Reg;
