@@ -5,17 +5,17 @@ use Rattle.ebpf_text.specs.Mnemonics.{mnemonic_of}
 use Rattle.ebpf_text.specs.Operands.{operands_of}
 
 -- a comma and a space before each of these
-abbrev pub further : List (List ℕ) → List ℕ
-further [] = []
-further (text ∷ texts) = codes ", " ++ (text ++ further texts)
+abbrev pub later_operands_text : List (List ℕ) → List ℕ
+later_operands_text [] = []
+later_operands_text (text ∷ texts) = codes ", " ++ (text ++ later_operands_text texts)
 
 -- a space before the first, and a comma and a space before each further one
-abbrev pub parted : List (List ℕ) → List ℕ
-parted [] = []
-parted (text ∷ texts) = codes " " ++ (text ++ further texts)
+abbrev pub operands_text : List (List ℕ) → List ℕ
+operands_text [] = []
+operands_text (text ∷ texts) = codes " " ++ (text ++ later_operands_text texts)
 
 abbrev pub insn_text : Insn → List ℕ
-insn_text i = mnemonic_of i ++ parted (operands_of i)
+insn_text i = mnemonic_of i ++ operands_text (operands_of i)
 
 -- the line of the instruction that stands at a slot
 abbrev pub line_of : ℕ → Insn → List ℕ

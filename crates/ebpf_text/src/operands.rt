@@ -2,7 +2,7 @@
 
 ghost use Rattle.std.specs.Prelude.{◌≡◌, [], ◌∷◌, ◌++◌, string_bytes, OnOk};
 ghost use Rattle.ebpf_text.specs.Operands.{operands_of, register_text, source_text, offset_text, place_text};
-ghost use Rattle.ebpf_text.specs.Listing.{parted};
+ghost use Rattle.ebpf_text.specs.Listing.{operands_text};
 
 use crate::operand::{write_offset, write_place, write_source};
 use ebpf_insn::insn::{Insn, Source};
@@ -11,7 +11,7 @@ use std::alloc::AllocError;
 
 // Writes the operands of an instruction behind a text. It fails for want of memory alone.
 pub(crate) fn write_operands(text: &mut String, insn: &Insn) -> Result<(), AllocError>
-    ensures { OnOk result (string_bytes text.new ≡ string_bytes text.old ++ parted (operands_of insn.now)) }
+    ensures { OnOk result (string_bytes text.new ≡ string_bytes text.old ++ operands_text (operands_of insn.now)) }
 {
     match *insn {
         Insn::Alu { dst, src, .. } => write_pair(text, dst, src),
@@ -50,7 +50,7 @@ pub(crate) fn write_operands(text: &mut String, insn: &Insn) -> Result<(), Alloc
 
 // A register, and a second operand.
 fn write_pair(text: &mut String, left: Reg, right: Source) -> Result<(), AllocError>
-    ensures { OnOk result (string_bytes text.new ≡ string_bytes text.old ++ parted (register_text left ∷ source_text right ∷ [])) }
+    ensures { OnOk result (string_bytes text.new ≡ string_bytes text.old ++ operands_text (register_text left ∷ source_text right ∷ [])) }
 {
     write!(text, " r{}, ", left.number())?;
     write_source(text, right)
@@ -58,7 +58,7 @@ fn write_pair(text: &mut String, left: Reg, right: Source) -> Result<(), AllocEr
 
 // The operands of a load.
 fn write_load(text: &mut String, dst: Reg, base: Reg, offset: i16) -> Result<(), AllocError>
-    ensures { OnOk result (string_bytes text.new ≡ string_bytes text.old ++ parted (register_text dst ∷ place_text base offset ∷ [])) }
+    ensures { OnOk result (string_bytes text.new ≡ string_bytes text.old ++ operands_text (register_text dst ∷ place_text base offset ∷ [])) }
 {
     write!(text, " r{}, ", dst.number())?;
     write_place(text, base, offset)
@@ -66,7 +66,7 @@ fn write_load(text: &mut String, dst: Reg, base: Reg, offset: i16) -> Result<(),
 
 // The operands of a store.
 fn write_store(text: &mut String, base: Reg, offset: i16, src: Source) -> Result<(), AllocError>
-    ensures { OnOk result (string_bytes text.new ≡ string_bytes text.old ++ parted (place_text base offset ∷ source_text src ∷ [])) }
+    ensures { OnOk result (string_bytes text.new ≡ string_bytes text.old ++ operands_text (place_text base offset ∷ source_text src ∷ [])) }
 {
     write!(text, " ")?;
     write_place(text, base, offset)?;
@@ -76,7 +76,7 @@ fn write_store(text: &mut String, base: Reg, offset: i16, src: Source) -> Result
 
 // The one operand of a jump.
 fn write_displacement(text: &mut String, offset: i32) -> Result<(), AllocError>
-    ensures { OnOk result (string_bytes text.new ≡ string_bytes text.old ++ parted (offset_text offset ∷ [])) }
+    ensures { OnOk result (string_bytes text.new ≡ string_bytes text.old ++ operands_text (offset_text offset ∷ [])) }
 {
     write!(text, " ")?;
     write_offset(text, offset)
