@@ -1,7 +1,8 @@
 //! The listing of a program.
 
-ghost use Rattle.std.specs.Prelude.{◌≡◌, string_bytes, IfOk};
-ghost use Rattle.ebpf_text.specs.Listing.{listing_of};
+ghost use Rattle.std.specs.Prelude.{◌≡◌, ◌++◌, string_bytes, IfOk, OnOk};
+ghost use Rattle.ebpf_insn.specs.Program.{insn_at};
+ghost use Rattle.ebpf_text.specs.Listing.{line_at, listing_of};
 
 use crate::line::write_line;
 use ebpf_insn::program::Program;
@@ -13,9 +14,17 @@ pub fn listing(alloc: Global, program: &Program) -> Result<String, AllocError>
 {
     let mut text = String::new(alloc);
     for slot in 0..program.slots() {
-        if let Some(insn) = program.at(slot) {
-            write_line(&mut text, slot, insn)?;
-        }
+        write_slot(&mut text, program, slot)?;
     }
     Ok(text)
+}
+
+// Writes the line of a slot behind a text, if an instruction begins there. It fails for want of memory alone.
+fn write_slot(text: &mut String, program: &Program, slot: usize) -> Result<(), AllocError>
+    ensures { OnOk result (string_bytes text.new ≡ string_bytes text.old ++ line_at slot (insn_at program.now slot)) }
+{
+    match program.at(slot) {
+        Some(insn) => write_line(text, slot, insn),
+        None => Ok(()),
+    }
 }
