@@ -7,6 +7,7 @@ use std::alloc::{AllocError, Global};
 #[derive(Clone, Copy)]
 pub enum Task<'a> {
     One(OneOptions<'a>),
+    List,
     Replay,
 }
 
@@ -27,6 +28,7 @@ pub fn command<'a>(alloc: Global) -> Result<Command<'a>, AllocError> {
         .about("Runs small eBPF programs")
         .subcommand_required(true)
         .subcommand(one_command(alloc)?)?
+        .subcommand(list_command(alloc))?
         .subcommand(replay_command(alloc))
 }
 
@@ -53,6 +55,12 @@ fn one_command<'a>(alloc: Global) -> Result<Command<'a>, AllocError> {
         .arg(nulls)
 }
 
+fn list_command<'a>(alloc: Global) -> Command<'a> {
+    Command::new(alloc, "list").about(
+        "Lists the instructions of the program whose hex is on standard input",
+    )
+}
+
 fn replay_command<'a>(alloc: Global) -> Command<'a> {
     Command::new(alloc, "replay").about(
         "Replays the script on standard input: programs, and events over runs of them",
@@ -67,6 +75,7 @@ pub fn task_of<'a>(matches: &ArgMatches<'a>) -> Option<Task<'a>> {
             held: given.get_one::<u8>("held").unwrap_or(0),
             nulls: given.get_flag("nulls"),
         })),
+        Some(("list", _)) => Some(Task::List),
         Some(("replay", _)) => Some(Task::Replay),
         _ => None,
     }

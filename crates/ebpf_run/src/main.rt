@@ -1,23 +1,27 @@
 //! Runs small eBPF programs from the command line.
 //!
 //! What a command writes is a function of what it reads and of its options, errors included, and it writes nothing else:
-//! that is the contract of [`one::one`] and of [`ebpf_script::replay::replay`], which stand on the contracts of the crates
-//! below. This crate adds what `one` asks for, the lines of its text, the store of objects of a single run, and the command
-//! line.
+//! that is the contract of [`one::one`], of [`list::list`] and of [`ebpf_script::replay::replay`], which stand on the
+//! contracts of the crates below. This crate adds what `one` and `list` ask for, the lines of their texts, the store of
+//! objects of a single run, and the command line.
 //!
-//! To be read in this order: `program_text`, `request`, `store`, `alone`, `text`, `answer`, `one`, `command`.
+//! To be read in this order: `program_text`, `request`, `store`, `alone`, `text`, `answer`, `one`, `list`, `command`.
 #![tactic(auto)]
 
 mod alone;
 mod answer;
 mod command;
+mod list;
 mod one;
 mod program_text;
 mod request;
 mod store;
+#[cfg(test)]
+mod streams;
 mod text;
 
 use crate::command::{Task, command, task_of};
+use crate::list::list;
 use crate::one::one;
 use clap::Error;
 use clap::error::ErrorKind;
@@ -68,6 +72,7 @@ fn run<R: AllocGlobal + Env + Eprint + Input + Print>(rt: &R) -> Result<u8, Engi
             options.held,
             options.nulls,
         ),
+        Task::List => list(alloc, &mut reader, &mut writer),
         Task::Replay => replay(alloc, &mut reader, &mut writer),
     }?;
     Ok(match done {

@@ -1,7 +1,7 @@
-//! What a call of `one` asks for.
+//! What a call of `one` or of `list` asks for.
 
 ghost use Rattle.std.specs.Prelude.{◌≡◌, IfOk, IfErr, OnOk, None, length};
-ghost use Rattle.ebpf_run.specs.Asked.{fault_of, asked_for, IsStop};
+ghost use Rattle.ebpf_run.specs.Asked.{bytes_in, input_fault, fault_of, asked_for, IsStop};
 
 use crate::program_text::program_bytes;
 use ebpf_script::done::FaultCode;
@@ -18,7 +18,7 @@ pub struct Request {
     pub decl: Decl,
 }
 
-/// Why there is no request.
+/// Why nothing can be done with what is given.
 #[derive(Clone, Copy, Debug, PartialEq, Eq)]
 pub enum Stop {
     /// The input or an option can't be used.
@@ -36,6 +36,24 @@ impl From<AllocError> for Stop {
     }
 }
 
+/// The bytes of the program that an input gives, whatever they are.
+///
+/// # Errors
+/// `Fault` with `S1` where the input is too long and `S5` where it isn't readable; `NoMemory` where a growth was refused.
+pub fn given_bytes(alloc: Global, input: &[u8]) -> Result<Vec<u8>, Stop>
+    ensures fine { OnOk result (input_fault input.now ≡ None) }
+    ensures bytes { IfOk result (λ bytes. bytes.items ≡ bytes_in input.now) }
+    ensures refused { IfErr result (IsStop (input_fault input.now)) }
+{
+    if input.len() > 1_048_576 {
+        return Err(Stop::Fault(FaultCode::S1));
+    }
+    let Some(bytes) = program_bytes(alloc, input)? else {
+        return Err(Stop::Fault(FaultCode::S5));
+    };
+    Ok(bytes)
+}
+
 /// The request that an input makes with the options `--context` and `--held`.
 ///
 /// # Errors
@@ -47,12 +65,7 @@ pub fn requested(alloc: Global, input: &[u8], context: &str, held: u8) -> Result
     ensures declared { IfOk result (λ r. (r.decl.context ≡ length r.context.items) × (r.decl.held ≡ held)) }
     ensures refused { IfErr result (IsStop (fault_of input.now context.now held)) }
 {
-    if input.len() > 1_048_576 {
-        return Err(Stop::Fault(FaultCode::S1));
-    }
-    let Some(bytes) = program_bytes(alloc, input)? else {
-        return Err(Stop::Fault(FaultCode::S5));
-    };
+    let bytes = given_bytes(alloc, input)?;
     if held > 64 {
         return Err(Stop::Fault(FaultCode::S4));
     }

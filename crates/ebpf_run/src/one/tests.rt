@@ -1,8 +1,7 @@
 use crate::one::one;
+use crate::streams::{Flood, Narrow};
 use ebpf_script::done::{Done, EngineFault};
 use std::alloc::Global;
-use std::io;
-use std::io::{Read, Write};
 use std::process::Abort;
 use std::test::Fail;
 
@@ -184,26 +183,6 @@ fn a_context_is_bounded(rt: HostRuntime) -> Result<(), Fail> {
     Ok(())
 }
 
-// Gives a byte over and over, and then ends or fails.
-#[derive(Drop)]
-struct Flood {
-    byte: u8,
-    left: usize,
-    fails: bool,
-}
-
-impl Read for Flood {
-    fn read(&mut self, buf: &mut [u8]) -> io::Result<usize> {
-        if self.left == 0 && self.fails {
-            return Err(io::Error::from(io::ErrorKind::Interrupted));
-        }
-        let n = buf.len().min(self.left);
-        buf[..n].fill(self.byte);
-        self.left -= n;
-        Ok(n)
-    }
-}
-
 #[test]
 fn any_byte_is_a_refusal_or_a_fault(rt: HostRuntime) -> Result<(), Fail> {
     let alloc = rt.alloc();
@@ -275,31 +254,6 @@ fn a_failed_read_writes_nothing(rt: HostRuntime) {
         let outcome = one(alloc, &mut reader, &mut written, "-", 0, false);
         assert_eq!(rt; outcome, Err(EngineFault::Input));
         assert!(rt; written.is_empty());
-    }
-}
-
-// Takes a few bytes a call, up to its room, and then takes nothing or fails.
-#[derive(Drop)]
-struct Narrow {
-    got: Vec<u8>,
-    most: usize,
-    room: usize,
-    fails: bool,
-}
-
-impl Write for Narrow {
-    fn write(&mut self, buf: &[u8]) -> io::Result<usize> {
-        if self.room == 0 && self.fails {
-            return Err(io::Error::from(io::ErrorKind::Interrupted));
-        }
-        let n = buf.len().min(self.most).min(self.room);
-        self.got.extend_from_slice(&buf[..n])?;
-        self.room -= n;
-        Ok(n)
-    }
-
-    fn flush(&mut self) -> io::Result<()> {
-        Ok(())
     }
 }
 

@@ -1,0 +1,4 @@
+pub mod Names
+pub mod Mnemonics
+pub mod Operands
+pub mod Listing

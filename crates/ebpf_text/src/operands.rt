@@ -1,0 +1,83 @@
+//! The operands of an instruction.
+
+ghost use Rattle.std.specs.Prelude.{◌≡◌, [], ◌∷◌, ◌++◌, string_bytes, OnOk};
+ghost use Rattle.ebpf_text.specs.Operands.{operands_of, register_text, source_text, offset_text, place_text};
+ghost use Rattle.ebpf_text.specs.Listing.{operands_text};
+
+use crate::operand::{write_offset, write_place, write_source};
+use ebpf_insn::insn::{Insn, Source};
+use ebpf_insn::register::Reg;
+use std::alloc::AllocError;
+
+// Writes the operands of an instruction behind a text. It fails for want of memory alone.
+pub(crate) fn write_operands(text: &mut String, insn: &Insn) -> Result<(), AllocError>
+    ensures { OnOk result (string_bytes text.new ≡ string_bytes text.old ++ operands_text (operands_of insn.now)) }
+{
+    match *insn {
+        Insn::Alu { dst, src, .. } => write_pair(text, dst, src),
+        Insn::Sext { dst, src, .. } => write!(text, " r{}, r{}", dst.number(), src.number()),
+        Insn::Neg { dst, .. } => write!(text, " r{}", dst.number()),
+        Insn::Swap { dst, .. } => write!(text, " r{}", dst.number()),
+        Insn::Wide { dst, value } => write!(text, " r{}, {value}", dst.number()),
+        Insn::Load {
+            dst,
+            base,
+            offset,
+            ..
+        } => write_load(text, dst, base, offset),
+        Insn::Store {
+            base,
+            offset,
+            src,
+            ..
+        } => write_store(text, base, offset, src),
+        Insn::Jump { offset } => write_displacement(text, offset as i32),
+        Insn::JumpFar { offset } => write_displacement(text, offset),
+        Insn::Branch {
+            left,
+            right,
+            offset,
+            ..
+        } => {
+            write_pair(text, left, right)?;
+            write!(text, ", ")?;
+            write_offset(text, offset as i32)
+        }
+        Insn::Call { number } => write!(text, " {number}"),
+        Insn::Exit => Ok(()),
+    }
+}
+
+// A register, and a second operand.
+fn write_pair(text: &mut String, left: Reg, right: Source) -> Result<(), AllocError>
+    ensures { OnOk result (string_bytes text.new ≡ string_bytes text.old ++ operands_text (register_text left ∷ source_text right ∷ [])) }
+{
+    write!(text, " r{}, ", left.number())?;
+    write_source(text, right)
+}
+
+// The operands of a load.
+fn write_load(text: &mut String, dst: Reg, base: Reg, offset: i16) -> Result<(), AllocError>
+    ensures { OnOk result (string_bytes text.new ≡ string_bytes text.old ++ operands_text (register_text dst ∷ place_text base offset ∷ [])) }
+{
+    write!(text, " r{}, ", dst.number())?;
+    write_place(text, base, offset)
+}
+
+// The operands of a store.
+fn write_store(text: &mut String, base: Reg, offset: i16, src: Source) -> Result<(), AllocError>
+    ensures { OnOk result (string_bytes text.new ≡ string_bytes text.old ++ operands_text (place_text base offset ∷ source_text src ∷ [])) }
+{
+    write!(text, " ")?;
+    write_place(text, base, offset)?;
+    write!(text, ", ")?;
+    write_source(text, src)
+}
+
+// The one operand of a jump.
+fn write_displacement(text: &mut String, offset: i32) -> Result<(), AllocError>
+    ensures { OnOk result (string_bytes text.new ≡ string_bytes text.old ++ operands_text (offset_text offset ∷ [])) }
+{
+    write!(text, " ")?;
+    write_offset(text, offset)
+}
