@@ -43,3 +43,20 @@ fn an_exit_after_an_exit_is_not_reached(rt: HostRuntime) -> Result<(), Fail> {
     assert_eq!(rt; check(rt.alloc(), program).err(), Some(expected));
     Ok(())
 }
+
+#[test]
+fn an_instruction_without_a_rule_is_refused_before_all_else(rt: HostRuntime) -> Result<(), Fail> {
+    // exit, exit, a jump past the end
+    let bytes = [
+        0x95, 0, 0, 0, 0, 0, 0, 0, 0x95, 0, 0, 0, 0, 0, 0, 0, 0x05, 0, 9, 0, 0, 0, 0, 0,
+    ];
+    let program = decode(rt.alloc(), &bytes)
+        .ok()
+        .ok_or("the bytes are a program")?;
+    let expected = FlowFault::Bad {
+        slot: 2,
+        code: FlowCode::F0,
+    };
+    assert_eq!(rt; check(rt.alloc(), program).err(), Some(expected));
+    Ok(())
+}
