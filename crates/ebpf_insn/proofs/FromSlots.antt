@@ -1,6 +1,6 @@
 -- The instruction of a slot that has no fault is encoded by the slot.
-use Rattle.std.proofs.Common.{rules, ◌≡◌, ℕ, ◌+◌, ◌*◌, ◌/◌, ◌%◌, ◌<◌, ◌^◌, Bool, true, false, not, eqb, nat_le, if◌then◌else◌, ◌&&◌, ◌||◌, [], ◌∷◌, take, Option, Some, None, w16, w32, FitsSigned, refl, sym, ap, ◌∙◌, arith}
-use Rattle.std.proofs.lemmas.Bool.{eqb-true, and_parts}
+use Rattle.std.proofs.Common.{◌≡◌, ℕ, ◌+◌, ◌*◌, ◌/◌, ◌%◌, ◌<◌, ◌^◌, Bool, true, false, not, eqb, nat_le, if◌then◌else◌, ◌&&◌, ◌||◌, [], ◌∷◌, take, Option, Some, None, w16, w32, FitsSigned, refl, sym, ap, ◌∙◌, arith}
+use Rattle.std.proofs.lemmas.Bool.{eqb-true}
 use Rattle.std.proofs.lemmas.Bool.Decides.{nat_tests}
 use Rattle.std.proofs.lemmas.Int.{ints, of_z-to_z}
 use Rattle.std.specs.Prelude.{IfSome}
@@ -14,7 +14,6 @@ use Rattle.ebpf_insn.specs.declared.insn.Source.TheVariants as source
 use Rattle.ebpf_insn.specs.declared.insn.AluOp.{AluOp}
 use Rattle.ebpf_insn.specs.declared.insn.AluOp.TheVariants as op
 use Rattle.ebpf_insn.specs.declared.insn.Width.{Width}
-use Rattle.ebpf_insn.specs.declared.insn.Width.TheVariants.{W32, W64}
 use Rattle.ebpf_insn.specs.declared.opcode.Form.{Form}
 use Rattle.ebpf_insn.specs.declared.opcode.Form.TheVariants as form
 use Rattle.ebpf_insn.specs.declared.opcode.Operand.{Operand}

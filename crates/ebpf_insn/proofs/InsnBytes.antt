@@ -1,8 +1,7 @@
 -- The bytes of an instruction, with whatever follows them.
-use Rattle.std.proofs.Common.{rules, ◌≡◌, ℕ, zero, suc, ◌+◌, ◌*◌, ◌/◌, ◌<◌, ◌≤◌, ◌^◌, Bool, true, false, eqb, nat_le, List, [], ◌∷◌, ◌++◌, length, take, drop, Option, Some, None, refl, sym, ap, ◌∙◌, arith}
+use Rattle.std.proofs.Common.{◌≡◌, ℕ, zero, suc, ◌+◌, ◌*◌, ◌/◌, ◌<◌, ◌^◌, true, false, eqb, nat_le, List, [], ◌∷◌, ◌++◌, length, drop, Option, Some, None, refl, sym, ap, ◌∙◌, arith}
 use Rattle.std.proofs.lemmas.Bool.Decides.{nat_tests}
 use Rattle.std.proofs.lemmas.List.{append-nil, drop-drop, length-append}
-use Rattle.std.proofs.lemmas.List.Concat.{flat_map-cons}
 use Rattle.std.specs.List.{flat_map}
 use Rattle.ebpf_insn.specs.declared.slot.Slot.{Slot}
 use Rattle.ebpf_insn.specs.declared.register.Reg.{Reg}
@@ -13,8 +12,8 @@ use Rattle.ebpf_insn.specs.Slot.{slot_at, bytes_of_slot}
 use Rattle.ebpf_insn.specs.Program.{placed, slots_in}
 use Rattle.ebpf_insn.specs.Opcodes.{opcode_of}
 use Rattle.ebpf_insn.specs.Encoding.{first_slot, later_slots, second_half, encoding, IsDefined}
-use Rattle.ebpf_insn.specs.Decoding.{slot_fault, second_at, is_second_half, place_fault}
-use Rattle.ebpf_insn.proofs.SlotBytes.{FitsSlot, slot_at-bytes_of_slot}
+use Rattle.ebpf_insn.specs.Decoding.{second_at, place_fault}
+use Rattle.ebpf_insn.proofs.SlotBytes.{slot_at-bytes_of_slot}
 use Rattle.ebpf_insn.proofs.ToSlots.{IsReadFrom, Follows, insn_read, is_wide, wide_opcode, first_fits, second_fits}
 
 -- ---- an instruction takes up one slot, or is a wide one

@@ -1,5 +1,5 @@
 -- The opcode of each form stands for that form, and every other number for none.
-use Rattle.std.proofs.Common.{rules, ◌≡◌, ◌⊎◌, if◌then◌else◌, ℕ, zero, suc, ◌+◌, ◌*◌, ◌/◌, ◌%◌, ◌<◌, Bool, true, false, cond, not, eqb, nat_lt, ◌&&◌, ◌||◌, ◌==◌, List, [], ◌∷◌, Option, Some, None, is_none, refl, sym, ap, ◌∙◌, arith, inl, inr}
+use Rattle.std.proofs.Common.{rules, ◌≡◌, ◌⊎◌, if◌then◌else◌, ℕ, zero, suc, ◌/◌, ◌%◌, ◌<◌, Bool, true, false, cond, not, eqb, nat_lt, ◌&&◌, ◌||◌, ◌==◌, List, [], ◌∷◌, Option, Some, None, is_none, refl, sym, ap, ◌∙◌, arith, inl, inr}
 use Rattle.std.proofs.lemmas.Bool.{eqb-true, ne_eqb, and_parts, cases_lt}
 use Rattle.std.proofs.lemmas.Bool.Decides.{nat_tests}
 use Rattle.std.proofs.lemmas.Option.{same_Some, none-some}
@@ -18,7 +18,7 @@ use Rattle.ebpf_insn.specs.declared.opcode.Operand.TheVariants.{Immediate, Regis
 use Rattle.ebpf_insn.specs.declared.opcode.Form.{Form}
 use Rattle.ebpf_insn.specs.declared.opcode.Form.TheVariants as form
 use Rattle.ebpf_insn.specs.Encoding.{unsigned_of, has_load}
-use Rattle.ebpf_insn.specs.Opcodes.{store_class, alu_class, jump_class, operand_bit, alu_code, condition_code, size_code, opcode_of, is_among, alu_ops, conditions, forms, with_code, form_of, alu_op_of, condition_of}
+use Rattle.ebpf_insn.specs.Opcodes.{store_class, alu_class, jump_class, alu_code, condition_code, opcode_of, is_among, alu_ops, conditions, forms, with_code, form_of, alu_op_of, condition_of}
 
 -- ---- the first of a list that has a code
 

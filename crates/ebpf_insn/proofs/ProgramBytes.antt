@@ -1,10 +1,10 @@
 -- A program is read from its bytes instruction by instruction, and bytes encode one program at most.
-use Rattle.std.proofs.Common.{rules, ◌≡◌, ◌≢◌, ℕ, zero, suc, ◌+◌, ◌-◌, ◌*◌, ◌/◌, ◌%◌, ◌<◌, ◌≤◌, Bool, true, false, eqb, nat_le, if◌then◌else◌, List, [], ◌∷◌, ◌++◌, length, get_or, take, drop, Option, Some, None, refl, sym, ap, ◌∙◌, add-one, inl, inr, arith}
+use Rattle.std.proofs.Common.{◌≡◌, ◌≢◌, ℕ, ◌+◌, ◌-◌, ◌*◌, ◌/◌, ◌%◌, ◌<◌, ◌≤◌, Bool, true, false, eqb, nat_le, if◌then◌else◌, List, [], ◌∷◌, ◌++◌, length, take, drop, Option, Some, None, refl, sym, ap, ◌∙◌, add-one, inl, inr, arith}
 use Rattle.std.proofs.Math.Seq.{take-add}
-use Rattle.std.proofs.lemmas.Bool.{cases_eq, cases_lt, eq-eqb, ne_eqb}
+use Rattle.std.proofs.lemmas.Bool.{cases_lt, eq-eqb, ne_eqb}
 use Rattle.std.proofs.lemmas.Bool.Decides.{nat_tests}
 use Rattle.std.proofs.lemmas.Option.{same_Some}
-use Rattle.std.proofs.lemmas.List.{append-nil, append_assoc, take_all, drop-drop, take-append-drop, drop-append-le, get_or-drop, length-append, length-drop, length-take, length_push}
+use Rattle.std.proofs.lemmas.List.{append-nil, append_assoc, take_all, drop-drop, take-append-drop, get_or-drop, length-append, length-drop, length-take, length_push}
 use Rattle.std.proofs.lemmas.List.Concat.{flat_map-append, flat_map-cons}
 use Rattle.std.specs.List.{flat_map, AllByRecursion}
 use Rattle.ebpf_insn.specs.declared.slot.Slot.{Slot}
@@ -25,7 +25,7 @@ use Rattle.ebpf_insn.specs.Decoding.{slot_fault, second_at, is_second_half, plac
 use Rattle.ebpf_insn.proofs.FaultLemmas.{lowest_at, lowest_none}
 use Rattle.ebpf_insn.proofs.SlotBytes.{IsBytes, bytes_of_slot-slot_at}
 use Rattle.ebpf_insn.proofs.ToSlots.{found_in, is_wide, wide_opcode}
-use Rattle.ebpf_insn.proofs.InsnBytes.{IsAlone, by_wide, length-encoding, first_at, read_again, places_after, places_within}
+use Rattle.ebpf_insn.proofs.InsnBytes.{by_wide, length-encoding, first_at, read_again, places_after, places_within}
 
 abbrev AllDefined : List Insn → Type 0
 AllDefined is = AllByRecursion IsDefined is

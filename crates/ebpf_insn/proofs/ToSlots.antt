@@ -1,6 +1,6 @@
 -- The slots of an instruction have no fault, and the instruction is read from them again.
-use Rattle.std.proofs.Common.{rules, ◌≡◌, ℕ, ◌+◌, ◌*◌, ◌/◌, ◌%◌, ◌<◌, ◌^◌, Bool, true, false, not, eqb, ◌&&◌, ◌||◌, [], ◌∷◌, Option, Some, None, is_none, ℤ, w16, w32, FitsSigned, refl, sym, ap, ◌∙◌, inl, inr, arith}
-use Rattle.std.proofs.lemmas.Bool.{eqb-true, ne_eqb, cases_eq}
+use Rattle.std.proofs.Common.{◌≡◌, ℕ, ◌+◌, ◌*◌, ◌/◌, ◌%◌, ◌<◌, ◌^◌, Bool, true, false, eqb, ◌||◌, Option, Some, None, ℤ, w16, w32, FitsSigned, refl, sym, ap, ◌∙◌, inl, inr, arith}
+use Rattle.std.proofs.lemmas.Bool.{ne_eqb, cases_eq}
 use Rattle.std.proofs.lemmas.Bool.Decides.{nat_tests}
 use Rattle.std.proofs.lemmas.Int.{ints, to_z-of_z}
 use Rattle.std.proofs.lemmas.Option.{same_Some}
@@ -22,13 +22,12 @@ use Rattle.ebpf_insn.specs.declared.opcode.Form.{Form}
 use Rattle.ebpf_insn.specs.declared.opcode.Form.TheVariants as form
 use Rattle.ebpf_insn.specs.declared.opcode.Operand.{Operand}
 use Rattle.ebpf_insn.specs.declared.opcode.Operand.TheVariants.{Immediate, Register}
-use Rattle.ebpf_insn.specs.declared.fault.DecodeCode.{DecodeCode}
 use Rattle.ebpf_insn.specs.Registers.{number_of, register_of}
 use Rattle.ebpf_insn.specs.Opcodes.{opcode_of, form_of}
 use Rattle.ebpf_insn.specs.Fields.{leaves_unused_zero, has_left_out_source, has_defined_fields, is_move_of, is_swap_of, lacks_second, has_bad_second}
 use Rattle.ebpf_insn.specs.Encoding.{unsigned_of, form_of_insn, operand_of, source_register, source_imm, sign_offset, slot_with, second_half, first_slot, IsSource, IsDefined}
 use Rattle.ebpf_insn.specs.Decoding.{slot_fault}
-use Rattle.ebpf_insn.specs.Decoded.{source_at, alu_at, insn_at_slot}
+use Rattle.ebpf_insn.specs.Decoded.{alu_at, insn_at_slot}
 use Rattle.ebpf_insn.proofs.Registers.{register_of-number_of, is_register_of, number_below}
 use Rattle.ebpf_insn.proofs.SlotBytes.{FitsSlot}
 use Rattle.ebpf_insn.proofs.Opcodes.{IsForm, alu_again, form_again, opcode_is, opcode_below}

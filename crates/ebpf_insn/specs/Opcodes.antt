@@ -1,10 +1,9 @@
 -- The table of opcodes (RFC 9669, section 3.2), and what it makes of a number.
-use Rattle.std.specs.Prelude.{ℕ, ◌+◌, ◌*◌, ◌/◌, ◌%◌, Bool, true, false, ◌==◌, ◌||◌, if◌then◌else◌, List, [], ◌∷◌, ◌++◌, map, Option, Some, None}
+use Rattle.std.specs.Prelude.{ℕ, ◌+◌, ◌*◌, Bool, true, false, ◌==◌, ◌||◌, if◌then◌else◌, List, [], ◌∷◌, ◌++◌, map, Option, Some, None}
 use Rattle.ebpf_insn.specs.declared.insn.Width.{Width}
 use Rattle.ebpf_insn.specs.declared.insn.Width.TheVariants.{W32, W64}
 use Rattle.ebpf_insn.specs.declared.insn.Size.{Size}
 use Rattle.ebpf_insn.specs.declared.insn.Size.TheVariants.{B, H, W, D}
-use Rattle.ebpf_insn.specs.declared.insn.Order.{Order}
 use Rattle.ebpf_insn.specs.declared.insn.Order.TheVariants.{Little, Big, Flip}
 use Rattle.ebpf_insn.specs.declared.insn.AluOp.{AluOp}
 use Rattle.ebpf_insn.specs.declared.insn.AluOp.TheVariants as op

@@ -1,10 +1,10 @@
-use Rattle.std.proofs.Common.{◌≡◌, ℕ, List, Option, ◌+◌, ◌<◌, ◌≤◌, ◌++◌, [], ◌∷◌, Some, None, length, take, refl, sym, ap, ◌∙◌, arith}
+use Rattle.std.proofs.Common.{◌≡◌, ℕ, List, Option, ◌<◌, ◌++◌, Some, None, length, take, sym, ap, ◌∙◌, arith}
 use Rattle.std.proofs.lemmas.List.{append-nil, take_all}
 use Rattle.std.specs.Option.{option_copied}
 use Rattle.std.specs.List.{flat_map}
 use Rattle.ebpf_insn.specs.declared.insn.Insn.{Insn}
 use Rattle.ebpf_insn.specs.Program.{instructions, insn_at}
-use Rattle.ebpf_insn.specs.Encoding.{encoding, IsDefined}
+use Rattle.ebpf_insn.specs.Encoding.{encoding}
 use Rattle.ebpf_insn.proofs.ProgramLemmas.{defined_at, bytes_next}
 use Rattle.ebpf_insn.proofs.encode.encode.Goals as goal
 use Rattle.ebpf_insn.proofs.encode.encode.Goals.{in-Some+in_ok-push_insn-in-Some, in-None}

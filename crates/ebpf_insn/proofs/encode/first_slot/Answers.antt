@@ -1,4 +1,3 @@
-use Rattle.std.proofs.Common.{◌≡◌, sym, ap, ◌∙◌}
 use Rattle.ebpf_insn.proofs.ToSlots.{insn_form_again}
 use Rattle.ebpf_insn.proofs.encode.first_slot.Goals as goal
 

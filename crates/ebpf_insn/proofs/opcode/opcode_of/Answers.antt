@@ -1,4 +1,4 @@
-use Rattle.std.proofs.Common.{rules, ◌≡◌, ℕ, ◌<◌, ◌≤◌, true, false, Some, refl, sym, ap, ◌∙◌, arith, below_more}
+use Rattle.std.proofs.Common.{◌≡◌, ◌<◌, ◌≤◌, true, false, Some, sym, ◌∙◌, arith, below_more}
 use Rattle.std.specs.Option.{option_eq}
 use Rattle.ebpf_insn.specs.contracts.opcode.FormPartialEq.TheImpl as form_eq
 use Rattle.ebpf_insn.specs.Opcodes.{opcode_of, form_of}

@@ -1,9 +1,6 @@
-use Rattle.std.proofs.Common.{rules, ◌≡◌, ◌+◌, ◌*◌, ◌/◌, ◌%◌, ◌<◌, true, false, Some, None, refl, sym, ap, ◌∙◌, arith, inl, inr}
-use Rattle.std.proofs.lemmas.Bool.Decides.{nat_tests}
+use Rattle.std.proofs.Common.{rules, sym, arith}
 use Rattle.ebpf_insn.specs.declared.opcode.Form.TheVariants as form
-use Rattle.ebpf_insn.specs.declared.insn.Order.TheVariants.{Little, Big, Flip}
-use Rattle.ebpf_insn.specs.Opcodes.{alu_op_of, condition_of, opcode_of, form_of}
-use Rattle.ebpf_insn.proofs.Opcodes.{form_found, form_again, no_form, has_no_form, alu_op_is, condition_is, store_none, alu_none, jump_none}
+use Rattle.ebpf_insn.proofs.Opcodes.{form_found, store_none}
 use Rattle.ebpf_insn.proofs.opcode.store_form.Goals as goal
 
 pub returns-then-opcode-eq3 : goal.returns-then-opcode-eq3
