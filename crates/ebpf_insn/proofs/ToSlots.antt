@@ -277,3 +277,21 @@ insn_form insn.Exit h = tt
 
 pub insn_form_again : (i : Insn) → IsDefined i → form_of (opcode_of (form_of_insn i)) ≡ Some (form_of_insn i)
 insn_form_again i h = form_again (form_of_insn i) (insn_form i h)
+
+-- a signed operation has the opcode of the unsigned one
+same_code : (width : Width) (operand : Operand) (o : AluOp) → opcode_of (form.Alu width (unsigned_of o) operand) ≡ opcode_of (form.Alu width o operand)
+same_code width operand o = elim o as (λ k. opcode_of (form.Alu width (unsigned_of k) operand) ≡ opcode_of (form.Alu width k operand)) [ op.Add ↦ refl | op.Sub ↦ refl | op.Mul ↦ refl | op.Div ↦ refl | op.SDiv ↦ refl | op.Or ↦ refl | op.And ↦ refl | op.Lsh ↦ refl | op.Rsh ↦ refl | op.Rem ↦ refl | op.SRem ↦ refl | op.Xor ↦ refl | op.Mov ↦ refl | op.Arsh ↦ refl ]
+
+pub same_opcode : (i : Insn) → opcode_of (form_of_insn i) ≡ (first_slot i).opcode
+same_opcode (insn.Alu width o dst src) = same_code width (operand_of src) o
+same_opcode (insn.Sext width bits dst src) = refl
+same_opcode (insn.Neg width dst) = refl
+same_opcode (insn.Swap order bits dst) = refl
+same_opcode (insn.Wide dst value) = refl
+same_opcode (insn.Load size signed dst base offset) = refl
+same_opcode (insn.Store size base offset src) = refl
+same_opcode (insn.Jump offset) = refl
+same_opcode (insn.JumpFar offset) = refl
+same_opcode (insn.Branch width c left right offset) = refl
+same_opcode (insn.Call number) = refl
+same_opcode insn.Exit = refl

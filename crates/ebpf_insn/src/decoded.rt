@@ -1,11 +1,11 @@
 //! The instruction of a slot that has no fault.
 
-ghost use Rattle.std.specs.Prelude.{◌≡◌, true};
+ghost use Rattle.std.specs.Prelude.{◌≡◌, None, true};
 ghost use Rattle.ebpf_insn.specs.Fields.{has_defined_fields};
 ghost use Rattle.ebpf_insn.specs.Decoded.{insn_at_slot, upper_half, alu_at, signed_by, source_at};
 ghost use Rattle.ebpf_insn.specs.declared.opcode.Form.TheVariants as form;
 
-use crate::insn::{AluOp, Insn, Source, Width};
+use crate::insn::{AluOp, Cond, Insn, Source, Width};
 use crate::opcode::{Form, Operand};
 use crate::register::Reg;
 use crate::slot::Slot;
@@ -48,15 +48,22 @@ pub(crate) fn insn_at_slot(form: Form, slot: Slot, second: Option<Slot>, dst: Re
             width,
             cond,
             operand,
-        } => Insn::Branch {
-            width,
-            cond,
-            left: dst,
-            right: source_at(operand, slot, src),
-            offset,
-        },
+        } => branch_at(width, cond, operand, slot, dst, src),
         Form::Call => Insn::Call { number },
         Form::Exit => Insn::Exit,
+    }
+}
+
+// A branch.
+fn branch_at(width: Width, cond: Cond, operand: Operand, slot: Slot, left: Reg, src: Reg) -> Insn
+    ensures { result ≡ insn_at_slot (form.Branch width cond operand) slot None left src }
+{
+    Insn::Branch {
+        width,
+        cond,
+        left,
+        right: source_at(operand, slot, src),
+        offset: slot.offset.cast_signed(),
     }
 }
 

@@ -46,57 +46,74 @@ fn first_slot(insn: Insn) -> Slot
     requires { IsDefined insn }
     ensures { result ≡ first_slot insn }
 {
-    let opcode = opcode_of(form_of_insn(insn));
-    let (dst, src, offset, imm) = match insn {
-        Insn::Alu { op, dst, src, .. } => (
-            dst.number(),
-            source_register(src),
-            sign_offset(op),
-            source_imm(src),
-        ),
-        Insn::Sext { bits, dst, src, .. } => (dst.number(), src.number(), bits as u16, 0),
-        Insn::Neg { dst, .. } => (dst.number(), 0, 0, 0),
-        Insn::Swap { bits, dst, .. } => (dst.number(), 0, 0, bits as u32),
-        Insn::Wide { dst, value } => (dst.number(), 0, 0, (value % (1 << 32)) as u32),
-        Insn::Load {
-            dst,
-            base,
-            offset,
-            ..
-        } => (dst.number(), base.number(), offset.cast_unsigned(), 0),
-        Insn::Store {
-            base,
-            offset,
-            src,
-            ..
-        } => (
-            base.number(),
-            source_register(src),
-            offset.cast_unsigned(),
-            source_imm(src),
-        ),
-        Insn::Jump { offset } => (0, 0, offset.cast_unsigned(), 0),
-        Insn::JumpFar { offset } => (0, 0, 0, offset.cast_unsigned()),
-        Insn::Branch {
-            left,
-            right,
-            offset,
-            ..
-        } => (
-            left.number(),
-            source_register(right),
-            offset.cast_unsigned(),
-            source_imm(right),
-        ),
-        Insn::Call { number } => (0, 0, 0, number.cast_unsigned()),
-        Insn::Exit => (0, 0, 0, 0),
-    };
     Slot {
-        opcode,
-        dst: dst as u8,
-        src: src as u8,
-        offset,
-        imm,
+        opcode: opcode_of(form_of_insn(insn)),
+        dst: dst_of(insn) as u8,
+        src: src_of(insn) as u8,
+        offset: offset_of(insn),
+        imm: imm_of(insn),
+    }
+}
+
+// What stands in the field dst: the number of a register, or 0.
+fn dst_of(insn: Insn) -> usize
+    ensures value { result ≡ (first_slot insn).dst }
+    ensures bound { result < 16 }
+{
+    match insn {
+        Insn::Alu { dst, .. }
+        | Insn::Sext { dst, .. }
+        | Insn::Neg { dst, .. }
+        | Insn::Swap { dst, .. }
+        | Insn::Wide { dst, .. }
+        | Insn::Load { dst, .. } => dst.number(),
+        Insn::Store { base, .. } => base.number(),
+        Insn::Branch { left, .. } => left.number(),
+        _ => 0,
+    }
+}
+
+// What stands in the field src: the number of a register, or 0.
+fn src_of(insn: Insn) -> usize
+    ensures value { result ≡ (first_slot insn).src }
+    ensures bound { result < 16 }
+{
+    match insn {
+        Insn::Alu { src, .. } | Insn::Store { src, .. } => source_register(src),
+        Insn::Branch { right, .. } => source_register(right),
+        Insn::Sext { src, .. } => src.number(),
+        Insn::Load { base, .. } => base.number(),
+        _ => 0,
+    }
+}
+
+// What stands in the field offset.
+fn offset_of(insn: Insn) -> u16
+    ensures { result ≡ (first_slot insn).offset }
+{
+    match insn {
+        Insn::Alu { op, .. } => sign_offset(op),
+        Insn::Sext { bits, .. } => bits as u16,
+        Insn::Load { offset, .. } => offset.cast_unsigned(),
+        Insn::Store { offset, .. } => offset.cast_unsigned(),
+        Insn::Jump { offset } => offset.cast_unsigned(),
+        Insn::Branch { offset, .. } => offset.cast_unsigned(),
+        _ => 0,
+    }
+}
+
+// What stands in the field imm.
+fn imm_of(insn: Insn) -> u32
+    ensures { result ≡ (first_slot insn).imm }
+{
+    match insn {
+        Insn::Alu { src, .. } | Insn::Store { src, .. } => source_imm(src),
+        Insn::Branch { right, .. } => source_imm(right),
+        Insn::Swap { bits, .. } => bits as u32,
+        Insn::Wide { value, .. } => (value % (1 << 32)) as u32,
+        Insn::JumpFar { offset } => offset.cast_unsigned(),
+        Insn::Call { number } => number.cast_unsigned(),
+        _ => 0,
     }
 }
 
