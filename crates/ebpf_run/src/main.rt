@@ -1,30 +1,17 @@
 //! Runs small eBPF programs from the command line.
 //!
-//! What a command writes is a function of what it reads and of its options, errors included, and it writes nothing else:
-//! that is the contract of [`one::one`], of [`list::list`] and of [`ebpf_script::replay::replay`], which stand on the
-//! contracts of the crates below. This crate adds what `one` and `list` ask for, the lines of their texts, the store of
-//! objects of a single run, and the command line.
-//!
-//! To be read in this order: `program_text`, `request`, `store`, `alone`, `text`, `answer`, `one`, `list`, `command`.
+//! This crate reads the command line and has the standard streams. What a command writes is a function of what it reads and
+//! of its options, errors included, and it writes nothing else: that is the contract of [`ebpf_one::one::one`], of
+//! [`ebpf_one::list::list`] and of [`ebpf_script::replay::replay`], which are all that it calls.
 #![tactic(auto)]
 
-mod alone;
-mod answer;
 mod command;
-mod list;
-mod one;
-mod program_text;
-mod request;
-mod store;
-#[cfg(test)]
-mod streams;
-mod text;
 
 use crate::command::{Task, command, task_of};
-use crate::list::list;
-use crate::one::one;
 use clap::Error;
 use clap::error::ErrorKind;
+use ebpf_one::list::list;
+use ebpf_one::one::one;
 use ebpf_script::done::{Done, EngineFault};
 use ebpf_script::replay::replay;
 use std::process::ExitCode;

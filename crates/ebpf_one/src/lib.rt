@@ -1,0 +1,19 @@
+//! The commands over one program: `one` runs it, `list` writes its instructions.
+//!
+//! What each writes is a function of what it reads and of its options, errors included, and it writes nothing else: that
+//! is the contract of [`one::one`] and of [`list::list`], which stand on the contracts of the crates below. This crate adds
+//! what the two ask for, the lines of their texts, and the store of objects of a single run.
+//!
+//! To be read in this order: `program_text`, `request`, `store`, `alone`, `text`, `answer`, `one`, `list`.
+#![tactic(auto)]
+
+mod alone;
+mod answer;
+pub mod list;
+pub mod one;
+mod program_text;
+mod request;
+mod store;
+#[cfg(test)]
+mod streams;
+mod text;

@@ -1,7 +1,0 @@
-use Rattle.std.proofs.Common.{◌≡◌, ◌++◌, take, string_bytes}
-use Rattle.std.specs.List.{flat_map}
-use Rattle.ebpf_run.specs.Lines.{accepted_line, emit_line}
-use Rattle.ebpf_run.proofs.text.run_lines.Given as goal
-
-abbrev pub invariant-loop-value : goal.invariant-loop-value
-invariant-loop-value l = string_bytes l.text ≡ accepted_line l.fn.len ++ flat_map emit_line (take l.value-index l.output)
