@@ -6,7 +6,7 @@ use std::alloc::{AllocError, Global};
 use std::marker::Model;
 
 /// The bytes that a run's program reads as its context. Contracts see it as the list.
-#[derive(Debug, Drop)]
+#[derive(Drop)]
 pub struct Context {
     bytes: Vec<u8>,
 }
@@ -43,7 +43,7 @@ impl Context {
 }
 
 /// What an event brings to a call of `new`.
-#[derive(Clone, Copy, Debug, PartialEq, Eq)]
+#[derive(Clone, Copy)]
 pub enum Answer {
     /// Nothing: the instruction is no call of `new`.
     Absent,
@@ -54,7 +54,7 @@ pub enum Answer {
 }
 
 /// One atomic step of the world.
-#[derive(Debug, Drop)]
+#[derive(Drop)]
 pub enum Event {
     /// A run of the program of this number begins, on this context. Runs are numbered in the order of their starts.
     Start { program: usize, context: Context },

@@ -4,7 +4,7 @@ use std::alloc::AllocError;
 use thiserror::Error;
 
 /// Why an event isn't legal, in the order in which it is tested.
-#[derive(Clone, Copy, Debug, PartialEq, Eq)]
+#[derive(Clone, Copy, Debug)]
 pub enum ApplyCode {
     /// There is no such run.
     E1,
@@ -29,7 +29,7 @@ pub enum ApplyCode {
 }
 
 /// Why an event did not take place. The world is as it was.
-#[derive(Clone, Copy, Debug, PartialEq, Eq, Error)]
+#[derive(Clone, Copy, Debug, Error)]
 pub enum ApplyFault {
     /// The event isn't legal.
     #[error("the event isn't legal")]
@@ -40,7 +40,7 @@ pub enum ApplyFault {
 }
 
 /// Why a list of events has no world.
-#[derive(Clone, Copy, Debug, PartialEq, Eq, Error)]
+#[derive(Clone, Copy, Debug, Error)]
 pub enum ReplayFault {
     /// The event of this number, from 0, isn't legal; all before it are.
     #[error("event {index} isn't legal")]

@@ -11,7 +11,5 @@
 pub mod event;
 pub mod fault;
 pub mod replay;
-pub mod slots;
-#[cfg(test)]
-mod tests;
+mod slots;
 pub mod world;

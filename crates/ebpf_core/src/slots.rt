@@ -7,7 +7,7 @@ use std::alloc::Global;
 use std::sync::ledger::{Book, Ledger, Share};
 
 /// A slot that a run holds.
-#[derive(Clone, Copy, Debug, PartialEq, Eq)]
+#[derive(Clone, Copy)]
 pub struct Slot {
     pub number: u32,
     pub kind: u8,
@@ -28,7 +28,7 @@ pub struct Answering<L: Ledger> {
 
 impl<L: Ledger> Answering<L> {
     /// Nothing answered yet, over a new ledger.
-    pub fn new(alloc: Global, book: Book<L>, share: Share<L>) -> Answering<L>
+    pub(crate) fn new(alloc: Global, book: Book<L>, share: Share<L>) -> Answering<L>
         requires { 0 < share.parts }
         ensures granted { result.granted ≡ None }
         ensures book { result.book ≡ book }

@@ -18,7 +18,7 @@ use std::marker::{Brand, Model};
 use std::sync::ledger::{Blank, Ledger};
 
 /// How far a run is.
-#[derive(Clone, Copy, Debug, PartialEq, Eq)]
+#[derive(Clone, Copy)]
 pub enum Status {
     /// It goes on at the instruction of this slot.
     Going(u16),
@@ -167,14 +167,14 @@ impl<'v> World<'v> {
     pub fn owner(&self, slot: u32) -> Option<(usize, u16)>
         ensures { OfWorld self.now (λ w. result ≡ owner_in w slot) }
     {
-        None
+        None // no instruction is granted a slot yet
     }
 
     /// The bytes of a slot; `None` where it is in no ledger.
     pub fn bytes(&self, slot: u32) -> Option<&[u8]>
         ensures { OfWorld self.now (λ w. option_map (λ b. b.now) result ≡ bytes_in w slot) }
     {
-        None
+        None // no slot joins a ledger yet
     }
 
     /// The slots in the ledger of a kind, ascending; none for a number that is no kind.

@@ -7,7 +7,7 @@
 //! To be read in this order: `value`, `objects`, `holding`, `execute`, `report`, `run`.
 #![tactic(auto)]
 
-pub mod execute;
+mod execute;
 pub mod holding;
 pub mod objects;
 pub mod report;

@@ -5,7 +5,7 @@ ghost use Rattle.std.specs.Prelude.{◌≡◌};
 use std::marker::Model;
 
 /// The numbers that a run added to its output, in order. Contracts see it as the list.
-#[derive(Debug, Drop)]
+#[derive(Drop)]
 pub struct Output {
     numbers: Vec<u64>,
 }
@@ -20,7 +20,7 @@ impl Model for Output {
 
 impl Output {
     /// An output of these numbers.
-    pub fn new(numbers: Vec<u64>) -> Output
+    pub(crate) fn new(numbers: Vec<u64>) -> Output
         ensures { result ≡ numbers.items }
     {
         Output { numbers }
@@ -35,7 +35,7 @@ impl Output {
 }
 
 /// For each call of `new` that a run made, in order, whether it was granted. Contracts see it as the list.
-#[derive(Debug, Drop)]
+#[derive(Drop)]
 pub struct Answers {
     granted: Vec<bool>,
 }
@@ -50,7 +50,7 @@ impl Model for Answers {
 
 impl Answers {
     /// These answers.
-    pub fn new(granted: Vec<bool>) -> Answers
+    pub(crate) fn new(granted: Vec<bool>) -> Answers
         ensures { result ≡ granted.items }
     {
         Answers { granted }
@@ -65,7 +65,7 @@ impl Answers {
 }
 
 /// What a run did until it exited, or until it was given up.
-#[derive(Debug, Drop)]
+#[derive(Drop)]
 pub struct Report {
     /// The number that it returned, or `None` where it was given up before its exit.
     pub exit: Option<u64>,

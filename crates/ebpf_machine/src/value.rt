@@ -4,7 +4,7 @@
 ///
 /// `N` names an object. A run names an object by the slot of the call that was granted it: jumps lead forward, so each
 /// call is made at most once. The world of many runs, which contracts alone see, names the object's slot too.
-#[derive(Clone, Copy, Debug, PartialEq, Eq)]
+#[derive(Clone, Copy)]
 pub enum Value<N> {
     Number(u64),
     /// The frame pointer, moved by this many bytes.
@@ -16,7 +16,7 @@ pub enum Value<N> {
 }
 
 /// One of the 512 bytes of the stack.
-#[derive(Clone, Copy, Debug, PartialEq, Eq)]
+#[derive(Clone, Copy)]
 pub enum Cell<N> {
     Unset,
     Byte(u8),

@@ -14,6 +14,4 @@ pub mod one;
 mod program_text;
 mod request;
 mod store;
-#[cfg(test)]
-mod streams;
 mod text;

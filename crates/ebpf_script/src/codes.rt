@@ -9,7 +9,7 @@ use ebpf_insn::fault::DecodeCode;
 use ebpf_verify::fault::VerifyCode;
 
 /// Why a program is refused, by the stage that refuses it.
-#[derive(Clone, Copy, Debug, PartialEq, Eq)]
+#[derive(Clone, Copy)]
 pub enum RefusalCode {
     /// The bytes are no program.
     Decode(DecodeCode),
@@ -92,7 +92,7 @@ fn verify_name(code: VerifyCode) -> &'static str
 }
 
 /// The code of an event that isn't legal.
-pub fn apply_name(code: ApplyCode) -> &'static str
+pub(crate) fn apply_name(code: ApplyCode) -> &'static str
     ensures { result.now ≡ apply_name code }
 {
     match code {

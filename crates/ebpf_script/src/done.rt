@@ -7,7 +7,7 @@ use std::alloc::{AllocError, AllocFailed};
 use thiserror::Error;
 
 /// How a command ended that wrote its whole text.
-#[derive(Clone, Copy, Debug, PartialEq, Eq)]
+#[derive(Clone, Copy)]
 pub enum Done {
     /// Everything was accepted and done.
     Clean,
@@ -16,7 +16,7 @@ pub enum Done {
 }
 
 /// Why a command didn't write its whole text.
-#[derive(Clone, Copy, Debug, PartialEq, Eq, Error)]
+#[derive(Clone, Copy, Debug, Error)]
 pub enum EngineFault {
     /// A read failed. Nothing was written.
     #[error("input")]
@@ -30,7 +30,7 @@ pub enum EngineFault {
 }
 
 /// Why an input or an option can't be used.
-#[derive(Clone, Copy, Debug, PartialEq, Eq)]
+#[derive(Clone, Copy)]
 pub enum FaultCode {
     /// The text has more than 1,048,576 bytes.
     S1,

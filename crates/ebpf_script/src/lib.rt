@@ -17,5 +17,5 @@ pub mod output;
 pub mod reader;
 pub mod replay;
 pub mod text;
-pub mod verdicts;
-pub mod world_text;
+mod verdicts;
+mod world_text;

@@ -6,12 +6,12 @@ ghost use Rattle.std.specs.Prelude.{◌≡◌, IfOk, IfErr};
 ghost use Rattle.ebpf_script.specs.ReadScripts.{said_by, IsScriptStop};
 ghost use Rattle.ebpf_script.specs.Scripts.{script_of};
 
-pub mod line;
-pub mod names;
-pub mod numbers;
+mod line;
+mod names;
+mod numbers;
 pub mod script;
-pub mod statement;
-pub mod words;
+mod statement;
+mod words;
 
 use crate::done::FaultCode;
 use crate::reader::line::read_line;
@@ -47,6 +47,3 @@ pub fn read_script(alloc: Global, text: &[u8]) -> Result<Script, ScriptStop>
     }
     Ok(script)
 }
-
-#[cfg(test)]
-mod tests;

@@ -94,8 +94,3 @@ fn answer_events(
         Err(ReplayFault::NoMemory) => Err(AllocError),
     }
 }
-
-#[cfg(test)]
-mod stream_tests;
-#[cfg(test)]
-mod tests;

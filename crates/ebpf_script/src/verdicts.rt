@@ -22,7 +22,7 @@ pub struct Verdicts {
 }
 
 /// Judges each program of a script. It fails for want of memory alone.
-pub fn verdicts_on(
+pub(crate) fn verdicts_on(
     alloc: Global,
     programs: &IndexMap<String, ProgramText>,
 ) -> Result<Verdicts, AllocError>

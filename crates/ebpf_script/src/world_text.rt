@@ -9,7 +9,7 @@ use ebpf_core::world::{Status, World};
 use std::alloc::{AllocError, Global};
 
 /// Tells a world behind a text: each run in order, and then the slots of each kind. It fails for want of memory alone.
-pub fn write_world(text: &mut String, world: &World<'_>) -> Result<(), AllocError>
+pub(crate) fn write_world(text: &mut String, world: &World<'_>) -> Result<(), AllocError>
     ensures { OnOk result (OfWorld world.now (λ w. string_bytes text.new ≡ string_bytes text.old ++ world_lines w)) }
 {
     write_runs(text, world)?;

@@ -1,7 +1,7 @@
 //! The references that are held.
 
 /// A reference that a call of `new` gave and that was not freed yet.
-#[derive(Clone, Copy, Debug, PartialEq, Eq)]
+#[derive(Clone, Copy, PartialEq, Eq)]
 pub struct Held {
     /// The slot of the call.
     pub call: u16,

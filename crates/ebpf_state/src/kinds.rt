@@ -3,7 +3,7 @@
 ghost use Rattle.ebpf_state.specs.Kinds.{AreKinds};
 
 /// A kind of object: its size in bytes, 1 to 4096, and the byte that fills a new one.
-#[derive(Clone, Copy, Debug, PartialEq, Eq)]
+#[derive(Clone, Copy)]
 pub struct KindRow {
     pub name: &'static str,
     pub size: u32,

@@ -7,7 +7,5 @@
 pub mod held;
 pub mod kinds;
 pub mod state;
-#[cfg(test)]
-mod tests;
 pub mod value;
 pub mod word;

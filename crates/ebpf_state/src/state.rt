@@ -35,7 +35,7 @@ impl Model for State {
 }
 
 /// Why two states have no join.
-#[derive(Clone, Copy, Debug, PartialEq, Eq, Error)]
+#[derive(Clone, Copy, Debug, Error)]
 pub enum JoinFault {
     /// They don't hold the same references, tested alike.
     #[error("the paths that meet hold different references")]

@@ -6,7 +6,7 @@ ghost use Rattle.ebpf_state.specs.Abstract.{joined_value, is_unset, is_pointer, 
 use ebpf_range::range::{Range, hull};
 
 /// What is known of a register, or of a value that was spilled to the stack.
-#[derive(Clone, Copy, Debug, PartialEq, Eq)]
+#[derive(Clone, Copy)]
 pub enum Abs {
     /// Nothing: it may not be read.
     Unset,

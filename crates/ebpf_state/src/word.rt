@@ -8,7 +8,7 @@ use crate::value::Abs;
 
 /// What is known of one of the 64 aligned words of the stack. Word `w` covers the offsets `8w - 512` to `8w - 505` from
 /// the frame pointer.
-#[derive(Clone, Copy, Debug, PartialEq, Eq)]
+#[derive(Clone, Copy)]
 pub enum Word {
     /// A value that was stored as a whole.
     Spill(Abs),

@@ -22,7 +22,7 @@ impl Arrival {
     ghost use Rattle.ebpf_verify.specs.declared.fault.VerifyFault.TheVariants.{NoMemory};
 
     /// What comes, with one more state.
-    pub fn with(self, state: State) -> Result<Arrival, VerifyFault>
+    pub(crate) fn with(self, state: State) -> Result<Arrival, VerifyFault>
         ensures value { IfOk result (λ a. a ≡ with_state self state) }
         ensures err { IfErr result (λ e. e ≡ NoMemory) }
     {

@@ -4,7 +4,7 @@ ghost use Rattle.std.specs.Prelude.{◌≡◌, ◌≤◌, ◌↔◌, IsSome, IfS
 
 /// What a program is verified for: the length of its context in bytes, 0 to 4096, and the most objects that it may hold
 /// at one time, 0 to 64.
-#[derive(Clone, Copy, Debug, PartialEq, Eq)]
+#[derive(Clone, Copy)]
 pub struct Decl {
     pub context: u32,
     pub held: u8,

@@ -6,7 +6,7 @@ use std::alloc::{AllocError, AllocFailed};
 use thiserror::Error;
 
 /// Why a slot is refused. Within a slot `V19` comes first, then the codes in the order of the instruction's rule.
-#[derive(Clone, Copy, Debug, PartialEq, Eq)]
+#[derive(Clone, Copy, Debug)]
 pub enum VerifyCode {
     /// The instruction has no rule yet.
     V0,
@@ -51,7 +51,7 @@ pub enum VerifyCode {
 }
 
 /// Why [`crate::verify::verify`] refused a program.
-#[derive(Clone, Copy, Debug, PartialEq, Eq, Error)]
+#[derive(Clone, Copy, Debug, Error)]
 pub enum VerifyFault {
     /// The lowest slot that is refused, and the first code that applies there.
     #[error("slot {slot} is refused with {code:?}")]

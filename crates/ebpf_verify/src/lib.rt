@@ -5,12 +5,10 @@
 //! makes a [`verified::Verified`], and no run of that program traps.
 #![tactic(auto)]
 
-pub mod arrival;
+mod arrival;
 pub mod decl;
 pub mod fault;
-pub mod pointer;
-pub mod rules;
-#[cfg(test)]
-mod tests;
+mod pointer;
+mod rules;
 pub mod verified;
 pub mod verify;

@@ -11,7 +11,7 @@ use ebpf_state::value::Abs;
 
 /// What is known of the sum of two values at 64 bits, or `None` where a pointer would be moved by a number of unknown
 /// sign or too far, or no sum of the two has a meaning.
-pub fn sum_value(left: Abs, right: Abs) -> Option<Abs>
+pub(crate) fn sum_value(left: Abs, right: Abs) -> Option<Abs>
     requires left { IsProper left }
     requires right { IsProper right }
     ensures value { result ≡ sum_value left right }

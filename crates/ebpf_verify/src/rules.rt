@@ -14,7 +14,7 @@ use ebpf_state::state::State;
 use ebpf_state::value::Abs;
 
 /// The first code that refuses an instruction, where the state is known before it.
-pub fn refusal(insn: Insn, state: &State) -> Option<VerifyCode>
+pub(crate) fn refusal(insn: Insn, state: &State) -> Option<VerifyCode>
     ensures { result ≡ refusal insn state.now }
 {
     match insn {
@@ -31,7 +31,7 @@ pub fn refusal(insn: Insn, state: &State) -> Option<VerifyCode>
 
 /// Says in the state what is known after an instruction that is not refused, on the edge to the slot after it; `None`
 /// where nothing goes there.
-pub fn after_fall(insn: Insn, mut state: State) -> Option<State>
+pub(crate) fn after_fall(insn: Insn, mut state: State) -> Option<State>
     ensures { result ≡ after_fall insn state }
 {
     match insn {
@@ -145,7 +145,7 @@ fn sum_refusal(left: Abs, right: Abs, dst: Reg) -> Option<VerifyCode>
 fn is_frame_pointer(register: Reg) -> bool
     ensures { result ≡ is_frame_pointer register }
 {
-    register == Reg::R10
+    matches!(register, Reg::R10)
 }
 
 // A pointer to the stack would be moved by a number that isn't known exactly.

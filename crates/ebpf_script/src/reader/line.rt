@@ -16,7 +16,7 @@ use std::alloc::Global;
 
 /// Reads a line behind those that the script has. Where it stops, nothing is said of the script.
 #[tactic(auto, unfolding(crate::specs::LineFaults::line_fault))]
-pub fn read_line(alloc: Global, script: &mut Script, line: &[u8]) -> Result<(), LineStop>
+pub(crate) fn read_line(alloc: Global, script: &mut Script, line: &[u8]) -> Result<(), LineStop>
     ensures fine { OnOk result (line_fault (said_by script.old).programs line.now ≡ None) }
     ensures ok { OnOk result (Adds (shape_of (words line.now)) script.old script.new) }
     ensures refused { IfErr result (IsLineStop (line_fault (said_by script.old).programs line.now)) }

@@ -4,7 +4,7 @@ ghost use Rattle.std.specs.Prelude.{◌≡◌, IfSome, is_some};
 ghost use Rattle.ebpf_script.specs.Names.{is_name, is_name_byte};
 
 /// The name that a word is; `None` where it isn't allowed.
-pub fn name_of(word: &[u8]) -> Option<&str>
+pub(crate) fn name_of(word: &[u8]) -> Option<&str>
     ensures allowed { is_some result ≡ is_name word.now }
     ensures same { IfSome result (λ name. name.now ≡ word.now) }
 {

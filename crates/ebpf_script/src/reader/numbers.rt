@@ -4,7 +4,7 @@ ghost use Rattle.std.specs.Prelude.{◌≡◌, ◌≤◌, IfSome};
 ghost use Rattle.ebpf_script.specs.Numbers.{number_to, context_of, held_of, run_of, kind_of, slot_of};
 
 /// The length of a context, 0 to 4096.
-pub fn context_of(word: &[u8]) -> Option<u32>
+pub(crate) fn context_of(word: &[u8]) -> Option<u32>
     ensures value { result ≡ context_of word.now }
     ensures small { IfSome result (λ n. n ≤ 4096) }
 {
@@ -12,7 +12,7 @@ pub fn context_of(word: &[u8]) -> Option<u32>
 }
 
 /// The most objects to hold, 0 to 64.
-pub fn held_of(word: &[u8]) -> Option<u8>
+pub(crate) fn held_of(word: &[u8]) -> Option<u8>
     ensures value { result ≡ held_of word.now }
     ensures small { IfSome result (λ n. n ≤ 64) }
 {
@@ -21,7 +21,7 @@ pub fn held_of(word: &[u8]) -> Option<u8>
 }
 
 /// The number of a run, below 2^32.
-pub fn run_of(word: &[u8]) -> Option<usize>
+pub(crate) fn run_of(word: &[u8]) -> Option<usize>
     ensures { result ≡ run_of word.now }
 {
     let run = number_to(u32::MAX, word)?;
@@ -29,7 +29,7 @@ pub fn run_of(word: &[u8]) -> Option<usize>
 }
 
 /// The number of a kind, 0 to 255.
-pub fn kind_of(word: &[u8]) -> Option<u8>
+pub(crate) fn kind_of(word: &[u8]) -> Option<u8>
     ensures { result ≡ kind_of word.now }
 {
     let kind = number_to(255, word)?;
@@ -37,7 +37,7 @@ pub fn kind_of(word: &[u8]) -> Option<u8>
 }
 
 /// The number of a slot, 0 to 65535.
-pub fn slot_of(word: &[u8]) -> Option<u32>
+pub(crate) fn slot_of(word: &[u8]) -> Option<u32>
     ensures { result ≡ slot_of word.now }
 {
     number_to(65_535, word)

@@ -9,7 +9,7 @@ use indexmap::IndexMap;
 use std::alloc::{AllocError, AllocFailed};
 
 /// A program of a script: what its hex says, and what it declares.
-#[derive(Debug, Drop)]
+#[derive(Drop)]
 pub struct ProgramText {
     pub bytes: Vec<u8>,
     pub decl: Decl,
@@ -23,14 +23,14 @@ pub struct Script {
 }
 
 /// Why a text is no script: the code, and the line, from 1; line 0 where the text is too long.
-#[derive(Clone, Copy, Debug, PartialEq, Eq)]
+#[derive(Clone, Copy)]
 pub struct ScriptFault {
     pub code: FaultCode,
     pub line: usize,
 }
 
 /// Why there is no script.
-#[derive(Clone, Copy, Debug, PartialEq, Eq)]
+#[derive(Clone, Copy)]
 pub enum ScriptStop {
     /// The text can't be used.
     Fault(ScriptFault),
@@ -38,7 +38,7 @@ pub enum ScriptStop {
 }
 
 /// Why a line is not read.
-#[derive(Clone, Copy, Debug, PartialEq, Eq)]
+#[derive(Clone, Copy)]
 pub enum LineStop {
     /// The line can't be used.
     Fault(FaultCode),
@@ -49,7 +49,7 @@ impl LineStop {
     ghost use Rattle.ebpf_script.specs.ReadScripts.{stop_at};
 
     /// The stop of a script at this line.
-    pub fn at(self, line: usize) -> ScriptStop
+    pub(crate) fn at(self, line: usize) -> ScriptStop
         ensures { result ≡ stop_at self line }
     {
         match self {

@@ -16,7 +16,7 @@ use ebpf_verify::decl::Decl;
 use std::alloc::Global;
 
 /// Reads `program NAME CONTEXT HELD HEX`.
-pub fn read_program(
+pub(crate) fn read_program(
     alloc: Global,
     script: &mut Script,
     name: &[u8],
@@ -49,7 +49,7 @@ pub fn read_program(
 }
 
 /// Reads `start NAME HEX`.
-pub fn read_start(
+pub(crate) fn read_start(
     alloc: Global,
     script: &mut Script,
     name: &[u8],
@@ -73,7 +73,7 @@ pub fn read_start(
 }
 
 /// Reads `exec RUN`.
-pub fn read_exec(script: &mut Script, run: &[u8]) -> Result<(), LineStop>
+pub(crate) fn read_exec(script: &mut Script, run: &[u8]) -> Result<(), LineStop>
     ensures ok { OnOk result (Adds (ExecLine run.now) script.old script.new) }
     ensures refused { IfErr result (IsLineStop (shape_fault (said_by script.old).programs (ExecLine run.now))) }
 {
@@ -88,7 +88,7 @@ pub fn read_exec(script: &mut Script, run: &[u8]) -> Result<(), LineStop>
 }
 
 /// Reads `exec RUN null` and `exec RUN SLOT`.
-pub fn read_answered(script: &mut Script, run: &[u8], answer: &[u8]) -> Result<(), LineStop>
+pub(crate) fn read_answered(script: &mut Script, run: &[u8], answer: &[u8]) -> Result<(), LineStop>
     ensures ok { OnOk result (Adds (AnsweredLine run.now answer.now) script.old script.new) }
     ensures refused { IfErr result (IsLineStop (shape_fault (said_by script.old).programs (AnsweredLine run.now answer.now))) }
 {
@@ -115,7 +115,7 @@ fn answer_of(word: &[u8]) -> Option<Answer>
 }
 
 /// Reads `grow KIND SLOT`.
-pub fn read_grow(script: &mut Script, kind: &[u8], slot: &[u8]) -> Result<(), LineStop>
+pub(crate) fn read_grow(script: &mut Script, kind: &[u8], slot: &[u8]) -> Result<(), LineStop>
     ensures ok { OnOk result (Adds (GrowLine kind.now slot.now) script.old script.new) }
     ensures refused { IfErr result (IsLineStop (shape_fault (said_by script.old).programs (GrowLine kind.now slot.now))) }
 {
@@ -130,7 +130,7 @@ pub fn read_grow(script: &mut Script, kind: &[u8], slot: &[u8]) -> Result<(), Li
 }
 
 /// Reads `reap KIND SLOT`.
-pub fn read_reap(script: &mut Script, kind: &[u8], slot: &[u8]) -> Result<(), LineStop>
+pub(crate) fn read_reap(script: &mut Script, kind: &[u8], slot: &[u8]) -> Result<(), LineStop>
     ensures ok { OnOk result (Adds (ReapLine kind.now slot.now) script.old script.new) }
     ensures refused { IfErr result (IsLineStop (shape_fault (said_by script.old).programs (ReapLine kind.now slot.now))) }
 {

@@ -8,7 +8,7 @@ use std::alloc::{AllocError, Global};
 
 /// Whether a line has only tabs, carriage returns and the bytes 0x20 to 0x7e.
 #[tactic(auto, unfolding(crate::specs::ScriptLines::is_text))]
-pub fn is_text(line: &[u8]) -> bool
+pub(crate) fn is_text(line: &[u8]) -> bool
     ensures { result ≡ is_text line.now }
 {
     line.iter().all(|c| is_text_byte(*c))
@@ -21,7 +21,7 @@ fn is_text_byte(c: u8) -> bool
 }
 
 /// The words of a line, which runs of spaces, tabs and carriage returns separate.
-pub fn line_words(alloc: Global, line: &[u8]) -> Result<Vec<&[u8]>, AllocError>
+pub(crate) fn line_words(alloc: Global, line: &[u8]) -> Result<Vec<&[u8]>, AllocError>
     ensures { IfOk result (λ v. map (λ w. w.now) v.items ≡ words line.now) }
 {
     line.split(|c| is_gap(*c))

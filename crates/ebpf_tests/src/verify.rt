@@ -1,0 +1,64 @@
+//! Declarations, and the verdicts on programs of two slots.
+
+use ebpf_flow::check::check;
+use ebpf_flow::flowed::Flowed;
+use ebpf_insn::decode::decode;
+use ebpf_state::kinds::kinds;
+use ebpf_verify::decl::Decl;
+use ebpf_verify::fault::{VerifyCode, VerifyFault};
+use ebpf_verify::verify::verify;
+use std::alloc::Global;
+use std::test::Fail;
+
+// The program of the bytes in hex.
+fn flowed_of(alloc: Global, digits: &str) -> Result<Flowed, Fail> {
+    let bytes = hex::decode(alloc, digits.as_bytes())?;
+    let program = decode(alloc, &bytes)?;
+    Ok(check(alloc, program)?)
+}
+
+#[test]
+fn a_context_has_4096_bytes_and_64_objects_are_held_at_most(rt: HostRuntime) -> Result<(), Fail> {
+    let decl = Decl::new(16, 3).ok_or("16 bytes and 3 objects can be declared")?;
+    assert!(rt; decl.context == 16 && decl.held == 3);
+    assert!(rt; Decl::new(4097, 0).is_none());
+    assert!(rt; Decl::new(0, 65).is_none());
+    Ok(())
+}
+
+#[test]
+fn an_accepted_program_is_kept_with_what_it_declares(rt: HostRuntime) -> Result<(), Fail> {
+    // r0 = 7, exit
+    let flowed = flowed_of(rt.alloc(), "b7000000070000009500000000000000")?;
+    let decl = Decl::new(16, 3).ok_or("16 bytes and 3 objects can be declared")?;
+    let rows = kinds();
+    let verified = verify(rt.alloc(), flowed, decl, &rows)?;
+    assert!(rt; verified.len() == 2);
+    assert!(rt; verified.decl().context == 16 && verified.decl().held == 3);
+    assert!(rt; verified.rows().len() == 3);
+    for (kept, row) in verified.rows().iter().zip(&rows) {
+        assert!(rt; kept.name == row.name && kept.size == row.size && kept.fill == row.fill);
+    }
+    assert!(rt; verified.program().slots() == 2);
+    let first = verified.successors(0);
+    assert!(rt; first.fall == Some(1) && first.jump.is_none());
+    Ok(())
+}
+
+#[test]
+fn a_pointer_is_no_result(rt: HostRuntime) -> Result<(), Fail> {
+    // r0 = r10, exit
+    let flowed = flowed_of(rt.alloc(), "bfa00000000000009500000000000000")?;
+    let decl = Decl::new(0, 0).ok_or("nothing can be declared")?;
+    let refused = verify(rt.alloc(), flowed, decl, &kinds());
+    assert!(rt;
+        matches!(
+            refused,
+            Err(VerifyFault::Refused {
+                slot: 1,
+                code: VerifyCode::V18
+            })
+        )
+    );
+    Ok(())
+}
