@@ -18,5 +18,3 @@ pub mod opcode;
 pub mod program;
 pub mod register;
 pub mod slot;
-#[cfg(test)]
-mod tests;
