@@ -9,20 +9,20 @@ ghost use Rattle.ebpf_insn.specs.Opcodes.{opcode_of, form_of, store_class, alu_c
 
 use crate::insn::{AluOp, Cond, Order, Size, Width};
 
-/// Where an instruction takes its second operand from.
+// Where an instruction takes its second operand from.
 #[derive(Clone, Copy, Debug, PartialEq, Eq)]
-pub enum Operand {
-    /// The immediate of the slot.
+pub(crate) enum Operand {
+    // The immediate of the slot.
     Immediate,
-    /// The register that the slot's src names.
+    // The register that the slot's src names.
     Register,
 }
 
-/// What an opcode stands for, before the other fields of its slot are looked at.
+// What an opcode stands for, before the other fields of its slot are looked at.
 #[derive(Clone, Copy, Debug, PartialEq, Eq)]
-pub enum Form {
-    /// An operation on two operands. The offset makes a division or a remainder a signed one, and a move from a register a
-    /// sign-extending one, so `op` is never `SDiv` or `SRem`.
+pub(crate) enum Form {
+    // An operation on two operands. The offset makes a division or a remainder a signed one, and a move from a register a
+    // sign-extending one, so `op` is never `SDiv` or `SRem`.
     Alu {
         width: Width,
         op: AluOp,
@@ -34,9 +34,9 @@ pub enum Form {
     Swap {
         order: Order,
     },
-    /// A load of 64 bits from this slot and the next.
+    // A load of 64 bits from this slot and the next.
     Wide,
-    /// A load, never a signed one of eight bytes.
+    // A load, never a signed one of eight bytes.
     Load {
         size: Size,
         signed: bool,
@@ -45,9 +45,9 @@ pub enum Form {
         size: Size,
         operand: Operand,
     },
-    /// A jump by the offset.
+    // A jump by the offset.
     Jump,
-    /// A jump by the immediate.
+    // A jump by the immediate.
     JumpFar,
     Branch {
         width: Width,
@@ -58,8 +58,8 @@ pub enum Form {
     Exit,
 }
 
-/// The form of an opcode, or `None` where it stands for no instruction of ours.
-pub fn form_of(opcode: u8) -> Option<Form>
+// The form of an opcode, or `None` where it stands for no instruction of ours.
+pub(crate) fn form_of(opcode: u8) -> Option<Form>
     ensures { result ≡ form_of opcode }
 {
     match opcode % 8 {
@@ -221,9 +221,9 @@ fn operand_at(opcode: u8) -> Operand
     }
 }
 
-/// Whether an opcode that has no form is one of the forms that are left out: packets (20, 28, 30, 40, 48, 50), atomics
-/// (c3, db) and the call through a register (8d).
-pub fn is_left_out(opcode: u8) -> bool
+// Whether an opcode that has no form is one of the forms that are left out: packets (20, 28, 30, 40, 48, 50), atomics
+// (c3, db) and the call through a register (8d).
+pub(crate) fn is_left_out(opcode: u8) -> bool
     ensures { result ≡ is_left_out opcode }
 {
     matches!(
@@ -232,8 +232,8 @@ pub fn is_left_out(opcode: u8) -> bool
     )
 }
 
-/// The opcode of a form, by looking for it in the table.
-pub fn opcode_of(form: Form) -> u8
+// The opcode of a form, by looking for it in the table.
+pub(crate) fn opcode_of(form: Form) -> u8
     requires { form_of (opcode_of form) ≡ Some form }
     ensures { result ≡ opcode_of form }
 {
