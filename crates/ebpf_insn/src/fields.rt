@@ -8,7 +8,7 @@ use crate::opcode::{Form, Operand};
 use crate::slot::Slot;
 
 // The fields of a slot that an instruction of some form uses. The others must be zero.
-#[derive(Clone, Copy, Debug, PartialEq, Eq)]
+#[derive(Clone, Copy)]
 struct UsedFields {
     dst: bool,
     src: bool,
@@ -22,14 +22,14 @@ fn uses(form: Form) -> UsedFields
 {
     let (dst, src, offset, imm) = match form {
         Form::Alu { op, operand, .. } => {
-            let is_register = operand == Operand::Register;
+            let is_register = matches!(operand, Operand::Register);
             (true, is_register, offset_chooses(op, operand), !is_register)
         }
         Form::Neg { .. } => (true, false, false, false),
         Form::Swap { .. } | Form::Wide => (true, false, false, true),
         Form::Load { .. } => (true, true, true, false),
         Form::Store { operand, .. } | Form::Branch { operand, .. } => {
-            let is_register = operand == Operand::Register;
+            let is_register = matches!(operand, Operand::Register);
             (true, is_register, true, !is_register)
         }
         Form::Jump => (false, false, true, false),
@@ -50,7 +50,7 @@ fn offset_chooses(op: AluOp, operand: Operand) -> bool
 {
     match op {
         AluOp::Div | AluOp::Rem => true,
-        AluOp::Mov => operand == Operand::Register,
+        AluOp::Mov => matches!(operand, Operand::Register),
         _ => false,
     }
 }
@@ -101,7 +101,7 @@ pub(crate) fn has_defined_fields(form: Form, slot: Slot) -> bool
 fn is_move_of(width: Width, bits: u16) -> bool
     ensures { result ≡ is_move_of width bits }
 {
-    bits == 8 || bits == 16 || (bits == 32 && width == Width::W64)
+    bits == 8 || bits == 16 || (bits == 32 && matches!(width, Width::W64))
 }
 
 // Whether there is a byte swap of so many bits.
@@ -115,7 +115,7 @@ fn is_swap_of(bits: u32) -> bool
 pub(crate) fn lacks_second(form: Form, second: Option<Slot>) -> bool
     ensures { result ≡ lacks_second form second }
 {
-    form == Form::Wide && second.is_none()
+    matches!(form, Form::Wide) && second.is_none()
 }
 
 // Whether the slot is of a wide instruction, and the one that follows holds more than an immediate.
