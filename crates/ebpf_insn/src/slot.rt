@@ -8,7 +8,7 @@ use std::alloc::AllocError;
 
 // The fields of a slot, as unsigned numbers (RFC 9669, section 3.1). The registers are the nibbles as they stand, 0 to
 // 15; a signed field is cast where an instruction is made of it.
-#[derive(Clone, Copy, Debug, PartialEq, Eq)]
+#[derive(Clone, Copy)]
 pub(crate) struct Slot {
     pub opcode: u8,
     pub dst: u8,
