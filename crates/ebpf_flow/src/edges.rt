@@ -11,7 +11,7 @@ use ebpf_insn::insn::Insn;
 use ebpf_insn::program::Program;
 
 /// Where an instruction leads: the slot after it, the target of its jump, both, or for an exit neither.
-#[derive(Clone, Copy, Debug, PartialEq, Eq)]
+#[derive(Clone, Copy)]
 pub struct Edges {
     /// The slot after the instruction, unless it is a jump without condition or an exit.
     pub fall: Option<u16>,

@@ -23,7 +23,7 @@ pub enum FlowCode {
 }
 
 /// Why [`crate::check::check`] refused a program.
-#[derive(Clone, Copy, Debug, PartialEq, Eq, Error)]
+#[derive(Clone, Copy, Debug, Error)]
 pub enum FlowFault {
     /// The lowest slot at fault, and the first code that applies there.
     #[error("slot {slot} is refused with {code:?}")]

@@ -10,5 +10,3 @@ mod done;
 pub mod edges;
 pub mod fault;
 pub mod flowed;
-#[cfg(test)]
-mod tests;

@@ -5,7 +5,7 @@ pub mod ProgramLemmas
 pub mod Registers
 pub mod Opcodes
 pub mod FromSlots
+pub mod SlotTests
 pub mod ToSlots
 pub mod InsnBytes
 pub mod ProgramBytes
-pub mod FormLemmas

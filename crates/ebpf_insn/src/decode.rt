@@ -94,11 +94,9 @@ fn second_slot(bytes: &[u8]) -> Option<Slot>
     }
 }
 
-/// The instruction of a slot and, where it is a wide one, of the slot after it, or the first code that applies.
-///
-/// # Errors
-/// `I2` for an opcode that stands for no instruction, `I8` for a form that is left out, then `I3` to `I7` in this order.
-pub fn decode_slot(slot: Slot, second: Option<Slot>) -> Result<Insn, DecodeCode>
+// The instruction of a slot and, where it is a wide one, of the slot after it, or the first code that applies: `I2` for an
+// opcode that stands for no instruction, `I8` for a form that is left out, then `I3` to `I7` in this order.
+fn decode_slot(slot: Slot, second: Option<Slot>) -> Result<Insn, DecodeCode>
     ensures found { IfOk result (λ i. IsDefined i × (slots_of i ≡ take (slots_in i) (slot ∷ listed second))) }
     ensures fault { MatchResult result (λ _. slot_fault slot second ≡ None) (λ code. slot_fault slot second ≡ Some code) }
 {

@@ -82,19 +82,19 @@ fn alu_at(width: Width, op: AluOp, operand: Operand, slot: Slot, dst: Reg, src: 
     requires { has_defined_fields (form.Alu width op operand) slot ≡ true }
     ensures { result ≡ alu_at width op operand slot dst src }
 {
-    if op == AluOp::Mov && operand == Operand::Register && slot.offset != 0 {
-        return Insn::Sext {
+    match (op, operand) {
+        (AluOp::Mov, Operand::Register) if slot.offset != 0 => Insn::Sext {
             width,
             bits: slot.offset as u8,
             dst,
             src,
-        };
-    }
-    Insn::Alu {
-        width,
-        op: signed_by(slot.offset, op),
-        dst,
-        src: source_at(operand, slot, src),
+        },
+        _ => Insn::Alu {
+            width,
+            op: signed_by(slot.offset, op),
+            dst,
+            src: source_at(operand, slot, src),
+        },
     }
 }
 

@@ -27,7 +27,7 @@ pub enum DecodeCode {
 }
 
 /// Why [`crate::decode::decode`] made no program.
-#[derive(Clone, Copy, Debug, PartialEq, Eq, Error)]
+#[derive(Clone, Copy, Debug, Error)]
 pub enum DecodeFault {
     /// The lowest slot at fault, and the first code that applies there.
     #[error("slot {slot} is refused with {code:?}")]

@@ -7,29 +7,29 @@ use crate::insn::{AluOp, Width};
 use crate::opcode::{Form, Operand};
 use crate::slot::Slot;
 
-/// The fields of a slot that an instruction of some form uses. The others must be zero.
-#[derive(Clone, Copy, Debug, PartialEq, Eq)]
-pub struct UsedFields {
-    pub dst: bool,
-    pub src: bool,
-    pub offset: bool,
-    pub imm: bool,
+// The fields of a slot that an instruction of some form uses. The others must be zero.
+#[derive(Clone, Copy)]
+struct UsedFields {
+    dst: bool,
+    src: bool,
+    offset: bool,
+    imm: bool,
 }
 
-/// Which fields a form uses.
-pub fn uses(form: Form) -> UsedFields
+// Which fields a form uses.
+fn uses(form: Form) -> UsedFields
     ensures { result ≡ uses form }
 {
     let (dst, src, offset, imm) = match form {
         Form::Alu { op, operand, .. } => {
-            let is_register = operand == Operand::Register;
+            let is_register = matches!(operand, Operand::Register);
             (true, is_register, offset_chooses(op, operand), !is_register)
         }
         Form::Neg { .. } => (true, false, false, false),
         Form::Swap { .. } | Form::Wide => (true, false, false, true),
         Form::Load { .. } => (true, true, true, false),
         Form::Store { operand, .. } | Form::Branch { operand, .. } => {
-            let is_register = operand == Operand::Register;
+            let is_register = matches!(operand, Operand::Register);
             (true, is_register, true, !is_register)
         }
         Form::Jump => (false, false, true, false),
@@ -50,13 +50,13 @@ fn offset_chooses(op: AluOp, operand: Operand) -> bool
 {
     match op {
         AluOp::Div | AluOp::Rem => true,
-        AluOp::Mov => operand == Operand::Register,
+        AluOp::Mov => matches!(operand, Operand::Register),
         _ => false,
     }
 }
 
-/// Whether the fields that a form doesn't use are zero in the slot.
-pub fn leaves_unused_zero(form: Form, slot: Slot) -> bool
+// Whether the fields that a form doesn't use are zero in the slot.
+pub(crate) fn leaves_unused_zero(form: Form, slot: Slot) -> bool
     ensures { result ≡ leaves_unused_zero form slot }
 {
     let uses = uses(form);
@@ -66,9 +66,9 @@ pub fn leaves_unused_zero(form: Form, slot: Slot) -> bool
         && (uses.imm || slot.imm == 0)
 }
 
-/// Whether src makes a call or a wide load one of the forms that are left out: calls within a program and by the numbers of
-/// BTF, and loads of what stands for a map, a variable or code.
-pub fn has_left_out_source(form: Form, src: u8) -> bool
+// Whether src makes a call or a wide load one of the forms that are left out: calls within a program and by the numbers of
+// BTF, and loads of what stands for a map, a variable or code.
+pub(crate) fn has_left_out_source(form: Form, src: u8) -> bool
     ensures { result ≡ has_left_out_source form src }
 {
     match form {
@@ -78,8 +78,8 @@ pub fn has_left_out_source(form: Form, src: u8) -> bool
     }
 }
 
-/// Whether the offset and the immediate are ones that the operation has.
-pub fn has_defined_fields(form: Form, slot: Slot) -> bool
+// Whether the offset and the immediate are ones that the operation has.
+pub(crate) fn has_defined_fields(form: Form, slot: Slot) -> bool
     ensures { result ≡ has_defined_fields form slot }
 {
     match form {
@@ -101,7 +101,7 @@ pub fn has_defined_fields(form: Form, slot: Slot) -> bool
 fn is_move_of(width: Width, bits: u16) -> bool
     ensures { result ≡ is_move_of width bits }
 {
-    bits == 8 || bits == 16 || (bits == 32 && width == Width::W64)
+    bits == 8 || bits == 16 || (bits == 32 && matches!(width, Width::W64))
 }
 
 // Whether there is a byte swap of so many bits.
@@ -111,15 +111,15 @@ fn is_swap_of(bits: u32) -> bool
     bits == 16 || bits == 32 || bits == 64
 }
 
-/// Whether the slot is of a wide instruction, and no slot follows.
-pub fn lacks_second(form: Form, second: Option<Slot>) -> bool
+// Whether the slot is of a wide instruction, and no slot follows.
+pub(crate) fn lacks_second(form: Form, second: Option<Slot>) -> bool
     ensures { result ≡ lacks_second form second }
 {
-    form == Form::Wide && second.is_none()
+    matches!(form, Form::Wide) && second.is_none()
 }
 
-/// Whether the slot is of a wide instruction, and the one that follows holds more than an immediate.
-pub fn has_bad_second(form: Form, second: Option<Slot>) -> bool
+// Whether the slot is of a wide instruction, and the one that follows holds more than an immediate.
+pub(crate) fn has_bad_second(form: Form, second: Option<Slot>) -> bool
     ensures { result ≡ has_bad_second form second }
 {
     match (form, second) {

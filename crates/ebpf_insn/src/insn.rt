@@ -5,7 +5,7 @@ ghost use Rattle.std.specs.Prelude.{◌≡◌, ◌≤◌};
 use crate::register::Reg;
 
 /// How many low bits of its operands an operation or a comparison reads.
-#[derive(Clone, Copy, Debug, PartialEq, Eq)]
+#[derive(Clone, Copy)]
 pub enum Width {
     /// 32 bits: the classes ALU and JMP32.
     W32,
@@ -29,7 +29,7 @@ impl Width {
 }
 
 /// How many bytes a load or a store moves (RFC 9669, section 5).
-#[derive(Clone, Copy, Debug, PartialEq, Eq)]
+#[derive(Clone, Copy)]
 pub enum Size {
     /// One byte.
     B,
@@ -42,14 +42,14 @@ pub enum Size {
 }
 
 /// A second operand: a register, or the signed 32-bit immediate of the slot.
-#[derive(Clone, Copy, Debug, PartialEq, Eq)]
+#[derive(Clone, Copy)]
 pub enum Source {
     Register(Reg),
     Imm(i32),
 }
 
 /// What a byte swap does with the bytes that it takes (RFC 9669, section 4.2).
-#[derive(Clone, Copy, Debug, PartialEq, Eq)]
+#[derive(Clone, Copy)]
 pub enum Order {
     /// To little-endian: on this machine the bytes stay as they are.
     Little,
@@ -60,7 +60,7 @@ pub enum Order {
 }
 
 /// An operation of the arithmetic classes (RFC 9669, section 4.1).
-#[derive(Clone, Copy, Debug, PartialEq, Eq)]
+#[derive(Clone, Copy)]
 pub enum AluOp {
     Add,
     Sub,
@@ -86,7 +86,7 @@ pub enum AluOp {
 }
 
 /// The condition of a branch (RFC 9669, section 4.3). Those that begin with `S` compare signed numbers.
-#[derive(Clone, Copy, Debug, PartialEq, Eq)]
+#[derive(Clone, Copy)]
 pub enum Cond {
     Eq,
     Ne,
@@ -104,7 +104,7 @@ pub enum Cond {
 
 /// An instruction. Displacements of jumps count slots from the slot after the jump; those of loads and stores count
 /// bytes from the base.
-#[derive(Clone, Copy, Debug, PartialEq, Eq)]
+#[derive(Clone, Copy)]
 pub enum Insn {
     /// `dst = dst op src`, or for `Mov` `dst = src` (RFC 9669, section 4.1).
     Alu {

@@ -12,11 +12,9 @@ pub mod decode;
 mod decoded;
 pub mod encode;
 pub mod fault;
-pub mod fields;
+mod fields;
 pub mod insn;
-pub mod opcode;
+mod opcode;
 pub mod program;
 pub mod register;
-pub mod slot;
-#[cfg(test)]
-mod tests;
+mod slot;

@@ -4,25 +4,25 @@
 //! second operand comes from, and the high four bits are the code. In the load and store classes (0 to 3) the high three
 //! bits are the mode and the next two the size.
 
-ghost use Rattle.std.specs.Prelude.{◌≡◌, ◌/◌, ◌%◌, Some};
-ghost use Rattle.ebpf_insn.specs.Opcodes.{opcode_of, form_of, store_class, alu_class, jump_class, alu_op_of, condition_of, size_code, operand_bit, is_left_out};
+ghost use Rattle.std.specs.Prelude.{◌≡◌, ◌≤◌, ◌/◌, ◌%◌, Some};
+ghost use Rattle.ebpf_insn.specs.Opcodes.{opcode_of, form_of, store_class, alu_class, jump_class, alu_op_of, condition_of, size_code, operand_bit, alu_code, condition_code, is_left_out};
 
 use crate::insn::{AluOp, Cond, Order, Size, Width};
 
-/// Where an instruction takes its second operand from.
-#[derive(Clone, Copy, Debug, PartialEq, Eq)]
-pub enum Operand {
-    /// The immediate of the slot.
+// Where an instruction takes its second operand from.
+#[derive(Clone, Copy)]
+pub(crate) enum Operand {
+    // The immediate of the slot.
     Immediate,
-    /// The register that the slot's src names.
+    // The register that the slot's src names.
     Register,
 }
 
-/// What an opcode stands for, before the other fields of its slot are looked at.
-#[derive(Clone, Copy, Debug, PartialEq, Eq)]
-pub enum Form {
-    /// An operation on two operands. The offset makes a division or a remainder a signed one, and a move from a register a
-    /// sign-extending one, so `op` is never `SDiv` or `SRem`.
+// What an opcode stands for, before the other fields of its slot are looked at.
+#[derive(Clone, Copy)]
+pub(crate) enum Form {
+    // An operation on two operands. The offset makes a division or a remainder a signed one, and a move from a register a
+    // sign-extending one, so `op` is never `SDiv` or `SRem`.
     Alu {
         width: Width,
         op: AluOp,
@@ -34,9 +34,9 @@ pub enum Form {
     Swap {
         order: Order,
     },
-    /// A load of 64 bits from this slot and the next.
+    // A load of 64 bits from this slot and the next.
     Wide,
-    /// A load, never a signed one of eight bytes.
+    // A load, never a signed one of eight bytes.
     Load {
         size: Size,
         signed: bool,
@@ -45,9 +45,9 @@ pub enum Form {
         size: Size,
         operand: Operand,
     },
-    /// A jump by the offset.
+    // A jump by the offset.
     Jump,
-    /// A jump by the immediate.
+    // A jump by the immediate.
     JumpFar,
     Branch {
         width: Width,
@@ -58,8 +58,8 @@ pub enum Form {
     Exit,
 }
 
-/// The form of an opcode, or `None` where it stands for no instruction of ours.
-pub fn form_of(opcode: u8) -> Option<Form>
+// The form of an opcode, or `None` where it stands for no instruction of ours.
+pub(crate) fn form_of(opcode: u8) -> Option<Form>
     ensures { result ≡ form_of opcode }
 {
     match opcode % 8 {
@@ -97,7 +97,7 @@ fn load_form(opcode: u8) -> Option<Form>
             size,
             signed: false,
         }),
-        4 if size != Size::D => Some(Form::Load { size, signed: true }),
+        4 if !matches!(size, Size::D) => Some(Form::Load { size, signed: true }),
         _ => None,
     }
 }
@@ -221,9 +221,9 @@ fn operand_at(opcode: u8) -> Operand
     }
 }
 
-/// Whether an opcode that has no form is one of the forms that are left out: packets (20, 28, 30, 40, 48, 50), atomics
-/// (c3, db) and the call through a register (8d).
-pub fn is_left_out(opcode: u8) -> bool
+// Whether an opcode that has no form is one of the forms that are left out: packets (20, 28, 30, 40, 48, 50), atomics
+// (c3, db) and the call through a register (8d).
+pub(crate) fn is_left_out(opcode: u8) -> bool
     ensures { result ≡ is_left_out opcode }
 {
     matches!(
@@ -232,16 +232,134 @@ pub fn is_left_out(opcode: u8) -> bool
     )
 }
 
-/// The opcode of a form, by looking for it in the table.
-pub fn opcode_of(form: Form) -> u8
+// The opcode of a form.
+pub(crate) fn opcode_of(form: Form) -> u8
     requires { form_of (opcode_of form) ≡ Some form }
     ensures { result ≡ opcode_of form }
 {
-    for opcode in 0..256u16 {
-        let opcode = opcode as u8;
-        if form_of(opcode) == Some(form) {
-            return opcode;
+    match form {
+        Form::Wide => 0x18,
+        Form::Load {
+            size,
+            signed: false,
+        } => 0x61 + 8 * size_code(size),
+        Form::Load { size, signed: true } => 0x81 + 8 * size_code(size),
+        Form::Store { size, operand } => 0x60 + store_class(operand) + 8 * size_code(size),
+        Form::Alu { width, op, operand } => {
+            alu_class(width) + 8 * operand_bit(operand) + 16 * alu_code(op)
         }
+        Form::Neg { width } => alu_class(width) + 0x80,
+        Form::Swap {
+            order: Order::Little,
+        } => 0xd4,
+        Form::Swap { order: Order::Big } => 0xdc,
+        Form::Swap { order: Order::Flip } => 0xd7,
+        Form::Branch {
+            width,
+            cond,
+            operand,
+        } => jump_class(width) + 8 * operand_bit(operand) + 16 * condition_code(cond),
+        Form::Jump => 0x05,
+        Form::JumpFar => 0x06,
+        Form::Call => 0x85,
+        Form::Exit => 0x95,
     }
-    unreachable!()
+}
+
+// The code of a size: the bits 0x18.
+fn size_code(size: Size) -> u8
+    ensures code { result ≡ size_code size }
+    ensures few { result ≤ 3 }
+{
+    match size {
+        Size::W => 0,
+        Size::H => 1,
+        Size::B => 2,
+        Size::D => 3,
+    }
+}
+
+// The bit 0x08 of arithmetic and jumps.
+fn operand_bit(operand: Operand) -> u8
+    ensures code { result ≡ operand_bit operand }
+    ensures few { result ≤ 1 }
+{
+    match operand {
+        Operand::Immediate => 0,
+        Operand::Register => 1,
+    }
+}
+
+// The class of a store.
+fn store_class(operand: Operand) -> u8
+    ensures code { result ≡ store_class operand }
+    ensures few { result ≤ 3 }
+{
+    match operand {
+        Operand::Immediate => 2,
+        Operand::Register => 3,
+    }
+}
+
+// The class of arithmetic.
+fn alu_class(width: Width) -> u8
+    ensures code { result ≡ alu_class width }
+    ensures few { result ≤ 7 }
+{
+    match width {
+        Width::W32 => 4,
+        Width::W64 => 7,
+    }
+}
+
+// The class of jumps.
+fn jump_class(width: Width) -> u8
+    ensures code { result ≡ jump_class width }
+    ensures few { result ≤ 7 }
+{
+    match width {
+        Width::W32 => 6,
+        Width::W64 => 5,
+    }
+}
+
+// The code of an operation, signed or not.
+fn alu_code(op: AluOp) -> u8
+    ensures code { result ≡ alu_code op }
+    ensures few { result ≤ 12 }
+{
+    match op {
+        AluOp::Add => 0x0,
+        AluOp::Sub => 0x1,
+        AluOp::Mul => 0x2,
+        AluOp::Div | AluOp::SDiv => 0x3,
+        AluOp::Or => 0x4,
+        AluOp::And => 0x5,
+        AluOp::Lsh => 0x6,
+        AluOp::Rsh => 0x7,
+        AluOp::Rem | AluOp::SRem => 0x9,
+        AluOp::Xor => 0xa,
+        AluOp::Mov => 0xb,
+        AluOp::Arsh => 0xc,
+    }
+}
+
+// The code of a condition.
+fn condition_code(cond: Cond) -> u8
+    ensures code { result ≡ condition_code cond }
+    ensures few { result ≤ 13 }
+{
+    match cond {
+        Cond::Eq => 0x1,
+        Cond::Gt => 0x2,
+        Cond::Ge => 0x3,
+        Cond::Set => 0x4,
+        Cond::Ne => 0x5,
+        Cond::SGt => 0x6,
+        Cond::SGe => 0x7,
+        Cond::Lt => 0xa,
+        Cond::Le => 0xb,
+        Cond::SLt => 0xc,
+        Cond::SLe => 0xd,
+    }
 }

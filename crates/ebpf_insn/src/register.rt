@@ -4,7 +4,7 @@ ghost use Rattle.std.specs.Prelude.{◌≡◌, ◌≤◌};
 
 /// A register. `R0` takes results, `R1` to `R5` take arguments and are lost at a call, `R6` to `R9` are kept over calls,
 /// and `R10` is the read-only frame pointer (RFC 9669, section 2.1).
-#[derive(Clone, Copy, Debug, PartialEq, Eq)]
+#[derive(Clone, Copy)]
 pub enum Reg {
     R0,
     R1,

@@ -6,10 +6,10 @@ ghost use Rattle.ebpf_insn.specs.Slot.{slot_at, bytes_of_slot};
 use byteorder::{ByteOrder, LittleEndian};
 use std::alloc::AllocError;
 
-/// The fields of a slot, as unsigned numbers (RFC 9669, section 3.1). The registers are the nibbles as they stand, 0 to
-/// 15; a signed field is cast where an instruction is made of it.
-#[derive(Clone, Copy, Debug, PartialEq, Eq)]
-pub struct Slot {
+// The fields of a slot, as unsigned numbers (RFC 9669, section 3.1). The registers are the nibbles as they stand, 0 to
+// 15; a signed field is cast where an instruction is made of it.
+#[derive(Clone, Copy)]
+pub(crate) struct Slot {
     pub opcode: u8,
     pub dst: u8,
     pub src: u8,
@@ -17,8 +17,8 @@ pub struct Slot {
     pub imm: u32,
 }
 
-/// Reads the slot that the bytes begin with.
-pub fn read_slot(bytes: &[u8]) -> Slot
+// Reads the slot that the bytes begin with.
+pub(crate) fn read_slot(bytes: &[u8]) -> Slot
     requires { 8 ≤ length bytes.now }
     ensures { result ≡ slot_at bytes.now }
 {
@@ -32,11 +32,8 @@ pub fn read_slot(bytes: &[u8]) -> Slot
     }
 }
 
-/// Writes the bytes of a slot after the others.
-///
-/// # Errors
-/// A growth was refused.
-pub fn push_slot(bytes: &mut Vec<u8>, slot: Slot) -> Result<(), AllocError>
+// Writes the bytes of a slot after the others. It fails for want of memory alone.
+pub(crate) fn push_slot(bytes: &mut Vec<u8>, slot: Slot) -> Result<(), AllocError>
     requires dst { slot.dst < 16 }
     requires src { slot.src < 16 }
     ensures { OnOk result (bytes.new.items ≡ bytes.old.items ++ bytes_of_slot slot) }

@@ -6,5 +6,3 @@
 
 pub mod range;
 pub mod sums;
-#[cfg(test)]
-mod tests;

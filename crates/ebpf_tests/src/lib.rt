@@ -1,7 +1,8 @@
 //! Tests of the eBPF crates, a module for each.
 //!
 //! They stand above all of them and call only what a user of those crates can call, so that no crate is proved again with
-//! tests of its own. A table is one text, a case a line, which one loop reads: a case more costs nothing. What the built
+//! tests of its own. Where there are many cases they are rows of one text, which one loop reads, so a case more costs
+//! nothing: a row with a name says what it shows, and a line that begins with `#` says it of the rows below. What the built
 //! program shows is tested by tests/commands instead.
 #![tactic(auto)]
 
@@ -12,6 +13,16 @@ mod core;
 #[cfg(test)]
 mod events;
 #[cfg(test)]
+mod flow;
+#[cfg(test)]
+mod insn;
+#[cfg(test)]
+mod programs;
+#[cfg(test)]
+mod range;
+#[cfg(test)]
 mod state;
+#[cfg(test)]
+mod text;
 #[cfg(test)]
 mod verify;

@@ -12,5 +12,3 @@ mod mnemonic;
 mod names;
 mod operand;
 mod operands;
-#[cfg(test)]
-mod tests;

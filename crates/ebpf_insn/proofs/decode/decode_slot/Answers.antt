@@ -1,16 +1,17 @@
-use Rattle.std.proofs.Common.{rules, ◌≡◌, ◌<◌, ◌^◌, sym, arith}
+use Rattle.std.proofs.Common.{rules, ◌≡◌, ◌<◌, ◌^◌, sym}
 use Rattle.std.specs.Prelude.{IfSome}
 use Rattle.ebpf_insn.specs.Registers.{number_of}
 use Rattle.ebpf_insn.proofs.SlotBytes.{FitsSlot}
-use Rattle.ebpf_insn.proofs.Registers.{number_of-register_of, number_below}
-use Rattle.ebpf_insn.proofs.FromSlots.{IsFine, encoded}
+use Rattle.ebpf_insn.proofs.Registers.{number_of-register_of}
+use Rattle.ebpf_insn.proofs.FromSlots.{IsFine}
+use Rattle.ebpf_insn.proofs.SlotTests.{nibble, encoded_as, registers, fault_unused, fault_lacks, fault_second, fault_defined, no_fault}
 use Rattle.ebpf_insn.proofs.decode.decode_slot.Goals as goal
 
 pub returns-clause-found : goal.returns-clause-found
 returns-clause-found c =
     let to : number_of c.in-Some-Some.dst ≡ c.args.slot.dst = number_of-register_of c.args.slot.dst c.in-Some-Some.dst (sym c.in-Some-Some.ensures) in
     let from : number_of c.in-Some-Some.src ≡ c.args.slot.src = number_of-register_of c.args.slot.src c.in-Some-Some.src (sym c.in-Some-Some.ensures') in
-    let fits : FitsSlot c.args.slot = record { opcode = search rules; dst = omega (arith, number_below c.in-Some-Some.dst, to); src = omega (arith, number_below c.in-Some-Some.src, from); offset = search rules; imm = search rules } in
+    let fits : FitsSlot c.args.slot = record { opcode = search rules; dst = nibble c.in-Some-Some.dst c.args.slot.dst to; src = nibble c.in-Some-Some.src c.args.slot.src from; offset = search rules; imm = search rules } in
     let next : IfSome c.args.second (λ t. t.imm < 2 ^ 32) = search rules in
     let fine : IsFine c.in-Some.form c.args.slot c.args.second c.in-Some-Some.dst c.in-Some-Some.src = record {
       fits = fits;
@@ -23,4 +24,19 @@ returns-clause-found c =
       blank = sym c.if-has_bad_second.ensures;
       defined = sym c.if-not-has_defined_fields.ensures;
     } in
-    rw c.insn_at_slot.ensures (encoded c.in-Some.form c.args.slot c.args.second c.in-Some-Some.dst c.in-Some-Some.src fine)
+    encoded_as c.insn_at_slot.result c.in-Some.form c.args.slot c.args.second c.in-Some-Some.dst c.in-Some-Some.src c.insn_at_slot.ensures fine
+
+pub returns-then-not-leaves_unused_zero-clause-fault : goal.returns-then-not-leaves_unused_zero-clause-fault
+returns-then-not-leaves_unused_zero-clause-fault c = fault_unused c.in-Some.form c.args.slot c.args.second (registers c.in-Some.ensures c.if-has_left_out_source.ensures c.in-Some-Some.ensures c.in-Some-Some.ensures') c.if-not-leaves_unused_zero.ensures
+
+pub returns-then-lacks_second-clause-fault : goal.returns-then-lacks_second-clause-fault
+returns-then-lacks_second-clause-fault c = fault_lacks c.in-Some.form c.args.slot c.args.second (registers c.in-Some.ensures c.if-has_left_out_source.ensures c.in-Some-Some.ensures c.in-Some-Some.ensures') c.if-not-leaves_unused_zero.ensures c.if-lacks_second.ensures
+
+pub returns-then-has_bad_second-clause-fault : goal.returns-then-has_bad_second-clause-fault
+returns-then-has_bad_second-clause-fault c = fault_second c.in-Some.form c.args.slot c.args.second (registers c.in-Some.ensures c.if-has_left_out_source.ensures c.in-Some-Some.ensures c.in-Some-Some.ensures') c.if-not-leaves_unused_zero.ensures c.if-lacks_second.ensures c.if-has_bad_second.ensures
+
+pub returns-then-not-has_defined_fields-clause-fault : goal.returns-then-not-has_defined_fields-clause-fault
+returns-then-not-has_defined_fields-clause-fault c = fault_defined c.in-Some.form c.args.slot c.args.second (registers c.in-Some.ensures c.if-has_left_out_source.ensures c.in-Some-Some.ensures c.in-Some-Some.ensures') c.if-not-leaves_unused_zero.ensures c.if-lacks_second.ensures c.if-has_bad_second.ensures c.if-not-has_defined_fields.ensures
+
+pub returns-clause-fault : goal.returns-clause-fault
+returns-clause-fault c = no_fault c.in-Some.form c.args.slot c.args.second (registers c.in-Some.ensures c.if-has_left_out_source.ensures c.in-Some-Some.ensures c.in-Some-Some.ensures') c.if-not-leaves_unused_zero.ensures c.if-lacks_second.ensures c.if-has_bad_second.ensures c.if-not-has_defined_fields.ensures

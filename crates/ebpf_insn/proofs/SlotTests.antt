@@ -1,0 +1,47 @@
+-- What the tests of decode_slot show of a slot, apart from its context, through which no tactic has to look then.
+use Rattle.std.proofs.Common.{◌≡◌, ℕ, ◌<◌, true, false, Option, Some, None, refl, sym}
+use Rattle.ebpf_insn.specs.declared.slot.Slot.{Slot}
+use Rattle.ebpf_insn.specs.declared.register.Reg.{Reg}
+use Rattle.ebpf_insn.specs.declared.insn.Insn.{Insn}
+use Rattle.ebpf_insn.specs.declared.opcode.Form.{Form}
+use Rattle.ebpf_insn.specs.declared.fault.DecodeCode.TheVariants.{I4, I5, I6, I7}
+use Rattle.ebpf_insn.specs.Registers.{number_of, register_of}
+use Rattle.ebpf_insn.specs.Opcodes.{form_of}
+use Rattle.ebpf_insn.specs.Fields.{has_left_out_source, leaves_unused_zero, lacks_second, has_bad_second, has_defined_fields}
+use Rattle.ebpf_insn.specs.Decoding.{is_register, slot_fault}
+use Rattle.ebpf_insn.specs.Decoded.{insn_at_slot}
+use Rattle.ebpf_insn.proofs.Registers.{is_register_of, number_below}
+use Rattle.ebpf_insn.proofs.FromSlots.{IsFine, IsEncodedBy, encoded}
+
+pub nibble : (r : Reg) (n : ℕ) → number_of r ≡ n → n < 16
+nibble r n e = rw (sym e) (number_below r)
+
+pub encoded_as : (i : Insn) (f : Form) (s : Slot) (second : Option Slot) (dst src : Reg) → i ≡ insn_at_slot f s second dst src → IsFine f s second dst src → IsEncodedBy i s second
+encoded_as i f s second dst src e fine = rw e (encoded f s second dst src fine)
+
+-- the tests before that of the unused fields were passed
+pub record HasRegisters (f : Form) (s : Slot) : Type 0 where
+  pub here : form_of s.opcode ≡ Some f
+  pub source : has_left_out_source f s.src ≡ false
+  pub dst : is_register s.dst ≡ true
+  pub src : is_register s.src ≡ true
+
+pub registers : {f : Form} {s : Slot} {dst src : Reg} → Some f ≡ form_of s.opcode → false ≡ has_left_out_source f s.src → Some dst ≡ register_of s.dst → Some src ≡ register_of s.src → HasRegisters f s
+registers {f} {s} {dst} {src} here source to from = record { here = sym here; source = sym source; dst = is_register_of s.dst dst (sym to); src = is_register_of s.src src (sym from) }
+
+-- ---- the first code that applies
+
+pub fault_unused : (f : Form) (s : Slot) (second : Option Slot) → HasRegisters f s → false ≡ leaves_unused_zero f s → slot_fault s second ≡ Some I4
+fault_unused f s second has unused = rw (has.here, has.source, has.dst, has.src, ← unused) refl
+
+pub fault_lacks : (f : Form) (s : Slot) (second : Option Slot) → HasRegisters f s → true ≡ leaves_unused_zero f s → true ≡ lacks_second f second → slot_fault s second ≡ Some I5
+fault_lacks f s second has unused lacks = rw (has.here, has.source, has.dst, has.src, ← unused, ← lacks) refl
+
+pub fault_second : (f : Form) (s : Slot) (second : Option Slot) → HasRegisters f s → true ≡ leaves_unused_zero f s → false ≡ lacks_second f second → true ≡ has_bad_second f second → slot_fault s second ≡ Some I6
+fault_second f s second has unused lacks bad = rw (has.here, has.source, has.dst, has.src, ← unused, ← lacks, ← bad) refl
+
+pub fault_defined : (f : Form) (s : Slot) (second : Option Slot) → HasRegisters f s → true ≡ leaves_unused_zero f s → false ≡ lacks_second f second → false ≡ has_bad_second f second → false ≡ has_defined_fields f s → slot_fault s second ≡ Some I7
+fault_defined f s second has unused lacks bad defined = rw (has.here, has.source, has.dst, has.src, ← unused, ← lacks, ← bad, ← defined) refl
+
+pub no_fault : (f : Form) (s : Slot) (second : Option Slot) → HasRegisters f s → true ≡ leaves_unused_zero f s → false ≡ lacks_second f second → false ≡ has_bad_second f second → true ≡ has_defined_fields f s → slot_fault s second ≡ None
+no_fault f s second has unused lacks bad defined = rw (has.here, has.source, has.dst, has.src, ← unused, ← lacks, ← bad, ← defined) refl

@@ -1,0 +1,79 @@
+//! Every opcode with each of its fields, by a table that was written by hand from the rules of RFC 9669.
+
+use ebpf_insn::decode::decode;
+use ebpf_insn::fault::{DecodeCode, DecodeFault};
+use std::alloc::Global;
+use std::process::Abort;
+use std::test::*;
+
+// What the five variants of each opcode give as a program of one slot, by its high (lines) and low four bits (columns): `.`
+// is a program, a digit n the code In, and `-` I2 in all of them.
+const OPCODES: &str = "\
+-     -     -     -     ..44. .44.4 .444. ..44. -     -     -     -     ...44 -     -     ...44
+-     -     -     -     ..44. ..4.. ..4.. ..44. 55845 -     -     -     ...44 ....4 ....4 ...44
+88888 -     -     -     ..44. ..4.. ..4.. ..44. 88888 -     -     -     ...44 ....4 ....4 ...44
+88888 -     -     -     ..4.. ..4.. ..4.. ..4.. -     -     -     -     ....4 ....4 ....4 ....4
+88888 -     -     -     ..44. ..4.. ..4.. ..44. 88888 -     -     -     ...44 ....4 ....4 ...44
+88888 -     -     -     ..44. ..4.. ..4.. ..44. -     -     -     -     ...44 ....4 ....4 ...44
+-     ....4 ..4.. ....4 ..44. ..4.. ..4.. ..44. -     ....4 ..4.. ....4 ...44 ....4 ....4 ...44
+-     ....4 ..4.. ....4 ..44. ..4.. ..4.. ..44. -     ....4 ..4.. ....4 ...44 ....4 ....4 ...44
+-     ....4 -     -     ..444 .484. -     ..444 -     ....4 -     -     -     88888 -     -
+-     ....4 -     -     ..4.. .4444 -     ..4.. -     -     -     -     ....4 -     -     ....4
+-     -     -     -     ..44. ..4.. ..4.. ..44. -     -     -     -     ...44 ....4 ....4 ...44
+-     -     -     -     ..44. ..4.. ..4.. ..44. -     -     -     -     ...74 ....4 ....4 ...74
+-     -     -     88888 ..44. ..4.. ..4.. ..44. -     -     -     -     ...44 ....4 ....4 ...44
+-     -     -     -     77447 ..4.. ..4.. 77447 -     -     -     88888 77447 ....4 ....4 -
+-     -     -     -     -     -     -     -     -     -     -     -     -     -     -     -
+-     -     -     -     -     -     -     -     -     -     -     -     -     -     -     -";
+
+// The slot of a variant of an opcode: all zero, dst is 1, src is 1, the offset is 1, the immediate is 1.
+fn variant(opcode: u8, number: usize) -> [u8; 8] {
+    let mut bytes = [opcode, 0, 0, 0, 0, 0, 0, 0];
+    match number {
+        1 => bytes[1] = 0x01,
+        2 => bytes[1] = 0x10,
+        3 => bytes[2] = 1,
+        4 => bytes[4] = 1,
+        _ => {}
+    }
+    bytes
+}
+
+// The digit of the code that refuses slot 0, or `.` for a program.
+fn letter_of(alloc: Global, bytes: &[u8]) -> char {
+    match decode(alloc, bytes) {
+        Ok(_) => '.',
+        Err(DecodeFault::Bad { slot: 0, code }) => match code {
+            DecodeCode::I2 => '2',
+            DecodeCode::I4 => '4',
+            DecodeCode::I5 => '5',
+            DecodeCode::I7 => '7',
+            DecodeCode::I8 => '8',
+            _ => '?',
+        },
+        Err(_) => '?',
+    }
+}
+
+// Tries the variants of an opcode.
+fn has_its_cell(rt: &impl Abort, alloc: Global, opcode: u8, cell: &str) {
+    let letters = if cell == "-" { "22222" } else { cell };
+    assert!(rt; letters.len() == 5, "opcode {opcode}");
+    for (number, letter) in letters.chars().enumerate() {
+        assert!(rt;
+            letter_of(alloc, &variant(opcode, number)) == letter,
+            "opcode {opcode}, variant {number}"
+        );
+    }
+}
+
+#[test]
+fn each_field_of_each_opcode(rt: HostRuntime) -> Result<(), Fail> {
+    let mut cells = OPCODES.split_whitespace();
+    for opcode in 0..=u8::MAX {
+        let cell = cells.next().ok_or("a cell is missing")?;
+        has_its_cell(&rt, rt.alloc(), opcode, cell);
+    }
+    assert!(rt; cells.next().is_none());
+    Ok(())
+}
