@@ -2,15 +2,15 @@ ghost use Rattle.std.specs.Prelude.{◌≡◌, ◌+◌, ◌≤◌, ◌<◌, [], 
 ghost use Rattle.owners_table.specs.Owning.{fresh};
 ghost use Rattle.owners_table.specs.Drawing.{IsOf};
 
-use crate::mark::Mark;
-use crate::owners::{OwnerSeat, Owners, Taken};
-use crate::tickets::{TicketSeat, Tickets};
+use owners_table::mark::Mark;
+use owners_table::owners::{OwnerSeat, Owners, Taken};
+use owners_table::tickets::{TicketSeat, Tickets};
 use std::alloc::{AllocError, Global};
 use std::test::Fail;
 use std::thread::{Threads, join};
 
 // The seats of a table of two.
-#[tactic(auto, using(crate::proofs::Joining::all_last, crate::proofs::Joining::all_front))]
+#[tactic(auto, using(owners_table::proofs::Joining::all_last, owners_table::proofs::Joining::all_front))]
 fn pair(owners: &Owners, mut seats: Vec<OwnerSeat>) -> (OwnerSeat, OwnerSeat)
     requires { (vec_len seats ≡ 2) × All (λ s. s ≡ fresh owners.now.table) seats.items }
     ensures { (result.0 ≡ fresh owners.now.table) × (result.1 ≡ fresh owners.now.table) }
@@ -25,7 +25,7 @@ fn pair(owners: &Owners, mut seats: Vec<OwnerSeat>) -> (OwnerSeat, OwnerSeat)
 }
 
 #[test]
-#[tactic(auto, using(crate::proofs::Holding::holds_first))]
+#[tactic(auto, using(owners_table::proofs::Holding::holds_first))]
 fn a_claim_is_granted_where_the_slot_is_free(rt: HostRuntime) -> Result<(), Fail> {
     let (owners, seats) = Owners::new(rt.alloc(), 4, 2)?;
     let (mut a, mut b) = pair(&owners, seats);
@@ -34,22 +34,33 @@ fn a_claim_is_granted_where_the_slot_is_free(rt: HostRuntime) -> Result<(), Fail
     let Ok(()) = owners.claim(&mut a, 3, first) else {
         panic!(&rt; "the slot was free")
     };
-    assert_eq!(&rt; owners.claim(&mut b, 3, first), Err(Taken { owner: first }));
-    assert_eq!(&rt;
-        owners.claim(&mut a, 3, second),
-        Err(Taken { owner: first })
+    assert!(&rt;
+        matches!(
+            owners.claim(&mut b, 3, first),
+            Err(Taken {
+                owner: Mark { run: 0, at: 1 }
+            })
+        )
+    );
+    assert!(&rt;
+        matches!(
+            owners.claim(&mut a, 3, second),
+            Err(Taken {
+                owner: Mark { run: 0, at: 1 }
+            })
+        )
     );
     owners.release(&mut a, 3);
-    assert_eq!(&rt; owners.claim(&mut b, 3, second), Ok(()));
+    assert!(&rt; owners.claim(&mut b, 3, second).is_ok());
     let (a, b) = owners.meet(a, b);
     let words = owners.close(rt.alloc(), vec![in rt.alloc(); a, b]?)?;
-    assert_eq!(&rt; words.as_slice(), [0, 0, 0, 24578].as_slice());
-    assert_eq!(&rt; second.word(), 24578);
+    assert!(&rt; matches!(words.as_slice(), [0, 0, 0, 24578]));
+    assert!(&rt; second.word() == 24578);
     Ok(())
 }
 
 // Claims and releases the slots in turn, and counts what came of it.
-#[tactic(auto, using(crate::proofs::Holding::holds_first, crate::proofs::Holding::without_first))]
+#[tactic(auto, using(owners_table::proofs::Holding::holds_first, owners_table::proofs::Holding::without_first))]
 fn work(owners: &Owners, seat: &mut OwnerSeat, run: u32, rounds: u32) -> (u32, u32)
     requires table { seat.old.table ≡ owners.now.table }
     requires slots { 64 ≤ owners.now.slots }
@@ -97,23 +108,23 @@ fn two_threads_leave_every_slot_free(rt: HostRuntime) -> Result<(), Fail> {
             (b, counts)
         },
     );
-    assert_eq!(&rt; first.0 + first.1, 100_000);
-    assert_eq!(&rt; second.0 + second.1, 100_000);
+    assert!(&rt; first.0 + first.1 == 100_000);
+    assert!(&rt; second.0 + second.1 == 100_000);
     let words = owners.close(rt.alloc(), vec![in rt.alloc(); a, b]?)?;
-    assert_eq!(&rt; words.len(), 64);
+    assert!(&rt; words.len() == 64);
     assert!(&rt; words.iter().all(|w| *w == 0));
     Ok(())
 }
 
 #[test]
-#[tactic(auto, using(crate::proofs::Joining::all_last, crate::proofs::Joining::all_front))]
+#[tactic(auto, using(owners_table::proofs::Joining::all_last, owners_table::proofs::Joining::all_front))]
 fn tickets_end_at_their_limit(rt: HostRuntime) -> Result<(), Fail> {
     let (tickets, mut seats) = Tickets::new(rt.alloc(), 3, 1)?;
     let Some(mut seat) = seats.pop() else {
         unreachable!()
     };
     for want in [Some(0), Some(1), Some(2), None, None] {
-        assert_eq!(&rt; tickets.draw(&mut seat), want);
+        assert!(&rt; tickets.draw(&mut seat) == want);
     }
     tickets.close(vec![in rt.alloc(); seat]?);
     Ok(())
@@ -169,7 +180,7 @@ fn drain_two<R: Threads + Sync>(
 }
 
 #[test]
-#[tactic(auto, using(crate::proofs::Joining::all_last, crate::proofs::Joining::all_front))]
+#[tactic(auto, using(owners_table::proofs::Joining::all_last, owners_table::proofs::Joining::all_front))]
 fn four_threads_draw_every_number_once(rt: HostRuntime) -> Result<(), Fail> {
     let alloc = rt.alloc();
     let (tickets, mut seats) = Tickets::new(alloc, 100_000, 4)?;
@@ -195,7 +206,7 @@ fn four_threads_draw_every_number_once(rt: HostRuntime) -> Result<(), Fail> {
     tickets.close(vec![in alloc; a, b, c, d]?);
     drawn.extend_from_slice(others.as_slice())?;
     drawn.sort()?;
-    assert_eq!(&rt; drawn.len(), 100_000);
+    assert!(&rt; drawn.len() == 100_000);
     assert!(&rt; drawn.iter().enumerate().all(|(i, n)| *n == i as u64));
     Ok(())
 }

@@ -1,20 +1,8 @@
-ghost use Rattle.std.specs.Prelude.{◌≡◌};
-ghost use Rattle.vmem_arena.specs.Spans.{pages_of};
-
-use crate::{BlockKind, CellKind, Home, Kind, Obj, RecordKind, Slabs};
+use crate::arena::taken;
+use slab_layer::{BlockKind, CellKind, Home, Kind, Obj, RecordKind, Slabs};
 use std::alloc::Global;
 use std::process::Abort;
-use vmem_arena::{Arena, ArenaFault, Span};
-
-// One page of an arena of so many.
-fn page_of(rt: &impl Abort, arena: &mut Arena) -> Span
-    ensures { (pages_of result).len ≡ 1 }
-{
-    match arena.take(1) {
-        Ok(span) => span,
-        Err(_) => panic!(rt; "the arena has no page"),
-    }
-}
+use vmem_arena::{Arena, ArenaFault};
 
 // Takes every object of the slabs, of which there are so many.
 fn take_all<K: Kind>(
@@ -24,7 +12,7 @@ fn take_all<K: Kind>(
     count: u32,
 ) {
     for taken in 0..count {
-        assert_eq!(rt; slabs.out(), taken);
+        assert!(rt; slabs.out() == taken);
         match slabs.take() {
             Some(object) => {
                 if let Err(failed) = held.push(object) {
@@ -38,7 +26,7 @@ fn take_all<K: Kind>(
         slabs.give(object);
         panic!(rt; "a slab has an object more");
     }
-    assert_eq!(rt; slabs.out(), count);
+    assert!(rt; slabs.out() == count);
 }
 
 // Gives the objects back; no page is given up before the last of them.
@@ -48,7 +36,7 @@ fn give_all<K: Kind>(rt: &impl Abort, slabs: &mut Slabs<K>, mut held: Vec<Obj<K,
         assert!(rt; slabs.give(object));
     }
     held.destroy_empty();
-    assert_eq!(rt; slabs.out(), 0);
+    assert!(rt; slabs.out() == 0);
 }
 
 // A page of the kind is filled and emptied; it has so many objects.
@@ -62,7 +50,7 @@ fn fills_and_empties<K: Kind>(
         return Err(ArenaFault::NoMemory);
     };
     let mut slabs = Slabs::<K>::new(alloc);
-    let span = page_of(rt, &mut arena);
+    let span = taken(rt, &mut arena, 1);
     if slabs.grow(span).is_err() {
         slabs.end();
         held.destroy_empty();
@@ -100,8 +88,8 @@ fn slabs_refuse_an_object_of_a_page_that_they_lack(rt: HostRuntime) -> Result<()
     let mut arena = Arena::new(rt.alloc(), 2)?;
     let mut here = Slabs::<CellKind>::new(rt.alloc());
     let mut there = Slabs::<CellKind>::new(rt.alloc());
-    let low = page_of(&rt, &mut arena);
-    let high = page_of(&rt, &mut arena);
+    let low = taken(&rt, &mut arena, 1);
+    let high = taken(&rt, &mut arena, 1);
     if here.grow(low).is_err() || there.grow(high).is_err() {
         here.end();
         there.end();
@@ -109,12 +97,12 @@ fn slabs_refuse_an_object_of_a_page_that_they_lack(rt: HostRuntime) -> Result<()
     }
     match there.take() {
         Some(stranger) => {
-            assert_eq!(rt; stranger.slot() / 256, 1);
+            assert!(rt; stranger.slot() / 256 == 1);
             assert!(rt; !here.give(stranger));
         }
         None => panic!(rt; "a grown slab has no object"),
     }
-    assert_eq!(rt; (here.out(), there.out()), (0, 1));
+    assert!(rt; here.out() == 0 && there.out() == 1);
     here.end();
     there.end();
     Ok(())
@@ -124,7 +112,7 @@ fn slabs_refuse_an_object_of_a_page_that_they_lack(rt: HostRuntime) -> Result<()
 fn a_client_finds_the_image_whoever_wrote_before(rt: HostRuntime) -> Result<(), ArenaFault> {
     let mut arena = Arena::new(rt.alloc(), 1)?;
     let mut slabs = Slabs::<BlockKind>::new(rt.alloc());
-    let span = page_of(&rt, &mut arena);
+    let span = taken(&rt, &mut arena, 1);
     if slabs.grow(span).is_err() {
         slabs.end();
         return Err(ArenaFault::NoMemory);
@@ -134,9 +122,8 @@ fn a_client_finds_the_image_whoever_wrote_before(rt: HostRuntime) -> Result<(), 
             let mut held = home.construct().hold();
             assert!(rt; held.bytes().iter().all(|byte| *byte == 0x5a));
             held.write(510, &[1, 2]);
-            assert_eq!(rt;
-                (held.bytes()[509], held.bytes()[510], held.bytes()[511]),
-                (0x5a, 1, 2)
+            assert!(rt;
+                held.bytes()[509] == 0x5a && held.bytes()[510] == 1 && held.bytes()[511] == 2
             );
             let again = held.restore().hold();
             assert!(rt;

@@ -1,4 +1,19 @@
-use crate::{Arena, ArenaFault, NoSpan, Span};
+ghost use Rattle.std.specs.Prelude.{◌≡◌, ◌<◌};
+ghost use Rattle.vmem_arena.specs.Spans.{pages_of};
+
+use std::process::Abort;
+use vmem_arena::{Arena, ArenaFault, NoSpan, Span};
+
+// So many pages of an arena that has them.
+pub(crate) fn taken(rt: &impl Abort, arena: &mut Arena, n: u32) -> Span
+    requires { 0 < n }
+    ensures { (pages_of result).len ≡ n }
+{
+    match arena.take(n) {
+        Ok(span) => span,
+        Err(NoSpan) => panic!(rt; "the arena has no such pages"),
+    }
+}
 
 #[test]
 fn an_arena_has_1_to_256_pages(rt: HostRuntime) -> Result<(), ArenaFault> {
@@ -10,7 +25,7 @@ fn an_arena_has_1_to_256_pages(rt: HostRuntime) -> Result<(), ArenaFault> {
     }
     for pages in [1, 256] {
         let arena = Arena::new(rt.alloc(), pages)?;
-        assert_eq!(rt; arena.largest(), pages);
+        assert!(rt; arena.largest() == pages, "of {pages}");
     }
     Ok(())
 }
@@ -18,34 +33,31 @@ fn an_arena_has_1_to_256_pages(rt: HostRuntime) -> Result<(), ArenaFault> {
 #[test]
 fn spans_that_come_back_are_merged(rt: HostRuntime) -> Result<(), ArenaFault> {
     let mut arena = Arena::new(rt.alloc(), 4)?;
-    let (Ok(low), Ok(high)) = (arena.take(2), arena.take(2)) else {
-        panic!(rt; "4 pages have no two spans of 2");
-    };
-    assert_eq!(rt;
-        (low.first() + high.first(), low.len(), high.len()),
-        (2, 2, 2)
-    );
+    let low = taken(&rt, &mut arena, 2);
+    let high = taken(&rt, &mut arena, 2);
+    assert!(rt; low.first() + high.first() == 2);
+    assert!(rt; low.len() == 2 && high.len() == 2);
     assert!(rt; matches!(arena.take(1), Err(NoSpan)));
     assert!(rt; arena.give(low));
-    assert_eq!(rt; arena.largest(), 2);
+    assert!(rt; arena.largest() == 2);
     assert!(rt; arena.give(high));
-    assert_eq!(rt; arena.largest(), 4);
+    assert!(rt; arena.largest() == 4);
     Ok(())
 }
 
 #[test]
 fn pages_apart_make_no_longer_run(rt: HostRuntime) -> Result<(), ArenaFault> {
     let mut arena = Arena::new(rt.alloc(), 4)?;
-    let (Ok(a), Ok(b), Ok(c), Ok(d)) = (arena.take(1), arena.take(1), arena.take(1), arena.take(1))
-    else {
-        panic!(rt; "4 pages have no four spans of 1");
-    };
+    let a = taken(&rt, &mut arena, 1);
+    let b = taken(&rt, &mut arena, 1);
+    let c = taken(&rt, &mut arena, 1);
+    let d = taken(&rt, &mut arena, 1);
     for span in [a, b, c, d] {
         if span.first() == 0 || span.first() == 2 {
             assert!(rt; arena.give(span));
         }
     }
-    assert_eq!(rt; arena.largest(), 1);
+    assert!(rt; arena.largest() == 1);
     assert!(rt; matches!(arena.take(2), Err(NoSpan)));
     Ok(())
 }
@@ -54,11 +66,9 @@ fn pages_apart_make_no_longer_run(rt: HostRuntime) -> Result<(), ArenaFault> {
 fn a_span_that_is_not_out_is_refused(rt: HostRuntime) -> Result<(), ArenaFault> {
     let mut here = Arena::new(rt.alloc(), 4)?;
     let mut there = Arena::new(rt.alloc(), 4)?;
-    let Ok(stranger) = there.take(2) else {
-        panic!(rt; "4 pages have no span of 2");
-    };
+    let stranger = taken(&rt, &mut there, 2);
     assert!(rt; !here.give(stranger));
-    assert_eq!(rt; here.largest(), 4);
+    assert!(rt; here.largest() == 4);
     Ok(())
 }
 
@@ -69,14 +79,12 @@ fn a_full_arena_comes_back_whole_in_any_order(rt: HostRuntime) -> Result<(), Are
         return Err(ArenaFault::NoMemory);
     };
     for _ in 0..256u32 {
-        let Ok(span) = arena.take(1) else {
-            panic!(rt; "256 pages have no 256 spans of 1");
-        };
+        let span = taken(&rt, &mut arena, 1);
         if spans.push(Some(span)).is_err() {
             return Err(ArenaFault::NoMemory);
         }
     }
-    assert_eq!(rt; arena.largest(), 0);
+    assert!(rt; arena.largest() == 0);
 
     // 89 and 256 have no common divisor, so each place comes once.
     for turn in 0..256usize {
@@ -87,6 +95,6 @@ fn a_full_arena_comes_back_whole_in_any_order(rt: HostRuntime) -> Result<(), Are
         };
         assert!(rt; arena.give(span));
     }
-    assert_eq!(rt; arena.largest(), 256);
+    assert!(rt; arena.largest() == 256);
     Ok(())
 }
