@@ -1,130 +1,134 @@
-ghost use Rattle.std.specs.Prelude.{◌≡◌, ◌+◌, ◌≤◌, ◌<◌, [], vec_len, All, IfOk};
+ghost use Rattle.std.specs.Prelude.{◌≡◌, ◌≤◌, [], vec_len, All};
 ghost use Rattle.owners_table.specs.Owning.{fresh};
-ghost use Rattle.owners_table.specs.Drawing.{IsOf};
+ghost use Rattle.owners_table.specs.Drawing.{IsOf, fresh as new_seat};
 
 use owners_table::mark::Mark;
 use owners_table::owners::{OwnerSeat, Owners, Taken};
 use owners_table::tickets::{TicketSeat, Tickets};
 use std::alloc::{AllocError, Global};
-use std::test::Fail;
+use std::process::Abort;
 use std::thread::{Threads, join};
 
-// The seats of a table of two.
+// A table of so many slots, with its two seats.
 #[tactic(auto, using(owners_table::proofs::Joining::all_last, owners_table::proofs::Joining::all_front))]
-fn pair(owners: &Owners, mut seats: Vec<OwnerSeat>) -> (OwnerSeat, OwnerSeat)
-    requires { (vec_len seats ≡ 2) × All (λ s. s ≡ fresh owners.now.table) seats.items }
-    ensures { (result.0 ≡ fresh owners.now.table) × (result.1 ≡ fresh owners.now.table) }
+fn table_of(rt: &impl Abort, alloc: Global, slots: u32) -> (Owners, OwnerSeat, OwnerSeat)
+    ensures slots { result.0.slots ≡ slots }
+    ensures seats { (result.1 ≡ fresh result.0.table) × (result.2 ≡ fresh result.0.table) }
 {
+    let Ok((owners, mut seats)) = Owners::new(alloc, slots, 2) else {
+        panic!(rt; "no memory")
+    };
     let Some(second) = seats.pop() else {
         unreachable!()
     };
     let Some(first) = seats.pop() else {
         unreachable!()
     };
-    (first, second)
+    (owners, first, second)
+}
+
+// The words that a table leaves, closed with its two seats.
+fn words_of(rt: &impl Abort, alloc: Global, owners: Owners, a: OwnerSeat, b: OwnerSeat) -> Vec<u64>
+    requires { (a.table ≡ owners.table) × (b.table ≡ owners.table) }
+{
+    let Ok(seats) = vec![in alloc; a, b] else {
+        panic!(rt; "no memory")
+    };
+    let Ok(words) = owners.close(alloc, seats) else {
+        panic!(rt; "no memory")
+    };
+    words
 }
 
 #[test]
 #[tactic(auto, using(owners_table::proofs::Holding::holds_first))]
-fn a_claim_is_granted_where_the_slot_is_free(rt: HostRuntime) -> Result<(), Fail> {
-    let (owners, seats) = Owners::new(rt.alloc(), 4, 2)?;
-    let (mut a, mut b) = pair(&owners, seats);
+fn a_claim_is_granted_where_the_slot_is_free(rt: HostRuntime) {
+    let (owners, mut a, mut b) = table_of(&rt, rt.alloc(), 4);
     let first = Mark { run: 0, at: 1 };
     let second = Mark { run: 5, at: 2 };
     let Ok(()) = owners.claim(&mut a, 3, first) else {
         panic!(&rt; "the slot was free")
     };
-    assert!(&rt;
-        matches!(
-            owners.claim(&mut b, 3, first),
-            Err(Taken {
-                owner: Mark { run: 0, at: 1 }
-            })
-        )
-    );
-    assert!(&rt;
-        matches!(
-            owners.claim(&mut a, 3, second),
-            Err(Taken {
-                owner: Mark { run: 0, at: 1 }
-            })
-        )
-    );
+    assert!(&rt; is_taken(owners.claim(&mut b, 3, first), first));
+    assert!(&rt; is_taken(owners.claim(&mut a, 3, second), first));
     owners.release(&mut a, 3);
     assert!(&rt; owners.claim(&mut b, 3, second).is_ok());
     let (a, b) = owners.meet(a, b);
-    let words = owners.close(rt.alloc(), vec![in rt.alloc(); a, b]?)?;
-    assert!(&rt; matches!(words.as_slice(), [0, 0, 0, 24578]));
-    assert!(&rt; second.word() == 24578);
-    Ok(())
+    let words = words_of(&rt, rt.alloc(), owners, a, b);
+    assert!(&rt; matches!(words.as_slice(), [0, 0, 0, 24578]) && second.word() == 24578);
 }
 
-// Claims and releases the slots in turn, and counts what came of it.
+// The claim found that mark.
+fn is_taken(claim: Result<(), Taken>, mark: Mark) -> bool {
+    match claim {
+        Ok(()) => false,
+        Err(Taken { owner }) => owner.run == mark.run && owner.at == mark.at,
+    }
+}
+
+// Claims and releases the slots in turn, and counts the claims.
 #[tactic(auto, using(owners_table::proofs::Holding::holds_first, owners_table::proofs::Holding::without_first))]
-fn work(owners: &Owners, seat: &mut OwnerSeat, run: u32, rounds: u32) -> (u32, u32)
-    requires table { seat.old.table ≡ owners.now.table }
+fn work(owners: &Owners, mut seat: OwnerSeat, run: u32, rounds: u32) -> (OwnerSeat, u32)
+    requires table { seat.table ≡ owners.now.table }
     requires slots { 64 ≤ owners.now.slots }
-    requires held { seat.old.held ≡ [] }
-    ensures table { seat.new.table ≡ owners.now.table }
-    ensures held { seat.new.held ≡ [] }
-    ensures tries { result.0 + result.1 ≡ rounds }
+    requires held { seat.held ≡ [] }
+    ensures { result.0.table ≡ owners.now.table }
 {
     let mut granted = 0;
     let mut refused = 0;
     for round in 0..rounds {
         let slot = round % 64;
-        match owners.claim(seat, slot, Mark { run, at: 7 }) {
+        match owners.claim(&mut seat, slot, Mark { run, at: 7 }) {
             Ok(()) => {
-                owners.release(seat, slot);
+                owners.release(&mut seat, slot);
                 granted += 1;
             }
             Err(_) => refused += 1,
         }
     }
-    (granted, refused)
+    (seat, granted + refused)
 }
 
 #[test]
-fn two_threads_leave_every_slot_free(rt: HostRuntime) -> Result<(), Fail> {
-    let (owners, seats) = Owners::new(rt.alloc(), 64, 2)?;
-    let (a, b) = pair(&owners, seats);
+fn two_threads_leave_every_slot_free(rt: HostRuntime) {
+    let (owners, a, b) = table_of(&rt, rt.alloc(), 64);
     let table = &owners;
     let ((a, first), (b, second)) = join(
         &rt,
-        || -> (OwnerSeat, (u32, u32))
+        || -> (OwnerSeat, u32)
             requires { (a.table ≡ table.now.table) × (64 ≤ table.now.slots) × (a.held ≡ []) }
-            ensures { (result.0.table ≡ table.entry.now.table) × (result.1.0 + result.1.1 ≡ 100000) }
-        {
-            let mut a = a;
-            let counts = work(table, &mut a, 1, 100_000);
-            (a, counts)
-        },
-        || -> (OwnerSeat, (u32, u32))
+            ensures { result.0.table ≡ table.entry.now.table }
+        { work(table, a, 1, 100_000) },
+        || -> (OwnerSeat, u32)
             requires { (b.table ≡ table.now.table) × (64 ≤ table.now.slots) × (b.held ≡ []) }
-            ensures { (result.0.table ≡ table.entry.now.table) × (result.1.0 + result.1.1 ≡ 100000) }
-        {
-            let mut b = b;
-            let counts = work(table, &mut b, 2, 100_000);
-            (b, counts)
-        },
+            ensures { result.0.table ≡ table.entry.now.table }
+        { work(table, b, 2, 100_000) },
     );
-    assert!(&rt; first.0 + first.1 == 100_000);
-    assert!(&rt; second.0 + second.1 == 100_000);
-    let words = owners.close(rt.alloc(), vec![in rt.alloc(); a, b]?)?;
-    assert!(&rt; words.len() == 64);
-    assert!(&rt; words.iter().all(|w| *w == 0));
-    Ok(())
+    assert!(&rt; first == 100_000 && second == 100_000);
+    let words = words_of(&rt, rt.alloc(), owners, a, b);
+    assert!(&rt; words.len() == 64 && words.iter().all(|w| *w == 0));
+}
+
+// One of the seats that were made with the tickets.
+#[tactic(auto, using(owners_table::proofs::Joining::all_last, owners_table::proofs::Joining::all_front))]
+fn seat_of(rt: &impl Abort, tickets: &Tickets, seats: &mut Vec<TicketSeat>) -> TicketSeat
+    requires { All (λ s. s ≡ new_seat tickets.now.table tickets.now.limit) seats.old.items }
+    ensures seat { IsOf tickets.now result }
+    ensures rest { All (λ s. s ≡ new_seat tickets.now.table tickets.now.limit) seats.new.items }
+{
+    match seats.pop() {
+        Some(seat) => seat,
+        None => panic!(rt; "a seat is missing"),
+    }
 }
 
 #[test]
-#[tactic(auto, using(owners_table::proofs::Joining::all_last, owners_table::proofs::Joining::all_front))]
-fn tickets_end_at_their_limit(rt: HostRuntime) -> Result<(), Fail> {
+fn tickets_end_at_their_limit(rt: HostRuntime) -> Result<(), AllocError> {
     let (tickets, mut seats) = Tickets::new(rt.alloc(), 3, 1)?;
-    let Some(mut seat) = seats.pop() else {
-        unreachable!()
-    };
-    for want in [Some(0), Some(1), Some(2), None, None] {
-        assert!(&rt; tickets.draw(&mut seat) == want);
+    let mut seat = seat_of(&rt, &tickets, &mut seats);
+    // 3 stands for None.
+    for want in [0, 1, 2, 3, 3] {
+        assert!(&rt; tickets.draw(&mut seat).unwrap_or(3) == want);
     }
     tickets.close(vec![in rt.alloc(); seat]?);
     Ok(())
@@ -132,81 +136,86 @@ fn tickets_end_at_their_limit(rt: HostRuntime) -> Result<(), Fail> {
 
 // Draws until there is no number, or `most` were drawn.
 fn drain(
+    rt: &impl Abort,
     alloc: Global,
     tickets: &Tickets,
     mut seat: TicketSeat,
     most: u32,
-) -> Result<(TicketSeat, Vec<u64>), AllocError>
+) -> (TicketSeat, Vec<u64>)
     requires { IsOf tickets.now seat }
-    ensures { IfOk result (λ r. IsOf tickets.now r.0) }
+    ensures { IsOf tickets.now result.0 }
 {
     let mut drawn = Vec::new(alloc);
     for _ in 0..most {
         let Some(n) = tickets.draw(&mut seat) else {
             break;
         };
-        drawn.push(n)?;
+        if drawn.push(n).is_err() {
+            panic!(rt; "no memory");
+        }
     }
-    Ok((seat, drawn))
+    (seat, drawn)
 }
 
 // Two threads that draw, and all that they drew.
-fn drain_two<R: Threads + Sync>(
+fn drain_two<R: Threads + Abort + Sync>(
     rt: &R,
     alloc: Global,
     tickets: &Tickets,
     a: TicketSeat,
     b: TicketSeat,
     most: u32,
-) -> Result<(TicketSeat, TicketSeat, Vec<u64>), AllocError>
+) -> (TicketSeat, TicketSeat, Vec<u64>)
     requires { IsOf tickets.now a × IsOf tickets.now b }
-    ensures { IfOk result (λ r. IsOf tickets.now r.0 × IsOf tickets.now r.1) }
+    ensures { IsOf tickets.now result.0 × IsOf tickets.now result.1 }
 {
-    let (a, b) = join(
+    let ((a, mut all), (b, other)) = join(
         rt,
-        || -> Result<(TicketSeat, Vec<u64>), AllocError>
+        || -> (TicketSeat, Vec<u64>)
             requires { IsOf tickets.now a }
-            ensures { IfOk result (λ r. IsOf tickets.entry.now r.0) }
-        { drain(alloc, tickets, a, most) },
-        || -> Result<(TicketSeat, Vec<u64>), AllocError>
+            ensures { IsOf tickets.entry.now result.0 }
+        { drain(rt, alloc, tickets, a, most) },
+        || -> (TicketSeat, Vec<u64>)
             requires { IsOf tickets.now b }
-            ensures { IfOk result (λ r. IsOf tickets.entry.now r.0) }
-        { drain(alloc, tickets, b, most) },
+            ensures { IsOf tickets.entry.now result.0 }
+        { drain(rt, alloc, tickets, b, most) },
     );
-    let (a, mut all) = a?;
-    let (b, other) = b?;
-    all.extend_from_slice(other.as_slice())?;
-    Ok((a, b, all))
+    if all.extend_from_slice(other.as_slice()).is_err() {
+        panic!(rt; "no memory");
+    }
+    (a, b, all)
 }
 
 #[test]
-#[tactic(auto, using(owners_table::proofs::Joining::all_last, owners_table::proofs::Joining::all_front))]
-fn four_threads_draw_every_number_once(rt: HostRuntime) -> Result<(), Fail> {
+fn four_threads_draw_every_number_once(rt: HostRuntime) -> Result<(), AllocError> {
     let alloc = rt.alloc();
     let (tickets, mut seats) = Tickets::new(alloc, 100_000, 4)?;
-    let (Some(d), Some(c), Some(b), Some(a)) = (seats.pop(), seats.pop(), seats.pop(), seats.pop())
-    else {
-        unreachable!()
-    };
+    let a = seat_of(&rt, &tickets, &mut seats);
+    let b = seat_of(&rt, &tickets, &mut seats);
+    let c = seat_of(&rt, &tickets, &mut seats);
+    let d = seat_of(&rt, &tickets, &mut seats);
     let host = &rt;
     let all = &tickets;
-    let (left, right) = join(
+    let ((a, b, drawn), (c, d, others)) = join(
         &rt,
-        || -> Result<(TicketSeat, TicketSeat, Vec<u64>), AllocError>
+        || -> (TicketSeat, TicketSeat, Vec<u64>)
             requires { IsOf all.now a × IsOf all.now b }
-            ensures { IfOk result (λ r. IsOf all.entry.now r.0 × IsOf all.entry.now r.1) }
+            ensures { IsOf all.entry.now result.0 × IsOf all.entry.now result.1 }
         { drain_two(host, alloc, all, a, b, 100_001) },
-        || -> Result<(TicketSeat, TicketSeat, Vec<u64>), AllocError>
+        || -> (TicketSeat, TicketSeat, Vec<u64>)
             requires { IsOf all.now c × IsOf all.now d }
-            ensures { IfOk result (λ r. IsOf all.entry.now r.0 × IsOf all.entry.now r.1) }
+            ensures { IsOf all.entry.now result.0 × IsOf all.entry.now result.1 }
         { drain_two(host, alloc, all, c, d, 100_001) },
     );
-    let (a, b, mut drawn) = left?;
-    let (c, d, others) = right?;
+    assert!(&rt; is_each_once(&rt, drawn, others, 100_000));
     tickets.close(vec![in alloc; a, b, c, d]?);
-    drawn.extend_from_slice(others.as_slice())?;
-    drawn.sort()?;
-    assert!(&rt; drawn.len() == 100_000);
-    assert!(&rt; drawn.iter().enumerate().all(|(i, n)| *n == i as u64));
     Ok(())
+}
+
+// The two have each number below the limit once, and no other.
+fn is_each_once(rt: &impl Abort, mut drawn: Vec<u64>, others: Vec<u64>, limit: usize) -> bool {
+    if drawn.extend_from_slice(others.as_slice()).is_err() || drawn.sort().is_err() {
+        panic!(rt; "no memory");
+    }
+    drawn.len() == limit && drawn.iter().enumerate().all(|(i, n)| *n == i as u64)
 }
