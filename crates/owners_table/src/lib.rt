@@ -14,6 +14,4 @@ pub mod mark;
 pub mod owners;
 mod owning;
 mod sheets;
-#[cfg(test)]
-mod tests;
 pub mod tickets;

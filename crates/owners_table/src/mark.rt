@@ -4,7 +4,7 @@ ghost use Rattle.std.specs.Prelude.{◌≡◌, ◌<◌};
 ghost use Rattle.owners_table.specs.Marking.{mark_word, IsMarkWord};
 
 /// The run that owns a slot, and the call of its program that was granted it.
-#[derive(Clone, Copy, PartialEq, Eq, Debug)]
+#[derive(Clone, Copy)]
 pub struct Mark {
     /// The number of the run.
     pub run: u32,

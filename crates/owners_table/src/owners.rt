@@ -14,7 +14,7 @@ use std::collections::LinkedList;
 use std::marker::Model;
 
 /// A claim found that the slot has this owner.
-#[derive(Clone, Copy, PartialEq, Eq, Debug)]
+#[derive(Clone, Copy)]
 pub struct Taken {
     pub owner: Mark,
 }

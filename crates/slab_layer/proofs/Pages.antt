@@ -112,6 +112,10 @@ module _ {X : Type 0} (places : X → List Place) (number : X → ℕ) where
       let inside : at < length (map places xs) = omega (arith, length-map xs places) in
       rw (map-set places xs at new, is) (added (map places xs) olds at n few inside same)
 
+  -- a place in the table is a page's number
+  pub low_place : (xs : List X) (at n out : ℕ) (partial : List ℕ) → IsShelf (map places xs) (map number xs) partial out → length xs ≡ n → at < n → at < 256
+  low_place xs at n out partial shelf is within = elim shelf.sized [ inl none ↦ absurd (omega (arith, length-map xs places)) | inr all ↦ omega (arith, length-map xs places) ]
+
   -- a page is reaped
   pub on_stack : (xs : List X) (at out : ℕ) (partial : List ℕ) → IsShelf (map places xs) (map number xs) partial out → at < length xs → 0 < length (get_or (map places xs) at []) → outs_in (get_or (map places xs) at []) ≡ 0 → 0 < times at partial
   on_stack xs at out partial shelf within had idle =

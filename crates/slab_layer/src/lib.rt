@@ -20,8 +20,6 @@ mod room;
 mod slab;
 mod slabs;
 mod table;
-#[cfg(test)]
-mod tests;
 
 pub use kind::{BlockKind, CellKind, Kind, RecordKind};
 pub use object::{Held, Home, Obj, Ready, State};

@@ -6,7 +6,7 @@
 use thiserror::Error;
 
 /// Why no arena was made.
-#[derive(Clone, Copy, Debug, PartialEq, Eq, Error)]
+#[derive(Clone, Copy, Debug, Error)]
 pub enum ArenaFault {
     /// An arena has 1 to 256 pages.
     #[error("an arena has 1 to 256 pages")]
@@ -17,6 +17,6 @@ pub enum ArenaFault {
 }
 
 /// No run of free pages is as long as the span that was asked for.
-#[derive(Clone, Copy, Debug, PartialEq, Eq, Error)]
+#[derive(Clone, Copy, Debug, Error)]
 #[error("no run of free pages is as long")]
 pub struct NoSpan;

@@ -12,8 +12,6 @@ mod arena;
 mod fault;
 mod segment;
 mod span;
-#[cfg(test)]
-mod tests;
 
 pub use arena::Arena;
 pub use fault::{ArenaFault, NoSpan};

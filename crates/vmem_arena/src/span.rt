@@ -11,7 +11,7 @@
 ghost use Rattle.std.specs.Prelude.{◌≡◌, ◌+◌, ◌<◌, ◌≤◌};
 
 /// Neighbouring pages that are out of an arena (Bonwick and Adams 2001, section 4).
-#[derive(Debug, Drop)]
+#[derive(Drop)]
 pub struct Span {
     pub(crate) first: u32,
     pub(crate) len: u32,

@@ -1,4 +1,4 @@
-use Rattle.std.proofs.Common.{◌≡◌, ◌+◌, ◌*◌, ◌∷◌, [], ◌++◌, ◌∙◌, ap, map, length, vec_len, rules, arith}
+use Rattle.std.proofs.Common.{Some, ◌≡◌, ◌+◌, ◌*◌, ◌∷◌, [], ◌++◌, ◌∙◌, ap, map, length, vec_len, rules, arith}
 use Rattle.std.proofs.lemmas.List.{length-map, map_push, length-replicate, replicate_more}
 use Rattle.std.proofs.lemmas.List.Elements.{All-pop}
 use Rattle.slab_layer.specs.declared.place.Place.TheVariants.{Home}
@@ -30,3 +30,6 @@ loop-index-preserved g c =
       few_home = omega (arith, c.push_reserved.ensures.capacity, l.invariant.few_home);
       stacked = rw (c.push_reserved.ensures.items, c.push_reserved-in-loop-index.ensures.items, map_push (λ o. o.slot) l.home.items c.new.result, c.new.ensures) (pushed (map (λ o. o.slot) l.home.items) (c.first-page.result * 256) (c.first-page.result * 256 + l.index) l.places.items l.invariant.stacked place);
     }
+
+pub new-requires-clause-sized : goal.new-requires-clause-sized
+new-requires-clause-sized g c = (All-pop (λ b. length b.items ≡ g.K.Kind.SIZE) _ _ (Some c.in-Some.own) c.in-Some.ensures.items c.loop-index.invariant.each).1

@@ -1,9 +1,9 @@
-use Rattle.std.proofs.Common.{◌≡◌, ◌<◌, ◌/◌, ◌∙◌, [], ℕ, ap, sym, subst, get_or, set, length, map, arith}
+use Rattle.std.proofs.Common.{rules, Fits, w32, ◌≡◌, ◌<◌, ◌/◌, ◌∙◌, [], ℕ, ap, sym, subst, get_or, set, length, map, arith}
 use Rattle.std.specs.List.{All, AllWithin}
 use Rattle.std.proofs.lemmas.Option.{IfSome_then}
 use Rattle.slab_layer.specs.Slots.{Pages, Has, IsOut, RemovesPage, outs_in, out_count}
 use Rattle.slab_layer.proofs.Changes.{number_is}
-use Rattle.slab_layer.proofs.Pages.{on_stack, shelf_reaped, reaped, idle_page, busy_page, busy_below, has_from}
+use Rattle.slab_layer.proofs.Pages.{low_place, on_stack, shelf_reaped, reaped, idle_page, busy_page, busy_below, has_from}
 use Rattle.slab_layer.proofs.slabs.Slabs.reap.Goals as goal
 
 pub returns-in_default-clause-none : goal.returns-in_default-clause-none
@@ -13,6 +13,19 @@ returns-in_default-clause-none g c = λ page has.
     let H : Pages → Type 0 = λ v. Has v page in
     let busy : All (λ s. 0 < length s.places.items → 0 < outs_in s.places.items) xs = subst (λ ys. All (λ s. 0 < length s.places.items → 0 < outs_in s.places.items) ys) c.deref.ensures.value c.in_default.ensures.none in
     subst B c.self.view_is (busy_page (λ s. s.places.items) (λ s. s.page) xs (map (λ s. s.page) xs) c.self.inside.partial.items c.self.inside.out page c.self.invariant.0 busy (subst H (sym c.self.view_is) has))
+
+-- a page's number is a small one
+small : (n : ℕ) → n < 256 → Fits w32 n
+small n low = search rules
+
+pub overflow_cast-page : goal.overflow_cast-page
+overflow_cast-page g c = small c.in-Some.at (low_place (λ s. s.places.items) (λ s. s.page) c.self.inside.slabs.items c.in-Some.at (length c.deref.result.now) c.self.inside.out c.self.inside.partial.items c.self.invariant.0 (sym (ap length c.deref.ensures.value)) c.in-Some.ensures.within)
+
+pub index_mut-requires : goal.index_mut-requires
+index_mut-requires g c = subst (λ n. c.in-Some.at < n) c.deref.ensures.len c.in-Some.ensures.within
+
+pub vacant-requires : goal.vacant-requires
+vacant-requires g c = low_place (λ s. s.places.items) (λ s. s.page) c.self.inside.slabs.items c.in-Some.at (length c.deref.result.now) c.self.inside.out c.self.inside.partial.items c.self.invariant.0 (sym (ap length c.deref.ensures.value)) c.in-Some.ensures.within
 
 pub take_number-requires : goal.take_number-requires
 take_number-requires g c =
@@ -39,6 +52,9 @@ invariant_of-self g c =
     let noted : new.page ≡ at = ap (λ s. s.page) c.replace-slab.ensures.after ∙ c.vacant.ensures.page in
     let after = shelf_reaped (λ s. s.places.items) (λ s. s.page) xs at c.self.inside.out c.index_mut.result.now new partial c.take_number.new.numbers.items shelf within c.index_mut.ensures.value had idle noted none c.take_number.ensures.count c.take_number.ensures.each in
     (after, omega (arith, c.self.invariant.1, c.take_number.ensures.capacity))
+
+pub returns-clause-one_page : goal.returns-clause-one_page
+returns-clause-one_page g c = IfSome_then c.end.result c.end.ensures.page (λ s p. p.1)
 
 pub returns-clause-had : goal.returns-clause-had
 returns-clause-had g c =

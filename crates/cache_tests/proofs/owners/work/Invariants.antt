@@ -1,5 +1,5 @@
 use Rattle.std.proofs.Common.{◌≡◌, ◌+◌, []}
-use Rattle.owners_table.proofs.tests.work.Given as goal
+use Rattle.cache_tests.proofs.owners.work.Given as goal
 
 abbrev pub invariant-loop-round : goal.invariant-loop-round
 invariant-loop-round l = record {

@@ -1,0 +1,13 @@
+//! Tests of the arena, the slabs and the tables of owners, as a user of the three crates calls them.
+//!
+//! A contract says what a call does, and each is proved where it stands. What is tried here is what no contract says: that the
+//! calls succeed where memory is there, that the definitions mean the numbers that a person expects, and that threads
+//! really claim, release and draw side by side. The crates themselves have no tests, so that they are proved once.
+#![tactic(auto)]
+
+#[cfg(test)]
+mod arena;
+#[cfg(test)]
+mod owners;
+#[cfg(test)]
+mod slabs;

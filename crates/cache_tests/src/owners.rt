@@ -1,0 +1,221 @@
+ghost use Rattle.std.specs.Prelude.{◌≡◌, ◌≤◌, [], vec_len, All};
+ghost use Rattle.owners_table.specs.Owning.{fresh};
+ghost use Rattle.owners_table.specs.Drawing.{IsOf, fresh as new_seat};
+
+use owners_table::mark::Mark;
+use owners_table::owners::{OwnerSeat, Owners, Taken};
+use owners_table::tickets::{TicketSeat, Tickets};
+use std::alloc::{AllocError, Global};
+use std::process::Abort;
+use std::thread::{Threads, join};
+
+// A table of so many slots, with its two seats.
+#[tactic(auto, using(owners_table::proofs::Joining::all_last, owners_table::proofs::Joining::all_front))]
+fn table_of(rt: &impl Abort, alloc: Global, slots: u32) -> (Owners, OwnerSeat, OwnerSeat)
+    ensures slots { result.0.slots ≡ slots }
+    ensures seats { (result.1 ≡ fresh result.0.table) × (result.2 ≡ fresh result.0.table) }
+{
+    let Ok((owners, mut seats)) = Owners::new(alloc, slots, 2) else {
+        panic!(rt; "no memory")
+    };
+    let Some(second) = seats.pop() else {
+        unreachable!()
+    };
+    let Some(first) = seats.pop() else {
+        unreachable!()
+    };
+    (owners, first, second)
+}
+
+// The words that a table leaves, closed with its two seats.
+fn words_of(rt: &impl Abort, alloc: Global, owners: Owners, a: OwnerSeat, b: OwnerSeat) -> Vec<u64>
+    requires { (a.table ≡ owners.table) × (b.table ≡ owners.table) }
+{
+    let Ok(seats) = vec![in alloc; a, b] else {
+        panic!(rt; "no memory")
+    };
+    let Ok(words) = owners.close(alloc, seats) else {
+        panic!(rt; "no memory")
+    };
+    words
+}
+
+#[test]
+#[tactic(auto, using(owners_table::proofs::Holding::holds_first))]
+fn a_claim_is_granted_where_the_slot_is_free(rt: HostRuntime) {
+    let (owners, mut a, mut b) = table_of(&rt, rt.alloc(), 4);
+    let first = Mark { run: 0, at: 1 };
+    let second = Mark { run: 5, at: 2 };
+    let Ok(()) = owners.claim(&mut a, 3, first) else {
+        panic!(&rt; "the slot was free")
+    };
+    assert!(&rt; is_taken(owners.claim(&mut b, 3, first), first));
+    assert!(&rt; is_taken(owners.claim(&mut a, 3, second), first));
+    owners.release(&mut a, 3);
+    assert!(&rt; owners.claim(&mut b, 3, second).is_ok());
+    let (a, b) = owners.meet(a, b);
+    let words = words_of(&rt, rt.alloc(), owners, a, b);
+    assert!(&rt; matches!(words.as_slice(), [0, 0, 0, 24578]) && second.word() == 24578);
+}
+
+// The claim found that mark.
+fn is_taken(claim: Result<(), Taken>, mark: Mark) -> bool {
+    match claim {
+        Ok(()) => false,
+        Err(Taken { owner }) => owner.run == mark.run && owner.at == mark.at,
+    }
+}
+
+// Claims and releases the slots in turn, and counts the claims.
+#[tactic(auto, using(owners_table::proofs::Holding::holds_first, owners_table::proofs::Holding::without_first))]
+fn work(owners: &Owners, mut seat: OwnerSeat, run: u32, rounds: u32) -> (OwnerSeat, u32)
+    requires table { seat.table ≡ owners.now.table }
+    requires slots { 64 ≤ owners.now.slots }
+    requires held { seat.held ≡ [] }
+    ensures { result.0.table ≡ owners.now.table }
+{
+    let mut granted = 0;
+    let mut refused = 0;
+    for round in 0..rounds {
+        let slot = round % 64;
+        match owners.claim(&mut seat, slot, Mark { run, at: 7 }) {
+            Ok(()) => {
+                owners.release(&mut seat, slot);
+                granted += 1;
+            }
+            Err(_) => refused += 1,
+        }
+    }
+    (seat, granted + refused)
+}
+
+#[test]
+fn two_threads_leave_every_slot_free(rt: HostRuntime) {
+    let (owners, a, b) = table_of(&rt, rt.alloc(), 64);
+    let table = &owners;
+    let ((a, first), (b, second)) = join(
+        &rt,
+        || -> (OwnerSeat, u32)
+            requires { (a.table ≡ table.now.table) × (64 ≤ table.now.slots) × (a.held ≡ []) }
+            ensures { result.0.table ≡ table.entry.now.table }
+        { work(table, a, 1, 100_000) },
+        || -> (OwnerSeat, u32)
+            requires { (b.table ≡ table.now.table) × (64 ≤ table.now.slots) × (b.held ≡ []) }
+            ensures { result.0.table ≡ table.entry.now.table }
+        { work(table, b, 2, 100_000) },
+    );
+    assert!(&rt; first == 100_000 && second == 100_000);
+    let words = words_of(&rt, rt.alloc(), owners, a, b);
+    assert!(&rt; words.len() == 64 && words.iter().all(|w| *w == 0));
+}
+
+// One of the seats that were made with the tickets.
+#[tactic(auto, using(owners_table::proofs::Joining::all_last, owners_table::proofs::Joining::all_front))]
+fn seat_of(rt: &impl Abort, tickets: &Tickets, seats: &mut Vec<TicketSeat>) -> TicketSeat
+    requires { All (λ s. s ≡ new_seat tickets.now.table tickets.now.limit) seats.old.items }
+    ensures seat { IsOf tickets.now result }
+    ensures rest { All (λ s. s ≡ new_seat tickets.now.table tickets.now.limit) seats.new.items }
+{
+    match seats.pop() {
+        Some(seat) => seat,
+        None => panic!(rt; "a seat is missing"),
+    }
+}
+
+#[test]
+fn tickets_end_at_their_limit(rt: HostRuntime) -> Result<(), AllocError> {
+    let (tickets, mut seats) = Tickets::new(rt.alloc(), 3, 1)?;
+    let mut seat = seat_of(&rt, &tickets, &mut seats);
+    // 3 stands for None.
+    for want in [0, 1, 2, 3, 3] {
+        assert!(&rt; tickets.draw(&mut seat).unwrap_or(3) == want);
+    }
+    tickets.close(vec![in rt.alloc(); seat]?);
+    Ok(())
+}
+
+// Draws until there is no number, or `most` were drawn.
+fn drain(
+    rt: &impl Abort,
+    alloc: Global,
+    tickets: &Tickets,
+    mut seat: TicketSeat,
+    most: u32,
+) -> (TicketSeat, Vec<u64>)
+    requires { IsOf tickets.now seat }
+    ensures { IsOf tickets.now result.0 }
+{
+    let mut drawn = Vec::new(alloc);
+    for _ in 0..most {
+        let Some(n) = tickets.draw(&mut seat) else {
+            break;
+        };
+        if drawn.push(n).is_err() {
+            panic!(rt; "no memory");
+        }
+    }
+    (seat, drawn)
+}
+
+// Two threads that draw, and all that they drew.
+fn drain_two<R: Threads + Abort + Sync>(
+    rt: &R,
+    alloc: Global,
+    tickets: &Tickets,
+    a: TicketSeat,
+    b: TicketSeat,
+    most: u32,
+) -> (TicketSeat, TicketSeat, Vec<u64>)
+    requires { IsOf tickets.now a × IsOf tickets.now b }
+    ensures { IsOf tickets.now result.0 × IsOf tickets.now result.1 }
+{
+    let ((a, mut all), (b, other)) = join(
+        rt,
+        || -> (TicketSeat, Vec<u64>)
+            requires { IsOf tickets.now a }
+            ensures { IsOf tickets.entry.now result.0 }
+        { drain(rt, alloc, tickets, a, most) },
+        || -> (TicketSeat, Vec<u64>)
+            requires { IsOf tickets.now b }
+            ensures { IsOf tickets.entry.now result.0 }
+        { drain(rt, alloc, tickets, b, most) },
+    );
+    if all.extend_from_slice(other.as_slice()).is_err() {
+        panic!(rt; "no memory");
+    }
+    (a, b, all)
+}
+
+#[test]
+fn four_threads_draw_every_number_once(rt: HostRuntime) -> Result<(), AllocError> {
+    let alloc = rt.alloc();
+    let (tickets, mut seats) = Tickets::new(alloc, 100_000, 4)?;
+    let a = seat_of(&rt, &tickets, &mut seats);
+    let b = seat_of(&rt, &tickets, &mut seats);
+    let c = seat_of(&rt, &tickets, &mut seats);
+    let d = seat_of(&rt, &tickets, &mut seats);
+    let host = &rt;
+    let all = &tickets;
+    let ((a, b, drawn), (c, d, others)) = join(
+        &rt,
+        || -> (TicketSeat, TicketSeat, Vec<u64>)
+            requires { IsOf all.now a × IsOf all.now b }
+            ensures { IsOf all.entry.now result.0 × IsOf all.entry.now result.1 }
+        { drain_two(host, alloc, all, a, b, 100_001) },
+        || -> (TicketSeat, TicketSeat, Vec<u64>)
+            requires { IsOf all.now c × IsOf all.now d }
+            ensures { IsOf all.entry.now result.0 × IsOf all.entry.now result.1 }
+        { drain_two(host, alloc, all, c, d, 100_001) },
+    );
+    assert!(&rt; is_each_once(&rt, drawn, others, 100_000));
+    tickets.close(vec![in alloc; a, b, c, d]?);
+    Ok(())
+}
+
+// The two have each number below the limit once, and no other.
+fn is_each_once(rt: &impl Abort, mut drawn: Vec<u64>, others: Vec<u64>, limit: usize) -> bool {
+    if drawn.extend_from_slice(others.as_slice()).is_err() || drawn.sort().is_err() {
+        panic!(rt; "no memory");
+    }
+    drawn.len() == limit && drawn.iter().enumerate().all(|(i, n)| *n == i as u64)
+}

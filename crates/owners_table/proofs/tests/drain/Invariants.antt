@@ -1,5 +1,0 @@
-use Rattle.owners_table.specs.Drawing.{IsOf}
-use Rattle.owners_table.proofs.tests.drain.Given as goal
-
-abbrev pub invariant-loop : goal.invariant-loop
-invariant-loop l = IsOf l.fn.tickets l.seat
