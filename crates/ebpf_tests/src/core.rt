@@ -3,6 +3,7 @@
 
 use crate::accepted::read;
 use crate::events::words_of;
+use crate::programs::column;
 use ebpf_core::event::{Answer, Context, Event};
 use ebpf_core::fault::{ApplyCode, ApplyFault, ReplayFault};
 use ebpf_core::replay::replay;
@@ -155,21 +156,19 @@ the context is too long | E10 | start seven 09
 fn an_event_that_is_not_legal_has_its_code_and_changes_nothing(
     rt: HostRuntime,
 ) -> Result<(), Fail> {
-    for line in ILLEGAL.lines() {
-        let words: Vec<&str> = line.split(" | ").collect(rt.alloc())?;
-        let [_, code, sixth] = words.as_slice() else {
-            return Err("a case has a name, a code and an event")?;
-        };
+    for row in ILLEGAL.lines() {
+        let (_, columns) = column(row)?;
+        let (code, sixth) = column(columns)?;
         let script = format!(in rt.alloc(); "{SEVEN}{sixth}")?;
         let (programs, mut events) = read(rt.alloc(), script.as_str())?;
         let told = fault_of(rt.alloc(), &programs, &events)?;
         let expected = format!(in rt.alloc(); "{code} 5")?;
-        assert!(rt; told.as_str() == expected.as_str(), "{line}: {told}");
+        assert!(rt; told.as_str() == expected.as_str(), "{row}: {told}");
 
         let event = events.pop().ok_or("there are six events")?;
         let told = applied(rt.alloc(), &programs, &events, event)?;
         let expected = format!(in rt.alloc(); "{code}: {AFTER_SEVEN}")?;
-        assert!(rt; told.as_str() == expected.as_str(), "{line}: {told}");
+        assert!(rt; told.as_str() == expected.as_str(), "{row}: {told}");
     }
     Ok(())
 }

@@ -1,8 +1,8 @@
 //! Declarations, and the verdicts on programs of two slots.
 
+use crate::programs::program_of;
 use ebpf_flow::check::check;
 use ebpf_flow::flowed::Flowed;
-use ebpf_insn::decode::decode;
 use ebpf_state::kinds::kinds;
 use ebpf_verify::decl::Decl;
 use ebpf_verify::fault::{VerifyCode, VerifyFault};
@@ -12,9 +12,7 @@ use std::test::Fail;
 
 // The program of the bytes in hex.
 fn flowed_of(alloc: Global, digits: &str) -> Result<Flowed, Fail> {
-    let bytes = hex::decode(alloc, digits.as_bytes())?;
-    let program = decode(alloc, &bytes)?;
-    Ok(check(alloc, program)?)
+    Ok(check(alloc, program_of(alloc, digits)?)?)
 }
 
 #[test]
