@@ -9,8 +9,6 @@
 #[cfg(test)]
 mod accepted;
 #[cfg(test)]
-mod core;
-#[cfg(test)]
 mod events;
 #[cfg(test)]
 mod flow;
@@ -26,3 +24,5 @@ mod state;
 mod text;
 #[cfg(test)]
 mod verify;
+#[cfg(test)]
+mod world;
