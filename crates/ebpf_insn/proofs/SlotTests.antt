@@ -4,9 +4,9 @@ use Rattle.ebpf_insn.specs.declared.slot.Slot.{Slot}
 use Rattle.ebpf_insn.specs.declared.register.Reg.{Reg}
 use Rattle.ebpf_insn.specs.declared.insn.Insn.{Insn}
 use Rattle.ebpf_insn.specs.declared.opcode.Form.{Form}
-use Rattle.ebpf_insn.specs.declared.fault.DecodeCode.TheVariants.{I4, I5, I6, I7}
+use Rattle.ebpf_insn.specs.declared.fault.DecodeCode.TheVariants.{I2, I4, I5, I6, I7, I8}
 use Rattle.ebpf_insn.specs.Registers.{number_of, register_of}
-use Rattle.ebpf_insn.specs.Opcodes.{form_of}
+use Rattle.ebpf_insn.specs.Opcodes.{form_of, is_left_out}
 use Rattle.ebpf_insn.specs.Fields.{has_left_out_source, leaves_unused_zero, lacks_second, has_bad_second, has_defined_fields}
 use Rattle.ebpf_insn.specs.Decoding.{is_register, slot_fault}
 use Rattle.ebpf_insn.specs.Decoded.{insn_at_slot}
@@ -30,6 +30,15 @@ pub registers : {f : Form} {s : Slot} {dst src : Reg} → Some f ≡ form_of s.o
 registers {f} {s} {dst} {src} here source to from = record { here = sym here; source = sym source; dst = is_register_of s.dst dst (sym to); src = is_register_of s.src src (sym from) }
 
 -- ---- the first code that applies
+
+pub fault_left_out : (s : Slot) (second : Option Slot) → None ≡ form_of s.opcode → true ≡ is_left_out s.opcode → slot_fault s second ≡ Some I8
+fault_left_out s second here left_out = rw (← here, ← left_out) refl
+
+pub fault_no_form : (s : Slot) (second : Option Slot) → None ≡ form_of s.opcode → false ≡ is_left_out s.opcode → slot_fault s second ≡ Some I2
+fault_no_form s second here left_out = rw (← here, ← left_out) refl
+
+pub fault_source : (f : Form) (s : Slot) (second : Option Slot) → Some f ≡ form_of s.opcode → true ≡ has_left_out_source f s.src → slot_fault s second ≡ Some I8
+fault_source f s second here source = rw (← here, ← source) refl
 
 pub fault_unused : (f : Form) (s : Slot) (second : Option Slot) → HasRegisters f s → false ≡ leaves_unused_zero f s → slot_fault s second ≡ Some I4
 fault_unused f s second has unused = rw (has.here, has.source, has.dst, has.src, ← unused) refl

@@ -4,7 +4,7 @@ mod cases;
 mod opcodes;
 
 use crate::insn::cases::CASES;
-use crate::programs::{bytes_of, column};
+use crate::programs::{bytes_of, column, is_told};
 use ebpf_insn::decode::{bytes_encode_one_program, decode};
 use ebpf_insn::encode::encode;
 use ebpf_insn::fault::DecodeFault;
@@ -28,33 +28,42 @@ fn exits_and(alloc: Global, exits: usize, more: &[u8]) -> Result<Vec<u8>, AllocE
     Ok(bytes)
 }
 
-// How many instructions the bytes are, or why they are no program. A program is encoded as its bytes again.
+// That a program is encoded as its bytes again.
+fn has_bytes(rt: &impl Abort, alloc: Global, program: &Program, bytes: &[u8]) {
+    let again = encode(alloc, program).expect(rt, "out of memory");
+    assert!(rt; again.as_slice() == bytes);
+}
+
+// How many instructions the bytes are, or why they are no program.
 fn outcome(rt: &impl Abort, alloc: Global, bytes: &[u8]) -> Result<String, AllocError> {
     match decode(alloc, bytes) {
         Ok(program) => {
-            let again = encode(alloc, &program)?;
-            assert!(rt; again.as_slice() == bytes);
+            has_bytes(rt, alloc, &program, bytes);
             format!(in alloc; "{}", program.len())
         }
         Err(fault) => format!(in alloc; "{fault}"),
     }
 }
 
+// Tries a row of the cases.
+fn is_what_it_says(rt: &impl Abort, alloc: Global, row: &str) {
+    let (_, columns) = column(rt, row);
+    let (exits, columns) = column(rt, columns);
+    let (digits, expected) = column(rt, columns);
+    let exits = exits.parse::<usize>().expect(rt, "the exits are no number");
+    let more = bytes_of(rt, alloc, digits);
+    let bytes = exits_and(alloc, exits, &more).expect(rt, "out of memory");
+    let told = outcome(rt, alloc, &bytes).expect(rt, "out of memory");
+    is_told(rt, row, told.as_str(), expected);
+}
+
 #[test]
-fn bytes_are_what_the_table_says(rt: HostRuntime) -> Result<(), Fail> {
+fn bytes_are_what_the_table_says(rt: HostRuntime) {
     for row in CASES.lines() {
-        if row.starts_with('#') {
-            continue;
+        if !row.starts_with('#') {
+            is_what_it_says(&rt, rt.alloc(), row);
         }
-        let (_, columns) = column(row)?;
-        let (exits, columns) = column(columns)?;
-        let (digits, expected) = column(columns)?;
-        let more = bytes_of(rt.alloc(), digits)?;
-        let bytes = exits_and(rt.alloc(), exits.parse::<usize>()?, &more)?;
-        let told = outcome(&rt, rt.alloc(), &bytes)?;
-        assert!(rt; told.as_str() == expected, "{row}");
     }
-    Ok(())
 }
 
 // A slot for each kind of instruction, and its line, which tells each field; the fifth is the second half of the fourth.
@@ -83,17 +92,17 @@ const WIDE_AND_EXIT: &str = "\
 9500000000000000 | 2: exit";
 
 // The bytes of a table's slots.
-fn bytes_of_slots(alloc: Global, table: &str) -> Result<Vec<u8>, Fail> {
+fn bytes_of_slots(rt: &impl Abort, alloc: Global, table: &str) -> Vec<u8> {
     let mut bytes = Vec::new(alloc);
     for row in table.lines() {
-        let (digits, _) = column(row)?;
-        bytes.extend_from_slice(&bytes_of(alloc, digits)?)?;
+        let slot = bytes_of(rt, alloc, column(rt, row).0);
+        bytes.extend_from_slice(&slot).expect(rt, "out of memory");
     }
-    Ok(bytes)
+    bytes
 }
 
 // The line of the instruction that begins at a slot, or `-` where none does.
-fn told_at(alloc: Global, program: &Program, slot: usize) -> Result<String, AllocError> {
+fn line_at(alloc: Global, program: &Program, slot: usize) -> Result<String, AllocError> {
     match program.at(slot) {
         Some(insn) => line(alloc, slot, insn),
         None => "-\n".to_string(alloc),
@@ -101,48 +110,31 @@ fn told_at(alloc: Global, program: &Program, slot: usize) -> Result<String, Allo
 }
 
 // The program of a table's slots, whose instructions are the table's.
-fn told_slots(rt: &impl Abort, alloc: Global, table: &str) -> Result<Program, Fail> {
-    let bytes = bytes_of_slots(alloc, table)?;
-    let program = decode(alloc, &bytes)?;
+fn told_slots(rt: &impl Abort, alloc: Global, table: &str) -> Program {
+    let bytes = bytes_of_slots(rt, alloc, table);
+    let program = decode(alloc, &bytes).expect(rt, "these slots are no program");
     for (slot, row) in table.lines().enumerate() {
-        let (_, expected) = column(row)?;
-        let told = told_at(alloc, &program, slot)?;
-        assert!(rt; told.as_str().strip_suffix('\n') == Some(expected), "{row}");
+        let told = line_at(alloc, &program, slot).expect(rt, "out of memory");
+        is_told(rt, row, told.as_str().trim_end(), column(rt, row).1);
     }
-    let again = encode(alloc, &program)?;
-    assert!(rt; again == bytes);
-    Ok(program)
+    has_bytes(rt, alloc, &program, &bytes);
+    program
 }
 
 #[test]
-fn each_kind_of_instruction_is_decoded_and_encoded(rt: HostRuntime) -> Result<(), Fail> {
-    let program = told_slots(&rt, rt.alloc(), KINDS)?;
-    assert!(rt; program.len() == 15);
-    assert!(rt; program.slots() == 16);
-    assert!(rt; program.at(16).is_none());
+fn each_kind_of_instruction_is_decoded_and_encoded(rt: HostRuntime) {
+    let kinds = told_slots(&rt, rt.alloc(), KINDS);
+    assert!(rt; kinds.len() == 15 && kinds.slots() == 16 && kinds.at(16).is_none());
+    let wide_and_exit = told_slots(&rt, rt.alloc(), WIDE_AND_EXIT);
+    assert!(rt; wide_and_exit.len() == 2 && wide_and_exit.slots() == 3);
     bytes_encode_one_program();
-    Ok(())
 }
 
 #[test]
-fn a_second_half_is_no_instruction(rt: HostRuntime) -> Result<(), Fail> {
-    let program = told_slots(&rt, rt.alloc(), WIDE_AND_EXIT)?;
-    assert!(rt; program.len() == 2);
-    assert!(rt; program.slots() == 3);
-    Ok(())
-}
-
-#[test]
-fn numbers_of_registers_and_slots(rt: HostRuntime) {
+fn numbers_and_words_of_the_parts(rt: HostRuntime) {
     assert!(rt; Insn::Exit.slots() == 1);
     assert!(rt; Reg::R10.number() == 10);
-    assert!(rt; matches!(Reg::new(10), Some(Reg::R10)));
-    assert!(rt; Reg::new(11).is_none());
-}
-
-#[test]
-fn a_refused_growth_is_told_in_words(rt: HostRuntime) -> Result<(), Fail> {
-    let told = format!(in rt.alloc(); "{}", DecodeFault::NoMemory)?;
+    assert!(rt; matches!(Reg::new(10), Some(Reg::R10)) && Reg::new(11).is_none());
+    let told = format!(in rt.alloc(); "{}", DecodeFault::NoMemory).expect(&rt, "out of memory");
     assert!(rt; told.as_str() == "out of memory");
-    Ok(())
 }

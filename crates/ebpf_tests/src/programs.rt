@@ -1,22 +1,29 @@
 //! Rows of a table, and the programs that stand in them as hex.
+//!
+//! What can't be read ends the test: there is nothing to clean up, and no path back to be translated and proved.
 
 use ebpf_insn::decode::decode;
 use ebpf_insn::program::Program;
 use std::alloc::Global;
-use std::test::Fail;
+use std::process::Abort;
 
 // The first column of a row, and the others.
-pub(crate) fn column(row: &str) -> Result<(&str, &str), Fail> {
-    Ok(row.split_once(" | ").ok_or("a column is missing")?)
+pub(crate) fn column<'a>(rt: &impl Abort, row: &'a str) -> (&'a str, &'a str) {
+    row.split_once(" | ").expect(rt, "a column is missing")
 }
 
 // The bytes of hex digits.
-pub(crate) fn bytes_of(alloc: Global, digits: &str) -> Result<Vec<u8>, Fail> {
-    Ok(hex::decode(alloc, digits.as_bytes())?)
+pub(crate) fn bytes_of(rt: &impl Abort, alloc: Global, digits: &str) -> Vec<u8> {
+    hex::decode(alloc, digits.as_bytes()).expect(rt, "these are no bytes")
 }
 
 // The program of hex digits.
-pub(crate) fn program_of(alloc: Global, digits: &str) -> Result<Program, Fail> {
-    let bytes = bytes_of(alloc, digits)?;
-    Ok(decode(alloc, &bytes)?)
+pub(crate) fn program_of(rt: &impl Abort, alloc: Global, digits: &str) -> Program {
+    let bytes = bytes_of(rt, alloc, digits);
+    decode(alloc, &bytes).expect(rt, "these bytes are no program")
+}
+
+// That a row is told as it says.
+pub(crate) fn is_told(rt: &impl Abort, row: &str, told: &str, expected: &str) {
+    assert!(rt; told == expected, "{row}: {told}");
 }

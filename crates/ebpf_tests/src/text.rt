@@ -1,10 +1,12 @@
 //! Instructions and their lines, written down by hand from the format.
 
-use crate::programs::{column, program_of};
+use crate::programs::{column, is_told, program_of};
 use ebpf_insn::insn::{Insn, Size};
 use ebpf_insn::register::Reg;
 use ebpf_text::line::line;
 use ebpf_text::listing::listing;
+use std::alloc::Global;
+use std::process::Abort;
 use std::test::*;
 
 // The encoding of an instruction, and its line at the slot that the line begins with.
@@ -174,25 +176,29 @@ a601010009000000 | 9: jlt32 r1, 9, +1
 9500000000000000 | 11: exit
 9500000000000000 | 4095: exit";
 
+// Tries a row of the lines.
+fn is_the_line(rt: &impl Abort, alloc: Global, row: &str) {
+    let (digits, expected) = column(rt, row);
+    let (slot, _) = expected.split_once(':').expect(rt, "a line has its slot");
+    let slot = slot.parse::<usize>().expect(rt, "the slot is no number");
+    let program = program_of(rt, alloc, digits);
+    let insn = program.at(0).expect(rt, "no instruction begins there");
+    let told = line(alloc, slot, insn).expect(rt, "out of memory");
+    is_told(rt, row, told.as_str().trim_end(), expected);
+}
+
 #[test]
-fn an_instruction_has_its_line(rt: HostRuntime) -> Result<(), Fail> {
+fn an_instruction_has_its_line(rt: HostRuntime) {
     for row in LINES.lines() {
-        if row.starts_with('#') {
-            continue;
+        if !row.starts_with('#') {
+            is_the_line(&rt, rt.alloc(), row);
         }
-        let (digits, expected) = column(row)?;
-        let (slot, _) = expected.split_once(':').ok_or("a line has its slot")?;
-        let program = program_of(rt.alloc(), digits)?;
-        let insn = program.at(0).ok_or("an instruction begins there")?;
-        let told = line(rt.alloc(), slot.parse::<usize>()?, insn)?;
-        assert!(rt; told.as_str().strip_suffix('\n') == Some(expected), "{row}");
     }
-    Ok(())
 }
 
 // It has no encoding.
 #[test]
-fn a_signed_load_of_eight_bytes_has_its_line(rt: HostRuntime) -> Result<(), Fail> {
+fn a_signed_load_of_eight_bytes_has_its_line(rt: HostRuntime) {
     let insn = Insn::Load {
         size: Size::D,
         signed: true,
@@ -200,18 +206,16 @@ fn a_signed_load_of_eight_bytes_has_its_line(rt: HostRuntime) -> Result<(), Fail
         base: Reg::R10,
         offset: -4,
     };
-    let told = line(rt.alloc(), 0, &insn)?;
+    let told = line(rt.alloc(), 0, &insn).expect(&rt, "out of memory");
     assert!(rt; told.as_str() == "0: ldxsdw r0, [r10-4]\n");
-    Ok(())
 }
 
 #[test]
-fn a_program_has_a_line_for_each_instruction(rt: HostRuntime) -> Result<(), Fail> {
+fn a_program_has_a_line_for_each_instruction(rt: HostRuntime) {
     let digits = "b7000000fbffffffbc0a0000000000000fa900000000000004030000ffffff7f9500000000000000";
-    let program = program_of(rt.alloc(), digits)?;
-    let told = listing(rt.alloc(), &program)?;
+    let program = program_of(&rt, rt.alloc(), digits);
+    let told = listing(rt.alloc(), &program).expect(&rt, "out of memory");
     let expected =
         "0: mov64 r0, -5\n1: mov32 r10, r0\n2: add64 r9, r10\n3: add32 r3, 2147483647\n4: exit\n";
     assert!(rt; told.as_str() == expected);
-    Ok(())
 }

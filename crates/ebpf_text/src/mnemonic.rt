@@ -1,6 +1,6 @@
 //! The word that a line begins with, behind its slot.
 
-ghost use Rattle.std.specs.Prelude.{◌≡◌, ◌++◌, string_bytes, OnOk};
+ghost use Rattle.std.specs.Prelude.{◌≡◌, ◌++◌, decimal, string_bytes, OnOk};
 ghost use Rattle.ebpf_text.specs.Mnemonics.{mnemonic_of};
 
 use crate::names::{alu_name, cond_name, order_name, size_name, width_name};
@@ -12,32 +12,45 @@ pub(crate) fn write_mnemonic(text: &mut String, insn: &Insn) -> Result<(), Alloc
     ensures { OnOk result (string_bytes text.new ≡ string_bytes text.old ++ mnemonic_of insn.now) }
 {
     match *insn {
-        Insn::Alu { width, op, .. } => write!(text, "{}{}", alu_name(op), width_name(width)),
-        Insn::Sext { width, bits, .. } => write!(text, "movs{bits}_{}", width_name(width)),
-        Insn::Neg { width, .. } => write!(text, "neg{}", width_name(width)),
-        Insn::Swap { order, bits, .. } => write!(text, "{}{bits}", order_name(order)),
-        Insn::Wide { .. } => write!(text, "lddw"),
+        Insn::Alu { width, op, .. } => write_both(text, alu_name(op), width_name(width)),
+        Insn::Sext { width, bits, .. } => {
+            write_number(text, "movs", bits)?;
+            write_both(text, "_", width_name(width))
+        }
+        Insn::Neg { width, .. } => write_both(text, "neg", width_name(width)),
+        Insn::Swap { order, bits, .. } => write_number(text, order_name(order), bits),
+        Insn::Wide { .. } => text.push_str("lddw"),
         Insn::Load {
             size,
             signed: true,
             ..
-        } => write!(text, "ldxs{}", size_name(size)),
-        Insn::Load { size, .. } => write!(text, "ldx{}", size_name(size)),
+        } => write_both(text, "ldxs", size_name(size)),
+        Insn::Load { size, .. } => write_both(text, "ldx", size_name(size)),
         Insn::Store {
             size,
             src: Source::Register(_),
             ..
-        } => write!(text, "stx{}", size_name(size)),
-        Insn::Store { size, .. } => write!(text, "st{}", size_name(size)),
-        Insn::Jump { .. } => write!(text, "ja"),
-        Insn::JumpFar { .. } => write!(text, "ja32"),
-        Insn::Branch { width, cond, .. } => write!(
-            text,
-            "{}{}",
-            cond_name(cond),
-            width_name(width)
-        ),
-        Insn::Call { .. } => write!(text, "call"),
-        Insn::Exit => write!(text, "exit"),
+        } => write_both(text, "stx", size_name(size)),
+        Insn::Store { size, .. } => write_both(text, "st", size_name(size)),
+        Insn::Jump { .. } => text.push_str("ja"),
+        Insn::JumpFar { .. } => text.push_str("ja32"),
+        Insn::Branch { width, cond, .. } => write_both(text, cond_name(cond), width_name(width)),
+        Insn::Call { .. } => text.push_str("call"),
+        Insn::Exit => text.push_str("exit"),
     }
+}
+
+// Two words as one.
+fn write_both(text: &mut String, first: &str, second: &str) -> Result<(), AllocError>
+    ensures { OnOk result (string_bytes text.new ≡ string_bytes text.old ++ (first.now ++ second.now)) }
+{
+    text.push_str(first)?;
+    text.push_str(second)
+}
+
+// A word and a number of bits.
+fn write_number(text: &mut String, word: &str, bits: u8) -> Result<(), AllocError>
+    ensures { OnOk result (string_bytes text.new ≡ string_bytes text.old ++ (word.now ++ decimal bits)) }
+{
+    write!(text, "{word}{bits}")
 }

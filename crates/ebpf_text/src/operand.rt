@@ -34,5 +34,5 @@ pub(crate) fn write_place(text: &mut String, base: Reg, offset: i16) -> Result<(
 {
     write!(text, "[r{}", base.number())?;
     write_offset(text, offset as i32)?;
-    write!(text, "]")
+    text.push_str("]")
 }

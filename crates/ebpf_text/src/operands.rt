@@ -1,6 +1,6 @@
 //! The operands of an instruction.
 
-ghost use Rattle.std.specs.Prelude.{◌≡◌, [], ◌∷◌, ◌++◌, string_bytes, OnOk};
+ghost use Rattle.std.specs.Prelude.{◌≡◌, [], ◌∷◌, ◌++◌, decimal, string_bytes, OnOk};
 ghost use Rattle.ebpf_text.specs.Operands.{operands_of, register_text, source_text, offset_text, place_text};
 ghost use Rattle.ebpf_text.specs.Listing.{operands_text};
 
@@ -15,10 +15,9 @@ pub(crate) fn write_operands(text: &mut String, insn: &Insn) -> Result<(), Alloc
 {
     match *insn {
         Insn::Alu { dst, src, .. } => write_pair(text, dst, src),
-        Insn::Sext { dst, src, .. } => write!(text, " r{}, r{}", dst.number(), src.number()),
-        Insn::Neg { dst, .. } => write!(text, " r{}", dst.number()),
-        Insn::Swap { dst, .. } => write!(text, " r{}", dst.number()),
-        Insn::Wide { dst, value } => write!(text, " r{}, {value}", dst.number()),
+        Insn::Sext { dst, src, .. } => write_pair(text, dst, Source::Register(src)),
+        Insn::Neg { dst, .. } | Insn::Swap { dst, .. } => write_register(text, dst),
+        Insn::Wide { dst, value } => write_wide(text, dst, value),
         Insn::Load {
             dst,
             base,
@@ -40,12 +39,29 @@ pub(crate) fn write_operands(text: &mut String, insn: &Insn) -> Result<(), Alloc
             ..
         } => {
             write_pair(text, left, right)?;
-            write!(text, ", ")?;
+            text.push_str(", ")?;
             write_offset(text, offset as i32)
         }
-        Insn::Call { number } => write!(text, " {number}"),
+        Insn::Call { number } => {
+            text.push_str(" ")?;
+            write_source(text, Source::Imm(number))
+        }
         Insn::Exit => Ok(()),
     }
+}
+
+// A register.
+fn write_register(text: &mut String, register: Reg) -> Result<(), AllocError>
+    ensures { OnOk result (string_bytes text.new ≡ string_bytes text.old ++ operands_text (register_text register ∷ [])) }
+{
+    write!(text, " r{}", register.number())
+}
+
+// A register, and the number that it takes.
+fn write_wide(text: &mut String, dst: Reg, value: u64) -> Result<(), AllocError>
+    ensures { OnOk result (string_bytes text.new ≡ string_bytes text.old ++ operands_text (register_text dst ∷ decimal value ∷ [])) }
+{
+    write!(text, " r{}, {value}", dst.number())
 }
 
 // A register, and a second operand.
@@ -68,9 +84,9 @@ fn write_load(text: &mut String, dst: Reg, base: Reg, offset: i16) -> Result<(),
 fn write_store(text: &mut String, base: Reg, offset: i16, src: Source) -> Result<(), AllocError>
     ensures { OnOk result (string_bytes text.new ≡ string_bytes text.old ++ operands_text (place_text base offset ∷ source_text src ∷ [])) }
 {
-    write!(text, " ")?;
+    text.push_str(" ")?;
     write_place(text, base, offset)?;
-    write!(text, ", ")?;
+    text.push_str(", ")?;
     write_source(text, src)
 }
 
@@ -78,6 +94,6 @@ fn write_store(text: &mut String, base: Reg, offset: i16, src: Source) -> Result
 fn write_displacement(text: &mut String, offset: i32) -> Result<(), AllocError>
     ensures { OnOk result (string_bytes text.new ≡ string_bytes text.old ++ operands_text (offset_text offset ∷ [])) }
 {
-    write!(text, " ")?;
+    text.push_str(" ")?;
     write_offset(text, offset)
 }

@@ -4,7 +4,7 @@ use Rattle.ebpf_insn.specs.Registers.{number_of}
 use Rattle.ebpf_insn.proofs.SlotBytes.{FitsSlot}
 use Rattle.ebpf_insn.proofs.Registers.{number_of-register_of}
 use Rattle.ebpf_insn.proofs.FromSlots.{IsFine}
-use Rattle.ebpf_insn.proofs.SlotTests.{nibble, encoded_as, registers, fault_unused, fault_lacks, fault_second, fault_defined, no_fault}
+use Rattle.ebpf_insn.proofs.SlotTests.{nibble, encoded_as, registers, fault_no_form, fault_left_out, fault_source, fault_unused, fault_lacks, fault_second, fault_defined, no_fault}
 use Rattle.ebpf_insn.proofs.decode.decode_slot.Goals as goal
 
 pub returns-clause-found : goal.returns-clause-found
@@ -25,6 +25,15 @@ returns-clause-found c =
       defined = sym c.if-not-has_defined_fields.ensures;
     } in
     encoded_as c.insn_at_slot.result c.in-Some.form c.args.slot c.args.second c.in-Some-Some.dst c.in-Some-Some.src c.insn_at_slot.ensures fine
+
+pub returns-then-is_left_out-clause-fault : goal.returns-then-is_left_out-clause-fault
+returns-then-is_left_out-clause-fault c = fault_left_out c.args.slot c.args.second c.in_default.ensures c.if-is_left_out.ensures
+
+pub returns-else-is_left_out-clause-fault : goal.returns-else-is_left_out-clause-fault
+returns-else-is_left_out-clause-fault c = fault_no_form c.args.slot c.args.second c.in_default.ensures c.if-is_left_out.ensures
+
+pub returns-then-has_left_out_source-clause-fault : goal.returns-then-has_left_out_source-clause-fault
+returns-then-has_left_out_source-clause-fault c = fault_source c.in-Some.form c.args.slot c.args.second c.in-Some.ensures c.if-has_left_out_source.ensures
 
 pub returns-then-not-leaves_unused_zero-clause-fault : goal.returns-then-not-leaves_unused_zero-clause-fault
 returns-then-not-leaves_unused_zero-clause-fault c = fault_unused c.in-Some.form c.args.slot c.args.second (registers c.in-Some.ensures c.if-has_left_out_source.ensures c.in-Some-Some.ensures c.in-Some-Some.ensures') c.if-not-leaves_unused_zero.ensures
