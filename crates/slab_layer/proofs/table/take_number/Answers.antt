@@ -1,4 +1,4 @@
-use Rattle.std.proofs.Common.{◌≡◌, ◌≢◌, ◌<◌, ℕ, ap, length, get_or, vec_len, arith, rules}
+use Rattle.std.proofs.Common.{◌≡◌, ◌≢◌, ◌<◌, ℕ, ap, length, get_or, vec_len, arith}
 use Rattle.slab_layer.proofs.Selecting.{taken_out, times-absent}
 use Rattle.slab_layer.proofs.table.take_number.Goals as goal
 

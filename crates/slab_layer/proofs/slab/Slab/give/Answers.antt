@@ -1,4 +1,4 @@
-use Rattle.std.proofs.Common.{◌≡◌, ◌%◌, ◌∙◌, map, length, vec_len, rules, arith}
+use Rattle.std.proofs.Common.{◌≡◌, ◌%◌, ◌∙◌, map, length, vec_len, arith}
 use Rattle.std.proofs.lemmas.List.{length-map, map_push, length-set}
 use Rattle.std.proofs.lemmas.Option.{slice_get_within}
 use Rattle.slab_layer.specs.declared.place.Place.TheVariants.{Home, Out}

@@ -1,4 +1,4 @@
-use Rattle.std.proofs.Common.{◌≡◌, ◌*◌, ◌∙◌, sym, map, length, vec_len, rules}
+use Rattle.std.proofs.Common.{◌≡◌, ◌*◌, ◌∙◌, sym, map, length, vec_len}
 use Rattle.std.proofs.lemmas.List.{length-map}
 use Rattle.slab_layer.proofs.Homes.{has_home_by}
 use Rattle.slab_layer.proofs.slab.Slab.has_home.Goals as goal

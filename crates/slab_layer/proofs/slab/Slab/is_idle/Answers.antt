@@ -1,4 +1,4 @@
-use Rattle.std.proofs.Common.{◌≡◌, ◌*◌, ◌==◌, ◌∙◌, false, sym, ap, map, length, vec_len, rules}
+use Rattle.std.proofs.Common.{◌≡◌, ◌*◌, ◌==◌, ◌∙◌, false, sym, ap, map, length, vec_len}
 use Rattle.std.proofs.lemmas.List.{length-map}
 use Rattle.slab_layer.proofs.Homes.{idle_by}
 use Rattle.slab_layer.proofs.slab.Slab.is_idle.Goals as goal

@@ -1,4 +1,4 @@
-use Rattle.std.proofs.Common.{◌≡◌, ◌<◌, ◌↔◌, IsTrue, length, subst, vec_len, arith, rules}
+use Rattle.std.proofs.Common.{◌≡◌, ◌<◌, ◌↔◌, IsTrue, length, subst, vec_len, arith}
 use Rattle.slab_layer.specs.Slots.{Pages, Has}
 use Rattle.slab_layer.proofs.Pages.{has_here}
 use Rattle.slab_layer.proofs.slabs.Slabs.has.Goals as goal

@@ -1,4 +1,4 @@
-use Rattle.std.proofs.Common.{◌≡◌, ◌-◌, ◌+◌, ◌%◌, ◌/◌, set, ◌∙◌, ap, sym, subst, length, take, map, vec_len, arith, rules}
+use Rattle.std.proofs.Common.{◌≡◌, ◌-◌, ◌+◌, ◌%◌, ◌/◌, set, ◌∙◌, ap, sym, subst, length, take, map, vec_len, arith}
 use Rattle.std.proofs.lemmas.Option.{slice_get_within}
 use Rattle.slab_layer.specs.declared.place.Place.TheVariants.{Home, Out}
 use Rattle.slab_layer.specs.Slots.{Pages, IsHome, Moves, has_home, out_count}
