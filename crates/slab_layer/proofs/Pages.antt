@@ -3,7 +3,8 @@ use Rattle.std.proofs.Common.{map, ◌≡◌, ℕ, zero, suc, ◌+◌, ◌*◌, 
 use Rattle.std.specs.Prelude.{slice_get, slice_index}
 use Rattle.std.specs.List.{All, AllWithin}
 use Rattle.std.proofs.lemmas.Bool.{cases_lt, false≢true}
-use Rattle.std.proofs.lemmas.List.{get_or_past, map-set, length-map, nil_from_length}
+use Rattle.std.proofs.Math.Seq.{get_or-append_seam}
+use Rattle.std.proofs.lemmas.List.{get_or_past, get_or_append_left, map-set, map_push, length-map, nil_from_length}
 use Rattle.std.proofs.lemmas.List.Elements.{All-head, All-tail}
 use Rattle.std.proofs.lemmas.Bool.Decides.{nat_tests}
 use Rattle.slab_layer.specs.declared.place.Place.{Place}
@@ -54,6 +55,24 @@ selected-vacant (qs ∷ qss) from none = rw (none 0) (selected-vacant qss (suc f
 count-vacant : (pages : Pages) → ((p : ℕ) → get_or pages p [] ≡ []) → out_count pages ≡ 0
 count-vacant [] none = refl
 count-vacant (qs ∷ qss) none = let e = ap outs_in (none 0) in omega (arith, count-vacant qss (λ p. none (suc p)))
+
+pub vacant_more : {X : Type 0} (places : X → List Place) (xs : List X) (x : X) → ((p : ℕ) → get_or (map places xs) p [] ≡ []) → places x ≡ [] → (p : ℕ) → get_or (map places (xs ++ x ∷ [])) p [] ≡ []
+vacant_more places [] x none is zero = is
+vacant_more places [] x none is (suc p) = refl
+vacant_more places (y ∷ ys) x none is zero = none 0
+vacant_more places (y ∷ ys) x none is (suc p) = vacant_more places ys x (λ q. none (suc q)) is p
+
+pub numbered_more : {X : Type 0} (number : X → ℕ) (xs : List X) (x : X) (n : ℕ) → length xs ≡ n → ((p : ℕ) → p < n → slice_index (map number xs) p ≡ p) → number x ≡ n → (p : ℕ) → p < n + 1 → slice_index (map number (xs ++ x ∷ [])) p ≡ p
+numbered_more number xs x n len each is p within =
+    let push = ap (λ ns. slice_index ns p) (map_push number xs x) in
+    let long = length-map xs number in
+    elim (cases_lt p n) [
+      | inl low ↦ push ∙ (get_or_append_left (map number xs) (number x ∷ []) 0 p (omega arith) ∙ each p low)
+      | inr high ↦
+          let last : p ≡ length (map number xs) = omega arith in
+          let here : n ≡ p = omega arith in
+          push ∙ (ap (λ k. slice_index (map number xs ++ number x ∷ []) k) last ∙ (get_or-append_seam (map number xs) (number x) [] 0 ∙ (is ∙ here)))
+    ]
 
 pub shelf_filled : (olds pages : Pages) (numbers noted partial : List ℕ) (out : ℕ) → length olds ≡ 0 → IsShelf olds numbers partial out → length pages ≡ 256 → ((p : ℕ) → get_or pages p [] ≡ []) → ((p : ℕ) → p < 256 → slice_index noted p ≡ p) → IsShelf pages noted partial out
 shelf_filled olds pages numbers noted partial out none shelf all vacant numbered =

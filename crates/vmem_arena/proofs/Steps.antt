@@ -119,6 +119,12 @@ given_first xs to s table within read =
     let h = closed_above xs 0 to s table within read in
     record { tiled = h.tiled; merged = h.high }
 
+pub given_at_first : (xs : List Segment) (i to : ℕ) (s : Segment) → IsTable xs to → i < length xs → s ≡ get_or xs i s → i ≤ 0 → IsTable (joined (set xs i (flagged s true)) i) to
+given_at_first xs i to s table within read first =
+    let e : 0 ≡ i = omega arith in
+    let P : ℕ → Type 0 = λ k. k < length xs → s ≡ get_or xs k s → IsTable (joined (set xs k (flagged s true)) k) to in
+    subst P e (λ low here. given_first xs to s table low here) within read
+
 -- a later one is, and the seam below it closed too
 pub given_later : (xs : List Segment) (i j to : ℕ) (s : Segment) → IsTable xs to → i < length xs → s ≡ get_or xs i s → j + 1 ≡ i → IsTable (joined (joined (set xs i (flagged s true)) i) j) to
 given_later xs i j to s table within read next =

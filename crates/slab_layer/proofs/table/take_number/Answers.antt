@@ -1,4 +1,4 @@
-use Rattle.std.proofs.Common.{◌≡◌, ◌≢◌, ◌<◌, ℕ, ap, length, get_or, vec_len, arith, rules}
+use Rattle.std.proofs.Common.{◌≡◌, ◌≢◌, ◌<◌, ℕ, ap, length, get_or, vec_len, arith}
 use Rattle.slab_layer.proofs.Selecting.{taken_out, times-absent}
 use Rattle.slab_layer.proofs.table.take_number.Goals as goal
 
@@ -7,7 +7,7 @@ returns-then-index-number-clause-each c = λ x.
     let xs = c.loop-i.numbers.items in
     let same = c.loop-i.invariant.same in
     let end : c.len-i-end.result ≡ vec_len c.args.numbers.now = c.len-i-end.ensures in
-    let wide : vec_len c.args.numbers.now ≡ length c.args.numbers.now.items = search rules in
+    let wide : vec_len c.args.numbers.now ≡ length c.args.numbers.now.items = c.args.numbers.now.ok.0 in
     let within : c.loop-i.i < length c.args.numbers.now.items = omega arith in
     let inside : c.loop-i.i < length xs = rw same within in
     rw (c.remove.ensures.items, ← ap (λ v. v.items) same) (taken_out xs c.loop-i.i c.args.number c.index.result.now x inside c.index.ensures c.if-index-number.true)
@@ -15,13 +15,13 @@ returns-then-index-number-clause-each c = λ x.
 pub returns-clause-each : goal.returns-clause-each
 returns-clause-each c =
     let xs = c.args.numbers.now.items in
-    let wide : vec_len c.args.numbers.now ≡ length xs = search rules in
+    let wide : vec_len c.args.numbers.now ≡ length xs = c.args.numbers.now.ok.0 in
     let none : (k : ℕ) → k < length xs → get_or xs k 0 ≢ c.args.number = λ k within. rw (← ap (λ v. v.items) c.loop-i.invariant.same) (c.loop-i.invariant.none k (omega (arith, c.len-i-end.ensures, c.loop-i-test.false, c.loop-i.auto.i-end))) in
     absurd (omega (arith, times-absent xs c.args.number none, c.requires))
 
 pub returns-clause-count : goal.returns-clause-count
 returns-clause-count c =
     let xs = c.args.numbers.now.items in
-    let wide : vec_len c.args.numbers.now ≡ length xs = search rules in
+    let wide : vec_len c.args.numbers.now ≡ length xs = c.args.numbers.now.ok.0 in
     let none : (k : ℕ) → k < length xs → get_or xs k 0 ≢ c.args.number = λ k within. rw (← ap (λ v. v.items) c.loop-i.invariant.same) (c.loop-i.invariant.none k (omega (arith, c.len-i-end.ensures, c.loop-i-test.false, c.loop-i.auto.i-end))) in
     absurd (omega (arith, times-absent xs c.args.number none, c.requires))

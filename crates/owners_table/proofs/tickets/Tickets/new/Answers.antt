@@ -1,4 +1,4 @@
-use Rattle.std.proofs.Common.{◌≡◌, ℕ, ◌<◌, List, [], ◌∷◌, drop, take, All, sym, ap, ◌∙◌, subst, arith}
+use Rattle.std.proofs.Common.{◌≡◌, ℕ, ◌+◌, ◌<◌, List, [], ◌∷◌, drop, take, All, sym, ap, ◌∙◌, subst, refl, arith}
 use Rattle.std.proofs.lemmas.List.Elements.{All-push}
 use Rattle.atomic_table.specs.Seated.{TableId}
 use Rattle.atomic_table.specs.declared.shared.Seat.{Seat}
@@ -6,7 +6,8 @@ use Rattle.owners_table.specs.declared.drawing.TicketSheet.{TicketSheet}
 use Rattle.owners_table.specs.Sheets.{first_or}
 use Rattle.owners_table.specs.Drawing.{blank, fresh, ticket_view}
 use Rattle.owners_table.proofs.DrawingSteps.{splits}
-use Rattle.owners_table.proofs.Dealing.{rest-dealt}
+use Rattle.owners_table.specs.declared.drawing.Bounds.{Bounds}
+use Rattle.owners_table.proofs.Dealing.{rest-dealt, all-there, last-left, only-first, none-yet, room-left, all-dealt}
 use Rattle.owners_table.proofs.tickets.Tickets.new.Goals as goal
 
 -- the view of a seat that was just dealt
@@ -34,3 +35,54 @@ loop-i-preserved c =
       room = omega (arith, i.room, p.capacity);
       all = subst (All (λ s. s ≡ fresh c.in_ok-table.table.shared.table_id c.args.limit)) (sym p.items) (All-push (λ s. s ≡ fresh c.in_ok-table.table.shared.table_id c.args.limit) c.loop-i.all.items _ i.all seat);
     }
+
+pub loop-i-init : goal.loop-i-init
+loop-i-init c =
+    let t = c.in_ok-table.ensures in
+    let a = c.in_ok-all.ensures in record {
+      table = t.2;
+      sheets = ap (λ m. m.0) t.4 ∙ all-there c.from.result c.args.seats (blank c.args.limit) c.from.ensures c.requires;
+      bare = ap (λ m. m.1) t.4;
+      len = ap (λ n. n + 1) a.len;
+      room = a.capacity;
+      all = none-yet (λ s. s ≡ fresh c.in_ok-table.table.shared.table_id c.args.limit) c.in_ok-all.all.items a.items;
+    }
+
+pub push_reserved-requires : goal.push_reserved-requires
+push_reserved-requires c = room-left _ c.loop-i._i c.args.seats _ c.loop-i.invariant.len (c.loop-i.auto._i-end c.requires) c.loop-i.invariant.room
+
+pub push_reserved-requires-2 : goal.push_reserved-requires-2
+push_reserved-requires-2 c = room-left _ c.loop-i._i c.args.seats _ c.loop-i.invariant.len (c.loop-i.auto._i-end c.requires) c.loop-i.invariant.room
+
+pub invariant_of-push_reserved : goal.invariant_of-push_reserved
+invariant_of-push_reserved c =
+    let s = c.split_seat-seat.ensures in
+    let one = ap (λ m. m.0) s.4 ∙ ap (take 1) c.loop-i.invariant.sheets in
+    ((only-first (blank 0) (blank c.args.limit) c.split_seat-seat.result.me.0 one, ap (λ m. m.1) s.4), ap (λ v. (first_or (blank 0) v).passed) one)
+
+pub invariant_of-push_reserved-2 : goal.invariant_of-push_reserved-2
+invariant_of-push_reserved-2 c =
+    let i = c.loop-i.invariant in
+    let one = i.sheets ∙ last-left c.args.seats c.loop-i._i (blank c.args.limit) c.loop-i-test.false in
+    ((only-first (blank 0) (blank c.args.limit) c.loop-i.rest.me.0 one, i.bare), ap (λ v. (first_or (blank 0) v).passed) one)
+
+pub invariant_of-result : goal.invariant_of-result
+invariant_of-result c =
+    let t = c.in_ok-table.ensures in
+    (t.0, t.1, sym (ap (λ (z : Bounds). z.limit) t.5))
+
+pub returns-clause-tickets : goal.returns-clause-tickets
+returns-clause-tickets c =
+    let key = c.in_ok-table.ensures.5 in
+    (refl, ap (λ (z : Bounds). z.seats) key ∙ c.from.ensures)
+
+pub returns-clause-seats : goal.returns-clause-seats
+returns-clause-seats c =
+    let i = c.loop-i.invariant in
+    let p = c.push_reserved-2.ensures in
+    let table = c.in_ok-table.table.shared.table_id in
+    let one = i.sheets ∙ last-left c.args.seats c.loop-i._i (blank c.args.limit) c.loop-i-test.false in
+    let seat = dealt c.args.limit c.loop-i.rest table i.table one in (
+      all-dealt _ _ c.loop-i._i c.args.seats p.len i.len (c.loop-i.auto._i-end c.requires) c.loop-i-test.false,
+      subst (All (λ s. s ≡ fresh table c.args.limit)) (sym p.items) (All-push (λ s. s ≡ fresh table c.args.limit) c.loop-i.all.items _ i.all seat),
+    )

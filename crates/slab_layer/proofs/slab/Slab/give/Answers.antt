@@ -1,4 +1,4 @@
-use Rattle.std.proofs.Common.{◌≡◌, ◌%◌, ◌∙◌, map, length, vec_len, rules, arith}
+use Rattle.std.proofs.Common.{◌≡◌, ◌%◌, ◌∙◌, map, length, vec_len, arith}
 use Rattle.std.proofs.lemmas.List.{length-map, map_push, length-set}
 use Rattle.std.proofs.lemmas.Option.{slice_get_within}
 use Rattle.slab_layer.specs.declared.place.Place.TheVariants.{Home, Out}
@@ -9,14 +9,14 @@ pub push_reserved-requires : goal.push_reserved-requires
 push_reserved-requires g c =
     let s = c.args.self.now in
     let out = given (map (λ o. o.slot) s.home.items) c.args.object.slot s.page s.places.items s.stacked c.requires.slot c.requires.was_out in
-    let len : vec_len s.home ≡ length s.home.items = search rules in
+    let len : vec_len s.home ≡ length s.home.items = s.home.ok.0 in
     let e = length-map s.home.items (λ o. o.slot) in
     omega (arith, out.1, s.room)
 
 pub index_mut-requires : goal.index_mut-requires
 index_mut-requires g c =
     let s = c.args.self.now in
-    let wide : vec_len s.places ≡ length s.places.items = search rules in
+    let wide : vec_len s.places ≡ length s.places.items = s.places.ok.0 in
     rw (c.slot.ensures, wide) (slice_get_within s.places.items (c.args.object.slot % 256) Out c.requires.was_out)
 
 pub invariant_of-self-clause-stacked : goal.invariant_of-self-clause-stacked

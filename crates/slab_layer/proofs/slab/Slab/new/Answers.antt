@@ -1,4 +1,4 @@
-use Rattle.std.proofs.Common.{Some, ◌≡◌, ◌+◌, ◌*◌, ◌∷◌, [], ◌++◌, ◌∙◌, ap, map, length, vec_len, rules, arith}
+use Rattle.std.proofs.Common.{ℕ, ◌<◌, ◌≤◌, Fits, w32, Some, ◌≡◌, ◌+◌, ◌*◌, ◌∷◌, [], ◌++◌, ◌∙◌, ap, map, length, vec_len, rules, arith}
 use Rattle.std.proofs.lemmas.List.{length-map, map_push, length-replicate, replicate_more}
 use Rattle.std.proofs.lemmas.List.Elements.{All-pop}
 use Rattle.slab_layer.specs.declared.place.Place.TheVariants.{Home}
@@ -10,7 +10,7 @@ use Rattle.slab_layer.proofs.slab.Slab.new.Goals as goal
 pub push_reserved-requires : goal.push_reserved-requires
 push_reserved-requires g c =
     let l = c.loop-index in
-    let len : vec_len l.home ≡ length l.home.items = search rules in
+    let len : vec_len l.home ≡ length l.home.items = l.home.ok.0 in
     let e = length-map l.home.items (λ o. o.slot) in
     let f = l.invariant.stacked.count in
     let h = length-selected-le is_home l.places.items (c.first-page.result * 256) in
@@ -33,3 +33,42 @@ loop-index-preserved g c =
 
 pub new-requires-clause-sized : goal.new-requires-clause-sized
 new-requires-clause-sized g c = (All-pop (λ b. length b.items ≡ g.K.Kind.SIZE) _ _ (Some c.in-Some.own) c.in-Some.ensures.items c.loop-index.invariant.each).1
+
+-- an object's slot, from its page and its index
+page_low : (page first len : ℕ) → page ≡ first → 0 < len → first + len ≤ 256 → page < 256
+page_low page first len same some within = omega arith
+
+index_low : (index count : ℕ) → index < count → count ≤ 256 → index < 256
+index_low index count below most = omega arith
+
+slot_low : (page index : ℕ) → page < 256 → index < 256 → page * 256 + index < 65536
+slot_low page index a b = omega arith
+
+base_fits : (page : ℕ) → page < 256 → Fits w32 (page * 256)
+base_fits page low = search rules
+
+index_fits : (index : ℕ) → index < 256 → Fits w32 index
+index_fits index low = search rules
+
+slot_fits : (page index : ℕ) → page < 256 → index < 256 → Fits w32 (page * 256 + index)
+slot_fits page index a b = search rules
+
+pub overflow_mul-page : goal.overflow_mul-page
+overflow_mul-page g c = base_fits c.first-page.result (page_low _ _ _ c.first-page.ensures c.args.span.some c.args.span.within)
+
+pub overflow_cast-index : goal.overflow_cast-index
+overflow_cast-index g c = index_fits c.loop-index.index (index_low _ _ c.loop-index-test.true c.objects_of_a_page-index-end.ensures.most)
+
+pub overflow_add-page : goal.overflow_add-page
+overflow_add-page g c = slot_fits c.first-page.result c.loop-index.index (page_low _ _ _ c.first-page.ensures c.args.span.some c.args.span.within) (index_low _ _ c.loop-index-test.true c.objects_of_a_page-index-end.ensures.most)
+
+pub new-requires-clause-placed : goal.new-requires-clause-placed
+new-requires-clause-placed g c = slot_low c.first-page.result c.loop-index.index (page_low _ _ _ c.first-page.ensures c.args.span.some c.args.span.within) (index_low _ _ c.loop-index-test.true c.objects_of_a_page-index-end.ensures.most)
+
+pub push_reserved-requires-in-loop-index : goal.push_reserved-requires-in-loop-index
+push_reserved-requires-in-loop-index g c =
+    let l = c.loop-index in
+    has_room _ _ l.index c.objects_of_a_page-index-end.result _ _ l.places.ok.0 (ap length l.invariant.places ∙ length-replicate l.index Home) c.loop-index-test.true c.objects_of_a_page-index-end.ensures.value l.invariant.few_places
+  where
+    has_room : (len there index count objects capacity : ℕ) → len ≡ there → there ≡ index → index < count → count ≡ objects → objects ≤ capacity → len < capacity
+    has_room len there index count objects capacity a b below e few = omega arith

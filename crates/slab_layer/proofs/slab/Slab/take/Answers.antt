@@ -7,7 +7,7 @@ use Rattle.slab_layer.proofs.slab.Slab.take.Goals as goal
 pub unreachable-requires : goal.unreachable-requires
 unreachable-requires g c =
     let s = c.args.self.now in
-    let len : vec_len s.home ≡ length s.home.items = search rules in
+    let len : vec_len s.home ≡ length s.home.items = s.home.ok.0 in
     let none : vec_len s.home ≡ 0 = search rules in
     none_home (vec_len s.home) (map (λ o. o.slot) s.home.items) (s.page * 256) s.places.items none (len ∙ sym (length-map s.home.items (λ o. o.slot))) s.stacked c.requires
 
@@ -18,7 +18,7 @@ index_mut-requires g c =
     let popped : map (λ o. o.slot) s.home.items ≡ map (λ o. o.slot) c.pop.new.self.items ++ object.slot ∷ [] = ap (map (λ o. o.slot)) c.in-Some.ensures.items ∙ map_push (λ o. o.slot) c.pop.new.self.items object in
     let few : length s.places.items ≤ 256 = few_places _ (is_some s.span) (length s.places.items) g.K.Kind.is_row s.whole in
     let t = taken (map (λ o. o.slot) s.home.items) (map (λ o. o.slot) c.pop.new.self.items) object.slot s.page s.places.items popped s.stacked few in
-    let wide : vec_len s.places ≡ length s.places.items = search rules in
+    let wide : vec_len s.places ≡ length s.places.items = s.places.ok.0 in
     rw (c.slot.ensures, wide) t.within
 
 pub invariant_of-self-clause-stacked : goal.invariant_of-self-clause-stacked

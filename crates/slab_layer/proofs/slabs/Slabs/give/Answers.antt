@@ -1,4 +1,4 @@
-use Rattle.std.proofs.Common.{◌≡◌, ◌<◌, ◌-◌, ◌+◌, ◌%◌, ◌/◌, ◌∙◌, Some, false, ap, sym, subst, set, length, map, vec_len, refl, ℕ, arith, rules}
+use Rattle.std.proofs.Common.{Fits, w32, w64, ◌≡◌, ◌<◌, ◌-◌, ◌+◌, ◌%◌, ◌/◌, ◌∙◌, Some, false, ap, sym, subst, set, length, map, vec_len, refl, ℕ, arith, rules}
 use Rattle.std.specs.Prelude.{slice_get}
 use Rattle.std.proofs.lemmas.Option.{slice_get_within}
 use Rattle.slab_layer.specs.declared.place.Place.TheVariants.{Home, Out}
@@ -13,13 +13,13 @@ push_if-requires g c = λ first.
     let index = c.slot-slot.result % 256 in
     let partial = c.self.inside.partial.items in
     let shelf = c.self.invariant.0 in
-    let len : vec_len c.self.inside.slabs ≡ length xs = search rules in
-    let within : at < length xs = omega arith in
+    let len : vec_len c.self.inside.slabs ≡ length xs = c.self.inside.slabs.ok.0 in
+    let within : at < length xs = subst (λ n. at < n) (c.len.ensures ∙ len) c.if-at-len.false in
     let old = c.index-2.result.now in
     let was : slice_get old.places.items index ≡ Some Out = subst (λ s. slice_get s.places.items index ≡ Some Out) (same_read xs at c.index.result.now old within c.index.ensures c.index-2.ensures) (c.is_out.ensures.0 c.if-not-is_out.false) in
     let none : has_home old.places.items ≡ false = sym c.has_home-is_first.ensures ∙ from_not c.has_home-is_first.result first in
     let short = room_given (λ s. s.places.items) (λ s. s.page) xs at index old partial c.self.inside.out shelf within c.index-2.ensures was none in
-    let low : vec_len c.self.inside.partial ≡ length partial = search rules in
+    let low : vec_len c.self.inside.partial ≡ length partial = c.self.inside.partial.ok.0 in
     omega (arith, c.self.invariant.1)
 
 pub give-requires-clause-slot : goal.give-requires-clause-slot
@@ -29,8 +29,8 @@ give-requires-clause-slot g c =
     let index = c.slot-slot.result % 256 in
     let partial = c.self.inside.partial.items in
     let shelf = c.self.invariant.0 in
-    let len : vec_len c.self.inside.slabs ≡ length xs = search rules in
-    let within : at < length xs = omega arith in
+    let len : vec_len c.self.inside.slabs ≡ length xs = c.self.inside.slabs.ok.0 in
+    let within : at < length xs = subst (λ n. at < n) (c.len.ensures ∙ len) c.if-at-len.false in
     ap (λ n. n / 256) (sym c.slot-slot.ensures) ∙ sym (number_is (λ s. s.places.items) (λ s. s.page) xs at c.self.inside.out partial c.index_mut.result.now shelf within c.index_mut.ensures.value)
 
 pub overflow_sub-self : goal.overflow_sub-self
@@ -40,8 +40,8 @@ overflow_sub-self g c =
     let index = c.slot-slot.result % 256 in
     let partial = c.self.inside.partial.items in
     let shelf = c.self.invariant.0 in
-    let len : vec_len c.self.inside.slabs ≡ length xs = search rules in
-    let within : at < length xs = omega arith in
+    let len : vec_len c.self.inside.slabs ≡ length xs = c.self.inside.slabs.ok.0 in
+    let within : at < length xs = subst (λ n. at < n) (c.len.ensures ∙ len) c.if-at-len.false in
     let old = c.index_mut.result.now in
     let was : slice_get old.places.items index ≡ Some Out = subst (λ s. slice_get s.places.items index ≡ Some Out) (same_read xs at c.index.result.now old within c.index.ensures c.index_mut.ensures.value) (c.is_out.ensures.0 c.if-not-is_out.false) in
     out_some (λ s. s.places.items) (λ s. s.page) xs at index old partial c.self.inside.out shelf within c.index_mut.ensures.value was
@@ -53,8 +53,8 @@ invariant_of-self g c =
     let index = c.slot-slot.result % 256 in
     let partial = c.self.inside.partial.items in
     let shelf = c.self.invariant.0 in
-    let len : vec_len c.self.inside.slabs ≡ length xs = search rules in
-    let within : at < length xs = omega arith in
+    let len : vec_len c.self.inside.slabs ≡ length xs = c.self.inside.slabs.ok.0 in
+    let within : at < length xs = subst (λ n. at < n) (c.len.ensures ∙ len) c.if-at-len.false in
     let old = c.index_mut.result.now in
     let was : slice_get old.places.items index ≡ Some Out = subst (λ s. slice_get s.places.items index ≡ Some Out) (same_read xs at c.index.result.now old within c.index.ensures c.index_mut.ensures.value) (c.is_out.ensures.0 c.if-not-is_out.false) in
     let new = c.give.new.self in
@@ -72,8 +72,8 @@ returns-clause-moved g c = λ _.
     let index = c.slot-slot.result % 256 in
     let partial = c.self.inside.partial.items in
     let shelf = c.self.invariant.0 in
-    let len : vec_len c.self.inside.slabs ≡ length xs = search rules in
-    let within : at < length xs = omega arith in
+    let len : vec_len c.self.inside.slabs ≡ length xs = c.self.inside.slabs.ok.0 in
+    let within : at < length xs = subst (λ n. at < n) (c.len.ensures ∙ len) c.if-at-len.false in
     let old = c.index_mut.result.now in
     let was : slice_get old.places.items index ≡ Some Out = subst (λ s. slice_get s.places.items index ≡ Some Out) (same_read xs at c.index.result.now old within c.index.ensures c.index_mut.ensures.value) (c.is_out.ensures.0 c.if-not-is_out.false) in
     let new = c.give.new.self in
@@ -89,8 +89,8 @@ returns-clause-counted g c = λ _.
     let index = c.slot-slot.result % 256 in
     let partial = c.self.inside.partial.items in
     let shelf = c.self.invariant.0 in
-    let len : vec_len c.self.inside.slabs ≡ length xs = search rules in
-    let within : at < length xs = omega arith in
+    let len : vec_len c.self.inside.slabs ≡ length xs = c.self.inside.slabs.ok.0 in
+    let within : at < length xs = subst (λ n. at < n) (c.len.ensures ∙ len) c.if-at-len.false in
     let old = c.index_mut.result.now in
     let was : slice_get old.places.items index ≡ Some Out = subst (λ s. slice_get s.places.items index ≡ Some Out) (same_read xs at c.index.result.now old within c.index.ensures c.index_mut.ensures.value) (c.is_out.ensures.0 c.if-not-is_out.false) in
     let new = c.give.new.self in
@@ -101,3 +101,22 @@ returns-clause-counted g c = λ _.
     let after = shelf_given (λ s. s.places.items) (λ s. s.page) xs at index old new partial c.push_if.new.numbers.items c.self.inside.out (c.self.inside.out - 1) c.has_home-is_first.result shelf within c.index_mut.ensures.value c.give.ensures.page was is before c.push_if.ensures.items less in
     let C : Pages → Type 0 = λ v. out_count (map (λ s. s.places.items) (set xs at new)) + 1 ≡ out_count v in
     subst C c.self.view_is (omega (arith, after.counted, shelf.counted))
+
+-- the parts of a slot's number
+page_fits : (n slot : ℕ) → n ≡ slot → slot < 65536 → Fits w64 (n / 256)
+page_fits n slot same low = search rules
+
+page_fits_32 : (n slot : ℕ) → n ≡ slot → slot < 65536 → Fits w32 (n / 256)
+page_fits_32 n slot same low = search rules
+
+index_fits : (n : ℕ) → Fits w64 (n % 256)
+index_fits n = search rules
+
+pub overflow_cast-at : goal.overflow_cast-at
+overflow_cast-at g c = page_fits c.slot-slot.result c.args.object.slot c.slot-slot.ensures c.args.object.placed
+
+pub overflow_cast-at-2 : goal.overflow_cast-at-2
+overflow_cast-at-2 g c = page_fits_32 c.slot-slot.result c.args.object.slot c.slot-slot.ensures c.args.object.placed
+
+pub overflow_cast-index : goal.overflow_cast-index
+overflow_cast-index g c = index_fits c.slot-slot.result

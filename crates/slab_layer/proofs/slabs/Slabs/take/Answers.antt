@@ -1,4 +1,4 @@
-use Rattle.std.proofs.Common.{◌≡◌, ◌-◌, ◌+◌, ◌%◌, ◌/◌, set, ◌∙◌, ap, sym, subst, length, take, map, vec_len, arith, rules}
+use Rattle.std.proofs.Common.{◌≡◌, ◌-◌, ◌+◌, ◌%◌, ◌/◌, set, ◌∙◌, ap, sym, subst, length, take, map, vec_len, arith}
 use Rattle.std.proofs.lemmas.Option.{slice_get_within}
 use Rattle.slab_layer.specs.declared.place.Place.TheVariants.{Home, Out}
 use Rattle.slab_layer.specs.Slots.{Pages, IsHome, Moves, has_home, out_count}
@@ -19,7 +19,7 @@ index_mut-requires g c =
     let shelf = c.self.invariant.0 in
     let top = top_read c.deref.result.now partial at c.deref.ensures.value c.in-Some.ensures.last in
     let within = top_within (λ s. s.places.items) (λ s. s.page) xs partial rest at c.self.inside.out shelf top in
-    let len : vec_len c.self.inside.slabs ≡ length xs = search rules in
+    let len : vec_len c.self.inside.slabs ≡ length xs = c.self.inside.slabs.ok.0 in
     omega (arith, within)
 
 pub take-object-requires : goal.take-object-requires
@@ -42,7 +42,7 @@ index-requires g c =
     let shelf = c.self.invariant.0 in
     let top = top_read c.deref.result.now partial at c.deref.ensures.value c.in-Some.ensures.last in
     let within = top_within (λ s. s.places.items) (λ s. s.page) xs partial rest at c.self.inside.out shelf top in
-    let len : vec_len c.self.inside.slabs ≡ length xs = search rules in
+    let len : vec_len c.self.inside.slabs ≡ length xs = c.self.inside.slabs.ok.0 in
     omega (arith, within)
 
 pub overflow_add-self : goal.overflow_add-self
