@@ -15,11 +15,17 @@ mod flow;
 #[cfg(test)]
 mod insn;
 #[cfg(test)]
+mod one;
+#[cfg(test)]
 mod programs;
 #[cfg(test)]
 mod range;
 #[cfg(test)]
+mod script;
+#[cfg(test)]
 mod state;
+#[cfg(test)]
+mod streams;
 #[cfg(test)]
 mod text;
 #[cfg(test)]

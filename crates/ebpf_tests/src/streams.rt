@@ -1,0 +1,260 @@
+//! Readers and writers that give and take a few bytes a call, and then end or fail, under each of the commands.
+
+use ebpf_one::list::list;
+use ebpf_one::one::one;
+use ebpf_script::done::{Done, EngineFault};
+use ebpf_script::replay::replay;
+use std::alloc::Global;
+use std::io;
+use std::io::{Read, Write};
+use std::process::Abort;
+use std::test::Fail;
+
+// Gives a text and then a byte over and over, up to so many bytes a call. Then it ends, or fails for a cause.
+#[derive(Drop)]
+struct Source<'a> {
+    text: &'a [u8],
+    byte: u8,
+    times: usize,
+    most: usize,
+    fails: Option<io::ErrorKind>,
+}
+
+impl Read for Source<'_> {
+    fn read(&mut self, buf: &mut [u8]) -> io::Result<usize> {
+        let most = buf.len().min(self.most);
+        if !self.text.is_empty() {
+            let n = most.min(self.text.len());
+            buf[..n].copy_from_slice(&self.text[..n]);
+            self.text = &self.text[n..];
+            return Ok(n);
+        }
+        if self.times == 0
+            && let Some(cause) = self.fails
+        {
+            return Err(io::Error::from(cause));
+        }
+        let n = most.min(self.times);
+        buf[..n].fill(self.byte);
+        self.times -= n;
+        Ok(n)
+    }
+}
+
+// Takes up to so many bytes a call, up to its room. Then it takes nothing, or fails.
+#[derive(Drop)]
+struct Sink {
+    got: Vec<u8>,
+    most: usize,
+    room: usize,
+    fails: bool,
+}
+
+impl Write for Sink {
+    fn write(&mut self, buf: &[u8]) -> io::Result<usize> {
+        if self.room == 0 && self.fails {
+            return Err(io::Error::from(io::ErrorKind::Interrupted));
+        }
+        let n = buf.len().min(self.most).min(self.room);
+        self.got.extend_from_slice(&buf[..n])?;
+        self.room -= n;
+        Ok(n)
+    }
+
+    fn flush(&mut self) -> io::Result<()> {
+        Ok(())
+    }
+}
+
+// As many bytes as a command asks for at once, and more than any of the texts has.
+const MANY: usize = 4096;
+
+// Gives a byte so many times, and then ends or fails for a cause.
+fn flood<'a>(byte: u8, times: usize, fails: Option<io::ErrorKind>) -> Source<'a> {
+    Source {
+        text: b"",
+        byte,
+        times,
+        most: MANY,
+        fails,
+    }
+}
+
+// Takes what it is given.
+fn ample(alloc: Global) -> Sink {
+    Sink {
+        got: Vec::new(alloc),
+        most: MANY,
+        room: MANY,
+        fails: false,
+    }
+}
+
+// Each command, with an input and the text that it tells of it.
+static COMMANDS: [(&str, &str, &str); 3] = [
+    (
+        "one",
+        "b7000000070000009500000000000000",
+        "accepted 2\nexit 7 executed 2 peak 0\n",
+    ),
+    (
+        "list",
+        "b7000000070000009500000000000000",
+        "0: mov64 r0, 7\n1: exit\n",
+    ),
+    (
+        "replay",
+        "program a 0 0 b7000000070000009500000000000000\n\
+start a -\nstart a -\nexec 1\nexec 0\nexec 0\n",
+        "a accepted 2\n\
+run 0 exit 7 executed 2\nrun 1 going 1 executed 1\n\
+kind 0 slots 0 held 0\nkind 1 slots 0 held 0\nkind 2 slots 0 held 0\n",
+    ),
+];
+
+// Calls the command of this name.
+fn call(
+    alloc: Global,
+    command: &str,
+    reader: &mut Source<'_>,
+    writer: &mut Sink,
+) -> Result<Done, EngineFault> {
+    match command {
+        "one" => one(alloc, reader, writer, "-", 0, false),
+        "list" => list(alloc, reader, writer),
+        _ => replay(alloc, reader, writer),
+    }
+}
+
+// Calls a command on a reader that is to fail, and checks that nothing is written.
+fn fails_to_read(rt: &impl Abort, alloc: Global, command: &str, reader: Source<'_>) {
+    let (cut, times) = (reader.text.len(), reader.times);
+    let mut reader = reader;
+    let mut writer = ample(alloc);
+    let outcome = call(alloc, command, &mut reader, &mut writer);
+    assert!(rt;
+        matches!(outcome, Err(EngineFault::Input)) && writer.got.is_empty(),
+        "{command} after {cut} bytes of the text and {times} of a flood"
+    );
+}
+
+#[test]
+fn a_failed_read_writes_nothing(rt: HostRuntime) {
+    for (command, input, _) in COMMANDS.iter().copied() {
+        for cause in [io::ErrorKind::Other, io::ErrorKind::Interrupted] {
+            for cut in 0..=input.len() {
+                let mut reader = flood(0, 0, Some(cause));
+                reader.text = &input.as_bytes()[..cut];
+                fails_to_read(&rt, rt.alloc(), command, reader);
+            }
+            for times in [1usize, 4096, 10_000] {
+                fails_to_read(&rt, rt.alloc(), command, flood(b'9', times, Some(cause)));
+            }
+        }
+    }
+}
+
+// Calls a command on its input with such a reader and writer, and checks that as much of the text comes as there is room
+// for, and that the command says so where that isn't all.
+fn writes_to(rt: &impl Abort, alloc: Global, row: (&str, &str, &str), give: usize, writer: Sink) {
+    let (command, input, told) = row;
+    let (take, room, fails) = (writer.most, writer.room, writer.fails);
+    let mut reader = flood(0, 0, None);
+    reader.text = input.as_bytes();
+    reader.most = give;
+    let mut writer = writer;
+    let outcome = call(alloc, command, &mut reader, &mut writer);
+    let is_told = match outcome {
+        Ok(Done::Clean) => room >= told.len(),
+        Err(EngineFault::Output) => room < told.len(),
+        _ => false,
+    };
+    let came = &told.as_bytes()[..told.len().min(room)];
+    assert!(rt;
+        is_told && writer.got.as_slice() == came,
+        "{command} with {give} given and {take} taken a call, room for {room}, fails: {fails}"
+    );
+}
+
+#[test]
+fn a_reader_gives_what_it_can(rt: HostRuntime) {
+    for row in COMMANDS.iter().copied() {
+        for give in [1usize, 7, 4096] {
+            writes_to(&rt, rt.alloc(), row, give, ample(rt.alloc()));
+        }
+    }
+}
+
+// Calls a command with room for so many bytes, where the writer then fails or takes nothing.
+fn writes_with_room(
+    rt: &impl Abort,
+    alloc: Global,
+    row: (&str, &str, &str),
+    take: usize,
+    room: usize,
+) {
+    for fails in [false, true] {
+        let mut writer = ample(alloc);
+        writer.most = take;
+        writer.room = room;
+        writer.fails = fails;
+        writes_to(rt, alloc, row, MANY, writer);
+    }
+}
+
+#[test]
+fn a_writer_takes_what_it_can(rt: HostRuntime) {
+    for row in COMMANDS.iter().copied() {
+        for take in [1usize, 7, 4096] {
+            writes_with_room(&rt, rt.alloc(), row, take, row.2.len());
+            writes_with_room(&rt, rt.alloc(), row, take, 1000);
+        }
+    }
+}
+
+#[test]
+fn a_failed_write_leaves_a_beginning(rt: HostRuntime) {
+    for row in COMMANDS.iter().copied() {
+        for room in 0..row.2.len() {
+            writes_with_room(&rt, rt.alloc(), row, 1, room);
+            writes_with_room(&rt, rt.alloc(), row, 4096, room);
+        }
+    }
+}
+
+#[test]
+fn a_long_input_is_not_read_to_its_end(rt: HostRuntime) -> Result<(), Fail> {
+    for (command, _, _) in COMMANDS.iter().copied() {
+        for byte in [b'9', b' ', 0, 0xff] {
+            let mut reader = flood(byte, 16 * 1024 * 1024, Some(io::ErrorKind::Other));
+            let mut writer = ample(rt.alloc());
+            let done = call(rt.alloc(), command, &mut reader, &mut writer)?;
+            let is_refused = matches!(done, Done::Refused);
+            let is_fault = writer.got.as_slice() == b"fault S1 line 0\n".as_slice();
+            let left = reader.times;
+            assert!(rt;
+                is_refused && is_fault && left == 16 * 1024 * 1024 - 1_048_577,
+                "{command} of the byte {byte} leaves {left}"
+            );
+        }
+    }
+    Ok(())
+}
+
+#[test]
+fn any_byte_is_a_refusal_or_a_fault(rt: HostRuntime) -> Result<(), Fail> {
+    for (command, _, _) in COMMANDS.iter().copied() {
+        for byte in 0..=u8::MAX {
+            let mut reader = flood(byte, 64, None);
+            let mut writer = ample(rt.alloc());
+            let done = call(rt.alloc(), command, &mut reader, &mut writer)?;
+            // a script may have comments and blank lines alone
+            let is_passed = command == "replay" && b"#\t\n\r ".contains(&byte);
+            assert!(rt;
+                matches!(done, Done::Clean) == is_passed,
+                "{command} of the byte {byte}"
+            );
+        }
+    }
+    Ok(())
+}
