@@ -1,3 +1,5 @@
+//! Spans that are taken and come back.
+
 ghost use Rattle.std.specs.Prelude.{◌≡◌, ◌<◌};
 ghost use Rattle.vmem_arena.specs.Spans.{pages_of};
 

@@ -1,3 +1,5 @@
+//! Claims and draws, one after another and on threads side by side.
+
 ghost use Rattle.std.specs.Prelude.{◌≡◌, ◌≤◌, [], vec_len, All};
 ghost use Rattle.owners_table.specs.Owning.{fresh};
 ghost use Rattle.owners_table.specs.Drawing.{IsOf, fresh as new_seat};

@@ -1,3 +1,5 @@
+//! Pages of each kind that are filled and emptied, and what a client finds.
+
 use crate::arena::{arena_of, taken};
 use slab_layer::{BlockKind, CellKind, Home, Kind, Obj, RecordKind, Slabs};
 use std::alloc::Global;
