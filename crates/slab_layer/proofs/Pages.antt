@@ -1,6 +1,6 @@
 -- Pages that come and go.
 use Rattle.std.proofs.Common.{map, ◌≡◌, ℕ, zero, suc, ◌+◌, ◌*◌, ◌/◌, ◌%◌, ◌<◌, ◌≤◌, ◌==◌, if◌then◌else◌, Bool, true, false, cond, List, [], ◌∷◌, ◌++◌, IsTrue, ◌↔◌, length, get_or, set, replicate, Some, is_some, refl, sym, ap, subst, ◌∙◌, arith, inl, inr, ◌⊎◌}
-use Rattle.std.specs.Prelude.{slice_get, slice_index}
+use Rattle.std.specs.Prelude.{slice_get, slice_index, Option, None, IsSome, IfNone}
 use Rattle.std.specs.List.{All, AllWithin}
 use Rattle.std.proofs.lemmas.Bool.{cases_lt, false≢true}
 use Rattle.std.proofs.Math.Seq.{get_or-append_seam}
@@ -46,6 +46,11 @@ has_within pages p has = elim (cases_lt p (length pages)) [
   | inl within ↦ within
   | inr past ↦ let some = from_has pages p has in let e = ap length (get_or_past pages p [] past) in absurd (omega arith)
 ]
+
+-- a span that is there isn't None
+pub never_none : {X : Type 0} (P : Type 0) (r : Option X) → IsSome r → IfNone r P
+never_none P None some = absurd (false≢true some)
+never_none P (Some x) some = tt
 
 -- a table of pages that aren't had
 selected-vacant : (pages : Pages) (from : ℕ) → ((p : ℕ) → get_or pages p [] ≡ []) → selected has_home from pages ≡ []

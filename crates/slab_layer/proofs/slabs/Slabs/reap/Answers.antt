@@ -1,9 +1,9 @@
-use Rattle.std.proofs.Common.{rules, Fits, w32, ◌≡◌, ◌<◌, ◌/◌, ◌∙◌, [], ℕ, ap, sym, subst, get_or, set, length, map, arith}
+use Rattle.std.proofs.Common.{refl, rules, Fits, w32, ◌≡◌, ◌<◌, ◌/◌, ◌∙◌, [], ℕ, ap, sym, subst, get_or, set, length, map, arith}
 use Rattle.std.specs.List.{All, AllWithin}
 use Rattle.std.proofs.lemmas.Option.{IfSome_then}
 use Rattle.slab_layer.specs.Slots.{Pages, Has, IsOut, RemovesPage, outs_in, out_count}
-use Rattle.slab_layer.proofs.Changes.{number_is}
-use Rattle.slab_layer.proofs.Pages.{low_place, on_stack, shelf_reaped, reaped, idle_page, busy_page, busy_below, has_from}
+use Rattle.slab_layer.proofs.Changes.{number_is, places_read}
+use Rattle.slab_layer.proofs.Pages.{never_none, low_place, on_stack, shelf_reaped, reaped, idle_page, busy_page, busy_below, has_from}
 use Rattle.slab_layer.proofs.slabs.Slabs.reap.Goals as goal
 
 pub returns-in_default-clause-none : goal.returns-in_default-clause-none
@@ -128,3 +128,27 @@ returns-clause-counted g c =
     let after = shelf_reaped (λ s. s.places.items) (λ s. s.page) xs at c.self.inside.out c.index_mut.result.now new partial c.take_number.new.numbers.items shelf within c.index_mut.ensures.value had idle noted none c.take_number.ensures.count c.take_number.ensures.each in
     let C : Pages → Type 0 = λ v. out_count (map (λ s. s.places.items) (set xs at new)) ≡ out_count v in
     subst C c.self.view_is (sym after.counted ∙ shelf.counted)
+
+pub returns-in_default-clause-counted : goal.returns-in_default-clause-counted
+returns-in_default-clause-counted g c = refl
+
+pub returns-in_default-clause-unchanged : goal.returns-in_default-clause-unchanged
+returns-in_default-clause-unchanged g c = refl
+
+pub returns-clause-none : goal.returns-clause-none
+returns-clause-none g c =
+    let xs = c.self.inside.slabs.items in
+    let at = c.in-Some.at in
+    let within : at < length xs = subst (λ ys. at < length ys) c.deref.ensures.value c.in-Some.ensures.within in
+    let had : 0 < length (get_or (map (λ s. s.places.items) xs) at []) = subst (λ ys. 0 < length (get_or (map (λ s. s.places.items) ys) at [])) c.deref.ensures.value c.in-Some.ensures.had in
+    let read = places_read (λ s. s.places.items) (λ s. s.page) xs at c.index_mut.result.now within c.index_mut.ensures.value in
+    never_none _ c.end.result (c.end.ensures.had (subst (λ ps. 0 < length ps) (read ∙ sym (ap (λ s. s.places.items) c.replace-slab.ensures.value)) had))
+
+pub returns-clause-unchanged : goal.returns-clause-unchanged
+returns-clause-unchanged g c =
+    let xs = c.self.inside.slabs.items in
+    let at = c.in-Some.at in
+    let within : at < length xs = subst (λ ys. at < length ys) c.deref.ensures.value c.in-Some.ensures.within in
+    let had : 0 < length (get_or (map (λ s. s.places.items) xs) at []) = subst (λ ys. 0 < length (get_or (map (λ s. s.places.items) ys) at [])) c.deref.ensures.value c.in-Some.ensures.had in
+    let read = places_read (λ s. s.places.items) (λ s. s.page) xs at c.index_mut.result.now within c.index_mut.ensures.value in
+    never_none _ c.end.result (c.end.ensures.had (subst (λ ps. 0 < length ps) (read ∙ sym (ap (λ s. s.places.items) c.replace-slab.ensures.value)) had))
