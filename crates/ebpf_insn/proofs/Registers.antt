@@ -1,5 +1,5 @@
 -- Registers and their numbers.
-use Rattle.std.proofs.Common.{◌≡◌, ℕ, ◌<◌, true, Some, refl, sym, ap, ◌∙◌, arith}
+use Rattle.std.proofs.Common.{◌≡◌, ℕ, ◌<◌, true, false, Some, None, refl, sym, ap, ◌∙◌, arith}
 use Rattle.std.proofs.lemmas.Bool.Decides.{nat_tests}
 use Rattle.ebpf_insn.specs.declared.register.Reg.{Reg}
 use Rattle.ebpf_insn.specs.declared.register.Reg.TheVariants.{R0, R1, R2, R3, R4, R5, R6, R7, R8, R9, R10}
@@ -17,6 +17,9 @@ is_register-number_of r = elim r as (λ k. is_register (number_of k) ≡ true) [
 
 pub is_register_of : (n : ℕ) (r : Reg) → register_of n ≡ Some r → is_register n ≡ true
 is_register_of n r e = ap is_register (sym (number_of-register_of n r e)) ∙ is_register-number_of r
+
+pub no_register : (n : ℕ) → register_of n ≡ None → is_register n ≡ false
+no_register n e = grind (arith, nat_tests)
 
 pub number_below : (r : Reg) → number_of r < 16
 number_below r = grind (arith, nat_tests)

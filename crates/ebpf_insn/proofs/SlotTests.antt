@@ -4,13 +4,13 @@ use Rattle.ebpf_insn.specs.declared.slot.Slot.{Slot}
 use Rattle.ebpf_insn.specs.declared.register.Reg.{Reg}
 use Rattle.ebpf_insn.specs.declared.insn.Insn.{Insn}
 use Rattle.ebpf_insn.specs.declared.opcode.Form.{Form}
-use Rattle.ebpf_insn.specs.declared.fault.DecodeCode.TheVariants.{I2, I4, I5, I6, I7, I8}
+use Rattle.ebpf_insn.specs.declared.fault.DecodeCode.TheVariants.{I2, I3, I4, I5, I6, I7, I8}
 use Rattle.ebpf_insn.specs.Registers.{number_of, register_of}
 use Rattle.ebpf_insn.specs.Opcodes.{form_of, is_left_out}
 use Rattle.ebpf_insn.specs.Fields.{has_left_out_source, leaves_unused_zero, lacks_second, has_bad_second, has_defined_fields}
 use Rattle.ebpf_insn.specs.Decoding.{is_register, slot_fault}
 use Rattle.ebpf_insn.specs.Decoded.{insn_at_slot}
-use Rattle.ebpf_insn.proofs.Registers.{is_register_of, number_below}
+use Rattle.ebpf_insn.proofs.Registers.{is_register_of, no_register, number_below}
 use Rattle.ebpf_insn.proofs.FromSlots.{IsFine, IsEncodedBy, encoded}
 
 pub nibble : (r : Reg) (n : ℕ) → number_of r ≡ n → n < 16
@@ -39,6 +39,12 @@ fault_no_form s second here left_out = rw (← here, ← left_out) refl
 
 pub fault_source : (f : Form) (s : Slot) (second : Option Slot) → Some f ≡ form_of s.opcode → true ≡ has_left_out_source f s.src → slot_fault s second ≡ Some I8
 fault_source f s second here source = rw (← here, ← source) refl
+
+pub fault_dst : (f : Form) (s : Slot) (second : Option Slot) → Some f ≡ form_of s.opcode → false ≡ has_left_out_source f s.src → register_of s.dst ≡ None → slot_fault s second ≡ Some I3
+fault_dst f s second here source to = rw (← here, ← source, no_register s.dst to) refl
+
+pub fault_src : (f : Form) (s : Slot) (second : Option Slot) (dst : Reg) → Some f ≡ form_of s.opcode → false ≡ has_left_out_source f s.src → register_of s.dst ≡ Some dst → register_of s.src ≡ None → slot_fault s second ≡ Some I3
+fault_src f s second dst here source to from = rw (← here, ← source, is_register_of s.dst dst to, no_register s.src from) refl
 
 pub fault_unused : (f : Form) (s : Slot) (second : Option Slot) → HasRegisters f s → false ≡ leaves_unused_zero f s → slot_fault s second ≡ Some I4
 fault_unused f s second has unused = rw (has.here, has.source, has.dst, has.src, ← unused) refl

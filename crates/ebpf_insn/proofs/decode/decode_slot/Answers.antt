@@ -1,10 +1,10 @@
-use Rattle.std.proofs.Common.{rules, ◌≡◌, ◌<◌, ◌^◌, sym}
+use Rattle.std.proofs.Common.{rules, ◌≡◌, ◌<◌, ◌^◌, sym, ◌∙◌}
 use Rattle.std.specs.Prelude.{IfSome}
 use Rattle.ebpf_insn.specs.Registers.{number_of}
 use Rattle.ebpf_insn.proofs.SlotBytes.{FitsSlot}
 use Rattle.ebpf_insn.proofs.Registers.{number_of-register_of}
 use Rattle.ebpf_insn.proofs.FromSlots.{IsFine}
-use Rattle.ebpf_insn.proofs.SlotTests.{nibble, encoded_as, registers, fault_no_form, fault_left_out, fault_source, fault_unused, fault_lacks, fault_second, fault_defined, no_fault}
+use Rattle.ebpf_insn.proofs.SlotTests.{nibble, encoded_as, registers, fault_no_form, fault_left_out, fault_source, fault_dst, fault_src, fault_unused, fault_lacks, fault_second, fault_defined, no_fault}
 use Rattle.ebpf_insn.proofs.decode.decode_slot.Goals as goal
 
 pub returns-clause-found : goal.returns-clause-found
@@ -34,6 +34,12 @@ returns-else-is_left_out-clause-fault c = fault_no_form c.args.slot c.args.secon
 
 pub returns-then-has_left_out_source-clause-fault : goal.returns-then-has_left_out_source-clause-fault
 returns-then-has_left_out_source-clause-fault c = fault_source c.in-Some.form c.args.slot c.args.second c.in-Some.ensures c.if-has_left_out_source.ensures
+
+pub returns-in_default-2-2-clause-fault : goal.returns-in_default-2-2-clause-fault
+returns-in_default-2-2-clause-fault c = fault_dst c.in-Some.form c.args.slot c.args.second c.in-Some.ensures c.if-has_left_out_source.ensures (sym c.new.ensures ∙ c.in_default-2.is-0)
+
+pub returns-in_default-2-clause-fault : goal.returns-in_default-2-clause-fault
+returns-in_default-2-clause-fault c = fault_src c.in-Some.form c.args.slot c.args.second c.in_default-2.field-0-0 c.in-Some.ensures c.if-has_left_out_source.ensures (sym c.new.ensures ∙ c.in_default-2.is-0) (sym c.new-2.ensures ∙ c.in_default-2.is-1)
 
 pub returns-then-not-leaves_unused_zero-clause-fault : goal.returns-then-not-leaves_unused_zero-clause-fault
 returns-then-not-leaves_unused_zero-clause-fault c = fault_unused c.in-Some.form c.args.slot c.args.second (registers c.in-Some.ensures c.if-has_left_out_source.ensures c.in-Some-Some.ensures c.in-Some-Some.ensures') c.if-not-leaves_unused_zero.ensures
