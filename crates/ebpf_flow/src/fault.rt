@@ -6,7 +6,7 @@ use std::alloc::AllocFailed;
 use thiserror::Error;
 
 /// Why a slot is refused. Within a slot the order is that of the numbers.
-#[derive(Clone, Copy, Debug, PartialEq, Eq)]
+#[derive(Clone, Copy, Debug)]
 pub enum FlowCode {
     /// The instruction isn't done by the verifier yet. It is tested of the whole program, before all other codes.
     F0,

@@ -4,7 +4,7 @@ use std::alloc::AllocFailed;
 use thiserror::Error;
 
 /// Why a slot is refused. Within a slot `I9` comes first, then `I2`, `I8`, `I3`, `I4`, `I5`, `I6`, `I7`.
-#[derive(Clone, Copy, Debug, PartialEq, Eq)]
+#[derive(Clone, Copy, Debug)]
 pub enum DecodeCode {
     /// There are no bytes, or their number is no multiple of 8. It is reported at slot 0, before all else.
     I1,

@@ -5,7 +5,7 @@ ghost use Rattle.ebpf_range.specs.Interval.{constant, hull, IsWithin};
 
 /// The unsigned 64-bit numbers from `lo` to `hi`, both among them. Where `hi` is below `lo` it is no range: the
 /// functions of this crate require ranges and give ranges.
-#[derive(Clone, Copy, Debug, PartialEq, Eq)]
+#[derive(Clone, Copy)]
 pub struct Range {
     pub lo: u64,
     pub hi: u64,

@@ -3,23 +3,31 @@
 use ebpf_core::event::Event;
 use ebpf_script::judge::{Judged, judge};
 use ebpf_script::reader::read_script;
+use ebpf_script::reader::script::Script;
 use ebpf_state::kinds::kinds;
 use ebpf_verify::verified::Verified;
 use std::alloc::Global;
-use std::test::Fail;
+use std::process::Abort;
 
-/// The programs of a script, each accepted, and its events.
-pub fn read(alloc: Global, text: &str) -> Result<(Vec<Verified>, Vec<Event>), Fail> {
-    let Ok(script) = read_script(alloc, text.as_bytes()) else {
-        return Err("the text is no script")?;
-    };
+// The script that a text is.
+pub(crate) fn script_of(rt: &impl Abort, alloc: Global, text: &str) -> Script {
+    match read_script(alloc, text.as_bytes()) {
+        Ok(script) => script,
+        Err(_) => panic!(rt; "the text is no script"),
+    }
+}
+
+// The programs of a script, each accepted, and its events.
+pub(crate) fn read(rt: &impl Abort, alloc: Global, text: &str) -> (Vec<Verified>, Vec<Event>) {
+    let script = script_of(rt, alloc, text);
     let rows = kinds();
     let mut programs = Vec::new(alloc);
     for (_, program) in script.programs.iter() {
-        let Judged::Accepted(verified) = judge(alloc, &program.bytes, program.decl, &rows)? else {
-            return Err("a program is refused")?;
+        let judged = judge(alloc, &program.bytes, program.decl, &rows).expect(rt, "out of memory");
+        let Judged::Accepted(verified) = judged else {
+            panic!(rt; "a program is refused");
         };
-        programs.push(verified)?;
+        assert!(rt; programs.push(verified).is_ok(), "out of memory");
     }
-    Ok((programs, script.events))
+    (programs, script.events)
 }

@@ -2,7 +2,7 @@
 
 use ebpf_one::one::one;
 use ebpf_script::done::Done;
-use std::test::Fail;
+use std::test::*;
 
 // The input, the context's text, how many objects to hold, and what is told.
 static HELD: [(&str, &str, u8, &str); 4] = [
@@ -20,13 +20,16 @@ static HELD: [(&str, &str, u8, &str); 4] = [
 ];
 
 #[test]
-fn more_than_64_held_is_a_fault(rt: HostRuntime) -> Result<(), Fail> {
+fn more_than_64_held_is_a_fault(rt: HostRuntime) {
     let alloc = rt.alloc();
     for (input, context, held, told) in HELD.iter().copied() {
         for nulls in [false, true] {
             let mut reader = input.as_bytes();
             let mut written = Vec::new(alloc);
-            let done = one(alloc, &mut reader, &mut written, context, held, nulls)?;
+            let done = one(alloc, &mut reader, &mut written, context, held, nulls).expect(
+                &rt,
+                "it is told",
+            );
             let is_clean = matches!(done, Done::Clean);
             assert!(rt;
                 is_clean == (held == 64) && written.as_slice() == told.as_bytes(),
@@ -34,5 +37,4 @@ fn more_than_64_held_is_a_fault(rt: HostRuntime) -> Result<(), Fail> {
             );
         }
     }
-    Ok(())
 }

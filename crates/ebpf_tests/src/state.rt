@@ -8,18 +8,22 @@ use ebpf_state::kinds::kinds;
 use ebpf_state::state::State;
 use ebpf_state::value::Abs;
 use ebpf_state::word::Word;
-use std::test::Fail;
 
-const KINDS: &str = "cell 16 0\nrecord 64 255\nblock 512 90\n";
+// Their names, sizes and fills.
+const KINDS: [(&str, u32, u8); 3] = [
+    ("cell", 16, 0x00),
+    ("record", 64, 0xff),
+    ("block", 512, 0x5a),
+];
 
 #[test]
-fn kinds_are_cell_record_and_block(rt: HostRuntime) -> Result<(), Fail> {
-    let mut told = String::new(rt.alloc());
-    for row in kinds().iter() {
-        write!(told, "{} {} {}\n", row.name, row.size, row.fill)?;
+fn kinds_are_cell_record_and_block(rt: HostRuntime) {
+    for (row, (name, size, fill)) in kinds().iter().zip(KINDS) {
+        assert!(rt;
+            row.name == name && row.size == size && row.fill == fill,
+            "{name}"
+        );
     }
-    assert!(rt; told.as_str() == KINDS, "{told}");
-    Ok(())
 }
 
 // The number, known exactly.
@@ -92,15 +96,14 @@ fn words_are_joined_to_the_bytes_that_both_set(rt: HostRuntime) {
 }
 
 #[test]
-fn a_state_is_copied_changed_and_joined(rt: HostRuntime) -> Result<(), Fail> {
+fn a_state_is_copied_changed_and_joined(rt: HostRuntime) {
     let mut state = State::start(rt.alloc());
-    let first = state.copy()?;
+    let first = state.copy().expect(&rt, "out of memory");
     assert!(rt; matches!(state.reg(Reg::R10), Abs::Stk(0)));
     state.set(Reg::R2, number(2));
     assert!(rt; matches!(state.reg(Reg::R2), Abs::Num(Range { lo: 2, hi: 2 })));
     assert!(rt; state.held() == 0);
-    let joined = state.join(&first)?;
+    let joined = state.join(&first).expect(&rt, "out of memory");
     assert!(rt; matches!(joined.reg(Reg::R1), Abs::Ctx(0, 0)));
     assert!(rt; joined.reg(Reg::R2).is_unset());
-    Ok(())
 }

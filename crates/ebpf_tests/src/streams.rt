@@ -8,7 +8,7 @@ use std::alloc::Global;
 use std::io;
 use std::io::{Read, Write};
 use std::process::Abort;
-use std::test::Fail;
+use std::test::*;
 
 // Gives a text and then a byte over and over, up to so many bytes a call. Then it ends, or fails for a cause.
 #[derive(Drop)]
@@ -223,12 +223,15 @@ fn a_failed_write_leaves_a_beginning(rt: HostRuntime) {
 }
 
 #[test]
-fn a_long_input_is_not_read_to_its_end(rt: HostRuntime) -> Result<(), Fail> {
+fn a_long_input_is_not_read_to_its_end(rt: HostRuntime) {
     for (command, _, _) in COMMANDS.iter().copied() {
         for byte in [b'9', b' ', 0, 0xff] {
             let mut reader = flood(byte, 16 * 1024 * 1024, Some(io::ErrorKind::Other));
             let mut writer = ample(rt.alloc());
-            let done = call(rt.alloc(), command, &mut reader, &mut writer)?;
+            let done = call(rt.alloc(), command, &mut reader, &mut writer).expect(
+                &rt,
+                "it is told",
+            );
             let is_refused = matches!(done, Done::Refused);
             let is_fault = writer.got.as_slice() == b"fault S1 line 0\n".as_slice();
             let left = reader.times;
@@ -238,16 +241,18 @@ fn a_long_input_is_not_read_to_its_end(rt: HostRuntime) -> Result<(), Fail> {
             );
         }
     }
-    Ok(())
 }
 
 #[test]
-fn any_byte_is_a_refusal_or_a_fault(rt: HostRuntime) -> Result<(), Fail> {
+fn any_byte_is_a_refusal_or_a_fault(rt: HostRuntime) {
     for (command, _, _) in COMMANDS.iter().copied() {
         for byte in 0..=u8::MAX {
             let mut reader = flood(byte, 64, None);
             let mut writer = ample(rt.alloc());
-            let done = call(rt.alloc(), command, &mut reader, &mut writer)?;
+            let done = call(rt.alloc(), command, &mut reader, &mut writer).expect(
+                &rt,
+                "it is told",
+            );
             // a script may have comments and blank lines alone
             let is_passed = command == "replay" && b"#\t\n\r ".contains(&byte);
             assert!(rt;
@@ -256,5 +261,4 @@ fn any_byte_is_a_refusal_or_a_fault(rt: HostRuntime) -> Result<(), Fail> {
             );
         }
     }
-    Ok(())
 }

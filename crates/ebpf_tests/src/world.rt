@@ -1,17 +1,17 @@
 //! Worlds of small programs, each written as a script: what replay answers, which events are refused, and that no order
 //! matters.
 
-use crate::accepted::read;
+use crate::accepted::{read, script_of};
 use crate::events::words_of;
-use crate::programs::column;
+use crate::programs::{column, is_told};
 use ebpf_core::event::{Answer, Context, Event};
 use ebpf_core::fault::{ApplyCode, ApplyFault, ReplayFault};
 use ebpf_core::replay::replay;
 use ebpf_core::world::{Status, World};
-use ebpf_script::reader::read_script;
 use ebpf_verify::verified::Verified;
 use std::alloc::{AllocError, Global};
-use std::test::Fail;
+use std::process::Abort;
+use std::test::*;
 
 // r0 = 7, exit; two runs start, the second does one instruction, and the first does two, with which it exits.
 const SEVEN: &str = "\
@@ -27,15 +27,15 @@ exec 0
 const AFTER_SEVEN: &str = "exit 7 executed 2, going 1 executed 1";
 
 #[test]
-fn a_context_has_its_bytes(rt: HostRuntime) -> Result<(), Fail> {
-    let context = Context::new(Vec::from_slice(rt.alloc(), &[1, 2, 3])?);
-    assert!(rt; context.as_slice() == [1, 2, 3].as_slice());
+fn a_context_has_its_bytes(rt: HostRuntime) {
+    let bytes = Vec::from_slice(rt.alloc(), &[1, 2, 3]).expect(&rt, "out of memory");
+    let context = Context::new(bytes);
+    assert!(rt; matches!(context.as_slice(), [1, 2, 3]));
     let bytes = context.into_bytes();
-    assert!(rt; bytes.as_slice() == [1, 2, 3].as_slice());
-    Ok(())
+    assert!(rt; matches!(bytes.as_slice(), [1, 2, 3]));
 }
 
-// Each kind of event, and beside each the words for it.
+// Each kind of event.
 const EVENTS: &str = "\
 program a 0 0 -
 program b 0 0 -
@@ -46,26 +46,17 @@ grow 1 8
 reap 2 9
 ";
 
-const COPIED: &str = "\
-start 1 [9]
-exec 5
-exec 6 77
-grow 1 8
-reap 2 9
-";
+// The words for each.
+const COPIED: [&str; 5] = ["start 1 [9]", "exec 5", "exec 6 77", "grow 1 8", "reap 2 9"];
 
 #[test]
-fn a_copied_event_is_the_same(rt: HostRuntime) -> Result<(), Fail> {
-    let Ok(script) = read_script(rt.alloc(), EVENTS.as_bytes()) else {
-        return Err("the text is no script")?;
-    };
-    let mut told = String::new(rt.alloc());
-    for event in script.events.iter() {
-        let copy = event.copied(rt.alloc())?;
-        write!(told, "{}\n", words_of(rt.alloc(), &copy)?)?;
+fn a_copied_event_is_the_same(rt: HostRuntime) {
+    let script = script_of(&rt, rt.alloc(), EVENTS);
+    for (event, expected) in script.events.iter().zip(COPIED) {
+        let copy = event.copied(rt.alloc()).expect(&rt, "out of memory");
+        let told = words_of(rt.alloc(), &copy).expect(&rt, "out of memory");
+        is_told(&rt, expected, told.as_str(), expected);
     }
-    assert!(rt; told.as_str() == COPIED, "{told}");
-    Ok(())
 }
 
 // How far a run of a world is.
@@ -77,48 +68,56 @@ fn progress(alloc: Global, world: &World<'_>, run: usize) -> Result<String, Allo
         (Some(Status::Exited(number)), Some(executed)) => {
             format!(in alloc; "exit {number} executed {executed}")
         }
-        (None, None) => format!(in alloc; "none"),
-        _ => format!(in alloc; "half a run"),
+        _ => "none".to_string(alloc),
     }
 }
 
 // How far the first two runs of a world are.
-fn readings(alloc: Global, world: &World<'_>) -> Result<String, AllocError> {
-    let first = progress(alloc, world, 0)?;
-    let second = progress(alloc, world, 1)?;
-    format!(in alloc; "{first}, {second}")
+fn readings(rt: &impl Abort, alloc: Global, world: &World<'_>) -> String {
+    let mut told = progress(alloc, world, 0).expect(rt, "out of memory");
+    let second = progress(alloc, world, 1).expect(rt, "out of memory");
+    write!(told, ", {second}").expect(rt, "out of memory");
+    told
 }
 
-// How many runs there are after each event, and how far the first two are.
-const READ: &str = "\
-1: going 0 executed 0, none
-1: going 1 executed 1, none
-1: exit 7 executed 2, none
-2: exit 7 executed 2, going 0 executed 0
+const STEPS: &str = "\
+program seven 0 0 b7000000070000009500000000000000
+start seven -
+exec 0
+exec 0
+start seven -
+";
+
+// How many runs there are after each of its events, and how far the first two are.
+const READ: [(usize, &str); 4] = [
+    (1, "going 0 executed 0, none"),
+    (1, "going 1 executed 1, none"),
+    (1, "exit 7 executed 2, none"),
+    (2, "exit 7 executed 2, going 0 executed 0"),
+];
+
+#[test]
+fn a_world_is_read_after_each_event(rt: HostRuntime) {
+    let (programs, events) = read(&rt, rt.alloc(), STEPS);
+    let mut world = World::new(rt.alloc(), &programs).expect(&rt, "out of memory");
+    assert!(rt; world.runs() == 0 && events.len() == 4);
+    for (event, (runs, expected)) in events.into_iter().zip(READ) {
+        world.apply(event).expect(&rt, "each event is legal");
+        assert!(rt; world.runs() == runs);
+        let told = readings(&rt, rt.alloc(), &world);
+        is_told(&rt, expected, told.as_str(), expected);
+    }
+}
+
+const STARTED: &str = "\
+program seven 0 0 b7000000070000009500000000000000
+start seven -
 ";
 
 #[test]
-fn a_world_is_read_after_each_event(rt: HostRuntime) -> Result<(), Fail> {
-    let script = "program seven 0 0 b7000000070000009500000000000000
-start seven -\nexec 0\nexec 0\nstart seven -";
-    let (programs, events) = read(rt.alloc(), script)?;
-    let mut world = World::new(rt.alloc(), &programs)?;
-    assert!(rt; world.runs() == 0);
-    let mut told = String::new(rt.alloc());
-    for event in events {
-        world.apply(event)?;
-        let readings = readings(rt.alloc(), &world)?;
-        write!(told, "{}: {readings}\n", world.runs())?;
-    }
-    assert!(rt; told.as_str() == READ, "{told}");
-    Ok(())
-}
-
-#[test]
-fn what_is_not_there_is_none(rt: HostRuntime) -> Result<(), Fail> {
-    let script = "program seven 0 0 b7000000070000009500000000000000\nstart seven -";
-    let (programs, events) = read(rt.alloc(), script)?;
-    let world = replay(rt.alloc(), &programs, &events)?;
+fn what_is_not_there_is_none(rt: HostRuntime) {
+    let (programs, events) = read(&rt, rt.alloc(), STARTED);
+    let world = replay(rt.alloc(), &programs, &events).expect(&rt, "each event is legal");
     assert!(rt; matches!(world.output(0), Some([])));
     assert!(rt; world.output(1).is_none());
     assert!(rt; world.status(1).is_none());
@@ -128,17 +127,15 @@ fn what_is_not_there_is_none(rt: HostRuntime) -> Result<(), Fail> {
     for kind in [0, 1, 2, 3, 255] {
         assert!(rt; world.ledger(kind).is_empty(), "kind {kind}");
     }
-    Ok(())
 }
 
 #[test]
-fn five_events_lead_to_one_exit_and_one_run_that_goes_on(rt: HostRuntime) -> Result<(), Fail> {
-    let (programs, events) = read(rt.alloc(), SEVEN)?;
-    let world = replay(rt.alloc(), &programs, &events)?;
+fn five_events_lead_to_one_exit_and_one_run_that_goes_on(rt: HostRuntime) {
+    let (programs, events) = read(&rt, rt.alloc(), SEVEN);
+    let world = replay(rt.alloc(), &programs, &events).expect(&rt, "each event is legal");
     assert!(rt; world.runs() == 2);
-    let told = readings(rt.alloc(), &world)?;
-    assert!(rt; told.as_str() == AFTER_SEVEN, "{told}");
-    Ok(())
+    let told = readings(&rt, rt.alloc(), &world);
+    is_told(&rt, "five events", told.as_str(), AFTER_SEVEN);
 }
 
 // What is wrong, its code, and a sixth event behind those of `SEVEN`.
@@ -152,71 +149,79 @@ a slot leaves | E9 | reap 1 0
 the context is too long | E10 | start seven 09
 ";
 
-#[test]
-fn an_event_that_is_not_legal_has_its_code_and_changes_nothing(
-    rt: HostRuntime,
-) -> Result<(), Fail> {
-    for row in ILLEGAL.lines() {
-        let (_, columns) = column(row)?;
-        let (code, sixth) = column(columns)?;
-        let script = format!(in rt.alloc(); "{SEVEN}{sixth}")?;
-        let (programs, mut events) = read(rt.alloc(), script.as_str())?;
-        let told = fault_of(rt.alloc(), &programs, &events)?;
-        let expected = format!(in rt.alloc(); "{code} 5")?;
-        assert!(rt; told.as_str() == expected.as_str(), "{row}: {told}");
-
-        let event = events.pop().ok_or("there are six events")?;
-        let told = applied(rt.alloc(), &programs, &events, event)?;
-        let expected = format!(in rt.alloc(); "{code}: {AFTER_SEVEN}")?;
-        assert!(rt; told.as_str() == expected.as_str(), "{row}: {told}");
-    }
-    Ok(())
-}
-
 // The code and the number of the first event that isn't legal.
 fn fault_of(alloc: Global, programs: &[Verified], events: &[Event]) -> Result<String, AllocError> {
     match replay(alloc, programs, events) {
         Err(ReplayFault::Bad { index, code }) => format!(in alloc; "{code:?} {index}"),
-        _ => format!(in alloc; "no fault"),
+        _ => "no fault".to_string(alloc),
     }
 }
 
-// The code with which an event is refused behind others, and what is read of the world after it.
-fn applied(
+// Tries an event behind others: it is refused with a code, and the world is as it was.
+fn is_refused(
+    rt: &impl Abort,
     alloc: Global,
     programs: &[Verified],
     events: &[Event],
     event: Event,
-) -> Result<String, Fail> {
-    let mut world = replay(alloc, programs, events)?;
-    let Err(ApplyFault::Bad(code)) = world.apply(event) else {
-        return Err("the event isn't legal")?;
-    };
-    let readings = readings(alloc, &world)?;
-    Ok(format!(in alloc; "{code:?}: {readings}")?)
+    code: &str,
+) {
+    let mut world = replay(alloc, programs, events).expect(rt, "each event is legal");
+    let told = match world.apply(event) {
+        Err(ApplyFault::Bad(code)) => format!(in alloc; "{code:?}"),
+        _ => "no fault".to_string(alloc),
+    }
+    .expect(rt, "out of memory");
+    is_told(rt, code, told.as_str(), code);
+    let told = readings(rt, alloc, &world);
+    is_told(rt, code, told.as_str(), AFTER_SEVEN);
+}
+
+// Tries a row of `ILLEGAL`, in a whole list and as one event more.
+fn is_not_legal(rt: &impl Abort, alloc: Global, row: &str) {
+    let (_, columns) = column(rt, row);
+    let (code, sixth) = column(rt, columns);
+    let script = format!(in alloc; "{SEVEN}{sixth}").expect(rt, "out of memory");
+    let (programs, mut events) = read(rt, alloc, script.as_str());
+    let told = fault_of(alloc, &programs, &events).expect(rt, "out of memory");
+    let expected = format!(in alloc; "{code} 5").expect(rt, "out of memory");
+    is_told(rt, row, told.as_str(), expected.as_str());
+    let event = events.pop().expect(rt, "there are six events");
+    is_refused(rt, alloc, &programs, &events, event, code);
 }
 
 #[test]
-fn a_start_of_no_program_is_not_legal(rt: HostRuntime) -> Result<(), Fail> {
-    let (programs, events) = read(rt.alloc(), SEVEN)?;
-    let event = Event::Start {
+fn an_event_that_is_not_legal_has_its_code_and_changes_nothing(rt: HostRuntime) {
+    for row in ILLEGAL.lines() {
+        is_not_legal(&rt, rt.alloc(), row);
+    }
+}
+
+#[test]
+fn a_start_of_no_program_is_not_legal(rt: HostRuntime) {
+    let (programs, mut events) = read(&rt, rt.alloc(), SEVEN);
+    let start = |alloc| Event::Start {
         program: 1,
-        context: Context::new(Vec::new(rt.alloc())),
+        context: Context::new(Vec::new(alloc)),
     };
-    let told = applied(rt.alloc(), &programs, &events, event)?;
-    let expected = format!(in rt.alloc(); "E9: {AFTER_SEVEN}")?;
-    assert!(rt; told.as_str() == expected.as_str(), "{told}");
-    Ok(())
+    is_refused(&rt, rt.alloc(), &programs, &events, start(rt.alloc()), "E9");
+    assert!(rt; events.push(start(rt.alloc())).is_ok(), "out of memory");
+    let told = fault_of(rt.alloc(), &programs, &events).expect(&rt, "out of memory");
+    is_told(&rt, "no such program", told.as_str(), "E9 5");
 }
 
+const TWO_FAULTS: &str = "\
+program seven 0 0 b7000000070000009500000000000000
+start seven -
+exec 3
+exec 0 null
+";
+
 #[test]
-fn the_first_fault_of_two_is_told(rt: HostRuntime) -> Result<(), Fail> {
-    let script = "program seven 0 0 b7000000070000009500000000000000
-start seven -\nexec 3\nexec 0 null";
-    let (programs, events) = read(rt.alloc(), script)?;
-    let told = fault_of(rt.alloc(), &programs, &events)?;
-    assert!(rt; told.as_str() == "E1 1", "{told}");
-    Ok(())
+fn the_first_fault_of_two_is_told(rt: HostRuntime) {
+    let (programs, events) = read(&rt, rt.alloc(), TWO_FAULTS);
+    let told = fault_of(rt.alloc(), &programs, &events).expect(&rt, "out of memory");
+    is_told(&rt, "two faults", told.as_str(), "E1 1");
 }
 
 // A number, three sums and an exit, twice: 7 + 3 * 1, and 100 + 3 * 2.
@@ -236,7 +241,7 @@ fn run_of(order: u16, program: usize) -> usize {
 }
 
 // The twelve events of an order: at each place the next event of its program, of which the first is its start.
-fn events_of(alloc: Global, order: u16) -> Result<Vec<Event>, Fail> {
+fn events_of(alloc: Global, order: u16) -> Result<Vec<Event>, AllocError> {
     let mut events = Vec::new(alloc);
     let mut begun = [false, false];
     for place in 0..12 {
@@ -257,31 +262,49 @@ fn events_of(alloc: Global, order: u16) -> Result<Vec<Event>, Fail> {
     Ok(events)
 }
 
-#[test]
-fn two_programs_end_alike_in_each_of_their_924_orders(rt: HostRuntime) -> Result<(), Fail> {
-    let (programs, _) = read(rt.alloc(), SUMS)?;
-    let mut orders: u32 = 0;
-    for order in (0_u16..4096).filter(|order: &u16| order.count_ones() == 6) {
-        orders = orders.wrapping_add(1);
-        let world = replay(rt.alloc(), &programs, &events_of(rt.alloc(), order)?)?;
-        let low = progress(rt.alloc(), &world, run_of(order, 0))?;
-        assert!(rt; low.as_str() == "exit 10 executed 5", "{order:b}: {low}");
-        let high = progress(rt.alloc(), &world, run_of(order, 1))?;
-        assert!(rt; high.as_str() == "exit 106 executed 5", "{order:b}: {high}");
-    }
-    assert!(rt; orders == 924);
-    Ok(())
+// Tries an order: each program returns its number after five instructions.
+fn ends_alike(rt: &impl Abort, alloc: Global, programs: &[Verified], order: u16) {
+    let events = events_of(alloc, order).expect(rt, "out of memory");
+    let world = replay(alloc, programs, &events).expect(rt, "each event is legal");
+    let low = progress(alloc, &world, run_of(order, 0)).expect(rt, "out of memory");
+    assert!(rt; low.as_str() == "exit 10 executed 5", "{order:b}: {low}");
+    let high = progress(alloc, &world, run_of(order, 1)).expect(rt, "out of memory");
+    assert!(rt; high.as_str() == "exit 106 executed 5", "{order:b}: {high}");
 }
 
 #[test]
-fn faults_are_told_in_words(rt: HostRuntime) -> Result<(), Fail> {
+fn two_programs_end_alike_in_each_of_their_924_orders(rt: HostRuntime) {
+    let (programs, _) = read(&rt, rt.alloc(), SUMS);
+    let mut orders: u32 = 0;
+    for order in (0_u16..4096).filter(|order: &u16| order.count_ones() == 6) {
+        orders = orders.wrapping_add(1);
+        ends_alike(&rt, rt.alloc(), &programs, order);
+    }
+    assert!(rt; orders == 924);
+}
+
+#[test]
+fn faults_of_events_are_told_in_words(rt: HostRuntime) {
     let code = ApplyCode::E2;
-    let mut told = String::new(rt.alloc());
-    write!(told, "{}\n", ApplyFault::Bad(code))?;
-    write!(told, "{}\n", ApplyFault::NoMemory)?;
-    write!(told, "{}\n", ReplayFault::Bad { index: 1, code })?;
-    write!(told, "{}\n", ReplayFault::NoMemory)?;
-    let expected = "the event isn't legal\nout of memory\nevent 1 isn't legal\nout of memory\n";
-    assert!(rt; told.as_str() == expected, "{told}");
-    Ok(())
+    let told = format!(in rt.alloc(); "{}, {}", ApplyFault::Bad(code), ApplyFault::NoMemory).expect(
+        &rt,
+        "out of memory",
+    );
+    is_told(
+        &rt,
+        "of one",
+        told.as_str(),
+        "the event isn't legal, out of memory",
+    );
+    let bad = ReplayFault::Bad { index: 1, code };
+    let told = format!(in rt.alloc(); "{bad}, {}", ReplayFault::NoMemory).expect(
+        &rt,
+        "out of memory",
+    );
+    is_told(
+        &rt,
+        "of a list",
+        told.as_str(),
+        "event 1 isn't legal, out of memory",
+    );
 }
