@@ -34,8 +34,8 @@ impl Context {
         &self.bytes
     }
 
-    /// The bytes themselves.
-    pub fn into_bytes(self) -> Vec<u8>
+    // The bytes themselves.
+    pub(crate) fn into_bytes(self) -> Vec<u8>
         ensures { result.items ≡ self }
     {
         self.bytes

@@ -53,8 +53,8 @@ pub enum FaultCode {
 }
 
 impl FaultCode {
-    /// The code as it is written.
-    pub fn name(self) -> &'static str
+    // The code as it is written.
+    pub(crate) fn name(self) -> &'static str
         ensures { result.now ≡ fault_name self }
     {
         match self {

@@ -1,9 +1,10 @@
 //! Accepted programs, from scripts.
 
+use crate::programs::holds;
 use ebpf_core::event::Event;
 use ebpf_script::judge::{Judged, judge};
 use ebpf_script::reader::read_script;
-use ebpf_script::reader::script::Script;
+use ebpf_script::reader::script::{ProgramText, Script};
 use ebpf_state::kinds::kinds;
 use ebpf_verify::verified::Verified;
 use std::alloc::Global;
@@ -17,17 +18,21 @@ pub(crate) fn script_of(rt: &impl Abort, alloc: Global, text: &str) -> Script {
     }
 }
 
+// A program of a script, accepted.
+fn accepted(rt: &impl Abort, alloc: Global, program: &ProgramText) -> Verified {
+    match judge(alloc, &program.bytes, program.decl, &kinds()) {
+        Ok(Judged::Accepted(verified)) => verified,
+        _ => panic!(rt; "a program is refused"),
+    }
+}
+
 // The programs of a script, each accepted, and its events.
 pub(crate) fn read(rt: &impl Abort, alloc: Global, text: &str) -> (Vec<Verified>, Vec<Event>) {
     let script = script_of(rt, alloc, text);
-    let rows = kinds();
     let mut programs = Vec::new(alloc);
     for (_, program) in script.programs.iter() {
-        let judged = judge(alloc, &program.bytes, program.decl, &rows).expect(rt, "out of memory");
-        let Judged::Accepted(verified) = judged else {
-            panic!(rt; "a program is refused");
-        };
-        assert!(rt; programs.push(verified).is_ok(), "out of memory");
+        let is_pushed = programs.push(accepted(rt, alloc, program)).is_ok();
+        holds(rt, "there is memory", is_pushed);
     }
     (programs, script.events)
 }

@@ -1,7 +1,10 @@
 //! What `one` tells where a caller asks for more held objects than the command line lets through.
 
+use crate::programs::holds;
 use ebpf_one::one::one;
 use ebpf_script::done::Done;
+use std::alloc::Global;
+use std::process::Abort;
 use std::test::*;
 
 // The input, the context's text, how many objects to hold, and what is told.
@@ -19,22 +22,24 @@ static HELD: [(&str, &str, u8, &str); 4] = [
     ("b70", "-", 65, "fault S5 line 0\n"),
 ];
 
+// Tries a row, with nulls or without.
+fn is_told_so(rt: &impl Abort, alloc: Global, row: (&str, &str, u8, &str), nulls: bool) {
+    let (input, context, held, told) = row;
+    let mut reader = input.as_bytes();
+    let mut written = Vec::new(alloc);
+    let done = one(alloc, &mut reader, &mut written, context, held, nulls).expect(rt, "it is told");
+    let is_clean = matches!(done, Done::Clean);
+    holds(
+        rt,
+        told,
+        is_clean == (held == 64) && written.as_slice() == told.as_bytes(),
+    );
+}
+
 #[test]
 fn more_than_64_held_is_a_fault(rt: HostRuntime) {
-    let alloc = rt.alloc();
-    for (input, context, held, told) in HELD.iter().copied() {
-        for nulls in [false, true] {
-            let mut reader = input.as_bytes();
-            let mut written = Vec::new(alloc);
-            let done = one(alloc, &mut reader, &mut written, context, held, nulls).expect(
-                &rt,
-                "it is told",
-            );
-            let is_clean = matches!(done, Done::Clean);
-            assert!(rt;
-                is_clean == (held == 64) && written.as_slice() == told.as_bytes(),
-                "{input} with {held} held and the context {context}"
-            );
-        }
+    for row in HELD.iter().copied() {
+        is_told_so(&rt, rt.alloc(), row, false);
+        is_told_so(&rt, rt.alloc(), row, true);
     }
 }

@@ -1,8 +1,8 @@
 //! A script with its programs and events, and the calls that commands share, with values from docs/SCRIPTS.md.
 
 use crate::accepted::script_of;
-use crate::events::words_of;
-use crate::programs::is_told;
+use crate::events::is_event;
+use crate::programs::{holds, is_told};
 use ebpf_flow::fault::FlowCode;
 use ebpf_insn::fault::DecodeCode;
 use ebpf_script::answer::Answer;
@@ -44,17 +44,22 @@ fn program_words(alloc: Global, name: &str, program: &ProgramText) -> Result<Str
     format!(in alloc; "{name} {context} {held} {bytes:?}")
 }
 
+// Tries a program.
+fn is_program(rt: &impl Abort, alloc: Global, name: &str, program: &ProgramText, expected: &str) {
+    let told = program_words(alloc, name, program).expect(rt, "out of memory");
+    is_told(rt, expected, told.as_str(), expected);
+}
+
 #[test]
 fn a_script_has_its_programs_and_events(rt: HostRuntime) {
     let script = script_of(&rt, rt.alloc(), SCRIPT);
-    assert!(rt; script.programs.len() == 2 && script.events.len() == 8);
+    let is_all = script.programs.len() == 2 && script.events.len() == 8;
+    holds(&rt, "two programs and eight events", is_all);
     for ((name, program), expected) in script.programs.iter().zip(PROGRAMS) {
-        let told = program_words(rt.alloc(), name.as_str(), program).expect(&rt, "out of memory");
-        is_told(&rt, expected, told.as_str(), expected);
+        is_program(&rt, rt.alloc(), name.as_str(), program, expected);
     }
     for (event, expected) in script.events.iter().zip(EVENTS) {
-        let told = words_of(rt.alloc(), event).expect(&rt, "out of memory");
-        is_told(&rt, expected, told.as_str(), expected);
+        is_event(&rt, rt.alloc(), event, expected);
     }
 }
 
@@ -82,11 +87,17 @@ fn hex_is_an_even_number_of_digits(rt: HostRuntime) {
     }
 }
 
+// Tries the line of a fault at line 0.
+fn is_line(rt: &impl Abort, alloc: Global, code: FaultCode, expected: &str) {
+    let told = fault_line(alloc, code, 0).expect(rt, "out of memory");
+    is_told(rt, expected, told.as_str(), expected);
+}
+
 #[test]
 fn codes_are_written_by_their_names(rt: HostRuntime) {
-    assert!(rt; FaultCode::S1.name() == "S1");
-    assert!(rt; FaultCode::S8.name() == "S8");
-    assert!(rt; FaultCode::S9.name() == "S9");
+    is_line(&rt, rt.alloc(), FaultCode::S1, "fault S1 line 0\n");
+    is_line(&rt, rt.alloc(), FaultCode::S8, "fault S8 line 0\n");
+    is_line(&rt, rt.alloc(), FaultCode::S9, "fault S9 line 0\n");
     for (code, name) in [
         (RefusalCode::Decode(DecodeCode::I9), "I9"),
         (RefusalCode::Flow(FlowCode::F0), "F0"),
@@ -94,7 +105,7 @@ fn codes_are_written_by_their_names(rt: HostRuntime) {
         (RefusalCode::Verify(VerifyCode::V0), "V0"),
         (RefusalCode::Verify(VerifyCode::V19), "V19"),
     ] {
-        assert!(rt; code.name() == name, "{name}");
+        holds(&rt, name, code.name() == name);
     }
 }
 
@@ -102,11 +113,15 @@ fn codes_are_written_by_their_names(rt: HostRuntime) {
 fn an_input_is_read_and_an_answer_is_written(rt: HostRuntime) {
     let mut reader = b"b70".as_slice();
     let input = read_input(rt.alloc(), &mut reader).expect(&rt, "no input");
-    assert!(rt; input.as_slice() == b"b70".as_slice());
+    holds(&rt, "the input", input.as_slice() == b"b70".as_slice());
     let line = fault_line(rt.alloc(), FaultCode::S3, 12).expect(&rt, "out of memory");
     let answer = Answer::new(line, Done::Refused);
     let mut written = Vec::new(rt.alloc());
     write_text(&mut written, answer.text().as_bytes()).expect(&rt, "no output");
-    assert!(rt; written.as_slice() == b"fault S3 line 12\n".as_slice());
-    assert!(rt; matches!(answer.done(), Done::Refused));
+    let is_whole = written.as_slice() == b"fault S3 line 12\n".as_slice();
+    holds(
+        &rt,
+        "the line",
+        is_whole && matches!(answer.done(), Done::Refused),
+    );
 }

@@ -2,6 +2,7 @@
 
 ghost use Rattle.ebpf_state.specs.Abstract.{IsProper};
 
+use crate::programs::holds;
 use ebpf_insn::register::Reg;
 use ebpf_range::range::Range;
 use ebpf_state::kinds::kinds;
@@ -35,75 +36,92 @@ fn number(value: u64) -> Abs
 
 #[test]
 fn values_are_joined_to_what_both_know(rt: HostRuntime) {
-    let one = number(1);
-    let hull = one.join(number(5));
-    assert!(rt;
-        matches!(hull, Abs::Num(Range { lo: 1, hi: 5 })),
-        "two numbers"
+    let hull = number(1).join(number(5));
+    let is_hull = matches!(hull, Abs::Num(Range { lo: 1, hi: 5 }));
+    holds(&rt, "two numbers", is_hull);
+    let none = number(1).join(Abs::Stk(0));
+    holds(&rt, "a number and a pointer", none.is_unset());
+    let same = Abs::Stk(8).join(Abs::Stk(8));
+    holds(
+        &rt,
+        "the same place of the stack",
+        matches!(same, Abs::Stk(8)),
     );
-    assert!(rt; one.join(Abs::Stk(0)).is_unset(), "a number and a pointer");
-    assert!(rt;
-        matches!(Abs::Stk(8).join(Abs::Stk(8)), Abs::Stk(8)),
-        "the same place of the stack"
+    let none = Abs::Stk(8).join(Abs::Stk(0));
+    holds(&rt, "two places of the stack", none.is_unset());
+    let both = Abs::Ctx(0, 1).join(Abs::Ctx(4, 4));
+    holds(
+        &rt,
+        "two places of the context",
+        matches!(both, Abs::Ctx(0, 4)),
     );
-    assert!(rt;
-        Abs::Stk(8).join(Abs::Stk(0)).is_unset(),
-        "two places of the stack"
+    let both = Abs::Ob(1, 0, 0).join(Abs::Ob(1, 8, 8));
+    holds(
+        &rt,
+        "two places of an object",
+        matches!(both, Abs::Ob(1, 0, 8)),
     );
-    assert!(rt;
-        matches!(Abs::Ctx(0, 1).join(Abs::Ctx(4, 4)), Abs::Ctx(0, 4)),
-        "two places of the context"
-    );
-    assert!(rt;
-        matches!(Abs::Ob(1, 0, 0).join(Abs::Ob(1, 8, 8)), Abs::Ob(1, 0, 8)),
-        "two places of an object"
-    );
-    assert!(rt;
-        Abs::Ob(1, 0, 0).join(Abs::Ob(2, 0, 0)).is_unset(),
-        "two objects"
-    );
-    assert!(rt;
-        matches!(Abs::May(1).join(Abs::May(1)), Abs::May(1)),
-        "the same answer"
-    );
-    assert!(rt; Abs::May(1).join(Abs::May(2)).is_unset(), "two answers");
+    let none = Abs::Ob(1, 0, 0).join(Abs::Ob(2, 0, 0));
+    holds(&rt, "two objects", none.is_unset());
+    let same = Abs::May(1).join(Abs::May(1));
+    holds(&rt, "the same answer", matches!(same, Abs::May(1)));
+    let none = Abs::May(1).join(Abs::May(2));
+    holds(&rt, "two answers", none.is_unset());
 }
 
 #[test]
 fn a_value_is_unset_a_pointer_or_an_answer(rt: HostRuntime) {
-    assert!(rt; Abs::Unset.is_unset());
-    assert!(rt; Abs::Stk(0).is_pointer());
-    assert!(rt; Abs::May(0).is_may());
+    holds(&rt, "unset", Abs::Unset.is_unset());
+    holds(&rt, "a pointer", Abs::Stk(0).is_pointer());
+    holds(&rt, "an answer", Abs::May(0).is_may());
+}
+
+// The bytes that are set in a word that is no spill.
+fn mask_of(word: Word) -> Option<u8> {
+    match word {
+        Word::Bytes(mask) => Some(mask),
+        Word::Spill(_) => None,
+    }
 }
 
 #[test]
 fn words_are_joined_to_the_bytes_that_both_set(rt: HostRuntime) {
     let spilled = Word::Spill(number(1));
     let pointer = Word::Spill(Abs::Stk(0));
-    let common = Word::Bytes(0x0f).join(Word::Bytes(0x3c));
-    assert!(rt; matches!(common, Word::Bytes(0x0c)), "two masks");
-    let common = spilled.join(Word::Bytes(0x0f));
-    assert!(rt; matches!(common, Word::Bytes(0x0f)), "a number and a mask");
-    let common = pointer.join(Word::Bytes(0xff));
-    assert!(rt; matches!(common, Word::Bytes(0)), "a pointer and a mask");
-    let common = pointer.join(pointer);
-    assert!(rt;
-        matches!(common, Word::Spill(Abs::Stk(0))),
-        "the same pointer"
+    let common = mask_of(Word::Bytes(0x0f).join(Word::Bytes(0x3c)));
+    holds(&rt, "two masks", common == Some(0x0c));
+    let common = mask_of(spilled.join(Word::Bytes(0x0f)));
+    holds(&rt, "a number and a mask", common == Some(0x0f));
+    let common = mask_of(pointer.join(Word::Bytes(0xff)));
+    holds(&rt, "a pointer and a mask", common == Some(0));
+    let same = pointer.join(pointer);
+    holds(
+        &rt,
+        "the same pointer",
+        matches!(same, Word::Spill(Abs::Stk(0))),
     );
-    let common = spilled.join(pointer);
-    assert!(rt; matches!(common, Word::Bytes(0)), "a number and a pointer");
+    let common = mask_of(spilled.join(pointer));
+    holds(&rt, "a number and a pointer", common == Some(0));
 }
 
 #[test]
 fn a_state_is_copied_changed_and_joined(rt: HostRuntime) {
     let mut state = State::start(rt.alloc());
     let first = state.copy().expect(&rt, "out of memory");
-    assert!(rt; matches!(state.reg(Reg::R10), Abs::Stk(0)));
+    holds(
+        &rt,
+        "the frame pointer",
+        matches!(state.reg(Reg::R10), Abs::Stk(0)),
+    );
     state.set(Reg::R2, number(2));
-    assert!(rt; matches!(state.reg(Reg::R2), Abs::Num(Range { lo: 2, hi: 2 })));
-    assert!(rt; state.held() == 0);
+    let is_set = matches!(state.reg(Reg::R2), Abs::Num(Range { lo: 2, hi: 2 }));
+    holds(&rt, "what was set", is_set);
+    holds(&rt, "nothing is held", state.held() == 0);
     let joined = state.join(&first).expect(&rt, "out of memory");
-    assert!(rt; matches!(joined.reg(Reg::R1), Abs::Ctx(0, 0)));
-    assert!(rt; joined.reg(Reg::R2).is_unset());
+    holds(
+        &rt,
+        "the context",
+        matches!(joined.reg(Reg::R1), Abs::Ctx(0, 0)),
+    );
+    holds(&rt, "what one knows", joined.reg(Reg::R2).is_unset());
 }

@@ -1,5 +1,6 @@
 //! Readers and writers that give and take a few bytes a call, and then end or fail, under each of the commands.
 
+use crate::programs::holds;
 use ebpf_one::list::list;
 use ebpf_one::one::one;
 use ebpf_script::done::{Done, EngineFault};
@@ -222,43 +223,46 @@ fn a_failed_write_leaves_a_beginning(rt: HostRuntime) {
     }
 }
 
+// Gives a command 16 MiB of a byte, behind which the reader fails: it is told off after the first byte too many.
+fn reads_no_further(rt: &impl Abort, alloc: Global, command: &str, byte: u8) {
+    let mut reader = flood(byte, 16 * 1024 * 1024, Some(io::ErrorKind::Other));
+    let mut writer = ample(alloc);
+    let done = call(alloc, command, &mut reader, &mut writer).expect(rt, "it is told");
+    let is_fault = writer.got.as_slice() == b"fault S1 line 0\n".as_slice();
+    let is_left = reader.times == 16 * 1024 * 1024 - 1_048_577;
+    holds(
+        rt,
+        command,
+        matches!(done, Done::Refused) && is_fault && is_left,
+    );
+}
+
 #[test]
 fn a_long_input_is_not_read_to_its_end(rt: HostRuntime) {
     for (command, _, _) in COMMANDS.iter().copied() {
         for byte in [b'9', b' ', 0, 0xff] {
-            let mut reader = flood(byte, 16 * 1024 * 1024, Some(io::ErrorKind::Other));
-            let mut writer = ample(rt.alloc());
-            let done = call(rt.alloc(), command, &mut reader, &mut writer).expect(
-                &rt,
-                "it is told",
-            );
-            let is_refused = matches!(done, Done::Refused);
-            let is_fault = writer.got.as_slice() == b"fault S1 line 0\n".as_slice();
-            let left = reader.times;
-            assert!(rt;
-                is_refused && is_fault && left == 16 * 1024 * 1024 - 1_048_577,
-                "{command} of the byte {byte} leaves {left}"
-            );
+            reads_no_further(&rt, rt.alloc(), command, byte);
         }
     }
+}
+
+// Gives a command 64 of a byte. A script may have comments and blank lines alone.
+fn is_told_off(rt: &impl Abort, alloc: Global, command: &str, byte: u8) {
+    let mut reader = flood(byte, 64, None);
+    let mut writer = ample(alloc);
+    let done = call(alloc, command, &mut reader, &mut writer).expect(rt, "it is told");
+    let is_passed = command == "replay" && b"#\t\n\r ".contains(&byte);
+    assert!(rt;
+        matches!(done, Done::Clean) == is_passed,
+        "{command} of the byte {byte}"
+    );
 }
 
 #[test]
 fn any_byte_is_a_refusal_or_a_fault(rt: HostRuntime) {
     for (command, _, _) in COMMANDS.iter().copied() {
         for byte in 0..=u8::MAX {
-            let mut reader = flood(byte, 64, None);
-            let mut writer = ample(rt.alloc());
-            let done = call(rt.alloc(), command, &mut reader, &mut writer).expect(
-                &rt,
-                "it is told",
-            );
-            // a script may have comments and blank lines alone
-            let is_passed = command == "replay" && b"#\t\n\r ".contains(&byte);
-            assert!(rt;
-                matches!(done, Done::Clean) == is_passed,
-                "{command} of the byte {byte}"
-            );
+            is_told_off(&rt, rt.alloc(), command, byte);
         }
     }
 }

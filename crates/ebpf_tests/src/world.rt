@@ -2,8 +2,8 @@
 //! matters.
 
 use crate::accepted::{read, script_of};
-use crate::events::words_of;
-use crate::programs::{column, is_told};
+use crate::events::is_event;
+use crate::programs::{column, holds, is_told};
 use ebpf_core::event::{Answer, Context, Event};
 use ebpf_core::fault::{ApplyCode, ApplyFault, ReplayFault};
 use ebpf_core::replay::replay;
@@ -30,9 +30,7 @@ const AFTER_SEVEN: &str = "exit 7 executed 2, going 1 executed 1";
 fn a_context_has_its_bytes(rt: HostRuntime) {
     let bytes = Vec::from_slice(rt.alloc(), &[1, 2, 3]).expect(&rt, "out of memory");
     let context = Context::new(bytes);
-    assert!(rt; matches!(context.as_slice(), [1, 2, 3]));
-    let bytes = context.into_bytes();
-    assert!(rt; matches!(bytes.as_slice(), [1, 2, 3]));
+    holds(&rt, "three bytes", matches!(context.as_slice(), [1, 2, 3]));
 }
 
 // Each kind of event.
@@ -49,13 +47,17 @@ reap 2 9
 // The words for each.
 const COPIED: [&str; 5] = ["start 1 [9]", "exec 5", "exec 6 77", "grow 1 8", "reap 2 9"];
 
+// Tries an event.
+fn is_copied(rt: &impl Abort, alloc: Global, event: &Event, expected: &str) {
+    let copy = event.copied(alloc).expect(rt, "out of memory");
+    is_event(rt, alloc, &copy, expected);
+}
+
 #[test]
 fn a_copied_event_is_the_same(rt: HostRuntime) {
     let script = script_of(&rt, rt.alloc(), EVENTS);
     for (event, expected) in script.events.iter().zip(COPIED) {
-        let copy = event.copied(rt.alloc()).expect(&rt, "out of memory");
-        let told = words_of(rt.alloc(), &copy).expect(&rt, "out of memory");
-        is_told(&rt, expected, told.as_str(), expected);
+        is_copied(&rt, rt.alloc(), event, expected);
     }
 }
 
@@ -100,10 +102,14 @@ const READ: [(usize, &str); 4] = [
 fn a_world_is_read_after_each_event(rt: HostRuntime) {
     let (programs, events) = read(&rt, rt.alloc(), STEPS);
     let mut world = World::new(rt.alloc(), &programs).expect(&rt, "out of memory");
-    assert!(rt; world.runs() == 0 && events.len() == 4);
+    holds(
+        &rt,
+        "no run, and four events",
+        world.runs() == 0 && events.len() == 4,
+    );
     for (event, (runs, expected)) in events.into_iter().zip(READ) {
         world.apply(event).expect(&rt, "each event is legal");
-        assert!(rt; world.runs() == runs);
+        holds(&rt, expected, world.runs() == runs);
         let told = readings(&rt, rt.alloc(), &world);
         is_told(&rt, expected, told.as_str(), expected);
     }
@@ -118,14 +124,18 @@ start seven -
 fn what_is_not_there_is_none(rt: HostRuntime) {
     let (programs, events) = read(&rt, rt.alloc(), STARTED);
     let world = replay(rt.alloc(), &programs, &events).expect(&rt, "each event is legal");
-    assert!(rt; matches!(world.output(0), Some([])));
-    assert!(rt; world.output(1).is_none());
-    assert!(rt; world.status(1).is_none());
-    assert!(rt; world.executed(1).is_none());
-    assert!(rt; world.owner(0).is_none());
-    assert!(rt; world.bytes(0).is_none());
+    holds(
+        &rt,
+        "the output of a run",
+        matches!(world.output(0), Some([])),
+    );
+    holds(&rt, "the output of none", world.output(1).is_none());
+    holds(&rt, "the status of none", world.status(1).is_none());
+    holds(&rt, "the instructions of none", world.executed(1).is_none());
+    holds(&rt, "the owner of no slot", world.owner(0).is_none());
+    holds(&rt, "the bytes of no slot", world.bytes(0).is_none());
     for kind in [0, 1, 2, 3, 255] {
-        assert!(rt; world.ledger(kind).is_empty(), "kind {kind}");
+        holds(&rt, "a ledger without slots", world.ledger(kind).is_empty());
     }
 }
 
@@ -133,7 +143,7 @@ fn what_is_not_there_is_none(rt: HostRuntime) {
 fn five_events_lead_to_one_exit_and_one_run_that_goes_on(rt: HostRuntime) {
     let (programs, events) = read(&rt, rt.alloc(), SEVEN);
     let world = replay(rt.alloc(), &programs, &events).expect(&rt, "each event is legal");
-    assert!(rt; world.runs() == 2);
+    holds(&rt, "two runs", world.runs() == 2);
     let told = readings(&rt, rt.alloc(), &world);
     is_told(&rt, "five events", told.as_str(), AFTER_SEVEN);
 }
@@ -205,7 +215,8 @@ fn a_start_of_no_program_is_not_legal(rt: HostRuntime) {
         context: Context::new(Vec::new(alloc)),
     };
     is_refused(&rt, rt.alloc(), &programs, &events, start(rt.alloc()), "E9");
-    assert!(rt; events.push(start(rt.alloc())).is_ok(), "out of memory");
+    let is_pushed = events.push(start(rt.alloc())).is_ok();
+    holds(&rt, "there is memory", is_pushed);
     let told = fault_of(rt.alloc(), &programs, &events).expect(&rt, "out of memory");
     is_told(&rt, "no such program", told.as_str(), "E9 5");
 }
@@ -262,14 +273,18 @@ fn events_of(alloc: Global, order: u16) -> Result<Vec<Event>, AllocError> {
     Ok(events)
 }
 
+// That a run of a world ended so.
+fn ends_with(rt: &impl Abort, alloc: Global, world: &World<'_>, run: usize, expected: &str) {
+    let told = progress(alloc, world, run).expect(rt, "out of memory");
+    is_told(rt, expected, told.as_str(), expected);
+}
+
 // Tries an order: each program returns its number after five instructions.
 fn ends_alike(rt: &impl Abort, alloc: Global, programs: &[Verified], order: u16) {
     let events = events_of(alloc, order).expect(rt, "out of memory");
     let world = replay(alloc, programs, &events).expect(rt, "each event is legal");
-    let low = progress(alloc, &world, run_of(order, 0)).expect(rt, "out of memory");
-    assert!(rt; low.as_str() == "exit 10 executed 5", "{order:b}: {low}");
-    let high = progress(alloc, &world, run_of(order, 1)).expect(rt, "out of memory");
-    assert!(rt; high.as_str() == "exit 106 executed 5", "{order:b}: {high}");
+    ends_with(rt, alloc, &world, run_of(order, 0), "exit 10 executed 5");
+    ends_with(rt, alloc, &world, run_of(order, 1), "exit 106 executed 5");
 }
 
 #[test]
@@ -280,7 +295,7 @@ fn two_programs_end_alike_in_each_of_their_924_orders(rt: HostRuntime) {
         orders = orders.wrapping_add(1);
         ends_alike(&rt, rt.alloc(), &programs, order);
     }
-    assert!(rt; orders == 924);
+    holds(&rt, "924 orders", orders == 924);
 }
 
 #[test]
