@@ -1,10 +1,12 @@
 -- What is told of what is read is told of the input, and written: for every command.
-use Rattle.std.proofs.Common.{◌≡◌, ℕ, ◌<◌, ◌≤◌, Bool, true, false, nat_lt, List, length, take, Option, Some, None, refl, sym, ◌∙◌, subst, arith}
-use Rattle.std.specs.Prelude.{IfSome}
+use Rattle.std.proofs.Common.{◌≡◌, ◌≢◌, ℕ, ◌<◌, ◌≤◌, Bool, true, false, nat_lt, List, length, take, Option, Some, None, Result, Ok, Err, refl, ◌∙◌, subst, arith}
+use Rattle.std.specs.Prelude.{IfSome, IfOk, IfErr, OnErr}
 use Rattle.std.specs.Io.KnownBytes.{Appends}
 use Rattle.std.proofs.lemmas.Bool.{ltb-true}
 use Rattle.std.proofs.lemmas.Grind.{common_steps}
 use Rattle.ebpf_script.specs.declared.done.Done.{Done}
+use Rattle.ebpf_script.specs.declared.done.EngineFault.{EngineFault}
+use Rattle.ebpf_script.specs.declared.done.EngineFault.TheVariants.{Output}
 use Rattle.ebpf_script.specs.Input.{read_of}
 use Rattle.ebpf_script.specs.Told.{Told}
 use Rattle.ebpf_script.proofs.Known.{front_of_short}
@@ -27,13 +29,20 @@ told_of_read Tells cuts input told h = by_length (nat_lt 1048577 (length input))
   by_length false e = subst (λ (xs : List ℕ). Tells xs told) (front_of_short 1048577 input (not-lt 1048577 (length input) e)) h
 
 -- what was told was written
-pub told_written : (Tells : Telling) → CutsLong Tells → (input old new : Option (List ℕ)) (bytes seen : List ℕ) (told : Told) (text : List ℕ) (done : Done) → IfSome input (λ all. bytes ≡ read_of all) → seen ≡ bytes → Tells seen told → text ≡ told.text → done ≡ told.done → Appends old new text → IfSome input (λ all. (t : Told) × Tells all t × (t.done ≡ done) × Appends old new t.text)
-told_written Tells cuts None old new bytes seen told text done read e h f d k = tt
-told_written Tells cuts (Some all) old new bytes seen told text done read e h f d k =
-    (told, told_of_read Tells cuts all told (subst (λ (xs : List ℕ). Tells xs told) (e ∙ read) h), sym d, subst (λ (xs : List ℕ). Appends old new xs) f k)
+pub told_by : (Tells : Telling) → CutsLong Tells → (input old new : Option (List ℕ)) (bytes seen : List ℕ) (told : Told) (result : Result Done EngineFault) → IfSome input (λ all. bytes ≡ read_of all) → seen ≡ bytes → Tells seen told → IfOk result (λ done. (told.done ≡ done) × Appends old new told.text) → IfOk result (λ done. IfSome input (λ all. (t : Told) × Tells all t × (t.done ≡ done) × Appends old new t.text))
+told_by Tells cuts input old new bytes seen told (Err fault) read same h k = tt
+told_by Tells cuts None old new bytes seen told (Ok done) read same h k = tt
+told_by Tells cuts (Some all) old new bytes seen told (Ok done) read same h k =
+    (told, told_of_read Tells cuts all told (subst (λ (xs : List ℕ). Tells xs told) (same ∙ read) h), k.0, k.1)
 
 -- a beginning of what was told was written
-pub told_begun : (Tells : Telling) → CutsLong Tells → (F : Type 0) (input old new : Option (List ℕ)) (bytes seen : List ℕ) (told : Told) (text : List ℕ) → IfSome input (λ all. bytes ≡ read_of all) → seen ≡ bytes → Tells seen told → text ≡ told.text → ((n : ℕ) × (n ≤ length text) × Appends old new (take n text)) → IfSome input (λ all. F → (t : Told) × Tells all t × ((n : ℕ) × (n ≤ length t.text) × Appends old new (take n t.text)))
-told_begun Tells cuts F None old new bytes seen told text read e h f k = tt
-told_begun Tells cuts F (Some all) old new bytes seen told text read e h f k =
-    λ _. (told, told_of_read Tells cuts all told (subst (λ (xs : List ℕ). Tells xs told) (e ∙ read) h), subst (λ (xs : List ℕ). (n : ℕ) × (n ≤ length xs) × Appends old new (take n xs)) f k)
+pub begun_by : (Tells : Telling) → CutsLong Tells → (input old new : Option (List ℕ)) (bytes seen : List ℕ) (told : Told) (result : Result Done EngineFault) → IfSome input (λ all. bytes ≡ read_of all) → seen ≡ bytes → Tells seen told → OnErr result ((n : ℕ) × (n ≤ length told.text) × Appends old new (take n told.text)) → IfErr result (λ fault. IfSome input (λ all. fault ≡ Output → (t : Told) × Tells all t × ((n : ℕ) × (n ≤ length t.text) × Appends old new (take n t.text))))
+begun_by Tells cuts input old new bytes seen told (Ok done) read same h k = tt
+begun_by Tells cuts None old new bytes seen told (Err fault) read same h k = tt
+begun_by Tells cuts (Some all) old new bytes seen told (Err fault) read same h k =
+    λ _. (told, told_of_read Tells cuts all told (subst (λ (xs : List ℕ). Tells xs told) (same ∙ read) h), k)
+
+-- a fault is that of a write, so nothing is said of any other
+pub untouched_by : (A : Type 0) (old new : A) (result : Result Done EngineFault) → IfErr result (λ fault. fault ≡ Output) → IfErr result (λ fault. fault ≢ Output → new ≡ old)
+untouched_by A old new (Ok done) h = tt
+untouched_by A old new (Err fault) h = λ other. absurd (other h)

@@ -1,8 +1,12 @@
 //! What a command answers.
 
-ghost use Rattle.std.specs.Prelude.{◌≡◌, string_bytes};
+ghost use Rattle.std.specs.Prelude.{◌≡◌, ◌≤◌, ℕ, IfOk, IfErr, OnErr, length, string_bytes, take};
+ghost use Rattle.std.specs.Io.KnownBytes.{Appends};
+ghost use Rattle.ebpf_script.specs.declared.done.EngineFault.TheVariants.{Output};
 
-use crate::done::Done;
+use crate::done::{Done, EngineFault};
+use crate::output::write_text;
+use std::io::Write;
 use std::marker::Model;
 
 /// A whole text, and how the command that writes it ends.
@@ -29,17 +33,17 @@ impl Answer {
         Answer { text, done }
     }
 
-    /// The text.
-    pub fn text(&self) -> &str
-        ensures { result.now ≡ self.now.text }
+    /// Writes the text, flushes the writer, and says how the command ends.
+    ///
+    /// # Errors
+    /// `Output` where a write failed, an interrupted one too, or took nothing, or the flush failed: what was written is a
+    /// beginning of the text.
+    pub fn write_to<W: Write>(&self, writer: &mut W) -> Result<Done, EngineFault>
+        ensures told { IfOk result (λ done. (self.now.done ≡ done) × Appends (W.contents writer.old) (W.contents writer.new) self.now.text) }
+        ensures beginning { OnErr result ((n : ℕ) × (n ≤ length self.now.text) × Appends (W.contents writer.old) (W.contents writer.new) (take n self.now.text)) }
+        ensures err { IfErr result (λ e. e ≡ Output) }
     {
-        self.text.as_str()
-    }
-
-    /// How the command ends.
-    pub fn done(&self) -> Done
-        ensures { result ≡ self.now.done }
-    {
-        self.done
+        write_text(writer, self.text.as_bytes())?;
+        Ok(self.done)
     }
 }

@@ -2,9 +2,9 @@
 //! on the bytes of a program, and the text that is told.
 //!
 //! A command tells a whole text or a beginning of it, and writes nothing else. So each command is a function from what is
-//! read to an [`answer::Answer`], between [`input::read_input`] and [`output::write_text`].
+//! read to an [`answer::Answer`], between [`input::read_input`] and [`answer::Answer::write_to`].
 //!
-//! To be read in this order: `done`, `input`, `hex_text`, `codes`, `judge`, `text`, `answer`, `output`.
+//! To be read in this order: `done`, `input`, `hex_text`, `codes`, `judge`, `text`, `output`, `answer`.
 #![tactic(auto)]
 
 pub mod answer;
@@ -13,7 +13,7 @@ pub mod done;
 pub mod hex_text;
 pub mod input;
 pub mod judge;
-pub mod output;
+mod output;
 pub mod reader;
 pub mod replay;
 pub mod text;

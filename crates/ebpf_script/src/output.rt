@@ -12,7 +12,7 @@ use std::io::Write;
 /// # Errors
 /// `Output` where a write failed, an interrupted one too, or took nothing, or the flush failed: what was written is a
 /// beginning of the text.
-pub fn write_text<W: Write>(writer: &mut W, text: &[u8]) -> Result<(), EngineFault>
+pub(crate) fn write_text<W: Write>(writer: &mut W, text: &[u8]) -> Result<(), EngineFault>
     ensures written { OnOk result (Appends (W.contents writer.old) (W.contents writer.new) text.now) }
     ensures beginning { OnErr result ((n : ℕ) × (n ≤ length text.now) × Appends (W.contents writer.old) (W.contents writer.new) (take n text.now)) }
     ensures err { IfErr result (λ e. e ≡ Output) }

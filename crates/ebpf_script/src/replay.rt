@@ -12,7 +12,6 @@ use crate::answer::Answer;
 use crate::codes::apply_name;
 use crate::done::{Done, EngineFault};
 use crate::input::read_input;
-use crate::output::write_text;
 use crate::reader::read_script;
 use crate::reader::script::{Script, ScriptStop};
 use crate::text::fault_line;
@@ -42,8 +41,7 @@ pub fn replay<R: Read, W: Write>(
 {
     let input = read_input(alloc, reader)?;
     let answer = answer_text(alloc, &input)?;
-    write_text(writer, answer.text().as_bytes())?;
-    Ok(answer.done())
+    answer.write_to(writer)
 }
 
 // What is told of a text.

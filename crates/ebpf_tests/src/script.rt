@@ -1,7 +1,7 @@
 //! A script with its programs and events, and the calls that commands share, with values from docs/SCRIPTS.md.
 
 use crate::accepted::script_of;
-use crate::events::is_event;
+use crate::events::tell_event;
 use crate::programs::{holds, is_told};
 use ebpf_flow::fault::FlowCode;
 use ebpf_insn::fault::DecodeCode;
@@ -10,8 +10,7 @@ use ebpf_script::codes::RefusalCode;
 use ebpf_script::done::{Done, FaultCode};
 use ebpf_script::hex_text::{hex_bytes, hex_or_dash};
 use ebpf_script::input::read_input;
-use ebpf_script::output::write_text;
-use ebpf_script::reader::script::ProgramText;
+use ebpf_script::reader::script::{ProgramText, Script};
 use ebpf_script::text::fault_line;
 use ebpf_verify::fault::VerifyCode;
 use std::alloc::{AllocError, Global};
@@ -22,45 +21,44 @@ const SCRIPT: &str = "# two programs\nprogram add 4 2 b7000000\n\tprogram Count-
 start add 00Ff\nstart Count-1_x -\n  # runs\nstart add -\n\
 exec 0\nexec\t1  null\nexec 4294967295 65535\ngrow 0 0007\nreap 255 65535";
 
-// Its programs with their contexts' lengths, what they hold at most, and their bytes.
-const PROGRAMS: [&str; 2] = ["add 4 2 [183, 0, 0, 0]", "Count-1_x 0 64 []"];
+// Its programs with their contexts' lengths, what they hold at most, and their bytes, and its events.
+const SAID: &str = "\
+add 4 2 [183, 0, 0, 0]
+Count-1_x 0 64 []
+start 0 [0, 255]
+start 1 []
+start 0 []
+exec 0
+exec 1 null
+exec 4294967295 65535
+grow 0 7
+reap 255 65535
+";
 
-// And its events.
-const EVENTS: [&str; 8] = [
-    "start 0 [0, 255]",
-    "start 1 []",
-    "start 0 []",
-    "exec 0",
-    "exec 1 null",
-    "exec 4294967295 65535",
-    "grow 0 7",
-    "reap 255 65535",
-];
-
-// A program in words.
-fn program_words(alloc: Global, name: &str, program: &ProgramText) -> Result<String, AllocError> {
+// A program in words, a line more.
+fn tell_program(told: &mut String, name: &str, program: &ProgramText) -> Result<(), AllocError> {
     let bytes = program.bytes.as_slice();
     let (context, held) = (program.decl.context, program.decl.held);
-    format!(in alloc; "{name} {context} {held} {bytes:?}")
+    write!(told, "{name} {context} {held} {bytes:?}\n")
 }
 
-// Tries a program.
-fn is_program(rt: &impl Abort, alloc: Global, name: &str, program: &ProgramText, expected: &str) {
-    let told = program_words(alloc, name, program).expect(rt, "out of memory");
-    is_told(rt, expected, told.as_str(), expected);
+// A script in words.
+fn script_words(rt: &impl Abort, alloc: Global, script: &Script) -> String {
+    let mut told = String::new(alloc);
+    for (name, program) in script.programs.iter() {
+        tell_program(&mut told, name.as_str(), program).expect(rt, "out of memory");
+    }
+    for event in script.events.iter() {
+        tell_event(&mut told, event).expect(rt, "out of memory");
+    }
+    told
 }
 
 #[test]
 fn a_script_has_its_programs_and_events(rt: HostRuntime) {
     let script = script_of(&rt, rt.alloc(), SCRIPT);
-    let is_all = script.programs.len() == 2 && script.events.len() == 8;
-    holds(&rt, "two programs and eight events", is_all);
-    for ((name, program), expected) in script.programs.iter().zip(PROGRAMS) {
-        is_program(&rt, rt.alloc(), name.as_str(), program, expected);
-    }
-    for (event, expected) in script.events.iter().zip(EVENTS) {
-        is_event(&rt, rt.alloc(), event, expected);
-    }
+    let told = script_words(&rt, rt.alloc(), &script);
+    is_told(&rt, "a script", told.as_str(), SAID);
 }
 
 // A word, the bytes that it stands for as hex, and those that it stands for where a lone `-` is none.
@@ -117,11 +115,7 @@ fn an_input_is_read_and_an_answer_is_written(rt: HostRuntime) {
     let line = fault_line(rt.alloc(), FaultCode::S3, 12).expect(&rt, "out of memory");
     let answer = Answer::new(line, Done::Refused);
     let mut written = Vec::new(rt.alloc());
-    write_text(&mut written, answer.text().as_bytes()).expect(&rt, "no output");
+    let done = answer.write_to(&mut written).expect(&rt, "no output");
     let is_whole = written.as_slice() == b"fault S3 line 12\n".as_slice();
-    holds(
-        &rt,
-        "the line",
-        is_whole && matches!(answer.done(), Done::Refused),
-    );
+    holds(&rt, "the line", is_whole && matches!(done, Done::Refused));
 }

@@ -2,7 +2,7 @@
 //! matters.
 
 use crate::accepted::{read, script_of};
-use crate::events::is_event;
+use crate::events::tell_event;
 use crate::programs::{column, holds, is_told};
 use ebpf_core::event::{Answer, Context, Event};
 use ebpf_core::fault::{ApplyCode, ApplyFault, ReplayFault};
@@ -45,20 +45,29 @@ reap 2 9
 ";
 
 // The words for each.
-const COPIED: [&str; 5] = ["start 1 [9]", "exec 5", "exec 6 77", "grow 1 8", "reap 2 9"];
+const COPIED: &str = "\
+start 1 [9]
+exec 5
+exec 6 77
+grow 1 8
+reap 2 9
+";
 
-// Tries an event.
-fn is_copied(rt: &impl Abort, alloc: Global, event: &Event, expected: &str) {
-    let copy = event.copied(alloc).expect(rt, "out of memory");
-    is_event(rt, alloc, &copy, expected);
+// The words for the copies of these events.
+fn words_of_copies(rt: &impl Abort, alloc: Global, events: &[Event]) -> String {
+    let mut told = String::new(alloc);
+    for event in events {
+        let copy = event.copied(alloc).expect(rt, "out of memory");
+        tell_event(&mut told, &copy).expect(rt, "out of memory");
+    }
+    told
 }
 
 #[test]
 fn a_copied_event_is_the_same(rt: HostRuntime) {
     let script = script_of(&rt, rt.alloc(), EVENTS);
-    for (event, expected) in script.events.iter().zip(COPIED) {
-        is_copied(&rt, rt.alloc(), event, expected);
-    }
+    let told = words_of_copies(&rt, rt.alloc(), &script.events);
+    is_told(&rt, "copies", told.as_str(), COPIED);
 }
 
 // How far a run of a world is.
@@ -91,28 +100,37 @@ start seven -
 ";
 
 // How many runs there are after each of its events, and how far the first two are.
-const READ: [(usize, &str); 4] = [
-    (1, "going 0 executed 0, none"),
-    (1, "going 1 executed 1, none"),
-    (1, "exit 7 executed 2, none"),
-    (2, "exit 7 executed 2, going 0 executed 0"),
-];
+const READ: &str = "\
+1: going 0 executed 0, none
+1: going 1 executed 1, none
+1: exit 7 executed 2, none
+2: exit 7 executed 2, going 0 executed 0
+";
+
+// One event more, and then what is read.
+fn apply_and_read(
+    rt: &impl Abort,
+    alloc: Global,
+    world: &mut World<'_>,
+    event: Event,
+    told: &mut String,
+) {
+    world.apply(event).expect(rt, "each event is legal");
+    let runs = world.runs();
+    let read = readings(rt, alloc, world);
+    write!(told, "{runs}: {read}\n").expect(rt, "out of memory");
+}
 
 #[test]
 fn a_world_is_read_after_each_event(rt: HostRuntime) {
     let (programs, events) = read(&rt, rt.alloc(), STEPS);
     let mut world = World::new(rt.alloc(), &programs).expect(&rt, "out of memory");
-    holds(
-        &rt,
-        "no run, and four events",
-        world.runs() == 0 && events.len() == 4,
-    );
-    for (event, (runs, expected)) in events.into_iter().zip(READ) {
-        world.apply(event).expect(&rt, "each event is legal");
-        holds(&rt, expected, world.runs() == runs);
-        let told = readings(&rt, rt.alloc(), &world);
-        is_told(&rt, expected, told.as_str(), expected);
+    holds(&rt, "no run before the first", world.runs() == 0);
+    let mut told = String::new(rt.alloc());
+    for event in events {
+        apply_and_read(&rt, rt.alloc(), &mut world, event, &mut told);
     }
+    is_told(&rt, "four events", told.as_str(), READ);
 }
 
 const STARTED: &str = "\
@@ -120,23 +138,25 @@ program seven 0 0 b7000000070000009500000000000000
 start seven -
 ";
 
+// Tries a world of one run, which has no output: there is no second one, and no slot.
+fn has_no_more(rt: &impl Abort, world: &World<'_>) {
+    let is_empty = matches!(world.output(0), Some([]));
+    holds(rt, "the output of a run", is_empty);
+    let (output, status, executed) = (world.output(1), world.status(1), world.executed(1));
+    let is_none = output.is_none() && status.is_none() && executed.is_none();
+    holds(rt, "a second run", is_none);
+    let is_none = world.owner(0).is_none() && world.bytes(0).is_none();
+    holds(rt, "the owner and the bytes of no slot", is_none);
+    for kind in 0..=u8::MAX {
+        holds(rt, "a ledger without slots", world.ledger(kind).is_empty());
+    }
+}
+
 #[test]
 fn what_is_not_there_is_none(rt: HostRuntime) {
     let (programs, events) = read(&rt, rt.alloc(), STARTED);
     let world = replay(rt.alloc(), &programs, &events).expect(&rt, "each event is legal");
-    holds(
-        &rt,
-        "the output of a run",
-        matches!(world.output(0), Some([])),
-    );
-    holds(&rt, "the output of none", world.output(1).is_none());
-    holds(&rt, "the status of none", world.status(1).is_none());
-    holds(&rt, "the instructions of none", world.executed(1).is_none());
-    holds(&rt, "the owner of no slot", world.owner(0).is_none());
-    holds(&rt, "the bytes of no slot", world.bytes(0).is_none());
-    for kind in [0, 1, 2, 3, 255] {
-        holds(&rt, "a ledger without slots", world.ledger(kind).is_empty());
-    }
+    has_no_more(&rt, &world);
 }
 
 #[test]

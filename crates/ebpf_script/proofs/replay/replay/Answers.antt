@@ -1,15 +1,15 @@
-use Rattle.std.proofs.Common.{◌∙◌}
-use Rattle.std.proofs.lemmas.Result.{err_from_is_err_and}
+use Rattle.ebpf_script.proofs.Written.{told_by, begun_by, untouched_by}
 use Rattle.ebpf_script.specs.ReplayText.{TellsReplay}
-use Rattle.ebpf_script.proofs.Written.{told_written, told_begun}
 use Rattle.ebpf_script.proofs.ReplayLemmas.{replay_cuts}
 use Rattle.ebpf_script.proofs.replay.replay.Goals as goal
 
-pub returns-in_err-write_text-clause-beginning : goal.returns-in_err-write_text-clause-beginning
-returns-in_err-write_text-clause-beginning g c =
-    let p = err_from_is_err_and c.from_residual-in_err-write_text.result c.from_residual-in_err-write_text.ensures.1 in
-    rw (p.1, p.2) (told_begun TellsReplay replay_cuts _ _ _ _ _ _ c.in_ok-answer.answer _ c.in_ok-input.ensures.read c.deref.ensures.value c.in_ok-answer.ensures (c.as_bytes.ensures.value ∙ c.text.ensures) c.in_err-write_text.ensures.beginning)
-
 pub returns-clause-told : goal.returns-clause-told
 returns-clause-told g c =
-    told_written TellsReplay replay_cuts _ _ _ _ _ c.in_ok-answer.answer _ _ c.in_ok-input.ensures.read c.deref.ensures.value c.in_ok-answer.ensures (c.as_bytes.ensures.value ∙ c.text.ensures) c.done.ensures c.in_ok-write_text.ensures.written
+    told_by TellsReplay replay_cuts _ _ _ _ _ c.in_ok-answer.answer _ c.in_ok-input.ensures.read c.deref.ensures.value c.in_ok-answer.ensures c.write_to.ensures.told
+
+pub returns-clause-untouched : goal.returns-clause-untouched
+returns-clause-untouched g c = untouched_by _ _ _ _ c.write_to.ensures.err
+
+pub returns-clause-beginning : goal.returns-clause-beginning
+returns-clause-beginning g c =
+    begun_by TellsReplay replay_cuts _ _ _ _ _ c.in_ok-answer.answer _ c.in_ok-input.ensures.read c.deref.ensures.value c.in_ok-answer.ensures c.write_to.ensures.beginning
