@@ -3,6 +3,7 @@
 ghost use Rattle.std.specs.Prelude.{◌≡◌, ◌<◌};
 ghost use Rattle.vmem_arena.specs.Spans.{pages_of};
 
+use crate::facts::holds;
 use std::alloc::Global;
 use std::process::Abort;
 use vmem_arena::{Arena, ArenaFault, NoSpan, Span};
@@ -47,16 +48,19 @@ fn spans_that_come_back_are_merged(rt: HostRuntime) {
     let mut arena = arena_of(&rt, rt.alloc(), 4);
     let low = taken(&rt, &mut arena, 2);
     let high = taken(&rt, &mut arena, 2);
-    assert!(rt; low.first() + high.first() == 2 && low.len() == 2 && high.len() == 2);
-    assert!(rt; arena.take(1).is_err());
-    assert!(rt; arena.give(low) && arena.largest() == 2);
-    assert!(rt; arena.give(high) && arena.largest() == 4);
+    holds(
+        &rt,
+        low.first() + high.first() == 2 && low.len() == 2 && high.len() == 2,
+    );
+    holds(&rt, arena.take(1).is_err());
+    holds(&rt, arena.give(low) && arena.largest() == 2);
+    holds(&rt, arena.give(high) && arena.largest() == 4);
 }
 
 // Gives the span back where it has page 0 or 2.
 fn give_if_even(rt: &impl Abort, arena: &mut Arena, span: Span) {
     if span.first() == 0 || span.first() == 2 {
-        assert!(rt; arena.give(span));
+        holds(rt, arena.give(span));
     }
 }
 
@@ -71,7 +75,7 @@ fn pages_apart_make_no_longer_run(rt: HostRuntime) {
     give_if_even(&rt, &mut arena, b);
     give_if_even(&rt, &mut arena, c);
     give_if_even(&rt, &mut arena, d);
-    assert!(rt; arena.largest() == 1 && arena.take(2).is_err());
+    holds(&rt, arena.largest() == 1 && arena.take(2).is_err());
 }
 
 #[test]
@@ -79,7 +83,7 @@ fn a_span_that_is_not_out_is_refused(rt: HostRuntime) {
     let mut here = arena_of(&rt, rt.alloc(), 4);
     let mut there = arena_of(&rt, rt.alloc(), 4);
     let stranger = taken(&rt, &mut there, 2);
-    assert!(rt; !here.give(stranger) && here.largest() == 4);
+    holds(&rt, !here.give(stranger) && here.largest() == 4);
 }
 
 #[test]
@@ -88,9 +92,9 @@ fn a_full_arena_comes_back_whole_in_any_order(rt: HostRuntime) {
     let mut spans = Vec::new(rt.alloc());
     for _ in 0..256u32 {
         let span = taken(&rt, &mut arena, 1);
-        assert!(rt; spans.push(Some(span)).is_ok(), "no memory");
+        holds(&rt, spans.push(Some(span)).is_ok());
     }
-    assert!(rt; arena.largest() == 0);
+    holds(&rt, arena.largest() == 0);
 
     // 89 and 256 have no common divisor, so each place comes once.
     for turn in 0..256usize {
@@ -99,7 +103,7 @@ fn a_full_arena_comes_back_whole_in_any_order(rt: HostRuntime) {
         let Some(span) = spans[place].take() else {
             panic!(rt; "a place comes twice");
         };
-        assert!(rt; arena.give(span));
+        holds(&rt, arena.give(span));
     }
-    assert!(rt; arena.largest() == 256);
+    holds(&rt, arena.largest() == 256);
 }

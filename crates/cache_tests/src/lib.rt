@@ -8,6 +8,8 @@
 #[cfg(test)]
 mod arena;
 #[cfg(test)]
+mod facts;
+#[cfg(test)]
 mod owners;
 #[cfg(test)]
 mod slabs;

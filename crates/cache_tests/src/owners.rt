@@ -4,6 +4,7 @@ ghost use Rattle.std.specs.Prelude.{◌≡◌, ◌≤◌, [], vec_len, All};
 ghost use Rattle.owners_table.specs.Owning.{fresh};
 ghost use Rattle.owners_table.specs.Drawing.{IsOf, fresh as new_seat};
 
+use crate::facts::holds;
 use owners_table::mark::Mark;
 use owners_table::owners::{OwnerSeat, Owners, Taken};
 use owners_table::tickets::{TicketSeat, Tickets};
@@ -51,13 +52,16 @@ fn a_claim_is_granted_where_the_slot_is_free(rt: HostRuntime) {
     let Ok(()) = owners.claim(&mut a, 3, first) else {
         panic!(&rt; "the slot was free")
     };
-    assert!(&rt; is_taken(owners.claim(&mut b, 3, first), first));
-    assert!(&rt; is_taken(owners.claim(&mut a, 3, second), first));
+    holds(&rt, is_taken(owners.claim(&mut b, 3, first), first));
+    holds(&rt, is_taken(owners.claim(&mut a, 3, second), first));
     owners.release(&mut a, 3);
-    assert!(&rt; owners.claim(&mut b, 3, second).is_ok());
+    holds(&rt, owners.claim(&mut b, 3, second).is_ok());
     let (a, b) = owners.meet(a, b);
     let words = words_of(&rt, rt.alloc(), owners, a, b);
-    assert!(&rt; matches!(words.as_slice(), [0, 0, 0, 24578]) && second.word() == 24578);
+    holds(
+        &rt,
+        matches!(words.as_slice(), [0, 0, 0, 24578]) && second.word() == 24578,
+    );
 }
 
 // The claim found that mark.
@@ -106,9 +110,9 @@ fn two_threads_leave_every_slot_free(rt: HostRuntime) {
             ensures { result.0.table ≡ table.entry.now.table }
         { work(table, b, 2, 100_000) },
     );
-    assert!(&rt; first == 100_000 && second == 100_000);
+    holds(&rt, first == 100_000 && second == 100_000);
     let words = words_of(&rt, rt.alloc(), owners, a, b);
-    assert!(&rt; words.len() == 64 && words.iter().all(|w| *w == 0));
+    holds(&rt, words.len() == 64 && words.iter().all(|w| *w == 0));
 }
 
 // One of the seats that were made with the tickets.
@@ -130,7 +134,7 @@ fn tickets_end_at_their_limit(rt: HostRuntime) -> Result<(), AllocError> {
     let mut seat = seat_of(&rt, &tickets, &mut seats);
     // 99 stands for None.
     for want in [0, 1, 2, 99, 99] {
-        assert!(&rt; tickets.draw(&mut seat).unwrap_or(99) == want);
+        holds(&rt, tickets.draw(&mut seat).unwrap_or(99) == want);
     }
     tickets.close(vec![in rt.alloc(); seat]?);
     Ok(())
@@ -209,7 +213,7 @@ fn four_threads_draw_every_number_once(rt: HostRuntime) -> Result<(), AllocError
             ensures { IsOf all.entry.now result.0 × IsOf all.entry.now result.1 }
         { drain_two(host, alloc, all, c, d, 100_001) },
     );
-    assert!(&rt; is_each_once(&rt, drawn, others, 100_000));
+    holds(&rt, is_each_once(&rt, drawn, others, 100_000));
     tickets.close(vec![in alloc; a, b, c, d]?);
     Ok(())
 }

@@ -1,6 +1,7 @@
 //! Pages of each kind that are filled and emptied, and what a client finds.
 
 use crate::arena::{arena_of, taken};
+use crate::facts::holds;
 use slab_layer::{BlockKind, CellKind, Home, Kind, Obj, RecordKind, Slabs};
 use std::alloc::Global;
 use std::process::Abort;
@@ -10,7 +11,7 @@ use vmem_arena::Arena;
 fn grown<K: Kind>(rt: &impl Abort, alloc: Global, arena: &mut Arena) -> Slabs<K> {
     let mut slabs = Slabs::new(alloc);
     let span = taken(rt, arena, 1);
-    assert!(rt; slabs.grow(span).is_ok(), "no memory");
+    holds(rt, slabs.grow(span).is_ok());
     slabs
 }
 
@@ -22,7 +23,7 @@ fn take_all<K: Kind>(
     count: u32,
 ) {
     for taken in 0..count {
-        assert!(rt; slabs.out() == taken);
+        holds(rt, slabs.out() == taken);
         let Some(object) = slabs.take() else {
             panic!(rt; "a slab has an object less");
         };
@@ -35,31 +36,34 @@ fn take_all<K: Kind>(
         slabs.give(object);
         panic!(rt; "a slab has an object more");
     }
-    assert!(rt; slabs.out() == count);
+    holds(rt, slabs.out() == count);
 }
 
 // Gives the objects back; no page is given up before the last of them.
 fn give_all<K: Kind>(rt: &impl Abort, slabs: &mut Slabs<K>, mut held: Vec<Obj<K, Home>>) {
     while let Some(object) = held.pop() {
-        assert!(rt; slabs.reap().is_none());
-        assert!(rt; slabs.give(object));
+        holds(rt, slabs.reap().is_none());
+        holds(rt, slabs.give(object));
     }
     held.destroy_empty();
-    assert!(rt; slabs.out() == 0);
+    holds(rt, slabs.out() == 0);
 }
 
 // A page of the kind is filled and emptied; it has so many objects.
 fn fills_and_empties<K: Kind>(rt: &impl Abort, alloc: Global, count: u32) {
     let mut arena = arena_of(rt, alloc, 1);
     let mut slabs = grown::<K>(rt, alloc, &mut arena);
-    assert!(rt; slabs.has(0) && !slabs.has(1));
+    holds(rt, slabs.has(0) && !slabs.has(1));
     let mut held = Vec::new(alloc);
     take_all(rt, &mut slabs, &mut held, count);
     give_all(rt, &mut slabs, held);
     let Some(span) = slabs.reap() else {
         panic!(rt; "a slab with nothing out is not given up");
     };
-    assert!(rt; arena.give(span) && !slabs.has(0) && arena.largest() == 1);
+    holds(
+        rt,
+        arena.give(span) && !slabs.has(0) && arena.largest() == 1,
+    );
     slabs.end();
 }
 
@@ -86,8 +90,11 @@ fn slabs_refuse_an_object_of_a_page_that_they_lack(rt: HostRuntime) {
     let Some(stranger) = there.take() else {
         panic!(rt; "a grown slab has no object");
     };
-    assert!(rt; stranger.slot() / 256 == 1);
-    assert!(rt; !here.give(stranger) && here.out() == 0 && there.out() == 1);
+    holds(&rt, stranger.slot() / 256 == 1);
+    holds(
+        &rt,
+        !here.give(stranger) && here.out() == 0 && there.out() == 1,
+    );
     here.end();
     there.end();
 }
@@ -100,11 +107,14 @@ fn a_client_finds_the_image_whoever_wrote_before(rt: HostRuntime) {
         panic!(rt; "a grown slab has no object");
     };
     let mut held = home.construct().hold();
-    assert!(rt; held.bytes().iter().all(|byte| *byte == 0x5a));
+    holds(&rt, held.bytes().iter().all(|byte| *byte == 0x5a));
     held.write(510, &[1, 2]);
-    assert!(rt; matches!(&held.bytes()[509..], [0x5a, 1, 2]));
+    holds(&rt, matches!(&held.bytes()[509..], [0x5a, 1, 2]));
     let again = held.restore().hold();
-    assert!(rt; again.bytes().len() == 512 && again.bytes().iter().all(|byte| *byte == 0x5a));
-    assert!(rt; slabs.give(again.restore().retire()));
+    holds(
+        &rt,
+        again.bytes().len() == 512 && again.bytes().iter().all(|byte| *byte == 0x5a),
+    );
+    holds(&rt, slabs.give(again.restore().retire()));
     slabs.end();
 }

@@ -1,8 +1,7 @@
 //! What can happen in the world.
 
-ghost use Rattle.std.specs.Prelude.{◌≡◌, IfOk};
+ghost use Rattle.std.specs.Prelude.{◌≡◌};
 
-use std::alloc::{AllocError, Global};
 use std::marker::Model;
 
 /// The bytes that a run's program reads as its context. Contracts see it as the list.
@@ -64,30 +63,4 @@ pub enum Event {
     Grow { kind: u8, slot: u32 },
     /// A slot leaves the ledger of a kind.
     Reap { kind: u8, slot: u32 },
-}
-
-impl Event {
-    /// The same event. It fails for want of memory alone, which a context takes.
-    pub fn copied(&self, alloc: Global) -> Result<Event, AllocError>
-        ensures { IfOk result (λ event. event ≡ self.now) }
-    {
-        Ok(match self {
-            Event::Start { program, context } => Event::Start {
-                program: *program,
-                context: Context::new(context.as_slice().to_vec(alloc)?),
-            },
-            Event::Exec { run, answer } => Event::Exec {
-                run: *run,
-                answer: *answer,
-            },
-            Event::Grow { kind, slot } => Event::Grow {
-                kind: *kind,
-                slot: *slot,
-            },
-            Event::Reap { kind, slot } => Event::Reap {
-                kind: *kind,
-                slot: *slot,
-            },
-        })
-    }
 }

@@ -29,7 +29,7 @@ pub fn replay<'v>(
     accept(programs);
     let mut world = World::new(alloc, programs)?;
     for (index, event) in events.iter().enumerate() {
-        match world.apply(event.copied(alloc)?) {
+        match world.follow(event) {
             Ok(()) => {}
             Err(ApplyFault::Bad(code)) => return Err(ReplayFault::Bad { index, code }),
             Err(ApplyFault::NoMemory) => return Err(ReplayFault::NoMemory),

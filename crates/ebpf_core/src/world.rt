@@ -71,7 +71,25 @@ impl<'v> World<'v> {
     {
         match event {
             Event::Start { program, context } => self.start(program, context),
-            Event::Exec { run, answer } => self.execute(run, answer),
+            other => self.follow(&other),
+        }
+    }
+
+    // One event, of which the context of a start is copied.
+    pub(crate) fn follow(&mut self, event: &Event) -> Result<(), ApplyFault>
+        ensures done { OnOk result (IsDone event.now self.old self.new) }
+        ensures refused { IfErr result (IsRefused event.now self.old) }
+        ensures unchanged { OnErr result (self.new ≡ self.old) }
+        ensures programs { self.new.programs ≡ self.old.programs }
+    {
+        match event {
+            Event::Start { program, context } => {
+                let Ok(bytes) = context.as_slice().to_vec(self.alloc) else {
+                    return Err(ApplyFault::NoMemory);
+                };
+                self.start(*program, Context::new(bytes))
+            }
+            Event::Exec { run, answer } => self.execute(*run, *answer),
             Event::Grow { kind: _, slot: _ } => Err(ApplyFault::Bad(ApplyCode::E9)),
             Event::Reap { kind: _, slot: _ } => Err(ApplyFault::Bad(ApplyCode::E9)),
         }

@@ -24,35 +24,44 @@ pub struct OneOptions<'a> {
 
 /// The commands with their options.
 pub fn command<'a>(alloc: Global) -> Result<Command<'a>, AllocError> {
-    Command::new(alloc, "ebpf_run")
+    let one = one_command(alloc)?;
+    let all = Command::new(alloc, "ebpf_run")
         .about("Runs small eBPF programs")
         .subcommand_required(true)
-        .subcommand(one_command(alloc)?)?
-        .subcommand(list_command(alloc))?
+        .subcommand(one)?;
+    all.subcommand(list_command(alloc))?
         .subcommand(replay_command(alloc))
 }
 
 fn one_command<'a>(alloc: Global) -> Result<Command<'a>, AllocError> {
-    let context = Arg::new(alloc, "context")
+    let one = Command::new(alloc, "one").about("Runs the program whose hex is on standard input");
+    one.arg(context_option(alloc))?
+        .arg(held_option(alloc))?
+        .arg(nulls_option(alloc))
+}
+
+fn context_option<'a>(alloc: Global) -> Arg<'a> {
+    Arg::new(alloc, "context")
         .long("context")
         .value_name("HEX")
         .default_value("-")
-        .help("The context as hex digits, or - for none");
-    let held = Arg::new(alloc, "held")
+        .help("The context as hex digits, or - for none")
+}
+
+fn held_option<'a>(alloc: Global) -> Arg<'a> {
+    Arg::new(alloc, "held")
         .long("held")
         .value_name("N")
         .value_parser(value_parser!(u8).range(0..=64))
         .default_value("0")
-        .help("How many objects the program may hold at one time, 0 to 64");
-    let nulls = Arg::new(alloc, "nulls")
+        .help("How many objects the program may hold at one time, 0 to 64")
+}
+
+fn nulls_option<'a>(alloc: Global) -> Arg<'a> {
+    Arg::new(alloc, "nulls")
         .long("nulls")
         .action(ArgAction::SetTrue)
-        .help("Answers each call of new with null");
-    Command::new(alloc, "one")
-        .about("Runs the program whose hex is on standard input")
-        .arg(context)?
-        .arg(held)?
-        .arg(nulls)
+        .help("Answers each call of new with null")
 }
 
 fn list_command<'a>(alloc: Global) -> Command<'a> {

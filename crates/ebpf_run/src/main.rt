@@ -45,9 +45,15 @@ fn run<R: AllocGlobal + Env + Eprint + Input + Print>(rt: &R) -> Result<u8, Engi
         Ok(matches) => matches,
         Err(error) => return tell(rt, &error),
     };
-    let Some(task) = task_of(&matches) else {
-        return Ok(MISTAKEN);
-    };
+    match task_of(&matches) {
+        Some(task) => perform(rt, task),
+        None => Ok(MISTAKEN),
+    }
+}
+
+// Does a task on the standard streams, and gives the exit status.
+fn perform<R: AllocGlobal + Input + Print>(rt: &R, task: Task<'_>) -> Result<u8, EngineFault> {
+    let alloc = rt.alloc();
     let mut reader = rt.reader();
     let mut writer = io::writer(rt);
     let done = match task {

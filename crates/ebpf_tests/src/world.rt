@@ -1,8 +1,7 @@
 //! Worlds of small programs, each written as a script: what replay answers, which events are refused, and that no order
 //! matters.
 
-use crate::accepted::{read, script_of};
-use crate::events::tell_event;
+use crate::accepted::read;
 use crate::programs::{column, holds, is_told};
 use ebpf_core::event::{Answer, Context, Event};
 use ebpf_core::fault::{ApplyCode, ApplyFault, ReplayFault};
@@ -31,43 +30,6 @@ fn a_context_has_its_bytes(rt: HostRuntime) {
     let bytes = Vec::from_slice(rt.alloc(), &[1, 2, 3]).expect(&rt, "out of memory");
     let context = Context::new(bytes);
     holds(&rt, "three bytes", matches!(context.as_slice(), [1, 2, 3]));
-}
-
-// Each kind of event.
-const EVENTS: &str = "\
-program a 0 0 -
-program b 0 0 -
-start b 09
-exec 5
-exec 6 77
-grow 1 8
-reap 2 9
-";
-
-// The words for each.
-const COPIED: &str = "\
-start 1 [9]
-exec 5
-exec 6 77
-grow 1 8
-reap 2 9
-";
-
-// The words for the copies of these events.
-fn words_of_copies(rt: &impl Abort, alloc: Global, events: &[Event]) -> String {
-    let mut told = String::new(alloc);
-    for event in events {
-        let copy = event.copied(alloc).expect(rt, "out of memory");
-        tell_event(&mut told, &copy).expect(rt, "out of memory");
-    }
-    told
-}
-
-#[test]
-fn a_copied_event_is_the_same(rt: HostRuntime) {
-    let script = script_of(&rt, rt.alloc(), EVENTS);
-    let told = words_of_copies(&rt, rt.alloc(), &script.events);
-    is_told(&rt, "copies", told.as_str(), COPIED);
 }
 
 // How far a run of a world is.

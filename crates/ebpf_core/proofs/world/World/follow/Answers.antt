@@ -1,6 +1,6 @@
 use Rattle.std.proofs.Common.{refl}
 use Rattle.ebpf_machine.specs.World.{NoSuchProgramOrKind}
-use Rattle.ebpf_core.proofs.world.World.apply.Goals as goal
+use Rattle.ebpf_core.proofs.world.World.follow.Goals as goal
 
 pub returns-in-Grow-clause-refused : goal.returns-in-Grow-clause-refused
 returns-in-Grow-clause-refused c = rw c.in-Grow.is (λ w h. (NoSuchProgramOrKind, refl, refl))
