@@ -1,10 +1,10 @@
 -- Rounds that move from one magazine to another: as a whole they stay the same.
-use Rattle.std.proofs.Common.{◌≡◌, ℕ, ◌<◌, List, [], ◌∷◌, ◌++◌, length, Option, None, Some, refl, sym, ap, subst, ◌∙◌, append_assoc, append-nil, length-append, arith, inl, inr}
+use Rattle.std.proofs.Common.{◌≡◌, ◌⊎◌, ℕ, ◌<◌, List, [], ◌∷◌, ◌++◌, length, Option, None, Some, refl, sym, ap, ◌∙◌, append_assoc, append-nil, length-append, arith, inl, inr}
 use Rattle.std.specs.Prelude.{IfSome, option_to_list}
 use Rattle.std.specs.List.{concat, All}
 use Rattle.std.specs.List.Sorted.{IsPermutation}
 use Rattle.std.proofs.lemmas.List.Elements.{All-head}
-use Rattle.std.proofs.lemmas.List.Sorted.{IsPermutation-sym, IsPermutation-trans, IsPermutation-to_front, IsPermutation-append_left, IsPermutation-append_comm}
+use Rattle.std.proofs.lemmas.List.Sorted.{IsPermutation-refl, IsPermutation-sym, IsPermutation-trans, IsPermutation-cons, IsPermutation-to_front, IsPermutation-append_left, IsPermutation-append_comm}
 use Rattle.slab_layer.specs.Kinds.{Row, IsRow}
 use Rattle.magazine.specs.LayerView.{LayerView, rounds_of, exchanged}
 use Rattle.magazine.specs.DepotView.{DepotView}
@@ -23,24 +23,24 @@ holds_some r row = elim row [
 one_more : (loaded previous : List ℕ) (slot : ℕ) → IsPermutation ((loaded ++ slot ∷ []) ++ previous) (slot ∷ (loaded ++ previous))
 one_more loaded previous slot = IsPermutation-append_left previous (loaded ++ slot ∷ []) (slot ∷ loaded) (IsPermutation-to_front loaded slot)
 
--- a layer's rounds, where one left the loaded magazine
-pub taken_loaded : (old : LayerView) (loaded rest previous : List ℕ) (slot : ℕ) → record { loaded = loaded; previous = previous } ≡ old → loaded ≡ rest ++ slot ∷ [] → IsPermutation (rounds_of old) (slot ∷ (rest ++ previous))
-taken_loaded old loaded rest previous slot is popped = subst (λ (l : LayerView). IsPermutation (rounds_of l) (slot ∷ (rest ++ previous))) is (subst (λ (xs : List ℕ). IsPermutation (xs ++ previous) (slot ∷ (rest ++ previous))) (sym popped) (one_more rest previous slot))
+-- a layer whose two magazines were exchanged, or weren't
+turned_rounds : (old turned : LayerView) → (turned ≡ exchanged old) ⊎ (turned ≡ old) → IsPermutation (rounds_of old) (rounds_of turned)
+turned_rounds old turned (inl is) = rw is (IsPermutation-append_comm old.loaded old.previous)
+turned_rounds old turned (inr is) = rw is (IsPermutation-refl (rounds_of old))
 
--- where the two magazines were exchanged before that
-pub taken_exchanged : (old turned : LayerView) (loaded rest previous : List ℕ) (slot : ℕ) → turned ≡ exchanged old → record { loaded = loaded; previous = previous } ≡ turned → loaded ≡ rest ++ slot ∷ [] → IsPermutation (rounds_of old) (slot ∷ (rest ++ previous))
-taken_exchanged old turned loaded rest previous slot from is popped = IsPermutation-trans (rounds_of old) (rounds_of (exchanged old)) _ (IsPermutation-append_comm old.loaded old.previous) (taken_loaded (exchanged old) loaded rest previous slot (is ∙ from) popped)
+-- and one round left its loaded magazine then
+pub taken_rounds : (old turned : LayerView) (loaded rest previous : List ℕ) (slot : ℕ) → (turned ≡ exchanged old) ⊎ (turned ≡ old) → record { loaded = loaded; previous = previous } ≡ turned → loaded ≡ rest ++ slot ∷ [] → IsPermutation (rounds_of old) (slot ∷ (rest ++ previous))
+taken_rounds old turned loaded rest previous slot from is popped =
+    let whole : rounds_of turned ≡ (rest ++ slot ∷ []) ++ previous = sym (ap rounds_of is) ∙ ap (λ (rounds : List ℕ). rounds ++ previous) popped in
+    IsPermutation-trans (rounds_of old) (rounds_of turned) _ (turned_rounds old turned from) (rw whole (one_more rest previous slot))
 
--- the exchange of the two, where a pop that found nothing came before it
-pub exchanged_after : (old turned : LayerView) (loaded left previous : List ℕ) → left ≡ loaded → record { loaded = loaded; previous = previous } ≡ old → turned ≡ exchanged (record { loaded = left; previous = previous }) → turned ≡ exchanged old
-exchanged_after old turned loaded left previous same is from =
-    let with_loaded : List ℕ → LayerView = λ rounds. record { loaded = rounds; previous = previous } in
-    from ∙ ap exchanged (ap with_loaded same ∙ is)
+-- or one came onto it
+pub given_rounds : (old turned : LayerView) (loaded more previous : List ℕ) (slot : ℕ) → (turned ≡ exchanged old) ⊎ (turned ≡ old) → record { loaded = loaded; previous = previous } ≡ turned → more ≡ loaded ++ slot ∷ [] → IsPermutation (slot ∷ rounds_of old) (more ++ previous)
+given_rounds old turned loaded more previous slot from is pushed =
+    let whole : slot ∷ rounds_of turned ≡ slot ∷ (loaded ++ previous) = ap (λ (l : LayerView). slot ∷ rounds_of l) (sym is) in
+    IsPermutation-trans (slot ∷ rounds_of old) (slot ∷ rounds_of turned) _ (IsPermutation-cons slot (rounds_of old) (rounds_of turned) (turned_rounds old turned from)) (rw (whole, pushed) (IsPermutation-sym _ _ (one_more loaded previous slot)))
 
--- where one came onto the loaded magazine
-pub given_loaded : (old : LayerView) (loaded more previous : List ℕ) (slot : ℕ) → record { loaded = loaded; previous = previous } ≡ old → more ≡ loaded ++ slot ∷ [] → IsPermutation (slot ∷ rounds_of old) (more ++ previous)
-given_loaded old loaded more previous slot is pushed = subst (λ (l : LayerView). IsPermutation (slot ∷ rounds_of l) (more ++ previous)) is (subst (λ (xs : List ℕ). IsPermutation (slot ∷ (loaded ++ previous)) (xs ++ previous)) (sym pushed) (IsPermutation-sym _ _ (one_more loaded previous slot)))
-
+-- a whole magazine on top of a stack
 concat_push : (ms : List (List ℕ)) (m : List ℕ) → concat (ms ++ m ∷ []) ≡ concat ms ++ m
 concat_push [] m = append-nil m
 concat_push (l ∷ ls) m = ap (λ r. l ++ r) (concat_push ls m) ∙ sym (append_assoc l (concat ls) m)

@@ -7,8 +7,9 @@
 //! *The invariant.* The previous magazine is full or empty.
 //!
 //! *The reason.* A layer belongs to one worker, so `try_take` and `try_give` ask nobody: each is a test of a
-//! bound and the move of one object. What they answer where they can't serve is what the depot's exchange
-//! needs: no round is here, or both magazines are full.
+//! bound and the move of one object. Where both magazines are empty their exchange changes nothing, so
+//! `try_take` has no need to look at the previous one first. What the two calls answer where they can't serve
+//! is what the depot's exchange needs: no round is here, or both magazines are full.
 
 ghost use Rattle.std.specs.Prelude.{◌≡◌, ℕ, ◌+◌, ◌<◌, ◌↔◌, ◌⊎◌, [], ◌∷◌, ◌++◌, length, false, IsTrue, IsSome, IsOk, IfSome, IfNone, OnOk, IfOk, IfErr, OnErr, IsPermutation};
 ghost use Rattle.magazine.specs.LayerView.{rounds_of, IsEmpty, IsFull, exchanged, with_round};
@@ -63,6 +64,7 @@ impl<K: Kind> Layer<K> {
 
     /// Takes a round, off the loaded magazine; where that is empty, the two are exchanged first. Some exactly
     /// where loaded or previous holds a round.
+    #[inline]
     pub fn try_take(&mut self) -> Option<Obj<K, Ready>>
         ensures some { IsSome result ↔ ((0 < length self.old.loaded) ⊎ (0 < length self.old.previous)) }
         ensures taken { IfSome result (λ object. IsPermutation (rounds_of self.old) (object.slot ∷ rounds_of self.new)) }
@@ -75,16 +77,16 @@ impl<K: Kind> Layer<K> {
         ensures none { IfNone result (IsEmpty self.old) }
         ensures unchanged { IfNone result (self.new ≡ self.old) }
     {
-        if let Some(object) = self.loaded.pop() {
-            return Some(object);
+        if self.loaded.is_empty() {
+            self.exchange();
         }
-        self.exchange();
         self.loaded.pop()
     }
 
     /// Takes the object in as a round, onto the loaded magazine; where that is full and the previous one is
     /// empty, the two are exchanged first. Ok exactly where loaded isn't full or previous is empty; else the
     /// object comes back as it was.
+    #[inline]
     pub fn try_give(&mut self, object: Obj<K, Ready>) -> Result<(), Obj<K, Ready>>
         ensures ok { IsOk result ↔ ((length self.old.loaded < K.ROUNDS) ⊎ (self.old.previous ≡ [])) }
         ensures given { OnOk result (IsPermutation (object.slot ∷ rounds_of self.old) (rounds_of self.new)) }
@@ -98,14 +100,12 @@ impl<K: Kind> Layer<K> {
         ensures returned { IfErr result (λ back. back ≡ object) }
         ensures unchanged { OnErr result (self.new ≡ self.old) }
     {
-        if !self.loaded.is_full() {
-            self.loaded.push(object);
-            return Ok(());
+        if self.loaded.is_full() {
+            if !self.previous.is_empty() {
+                return Err(object);
+            }
+            self.exchange();
         }
-        if !self.previous.is_empty() {
-            return Err(object);
-        }
-        self.exchange();
         self.loaded.push(object);
         Ok(())
     }

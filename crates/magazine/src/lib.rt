@@ -6,9 +6,9 @@
 //! as many rounds as its kind says, M. The magazines that no worker has lie in a [`Depot`], full ones and empty
 //! ones, which the workers share under a lock.
 //!
-//! *Why two magazines.* A worker with one magazine that takes and gives in turn, just where it runs out, would
-//! go to the depot for each object: for a full one, for an empty one, for a full one again. So a worker has
-//! two, its [`Layer`]: the loaded one, and the previous one, which was loaded before. Where the loaded one
+//! *Why two magazines.* A worker with one magazine that takes a few objects and gives a few in turn, just where
+//! the magazine runs out, would go to the depot each time: for a full one, then for an empty one. So a worker
+//! has two, its [`Layer`]: the loaded one, and the previous one, which was loaded before. Where the loaded one
 //! can't serve and the previous one can, the two are exchanged. A trip to the depot leaves one full and one
 //! empty, so at least M calls are served before the next trip, in whatever order they take and give.
 //!

@@ -1,11 +1,11 @@
+use Rattle.std.proofs.Common.{◌≡◌, ◌⊎◌, inl, inr, ◌∙◌}
 use Rattle.std.proofs.lemmas.Option.{IfSome_then}
-use Rattle.magazine.proofs.Rounds.{taken_loaded, taken_exchanged, exchanged_after}
+use Rattle.magazine.specs.LayerView.{exchanged}
+use Rattle.magazine.proofs.Rounds.{taken_rounds}
 use Rattle.magazine.proofs.layer.Layer.try_take.Goals as goal
-
-pub returns-in-Some-clause-taken : goal.returns-in-Some-clause-taken
-returns-in-Some-clause-taken g c = taken_loaded c.args.self.now c.self.inside.loaded c.pop.new.self c.self.inside.previous c.in-Some.object.slot c.self.view_is c.in-Some.ensures.taken
+use Rattle.magazine.proofs.layer.Layer.try_take.Goals.{then-is_empty, else-is_empty}
 
 pub returns-clause-taken : goal.returns-clause-taken
 returns-clause-taken g c =
-    let turned = exchanged_after c.args.self.now c.exchange.new.self c.self.inside.loaded c.pop.new.self c.self.inside.previous c.in_default.ensures.unchanged c.self.view_is c.exchange.ensures in
-    IfSome_then c.pop-2.result c.pop-2.ensures.taken (λ object popped. taken_exchanged c.args.self.now c.exchange.new.self c.self-2.inside.loaded c.pop-2.new.self c.self-2.inside.previous object.slot turned c.self-2.view_is popped)
+    let turned : (c.if-is_empty.self ≡ exchanged c.args.self.now) ⊎ (c.if-is_empty.self ≡ c.args.self.now) = elim c.if-is_empty.branch [ then-is_empty w ↦ inl (w.self-is ∙ w.exchange.ensures) | else-is_empty w ↦ inr w.self-is ] in
+    IfSome_then c.pop.result c.pop.ensures.taken (λ object popped. taken_rounds c.args.self.now c.if-is_empty.self c.self-2.inside.loaded c.pop.new.self c.self-2.inside.previous object.slot turned c.self-2.view_is popped)
