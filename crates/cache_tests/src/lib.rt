@@ -1,4 +1,4 @@
-//! Tests of the arena, the slabs and the tables of owners, as a user of the three crates calls them.
+//! Tests of the arena, the slabs, the magazines and the tables of owners, as a user of the four crates calls them.
 //!
 //! A contract says what a call does, and each is proved where it stands. What is tried here is what no contract says: that the
 //! calls succeed where memory is there, that the definitions mean the numbers that a person expects, and that threads
@@ -9,6 +9,8 @@
 mod arena;
 #[cfg(test)]
 mod facts;
+#[cfg(test)]
+mod magazines;
 #[cfg(test)]
 mod owners;
 #[cfg(test)]

@@ -8,7 +8,7 @@ use std::process::Abort;
 use vmem_arena::Arena;
 
 // Slabs with the objects of one page of the arena.
-fn grown<K: Kind>(rt: &impl Abort, alloc: Global, arena: &mut Arena) -> Slabs<K> {
+pub(crate) fn grown<K: Kind>(rt: &impl Abort, alloc: Global, arena: &mut Arena) -> Slabs<K> {
     let mut slabs = Slabs::new(alloc);
     let span = taken(rt, arena, 1);
     holds(rt, slabs.grow(span).is_ok());

@@ -8,7 +8,7 @@ use Rattle.slab_layer.specs.declared.place.Place.{Place}
 use Rattle.slab_layer.specs.declared.place.Place.TheVariants.{Home, Out}
 use Rattle.slab_layer.specs.Stacks.{times, HasSame, selected}
 use Rattle.slab_layer.specs.Slots.{Pages, place_of, IsHome, is_home, has_home, outs_in, out_count, Moves, AddsPage, RemovesPage}
-use Rattle.slab_layer.specs.Shelf.{IsShelf}
+use Rattle.slab_layer.specs.PartialStack.{IsPartialStack}
 use Rattle.slab_layer.proofs.Selecting.{hit, one, times-selected-set, length-selected-set, length-selected-le, found, selected_some, popped_each, popped_here}
 
 slice_get-set_same : {A : Type 0} (xs : List A) (i : ℕ) (a : A) → i < length xs → slice_get (set xs i a) i ≡ Some a
@@ -133,16 +133,16 @@ has_home-homes zero some = absurd (omega arith)
 has_home-homes (suc n) some = refl
 
 -- what is kept, after a change of one page
-pub shelf-set : (pages : Pages) (numbers partial after : List ℕ) (out left p : ℕ) (ps : List Place) → IsShelf pages numbers partial out → p < length pages → length ps ≤ 256 → HasSame after (selected has_home 0 (set pages p ps)) → left + outs_in (get_or pages p []) ≡ out + outs_in ps → IsShelf (set pages p ps) numbers after left
-shelf-set pages numbers partial after out left p ps shelf within few stacked counted = record {
-  sized = elim shelf.sized [ inl none ↦ inl (omega (arith, length-set pages p ps)) | inr all ↦ inr (omega (arith, length-set pages p ps)) ];
+pub partial-set : (pages : Pages) (numbers partial after : List ℕ) (out left p : ℕ) (ps : List Place) → IsPartialStack pages numbers partial out → p < length pages → length ps ≤ 256 → HasSame after (selected has_home 0 (set pages p ps)) → left + outs_in (get_or pages p []) ≡ out + outs_in ps → IsPartialStack (set pages p ps) numbers after left
+partial-set pages numbers partial after out left p ps stack within few stacked counted = record {
+  sized = elim stack.sized [ inl none ↦ inl (omega (arith, length-set pages p ps)) | inr all ↦ inr (omega (arith, length-set pages p ps)) ];
   small = λ q. elim (cases_eq q p) [
     | inl same ↦ rw (same, get_or-set_same pages p ps [] within) few
-    | inr other ↦ rw (get_or-set_other pages p q ps [] other) (shelf.small q)
+    | inr other ↦ rw (get_or-set_other pages p q ps [] other) (stack.small q)
   ];
-  numbered = λ q inside. shelf.numbered q (omega (arith, length-set pages p ps));
+  numbered = λ q inside. stack.numbered q (omega (arith, length-set pages p ps));
   stacked = stacked;
-  counted = omega (arith, out_count-set pages p ps within, shelf.counted);
+  counted = omega (arith, out_count-set pages p ps within, stack.counted);
 }
 
 -- no page begins or ends to have an object at home
@@ -192,12 +192,12 @@ none_home pages slot none home = elim (cases_lt (slot / 256) (length pages)) [
     has_none e = let f : slice_get [] (slot % 256) ≡ Some Home = subst (λ qs. slice_get qs (slot % 256) ≡ Some Home) e home in cc
 
 -- an out is one of at most 256 * 256
-pub shelf_few : (pages : Pages) (numbers partial : List ℕ) (out : ℕ) → IsShelf pages numbers partial out → out ≤ 65536
-shelf_few pages numbers partial out shelf = few shelf.sized
+pub partial_few : (pages : Pages) (numbers partial : List ℕ) (out : ℕ) → IsPartialStack pages numbers partial out → out ≤ 65536
+partial_few pages numbers partial out stack = few stack.sized
   where
     few : (length pages ≡ 0) ⊎ (length pages ≡ 256) → out ≤ 65536
-    few (inl none) = omega (arith, shelf.counted, out_count-le pages shelf.small)
-    few (inr all) = omega (arith, shelf.counted, out_count-le pages shelf.small)
+    few (inl none) = omega (arith, stack.counted, out_count-le pages stack.small)
+    few (inr all) = omega (arith, stack.counted, out_count-le pages stack.small)
 
 -- the stack after an object was taken
 after_take : (b : Bool) (pages : Pages) (partial rest : List ℕ) (p : ℕ) (ps : List Place) → has_home ps ≡ b → HasSame partial (selected has_home 0 pages) → partial ≡ rest ++ p ∷ [] → p < length pages → has_home (get_or pages p []) ≡ true → HasSame (if not b then rest else partial) (selected has_home 0 (set pages p ps))
@@ -214,48 +214,48 @@ module _ {X : Type 0} (places : X → List Place) (number : X → ℕ) where
   pub places_read : (xs : List X) (at : ℕ) (x : X) → at < length xs → x ≡ get_or xs at x → get_or (map places xs) at [] ≡ places x
   places_read xs at x within read = get_or-map places xs at x [] within ∙ ap places (sym read)
 
-  pub shelf_after : (xs : List X) (at : ℕ) (old new : X) (partial after : List ℕ) (out left : ℕ) → IsShelf (map places xs) (map number xs) partial out → at < length xs → old ≡ get_or xs at old → number new ≡ number old → length (places new) ≤ 256 → HasSame after (selected has_home 0 (set (map places xs) at (places new))) → left + outs_in (places old) ≡ out + outs_in (places new) → IsShelf (map places (set xs at new)) (map number (set xs at new)) after left
-  shelf_after xs at old new partial after out left shelf within read same few stacked counted =
+  pub partial_after : (xs : List X) (at : ℕ) (old new : X) (partial after : List ℕ) (out left : ℕ) → IsPartialStack (map places xs) (map number xs) partial out → at < length xs → old ≡ get_or xs at old → number new ≡ number old → length (places new) ≤ 256 → HasSame after (selected has_home 0 (set (map places xs) at (places new))) → left + outs_in (places old) ≡ out + outs_in (places new) → IsPartialStack (map places (set xs at new)) (map number (set xs at new)) after left
+  partial_after xs at old new partial after out left stack within read same few stacked counted =
       let inside : at < length (map places xs) = omega (arith, length-map xs places) in
       let was = places_read xs at old within read in
       let balance : left + outs_in (get_or (map places xs) at []) ≡ out + outs_in (places new) = rw was counted in
       let stays : set (map number xs) at (number new) ≡ map number xs =
       ap (λ n. set (map number xs) at n) (same ∙ (ap number read ∙ sym (get_or-map number xs at old 0 within))) ∙ set-get_or (map number xs) at 0 in
-      let P : Pages → List ℕ → Type 0 = λ ps ns. IsShelf ps ns after left in
+      let P : Pages → List ℕ → Type 0 = λ ps ns. IsPartialStack ps ns after left in
       subst (λ (ps : Pages). P ps (map number (set xs at new))) (sym (map-set places xs at new))
       (subst (λ (ns : List ℕ). P (set (map places xs) at (places new)) ns) (sym (map-set number xs at new ∙ stays))
-      (shelf-set (map places xs) (map number xs) partial after out left at (places new) shelf inside few stacked balance))
+      (partial-set (map places xs) (map number xs) partial after out left at (places new) stack inside few stacked balance))
 
   -- an object is taken from the page on top of the stack
-  pub shelf_taken : (xs : List X) (at i : ℕ) (old new : X) (partial rest after : List ℕ) (out : ℕ) (b : Bool) → IsShelf (map places xs) (map number xs) partial out → partial ≡ rest ++ at ∷ [] → at < length xs → old ≡ get_or xs at old → number new ≡ number old → slice_get (places old) i ≡ Some Home → places new ≡ set (places old) i Out → b ≡ has_home (places new) → after ≡ (if not b then rest else partial) → IsShelf (map places (set xs at new)) (map number (set xs at new)) after (out + 1)
-  shelf_taken xs at i old new partial rest after out b shelf top within read same was is now then' =
+  pub partial_taken : (xs : List X) (at i : ℕ) (old new : X) (partial rest after : List ℕ) (out : ℕ) (b : Bool) → IsPartialStack (map places xs) (map number xs) partial out → partial ≡ rest ++ at ∷ [] → at < length xs → old ≡ get_or xs at old → number new ≡ number old → slice_get (places old) i ≡ Some Home → places new ≡ set (places old) i Out → b ≡ has_home (places new) → after ≡ (if not b then rest else partial) → IsPartialStack (map places (set xs at new)) (map number (set xs at new)) after (out + 1)
+  partial_taken xs at i old new partial rest after out b stack top within read same was is now then' =
       let inside : at < length (map places xs) = omega (arith, length-map xs places) in
       let reads = places_read xs at old within read in
-      let few : length (places new) ≤ 256 = rw (is, length-set (places old) i Out, sym reads) (shelf.small at) in
+      let few : length (places new) ≤ 256 = rw (is, length-set (places old) i Out, sym reads) (stack.small at) in
       let stands : has_home (get_or (map places xs) at []) ≡ true = rw reads (has_home_at (places old) i was) in
       let H : List ℕ → Type 0 = λ ns. HasSame ns (selected has_home 0 (set (map places xs) at (places new))) in
-      let stacked = subst H (sym then') (after_take b (map places xs) partial rest at (places new) (sym now) shelf.stacked top inside stands) in
+      let stacked = subst H (sym then') (after_take b (map places xs) partial rest at (places new) (sym now) stack.stacked top inside stands) in
       let count : outs_in (places new) ≡ outs_in (places old) + 1 = ap outs_in is ∙ outs_in-out (places old) i was in
-      shelf_after xs at old new partial after out (out + 1) shelf within read same few stacked (omega (arith, count))
+      partial_after xs at old new partial after out (out + 1) stack within read same few stacked (omega (arith, count))
 
   -- an object is given back to its page
-  pub shelf_given : (xs : List X) (at i : ℕ) (old new : X) (partial after : List ℕ) (out left : ℕ) (b : Bool) → IsShelf (map places xs) (map number xs) partial out → at < length xs → old ≡ get_or xs at old → number new ≡ number old → slice_get (places old) i ≡ Some Out → places new ≡ set (places old) i Home → b ≡ has_home (places old) → after ≡ (if not b then partial ++ at ∷ [] else partial) → left + 1 ≡ out → IsShelf (map places (set xs at new)) (map number (set xs at new)) after left
-  shelf_given xs at i old new partial after out left b shelf within read same was is before then' less =
+  pub partial_given : (xs : List X) (at i : ℕ) (old new : X) (partial after : List ℕ) (out left : ℕ) (b : Bool) → IsPartialStack (map places xs) (map number xs) partial out → at < length xs → old ≡ get_or xs at old → number new ≡ number old → slice_get (places old) i ≡ Some Out → places new ≡ set (places old) i Home → b ≡ has_home (places old) → after ≡ (if not b then partial ++ at ∷ [] else partial) → left + 1 ≡ out → IsPartialStack (map places (set xs at new)) (map number (set xs at new)) after left
+  partial_given xs at i old new partial after out left b stack within read same was is before then' less =
       let inside : at < length (map places xs) = omega (arith, length-map xs places) in
       let reads = places_read xs at old within read in
-      let few : length (places new) ≤ 256 = rw (is, length-set (places old) i Home, sym reads) (shelf.small at) in
+      let few : length (places new) ≤ 256 = rw (is, length-set (places old) i Home, sym reads) (stack.small at) in
       let now : has_home (places new) ≡ true = ap has_home is ∙ has_home-set (places old) i (slice_get_within (places old) i Out was) in
       let H : List ℕ → Type 0 = λ ns. HasSame ns (selected has_home 0 (set (map places xs) at (places new))) in
-      let stacked = subst H (sym then') (after_give b (map places xs) partial at (places new) (ap has_home reads ∙ sym before) shelf.stacked inside now) in
+      let stacked = subst H (sym then') (after_give b (map places xs) partial at (places new) (ap has_home reads ∙ sym before) stack.stacked inside now) in
       let count : outs_in (places new) + 1 ≡ outs_in (places old) = ap (λ n. n + 1) (ap outs_in is) ∙ outs_in-home (places old) i was in
-      shelf_after xs at old new partial after out left shelf within read same few stacked (omega (arith, count))
+      partial_after xs at old new partial after out left stack within read same few stacked (omega (arith, count))
 
   -- there is room for a page that gets its first object
-  pub room_given : (xs : List X) (at i : ℕ) (old : X) (partial : List ℕ) (out : ℕ) → IsShelf (map places xs) (map number xs) partial out → at < length xs → old ≡ get_or xs at old → slice_get (places old) i ≡ Some Out → has_home (places old) ≡ false → length partial < length xs
-  room_given xs at i old partial out shelf within read was none =
+  pub room_given : (xs : List X) (at i : ℕ) (old : X) (partial : List ℕ) (out : ℕ) → IsPartialStack (map places xs) (map number xs) partial out → at < length xs → old ≡ get_or xs at old → slice_get (places old) i ≡ Some Out → has_home (places old) ≡ false → length partial < length xs
+  room_given xs at i old partial out stack within read was none =
       let inside : at < length (map places xs) = omega (arith, length-map xs places) in
       let now = has_home-set (places old) i (slice_get_within (places old) i Out was) in
-      let more = stack-more (map places xs) partial at (set (places old) i Home) shelf.stacked inside now (ap has_home (places_read xs at old within read) ∙ none) in
+      let more = stack-more (map places xs) partial at (set (places old) i Home) stack.stacked inside now (ap has_home (places_read xs at old within read) ∙ none) in
       omega (arith, more.1, length-map xs places)
 
   -- the map moves one slot
@@ -273,10 +273,10 @@ pub top_read : (ds partial : List ℕ) (p : ℕ) → ds ≡ partial → ds ≡ t
 top_read ds partial p same top = let P : List ℕ → Type 0 = λ ns. ns ≡ take (length ns - 1) ns ++ p ∷ [] in subst P same top
 
 -- with an empty stack no slot is home
-pub shelf_none : (ds : List ℕ) (pages : Pages) (numbers partial : List ℕ) (out slot : ℕ) → ds ≡ partial → ds ≡ [] → IsShelf pages numbers partial out → IsHome pages slot → ⊥
-shelf_none ds pages numbers partial out slot same none shelf home =
+pub partial_none : (ds : List ℕ) (pages : Pages) (numbers partial : List ℕ) (out slot : ℕ) → ds ≡ partial → ds ≡ [] → IsPartialStack pages numbers partial out → IsHome pages slot → ⊥
+partial_none ds pages numbers partial out slot same none stack home =
     let e : length partial ≡ 0 = ap length (sym same ∙ none) in
-    none_home pages slot (omega (arith, shelf.stacked.count)) home
+    none_home pages slot (omega (arith, stack.stacked.count)) home
 
 -- the element that was written
 pub read_set : {X : Type 0} (xs : List X) (at : ℕ) (new y : X) → at < length xs → y ≡ get_or (set xs at new) at y → y ≡ new
@@ -284,37 +284,37 @@ read_set xs at new y within read = read ∙ get_or-set_same xs at new y within
 
 module _ {X : Type 0} (places : X → List Place) (number : X → ℕ) where
   -- the page on top of the stack is in the table
-  pub top_within : (xs : List X) (partial rest : List ℕ) (p out : ℕ) → IsShelf (map places xs) (map number xs) partial out → partial ≡ rest ++ p ∷ [] → p < length xs
-  top_within xs partial rest p out shelf top =
+  pub top_within : (xs : List X) (partial rest : List ℕ) (p out : ℕ) → IsPartialStack (map places xs) (map number xs) partial out → partial ≡ rest ++ p ∷ [] → p < length xs
+  top_within xs partial rest p out stack top =
       let H : List ℕ → Type 0 = λ ns. HasSame ns (selected has_home 0 (map places xs)) in
-      omega (arith, length-map xs places, (top_has_home (map places xs) rest p (subst H top shelf.stacked)).0)
+      omega (arith, length-map xs places, (top_has_home (map places xs) rest p (subst H top stack.stacked)).0)
 
   -- and has an object at home
-  pub top_home : (xs : List X) (partial rest : List ℕ) (p out : ℕ) (x : X) → IsShelf (map places xs) (map number xs) partial out → partial ≡ rest ++ p ∷ [] → x ≡ get_or xs p x → has_home (places x) ≡ true
-  top_home xs partial rest p out x shelf top read =
+  pub top_home : (xs : List X) (partial rest : List ℕ) (p out : ℕ) (x : X) → IsPartialStack (map places xs) (map number xs) partial out → partial ≡ rest ++ p ∷ [] → x ≡ get_or xs p x → has_home (places x) ≡ true
+  top_home xs partial rest p out x stack top read =
       let H : List ℕ → Type 0 = λ ns. HasSame ns (selected has_home 0 (map places xs)) in
-      ap has_home (sym (places_read places number xs p x (top_within xs partial rest p out shelf top) read)) ∙ (top_has_home (map places xs) rest p (subst H top shelf.stacked)).1
+      ap has_home (sym (places_read places number xs p x (top_within xs partial rest p out stack top) read)) ∙ (top_has_home (map places xs) rest p (subst H top stack.stacked)).1
 
   -- where the object of a slot is, by its slab
   pub place_at : (xs : List X) (at s : ℕ) (x : X) → at < length xs → x ≡ get_or xs at x → s / 256 ≡ at → place_of (map places xs) s ≡ slice_get (places x) (s % 256)
   place_at xs at s x within read here = ap (λ qs. slice_get qs (s % 256)) (ap (λ k. get_or (map places xs) k []) here ∙ places_read places number xs at x within read)
 
   -- the slab at a place has noted that place
-  pub number_is : (xs : List X) (at out : ℕ) (partial : List ℕ) (x : X) → IsShelf (map places xs) (map number xs) partial out → at < length xs → x ≡ get_or xs at x → number x ≡ at
-  number_is xs at out partial x shelf within read = ap number read ∙ (sym (get_or-map number xs at x 0 within) ∙ shelf.numbered at (omega (arith, length-map xs places)))
+  pub number_is : (xs : List X) (at out : ℕ) (partial : List ℕ) (x : X) → IsPartialStack (map places xs) (map number xs) partial out → at < length xs → x ≡ get_or xs at x → number x ≡ at
+  number_is xs at out partial x stack within read = ap number read ∙ (sym (get_or-map number xs at x 0 within) ∙ stack.numbered at (omega (arith, length-map xs places)))
 
 -- two reads of one element
 pub same_read : {X : Type 0} (xs : List X) (i : ℕ) (x y : X) → i < length xs → x ≡ get_or xs i x → y ≡ get_or xs i y → x ≡ y
 same_read xs i x y within xs' ys = xs' ∙ (get_or_default xs i x y within ∙ sym ys)
 
 -- where an object is out, the count isn't 0
-pub out_some : {X : Type 0} (places : X → List Place) (number : X → ℕ) (xs : List X) (at i : ℕ) (old : X) (partial : List ℕ) (out : ℕ) → IsShelf (map places xs) (map number xs) partial out → at < length xs → old ≡ get_or xs at old → slice_get (places old) i ≡ Some Out → 1 ≤ out
-out_some places number xs at i old partial out shelf within read was =
+pub out_some : {X : Type 0} (places : X → List Place) (number : X → ℕ) (xs : List X) (at i : ℕ) (old : X) (partial : List ℕ) (out : ℕ) → IsPartialStack (map places xs) (map number xs) partial out → at < length xs → old ≡ get_or xs at old → slice_get (places old) i ≡ Some Out → 1 ≤ out
+out_some places number xs at i old partial out stack within read was =
     let inside : at < length (map places xs) = omega (arith, length-map xs places) in
     let e = out_count-set (map places xs) at [] inside in
     let f = ap outs_in (places_read places number xs at old within read) in
     let h = outs_in-home (places old) i was in
-    omega (arith, shelf.counted)
+    omega (arith, stack.counted)
 
 pub from_not : (b : Bool) → not b ≡ true → b ≡ false
 from_not true e = absurd (false≢true e)

@@ -11,8 +11,8 @@ use Rattle.slab_layer.specs.declared.place.Place.{Place}
 use Rattle.slab_layer.specs.declared.place.Place.TheVariants.{Home, Out}
 use Rattle.slab_layer.specs.Stacks.{times, HasSame, selected}
 use Rattle.slab_layer.specs.Slots.{Pages, place_of, IsOut, Has, has_home, outs_in, out_count, AddsPage, RemovesPage}
-use Rattle.slab_layer.specs.Shelf.{IsShelf}
-use Rattle.slab_layer.proofs.Changes.{places_read, shelf_after, stack-more, stack-less, number_is, outs_in-home, outs_in-homes, has_home-homes, length-homes, added, removed}
+use Rattle.slab_layer.specs.PartialStack.{IsPartialStack}
+use Rattle.slab_layer.proofs.Changes.{places_read, partial_after, stack-more, stack-less, number_is, outs_in-home, outs_in-homes, has_home-homes, length-homes, added, removed}
 
 first_place : (pages : Pages) (p : ℕ) → place_of pages (p * 256) ≡ slice_get (get_or pages p []) 0
 first_place pages p =
@@ -79,17 +79,17 @@ numbered_more number xs x n len each is p within =
           push ∙ (ap (λ k. slice_index (map number xs ++ number x ∷ []) k) last ∙ (get_or-append_seam (map number xs) (number x) [] 0 ∙ (is ∙ here)))
     ]
 
-pub shelf_filled : (olds pages : Pages) (numbers noted partial : List ℕ) (out : ℕ) → length olds ≡ 0 → IsShelf olds numbers partial out → length pages ≡ 256 → ((p : ℕ) → get_or pages p [] ≡ []) → ((p : ℕ) → p < 256 → slice_index noted p ≡ p) → IsShelf pages noted partial out
-shelf_filled olds pages numbers noted partial out none shelf all vacant numbered =
+pub partial_filled : (olds pages : Pages) (numbers noted partial : List ℕ) (out : ℕ) → length olds ≡ 0 → IsPartialStack olds numbers partial out → length pages ≡ 256 → ((p : ℕ) → get_or pages p [] ≡ []) → ((p : ℕ) → p < 256 → slice_index noted p ≡ p) → IsPartialStack pages noted partial out
+partial_filled olds pages numbers noted partial out none stack all vacant numbered =
     let e : olds ≡ [] = nil_from_length olds none in
-    let old : HasSame partial [] = subst (λ (ps : Pages). HasSame partial (selected has_home 0 ps)) e shelf.stacked in
+    let old : HasSame partial [] = subst (λ (ps : Pages). HasSame partial (selected has_home 0 ps)) e stack.stacked in
     let f = ap out_count e in
     record {
       sized = inr all;
       small = λ p. let g = ap length (vacant p) in omega arith;
       numbered = λ p within. numbered p (omega arith);
       stacked = subst (λ (ns : List ℕ). HasSame partial ns) (sym (selected-vacant pages 0 vacant)) old;
-      counted = omega (arith, shelf.counted, count-vacant pages vacant);
+      counted = omega (arith, stack.counted, count-vacant pages vacant);
     }
 
 -- a number whose element passes is selected
@@ -120,16 +120,16 @@ out_exists (Home ∷ ps) some = let rest = out_exists ps some in (suc rest.0, om
 
 module _ {X : Type 0} (places : X → List Place) (number : X → ℕ) where
   -- a page is grown
-  pub shelf_grown : (xs : List X) (at n out : ℕ) (old new : X) (partial : List ℕ) → IsShelf (map places xs) (map number xs) partial out → at < length xs → old ≡ get_or xs at old → get_or (map places xs) at [] ≡ [] → number new ≡ at → places new ≡ replicate n Home → 0 < n → n ≤ 256 → IsShelf (map places (set xs at new)) (map number (set xs at new)) (partial ++ at ∷ []) out × (length partial < length xs)
-  shelf_grown xs at n out old new partial shelf within read vacant noted is some few =
+  pub partial_grown : (xs : List X) (at n out : ℕ) (old new : X) (partial : List ℕ) → IsPartialStack (map places xs) (map number xs) partial out → at < length xs → old ≡ get_or xs at old → get_or (map places xs) at [] ≡ [] → number new ≡ at → places new ≡ replicate n Home → 0 < n → n ≤ 256 → IsPartialStack (map places (set xs at new)) (map number (set xs at new)) (partial ++ at ∷ []) out × (length partial < length xs)
+  partial_grown xs at n out old new partial stack within read vacant noted is some few =
       let inside : at < length (map places xs) = omega (arith, length-map xs places) in
       let none : places old ≡ [] = sym (places_read places number xs at old within read) ∙ vacant in
       let now : has_home (places new) ≡ true = ap has_home is ∙ has_home-homes n some in
       let was : has_home (get_or (map places xs) at []) ≡ false = ap has_home vacant in
-      let more = stack-more (map places xs) partial at (places new) shelf.stacked inside now was in
+      let more = stack-more (map places xs) partial at (places new) stack.stacked inside now was in
       let short : length (places new) ≤ 256 = let e = ap length is ∙ length-homes n in omega arith in
       let count : out + outs_in (places old) ≡ out + outs_in (places new) = let e = ap outs_in none in let f = ap outs_in is ∙ outs_in-homes n in omega arith in
-      (shelf_after places number xs at old new partial (partial ++ at ∷ []) out out shelf within read (noted ∙ sym (number_is places number xs at out partial old shelf within read)) short more.0 count, omega (arith, more.1, length-map xs places))
+      (partial_after places number xs at old new partial (partial ++ at ∷ []) out out stack within read (noted ∙ sym (number_is places number xs at out partial old stack within read)) short more.0 count, omega (arith, more.1, length-map xs places))
 
   pub grown : (xs : List X) (olds : Pages) (at n : ℕ) (new : X) → at < length xs → ((k : ℕ) → get_or (map places xs) k [] ≡ get_or olds k []) → places new ≡ replicate n Home → n ≤ 256 → AddsPage olds (map places (set xs at new)) at n
   grown xs olds at n new within same is few =
@@ -137,25 +137,25 @@ module _ {X : Type 0} (places : X → List Place) (number : X → ℕ) where
       rw (map-set places xs at new, is) (added (map places xs) olds at n few inside same)
 
   -- a place in the table is a page's number
-  pub low_place : (xs : List X) (at n out : ℕ) (partial : List ℕ) → IsShelf (map places xs) (map number xs) partial out → length xs ≡ n → at < n → at < 256
-  low_place xs at n out partial shelf is within = elim shelf.sized [ inl none ↦ absurd (omega (arith, length-map xs places)) | inr all ↦ omega (arith, length-map xs places) ]
+  pub low_place : (xs : List X) (at n out : ℕ) (partial : List ℕ) → IsPartialStack (map places xs) (map number xs) partial out → length xs ≡ n → at < n → at < 256
+  low_place xs at n out partial stack is within = elim stack.sized [ inl none ↦ absurd (omega (arith, length-map xs places)) | inr all ↦ omega (arith, length-map xs places) ]
 
   -- a page is reaped
-  pub on_stack : (xs : List X) (at out : ℕ) (partial : List ℕ) → IsShelf (map places xs) (map number xs) partial out → at < length xs → 0 < length (get_or (map places xs) at []) → outs_in (get_or (map places xs) at []) ≡ 0 → 0 < times at partial
-  on_stack xs at out partial shelf within had idle =
+  pub on_stack : (xs : List X) (at out : ℕ) (partial : List ℕ) → IsPartialStack (map places xs) (map number xs) partial out → at < length xs → 0 < length (get_or (map places xs) at []) → outs_in (get_or (map places xs) at []) ≡ 0 → 0 < times at partial
+  on_stack xs at out partial stack within had idle =
       let inside : at < length (map places xs) = omega (arith, length-map xs places) in
       let there = selected_times has_home (map places xs) 0 at at [] (omega arith) inside (idle_home (get_or (map places xs) at []) had idle) in
-      omega (arith, shelf.stacked.each at)
+      omega (arith, stack.stacked.each at)
 
-  pub shelf_reaped : (xs : List X) (at out : ℕ) (old new : X) (partial after : List ℕ) → IsShelf (map places xs) (map number xs) partial out → at < length xs → old ≡ get_or xs at old → 0 < length (get_or (map places xs) at []) → outs_in (get_or (map places xs) at []) ≡ 0 → number new ≡ at → places new ≡ [] → length after + 1 ≡ length partial → ((x : ℕ) → times x after + (if at == x then 1 else 0) ≡ times x partial) → IsShelf (map places (set xs at new)) (map number (set xs at new)) after out
-  shelf_reaped xs at out old new partial after shelf within read had idle noted is count each =
+  pub partial_reaped : (xs : List X) (at out : ℕ) (old new : X) (partial after : List ℕ) → IsPartialStack (map places xs) (map number xs) partial out → at < length xs → old ≡ get_or xs at old → 0 < length (get_or (map places xs) at []) → outs_in (get_or (map places xs) at []) ≡ 0 → number new ≡ at → places new ≡ [] → length after + 1 ≡ length partial → ((x : ℕ) → times x after + (if at == x then 1 else 0) ≡ times x partial) → IsPartialStack (map places (set xs at new)) (map number (set xs at new)) after out
+  partial_reaped xs at out old new partial after stack within read had idle noted is count each =
       let inside : at < length (map places xs) = omega (arith, length-map xs places) in
       let was = idle_home (get_or (map places xs) at []) had idle in
-      let less = stack-less (map places xs) partial after at (places new) shelf.stacked inside (ap has_home is) was count each in
+      let less = stack-less (map places xs) partial after at (places new) stack.stacked inside (ap has_home is) was count each in
       let short : length (places new) ≤ 256 = let e = ap length is in omega arith in
       let reads = ap outs_in (places_read places number xs at old within read) in
       let balance : out + outs_in (places old) ≡ out + outs_in (places new) = let e = ap outs_in is in omega arith in
-      shelf_after places number xs at old new partial after out out shelf within read (noted ∙ sym (number_is places number xs at out partial old shelf within read)) short less balance
+      partial_after places number xs at old new partial after out out stack within read (noted ∙ sym (number_is places number xs at out partial old stack within read)) short less balance
 
   pub reaped : (xs : List X) (at : ℕ) (new : X) → at < length xs → places new ≡ [] → RemovesPage (map places xs) (map places (set xs at new)) at
   reaped xs at new within is =
@@ -180,26 +180,26 @@ module _ {X : Type 0} (places : X → List Place) (number : X → ℕ) where
   had_within xs page has = omega (arith, has_within (map places xs) page has, length-map xs places)
 
   -- a page with an object that is out has a slot that is out
-  out_slot : (xs : List X) (numbers partial : List ℕ) (out page : ℕ) → IsShelf (map places xs) numbers partial out → 0 < outs_in (get_or (map places xs) page []) → (slot : ℕ) × (slot / 256 ≡ page) × IsOut (map places xs) slot
-  out_slot xs numbers partial out page shelf some = found (get_or (map places xs) page []) refl
+  out_slot : (xs : List X) (numbers partial : List ℕ) (out page : ℕ) → IsPartialStack (map places xs) numbers partial out → 0 < outs_in (get_or (map places xs) page []) → (slot : ℕ) × (slot / 256 ≡ page) × IsOut (map places xs) slot
+  out_slot xs numbers partial out page stack some = found (get_or (map places xs) page []) refl
     where
       found : (ps : List Place) → get_or (map places xs) page [] ≡ ps → (slot : ℕ) × (slot / 256 ≡ page) × IsOut (map places xs) slot
       found ps is =
           let at = out_exists ps (subst (λ (qs : List Place). 0 < outs_in qs) is some) in
-          let few : length ps ≤ 256 = subst (λ (qs : List Place). length qs ≤ 256) is (shelf.small page) in
+          let few : length ps ≤ 256 = subst (λ (qs : List Place). length qs ≤ 256) is (stack.small page) in
           let here : (page * 256 + at.0) / 256 ≡ page = omega (arith, at.1) in
           let index : (page * 256 + at.0) % 256 ≡ at.0 = omega (arith, at.1) in
           (page * 256 + at.0, here, ap (λ k. slice_get (get_or (map places xs) k []) ((page * 256 + at.0) % 256)) here ∙ (ap (λ qs. slice_get qs ((page * 256 + at.0) % 256)) is ∙ (ap (λ k. slice_get ps k) index ∙ at.2)))
 
   -- where no page is idle, each has a slot that is out
-  pub busy_page : (xs : List X) (numbers partial : List ℕ) (out page : ℕ) → IsShelf (map places xs) numbers partial out → All (λ s. 0 < length (places s) → 0 < outs_in (places s)) xs → Has (map places xs) page → (slot : ℕ) × (slot / 256 ≡ page) × IsOut (map places xs) slot
-  busy_page xs numbers partial out page shelf busy has =
-      out_slot xs numbers partial out page shelf (busy_at xs page busy (had_within xs page has) (from_has (map places xs) page has))
+  pub busy_page : (xs : List X) (numbers partial : List ℕ) (out page : ℕ) → IsPartialStack (map places xs) numbers partial out → All (λ s. 0 < length (places s) → 0 < outs_in (places s)) xs → Has (map places xs) page → (slot : ℕ) × (slot / 256 ≡ page) × IsOut (map places xs) slot
+  busy_page xs numbers partial out page stack busy has =
+      out_slot xs numbers partial out page stack (busy_at xs page busy (had_within xs page has) (from_has (map places xs) page has))
 
   -- where no page below one is idle, each of those has a slot that is out
-  pub busy_below : (xs : List X) (numbers partial : List ℕ) (out at page : ℕ) → IsShelf (map places xs) numbers partial out → AllWithin (λ s. 0 < length (places s) → 0 < outs_in (places s)) xs 0 at → page < at → Has (map places xs) page → (slot : ℕ) × (slot / 256 ≡ page) × IsOut (map places xs) slot
-  busy_below xs numbers partial out at page shelf busy before has =
-      out_slot xs numbers partial out page shelf (busy_before xs at page busy before (had_within xs page has) (from_has (map places xs) page has))
+  pub busy_below : (xs : List X) (numbers partial : List ℕ) (out at page : ℕ) → IsPartialStack (map places xs) numbers partial out → AllWithin (λ s. 0 < length (places s) → 0 < outs_in (places s)) xs 0 at → page < at → Has (map places xs) page → (slot : ℕ) × (slot / 256 ≡ page) × IsOut (map places xs) slot
+  busy_below xs numbers partial out at page stack busy before has =
+      out_slot xs numbers partial out page stack (busy_before xs at page busy before (had_within xs page has) (from_has (map places xs) page has))
 
 -- a table that was filled and one with other room have the places that they had
 pub grown_same : {X : Type 0} (places : X → List Place) (xs ys zs : List X) → ((p : ℕ) → get_or (map places xs) p [] ≡ get_or (map places ys) p []) → ys ≡ zs → (p : ℕ) → get_or (map places xs) p [] ≡ get_or (map places zs) p []

@@ -2,4 +2,4 @@ pub mod Kinds
 pub mod Images
 pub mod Stacks
 pub mod Slots
-pub mod Shelf
+pub mod PartialStack

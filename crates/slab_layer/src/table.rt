@@ -13,7 +13,7 @@ ghost use Rattle.std.specs.Prelude.{◌≡◌, ◌≢◌, ◌⊎◌, List, ℕ, 
 ghost use Rattle.std.specs.List.{AllWithin};
 ghost use Rattle.slab_layer.specs.Slots.{outs_in};
 ghost use Rattle.slab_layer.specs.Stacks.{times};
-ghost use Rattle.slab_layer.specs.Shelf.{IsShelf};
+ghost use Rattle.slab_layer.specs.PartialStack.{IsPartialStack};
 
 use crate::kind::Kind;
 use crate::slab::Slab;
@@ -56,9 +56,9 @@ fn add_vacant<K: Kind>(slabs: &mut Vec<Slab<K>>, alloc: Global)
 /// Fills the table with the places of pages that aren't had, where it has none yet.
 pub fn fill_table<K: Kind>(slabs: &mut Vec<Slab<K>>, alloc: Global)
     requires { vec_len slabs.old ≡ 0 → 256 ≤ vec_capacity slabs.old }
-    ensures shelf { (partial : List ℕ) (out : ℕ)
-        → IsShelf (map (λ s. s.places.items) slabs.old.items) (map (λ s. s.page) slabs.old.items) partial out
-        → IsShelf (map (λ s. s.places.items) slabs.new.items) (map (λ s. s.page) slabs.new.items) partial out }
+    ensures stack { (partial : List ℕ) (out : ℕ)
+        → IsPartialStack (map (λ s. s.places.items) slabs.old.items) (map (λ s. s.page) slabs.old.items) partial out
+        → IsPartialStack (map (λ s. s.places.items) slabs.new.items) (map (λ s. s.page) slabs.new.items) partial out }
     ensures all { (length slabs.old.items ≡ 0) ⊎ (length slabs.old.items ≡ 256) → length slabs.new.items ≡ 256 }
     ensures same { (page : ℕ) → slice_index_or (map (λ s. s.places.items) slabs.new.items) page []
         ≡ slice_index_or (map (λ s. s.places.items) slabs.old.items) page [] }

@@ -3,7 +3,7 @@ use Rattle.std.specs.Prelude.{slice_get}
 use Rattle.std.proofs.lemmas.Option.{slice_get_within}
 use Rattle.slab_layer.specs.declared.place.Place.TheVariants.{Home, Out}
 use Rattle.slab_layer.specs.Slots.{Pages, Moves, has_home, out_count}
-use Rattle.slab_layer.proofs.Changes.{same_read, shelf_given, room_given, out_some, moves, number_is, from_not}
+use Rattle.slab_layer.proofs.Changes.{same_read, partial_given, room_given, out_some, moves, number_is, from_not}
 use Rattle.slab_layer.proofs.slabs.Slabs.give.Goals as goal
 
 pub push_if-requires : goal.push_if-requires
@@ -12,13 +12,13 @@ push_if-requires g c = λ first.
     let at = c.slot-slot.result / 256 in
     let index = c.slot-slot.result % 256 in
     let partial = c.self.inside.partial.items in
-    let shelf = c.self.invariant.0 in
+    let stack = c.self.invariant.0 in
     let len : vec_len c.self.inside.slabs ≡ length xs = c.self.inside.slabs.ok.0 in
     let within : at < length xs = subst (λ n. at < n) (c.len.ensures ∙ len) c.if-at-len.false in
     let old = c.index-2.result.now in
     let was : slice_get old.places.items index ≡ Some Out = subst (λ s. slice_get s.places.items index ≡ Some Out) (same_read xs at c.index.result.now old within c.index.ensures c.index-2.ensures) (c.is_out.ensures.0 c.if-not-is_out.false) in
     let none : has_home old.places.items ≡ false = sym c.has_home-is_first.ensures ∙ from_not c.has_home-is_first.result first in
-    let short = room_given (λ s. s.places.items) (λ s. s.page) xs at index old partial c.self.inside.out shelf within c.index-2.ensures was none in
+    let short = room_given (λ s. s.places.items) (λ s. s.page) xs at index old partial c.self.inside.out stack within c.index-2.ensures was none in
     let low : vec_len c.self.inside.partial ≡ length partial = c.self.inside.partial.ok.0 in
     omega (arith, c.self.invariant.1)
 
@@ -28,10 +28,10 @@ give-requires-clause-slot g c =
     let at = c.slot-slot.result / 256 in
     let index = c.slot-slot.result % 256 in
     let partial = c.self.inside.partial.items in
-    let shelf = c.self.invariant.0 in
+    let stack = c.self.invariant.0 in
     let len : vec_len c.self.inside.slabs ≡ length xs = c.self.inside.slabs.ok.0 in
     let within : at < length xs = subst (λ n. at < n) (c.len.ensures ∙ len) c.if-at-len.false in
-    ap (λ n. n / 256) (sym c.slot-slot.ensures) ∙ sym (number_is (λ s. s.places.items) (λ s. s.page) xs at c.self.inside.out partial c.index_mut.result.now shelf within c.index_mut.ensures.value)
+    ap (λ n. n / 256) (sym c.slot-slot.ensures) ∙ sym (number_is (λ s. s.places.items) (λ s. s.page) xs at c.self.inside.out partial c.index_mut.result.now stack within c.index_mut.ensures.value)
 
 pub overflow_sub-self : goal.overflow_sub-self
 overflow_sub-self g c =
@@ -39,12 +39,12 @@ overflow_sub-self g c =
     let at = c.slot-slot.result / 256 in
     let index = c.slot-slot.result % 256 in
     let partial = c.self.inside.partial.items in
-    let shelf = c.self.invariant.0 in
+    let stack = c.self.invariant.0 in
     let len : vec_len c.self.inside.slabs ≡ length xs = c.self.inside.slabs.ok.0 in
     let within : at < length xs = subst (λ n. at < n) (c.len.ensures ∙ len) c.if-at-len.false in
     let old = c.index_mut.result.now in
     let was : slice_get old.places.items index ≡ Some Out = subst (λ s. slice_get s.places.items index ≡ Some Out) (same_read xs at c.index.result.now old within c.index.ensures c.index_mut.ensures.value) (c.is_out.ensures.0 c.if-not-is_out.false) in
-    out_some (λ s. s.places.items) (λ s. s.page) xs at index old partial c.self.inside.out shelf within c.index_mut.ensures.value was
+    out_some (λ s. s.places.items) (λ s. s.page) xs at index old partial c.self.inside.out stack within c.index_mut.ensures.value was
 
 pub invariant_of-self : goal.invariant_of-self
 invariant_of-self g c =
@@ -52,7 +52,7 @@ invariant_of-self g c =
     let at = c.slot-slot.result / 256 in
     let index = c.slot-slot.result % 256 in
     let partial = c.self.inside.partial.items in
-    let shelf = c.self.invariant.0 in
+    let stack = c.self.invariant.0 in
     let len : vec_len c.self.inside.slabs ≡ length xs = c.self.inside.slabs.ok.0 in
     let within : at < length xs = subst (λ n. at < n) (c.len.ensures ∙ len) c.if-at-len.false in
     let old = c.index_mut.result.now in
@@ -60,9 +60,9 @@ invariant_of-self g c =
     let new = c.give.new.self in
     let is : new.places.items ≡ set old.places.items index Home = c.give.ensures.home ∙ ap (λ n. set old.places.items (n % 256) Home) (sym c.slot-slot.ensures) in
     let before : c.has_home-is_first.result ≡ has_home old.places.items = c.has_home-is_first.ensures ∙ ap (λ s. has_home s.places.items) (same_read xs at c.index-2.result.now old within c.index-2.ensures c.index_mut.ensures.value) in
-    let some = out_some (λ s. s.places.items) (λ s. s.page) xs at index old partial c.self.inside.out shelf within c.index_mut.ensures.value was in
+    let some = out_some (λ s. s.places.items) (λ s. s.page) xs at index old partial c.self.inside.out stack within c.index_mut.ensures.value was in
     let less : c.self.inside.out - 1 + 1 ≡ c.self.inside.out = omega arith in
-    let after = shelf_given (λ s. s.places.items) (λ s. s.page) xs at index old new partial c.push_if.new.numbers.items c.self.inside.out (c.self.inside.out - 1) c.has_home-is_first.result shelf within c.index_mut.ensures.value c.give.ensures.page was is before c.push_if.ensures.items less in
+    let after = partial_given (λ s. s.places.items) (λ s. s.page) xs at index old new partial c.push_if.new.numbers.items c.self.inside.out (c.self.inside.out - 1) c.has_home-is_first.result stack within c.index_mut.ensures.value c.give.ensures.page was is before c.push_if.ensures.items less in
     (after, omega (arith, c.self.invariant.1, c.push_if.ensures.capacity))
 
 pub returns-clause-moved : goal.returns-clause-moved
@@ -71,7 +71,7 @@ returns-clause-moved g c = λ _.
     let at = c.slot-slot.result / 256 in
     let index = c.slot-slot.result % 256 in
     let partial = c.self.inside.partial.items in
-    let shelf = c.self.invariant.0 in
+    let stack = c.self.invariant.0 in
     let len : vec_len c.self.inside.slabs ≡ length xs = c.self.inside.slabs.ok.0 in
     let within : at < length xs = subst (λ n. at < n) (c.len.ensures ∙ len) c.if-at-len.false in
     let old = c.index_mut.result.now in
@@ -88,7 +88,7 @@ returns-clause-counted g c = λ _.
     let at = c.slot-slot.result / 256 in
     let index = c.slot-slot.result % 256 in
     let partial = c.self.inside.partial.items in
-    let shelf = c.self.invariant.0 in
+    let stack = c.self.invariant.0 in
     let len : vec_len c.self.inside.slabs ≡ length xs = c.self.inside.slabs.ok.0 in
     let within : at < length xs = subst (λ n. at < n) (c.len.ensures ∙ len) c.if-at-len.false in
     let old = c.index_mut.result.now in
@@ -96,11 +96,11 @@ returns-clause-counted g c = λ _.
     let new = c.give.new.self in
     let is : new.places.items ≡ set old.places.items index Home = c.give.ensures.home ∙ ap (λ n. set old.places.items (n % 256) Home) (sym c.slot-slot.ensures) in
     let before : c.has_home-is_first.result ≡ has_home old.places.items = c.has_home-is_first.ensures ∙ ap (λ s. has_home s.places.items) (same_read xs at c.index-2.result.now old within c.index-2.ensures c.index_mut.ensures.value) in
-    let some = out_some (λ s. s.places.items) (λ s. s.page) xs at index old partial c.self.inside.out shelf within c.index_mut.ensures.value was in
+    let some = out_some (λ s. s.places.items) (λ s. s.page) xs at index old partial c.self.inside.out stack within c.index_mut.ensures.value was in
     let less : c.self.inside.out - 1 + 1 ≡ c.self.inside.out = omega arith in
-    let after = shelf_given (λ s. s.places.items) (λ s. s.page) xs at index old new partial c.push_if.new.numbers.items c.self.inside.out (c.self.inside.out - 1) c.has_home-is_first.result shelf within c.index_mut.ensures.value c.give.ensures.page was is before c.push_if.ensures.items less in
+    let after = partial_given (λ s. s.places.items) (λ s. s.page) xs at index old new partial c.push_if.new.numbers.items c.self.inside.out (c.self.inside.out - 1) c.has_home-is_first.result stack within c.index_mut.ensures.value c.give.ensures.page was is before c.push_if.ensures.items less in
     let C : Pages → Type 0 = λ v. out_count (map (λ s. s.places.items) (set xs at new)) + 1 ≡ out_count v in
-    subst C c.self.view_is (omega (arith, after.counted, shelf.counted))
+    subst C c.self.view_is (omega (arith, after.counted, stack.counted))
 
 -- the parts of a slot's number
 page_fits : (n slot : ℕ) → n ≡ slot → slot < 65536 → Fits w64 (n / 256)

@@ -2,9 +2,9 @@ use Rattle.std.proofs.Common.{ℕ, ◌+◌, ◌≤◌, Fits, w64, ◌≡◌, ◌
 use Rattle.std.proofs.lemmas.List.{length-map}
 use Rattle.slab_layer.specs.declared.place.Place.TheVariants.{Home}
 use Rattle.slab_layer.specs.Slots.{Pages, Has, AddsPage, out_count}
-use Rattle.slab_layer.specs.Shelf.{IsShelf}
+use Rattle.slab_layer.specs.PartialStack.{IsPartialStack}
 use Rattle.slab_layer.proofs.Homes.{row_objects}
-use Rattle.slab_layer.proofs.Pages.{shelf_grown, grown, grown_same, not_had, room_for_all}
+use Rattle.slab_layer.proofs.Pages.{partial_grown, grown, grown_same, not_had, room_for_all}
 use Rattle.slab_layer.proofs.slabs.Slabs.grow.Goals as goal
 
 pub push_if-requires : goal.push_if-requires
@@ -15,8 +15,8 @@ push_if-requires g c = λ _.
     let n = 4096 / g.K.Kind.SIZE in
     let row = row_objects _ g.K.Kind.is_row in
     let partial = c.reserve_tables.new.partial.items in
-    let kept : IsShelf (map (λ s. s.places.items) c.reserve_tables.new.slabs.items) (map (λ s. s.page) c.reserve_tables.new.slabs.items) partial c.self.inside.out = rw (c.reserve_tables.ensures.slabs, c.reserve_tables.ensures.partial) c.self.invariant.0 in
-    let shelf = c.fill_table.ensures.shelf partial c.self.inside.out kept in
+    let kept : IsPartialStack (map (λ s. s.places.items) c.reserve_tables.new.slabs.items) (map (λ s. s.page) c.reserve_tables.new.slabs.items) partial c.self.inside.out = rw (c.reserve_tables.ensures.slabs, c.reserve_tables.ensures.partial) c.self.invariant.0 in
+    let stack = c.fill_table.ensures.stack partial c.self.inside.out kept in
     let all : length xs ≡ 256 = c.fill_table.ensures.all (subst (λ m. (m ≡ 0) ⊎ (m ≡ 256)) (length-map c.reserve_tables.new.slabs.items (λ s. s.places.items)) kept.sized) in
     let page : at ≡ c.args.span.first = c.first-page.ensures in
     let within : at < length xs = omega (arith, c.args.span.within, c.args.span.some) in
@@ -27,7 +27,7 @@ push_if-requires g c = λ _.
     let new = c.replace-vacant.new.dest in
     let is : new.places.items ≡ replicate n Home = ap (λ s. s.places.items) c.replace-vacant.ensures.after ∙ c.new-2.ensures.places in
     let noted : new.page ≡ at = ap (λ s. s.page) c.replace-vacant.ensures.after ∙ (c.new-2.ensures.page ∙ sym page) in
-    let both = shelf_grown (λ s. s.places.items) (λ s. s.page) xs at n c.self.inside.out c.index_mut.result.now new partial shelf within c.index_mut.ensures.value vacant noted is row.0 row.1 in
+    let both = partial_grown (λ s. s.places.items) (λ s. s.page) xs at n c.self.inside.out c.index_mut.result.now new partial stack within c.index_mut.ensures.value vacant noted is row.0 row.1 in
     let wide : vec_len c.self.inside.slabs ≡ length c.self.inside.slabs.items = c.self.inside.slabs.ok.0 in
     let whole = c.self.invariant.0.sized in
     let cap = room_for_all (length olds) (vec_len c.self.inside.slabs) (vec_capacity c.reserve_tables.new.partial) (vec_capacity c.self.inside.partial) whole (length-map c.self.inside.slabs.items (λ s. s.places.items) ∙ sym wide) c.in-Ok.ensures.room_open c.self.invariant.1 c.reserve_tables.ensures.capacity in
@@ -42,8 +42,8 @@ invariant_of-self-2 g c =
     let n = 4096 / g.K.Kind.SIZE in
     let row = row_objects _ g.K.Kind.is_row in
     let partial = c.reserve_tables.new.partial.items in
-    let kept : IsShelf (map (λ s. s.places.items) c.reserve_tables.new.slabs.items) (map (λ s. s.page) c.reserve_tables.new.slabs.items) partial c.self.inside.out = rw (c.reserve_tables.ensures.slabs, c.reserve_tables.ensures.partial) c.self.invariant.0 in
-    let shelf = c.fill_table.ensures.shelf partial c.self.inside.out kept in
+    let kept : IsPartialStack (map (λ s. s.places.items) c.reserve_tables.new.slabs.items) (map (λ s. s.page) c.reserve_tables.new.slabs.items) partial c.self.inside.out = rw (c.reserve_tables.ensures.slabs, c.reserve_tables.ensures.partial) c.self.invariant.0 in
+    let stack = c.fill_table.ensures.stack partial c.self.inside.out kept in
     let all : length xs ≡ 256 = c.fill_table.ensures.all (subst (λ m. (m ≡ 0) ⊎ (m ≡ 256)) (length-map c.reserve_tables.new.slabs.items (λ s. s.places.items)) kept.sized) in
     let page : at ≡ c.args.span.first = c.first-page.ensures in
     let within : at < length xs = omega (arith, c.args.span.within, c.args.span.some) in
@@ -54,7 +54,7 @@ invariant_of-self-2 g c =
     let new = c.replace-vacant.new.dest in
     let is : new.places.items ≡ replicate n Home = ap (λ s. s.places.items) c.replace-vacant.ensures.after ∙ c.new-2.ensures.places in
     let noted : new.page ≡ at = ap (λ s. s.page) c.replace-vacant.ensures.after ∙ (c.new-2.ensures.page ∙ sym page) in
-    let both = shelf_grown (λ s. s.places.items) (λ s. s.page) xs at n c.self.inside.out c.index_mut.result.now new partial shelf within c.index_mut.ensures.value vacant noted is row.0 row.1 in
+    let both = partial_grown (λ s. s.places.items) (λ s. s.page) xs at n c.self.inside.out c.index_mut.result.now new partial stack within c.index_mut.ensures.value vacant noted is row.0 row.1 in
     let wide : vec_len c.self.inside.slabs ≡ length c.self.inside.slabs.items = c.self.inside.slabs.ok.0 in
     let whole = c.self.invariant.0.sized in
     let cap = room_for_all (length olds) (vec_len c.self.inside.slabs) (vec_capacity c.reserve_tables.new.partial) (vec_capacity c.self.inside.partial) whole (length-map c.self.inside.slabs.items (λ s. s.places.items) ∙ sym wide) c.in-Ok.ensures.room_open c.self.invariant.1 c.reserve_tables.ensures.capacity in
@@ -69,8 +69,8 @@ returns-clause-added g c =
     let n = 4096 / g.K.Kind.SIZE in
     let row = row_objects _ g.K.Kind.is_row in
     let partial = c.reserve_tables.new.partial.items in
-    let kept : IsShelf (map (λ s. s.places.items) c.reserve_tables.new.slabs.items) (map (λ s. s.page) c.reserve_tables.new.slabs.items) partial c.self.inside.out = rw (c.reserve_tables.ensures.slabs, c.reserve_tables.ensures.partial) c.self.invariant.0 in
-    let shelf = c.fill_table.ensures.shelf partial c.self.inside.out kept in
+    let kept : IsPartialStack (map (λ s. s.places.items) c.reserve_tables.new.slabs.items) (map (λ s. s.page) c.reserve_tables.new.slabs.items) partial c.self.inside.out = rw (c.reserve_tables.ensures.slabs, c.reserve_tables.ensures.partial) c.self.invariant.0 in
+    let stack = c.fill_table.ensures.stack partial c.self.inside.out kept in
     let all : length xs ≡ 256 = c.fill_table.ensures.all (subst (λ m. (m ≡ 0) ⊎ (m ≡ 256)) (length-map c.reserve_tables.new.slabs.items (λ s. s.places.items)) kept.sized) in
     let page : at ≡ c.args.span.first = c.first-page.ensures in
     let within : at < length xs = omega (arith, c.args.span.within, c.args.span.some) in
@@ -92,8 +92,8 @@ returns-clause-counted g c =
     let n = 4096 / g.K.Kind.SIZE in
     let row = row_objects _ g.K.Kind.is_row in
     let partial = c.reserve_tables.new.partial.items in
-    let kept : IsShelf (map (λ s. s.places.items) c.reserve_tables.new.slabs.items) (map (λ s. s.page) c.reserve_tables.new.slabs.items) partial c.self.inside.out = rw (c.reserve_tables.ensures.slabs, c.reserve_tables.ensures.partial) c.self.invariant.0 in
-    let shelf = c.fill_table.ensures.shelf partial c.self.inside.out kept in
+    let kept : IsPartialStack (map (λ s. s.places.items) c.reserve_tables.new.slabs.items) (map (λ s. s.page) c.reserve_tables.new.slabs.items) partial c.self.inside.out = rw (c.reserve_tables.ensures.slabs, c.reserve_tables.ensures.partial) c.self.invariant.0 in
+    let stack = c.fill_table.ensures.stack partial c.self.inside.out kept in
     let all : length xs ≡ 256 = c.fill_table.ensures.all (subst (λ m. (m ≡ 0) ⊎ (m ≡ 256)) (length-map c.reserve_tables.new.slabs.items (λ s. s.places.items)) kept.sized) in
     let page : at ≡ c.args.span.first = c.first-page.ensures in
     let within : at < length xs = omega (arith, c.args.span.within, c.args.span.some) in
@@ -104,7 +104,7 @@ returns-clause-counted g c =
     let new = c.replace-vacant.new.dest in
     let is : new.places.items ≡ replicate n Home = ap (λ s. s.places.items) c.replace-vacant.ensures.after ∙ c.new-2.ensures.places in
     let noted : new.page ≡ at = ap (λ s. s.page) c.replace-vacant.ensures.after ∙ (c.new-2.ensures.page ∙ sym page) in
-    let both = shelf_grown (λ s. s.places.items) (λ s. s.page) xs at n c.self.inside.out c.index_mut.result.now new partial shelf within c.index_mut.ensures.value vacant noted is row.0 row.1 in
+    let both = partial_grown (λ s. s.places.items) (λ s. s.page) xs at n c.self.inside.out c.index_mut.result.now new partial stack within c.index_mut.ensures.value vacant noted is row.0 row.1 in
     let C : Pages → Type 0 = λ v. out_count (map (λ s. s.places.items) (set xs at new)) ≡ out_count v in
     subst C c.self.view_is (sym both.0.counted ∙ c.self.invariant.0.counted)
 
@@ -120,7 +120,7 @@ overflow_cast-at g c = page_fits c.first-page.result c.args.span.first c.args.sp
 
 pub index_mut-requires : goal.index_mut-requires
 index_mut-requires g c =
-    let kept : IsShelf (map (λ s. s.places.items) c.reserve_tables.new.slabs.items) (map (λ s. s.page) c.reserve_tables.new.slabs.items) c.reserve_tables.new.partial.items c.self.inside.out = rw (c.reserve_tables.ensures.slabs, c.reserve_tables.ensures.partial) c.self.invariant.0 in
+    let kept : IsPartialStack (map (λ s. s.places.items) c.reserve_tables.new.slabs.items) (map (λ s. s.page) c.reserve_tables.new.slabs.items) c.reserve_tables.new.partial.items c.self.inside.out = rw (c.reserve_tables.ensures.slabs, c.reserve_tables.ensures.partial) c.self.invariant.0 in
     let all : length c.fill_table.new.slabs.items ≡ 256 = c.fill_table.ensures.all (subst (λ m. (m ≡ 0) ⊎ (m ≡ 256)) (length-map c.reserve_tables.new.slabs.items (λ s. s.places.items)) kept.sized) in
     page_within _ c.args.span.first c.args.span.len _ _ c.first-page.ensures c.args.span.some c.args.span.within c.fill_table.new.slabs.ok.0 all
 

@@ -3,7 +3,7 @@ use Rattle.std.specs.List.{All, AllWithin}
 use Rattle.std.proofs.lemmas.Option.{IfSome_then}
 use Rattle.slab_layer.specs.Slots.{Pages, Has, IsOut, RemovesPage, outs_in, out_count}
 use Rattle.slab_layer.proofs.Changes.{number_is, places_read}
-use Rattle.slab_layer.proofs.Pages.{never_none, low_place, on_stack, shelf_reaped, reaped, idle_page, busy_page, busy_below, has_from}
+use Rattle.slab_layer.proofs.Pages.{never_none, low_place, on_stack, partial_reaped, reaped, idle_page, busy_page, busy_below, has_from}
 use Rattle.slab_layer.proofs.slabs.Slabs.reap.Goals as goal
 
 pub returns-in_default-clause-none : goal.returns-in_default-clause-none
@@ -32,25 +32,25 @@ take_number-requires g c =
     let xs = c.self.inside.slabs.items in
     let at = c.in-Some.at in
     let partial = c.self.inside.partial.items in
-    let shelf = c.self.invariant.0 in
+    let stack = c.self.invariant.0 in
     let within : at < length xs = subst (λ ys. at < length ys) c.deref.ensures.value c.in-Some.ensures.within in
     let had : 0 < length (get_or (map (λ s. s.places.items) xs) at []) = subst (λ ys. 0 < length (get_or (map (λ s. s.places.items) ys) at [])) c.deref.ensures.value c.in-Some.ensures.had in
     let idle : outs_in (get_or (map (λ s. s.places.items) xs) at []) ≡ 0 = subst (λ ys. outs_in (get_or (map (λ s. s.places.items) ys) at []) ≡ 0) c.deref.ensures.value c.in-Some.ensures.idle in
-    on_stack (λ s. s.places.items) (λ s. s.page) xs at c.self.inside.out partial shelf within had idle
+    on_stack (λ s. s.places.items) (λ s. s.page) xs at c.self.inside.out partial stack within had idle
 
 pub invariant_of-self : goal.invariant_of-self
 invariant_of-self g c =
     let xs = c.self.inside.slabs.items in
     let at = c.in-Some.at in
     let partial = c.self.inside.partial.items in
-    let shelf = c.self.invariant.0 in
+    let stack = c.self.invariant.0 in
     let within : at < length xs = subst (λ ys. at < length ys) c.deref.ensures.value c.in-Some.ensures.within in
     let had : 0 < length (get_or (map (λ s. s.places.items) xs) at []) = subst (λ ys. 0 < length (get_or (map (λ s. s.places.items) ys) at [])) c.deref.ensures.value c.in-Some.ensures.had in
     let idle : outs_in (get_or (map (λ s. s.places.items) xs) at []) ≡ 0 = subst (λ ys. outs_in (get_or (map (λ s. s.places.items) ys) at []) ≡ 0) c.deref.ensures.value c.in-Some.ensures.idle in
     let new = c.replace-slab.new.dest in
     let none : new.places.items ≡ [] = ap (λ s. s.places.items) c.replace-slab.ensures.after ∙ c.vacant.ensures.places in
     let noted : new.page ≡ at = ap (λ s. s.page) c.replace-slab.ensures.after ∙ c.vacant.ensures.page in
-    let after = shelf_reaped (λ s. s.places.items) (λ s. s.page) xs at c.self.inside.out c.index_mut.result.now new partial c.take_number.new.numbers.items shelf within c.index_mut.ensures.value had idle noted none c.take_number.ensures.count c.take_number.ensures.each in
+    let after = partial_reaped (λ s. s.places.items) (λ s. s.page) xs at c.self.inside.out c.index_mut.result.now new partial c.take_number.new.numbers.items stack within c.index_mut.ensures.value had idle noted none c.take_number.ensures.count c.take_number.ensures.each in
     (after, omega (arith, c.self.invariant.1, c.take_number.ensures.capacity))
 
 pub returns-clause-one_page : goal.returns-clause-one_page
@@ -61,11 +61,11 @@ returns-clause-had g c =
     let xs = c.self.inside.slabs.items in
     let at = c.in-Some.at in
     let partial = c.self.inside.partial.items in
-    let shelf = c.self.invariant.0 in
+    let stack = c.self.invariant.0 in
     let within : at < length xs = subst (λ ys. at < length ys) c.deref.ensures.value c.in-Some.ensures.within in
     let had : 0 < length (get_or (map (λ s. s.places.items) xs) at []) = subst (λ ys. 0 < length (get_or (map (λ s. s.places.items) ys) at [])) c.deref.ensures.value c.in-Some.ensures.had in
     let idle : outs_in (get_or (map (λ s. s.places.items) xs) at []) ≡ 0 = subst (λ ys. outs_in (get_or (map (λ s. s.places.items) ys) at []) ≡ 0) c.deref.ensures.value c.in-Some.ensures.idle in
-    let page : c.replace-slab.result.page ≡ at = ap (λ s. s.page) c.replace-slab.ensures.value ∙ number_is (λ s. s.places.items) (λ s. s.page) xs at c.self.inside.out partial c.index_mut.result.now shelf within c.index_mut.ensures.value in
+    let page : c.replace-slab.result.page ≡ at = ap (λ s. s.page) c.replace-slab.ensures.value ∙ number_is (λ s. s.places.items) (λ s. s.page) xs at c.self.inside.out partial c.index_mut.result.now stack within c.index_mut.ensures.value in
     let H : Pages → Type 0 = λ v. Has v at in
     IfSome_then c.end.result c.end.ensures.page (λ s p. subst (λ k. Has c.args.self.now k) (sym (p.0 ∙ page)) (subst H c.self.view_is (has_from (map (λ s. s.places.items) xs) at had)))
 
@@ -74,11 +74,11 @@ returns-clause-idle g c =
     let xs = c.self.inside.slabs.items in
     let at = c.in-Some.at in
     let partial = c.self.inside.partial.items in
-    let shelf = c.self.invariant.0 in
+    let stack = c.self.invariant.0 in
     let within : at < length xs = subst (λ ys. at < length ys) c.deref.ensures.value c.in-Some.ensures.within in
     let had : 0 < length (get_or (map (λ s. s.places.items) xs) at []) = subst (λ ys. 0 < length (get_or (map (λ s. s.places.items) ys) at [])) c.deref.ensures.value c.in-Some.ensures.had in
     let idle : outs_in (get_or (map (λ s. s.places.items) xs) at []) ≡ 0 = subst (λ ys. outs_in (get_or (map (λ s. s.places.items) ys) at []) ≡ 0) c.deref.ensures.value c.in-Some.ensures.idle in
-    let page : c.replace-slab.result.page ≡ at = ap (λ s. s.page) c.replace-slab.ensures.value ∙ number_is (λ s. s.places.items) (λ s. s.page) xs at c.self.inside.out partial c.index_mut.result.now shelf within c.index_mut.ensures.value in
+    let page : c.replace-slab.result.page ≡ at = ap (λ s. s.page) c.replace-slab.ensures.value ∙ number_is (λ s. s.places.items) (λ s. s.page) xs at c.self.inside.out partial c.index_mut.result.now stack within c.index_mut.ensures.value in
     IfSome_then c.end.result c.end.ensures.page (λ s p. λ slot here out.
     let O : Pages → Type 0 = λ v. IsOut v slot in
     idle_page (λ s. s.places.items) (λ s. s.page) xs at slot idle (here ∙ (p.0 ∙ page)) (subst O (sym c.self.view_is) out))
@@ -88,28 +88,28 @@ returns-clause-lowest g c =
     let xs = c.self.inside.slabs.items in
     let at = c.in-Some.at in
     let partial = c.self.inside.partial.items in
-    let shelf = c.self.invariant.0 in
+    let stack = c.self.invariant.0 in
     let within : at < length xs = subst (λ ys. at < length ys) c.deref.ensures.value c.in-Some.ensures.within in
     let busy : AllWithin (λ s. 0 < length s.places.items → 0 < outs_in s.places.items) xs 0 at = subst (λ ys. AllWithin (λ s. 0 < length s.places.items → 0 < outs_in s.places.items) ys 0 at) c.deref.ensures.value c.in-Some.ensures.lowest in
-    let page : c.replace-slab.result.page ≡ at = ap (λ s. s.page) c.replace-slab.ensures.value ∙ number_is (λ s. s.places.items) (λ s. s.page) xs at c.self.inside.out partial c.index_mut.result.now shelf within c.index_mut.ensures.value in
+    let page : c.replace-slab.result.page ≡ at = ap (λ s. s.page) c.replace-slab.ensures.value ∙ number_is (λ s. s.places.items) (λ s. s.page) xs at c.self.inside.out partial c.index_mut.result.now stack within c.index_mut.ensures.value in
     IfSome_then c.end.result c.end.ensures.page (λ s p. λ lower before has.
     let B : Pages → Type 0 = λ v. (slot : ℕ) × (slot / 256 ≡ lower) × IsOut v slot in
     let H : Pages → Type 0 = λ v. Has v lower in
-    subst B c.self.view_is (busy_below (λ s. s.places.items) (λ s. s.page) xs (map (λ s. s.page) xs) partial c.self.inside.out at lower shelf busy (subst (λ k. lower < k) (p.0 ∙ page) before) (subst H (sym c.self.view_is) has)))
+    subst B c.self.view_is (busy_below (λ s. s.places.items) (λ s. s.page) xs (map (λ s. s.page) xs) partial c.self.inside.out at lower stack busy (subst (λ k. lower < k) (p.0 ∙ page) before) (subst H (sym c.self.view_is) has)))
 
 pub returns-clause-removed : goal.returns-clause-removed
 returns-clause-removed g c =
     let xs = c.self.inside.slabs.items in
     let at = c.in-Some.at in
     let partial = c.self.inside.partial.items in
-    let shelf = c.self.invariant.0 in
+    let stack = c.self.invariant.0 in
     let within : at < length xs = subst (λ ys. at < length ys) c.deref.ensures.value c.in-Some.ensures.within in
     let had : 0 < length (get_or (map (λ s. s.places.items) xs) at []) = subst (λ ys. 0 < length (get_or (map (λ s. s.places.items) ys) at [])) c.deref.ensures.value c.in-Some.ensures.had in
     let idle : outs_in (get_or (map (λ s. s.places.items) xs) at []) ≡ 0 = subst (λ ys. outs_in (get_or (map (λ s. s.places.items) ys) at []) ≡ 0) c.deref.ensures.value c.in-Some.ensures.idle in
     let new = c.replace-slab.new.dest in
     let none : new.places.items ≡ [] = ap (λ s. s.places.items) c.replace-slab.ensures.after ∙ c.vacant.ensures.places in
     let noted : new.page ≡ at = ap (λ s. s.page) c.replace-slab.ensures.after ∙ c.vacant.ensures.page in
-    let page : c.replace-slab.result.page ≡ at = ap (λ s. s.page) c.replace-slab.ensures.value ∙ number_is (λ s. s.places.items) (λ s. s.page) xs at c.self.inside.out partial c.index_mut.result.now shelf within c.index_mut.ensures.value in
+    let page : c.replace-slab.result.page ≡ at = ap (λ s. s.page) c.replace-slab.ensures.value ∙ number_is (λ s. s.places.items) (λ s. s.page) xs at c.self.inside.out partial c.index_mut.result.now stack within c.index_mut.ensures.value in
     let R : Pages → Type 0 = λ v. RemovesPage v (map (λ s. s.places.items) (set xs at new)) at in
     IfSome_then c.end.result c.end.ensures.page (λ s p. subst (λ k. RemovesPage c.args.self.now (map (λ s. s.places.items) (set xs at new)) k) (sym (p.0 ∙ page)) (subst R c.self.view_is (reaped (λ s. s.places.items) (λ s. s.page) xs at new within none)))
 
@@ -118,16 +118,16 @@ returns-clause-counted g c =
     let xs = c.self.inside.slabs.items in
     let at = c.in-Some.at in
     let partial = c.self.inside.partial.items in
-    let shelf = c.self.invariant.0 in
+    let stack = c.self.invariant.0 in
     let within : at < length xs = subst (λ ys. at < length ys) c.deref.ensures.value c.in-Some.ensures.within in
     let had : 0 < length (get_or (map (λ s. s.places.items) xs) at []) = subst (λ ys. 0 < length (get_or (map (λ s. s.places.items) ys) at [])) c.deref.ensures.value c.in-Some.ensures.had in
     let idle : outs_in (get_or (map (λ s. s.places.items) xs) at []) ≡ 0 = subst (λ ys. outs_in (get_or (map (λ s. s.places.items) ys) at []) ≡ 0) c.deref.ensures.value c.in-Some.ensures.idle in
     let new = c.replace-slab.new.dest in
     let none : new.places.items ≡ [] = ap (λ s. s.places.items) c.replace-slab.ensures.after ∙ c.vacant.ensures.places in
     let noted : new.page ≡ at = ap (λ s. s.page) c.replace-slab.ensures.after ∙ c.vacant.ensures.page in
-    let after = shelf_reaped (λ s. s.places.items) (λ s. s.page) xs at c.self.inside.out c.index_mut.result.now new partial c.take_number.new.numbers.items shelf within c.index_mut.ensures.value had idle noted none c.take_number.ensures.count c.take_number.ensures.each in
+    let after = partial_reaped (λ s. s.places.items) (λ s. s.page) xs at c.self.inside.out c.index_mut.result.now new partial c.take_number.new.numbers.items stack within c.index_mut.ensures.value had idle noted none c.take_number.ensures.count c.take_number.ensures.each in
     let C : Pages → Type 0 = λ v. out_count (map (λ s. s.places.items) (set xs at new)) ≡ out_count v in
-    subst C c.self.view_is (sym after.counted ∙ shelf.counted)
+    subst C c.self.view_is (sym after.counted ∙ stack.counted)
 
 pub returns-in_default-clause-counted : goal.returns-in_default-clause-counted
 returns-in_default-clause-counted g c = refl

@@ -5,7 +5,7 @@ use Rattle.slab_layer.specs.Slots.{Pages, has_home, out_count}
 
 -- pages by their number, the number that each slab has noted, the stack of pages with an object at home, and
 -- the number of objects that are out
-pub record IsShelf (pages : Pages) (numbers partial : List ℕ) (out : ℕ) : Type 0 where
+pub record IsPartialStack (pages : Pages) (numbers partial : List ℕ) (out : ℕ) : Type 0 where
   pub sized : (length pages ≡ 0) ⊎ (length pages ≡ 256)
   pub small : (page : ℕ) → length (slice_index_or pages page []) ≤ 256
   pub numbered : (page : ℕ) → page < length pages → slice_index numbers page ≡ page

@@ -1,0 +1,2 @@
+pub mod LayerView
+pub mod DepotView
