@@ -1,7 +1,7 @@
 -- The table of ranges after a branch keeps each pair of numbers for which the branch goes that way.
 use Rattle.std.proofs.Common.{◌≡◌, ℕ, ◌+◌, ◌-◌, ◌/◌, ◌^◌, ◌<◌, ◌≤◌, ℤ, pos, negsuc, Bool, true, false, cond, not, eqb, nat_lt, nat_le, ◌==◌, ◌&&◌, ◌||◌, min, max, Option, Some, None, IfSome, IsSomeAnd, ◌⊎◌, inl, inr, ⊎_elim, refl, sym, ap, ap₂, ◌∙◌, arith, ltb-true, leb-true, ltb-false, leb-false, eqb-true, eq-eqb, le-leb, lt-ltb, int_lt, int_le}
 use Rattle.std.proofs.Math.Nat.{mod-eq_of_lt}
-use Rattle.std.proofs.lemmas.Bool.{and_parts, and_from, or_parts, or_cases, cases_lt, not-true, not-false, true≢false}
+use Rattle.std.proofs.lemmas.Bool.{and_parts, and_from, cond_both, or_parts, or_cases, cases_lt, not-true, not-false, true≢false}
 use Rattle.ebpf_insn.specs.declared.insn.Width.{Width}
 use Rattle.ebpf_insn.specs.declared.insn.Width.TheVariants.{W32, W64}
 use Rattle.ebpf_insn.specs.declared.insn.Cond.{Cond}
@@ -12,6 +12,7 @@ use Rattle.ebpf_range.specs.Interval.{IsWithin}
 use Rattle.ebpf_range.specs.Results.{span, is_constant}
 use Rattle.ebpf_range.specs.Refinements.{after_eq, without, after_ne, after_gt, after_ge, exchange, unless_false, have_no_sign, after, after_not, fits, refinement}
 use Rattle.ebpf_range.proofs.OperationLemmas.{signed_at-low}
+use Rattle.ebpf_range.proofs.RowLemmas.{same_end}
 
 -- both numbers stay
 abbrev pub Keeps : ℕ → ℕ → Option (Range × Range) → Type 0
@@ -20,19 +21,11 @@ Keeps x y known = IsSomeAnd known (λ p. IsWithin x p.0 × IsWithin y p.1)
 abbrev pub AreOrdered : Option (Range × Range) → Type 0
 AreOrdered known = IfSome known (λ p. (p.0.lo ≤ p.0.hi) × (p.1.lo ≤ p.1.hi))
 
-keeps_cases : (x y : ℕ) (t : Bool) (p q : Option (Range × Range)) → (t ≡ true → Keeps x y p) → (t ≡ false → Keeps x y q) → Keeps x y (cond t p q)
-keeps_cases x y true p q on_true on_false = on_true refl
-keeps_cases x y false p q on_true on_false = on_false refl
-
-ordered_cases : (t : Bool) (p q : Option (Range × Range)) → (t ≡ true → AreOrdered p) → (t ≡ false → AreOrdered q) → AreOrdered (cond t p q)
-ordered_cases true p q on_true on_false = on_true refl
-ordered_cases false p q on_true on_false = on_false refl
-
 -- ---- rows
 
 eq-keeps : (a b : Range) (x y : ℕ) → x ≡ y → IsWithin x a → IsWithin y b → Keeps x y (after_eq a b)
 eq-keeps a b x y e h k =
-    keeps_cases x y (nat_lt a.hi b.lo || nat_lt b.hi a.lo) None (Some (span (max a.lo b.lo) (min a.hi b.hi), span (max a.lo b.lo) (min a.hi b.hi)))
+    cond_both (nat_lt a.hi b.lo || nat_lt b.hi a.lo) None (Some (span (max a.lo b.lo) (min a.hi b.hi), span (max a.lo b.lo) (min a.hi b.hi))) (Keeps x y)
     (λ t. apart (or_cases (nat_lt a.hi b.lo) (nat_lt b.hi a.lo) t))
     (λ t. ((omega arith, omega arith), (omega arith, omega arith)))
   where
@@ -54,33 +47,30 @@ without-keeps a n x other h = by (eqb a.lo n) (eqb a.hi n) refl refl
         from_other high = ⊎_elim (λ (o : x < a.hi). o) (λ (o : a.hi ≤ x). absurd (other (omega arith))) (cases_lt x a.hi)
     by false false e f = h
 
-same_end : (b : Range) (y : ℕ) → is_constant b ≡ true → IsWithin y b → y ≡ b.lo
-same_end b y e k = let one = eqb-true b.lo b.hi e in omega arith
-
 ne-keeps : (a b : Range) (x y : ℕ) → (x ≡ y → ⊥) → IsWithin x a → IsWithin y b → Keeps x y (after_ne a b)
 ne-keeps a b x y other h k =
-    keeps_cases x y (is_constant a && is_constant b && (a.lo == b.lo)) None (cond (is_constant b) (Some (without b.lo a, b)) (cond (is_constant a) (Some (a, without a.lo b)) (Some (a, b))))
+    cond_both (is_constant a && is_constant b && (a.lo == b.lo)) None (cond (is_constant b) (Some (without b.lo a, b)) (cond (is_constant a) (Some (a, without a.lo b)) (Some (a, b)))) (Keeps x y)
     (λ t. let parts = and_parts (is_constant a && is_constant b) (a.lo == b.lo) t in
     let both = and_parts (is_constant a) (is_constant b) parts.0 in
     let left = same_end a x both.0 h in
     let right = same_end b y both.1 k in
     let one = eqb-true a.lo b.lo parts.1 in
     absurd (other (omega arith)))
-    (λ t. keeps_cases x y (is_constant b) (Some (without b.lo a, b)) (cond (is_constant a) (Some (a, without a.lo b)) (Some (a, b)))
+    (λ t. cond_both (is_constant b) (Some (without b.lo a, b)) (cond (is_constant a) (Some (a, without a.lo b)) (Some (a, b))) (Keeps x y)
     (λ e. let right = same_end b y e k in (without-keeps a b.lo x (λ f. other (omega arith)) h, k))
-    (λ e. keeps_cases x y (is_constant a) (Some (a, without a.lo b)) (Some (a, b))
+    (λ e. cond_both (is_constant a) (Some (a, without a.lo b)) (Some (a, b)) (Keeps x y)
     (λ f. let left = same_end a x f h in (h, without-keeps b a.lo y (λ g. other (omega arith)) k))
     (λ f. (h, k))))
 
 gt-keeps : (a b : Range) (x y : ℕ) → y < x → IsWithin x a → IsWithin y b → Keeps x y (after_gt a b)
 gt-keeps a b x y o h k =
-    keeps_cases x y (nat_le a.hi b.lo) None (Some (span (max a.lo (b.lo + 1)) a.hi, span b.lo (min b.hi (a.hi - 1))))
+    cond_both (nat_le a.hi b.lo) None (Some (span (max a.lo (b.lo + 1)) a.hi, span b.lo (min b.hi (a.hi - 1)))) (Keeps x y)
     (λ t. let under = leb-true a.hi b.lo t in absurd (omega arith))
     (λ t. ((omega arith, h.1), (k.0, omega arith)))
 
 ge-keeps : (a b : Range) (x y : ℕ) → y ≤ x → IsWithin x a → IsWithin y b → Keeps x y (after_ge a b)
 ge-keeps a b x y o h k =
-    keeps_cases x y (nat_lt a.hi b.lo) None (Some (span (max a.lo b.lo) a.hi, span b.lo (min b.hi a.hi)))
+    cond_both (nat_lt a.hi b.lo) None (Some (span (max a.lo b.lo) a.hi, span b.lo (min b.hi a.hi))) (Keeps x y)
     (λ t. let under = ltb-true a.hi b.lo t in absurd (omega arith))
     (λ t. ((omega arith, h.1), (k.0, omega arith)))
 
@@ -91,7 +81,7 @@ exchange-keeps (Some p) x y h = (h.1, h.0)
 -- a test that holds of the two numbers holds of the two ends of constant ranges
 unless-keeps : (test : ℕ → ℕ → Bool) (a b : Range) (x y : ℕ) → test x y ≡ true → IsWithin x a → IsWithin y b → Keeps x y (unless_false (test a.lo b.lo) a b)
 unless-keeps test a b x y met h k =
-    keeps_cases x y (is_constant a && is_constant b && not (test a.lo b.lo)) None (Some (a, b))
+    cond_both (is_constant a && is_constant b && not (test a.lo b.lo)) None (Some (a, b)) (Keeps x y)
     (λ t. let parts = and_parts (is_constant a && is_constant b) (not (test a.lo b.lo)) t in
     let both = and_parts (is_constant a) (is_constant b) parts.0 in
     let same : test a.lo b.lo ≡ true = ap₂ test (sym (same_end a x both.0 h)) (sym (same_end b y both.1 k)) ∙ met in
@@ -126,7 +116,7 @@ low_numbers w a b x y t h k =
 signed-keeps : (w : Width) (a b : Range) (x y : ℕ) (unsigned : Option (Range × Range)) (test : ℕ → ℕ → Bool) → test x y ≡ true → IsWithin x a → IsWithin y b
     → (signed_at w x ≡ pos x → signed_at w y ≡ pos y → Keeps x y unsigned) → Keeps x y (cond (have_no_sign w a b) unsigned (unless_false (test a.lo b.lo) a b))
 signed-keeps w a b x y unsigned test met h k plain =
-    keeps_cases x y (have_no_sign w a b) unsigned (unless_false (test a.lo b.lo) a b)
+    cond_both (have_no_sign w a b) unsigned (unless_false (test a.lo b.lo) a b) (Keeps x y)
     (λ t. let low = low_numbers w a b x y t h k in plain low.0 low.1)
     (λ t. unless-keeps test a b x y met h k)
 
@@ -185,7 +175,7 @@ after_not-keeps on.SLe w a b x y p q f e h k = opposite_met w a b x y on.SLe on.
 
 pub refinement-keeps : (c : Cond) (w : Width) (a b : Range) (taken : Bool) (x y : ℕ) → a.hi < 2 ^ 64 → b.hi < 2 ^ 64 → IsWithin x a → IsWithin y b → is_met c w x y ≡ taken → Keeps x y (refinement c w a b taken)
 refinement-keeps c w a b taken x y p q h k e =
-    keeps_cases x y (not (fits w a b)) (Some (a, b)) (cond taken (after c w a b) (after_not c w a b))
+    cond_both (not (fits w a b)) (Some (a, b)) (cond taken (after c w a b) (after_not c w a b)) (Keeps x y)
     (λ t. (h, k))
     (λ t. let f = not-false (fits w a b) t in by taken f e)
   where
@@ -205,28 +195,28 @@ without-ordered a n o other = by (eqb a.lo n) (eqb a.hi n) refl refl
 
 ne-ordered : (a b : Range) → a.lo ≤ a.hi → b.lo ≤ b.hi → AreOrdered (after_ne a b)
 ne-ordered a b o p =
-    ordered_cases (is_constant a && is_constant b && (a.lo == b.lo)) None (cond (is_constant b) (Some (without b.lo a, b)) (cond (is_constant a) (Some (a, without a.lo b)) (Some (a, b))))
+    cond_both (is_constant a && is_constant b && (a.lo == b.lo)) None (cond (is_constant b) (Some (without b.lo a, b)) (cond (is_constant a) (Some (a, without a.lo b)) (Some (a, b)))) AreOrdered
     (λ t. tt)
-    (λ t. ordered_cases (is_constant b) (Some (without b.lo a, b)) (cond (is_constant a) (Some (a, without a.lo b)) (Some (a, b)))
+    (λ t. cond_both (is_constant b) (Some (without b.lo a, b)) (cond (is_constant a) (Some (a, without a.lo b)) (Some (a, b))) AreOrdered
     (λ e. (without-ordered a b.lo o (λ c d. true≢false (sym (and_from (is_constant a && is_constant b) (a.lo == b.lo) (and_from (is_constant a) (is_constant b) (eq-eqb a.lo a.hi c) e) (eq-eqb a.lo b.lo d)) ∙ t)), p))
-    (λ e. ordered_cases (is_constant a) (Some (a, without a.lo b)) (Some (a, b))
+    (λ e. cond_both (is_constant a) (Some (a, without a.lo b)) (Some (a, b)) AreOrdered
     (λ f. (o, without-ordered b a.lo p (λ c d. true≢false (sym (eq-eqb b.lo b.hi c) ∙ e))))
     (λ f. (o, p))))
 
 eq-ordered : (a b : Range) → a.lo ≤ a.hi → b.lo ≤ b.hi → AreOrdered (after_eq a b)
 eq-ordered a b o p =
-    ordered_cases (nat_lt a.hi b.lo || nat_lt b.hi a.lo) None (Some (span (max a.lo b.lo) (min a.hi b.hi), span (max a.lo b.lo) (min a.hi b.hi)))
+    cond_both (nat_lt a.hi b.lo || nat_lt b.hi a.lo) None (Some (span (max a.lo b.lo) (min a.hi b.hi), span (max a.lo b.lo) (min a.hi b.hi))) AreOrdered
     (λ t. tt)
     (λ t. let parts = or_parts (nat_lt a.hi b.lo) (nat_lt b.hi a.lo) t in let left = ltb-false a.hi b.lo parts.0 in let right = ltb-false b.hi a.lo parts.1 in (omega arith, omega arith))
 
 gt-ordered : (a b : Range) → a.lo ≤ a.hi → b.lo ≤ b.hi → AreOrdered (after_gt a b)
 gt-ordered a b o p =
-    ordered_cases (nat_le a.hi b.lo) None (Some (span (max a.lo (b.lo + 1)) a.hi, span b.lo (min b.hi (a.hi - 1))))
+    cond_both (nat_le a.hi b.lo) None (Some (span (max a.lo (b.lo + 1)) a.hi, span b.lo (min b.hi (a.hi - 1)))) AreOrdered
     (λ t. tt) (λ t. let over = leb-false a.hi b.lo t in (omega arith, omega arith))
 
 ge-ordered : (a b : Range) → a.lo ≤ a.hi → b.lo ≤ b.hi → AreOrdered (after_ge a b)
 ge-ordered a b o p =
-    ordered_cases (nat_lt a.hi b.lo) None (Some (span (max a.lo b.lo) a.hi, span b.lo (min b.hi a.hi)))
+    cond_both (nat_lt a.hi b.lo) None (Some (span (max a.lo b.lo) a.hi, span b.lo (min b.hi a.hi))) AreOrdered
     (λ t. tt) (λ t. let over = ltb-false a.hi b.lo t in (omega arith, omega arith))
 
 exchange-ordered : (known : Option (Range × Range)) → AreOrdered known → AreOrdered (exchange known)
@@ -234,10 +224,10 @@ exchange-ordered None h = h
 exchange-ordered (Some p) h = (h.1, h.0)
 
 unless-ordered : (holds : Bool) (a b : Range) → a.lo ≤ a.hi → b.lo ≤ b.hi → AreOrdered (unless_false holds a b)
-unless-ordered holds a b o p = ordered_cases (is_constant a && is_constant b && not holds) None (Some (a, b)) (λ t. tt) (λ t. (o, p))
+unless-ordered holds a b o p = cond_both (is_constant a && is_constant b && not holds) None (Some (a, b)) AreOrdered (λ t. tt) (λ t. (o, p))
 
 signed-ordered : (w : Width) (a b : Range) (unsigned : Option (Range × Range)) (holds : Bool) → a.lo ≤ a.hi → b.lo ≤ b.hi → AreOrdered unsigned → AreOrdered (cond (have_no_sign w a b) unsigned (unless_false holds a b))
-signed-ordered w a b unsigned holds o p h = ordered_cases (have_no_sign w a b) unsigned (unless_false holds a b) (λ t. h) (λ t. unless-ordered holds a b o p)
+signed-ordered w a b unsigned holds o p h = cond_both (have_no_sign w a b) unsigned (unless_false holds a b) AreOrdered (λ t. h) (λ t. unless-ordered holds a b o p)
 
 after-ordered : (c : Cond) (w : Width) (a b : Range) → a.lo ≤ a.hi → b.lo ≤ b.hi → AreOrdered (after c w a b)
 after-ordered on.Eq w a b o p = eq-ordered a b o p
@@ -267,5 +257,5 @@ after_not-ordered on.SLe w a b o p = after-ordered on.SGt w a b o p
 
 pub refinement-ordered : (c : Cond) (w : Width) (a b : Range) (taken : Bool) → a.lo ≤ a.hi → b.lo ≤ b.hi → AreOrdered (refinement c w a b taken)
 refinement-ordered c w a b taken o p =
-    ordered_cases (not (fits w a b)) (Some (a, b)) (cond taken (after c w a b) (after_not c w a b)) (λ t. (o, p))
-    (λ t. ordered_cases taken (after c w a b) (after_not c w a b) (λ e. after-ordered c w a b o p) (λ e. after_not-ordered c w a b o p))
+    cond_both (not (fits w a b)) (Some (a, b)) (cond taken (after c w a b) (after_not c w a b)) AreOrdered (λ t. (o, p))
+    (λ t. cond_both taken (after c w a b) (after_not c w a b) AreOrdered (λ e. after-ordered c w a b o p) (λ e. after_not-ordered c w a b o p))

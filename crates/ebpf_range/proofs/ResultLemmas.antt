@@ -1,5 +1,5 @@
 -- The table of results holds every result, and numbers of the width alone.
-use Rattle.std.proofs.Common.{◌≡◌, ℕ, ◌+◌, ◌-◌, ◌*◌, ◌/◌, ◌%◌, ◌^◌, ◌<◌, ◌≤◌, Bool, true, false, cond, nat_lt, nat_le, ◌&&◌, min, refl, sym, ap, ap₂, subst, arith, ltb-true, eqb-true}
+use Rattle.std.proofs.Common.{◌≡◌, ℕ, ◌+◌, ◌-◌, ◌*◌, ◌/◌, ◌%◌, ◌^◌, ◌<◌, ◌≤◌, cond, nat_lt, nat_le, ◌&&◌, min, sym, ap, ap₂, subst, arith, ltb-true, eqb-true}
 use Rattle.std.proofs.Math.Nat.{mod-lt, mod-eq_of_lt, div-le_self, le_of_eq, lt_of_le_of_lt, pow-le-pow_right}
 use Rattle.std.proofs.lemmas.Nat.{pow_pos}
 use Rattle.std.proofs.Math.Pow.{mod-mod-pow}
@@ -15,7 +15,7 @@ use Rattle.ebpf_range.specs.Interval.{IsWithin, constant, all_below, low, sum_of
 use Rattle.ebpf_range.specs.Results.{span, up, is_constant, difference_of, product_of, quotient_of, remainder_of, left_shift_of, right_shift_of, signed_shift_of, row, low_at, row_or_constant, result_range, extension_range}
 use Rattle.ebpf_range.proofs.SumLemmas.{low-sound}
 use Rattle.ebpf_range.proofs.OperationLemmas.{some_numbers, result-below}
-use Rattle.ebpf_range.proofs.RowLemmas.{within_cases, within_all, small, up-least, row-sound}
+use Rattle.ebpf_range.proofs.RowLemmas.{within_all, small, up-least, row-sound}
 
 -- ---- operands
 
@@ -43,7 +43,7 @@ constant-sound o w a b x y p q e f h k =
 
 row_or_constant-sound : (o : AluOp) (w : Width) (a b : Range) (x y : ℕ) → a.hi < modulus w → b.hi < modulus w → IsWithin x a → IsWithin y b → IsWithin (operation o w x y) (row_or_constant o w a b)
 row_or_constant-sound o w a b x y p q h k =
-    within_cases (operation o w x y) (is_constant a && is_constant b) (constant (result_at o w a.lo b.lo)) (row o w a b)
+    cond_both (is_constant a && is_constant b) (constant (result_at o w a.lo b.lo)) (row o w a b) (IsWithin (operation o w x y))
     (λ e. let both = and_parts (is_constant a) (is_constant b) e in constant-sound o w a b x y p q (eqb-true a.lo a.hi both.0) (eqb-true b.lo b.hi both.1) h k)
     (λ e. row-sound o w a b x y p q h k)
 
@@ -53,42 +53,38 @@ result-sound o w a b x y p q h k =
 
 -- ---- the high ends
 
-below_cases : (m : ℕ) (t : Bool) (p q : Range) → (t ≡ true → p.hi < m) → (t ≡ false → q.hi < m) → (cond t p q).hi < m
-below_cases m true p q on_true on_false = on_true refl
-below_cases m false p q on_true on_false = on_false refl
-
 all-below : (m : ℕ) → 0 < m → (all_below m).hi < m
 all-below m some = omega arith
 
 sum-below : (m : ℕ) (a b : Range) → 0 < m → a.hi < m → b.hi < m → (sum_of m a b).hi < m
 sum-below m a b some p q =
-    below_cases m (nat_lt (a.hi + b.hi) m) (span (a.lo + b.lo) (a.hi + b.hi)) (cond (nat_le m (a.lo + b.lo)) (span (a.lo + b.lo - m) (a.hi + b.hi - m)) (all_below m))
+    cond_both (nat_lt (a.hi + b.hi) m) (span (a.lo + b.lo) (a.hi + b.hi)) (cond (nat_le m (a.lo + b.lo)) (span (a.lo + b.lo - m) (a.hi + b.hi - m)) (all_below m)) (λ (r : Range). r.hi < m)
     (λ e. ltb-true (a.hi + b.hi) m e)
-    (λ e. below_cases m (nat_le m (a.lo + b.lo)) (span (a.lo + b.lo - m) (a.hi + b.hi - m)) (all_below m) (λ f. omega arith) (λ f. all-below m some))
+    (λ e. cond_both (nat_le m (a.lo + b.lo)) (span (a.lo + b.lo - m) (a.hi + b.hi - m)) (all_below m) (λ (r : Range). r.hi < m) (λ f. omega arith) (λ f. all-below m some))
 
 difference-below : (m : ℕ) (a b : Range) → 0 < m → b.lo ≤ b.hi → a.hi < m → (difference_of m a b).hi < m
 difference-below m a b some o p =
-    below_cases m (nat_le b.hi a.lo) (span (a.lo - b.hi) (a.hi - b.lo)) (cond (nat_lt a.hi b.lo) (span (a.lo + m - b.hi) (a.hi + m - b.lo)) (all_below m))
+    cond_both (nat_le b.hi a.lo) (span (a.lo - b.hi) (a.hi - b.lo)) (cond (nat_lt a.hi b.lo) (span (a.lo + m - b.hi) (a.hi + m - b.lo)) (all_below m)) (λ (r : Range). r.hi < m)
     (λ e. omega arith)
-    (λ e. below_cases m (nat_lt a.hi b.lo) (span (a.lo + m - b.hi) (a.hi + m - b.lo)) (all_below m) (λ f. let apart = ltb-true a.hi b.lo f in omega arith) (λ f. all-below m some))
+    (λ e. cond_both (nat_lt a.hi b.lo) (span (a.lo + m - b.hi) (a.hi + m - b.lo)) (all_below m) (λ (r : Range). r.hi < m) (λ f. let apart = ltb-true a.hi b.lo f in omega arith) (λ f. all-below m some))
 
 product-below : (m : ℕ) (a b : Range) → 0 < m → (product_of m a b).hi < m
-product-below m a b some = below_cases m (nat_lt (a.hi * b.hi) m) (span (a.lo * b.lo) (a.hi * b.hi)) (all_below m) (λ e. ltb-true (a.hi * b.hi) m e) (λ e. all-below m some)
+product-below m a b some = cond_both (nat_lt (a.hi * b.hi) m) (span (a.lo * b.lo) (a.hi * b.hi)) (all_below m) (λ (r : Range). r.hi < m) (λ e. ltb-true (a.hi * b.hi) m e) (λ e. all-below m some)
 
 quotient-below : (m : ℕ) (a b : Range) → a.hi < m → (quotient_of a b).hi < m
-quotient-below m a b p = below_cases m (nat_lt 0 b.lo) (span (a.lo / b.hi) (a.hi / b.lo)) (span 0 a.hi) (λ e. lt_of_le_of_lt (div-le_self a.hi b.lo) p) (λ e. p)
+quotient-below m a b p = cond_both (nat_lt 0 b.lo) (span (a.lo / b.hi) (a.hi / b.lo)) (span 0 a.hi) (λ (r : Range). r.hi < m) (λ e. lt_of_le_of_lt (div-le_self a.hi b.lo) p) (λ e. p)
 
 remainder-below : (m : ℕ) (a b : Range) → a.hi < m → (remainder_of a b).hi < m
-remainder-below m a b p = below_cases m (nat_lt 0 b.lo) (span 0 (min a.hi (b.hi - 1))) (span 0 a.hi) (λ e. omega arith) (λ e. p)
+remainder-below m a b p = cond_both (nat_lt 0 b.lo) (span 0 (min a.hi (b.hi - 1))) (span 0 a.hi) (λ (r : Range). r.hi < m) (λ e. omega arith) (λ e. p)
 
 left_shift-below : (w : Width) (a b : Range) → (left_shift_of w a b).hi < modulus w
-left_shift-below w a b = below_cases (modulus w) (is_constant b) (product_of (modulus w) a (constant (factor_at w b.lo))) (all_below (modulus w)) (λ e. product-below (modulus w) a (constant (factor_at w b.lo)) (some_numbers w)) (λ e. all-below (modulus w) (some_numbers w))
+left_shift-below w a b = cond_both (is_constant b) (product_of (modulus w) a (constant (factor_at w b.lo))) (all_below (modulus w)) (λ (r : Range). r.hi < (modulus w)) (λ e. product-below (modulus w) a (constant (factor_at w b.lo)) (some_numbers w)) (λ e. all-below (modulus w) (some_numbers w))
 
 right_shift-below : (w : Width) (a b : Range) → a.hi < modulus w → (right_shift_of w a b).hi < modulus w
-right_shift-below w a b p = below_cases (modulus w) (is_constant b) (quotient_of a (constant (factor_at w b.lo))) (span 0 a.hi) (λ e. quotient-below (modulus w) a (constant (factor_at w b.lo)) p) (λ e. p)
+right_shift-below w a b p = cond_both (is_constant b) (quotient_of a (constant (factor_at w b.lo))) (span 0 a.hi) (λ (r : Range). r.hi < (modulus w)) (λ e. quotient-below (modulus w) a (constant (factor_at w b.lo)) p) (λ e. p)
 
 signed_shift-below : (w : Width) (a b : Range) → a.hi < modulus w → (signed_shift_of w a b).hi < modulus w
-signed_shift-below w a b p = below_cases (modulus w) (is_constant b && nat_lt a.hi (modulus w / 2)) (right_shift_of w a b) (all_below (modulus w)) (λ e. right_shift-below w a b p) (λ e. all-below (modulus w) (some_numbers w))
+signed_shift-below w a b p = cond_both (is_constant b && nat_lt a.hi (modulus w / 2)) (right_shift_of w a b) (all_below (modulus w)) (λ (r : Range). r.hi < (modulus w)) (λ e. right_shift-below w a b p) (λ e. all-below (modulus w) (some_numbers w))
 
 up-below : (w : Width) (a b : Range) → a.hi < modulus w → b.hi < modulus w → up a b < modulus w
 up-below W32 a b p q = up-least a b 32 (small W32 a.hi p) (small W32 b.hi q) p q
@@ -111,14 +107,14 @@ row-below op.Mov w a b o p q = q
 row-below op.Arsh w a b o p q = signed_shift-below w a b p
 
 pub row_or_constant-below : (o : AluOp) (w : Width) (a b : Range) → b.lo ≤ b.hi → a.hi < modulus w → b.hi < modulus w → (row_or_constant o w a b).hi < modulus w
-row_or_constant-below o w a b l p q = below_cases (modulus w) (is_constant a && is_constant b) (constant (result_at o w a.lo b.lo)) (row o w a b) (λ e. result-below o w a.lo b.lo) (λ e. row-below o w a b l p q)
+row_or_constant-below o w a b l p q = cond_both (is_constant a && is_constant b) (constant (result_at o w a.lo b.lo)) (row o w a b) (λ (r : Range). r.hi < (modulus w)) (λ e. result-below o w a.lo b.lo) (λ e. row-below o w a b l p q)
 
 -- ---- one operand
 
 -- a result that depends on the number alone: the constant, or all numbers below a bound
 one-sound : (f : ℕ → ℕ) (m : ℕ) (a : Range) (n : ℕ) → f n < m → IsWithin n a → IsWithin (f n) (cond (is_constant a) (constant (f a.lo)) (all_below m))
 one-sound f m a n below h =
-    within_cases (f n) (is_constant a) (constant (f a.lo)) (all_below m)
+    cond_both (is_constant a) (constant (f a.lo)) (all_below m) (IsWithin (f n))
     (λ e. let one = eqb-true a.lo a.hi e in let number : n ≡ a.lo = omega arith in let same : f n ≡ f a.lo = ap f number in (le_of_eq (sym same), le_of_eq same))
     (λ e. within_all m (f n) below)
 

@@ -3,7 +3,7 @@ use Rattle.std.proofs.Common.{◌≡◌, ℕ, ◌+◌, ◌-◌, ◌*◌, ◌/◌
 use Rattle.std.specs.Int.{w64, leading_zeros, int_shr}
 use Rattle.std.proofs.Math.Nat.{mod-lt, mod-le, mod-eq_of_lt, div-le_self, div-mul-le_self, le_refl, le_trans, pow-le-pow_right}
 use Rattle.std.proofs.lemmas.Nat.{pow_pos, mul-le, le-div, or_lt, xor_lt, and_le_l, and_le_r, le_or_l, le_or_r, leading_length}
-use Rattle.std.proofs.lemmas.Bool.{and_parts, cases_lt}
+use Rattle.std.proofs.lemmas.Bool.{and_parts, cases_lt, cond_both}
 use Rattle.ebpf_insn.specs.declared.insn.Width.{Width}
 use Rattle.ebpf_insn.specs.declared.insn.Width.TheVariants.{W32, W64}
 use Rattle.ebpf_insn.specs.declared.insn.AluOp.{AluOp}
@@ -15,11 +15,6 @@ use Rattle.ebpf_range.specs.Results.{span, up, is_constant, difference_of, produ
 use Rattle.ebpf_range.proofs.Wraps.{mod-wraps}
 use Rattle.ebpf_range.proofs.SumLemmas.{sum_of-sound}
 use Rattle.ebpf_range.proofs.OperationLemmas.{some_numbers, operation-below, signed_at-low, unsigned_at-pos}
-
--- a row is read from its tests
-pub within_cases : (n : ℕ) (t : Bool) (p q : Range) → (t ≡ true → IsWithin n p) → (t ≡ false → IsWithin n q) → IsWithin n (cond t p q)
-within_cases n true p q on_true on_false = on_true refl
-within_cases n false p q on_true on_false = on_false refl
 
 pub within_all : (m n : ℕ) → n < m → IsWithin n (all_below m)
 within_all m n h = (omega arith, omega arith)
@@ -34,9 +29,9 @@ all_wrap m x y al ah bl bh apart l h l' h' ly = let small : x + (m - y) < m = om
 
 difference-sound : (m : ℕ) (a b : Range) (x y : ℕ) → 0 < m → x < m → y < m → IsWithin x a → IsWithin y b → IsWithin ((x + (m - y)) % m) (difference_of m a b)
 difference-sound m a b x y some lx ly h k =
-    within_cases ((x + (m - y)) % m) (nat_le b.hi a.lo) (span (a.lo - b.hi) (a.hi - b.lo)) (cond (nat_lt a.hi b.lo) (span (a.lo + m - b.hi) (a.hi + m - b.lo)) (all_below m))
+    cond_both (nat_le b.hi a.lo) (span (a.lo - b.hi) (a.hi - b.lo)) (cond (nat_lt a.hi b.lo) (span (a.lo + m - b.hi) (a.hi + m - b.lo)) (all_below m)) (IsWithin ((x + (m - y)) % m))
     (λ e. none_wraps m x y a.lo a.hi b.lo b.hi (leb-true b.hi a.lo e) h.0 h.1 k.0 k.1 lx ly)
-    (λ e. within_cases ((x + (m - y)) % m) (nat_lt a.hi b.lo) (span (a.lo + m - b.hi) (a.hi + m - b.lo)) (all_below m)
+    (λ e. cond_both (nat_lt a.hi b.lo) (span (a.lo + m - b.hi) (a.hi + m - b.lo)) (all_below m) (IsWithin ((x + (m - y)) % m))
     (λ f. all_wrap m x y a.lo a.hi b.lo b.hi (ltb-true a.hi b.lo f) h.0 h.1 k.0 k.1 ly)
     (λ f. within_all m ((x + (m - y)) % m) (mod-lt (x + (m - y)) some)))
 
@@ -44,7 +39,7 @@ difference-sound m a b x y some lx ly h k =
 
 product-sound : (m : ℕ) (a b : Range) (x y : ℕ) → 0 < m → IsWithin x a → IsWithin y b → IsWithin ((x * y) % m) (product_of m a b)
 product-sound m a b x y some h k =
-    within_cases ((x * y) % m) (nat_lt (a.hi * b.hi) m) (span (a.lo * b.lo) (a.hi * b.hi)) (all_below m)
+    cond_both (nat_lt (a.hi * b.hi) m) (span (a.lo * b.lo) (a.hi * b.hi)) (all_below m) (IsWithin ((x * y) % m))
     (λ e. none (mul-le a.lo b.lo x y h.0 k.0) (mul-le x y a.hi b.hi h.1 k.1) (ltb-true (a.hi * b.hi) m e))
     (λ e. within_all m ((x * y) % m) (mod-lt (x * y) some))
   where
@@ -60,7 +55,7 @@ quotient-within a b x y some h k = (
 -- a divisor that may be zero
 divided-sound : (a b : Range) (x y : ℕ) → IsWithin x a → IsWithin y b → IsWithin (x / y) (quotient_of a b)
 divided-sound a b x y h k =
-    within_cases (x / y) (nat_lt 0 b.lo) (span (a.lo / b.hi) (a.hi / b.lo)) (span 0 a.hi)
+    cond_both (nat_lt 0 b.lo) (span (a.lo / b.hi) (a.hi / b.lo)) (span 0 a.hi) (IsWithin (x / y))
     (λ e. quotient-within a b x y (ltb-true 0 b.lo e) h k)
     (λ e. (omega arith, le_trans (div-le_self x y) h.1))
 
@@ -68,15 +63,15 @@ quotient-sound : (w : Width) (a b : Range) (x y : ℕ) → IsWithin x a → IsWi
 quotient-sound w a b x y h k = by (eqb y 0) refl
   where
     by : (t : Bool) → eqb y 0 ≡ t → IsWithin (cond t 0 (x / y)) (quotient_of a b)
-    by true e = let none : y ≡ 0 = eqb-true y 0 e in within_cases 0 (nat_lt 0 b.lo) (span (a.lo / b.hi) (a.hi / b.lo)) (span 0 a.hi) (λ f. let some = ltb-true 0 b.lo f in absurd (omega arith)) (λ f. (omega arith, omega arith))
+    by true e = let none : y ≡ 0 = eqb-true y 0 e in cond_both (nat_lt 0 b.lo) (span (a.lo / b.hi) (a.hi / b.lo)) (span 0 a.hi) (IsWithin 0) (λ f. let some = ltb-true 0 b.lo f in absurd (omega arith)) (λ f. (omega arith, omega arith))
     by false e = divided-sound a b x y h k
 
 remainder-sound : (w : Width) (a b : Range) (x y : ℕ) → IsWithin x a → IsWithin y b → IsWithin (operation op.Rem w x y) (remainder_of a b)
 remainder-sound w a b x y h k = by (eqb y 0) refl
   where
     by : (t : Bool) → eqb y 0 ≡ t → IsWithin (cond t x (x % y)) (remainder_of a b)
-    by true e = let none : y ≡ 0 = eqb-true y 0 e in within_cases x (nat_lt 0 b.lo) (span 0 (min a.hi (b.hi - 1))) (span 0 a.hi) (λ f. let some = ltb-true 0 b.lo f in absurd (omega arith)) (λ f. (omega arith, h.1))
-    by false e = within_cases (x % y) (nat_lt 0 b.lo) (span 0 (min a.hi (b.hi - 1))) (span 0 a.hi) (λ f. let some = ltb-true 0 b.lo f in (omega arith, omega (arith, mod-le x y))) (λ f. (omega arith, le_trans (mod-le x y) h.1))
+    by true e = let none : y ≡ 0 = eqb-true y 0 e in cond_both (nat_lt 0 b.lo) (span 0 (min a.hi (b.hi - 1))) (span 0 a.hi) (IsWithin x) (λ f. let some = ltb-true 0 b.lo f in absurd (omega arith)) (λ f. (omega arith, h.1))
+    by false e = cond_both (nat_lt 0 b.lo) (span 0 (min a.hi (b.hi - 1))) (span 0 a.hi) (IsWithin (x % y)) (λ f. let some = ltb-true 0 b.lo f in (omega arith, omega (arith, mod-le x y))) (λ f. (omega arith, le_trans (mod-le x y) h.1))
 
 -- ---- bits
 
@@ -122,7 +117,7 @@ and-sound a b x y h k = (omega arith, omega (arith, and_le_l x y, and_le_r x y))
 -- ---- shifts
 
 -- a number of a constant range is its end
-same_end : (b : Range) (y : ℕ) → is_constant b ≡ true → IsWithin y b → y ≡ b.lo
+pub same_end : (b : Range) (y : ℕ) → is_constant b ≡ true → IsWithin y b → y ≡ b.lo
 same_end b y e k = let one = eqb-true b.lo b.hi e in omega arith
 
 of_constant : (f g : ℕ) → f ≡ g → IsWithin f (constant g)
@@ -130,13 +125,13 @@ of_constant f g e = (omega arith, omega arith)
 
 left_shift-sound : (w : Width) (a b : Range) (x y : ℕ) → IsWithin x a → IsWithin y b → IsWithin ((x * factor_at w y) % modulus w) (left_shift_of w a b)
 left_shift-sound w a b x y h k =
-    within_cases ((x * factor_at w y) % modulus w) (is_constant b) (product_of (modulus w) a (constant (factor_at w b.lo))) (all_below (modulus w))
+    cond_both (is_constant b) (product_of (modulus w) a (constant (factor_at w b.lo))) (all_below (modulus w)) (IsWithin ((x * factor_at w y) % modulus w))
     (λ e. product-sound (modulus w) a (constant (factor_at w b.lo)) x (factor_at w y) (some_numbers w) h (of_constant (factor_at w y) (factor_at w b.lo) (ap (factor_at w) (same_end b y e k))))
     (λ e. within_all (modulus w) ((x * factor_at w y) % modulus w) (mod-lt (x * factor_at w y) (some_numbers w)))
 
 right_shift-sound : (w : Width) (a b : Range) (x y : ℕ) → IsWithin x a → IsWithin y b → IsWithin (x / factor_at w y) (right_shift_of w a b)
 right_shift-sound w a b x y h k =
-    within_cases (x / factor_at w y) (is_constant b) (quotient_of a (constant (factor_at w b.lo))) (span 0 a.hi)
+    cond_both (is_constant b) (quotient_of a (constant (factor_at w b.lo))) (span 0 a.hi) (IsWithin (x / factor_at w y))
     (λ e. divided-sound a (constant (factor_at w b.lo)) x (factor_at w y) h (of_constant (factor_at w y) (factor_at w b.lo) (ap (factor_at w) (same_end b y e k))))
     (λ e. (omega arith, le_trans (div-le_self x (factor_at w y)) h.1))
 
@@ -146,7 +141,7 @@ no_sign w x y h = ap (λ z. unsigned_at w (int_shr z (y % bits_of w))) (signed_a
 
 signed_shift-sound : (w : Width) (a b : Range) (x y : ℕ) → x < modulus w → y < modulus w → IsWithin x a → IsWithin y b → IsWithin (operation op.Arsh w x y) (signed_shift_of w a b)
 signed_shift-sound w a b x y lx ly h k =
-    within_cases (operation op.Arsh w x y) (is_constant b && nat_lt a.hi (modulus w / 2)) (right_shift_of w a b) (all_below (modulus w))
+    cond_both (is_constant b && nat_lt a.hi (modulus w / 2)) (right_shift_of w a b) (all_below (modulus w)) (IsWithin (operation op.Arsh w x y))
     (λ e. let low = ltb-true a.hi (modulus w / 2) (and_parts (is_constant b) (nat_lt a.hi (modulus w / 2)) e).1 in
     subst (λ n. IsWithin n (right_shift_of w a b)) (sym (no_sign w x y (omega arith))) (right_shift-sound w a b x y h k))
     (λ e. within_all (modulus w) (operation op.Arsh w x y) (operation-below op.Arsh w x y lx ly))

@@ -27,32 +27,28 @@ fn compute_32(op: AluOp, a: u32, b: u32) -> u32
     ensures { result ≡ operation op Width.W32 a b }
 {
     match op {
+        AluOp::Div | AluOp::SDiv if b == 0 => 0,
+        AluOp::Rem | AluOp::SRem if b == 0 => a,
         AluOp::Add => a.wrapping_add(b),
         AluOp::Sub => a.wrapping_sub(b),
         AluOp::Mul => a.wrapping_mul(b),
-        AluOp::Div => if b == 0 { 0 } else { a / b },
-        AluOp::SDiv => if b == 0 {
-            0
-        } else {
-            a.cast_signed()
-                .wrapping_div(b.cast_signed())
-                .cast_unsigned()
-        },
+        AluOp::Div => a / b,
+        AluOp::SDiv => {
+            let quotient = a.cast_signed().wrapping_div(b.cast_signed());
+            quotient.cast_unsigned()
+        }
         AluOp::Or => a | b,
         AluOp::And => a & b,
-        AluOp::Lsh => a.wrapping_shl(b),
-        AluOp::Rsh => a.wrapping_shr(b),
-        AluOp::Rem => if b == 0 { a } else { a % b },
-        AluOp::SRem => if b == 0 {
-            a
-        } else {
-            a.cast_signed()
-                .wrapping_rem(b.cast_signed())
-                .cast_unsigned()
-        },
+        AluOp::Lsh => a << (b % 32),
+        AluOp::Rsh => a >> (b % 32),
+        AluOp::Rem => a % b,
+        AluOp::SRem => {
+            let remainder = a.cast_signed().wrapping_rem(b.cast_signed());
+            remainder.cast_unsigned()
+        }
         AluOp::Xor => a ^ b,
         AluOp::Mov => b,
-        AluOp::Arsh => a.cast_signed().wrapping_shr(b).cast_unsigned(),
+        AluOp::Arsh => (a.cast_signed() >> (b % 32)).cast_unsigned(),
     }
 }
 
@@ -61,32 +57,28 @@ fn compute_64(op: AluOp, a: u64, b: u64) -> u64
     ensures { result ≡ operation op Width.W64 a b }
 {
     match op {
+        AluOp::Div | AluOp::SDiv if b == 0 => 0,
+        AluOp::Rem | AluOp::SRem if b == 0 => a,
         AluOp::Add => a.wrapping_add(b),
         AluOp::Sub => a.wrapping_sub(b),
         AluOp::Mul => a.wrapping_mul(b),
-        AluOp::Div => if b == 0 { 0 } else { a / b },
-        AluOp::SDiv => if b == 0 {
-            0
-        } else {
-            a.cast_signed()
-                .wrapping_div(b.cast_signed())
-                .cast_unsigned()
-        },
+        AluOp::Div => a / b,
+        AluOp::SDiv => {
+            let quotient = a.cast_signed().wrapping_div(b.cast_signed());
+            quotient.cast_unsigned()
+        }
         AluOp::Or => a | b,
         AluOp::And => a & b,
-        AluOp::Lsh => a << (b % 64) as u32,
-        AluOp::Rsh => a >> (b % 64) as u32,
-        AluOp::Rem => if b == 0 { a } else { a % b },
-        AluOp::SRem => if b == 0 {
-            a
-        } else {
-            a.cast_signed()
-                .wrapping_rem(b.cast_signed())
-                .cast_unsigned()
-        },
+        AluOp::Lsh => a << (b % 64),
+        AluOp::Rsh => a >> (b % 64),
+        AluOp::Rem => a % b,
+        AluOp::SRem => {
+            let remainder = a.cast_signed().wrapping_rem(b.cast_signed());
+            remainder.cast_unsigned()
+        }
         AluOp::Xor => a ^ b,
         AluOp::Mov => b,
-        AluOp::Arsh => (a.cast_signed() >> (b % 64) as u32).cast_unsigned(),
+        AluOp::Arsh => (a.cast_signed() >> (b % 64)).cast_unsigned(),
     }
 }
 
@@ -113,7 +105,7 @@ pub fn extend(width: Width, bits: u8, n: u64) -> u64
 
 /// The low bits of a number, with their bytes in another order (RFC 9669, section 4.2). A swap takes 16, 32 or 64 bits;
 /// any other number of them counts as 64.
-pub fn swap(order: Order, bits: u8, n: u64) -> u64
+pub fn reorder(order: Order, bits: u8, n: u64) -> u64
     ensures { result ≡ swap_of order bits n }
 {
     let is_reversed = !matches!(order, Order::Little);

@@ -5,7 +5,7 @@ ghost use Rattle.ebpf_insn.specs.Arithmetic.{modulus, result_at, extension_at, n
 ghost use Rattle.ebpf_range.specs.Interval.{IsWithin};
 ghost use Rattle.ebpf_range.specs.Results.{low_at, row, row_or_constant, result_range, extension_or_any, extension_range, negation_or_any, negation_range, swap_range};
 
-use crate::arithmetic::{compute, extend, modulus, negate, swap as swapped};
+use crate::arithmetic::{compute, extend, modulus, negate, reorder};
 use crate::range::Range;
 use crate::rows::{
     all_at, difference, left_shift, product, quotient, remainder, right_shift, signed_shift, up,
@@ -150,7 +150,7 @@ fn swap_or_any(order: Order, bits: u8, a: Range) -> Range
     ensures { result ≡ swap_range order bits a }
 {
     if a.lo == a.hi {
-        Range::constant(swapped(order, bits, a.lo))
+        Range::constant(reorder(order, bits, a.lo))
     } else {
         Range {
             lo: 0,

@@ -134,9 +134,9 @@ fn factor(width: Width, count: u64) -> u64
     }
 }
 
-/// The greatest number with no more bits than the numbers of the two ranges have: 2^n - 1 for the least n such that both
-/// lie below 2^n.
-pub fn up(a: Range, b: Range) -> u64
+// The greatest number with no more bits than the numbers of the two ranges have: 2^n - 1 for the least n such that both lie
+// below 2^n.
+pub(crate) fn up(a: Range, b: Range) -> u64
     ensures value { result ≡ up a b }
     ensures reached { (n : ℕ) × (result + 1 ≡ 2 ^ n) × (a.hi < 2 ^ n) × (b.hi < 2 ^ n) }
     ensures least { (n : ℕ) → a.hi < 2 ^ n → b.hi < 2 ^ n → result < 2 ^ n }
