@@ -106,10 +106,10 @@ pub(crate) fn left_shift(width: Width, a: Range, b: Range) -> Range
 pub(crate) fn right_shift(width: Width, a: Range, b: Range) -> Range
     ensures { result ≡ right_shift_of width a b }
 {
-    if b.lo == b.hi {
-        quotient(a, Range::constant(factor(width, b.lo)))
-    } else {
+    if b.lo != b.hi {
         Range { lo: 0, hi: a.hi }
+    } else {
+        quotient(a, Range::constant(factor(width, b.lo)))
     }
 }
 
