@@ -27,29 +27,43 @@ fn compute_32(op: AluOp, a: u32, b: u32) -> u32
     ensures { result ≡ operation op Width.W32 a b }
 {
     match op {
-        AluOp::Div | AluOp::SDiv if b == 0 => 0,
-        AluOp::Rem | AluOp::SRem if b == 0 => a,
         AluOp::Add => a.wrapping_add(b),
         AluOp::Sub => a.wrapping_sub(b),
         AluOp::Mul => a.wrapping_mul(b),
-        AluOp::Div => a / b,
-        AluOp::SDiv => {
-            let quotient = a.cast_signed().wrapping_div(b.cast_signed());
-            quotient.cast_unsigned()
-        }
+        AluOp::Div => if b == 0 { 0 } else { a / b },
+        AluOp::SDiv => signed_quotient_32(a, b),
         AluOp::Or => a | b,
         AluOp::And => a & b,
         AluOp::Lsh => a << (b % 32),
         AluOp::Rsh => a >> (b % 32),
-        AluOp::Rem => a % b,
-        AluOp::SRem => {
-            let remainder = a.cast_signed().wrapping_rem(b.cast_signed());
-            remainder.cast_unsigned()
-        }
+        AluOp::Rem => if b == 0 { a } else { a % b },
+        AluOp::SRem => signed_remainder_32(a, b),
         AluOp::Xor => a ^ b,
         AluOp::Mov => b,
         AluOp::Arsh => (a.cast_signed() >> (b % 32)).cast_unsigned(),
     }
+}
+
+// The quotient of two numbers of 32 bits, read as signed ones. The least one by -1 wraps.
+fn signed_quotient_32(a: u32, b: u32) -> u32
+    ensures { result ≡ operation AluOp.SDiv Width.W32 a b }
+{
+    if b == 0 {
+        return 0;
+    }
+    let quotient = a.cast_signed().wrapping_div(b.cast_signed());
+    quotient.cast_unsigned()
+}
+
+// The remainder of two numbers of 32 bits, read as signed ones. It has the sign of the dividend.
+fn signed_remainder_32(a: u32, b: u32) -> u32
+    ensures { result ≡ operation AluOp.SRem Width.W32 a b }
+{
+    if b == 0 {
+        return a;
+    }
+    let remainder = a.cast_signed().wrapping_rem(b.cast_signed());
+    remainder.cast_unsigned()
 }
 
 // An operation on two numbers of 64 bits.
@@ -57,29 +71,43 @@ fn compute_64(op: AluOp, a: u64, b: u64) -> u64
     ensures { result ≡ operation op Width.W64 a b }
 {
     match op {
-        AluOp::Div | AluOp::SDiv if b == 0 => 0,
-        AluOp::Rem | AluOp::SRem if b == 0 => a,
         AluOp::Add => a.wrapping_add(b),
         AluOp::Sub => a.wrapping_sub(b),
         AluOp::Mul => a.wrapping_mul(b),
-        AluOp::Div => a / b,
-        AluOp::SDiv => {
-            let quotient = a.cast_signed().wrapping_div(b.cast_signed());
-            quotient.cast_unsigned()
-        }
+        AluOp::Div => if b == 0 { 0 } else { a / b },
+        AluOp::SDiv => signed_quotient_64(a, b),
         AluOp::Or => a | b,
         AluOp::And => a & b,
         AluOp::Lsh => a << (b % 64),
         AluOp::Rsh => a >> (b % 64),
-        AluOp::Rem => a % b,
-        AluOp::SRem => {
-            let remainder = a.cast_signed().wrapping_rem(b.cast_signed());
-            remainder.cast_unsigned()
-        }
+        AluOp::Rem => if b == 0 { a } else { a % b },
+        AluOp::SRem => signed_remainder_64(a, b),
         AluOp::Xor => a ^ b,
         AluOp::Mov => b,
         AluOp::Arsh => (a.cast_signed() >> (b % 64)).cast_unsigned(),
     }
+}
+
+// The quotient of two numbers of 64 bits, read as signed ones. The least one by -1 wraps.
+fn signed_quotient_64(a: u64, b: u64) -> u64
+    ensures { result ≡ operation AluOp.SDiv Width.W64 a b }
+{
+    if b == 0 {
+        return 0;
+    }
+    let quotient = a.cast_signed().wrapping_div(b.cast_signed());
+    quotient.cast_unsigned()
+}
+
+// The remainder of two numbers of 64 bits, read as signed ones. It has the sign of the dividend.
+fn signed_remainder_64(a: u64, b: u64) -> u64
+    ensures { result ≡ operation AluOp.SRem Width.W64 a b }
+{
+    if b == 0 {
+        return a;
+    }
+    let remainder = a.cast_signed().wrapping_rem(b.cast_signed());
+    remainder.cast_unsigned()
 }
 
 /// Zero less the number (RFC 9669, section 4.1). At 32 bits the low half is negated.
