@@ -1,5 +1,6 @@
 -- The table of results holds every result, and numbers of the width alone.
-use Rattle.std.proofs.Common.{◌≡◌, ℕ, ◌+◌, ◌-◌, ◌*◌, ◌/◌, ◌%◌, ◌^◌, ◌<◌, ◌≤◌, cond, nat_lt, nat_le, ◌&&◌, min, sym, ap, ap₂, subst, arith, ltb-true, eqb-true}
+use Rattle.std.proofs.Common.{◌≡◌, ℕ, ◌+◌, ◌-◌, ◌*◌, ◌/◌, ◌%◌, ◌^◌, ◌<◌, ◌≤◌, cond, eqb, nat_lt, nat_le, ◌&&◌, min, sym, ap, ap₂, subst, arith, ltb-true, eqb-true}
+use Rattle.std.specs.Int.{w16, w32, w64, swap_bytes}
 use Rattle.std.proofs.Math.Nat.{mod-lt, mod-eq_of_lt, div-le_self, le_of_eq, lt_of_le_of_lt, pow-le-pow_right}
 use Rattle.std.proofs.lemmas.Nat.{pow_pos}
 use Rattle.std.proofs.Math.Pow.{mod-mod-pow}
@@ -9,10 +10,12 @@ use Rattle.ebpf_insn.specs.declared.insn.Width.{Width}
 use Rattle.ebpf_insn.specs.declared.insn.Width.TheVariants.{W32, W64}
 use Rattle.ebpf_insn.specs.declared.insn.AluOp.{AluOp}
 use Rattle.ebpf_insn.specs.declared.insn.AluOp.TheVariants as op
-use Rattle.ebpf_insn.specs.Arithmetic.{modulus, kept_at, factor_at, operation, result_at, extension, extended_bits, extension_at}
+use Rattle.ebpf_insn.specs.Arithmetic.{modulus, kept_at, factor_at, operation, result_at, extension, extended_bits, extension_at, swapped_bits, reversal_of, swap, swap_of}
+use Rattle.ebpf_insn.specs.declared.insn.Order.{Order}
+use Rattle.ebpf_insn.specs.declared.insn.Order.TheVariants.{Little, Big, Flip}
 use Rattle.ebpf_range.specs.declared.range.Range.{Range}
 use Rattle.ebpf_range.specs.Interval.{IsWithin, constant, all_below, low, sum_of}
-use Rattle.ebpf_range.specs.Results.{span, up, is_constant, difference_of, product_of, quotient_of, remainder_of, left_shift_of, right_shift_of, signed_shift_of, row, low_at, row_or_constant, result_range, extension_range}
+use Rattle.ebpf_range.specs.Results.{span, up, is_constant, difference_of, product_of, quotient_of, remainder_of, left_shift_of, right_shift_of, signed_shift_of, row, low_at, row_or_constant, result_range, extension_range, swap_range}
 use Rattle.ebpf_range.proofs.SumLemmas.{low-sound}
 use Rattle.ebpf_range.proofs.OperationLemmas.{some_numbers, result-below}
 use Rattle.ebpf_range.proofs.RowLemmas.{within_all, small, up-least, row-sound}
@@ -141,3 +144,28 @@ pub extension-sound : (w : Width) (bits : ℕ) (a : Range) (n : ℕ) → a.hi < 
 extension-sound w bits a n p h =
     subst (λ (low : ℕ). IsWithin (extension w (extended_bits w bits) low) (extension_range w bits a)) (kept-low w bits n)
     (one-sound (extension_at w bits) (modulus w) (low_at w a) (kept_at w n) (extension-below w bits (kept_at w n)) (low_at-sound w a n p h))
+
+-- bytes in another order are as many
+reversal-below : (n : ℕ) → (swap_bytes w16 n < 2 ^ 16) × (swap_bytes w32 n < 2 ^ 32) × (swap_bytes w64 n < 2 ^ 64)
+reversal-below n = (omega arith, omega arith, omega arith)
+
+in_order-below : (order : Order) (bits n : ℕ) → n < 2 ^ bits → reversal_of bits n < 2 ^ bits → swap order bits n < 2 ^ bits
+in_order-below Little bits n low reversed = low
+in_order-below Big bits n low reversed = reversed
+in_order-below Flip bits n low reversed = reversed
+
+swap-below : (order : Order) (bits n : ℕ) → swap_of order bits n < 2 ^ swapped_bits bits
+swap-below order bits n =
+    cond_both (eqb bits 16) 16 (cond (eqb bits 32) 32 64) (λ (k : ℕ). swap order k (n % 2 ^ k) < 2 ^ k)
+    (λ e. in_order-below order 16 (n % 2 ^ 16) (mod-lt n (pow_pos 16)) (reversal-below (n % 2 ^ 16)).0)
+    (λ e. cond_both (eqb bits 32) 32 64 (λ (k : ℕ). swap order k (n % 2 ^ k) < 2 ^ k)
+        (λ f. in_order-below order 32 (n % 2 ^ 32) (mod-lt n (pow_pos 32)) (reversal-below (n % 2 ^ 32)).1)
+        (λ f. in_order-below order 64 (n % 2 ^ 64) (mod-lt n (pow_pos 64)) (reversal-below (n % 2 ^ 64)).2))
+
+pub swap-sound : (order : Order) (bits : ℕ) (a : Range) (n : ℕ) → IsWithin n a → IsWithin (swap_of order bits n) (swap_range order bits a)
+swap-sound order bits a n h = one-sound (swap_of order bits) (2 ^ swapped_bits bits) a n (swap-below order bits n) h
+
+pub swap_range-below : (order : Order) (bits : ℕ) (a : Range) → (swap_range order bits a).hi < 2 ^ swapped_bits bits
+swap_range-below order bits a =
+    cond_both (is_constant a) (constant (swap_of order bits a.lo)) (all_below (2 ^ swapped_bits bits)) (λ (r : Range). r.hi < 2 ^ swapped_bits bits)
+    (λ e. swap-below order bits a.lo) (λ e. all-below (2 ^ swapped_bits bits) (pow_pos (swapped_bits bits)))
