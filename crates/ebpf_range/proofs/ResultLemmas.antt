@@ -159,8 +159,8 @@ swap-below order bits n =
     cond_both (eqb bits 16) 16 (cond (eqb bits 32) 32 64) (λ (k : ℕ). swap order k (n % 2 ^ k) < 2 ^ k)
     (λ e. in_order-below order 16 (n % 2 ^ 16) (mod-lt n (pow_pos 16)) (reversal-below (n % 2 ^ 16)).0)
     (λ e. cond_both (eqb bits 32) 32 64 (λ (k : ℕ). swap order k (n % 2 ^ k) < 2 ^ k)
-        (λ f. in_order-below order 32 (n % 2 ^ 32) (mod-lt n (pow_pos 32)) (reversal-below (n % 2 ^ 32)).1)
-        (λ f. in_order-below order 64 (n % 2 ^ 64) (mod-lt n (pow_pos 64)) (reversal-below (n % 2 ^ 64)).2))
+    (λ f. in_order-below order 32 (n % 2 ^ 32) (mod-lt n (pow_pos 32)) (reversal-below (n % 2 ^ 32)).1)
+    (λ f. in_order-below order 64 (n % 2 ^ 64) (mod-lt n (pow_pos 64)) (reversal-below (n % 2 ^ 64)).2))
 
 pub swap-sound : (order : Order) (bits : ℕ) (a : Range) (n : ℕ) → IsWithin n a → IsWithin (swap_of order bits n) (swap_range order bits a)
 swap-sound order bits a n h = one-sound (swap_of order bits) (2 ^ swapped_bits bits) a n (swap-below order bits n) h
