@@ -1,1 +1,3 @@
 pub mod Interval
+pub mod Results
+pub mod Refinements

@@ -45,7 +45,7 @@ pub fn add(width: Width, a: Range, b: Range) -> Range
 }
 
 // The sum of numbers below a modulus, which wraps there.
-fn sum_below(modulus: u128, a: Range, b: Range) -> Range
+pub(crate) fn sum_below(modulus: u128, a: Range, b: Range) -> Range
     requires few { modulus ≤ 2 ^ 64 }
     requires some { 0 < modulus }
     requires left { a.lo ≤ a.hi }
