@@ -64,6 +64,19 @@ fn a_claim_is_granted_where_the_slot_is_free(rt: HostRuntime) {
     );
 }
 
+#[test]
+fn a_seat_that_is_gone_leaves_its_slots_owned(rt: HostRuntime) {
+    let (owners, mut a, _) = table_of(&rt, rt.alloc(), 2);
+    let Ok(()) = owners.claim(&mut a, 1, Mark { run: 0, at: 3 }) else {
+        panic!(&rt; "the slot was free")
+    };
+    let _ = a;
+    let Ok(words) = owners.close(rt.alloc(), Vec::new(rt.alloc())) else {
+        panic!(&rt; "no memory")
+    };
+    assert!(&rt; matches!(words.as_slice(), [0, 4099]));
+}
+
 // The claim found that mark.
 fn is_taken(claim: Result<(), Taken>, mark: Mark) -> bool {
     match claim {

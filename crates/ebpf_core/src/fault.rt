@@ -3,7 +3,8 @@
 use std::alloc::AllocError;
 use thiserror::Error;
 
-/// Why an event isn't legal, in the order in which it is tested.
+/// Why an event isn't legal. Of several codes that apply the lowest is told, but for an event that names a kind: there `E9`
+/// goes first.
 #[derive(Clone, Copy, Debug)]
 pub enum ApplyCode {
     /// There is no such run.

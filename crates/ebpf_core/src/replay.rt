@@ -1,6 +1,6 @@
 //! The world after a list of events.
 
-ghost use Rattle.std.specs.Prelude.{IfOk, IfErr, List};
+ghost use Rattle.std.specs.Prelude.{◌≡◌, IfOk, IfErr, List};
 ghost use Rattle.ebpf_core.specs.Replay.{lead, IsReplayed, IsReplayFault};
 ghost use Rattle.ebpf_core.specs.Isolation.{IsAlwaysSafe};
 
@@ -22,6 +22,7 @@ pub fn replay<'v>(
 ) -> Result<World<'v>, ReplayFault>
     // It is the world that the events lead to, and there is one exactly where each event is legal.
     ensures done { IfOk result (IsReplayed programs.now events.now) }
+    ensures programs { IfOk result (λ w. w.programs ≡ programs.now) }
     ensures refused { IfErr result (IsReplayFault (lead programs.now events.now)) }
     // The main theorem.
     ensures safe { IsAlwaysSafe programs.now events.now }

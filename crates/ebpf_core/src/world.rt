@@ -6,6 +6,7 @@ ghost use Rattle.ebpf_core.specs.Events.{first_world, happened};
 ghost use Rattle.ebpf_machine.specs.RunView.{IsSeenAs};
 ghost use Rattle.ebpf_core.specs.declared.event.Event.TheVariants.{Start, Exec};
 ghost use Rattle.ebpf_core.specs.Shown.{Shows, OfWorld, IsDone, IsRefused};
+ghost use Rattle.ebpf_state.specs.Ascending.{IsAscending};
 ghost use Rattle.ebpf_core.specs.Readers.{status_in, output_in, executed_in, owner_in, bytes_in, ledger_in};
 
 use crate::event::{Answer, Context, Event};
@@ -197,7 +198,8 @@ impl<'v> World<'v> {
 
     /// The slots in the ledger of a kind, ascending; none for a number that is no kind.
     pub fn ledger(&self, kind: u8) -> &[u32]
-        ensures { OfWorld self.now (λ w. result.now ≡ ledger_in w kind) }
+        ensures value { OfWorld self.now (λ w. result.now ≡ ledger_in w kind) }
+        ensures ascending { IsAscending result.now }
     {
         &[]
     }

@@ -70,7 +70,7 @@ flow_fault p = or_else (undone_fault p) (lowest (flow_fault_at p) (length p))
 
 -- a fault is the defined one, or memory ran out
 abbrev pub IsFlowFault : List (Option Insn) → FlowFault → Type 0
-IsFlowFault p NoMemory = Unit {0}
+IsFlowFault p NoMemory = undone_fault p ≡ None
 IsFlowFault p (Bad slot code) = flow_fault p ≡ Some (slot, code)
 
 -- an edge leads forward to an instruction

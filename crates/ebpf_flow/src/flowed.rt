@@ -1,9 +1,9 @@
 //! A program whose flow was checked.
 
-ghost use Rattle.std.specs.Prelude.{◌≡◌, ◌<◌, length};
+ghost use Rattle.std.specs.Prelude.{◌≡◌, None};
 ghost use Rattle.ebpf_insn.specs.Encoding.{IsWellFormed};
 ghost use Rattle.ebpf_flow.specs.Edges.{edges_at};
-ghost use Rattle.ebpf_flow.specs.Flow.{AreForward, LeadsForward};
+ghost use Rattle.ebpf_flow.specs.Flow.{flow_fault, AreForward, LeadsForward};
 
 use crate::edges::Edges;
 use ebpf_insn::program::Program;
@@ -35,6 +35,7 @@ impl Flowed {
         ensures value { result.now ≡ self.now }
         ensures forward { AreForward self.now }
         ensures formed { IsWellFormed self.now }
+        ensures fine { flow_fault self.now ≡ None }
     {
         let _ = &self.edges;
         let _ = self.program.slots();
@@ -43,11 +44,16 @@ impl Flowed {
 
     /// Where the instruction at a slot leads; nowhere from a second half.
     pub fn successors(&self, slot: usize) -> Edges
-        requires { slot < length self.now }
         ensures value { result ≡ edges_at self.now slot }
         ensures fall { LeadsForward self.now slot result.fall }
         ensures jump { LeadsForward self.now slot result.jump }
     {
-        self.edges[slot]
+        match self.edges.get(slot) {
+            Some(edges) => *edges,
+            None => Edges {
+                fall: None,
+                jump: None,
+            },
+        }
     }
 }

@@ -57,5 +57,5 @@ decode_fault bytes = if is_uneven (length bytes) then Some (0, I1) else lowest (
 
 -- a fault is the defined one, or memory ran out
 abbrev pub IsDecodeFault : List ℕ → DecodeFault → Type 0
-IsDecodeFault bytes NoMemory = Unit {0}
+IsDecodeFault bytes NoMemory = is_uneven (length bytes) ≡ false
 IsDecodeFault bytes (Bad slot code) = decode_fault bytes ≡ Some (slot, code)

@@ -1,6 +1,6 @@
 //! A slot of eight bytes, and its fields.
 
-ghost use Rattle.std.specs.Prelude.{◌≡◌, ◌≤◌, ◌<◌, ◌++◌, OnOk, length};
+ghost use Rattle.std.specs.Prelude.{◌≡◌, ◌≤◌, ◌<◌, ◌++◌, OnErr, OnOk, length};
 ghost use Rattle.ebpf_insn.specs.Slot.{slot_at, bytes_of_slot};
 
 use byteorder::{ByteOrder, LittleEndian};
@@ -36,7 +36,8 @@ pub(crate) fn read_slot(bytes: &[u8]) -> Slot
 pub(crate) fn push_slot(bytes: &mut Vec<u8>, slot: Slot) -> Result<(), AllocError>
     requires dst { slot.dst < 16 }
     requires src { slot.src < 16 }
-    ensures { OnOk result (bytes.new.items ≡ bytes.old.items ++ bytes_of_slot slot) }
+    ensures written { OnOk result (bytes.new.items ≡ bytes.old.items ++ bytes_of_slot slot) }
+    ensures unchanged { OnErr result (bytes.new.items ≡ bytes.old.items) }
 {
     let mut fields = [0; 8];
     fields[0] = slot.opcode;

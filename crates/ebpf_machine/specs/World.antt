@@ -1,5 +1,5 @@
 -- The world: ledgers, owners, object bytes and runs. Each access is tested against the owners.
-use Rattle.std.specs.Prelude.{ℕ, ◌+◌, ◌++◌, ◌==◌, Bool, not, ◌&&◌, ◌||◌, if◌then◌else◌, List, [], ◌∷◌, length, filter, map, replicate, pos, Option, Some, None, Result, Ok, Err, slice_get, slice_set, slice_index_or}
+use Rattle.std.specs.Prelude.{ℕ, ◌+◌, ◌++◌, ◌==◌, Bool, not, ◌&&◌, if◌then◌else◌, List, [], ◌∷◌, length, filter, map, pos, Option, Some, None, Result, Ok, Err, slice_get, slice_set}
 use Rattle.std.specs.List.{list_any}
 use Rattle.ebpf_insn.specs.Program.{insn_at}
 use Rattle.ebpf_state.specs.declared.kinds.KindRow.{KindRow}
@@ -40,7 +40,7 @@ pub record Kind : Type 0 where
 abbrev pub kinds_of : List KindRow → List Kind
 kinds_of rows = map (λ row. record { size = row.size; fill = row.fill }) rows
 
--- the kinds; the slots of each, in their order; who owns which; the bytes of each slot of a ledger; the runs
+-- the kinds; the slots of each, ascending; who owns which; the bytes of each slot of a ledger; the runs
 pub record World : Type 0 where
   pub kinds : List Kind
   pub ledgers : List (List ℕ)
@@ -54,7 +54,8 @@ pub data Answer : Type 0 where
   Null : Answer
   Slot : (slot : ℕ) → Answer
 
--- why an event is not legal, in the order in which it is tested
+-- why an event is not legal. The causes are tested in this order, but for an event that names a kind: there an unknown one
+-- goes before what is wrong with the slot.
 pub data Illegal : Type 0 where
   NoSuchRun : Illegal
   RunEnded : Illegal
@@ -132,35 +133,3 @@ executed_by (Some r) w run answer = going_on r.status w run answer r
 -- Exec: one run does the instruction at its pc. No instruction asks for an object yet, so every answer is unasked.
 abbrev pub executed : World → ℕ → Answer → Result World Illegal
 executed w run answer = executed_by (slice_get w.runs run) w run answer
-
-abbrev pub with_slot : List (List ℕ) → ℕ → ℕ → List (List ℕ)
-with_slot ledgers kind slot = slice_set ledgers kind (slice_index_or ledgers kind [] ++ slot ∷ [])
-
-abbrev pub without_slot : List (List ℕ) → ℕ → ℕ → List (List ℕ)
-without_slot ledgers kind slot = slice_set ledgers kind (filter (λ s. not (s == slot)) (slice_index_or ledgers kind []))
-
--- the bytes of a new object of a kind
-abbrev pub image_of : Kind → List ℕ
-image_of kind = replicate kind.size kind.fill
-
-abbrev pub grown_by : Option Kind → ℕ → ℕ → World → Result World Illegal
-grown_by None kind slot w = Err NoSuchProgramOrKind
-grown_by (Some k) kind slot w = if is_in_ledger w slot then Err SlotInLedger else Ok (record w {
-  ledgers = with_slot w.ledgers kind slot;
-  bytes = w.bytes ++ (slot, image_of k) ∷ [];
-})
-
--- Grow: a slot that is in no ledger joins that of a kind, with its image
-abbrev pub grown : ℕ → ℕ → World → Result World Illegal
-grown kind slot w = grown_by (slice_get w.kinds kind) kind slot w
-
-abbrev pub reaped_by : Option Kind → ℕ → ℕ → World → Result World Illegal
-reaped_by None kind slot w = Err NoSuchProgramOrKind
-reaped_by (Some k) kind slot w = if is_owned w slot || not (is_in slot (slice_index_or w.ledgers kind [])) then Err SlotNotReapable else Ok (record w {
-  ledgers = without_slot w.ledgers kind slot;
-  bytes = filter (λ b. not (b.0 == slot)) w.bytes;
-})
-
--- Reap: a home slot leaves the ledger of its kind
-abbrev pub reaped : ℕ → ℕ → World → Result World Illegal
-reaped kind slot w = reaped_by (slice_get w.kinds kind) kind slot w

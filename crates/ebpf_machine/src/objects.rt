@@ -58,6 +58,7 @@ pub trait Objects {
         requires kind { kind_of object ≡ kind }
         ensures counts { (grants self.new ≡ grants self.old) × (nulls self.new ≡ nulls self.old) }
         ensures outs { (k : ℕ) → outs self.new k + (if k == kind then 1 else 0) ≡ outs self.old k }
+        ensures back { (other : Self.Held) → is_out self.new other → slot_of other ≢ slot_of object }
         ensures others { (other : Self.Held) → is_out self.old other → slot_of other ≢ slot_of object → is_out self.new other × (bytes_of self.new other ≡ bytes_of self.old other) };
 
     /// The bytes of an object.

@@ -1,7 +1,7 @@
 -- What is told of what is read is told of the input, and written: for every command.
 use Rattle.std.proofs.Common.{◌≡◌, ◌≢◌, ℕ, ◌<◌, ◌≤◌, Bool, true, false, nat_lt, List, length, take, Option, Some, None, Result, Ok, Err, refl, ◌∙◌, subst, arith}
 use Rattle.std.specs.Prelude.{IfSome, IfOk, IfErr, OnErr}
-use Rattle.std.specs.Io.KnownBytes.{Appends}
+use Rattle.std.specs.Io.KnownBytes.{Appends, Consumes}
 use Rattle.std.proofs.lemmas.Bool.{ltb-true}
 use Rattle.std.proofs.lemmas.Grind.{common_steps}
 use Rattle.ebpf_script.specs.declared.done.Done.{Done}
@@ -46,3 +46,9 @@ begun_by Tells cuts (Some all) old new bytes seen told (Err fault) read same h k
 pub untouched_by : (A : Type 0) (old new : A) (result : Result Done EngineFault) → IfErr result (λ fault. fault ≡ Output) → IfErr result (λ fault. fault ≢ Output → new ≡ old)
 untouched_by A old new (Ok done) h = tt
 untouched_by A old new (Err fault) h = λ other. absurd (other h)
+
+-- what was read is gone from the reader
+pub consumed_by : (input rest : Option (List ℕ)) (bytes : List ℕ) (result : Result Done EngineFault) → IfSome input (λ all. bytes ≡ read_of all) → Consumes input rest bytes → IfOk result (λ done. IfSome input (λ all. Consumes input rest (read_of all)))
+consumed_by input rest bytes (Err fault) read took = tt
+consumed_by None rest bytes (Ok done) read took = tt
+consumed_by (Some all) rest bytes (Ok done) read took = subst (λ (xs : List ℕ). Consumes (Some all) rest xs) read took

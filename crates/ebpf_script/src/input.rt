@@ -23,6 +23,8 @@ const CHUNK: usize = 4096;
 pub fn read_input<R: Read>(alloc: Global, reader: &mut R) -> Result<Vec<u8>, EngineFault>
     ensures read { IfOk result (λ bytes. IfSome (R.remaining reader.old) (λ input. bytes.items ≡ read_of input)) }
     ensures few { IfOk result (λ bytes. length bytes.items ≤ 1048577) }
+    // What was read is gone from the reader, and nothing behind it.
+    ensures consumed { IfOk result (λ bytes. Consumes (R.remaining reader.old) (R.remaining reader.new) bytes.items) }
     ensures err { IfErr result (λ e. e ≢ Output) }
 {
     let mut bytes = Vec::new(alloc);

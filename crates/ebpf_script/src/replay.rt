@@ -1,11 +1,12 @@
 //! The command `replay`: programs, and a list of events over runs of them.
 
 ghost use Rattle.std.specs.Prelude.{◌≡◌, ◌≢◌, ◌≤◌, ◌++◌, ℕ, string_bytes, length, take, IfOk, IfErr, IfSome};
-ghost use Rattle.std.specs.Io.KnownBytes.{Appends};
+ghost use Rattle.std.specs.Io.KnownBytes.{Appends, Consumes};
 ghost use Rattle.ebpf_core.specs.Replay.{lead};
 ghost use Rattle.ebpf_script.specs.declared.done.EngineFault.TheVariants.{Output};
 ghost use Rattle.ebpf_script.specs.ReadScripts.{said_by};
 ghost use Rattle.ebpf_script.specs.ReplayText.{TellsReplay, TellsSaid, world_told};
+ghost use Rattle.ebpf_script.specs.Input.{read_of};
 ghost use Rattle.ebpf_script.specs.Told.{Told};
 
 use crate::answer::Answer;
@@ -36,6 +37,8 @@ pub fn replay<R: Read, W: Write>(
 ) -> Result<Done, EngineFault>
     // The text of the input is written, and nothing else.
     ensures told { IfOk result (λ done. IfSome (R.remaining reader.old) (λ input. (told : Told) × TellsReplay input told × (told.done ≡ done) × Appends (W.contents writer.old) (W.contents writer.new) told.text)) }
+    // What was read is gone from the reader, and nothing behind it.
+    ensures consumed { IfOk result (λ done. IfSome (R.remaining reader.old) (λ input. Consumes (R.remaining reader.old) (R.remaining reader.new) (read_of input))) }
     ensures untouched { IfErr result (λ fault. fault ≢ Output → writer.new ≡ writer.old) }
     ensures beginning { IfErr result (λ fault. IfSome (R.remaining reader.old) (λ input. fault ≡ Output → (told : Told) × TellsReplay input told × ((n : ℕ) × (n ≤ length told.text) × Appends (W.contents writer.old) (W.contents writer.new) (take n told.text)))) }
 {

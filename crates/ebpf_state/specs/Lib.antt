@@ -1,5 +1,6 @@
 pub mod Kinds
 pub mod Abstract
+pub mod Ascending
 pub mod Words
 pub mod StateView
 pub mod States

@@ -1,5 +1,5 @@
 -- The first state, reads and writes of registers, and the join of two states.
-use Rattle.std.specs.Prelude.{◌≡◌, pos, List, [], ◌∷◌, Bool, true, false, ◌&&◌, ◌==◌, if◌then◌else◌, slice_index_or, slice_set, replicate, Option, Some, None, Result, Ok, Err}
+use Rattle.std.specs.Prelude.{◌≡◌, pos, List, [], ◌∷◌, Bool, true, false, ◌&&◌, ◌==◌, if◌then◌else◌, slice_index_or, slice_set, replicate, Option, Some, None, is_none, Result, Ok, Err}
 use Rattle.std.proofs.Math.Bool.{beq}
 use Rattle.ebpf_insn.specs.declared.register.Reg.{Reg}
 use Rattle.ebpf_insn.specs.Registers.{number_of}
@@ -55,4 +55,4 @@ joined_state a b = if is_same_held a.held b.held then Some (record {
 abbrev pub Joins : Option StateView → Result StateView JoinFault → Type 0
 Joins joined (Ok s) = joined ≡ Some s
 Joins joined (Err HeldDiffer) = joined ≡ None
-Joins joined (Err NoMemory) = Unit {0}
+Joins joined (Err NoMemory) = is_none joined ≡ false

@@ -19,6 +19,8 @@ joined_word (Bytes a) (Spill (Num b)) = Bytes a
 joined_word (Spill a) (Spill b) = spill_or_nothing (joined_value a b)
 joined_word _ _ = Bytes 0
 
+-- a spill is of something: a word of which nothing is known has no byte set
 abbrev pub IsProperWord : Word → Type 0
+IsProperWord (Spill Unset) = ⊥
 IsProperWord (Spill value) = IsProper value
 IsProperWord (Bytes mask) = Unit {0}

@@ -1,6 +1,7 @@
 //! Kinds of object, joins, and the functions of states on their plain uses.
 
 ghost use Rattle.ebpf_state.specs.Abstract.{IsProper};
+ghost use Rattle.ebpf_state.specs.Words.{IsProperWord};
 
 use crate::programs::holds;
 use ebpf_insn::register::Reg;
@@ -32,6 +33,13 @@ fn number(value: u64) -> Abs
     ensures { IsProper result }
 {
     Abs::Num(Range::constant(value))
+}
+
+// A word that holds it.
+fn spilled_number(value: u64) -> Word
+    ensures { IsProperWord result }
+{
+    Word::Spill(Abs::Num(Range::constant(value)))
 }
 
 #[test]
@@ -86,7 +94,7 @@ fn mask_of(word: Word) -> Option<u8> {
 
 #[test]
 fn words_are_joined_to_the_bytes_that_both_set(rt: HostRuntime) {
-    let spilled = Word::Spill(number(1));
+    let spilled = spilled_number(1);
     let pointer = Word::Spill(Abs::Stk(0));
     let common = mask_of(Word::Bytes(0x0f).join(Word::Bytes(0x3c)));
     holds(&rt, "two masks", common == Some(0x0c));

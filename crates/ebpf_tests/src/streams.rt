@@ -11,7 +11,8 @@ use std::io::{Read, Write};
 use std::process::Abort;
 use std::test::*;
 
-// Gives a text and then a byte over and over, up to so many bytes a call. Then it ends, or fails for a cause.
+// Gives a text and then a byte over and over, up to so many bytes a call. Then it ends, or fails for a cause. One that
+// stumbles fails at its first call alone.
 #[derive(Drop)]
 struct Source<'a> {
     text: &'a [u8],
@@ -19,10 +20,15 @@ struct Source<'a> {
     times: usize,
     most: usize,
     fails: Option<io::ErrorKind>,
+    stumbles: bool,
 }
 
 impl Read for Source<'_> {
     fn read(&mut self, buf: &mut [u8]) -> io::Result<usize> {
+        if self.stumbles {
+            self.stumbles = false;
+            return Err(io::Error::from(io::ErrorKind::Interrupted));
+        }
         let most = buf.len().min(self.most);
         if !self.text.is_empty() {
             let n = most.min(self.text.len());
@@ -42,27 +48,37 @@ impl Read for Source<'_> {
     }
 }
 
-// Takes up to so many bytes a call, up to its room. Then it takes nothing, or fails.
+// Takes up to so many bytes a call, up to its room. Then it takes nothing, or fails. One that stumbles fails at its first
+// call alone. It knows whether all that it took was flushed.
 #[derive(Drop)]
 struct Sink {
     got: Vec<u8>,
     most: usize,
     room: usize,
     fails: bool,
+    stumbles: bool,
+    fails_to_flush: bool,
+    is_flushed: bool,
 }
 
 impl Write for Sink {
     fn write(&mut self, buf: &[u8]) -> io::Result<usize> {
-        if self.room == 0 && self.fails {
+        if self.stumbles || (self.room == 0 && self.fails) {
+            self.stumbles = false;
             return Err(io::Error::from(io::ErrorKind::Interrupted));
         }
         let n = buf.len().min(self.most).min(self.room);
         self.got.extend_from_slice(&buf[..n])?;
         self.room -= n;
+        self.is_flushed = false;
         Ok(n)
     }
 
     fn flush(&mut self) -> io::Result<()> {
+        if self.fails_to_flush {
+            return Err(io::Error::from(io::ErrorKind::Other));
+        }
+        self.is_flushed = true;
         Ok(())
     }
 }
@@ -78,6 +94,7 @@ fn flood<'a>(byte: u8, times: usize, fails: Option<io::ErrorKind>) -> Source<'a>
         times,
         most: MANY,
         fails,
+        stumbles: false,
     }
 }
 
@@ -88,6 +105,9 @@ fn ample(alloc: Global) -> Sink {
         most: MANY,
         room: MANY,
         fails: false,
+        stumbles: false,
+        fails_to_flush: false,
+        is_flushed: false,
     }
 }
 
@@ -155,6 +175,42 @@ fn a_failed_read_writes_nothing(rt: HostRuntime) {
     }
 }
 
+#[test]
+fn a_read_that_fails_once_is_not_made_again(rt: HostRuntime) {
+    for (command, input, _) in COMMANDS.iter().copied() {
+        let mut reader = flood(0, 0, None);
+        reader.text = input.as_bytes();
+        reader.stumbles = true;
+        fails_to_read(&rt, rt.alloc(), command, reader);
+    }
+}
+
+// Calls a command whose writer fails at its first write, or each time that it is flushed, and checks that it says so.
+fn fails_to_write(rt: &impl Abort, alloc: Global, row: (&str, &str, &str), at_flush: bool) {
+    let (command, input, told) = row;
+    let mut reader = flood(0, 0, None);
+    reader.text = input.as_bytes();
+    let mut writer = ample(alloc);
+    writer.stumbles = !at_flush;
+    writer.fails_to_flush = at_flush;
+    let outcome = call(alloc, command, &mut reader, &mut writer);
+    let came = if at_flush { told } else { "" };
+    let is_told = matches!(outcome, Err(EngineFault::Output));
+    holds(
+        rt,
+        command,
+        is_told && writer.got.as_slice() == came.as_bytes(),
+    );
+}
+
+#[test]
+fn a_write_or_a_flush_that_fails_once_is_told(rt: HostRuntime) {
+    for row in COMMANDS.iter().copied() {
+        fails_to_write(&rt, rt.alloc(), row, false);
+        fails_to_write(&rt, rt.alloc(), row, true);
+    }
+}
+
 // Calls a command on its input with such a reader and writer, and checks that as much of the text comes as there is room
 // for, and that the command says so where that isn't all.
 fn writes_to(rt: &impl Abort, alloc: Global, row: (&str, &str, &str), give: usize, writer: Sink) {
@@ -166,7 +222,7 @@ fn writes_to(rt: &impl Abort, alloc: Global, row: (&str, &str, &str), give: usiz
     let mut writer = writer;
     let outcome = call(alloc, command, &mut reader, &mut writer);
     let is_told = match outcome {
-        Ok(Done::Clean) => room >= told.len(),
+        Ok(Done::Clean) => room >= told.len() && writer.is_flushed,
         Err(EngineFault::Output) => room < told.len(),
         _ => false,
     };

@@ -1,5 +1,5 @@
 -- What comes to each slot: the join of what the lower slots send to it.
-use Rattle.std.specs.Prelude.{ℕ, zero, suc, List, Bool, if◌then◌else◌, ◌==◌, Option, Some, None}
+use Rattle.std.specs.Prelude.{◌≡◌, ℕ, zero, suc, List, Bool, false, is_none, if◌then◌else◌, ◌==◌, Option, Some, None}
 use Rattle.ebpf_insn.specs.declared.insn.Insn.{Insn}
 use Rattle.ebpf_insn.specs.Program.{insn_at}
 use Rattle.ebpf_flow.specs.declared.edges.Edges.{Edges}
@@ -19,6 +19,11 @@ abbrev pub with_state : Arrival → StateView → Arrival
 with_state Never s = Entered s
 with_state (Entered old) s = entered_or_differ (joined_state old s)
 with_state Differ s = Differ
+
+-- a state came there already that has a join with this one
+abbrev pub IsJoinable : Arrival → StateView → Type 0
+IsJoinable (Entered old) s = is_none (joined_state old s) ≡ false
+IsJoinable _ s = ⊥
 
 -- what comes to a slot, with what an edge carries, if it carries anything and leads there
 abbrev pub with_edge : Option StateView → Bool → Arrival → Arrival

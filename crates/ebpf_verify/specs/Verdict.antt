@@ -1,15 +1,15 @@
 -- The verdict on a program.
-use Rattle.std.specs.Prelude.{◌≡◌, ◌≤◌, ℕ, List, length, All, Option, Some, None}
+use Rattle.std.specs.Prelude.{◌≡◌, ◌≤◌, ℕ, List, length, All, Option, Some, None, if◌then◌else◌}
 use Rattle.ebpf_insn.specs.declared.insn.Insn.{Insn}
 use Rattle.ebpf_insn.specs.Program.{insn_at}
 use Rattle.ebpf_insn.specs.Encoding.{IsWellFormed}
-use Rattle.ebpf_flow.specs.Flow.{AreForward}
+use Rattle.ebpf_flow.specs.Flow.{AreForward, is_done, or_else}
 use Rattle.ebpf_insn.specs.Faults.{lowest}
 use Rattle.ebpf_state.specs.declared.kinds.KindRow.{KindRow}
 use Rattle.ebpf_verify.specs.declared.arrival.Arrival.{Arrival}
 use Rattle.ebpf_verify.specs.declared.arrival.Arrival.TheVariants.{Entered, Differ}
 use Rattle.ebpf_verify.specs.declared.fault.VerifyCode.{VerifyCode}
-use Rattle.ebpf_verify.specs.declared.fault.VerifyCode.TheVariants.{V19}
+use Rattle.ebpf_verify.specs.declared.fault.VerifyCode.TheVariants.{V0, V19}
 use Rattle.ebpf_verify.specs.declared.fault.VerifyFault.{VerifyFault}
 use Rattle.ebpf_verify.specs.declared.fault.VerifyFault.TheVariants.{Refused, NoMemory}
 use Rattle.ebpf_verify.specs.Subject.{Subject}
@@ -26,9 +26,18 @@ refusal_in i _ = None
 abbrev pub refusal_at : Subject → ℕ → Option VerifyCode
 refusal_at s slot = refusal_in (insn_at s.program slot) (entry_of s.program slot)
 
--- the lowest slot that is refused, with its code; none, and the program is accepted
+-- the code of an instruction that has no rule yet
+abbrev pub undone_in : Option Insn → Option VerifyCode
+undone_in None = None
+undone_in (Some i) = if is_done i then None else Some V0
+
+abbrev pub undone_at : Subject → ℕ → Option VerifyCode
+undone_at s slot = undone_in (insn_at s.program slot)
+
+-- the lowest slot that has no rule; where each has one, the lowest slot that is refused, with its code; none, and the
+-- program is accepted
 abbrev pub verdict : Subject → Option (ℕ × VerifyCode)
-verdict s = lowest (refusal_at s) (length s.program)
+verdict s = or_else (lowest (undone_at s) (length s.program)) (lowest (refusal_at s) (length s.program))
 
 -- a fault is the verdict, or memory ran out
 abbrev pub IsVerifyFault : Subject → VerifyFault → Type 0

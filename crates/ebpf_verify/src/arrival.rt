@@ -18,13 +18,13 @@ pub enum Arrival {
 
 impl Arrival {
     ghost use Rattle.std.specs.Prelude.{IfErr};
-    ghost use Rattle.ebpf_verify.specs.Entry.{with_state};
+    ghost use Rattle.ebpf_verify.specs.Entry.{with_state, IsJoinable};
     ghost use Rattle.ebpf_verify.specs.declared.fault.VerifyFault.TheVariants.{NoMemory};
 
     /// What comes, with one more state.
     pub(crate) fn with(self, state: State) -> Result<Arrival, VerifyFault>
         ensures value { IfOk result (λ a. a ≡ with_state self state) }
-        ensures err { IfErr result (λ e. e ≡ NoMemory) }
+        ensures err { IfErr result (λ e. (e ≡ NoMemory) × IsJoinable self state) }
     {
         match self {
             Arrival::Never => Ok(Arrival::Entered(state)),

@@ -3,7 +3,7 @@
 ghost use Rattle.std.specs.Prelude.{◌≡◌, ◌+◌, ◌<◌, [], ◌∷◌, ◌++◌, ℕ, map, reverse, replicate, slice_index, vec_len, All, IfSome, IfNone, IfOk, OnOk, IfErr, IsErrAnd};
 ghost use Rattle.std.specs.Slots.{slots_items, slots_len, IsFull};
 ghost use Rattle.owners_table.specs.Marking.{mark_word};
-ghost use Rattle.owners_table.specs.Owning.{Holds, Apart, HasOneOwner, EachHasOneOwner, IsLeft, fresh, sheet, held_by, without, word_at};
+ghost use Rattle.owners_table.specs.Owning.{Holds, Apart, HasOneOwner, EachHasOneOwner, IsLeft, IsSlotWord, fresh, sheet, held_by, without, word_at};
 
 use crate::mark::Mark;
 use crate::owning::{Claim, Look, OwnerSheet, Owning, Release, Size};
@@ -166,13 +166,15 @@ impl Owners {
     }
 
     /// Ends the table, and gives the words of its slots, in order: 0 for a slot that is free, else the word of its owner's
-    /// mark.
+    /// mark. The slots of a seat that isn't among these stay owned, and their words are told as they stand.
     ///
     /// # Errors
     /// There was no memory for the words: the table and the seats are gone.
     pub fn close(self, alloc: Global, seats: Vec<OwnerSeat>) -> Result<Vec<u64>, AllocError>
         requires { All (λ s. s.table ≡ self.table) seats.items }
         ensures len { IfOk result (λ ws. vec_len ws ≡ self.slots) }
+        // Each is 0 or the word of a mark.
+        ensures marks { IfOk result (λ ws. (slot : ℕ) → slot < self.slots → IsSlotWord (slice_index ws.items slot)) }
         // A slot that one of the seats holds has the word that its list says.
         ensures held { IfOk result (λ ws. (slot : ℕ) → Holds slot (held_by seats.items) → (slot < self.slots) × (slice_index ws.items slot ≡ word_at slot (held_by seats.items))) }
         // Where these are all the seats that were made, each word is the one in their lists, and 0 where they have none.

@@ -12,7 +12,9 @@
 //! *The reason.* To take an object is to look at the top of the stack, and to give one back is to divide its
 //! slot by 256: both are a few steps, however many objects and pages there are. A page comes onto the stack with
 //! its first object and leaves it with its last, so `take` answers None only where no slab has an object. A
-//! slab changes nothing for an object that isn't out of it, so a stranger's object can do no harm.
+//! slab changes nothing for an object whose slot isn't out of it. An object has the number of its slot alone and
+//! doesn't know its slabs: one of other slabs of the kind, whose slot is out here, is taken in the place of the
+//! one that is. So each object goes back where it came from; the caches above keep to that.
 //!
 //! The table is made with the first page. All memory of a page is got before anything changes.
 

@@ -10,7 +10,7 @@
 //! before it ends, and the last ends with the last page. Each has a page at least. No two neighbours are free.
 //!
 //! *The reason.* Since the segments tile the arena, a page is free or out and never both, and each span that
-//! is out stands in the list by itself: so the arena can tell a span of its own from any other. Since free
+//! is out stands in the list by itself: so the arena can tell by its pages whether a span is out. Since free
 //! neighbours are merged at once, a run of free pages always lies inside one segment: so a span that would fit
 //! is found by looking at each segment alone, and a refusal means that it fits nowhere. Since each segment has
 //! a page, there are never more segments than pages: so a table made for as many never has to grow.

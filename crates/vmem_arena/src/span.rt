@@ -5,8 +5,10 @@
 //!
 //! *The invariant.* A span has a page at least, and none past page 255.
 //!
-//! *The reason.* Who has a span of an arena has its pages to himself until the span goes back, since there is
-//! no second one of them. A span that is dropped leaves its pages out for good.
+//! *The reason.* An arena makes no second span of pages that are out, so who has a span has its pages to himself
+//! until it goes back, as long as each span goes back to the arena that it came from. A span has the numbers of
+//! its pages alone and doesn't know its arena: another arena with a span of the same pages out takes it for that
+//! one. A span that is dropped leaves its pages out for good.
 
 ghost use Rattle.std.specs.Prelude.{◌≡◌, ◌+◌, ◌<◌, ◌≤◌};
 

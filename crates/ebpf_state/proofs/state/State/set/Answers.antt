@@ -9,4 +9,5 @@ invariant_of-self c = record {
   words_are = c.self.invariant.words_are;
   proper = All-set IsProper c.self.inside.registers c.number-number.result c.args.value c.requires c.self.invariant.proper;
   proper_words = c.self.invariant.proper_words;
+  ascending = c.self.invariant.ascending;
 }

@@ -12,4 +12,5 @@ invariant_of-result c = record {
   words_are = refl;
   proper = All-from_recursion IsProper first_state.registers (tt, (tt, (tt, (tt, (tt, (tt, (tt, (tt, (tt, (tt, (tt, tt)))))))))));
   proper_words = All-replicate IsProperWord 64 (Bytes 0) tt;
+  ascending = rw c.new.ensures.items tt;
 }

@@ -1,0 +1,61 @@
+//! The words of the faults that stand in no other module.
+
+use crate::programs::is_told;
+use ebpf_flow::fault::{FlowCode, FlowFault};
+use ebpf_machine::run::StartFault;
+use ebpf_script::done::EngineFault;
+use ebpf_state::state::JoinFault;
+use ebpf_verify::fault::{VerifyCode, VerifyFault};
+use std::alloc::{AllocError, Global};
+
+// Of each fault a line, in the order of `faults`.
+const WORDS: &str = "\
+slot 3 is refused with F2
+out of memory
+slot 4095 is refused with V19
+out of memory
+the paths that meet hold different references
+out of memory
+the context hasn't the declared length
+out of memory
+input
+output
+no memory
+";
+
+// The faults of the crates below the commands, and those of the commands, in words.
+fn faults(alloc: Global) -> Result<String, AllocError> {
+    let mut told = String::new(alloc);
+    let slot = 3;
+    let code = FlowCode::F2;
+    write!(
+        told,
+        "{}\n{}\n",
+        FlowFault::Bad { slot, code },
+        FlowFault::NoMemory
+    )?;
+    let slot = 4095;
+    let code = VerifyCode::V19;
+    write!(
+        told,
+        "{}\n{}\n",
+        VerifyFault::Refused { slot, code },
+        VerifyFault::NoMemory
+    )?;
+    write!(told, "{}\n{}\n", JoinFault::HeldDiffer, JoinFault::NoMemory)?;
+    write!(
+        told,
+        "{}\n{}\n",
+        StartFault::ContextLength,
+        StartFault::NoMemory
+    )?;
+    write!(told, "{}\n{}\n", EngineFault::Input, EngineFault::Output)?;
+    write!(told, "{}\n", EngineFault::NoMemory)?;
+    Ok(told)
+}
+
+#[test]
+fn faults_are_told_in_words(rt: HostRuntime) {
+    let told = faults(rt.alloc()).expect(&rt, "out of memory");
+    is_told(&rt, "the words of faults", told.as_str(), WORDS);
+}
