@@ -6,7 +6,8 @@ use Rattle.std.proofs.lemmas.Option.{get_or_from_slice_get, slice_get_within}
 use Rattle.ebpf_insn.specs.Program.{instructions}
 use Rattle.ebpf_verify.specs.Subject.{Subject}
 use Rattle.ebpf_verify.specs.Verdict.{IsAccepted}
-use Rattle.ebpf_machine.specs.World.{World, Running, Owner, Illegal, Going, Exited, Trapped, Status, first_run, started, going_on, executed_by, with_run, run_stepped, WrongContext}
+use Rattle.ebpf_machine.specs.World.{World, Running, Owner, Going, Exited, Trapped, Status, first_run}
+use Rattle.ebpf_machine.specs.Events.{Illegal, started, starting, exec_going, exec_by, with_run, run_stepped, WrongContext}
 use Rattle.ebpf_machine.specs.Values.{Frame}
 use Rattle.ebpf_machine.specs.Alone.{outcome_alone}
 use Rattle.ebpf_machine.specs.RunView.{RunState, IsSeenAs, IsRun, first_state_of, status_of}
@@ -19,7 +20,7 @@ use Rattle.ebpf_core.specs.declared.event.Answer.TheVariants.{Absent, Null, Slot
 use Rattle.ebpf_core.specs.declared.event.Event.{Event}
 use Rattle.ebpf_core.specs.declared.event.Event.TheVariants.{Start, Exec, Grow, Reap}
 use Rattle.ebpf_core.specs.Kinds.{world_kinds}
-use Rattle.ebpf_core.specs.Events.{first_world, answer_of, starting, happened}
+use Rattle.ebpf_core.specs.Events.{first_world, answer_of, happened}
 use Rattle.ebpf_core.specs.Replay.{and_then, lead_from}
 use Rattle.ebpf_core.specs.Isolation.{answers_to, answer_in, IsUntrapped, IsWhereAlone, IsOutcomeOf, IsIsolated, IsSafe, IsAlwaysSafe}
 
@@ -125,7 +126,7 @@ kept_start programs program context (Some s) w v events all h at e = fits (eqb (
   fits true e = let same : started s context w ≡ v = cc in subst (λ (u : World). IsKept u (events ++ Start program context ∷ [])) same (kept_started s context w program context events (accepted_at programs program s all at) h)
   fits false e = absurd (cc)
 
-kept_going : (w v : World) (number : ℕ) (run : Running) (answer : Answer) (status : Status) (events : List Event) → IsKept w events → slice_get w.runs number ≡ Some run → run.status ≡ status → going_on status w number (answer_of answer) run ≡ Ok v → IsKept v (events ++ Exec number answer ∷ [])
+kept_going : (w v : World) (number : ℕ) (run : Running) (answer : Answer) (status : Status) (events : List Event) → IsKept w events → slice_get w.runs number ≡ Some run → run.status ≡ status → exec_going status w number (answer_of answer) run ≡ Ok v → IsKept v (events ++ Exec number answer ∷ [])
 kept_going w v number run answer (Exited n) events h at is e = absurd (cc)
 kept_going w v number run answer (Trapped trap) events h at is e = absurd (cc)
 kept_going w v number run Null Going events h at is e = absurd (cc)
@@ -135,7 +136,7 @@ kept_going w v number run Absent Going events h at is e =
     let same : with_run w number (run_stepped 0 run) ≡ v = cc in
     subst (λ (u : World). IsKept u (events ++ Exec number Absent ∷ [])) same (kept_stepped w number run events h at is)
 
-kept_exec : (w v : World) (number : ℕ) (answer : Answer) (o : Option Running) (events : List Event) → IsKept w events → slice_get w.runs number ≡ o → executed_by o w number (answer_of answer) ≡ Ok v → IsKept v (events ++ Exec number answer ∷ [])
+kept_exec : (w v : World) (number : ℕ) (answer : Answer) (o : Option Running) (events : List Event) → IsKept w events → slice_get w.runs number ≡ o → exec_by o w number (answer_of answer) ≡ Ok v → IsKept v (events ++ Exec number answer ∷ [])
 kept_exec w v number answer None events h at e = absurd (cc)
 kept_exec w v number answer (Some run) events h at e = kept_going w v number run answer run.status events h at refl e
 

@@ -4,11 +4,11 @@ use Rattle.std.specs.Prelude.{slice_get, slice_set}
 use Rattle.std.proofs.lemmas.Bool.{eq-eqb}
 use Rattle.std.proofs.lemmas.Bool.Decides.{eqb_tells}
 use Rattle.ebpf_verify.specs.Subject.{Subject}
-use Rattle.ebpf_machine.specs.World.{World, Running, Going, Exited, NoSuchRun, RunEnded, NoSuchProgramOrKind, WrongContext, AnswerUnasked, SlotNotHome, first_run, started, executed, run_stepped, with_run}
+use Rattle.ebpf_machine.specs.World.{World, Running, Going, Exited, first_run}
+use Rattle.ebpf_machine.specs.Events.{NoSuchRun, RunEnded, NoSuchProgramOrKind, WrongContext, AnswerUnasked, SlotNotHome, started, starting, exec, run_stepped, with_run}
 use Rattle.ebpf_machine.specs.World as world
 use Rattle.ebpf_machine.specs.RunView.{RunState, IsSeenAs, first_state_of, status_of}
 use Rattle.ebpf_core.specs.declared.slots.Slot.{Slot}
-use Rattle.ebpf_core.specs.Events.{starting}
 use Rattle.ebpf_core.specs.Shown.{WorldState, Shows}
 use Rattle.ebpf_core.proofs.Runs.{AreSeenAs-at, AreSeenAs-none, AreSeenAs-set, AreSeenAs-more}
 
@@ -20,7 +20,7 @@ started_shows w kept s context h =
 
 -- a run does the instruction at its pc
 pub executed_shows : (w : World) (kept : WorldState) (k : ℕ) (r t : RunState Slot) → Shows w kept → slice_get kept.runs k ≡ Some r → r.exit ≡ None → ((m : Running) → IsSeenAs m r → IsSeenAs (run_stepped 0 m) t)
-    → (after : World) × (executed w k world.Absent ≡ Ok after) × Shows after (record kept { runs = slice_set kept.runs k t })
+    → (after : World) × (exec w k world.Absent ≡ Ok after) × Shows after (record kept { runs = slice_set kept.runs k t })
 executed_shows w kept k r t h at going step =
     let run = AreSeenAs-at w.runs kept.runs k r h.runs at in
     let goes : run.0.status ≡ Going = run.2.status ∙ ap status_of going in (
@@ -36,24 +36,24 @@ executed_shows w kept k r t h at going step =
     )
 
 -- there is no such run
-pub executed_none : (w : World) (kept : WorldState) (k : ℕ) (answer : world.Answer) → Shows w kept → slice_get kept.runs k ≡ None → executed w k answer ≡ Err NoSuchRun
+pub executed_none : (w : World) (kept : WorldState) (k : ℕ) (answer : world.Answer) → Shows w kept → slice_get kept.runs k ≡ None → exec w k answer ≡ Err NoSuchRun
 executed_none w kept k answer h at = rw (AreSeenAs-none w.runs kept.runs k h.runs at) refl
 
 -- the run has ended
-pub executed_ended : (w : World) (kept : WorldState) (k n : ℕ) (answer : world.Answer) (r : RunState Slot) → Shows w kept → slice_get kept.runs k ≡ Some r → r.exit ≡ Some n → executed w k answer ≡ Err RunEnded
+pub executed_ended : (w : World) (kept : WorldState) (k n : ℕ) (answer : world.Answer) (r : RunState Slot) → Shows w kept → slice_get kept.runs k ≡ Some r → r.exit ≡ Some n → exec w k answer ≡ Err RunEnded
 executed_ended w kept k n answer r h at ended =
     let run = AreSeenAs-at w.runs kept.runs k r h.runs at in
     let exited : run.0.status ≡ Exited n = run.2.status ∙ ap status_of ended in
     rw (run.1, exited) refl
 
 -- an answer that was not asked for
-pub executed_null : (w : World) (kept : WorldState) (k : ℕ) (r : RunState Slot) → Shows w kept → slice_get kept.runs k ≡ Some r → r.exit ≡ None → executed w k world.Null ≡ Err AnswerUnasked
+pub executed_null : (w : World) (kept : WorldState) (k : ℕ) (r : RunState Slot) → Shows w kept → slice_get kept.runs k ≡ Some r → r.exit ≡ None → exec w k world.Null ≡ Err AnswerUnasked
 executed_null w kept k r h at going =
     let run = AreSeenAs-at w.runs kept.runs k r h.runs at in
     let goes : run.0.status ≡ Going = run.2.status ∙ ap status_of going in
     rw (run.1, goes) refl
 
-pub executed_slot : (w : World) (kept : WorldState) (k slot : ℕ) (r : RunState Slot) → Shows w kept → slice_get kept.runs k ≡ Some r → r.exit ≡ None → executed w k (world.Slot slot) ≡ Err SlotNotHome
+pub executed_slot : (w : World) (kept : WorldState) (k slot : ℕ) (r : RunState Slot) → Shows w kept → slice_get kept.runs k ≡ Some r → r.exit ≡ None → exec w k (world.Slot slot) ≡ Err SlotNotHome
 executed_slot w kept k slot r h at going =
     let run = AreSeenAs-at w.runs kept.runs k r h.runs at in
     let goes : run.0.status ≡ Going = run.2.status ∙ ap status_of going in

@@ -3,7 +3,8 @@ use Rattle.std.proofs.Common.{◌≡◌, ℕ, ◌+◌, ◌<◌, ◌≤◌, List,
 use Rattle.std.proofs.lemmas.List.{drop_more, drop_all}
 use Rattle.std.specs.Prelude.{slice_index_or}
 use Rattle.ebpf_verify.specs.Subject.{Subject}
-use Rattle.ebpf_machine.specs.World.{World, Illegal}
+use Rattle.ebpf_machine.specs.World.{World}
+use Rattle.ebpf_machine.specs.Events.{Illegal}
 use Rattle.ebpf_core.specs.declared.event.Event.{Event}
 use Rattle.ebpf_core.specs.declared.fault.ApplyCode.{ApplyCode}
 use Rattle.ebpf_core.specs.declared.fault.ApplyFault.TheVariants.{Bad}

@@ -1,7 +1,8 @@
 -- What an event does to the world.
-use Rattle.std.specs.Prelude.{ℕ, ◌==◌, if◌then◌else◌, List, [], length, map, Option, Some, None, Result, Ok, Err, slice_get}
+use Rattle.std.specs.Prelude.{ℕ, List, [], map, Result, Err, slice_get}
 use Rattle.ebpf_verify.specs.Subject.{Subject}
-use Rattle.ebpf_machine.specs.World.{World, Illegal, NoSuchProgramOrKind, WrongContext, started, executed}
+use Rattle.ebpf_machine.specs.World.{World}
+use Rattle.ebpf_machine.specs.Events.{Illegal, NoSuchProgramOrKind, starting, exec}
 use Rattle.ebpf_machine.specs.World as world
 use Rattle.ebpf_core.specs.declared.event.Answer.{Answer}
 use Rattle.ebpf_core.specs.declared.event.Answer.TheVariants.{Absent, Null, Slot}
@@ -18,14 +19,9 @@ answer_of Absent = world.Absent
 answer_of Null = world.Null
 answer_of (Slot slot) = world.Slot slot
 
--- a run starts, on a context of the length that its program declares
-abbrev pub starting : Option Subject → List ℕ → World → Result World Illegal
-starting None context w = Err NoSuchProgramOrKind
-starting (Some s) context w = if length context == s.decl.context then Ok (started s context w) else Err WrongContext
-
 -- the world after an event, or why the event is not legal. No slot joins a ledger yet, so there is no kind to name.
 abbrev pub happened : List Subject → Event → World → Result World Illegal
 happened programs (Start program context) w = starting (slice_get programs program) context w
-happened programs (Exec run answer) w = executed w run (answer_of answer)
+happened programs (Exec run answer) w = exec w run (answer_of answer)
 happened programs (Grow kind slot) w = Err NoSuchProgramOrKind
 happened programs (Reap kind slot) w = Err NoSuchProgramOrKind

@@ -1,7 +1,8 @@
 -- The world after a list of events.
 use Rattle.std.specs.Prelude.{◌≡◌, ℕ, ◌+◌, List, [], ◌∷◌, Result, Ok, Err}
 use Rattle.ebpf_verify.specs.Subject.{Subject}
-use Rattle.ebpf_machine.specs.World.{World, Illegal}
+use Rattle.ebpf_machine.specs.World.{World}
+use Rattle.ebpf_machine.specs.Events.{Illegal}
 use Rattle.ebpf_core.specs.declared.event.Event.{Event}
 use Rattle.ebpf_core.specs.declared.fault.ReplayFault.{ReplayFault}
 use Rattle.ebpf_core.specs.declared.fault.ReplayFault.TheVariants.{Bad, NoMemory}

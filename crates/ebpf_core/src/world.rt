@@ -1,7 +1,8 @@
 //! The world.
 
 ghost use Rattle.std.specs.Prelude.{◌≡◌, length, slice_get, option_map, OnOk, OnErr, IfOk, IfErr, IfSome, IfNone};
-ghost use Rattle.ebpf_machine.specs.World.{Running, run_stepped};
+ghost use Rattle.ebpf_machine.specs.World.{Running};
+ghost use Rattle.ebpf_machine.specs.Events.{run_stepped};
 ghost use Rattle.ebpf_core.specs.Events.{first_world, happened};
 ghost use Rattle.ebpf_machine.specs.RunView.{IsSeenAs};
 ghost use Rattle.ebpf_core.specs.declared.event.Event.TheVariants.{Start, Exec};

@@ -18,9 +18,9 @@ use Rattle.ebpf_verify.specs.Pointers.{signed_ends, moved}
 use Rattle.ebpf_verify.specs.Pointers as known
 use Rattle.ebpf_verify.specs.Rules.{blurs_stack, is_frame_pointer, copy_refusal, low_refusal, sum_refusal, numbers_refusal, alu_refusal, result_of, low_value, numbers_value}
 use Rattle.ebpf_machine.specs.declared.value.Value.{Value}
-use Rattle.ebpf_machine.specs.declared.value.Value.TheVariants.{Number, Stack, Context, Object}
+use Rattle.ebpf_machine.specs.declared.value.Value.TheVariants.{Number, Pointer}
 use Rattle.ebpf_machine.specs.Values.{Trap}
-use Rattle.ebpf_machine.specs.Effect.{moved_value, moved_pointer, sum_of, sum_value, alu_value}
+use Rattle.ebpf_machine.specs.Effect.{moved_value, sum_of, sum_value, alu_value}
 use Rattle.ebpf_machine.specs.Concretization.{IsOf}
 use Rattle.ebpf_machine.specs.Executable.{FitsValue, IsFine, IsNoTrap, IsComputable}
 use Rattle.ebpf_machine.proofs.Operations.{none_first, neither, set_value, number_value, IsComputed, IsFitting, moved_fits}
@@ -45,21 +45,17 @@ IsSummed left right x y = IsFitting (unwrap_or (known.sum_value left right) Unse
 -- a value that is known to be a number
 a_number : (r : Range) (v : Value ℕ) → IsOf (Num r) (Some v) → (n : ℕ) × (v ≡ Number n) × IsWithin n r × (n < 2 ^ 64)
 a_number r (Number n) h = (n, refl, h.0, h.1)
-a_number r (Stack k) h = absurd h
-a_number r (Context k) h = absurd h
-a_number r (Object c k) h = absurd h
+a_number r (Pointer base k) h = absurd h
 
 -- a pointer and a number, in either order
-sum_with_number : (p : Abs) (v : Value ℕ) (n : ℕ) → is_pointer p ≡ true → IsOf p (Some v) → (sum_of W64 v (Number n) ≡ moved_pointer v n) × (sum_of W64 (Number n) v ≡ moved_pointer v n)
-sum_with_number p (Stack k) n e h = (refl, refl)
-sum_with_number p (Context k) n e h = (refl, refl)
-sum_with_number p (Object c k) n e h = (refl, refl)
-sum_with_number (Num a) (Number m) n e h = absurd (cc)
-sum_with_number (May c) (Number m) n e h = absurd (cc)
-sum_with_number Unset (Number m) n e h = absurd (cc)
-sum_with_number (Stk k) (Number m) n e h = absurd h
-sum_with_number (Ctx a b) (Number m) n e h = absurd h
-sum_with_number (Ob c a b) (Number m) n e h = absurd h
+either_order : (p : Abs) (v : Value ℕ) (n : ℕ) → is_pointer p ≡ true → IsOf p (Some v) → sum_of W64 (Number n) v ≡ sum_of W64 v (Number n)
+either_order p (Pointer base k) n e h = refl
+either_order (Num a) (Number m) n e h = absurd (cc)
+either_order (May c) (Number m) n e h = absurd (cc)
+either_order Unset (Number m) n e h = absurd (cc)
+either_order (Stk k) (Number m) n e h = absurd h
+either_order (Ctx a b) (Number m) n e h = absurd h
+either_order (Ob c a b) (Number m) n e h = absurd h
 
 known_with_number : (p : Abs) (b : Range) → is_pointer p ≡ true → (known.sum_value p (Num b) ≡ moved p b) × (known.sum_value (Num b) p ≡ moved p b)
 known_with_number Unset b e = absurd (cc)
@@ -69,7 +65,7 @@ known_with_number (Stk k) b e = (refl, refl)
 known_with_number (Ctx a c) b e = (refl, refl)
 known_with_number (Ob c a d) b e = (refl, refl)
 
-moved_by_number : (p : Abs) (b : Range) (v : Value ℕ) (n : ℕ) (total : Option Abs) (sum : Result (Value ℕ) Trap) → is_pointer p ≡ true → blurs_stack p (Num b) ≡ false → total ≡ moved p b → is_none total ≡ false → IsOf p (Some v) → IsWithin n b → sum ≡ moved_pointer v n → IsFitting (unwrap_or total Unset) sum
+moved_by_number : (p : Abs) (b : Range) (v : Value ℕ) (n : ℕ) (total : Option Abs) (sum : Result (Value ℕ) Trap) → is_pointer p ≡ true → blurs_stack p (Num b) ≡ false → total ≡ moved p b → is_none total ≡ false → IsOf p (Some v) → IsWithin n b → sum ≡ sum_of W64 v (Number n) → IsFitting (unwrap_or total Unset) sum
 moved_by_number p b v n total sum is_p clear e there h k f =
     let some = some_of (moved p b) (subst (λ (o : Option Abs). is_none o ≡ false) e there) in
     rw (e, some.1, f) (moved_fits p some.0 b v n is_p h k clear (signed_ends b) refl some.1)
@@ -77,12 +73,12 @@ moved_by_number p b v n total sum is_p clear e there h k f =
 on_left : (p : Abs) (b : Range) (v w : Value ℕ) → is_pointer p ≡ true → blurs_stack p (Num b) ≡ false → is_none (known.sum_value p (Num b)) ≡ false → IsOf p (Some v) → IsOf (Num b) (Some w) → IsSummed p (Num b) (Some v) (Some w)
 on_left p b v w is_p clear there h k =
     let n = a_number b w k in
-    rw n.1 (moved_by_number p b v n.0 (known.sum_value p (Num b)) (sum_of W64 v (Number n.0)) is_p clear (known_with_number p b is_p).0 there h n.2 (sum_with_number p v n.0 is_p h).0)
+    rw n.1 (moved_by_number p b v n.0 (known.sum_value p (Num b)) (sum_of W64 v (Number n.0)) is_p clear (known_with_number p b is_p).0 there h n.2 refl)
 
 on_right : (p : Abs) (b : Range) (v w : Value ℕ) → is_pointer p ≡ true → blurs_stack p (Num b) ≡ false → is_none (known.sum_value (Num b) p) ≡ false → IsOf p (Some v) → IsOf (Num b) (Some w) → IsSummed (Num b) p (Some w) (Some v)
 on_right p b v w is_p clear there h k =
     let n = a_number b w k in
-    rw n.1 (moved_by_number p b v n.0 (known.sum_value (Num b) p) (sum_of W64 (Number n.0) v) is_p clear (known_with_number p b is_p).1 there h n.2 (sum_with_number p v n.0 is_p h).1)
+    rw n.1 (moved_by_number p b v n.0 (known.sum_value (Num b) p) (sum_of W64 (Number n.0) v) is_p clear (known_with_number p b is_p).1 there h n.2 (either_order p v n.0 is_p h))
 
 both_numbers : (a b : Range) (v w : Value ℕ) → IsOf (Num a) (Some v) → IsOf (Num b) (Some w) → IsSummed (Num a) (Num b) (Some v) (Some w)
 both_numbers a b v w h k =

@@ -6,7 +6,8 @@ use Rattle.ebpf_verify.specs.Subject.{Subject}
 use Rattle.ebpf_machine.specs.declared.value.Value.{Value}
 use Rattle.ebpf_machine.specs.Values.{Frame}
 use Rattle.ebpf_machine.specs.Effect.{Effect, Goes, Ends, Traps, effect, effect_at}
-use Rattle.ebpf_machine.specs.World.{Running, Status, Going, Exited, Name, executed, run_after, first_run}
+use Rattle.ebpf_machine.specs.World.{Running, Status, Going, Exited, Name, first_run}
+use Rattle.ebpf_machine.specs.Events.{exec, run_after}
 use Rattle.ebpf_machine.specs.Alone.{Alone, alone_first, alone_next, alone_after, outcome_of, outcome_alone, Outcome}
 use Rattle.ebpf_machine.specs.RunView.{RunState, frame_with, frame_seen, status_of, IsSeenAs, IsAloneAs, first_state_of}
 use Rattle.ebpf_machine.proofs.Projection.{effect-seen, effect_seen}

@@ -5,7 +5,8 @@ use Rattle.ebpf_insn.specs.declared.insn.Insn.{Insn}
 use Rattle.ebpf_insn.specs.Program.{insn_at, slots_in}
 use Rattle.ebpf_machine.specs.declared.value.Value.{Value}
 use Rattle.ebpf_machine.specs.Effect.{Goes, Ends, effect}
-use Rattle.ebpf_machine.specs.World.{Running, run_stepped}
+use Rattle.ebpf_machine.specs.World.{Running}
+use Rattle.ebpf_machine.specs.Events.{run_stepped}
 use Rattle.ebpf_machine.specs.RunView.{RunState, RunView, seen, stepped, frame_with, status_of, IsSeenAs, IsRun}
 use Rattle.ebpf_flow.specs.Edges.{falls, fall_of}
 use Rattle.ebpf_machine.proofs.Steps.{going_of, next_stepped, fall_is, seen_ends as view_ends}

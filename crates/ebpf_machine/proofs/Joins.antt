@@ -18,7 +18,8 @@ use Rattle.ebpf_verify.specs.declared.arrival.Arrival.{Arrival}
 use Rattle.ebpf_verify.specs.declared.arrival.Arrival.TheVariants.{Never, Entered, Differ}
 use Rattle.ebpf_verify.specs.Entry.{with_state, entered_or_differ}
 use Rattle.ebpf_machine.specs.declared.value.Value.{Value}
-use Rattle.ebpf_machine.specs.declared.value.Value.TheVariants.{Number, Stack, Context, Object}
+use Rattle.ebpf_machine.specs.declared.value.Value.TheVariants.{Number, Pointer}
+use Rattle.ebpf_machine.specs.declared.value.Base.TheVariants.{Stack, Context, Object}
 use Rattle.ebpf_machine.specs.Concretization.{IsOf, AreOf, Arrives, calls_of}
 
 -- a value that either side keeps where a test says that both are alike
@@ -52,19 +53,19 @@ right_high b d w h = grind (arith, ints)
 
 pub IsOf-joined_left : (a b : Abs) (v : Option (Value ℕ)) → IsOf a v → IsOf (joined_value a b) v
 IsOf-joined_left (Num a) (Num b) (Some (Number n)) h = (left_number a b n h.0, h.1)
-IsOf-joined_left (Stk a) (Stk b) (Some (Stack w)) h = chosen (int_eq a b) (Stk a) (Some (Stack w)) (λ e. h)
-IsOf-joined_left (Ctx a b) (Ctx c d) (Some (Context w)) h = (left_low a c w h.0, left_high b d w h.1)
-IsOf-joined_left (Ob r a b) (Ob q c d) (Some (Object at w)) h = chosen (eqb r q) (Ob r (int_min a c) (int_max b d)) (Some (Object at w)) (λ e. (h.0, left_low a c w h.1, left_high b d w h.2))
-IsOf-joined_left (May r) (May q) (Some (Object at w)) h = chosen (eqb r q) (May r) (Some (Object at w)) (λ e. h)
+IsOf-joined_left (Stk a) (Stk b) (Some (Pointer Stack w)) h = chosen (int_eq a b) (Stk a) (Some (Pointer Stack w)) (λ e. h)
+IsOf-joined_left (Ctx a b) (Ctx c d) (Some (Pointer Context w)) h = (left_low a c w h.0, left_high b d w h.1)
+IsOf-joined_left (Ob r a b) (Ob q c d) (Some (Pointer (Object at) w)) h = chosen (eqb r q) (Ob r (int_min a c) (int_max b d)) (Some (Pointer (Object at) w)) (λ e. (h.0, left_low a c w h.1, left_high b d w h.2))
+IsOf-joined_left (May r) (May q) (Some (Pointer (Object at) w)) h = chosen (eqb r q) (May r) (Some (Pointer (Object at) w)) (λ e. h)
 IsOf-joined_left (May r) (May q) (Some (Number n)) h = chosen (eqb r q) (May r) (Some (Number n)) (λ e. h)
 IsOf-joined_left _ _ _ h = search rules
 
 pub IsOf-joined_right : (a b : Abs) (v : Option (Value ℕ)) → IsOf b v → IsOf (joined_value a b) v
 IsOf-joined_right (Num a) (Num b) (Some (Number n)) h = (right_number a b n h.0, h.1)
-IsOf-joined_right (Stk a) (Stk b) (Some (Stack w)) h = chosen (int_eq a b) (Stk a) (Some (Stack w)) (λ e. h ∙ sym (int_eq-true a b e))
-IsOf-joined_right (Ctx a b) (Ctx c d) (Some (Context w)) h = (right_low a c w h.0, right_high b d w h.1)
-IsOf-joined_right (Ob r a b) (Ob q c d) (Some (Object at w)) h = chosen (eqb r q) (Ob r (int_min a c) (int_max b d)) (Some (Object at w)) (λ e. (h.0 ∙ sym (eqb-same r q e), right_low a c w h.1, right_high b d w h.2))
-IsOf-joined_right (May r) (May q) (Some (Object at w)) h = chosen (eqb r q) (May r) (Some (Object at w)) (λ e. (h.0 ∙ sym (eqb-same r q e), h.1))
+IsOf-joined_right (Stk a) (Stk b) (Some (Pointer Stack w)) h = chosen (int_eq a b) (Stk a) (Some (Pointer Stack w)) (λ e. h ∙ sym (int_eq-true a b e))
+IsOf-joined_right (Ctx a b) (Ctx c d) (Some (Pointer Context w)) h = (right_low a c w h.0, right_high b d w h.1)
+IsOf-joined_right (Ob r a b) (Ob q c d) (Some (Pointer (Object at) w)) h = chosen (eqb r q) (Ob r (int_min a c) (int_max b d)) (Some (Pointer (Object at) w)) (λ e. (h.0 ∙ sym (eqb-same r q e), right_low a c w h.1, right_high b d w h.2))
+IsOf-joined_right (May r) (May q) (Some (Pointer (Object at) w)) h = chosen (eqb r q) (May r) (Some (Pointer (Object at) w)) (λ e. (h.0 ∙ sym (eqb-same r q e), h.1))
 IsOf-joined_right (May r) (May q) (Some (Number n)) h = chosen (eqb r q) (May r) (Some (Number n)) (λ e. h)
 IsOf-joined_right _ _ _ h = search rules
 

@@ -3,6 +3,7 @@ use Rattle.std.proofs.Common.{◌≡◌, ℕ, ◌<◌, ◌^◌, ℤ, ◌+ℤ◌,
 use Rattle.std.specs.Prelude.{nat_lt, ◌||◌, unwrap_or}
 use Rattle.std.proofs.lemmas.Bool.Decides.{nat_tests}
 use Rattle.std.proofs.lemmas.Int.{ints}
+use Rattle.ebpf_insn.specs.declared.insn.Width.TheVariants.{W64}
 use Rattle.ebpf_insn.specs.Arithmetic.{signed_of}
 use Rattle.ebpf_range.specs.declared.range.Range.{Range}
 use Rattle.ebpf_range.specs.Interval.{IsWithin, low}
@@ -12,9 +13,10 @@ use Rattle.ebpf_state.specs.Abstract.{is_unset, is_pointer, is_may}
 use Rattle.ebpf_verify.specs.Pointers.{signed_ends, moved_end, with_end, with_ends, moved_by}
 use Rattle.ebpf_verify.specs.Rules.{blurs_stack}
 use Rattle.ebpf_machine.specs.declared.value.Value.{Value}
-use Rattle.ebpf_machine.specs.declared.value.Value.TheVariants.{Number, Stack, Context, Object}
+use Rattle.ebpf_machine.specs.declared.value.Value.TheVariants.{Number, Pointer}
+use Rattle.ebpf_machine.specs.declared.value.Base.TheVariants.{Stack, Context, Object}
 use Rattle.ebpf_machine.specs.Values.{Trap}
-use Rattle.ebpf_machine.specs.Effect.{moved_pointer}
+use Rattle.ebpf_machine.specs.Effect.{sum_of}
 use Rattle.ebpf_machine.specs.Concretization.{IsOf}
 use Rattle.ebpf_machine.specs.Executable.{FitsValue}
 use Rattle.ebpf_machine.proofs.Pointers.{signed_between, near_end, near_fits, between_near}
@@ -49,9 +51,7 @@ number_value (Ctx a b) x e m p h = absurd (cc)
 number_value (Ob c a b) x e m p h = absurd (cc)
 number_value (Num r) None e m p h = absurd h
 number_value (Num r) (Some (Number n)) e m p h = (n, r, refl, refl, h.0, h.1)
-number_value (Num r) (Some (Stack k)) e m p h = absurd h
-number_value (Num r) (Some (Context k)) e m p h = absurd h
-number_value (Num r) (Some (Object c k)) e m p h = absurd h
+number_value (Num r) (Some (Pointer base k)) e m p h = absurd h
 
 -- a result, with what is known of it
 pub record IsComputed (known : Abs) (result : Result (Value ℕ) Trap) : Type 0 where
@@ -94,33 +94,33 @@ constant_reading b n ends one h e =
 moved_between : (a b k low high s : ℤ) (e f : ℤ) → e ≡ a +ℤ low → f ≡ b +ℤ high → a ≤ℤ k → k ≤ℤ b → low ≤ℤ s → s ≤ℤ high → (e ≤ℤ (k +ℤ s)) × ((k +ℤ s) ≤ℤ f)
 moved_between a b k low high s e f p q ak kb ls sh = (omega (arith, ints, p, ak, ls), omega (arith, ints, q, kb, sh))
 
-pub moved_fits : (p q : Abs) (b : Range) (v : Value ℕ) (n : ℕ) → is_pointer p ≡ true → IsOf p (Some v) → IsWithin n b → blurs_stack p (Num b) ≡ false → (ends : Option (ℤ × ℤ)) → signed_ends b ≡ ends → moved_by p ends ≡ Some q → IsFitting q (moved_pointer v n)
+pub moved_fits : (p q : Abs) (b : Range) (v : Value ℕ) (n : ℕ) → is_pointer p ≡ true → IsOf p (Some v) → IsWithin n b → blurs_stack p (Num b) ≡ false → (ends : Option (ℤ × ℤ)) → signed_ends b ≡ ends → moved_by p ends ≡ Some q → IsFitting q (sum_of W64 v (Number n))
 moved_fits Unset q b v n is_p h w clear ends ends_are m = absurd (cc)
 moved_fits (Num a) q b v n is_p h w clear ends ends_are m = absurd (cc)
 moved_fits (May c) q b v n is_p h w clear ends ends_are m = absurd (cc)
 moved_fits (Stk k) q b v n is_p h w clear None ends_are m = absurd (cc)
 moved_fits (Ctx a d) q b v n is_p h w clear None ends_are m = absurd (cc)
 moved_fits (Ob c a d) q b v n is_p h w clear None ends_are m = absurd (cc)
-moved_fits (Stk k) q b (Stack j) n is_p h w clear (Some ends) ends_are m =
+moved_fits (Stk k) q b (Pointer Stack j) n is_p h w clear (Some ends) ends_are m =
     let one = one_end (moved_end k ends.0) Stk q m in
     let near = near_end k ends.0 one.0 one.1 in
     let reading = constant_reading b n ends clear w ends_are in
     let lands : j +ℤ signed_of n ≡ one.0 = ap (λ (z : ℤ). z +ℤ signed_of n) h ∙ ap (λ (z : ℤ). k +ℤ z) reading ∙ sym near.0 in
-    record { v = Stack (j +ℤ signed_of n); is = refl; fits = near_fits (j +ℤ signed_of n) (rw lands near.1); of = subst (λ (u : Abs). IsOf u (Some (Stack (j +ℤ signed_of n)))) one.2 lands }
-moved_fits (Ctx a d) q b (Context j) n is_p h w clear (Some ends) ends_are m =
+    record { v = Pointer Stack (j +ℤ signed_of n); is = refl; fits = near_fits (j +ℤ signed_of n) (rw lands near.1); of = subst (λ (u : Abs). IsOf u (Some (Pointer Stack (j +ℤ signed_of n)))) one.2 lands }
+moved_fits (Ctx a d) q b (Pointer Context j) n is_p h w clear (Some ends) ends_are m =
     let two = two_ends (moved_end a ends.0) (moved_end d ends.1) Ctx q m in
     let near = near_end a ends.0 two.0 two.2 in
     let far = near_end d ends.1 two.1 two.3 in
     let reading = signed_between b n ends w ends_are in
     let inside = moved_between a d j ends.0 ends.1 (signed_of n) two.0 two.1 near.0 far.0 h.0 h.1 reading.0 reading.1 in
-    record { v = Context (j +ℤ signed_of n); is = refl; fits = near_fits (j +ℤ signed_of n) (between_near two.0 two.1 (j +ℤ signed_of n) near.1 far.1 inside.0 inside.1); of = subst (λ (u : Abs). IsOf u (Some (Context (j +ℤ signed_of n)))) two.4 inside }
-moved_fits (Ob c a d) q b (Object at j) n is_p h w clear (Some ends) ends_are m =
+    record { v = Pointer Context (j +ℤ signed_of n); is = refl; fits = near_fits (j +ℤ signed_of n) (between_near two.0 two.1 (j +ℤ signed_of n) near.1 far.1 inside.0 inside.1); of = subst (λ (u : Abs). IsOf u (Some (Pointer Context (j +ℤ signed_of n)))) two.4 inside }
+moved_fits (Ob c a d) q b (Pointer (Object at) j) n is_p h w clear (Some ends) ends_are m =
     let two = two_ends (moved_end a ends.0) (moved_end d ends.1) (Ob c) q m in
     let near = near_end a ends.0 two.0 two.2 in
     let far = near_end d ends.1 two.1 two.3 in
     let reading = signed_between b n ends w ends_are in
     let inside = moved_between a d j ends.0 ends.1 (signed_of n) two.0 two.1 near.0 far.0 h.1 h.2 reading.0 reading.1 in
-    record { v = Object at (j +ℤ signed_of n); is = refl; fits = near_fits (j +ℤ signed_of n) (between_near two.0 two.1 (j +ℤ signed_of n) near.1 far.1 inside.0 inside.1); of = subst (λ (u : Abs). IsOf u (Some (Object at (j +ℤ signed_of n)))) two.4 (h.0, inside.0, inside.1) }
+    record { v = Pointer (Object at) (j +ℤ signed_of n); is = refl; fits = near_fits (j +ℤ signed_of n) (between_near two.0 two.1 (j +ℤ signed_of n) near.1 far.1 inside.0 inside.1); of = subst (λ (u : Abs). IsOf u (Some (Pointer (Object at) (j +ℤ signed_of n)))) two.4 (h.0, inside.0, inside.1) }
 moved_fits (Stk k) q b _ n is_p h w clear (Some ends) ends_are m = absurd h
 moved_fits (Ctx a d) q b _ n is_p h w clear (Some ends) ends_are m = absurd h
 moved_fits (Ob c a d) q b _ n is_p h w clear (Some ends) ends_are m = absurd h

@@ -15,7 +15,7 @@ use Rattle.ebpf_insn.specs.Registers.{number_of}
 use Rattle.ebpf_insn.specs.Program.{slots_in}
 use Rattle.ebpf_verify.specs.Rules.{is_frame_pointer}
 use Rattle.ebpf_machine.specs.declared.value.Value.{Value}
-use Rattle.ebpf_machine.specs.declared.value.Value.TheVariants.{Number, Stack, Context, Object}
+use Rattle.ebpf_machine.specs.declared.value.Value.TheVariants.{Number, Pointer}
 use Rattle.ebpf_machine.specs.Values.{Trap, FramePointerWritten, Leak, Frame, read, source_value}
 use Rattle.ebpf_machine.specs.Effect.{Effect, Goes, Ends, Traps, effect, moved_value, sum_of, sum_value, alu_value, with_value, written, exits, result_number}
 use Rattle.ebpf_machine.specs.World.{Name}
@@ -53,34 +53,17 @@ moved-seen W32 None = refl
 moved-seen W64 None = refl
 moved-seen W64 (Some v) = refl
 moved-seen W32 (Some (Number n)) = refl
-moved-seen W32 (Some (Stack k)) = refl
-moved-seen W32 (Some (Context k)) = refl
-moved-seen W32 (Some (Object name k)) = refl
+moved-seen W32 (Some (Pointer base k)) = refl
 
 sum_of-seen : (width : Width) (v w : Value Name) → sum_of width (value_seen v) (value_seen w) ≡ result_seen (sum_of width v w)
-sum_of-seen W64 (Number a) (Number b) = refl
-sum_of-seen W64 (Number a) (Stack k) = refl
-sum_of-seen W64 (Number a) (Context k) = refl
-sum_of-seen W64 (Number a) (Object name k) = refl
-sum_of-seen W64 (Stack k) (Number b) = refl
-sum_of-seen W64 (Context k) (Number b) = refl
-sum_of-seen W64 (Object name k) (Number b) = refl
-sum_of-seen W64 (Stack k) (Stack j) = refl
-sum_of-seen W64 (Stack k) (Context j) = refl
-sum_of-seen W64 (Stack k) (Object name j) = refl
-sum_of-seen W64 (Context k) (Stack j) = refl
-sum_of-seen W64 (Context k) (Context j) = refl
-sum_of-seen W64 (Context k) (Object name j) = refl
-sum_of-seen W64 (Object name k) (Stack j) = refl
-sum_of-seen W64 (Object name k) (Context j) = refl
-sum_of-seen W64 (Object name k) (Object other j) = refl
 sum_of-seen W32 (Number a) (Number b) = refl
-sum_of-seen W32 (Number a) (Stack k) = refl
-sum_of-seen W32 (Number a) (Context k) = refl
-sum_of-seen W32 (Number a) (Object name k) = refl
-sum_of-seen W32 (Stack k) _ = refl
-sum_of-seen W32 (Context k) _ = refl
-sum_of-seen W32 (Object name k) _ = refl
+sum_of-seen W64 (Number a) (Number b) = refl
+sum_of-seen W32 (Number a) (Pointer base k) = refl
+sum_of-seen W64 (Number a) (Pointer base k) = refl
+sum_of-seen W32 (Pointer base k) (Number b) = refl
+sum_of-seen W64 (Pointer base k) (Number b) = refl
+sum_of-seen W32 (Pointer base k) (Pointer other j) = refl
+sum_of-seen W64 (Pointer base k) (Pointer other j) = refl
 
 sum-seen : (width : Width) (x y : Option (Value Name)) → sum_value width (register_seen x) (register_seen y) ≡ result_seen (sum_value width x y)
 sum-seen width None y = refl
@@ -105,9 +88,7 @@ written-seen to frame dst (Ok v) = rw (with_value-seen frame dst v) (chosen-seen
 
 number-seen : (v : Value Name) → result_number (value_seen v) ≡ effect_seen (result_number v)
 number-seen (Number n) = refl
-number-seen (Stack k) = refl
-number-seen (Context k) = refl
-number-seen (Object name k) = refl
+number-seen (Pointer base k) = refl
 
 leaks-seen : (t : Bool) (trap : Trap) (e : Effect Name) → cond t (Traps trap) (effect_seen e) ≡ effect_seen (cond t (Traps trap) e)
 leaks-seen true trap e = refl

@@ -32,7 +32,7 @@ use Rattle.ebpf_verify.specs.Rules.{alu_refusal, refusal, operand, result_of, is
 use Rattle.ebpf_verify.specs.Entry.{entry_of}
 use Rattle.ebpf_verify.specs.Verdict.{refusal_in}
 use Rattle.ebpf_machine.specs.declared.value.Value.{Value}
-use Rattle.ebpf_machine.specs.declared.value.Value.TheVariants.{Number, Stack, Context, Object}
+use Rattle.ebpf_machine.specs.declared.value.Value.TheVariants.{Number, Pointer}
 use Rattle.ebpf_machine.specs.Values.{Trap, Frame, read, source_value}
 use Rattle.ebpf_machine.specs.Effect.{Goes, effect, written, with_value, exits, alu_value}
 use Rattle.ebpf_machine.specs.World.{first_registers}
@@ -115,9 +115,7 @@ alu_stepped p calls k width o dst src s frame at defined entered ls lr h fine =
 -- an exit
 ends_number : (x : Option (Value ℕ)) (to : ℕ) (after : Frame ℕ) → IsNumber x → exits 0 x ≡ Goes to after → ⊥
 ends_number (Some (Number n)) to after h e = cc
-ends_number (Some (Stack k)) to after h e = h
-ends_number (Some (Context k)) to after h e = h
-ends_number (Some (Object c k)) to after h e = h
+ends_number (Some (Pointer base k)) to after h e = h
 ends_number None to after h e = h
 
 is_number : (x : Option (Value ℕ)) (n : ℕ) → x ≡ Some (Number n) → IsNumber x

@@ -2,7 +2,8 @@
 use Rattle.std.specs.Prelude.{ℕ, zero, suc, max, List, [], ◌∷◌, Bool, length, map, Option, Some, None, Result, Ok, Err, slice_get}
 use Rattle.ebpf_insn.specs.Program.{instructions}
 use Rattle.ebpf_verify.specs.Subject.{Subject}
-use Rattle.ebpf_machine.specs.World.{World, Running, Status, Going, Illegal, Absent, kinds_of, first_run, holds_of, executed}
+use Rattle.ebpf_machine.specs.World.{World, Running, Status, Going, Absent, kinds_of, first_run, holds_of}
+use Rattle.ebpf_machine.specs.Events.{Illegal, exec}
 
 -- the world of one run; the answers to its calls of new that are left; how many were asked for; the most objects that it
 -- held at one time
@@ -27,7 +28,7 @@ advanced (Err why) a = a
 
 -- one instruction more. No instruction asks for an object yet, so no answer is used.
 abbrev pub alone_next : Alone → Alone
-alone_next a = advanced (executed a.world 0 Absent) a
+alone_next a = advanced (exec a.world 0 Absent) a
 
 -- after so many instructions
 unfoldable pub alone_after : ℕ → Subject → List ℕ → List Bool → Alone

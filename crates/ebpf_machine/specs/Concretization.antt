@@ -8,17 +8,18 @@ use Rattle.ebpf_state.specs.StateView.{StateView}
 use Rattle.ebpf_verify.specs.declared.arrival.Arrival.{Arrival}
 use Rattle.ebpf_verify.specs.declared.arrival.Arrival.TheVariants.{Never, Entered, Differ}
 use Rattle.ebpf_machine.specs.declared.value.Value.{Value}
-use Rattle.ebpf_machine.specs.declared.value.Value.TheVariants.{Number, Stack, Context, Object}
+use Rattle.ebpf_machine.specs.declared.value.Value.TheVariants.{Number, Pointer}
+use Rattle.ebpf_machine.specs.declared.value.Base.TheVariants.{Stack, Context, Object}
 
 -- an abstract value speaks of a value: a 64-bit number of the range, a pointer at an offset between the ends. An answer that was
 -- not compared yet is the object or 0. Of a register of which nothing is known, anything may be so.
 abbrev pub IsOf : Abs → Option (Value ℕ) → Type 0
 IsOf Unset v = Unit {0}
 IsOf (Num a) (Some (Number n)) = IsWithin n a × (n < 2 ^ 64)
-IsOf (Stk k) (Some (Stack w)) = w ≡ k
-IsOf (Ctx a b) (Some (Context w)) = (a ≤ℤ w) × (w ≤ℤ b)
-IsOf (Ob call a b) (Some (Object at w)) = (at ≡ call) × (a ≤ℤ w) × (w ≤ℤ b)
-IsOf (May call) (Some (Object at w)) = (at ≡ call) × (w ≡ pos 0)
+IsOf (Stk k) (Some (Pointer Stack w)) = w ≡ k
+IsOf (Ctx a b) (Some (Pointer Context w)) = (a ≤ℤ w) × (w ≤ℤ b)
+IsOf (Ob call a b) (Some (Pointer (Object at) w)) = (at ≡ call) × (a ≤ℤ w) × (w ≤ℤ b)
+IsOf (May call) (Some (Pointer (Object at) w)) = (at ≡ call) × (w ≡ pos 0)
 IsOf (May call) (Some (Number n)) = n ≡ 0
 IsOf _ _ = ⊥
 

@@ -1,18 +1,25 @@
 //! Values of registers, and the cells of the stack.
 
 /// The value of a register that is set.
+#[derive(Clone, Copy)]
+pub enum Value<N> {
+    Number(u64),
+    /// A byte counted from a base, before it or behind it.
+    Pointer { base: Base<N>, offset: i64 },
+}
+
+/// What the offset of a pointer is counted from.
 ///
 /// `N` names an object. A run names an object by the slot of the call that was granted it: jumps lead forward, so each
 /// call is made at most once. The world of many runs, which contracts alone see, names the object's slot too.
 #[derive(Clone, Copy)]
-pub enum Value<N> {
-    Number(u64),
-    /// The frame pointer, moved by this many bytes.
-    Stack(i64),
-    /// The first byte of the context, moved by this many bytes.
-    Context(i64),
-    /// The first byte of an object, moved by this many bytes.
-    Object(N, i64),
+pub enum Base<N> {
+    /// The frame pointer: the end of the stack.
+    Stack,
+    /// The first byte of the context.
+    Context,
+    /// The first byte of an object.
+    Object(N),
 }
 
 /// One of the 512 bytes of the stack.

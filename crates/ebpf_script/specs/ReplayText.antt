@@ -1,7 +1,8 @@
 -- What `replay` tells of a text: the fault of the script, or the verdict on each program and then, where none is refused,
 -- the world after the events.
 use Rattle.std.specs.Prelude.{◌≡◌, ℕ, ◌++◌, if◌then◌else◌, List, Result, Ok, Err, codes, decimal}
-use Rattle.ebpf_machine.specs.World.{World, Illegal}
+use Rattle.ebpf_machine.specs.World.{World}
+use Rattle.ebpf_machine.specs.Events.{Illegal}
 use Rattle.ebpf_core.specs.declared.event.Event.{Event}
 use Rattle.ebpf_core.specs.Faults.{code_of}
 use Rattle.ebpf_core.specs.Replay.{lead}

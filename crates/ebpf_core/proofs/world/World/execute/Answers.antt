@@ -1,7 +1,7 @@
 use Rattle.std.proofs.Common.{rules, ◌≡◌, ℕ, true, false, Some, None, Option, refl, arith}
 use Rattle.std.specs.Prelude.{is_some, IfNone}
 use Rattle.std.proofs.lemmas.Option.{slice_get_past, slice_get_read}
-use Rattle.ebpf_machine.specs.World.{NoSuchRun, RunEnded, AnswerUnasked, SlotNotHome}
+use Rattle.ebpf_machine.specs.Events.{NoSuchRun, RunEnded, AnswerUnasked, SlotNotHome}
 use Rattle.ebpf_core.proofs.OneEvent.{executed_none, executed_ended, executed_null, executed_slot, executed_shows}
 use Rattle.ebpf_core.proofs.world.World.execute.Goals as goal
 

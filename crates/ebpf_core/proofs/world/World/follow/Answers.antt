@@ -1,5 +1,5 @@
 use Rattle.std.proofs.Common.{refl}
-use Rattle.ebpf_machine.specs.World.{NoSuchProgramOrKind}
+use Rattle.ebpf_machine.specs.Events.{NoSuchProgramOrKind}
 use Rattle.ebpf_core.proofs.world.World.follow.Goals as goal
 
 pub returns-in-Grow-clause-refused : goal.returns-in-Grow-clause-refused

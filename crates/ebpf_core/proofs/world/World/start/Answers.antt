@@ -1,7 +1,7 @@
 use Rattle.std.proofs.Common.{rules, ◌≡◌, [], ◌∷◌, ◌++◌, refl, ap, ◌∙◌, subst, arith}
 use Rattle.std.specs.Prelude.{length}
 use Rattle.std.proofs.lemmas.Option.{slice_get_past, slice_get_read}
-use Rattle.ebpf_machine.specs.World.{NoSuchProgramOrKind, WrongContext}
+use Rattle.ebpf_machine.specs.Events.{NoSuchProgramOrKind, WrongContext}
 use Rattle.ebpf_machine.specs.Turns.{IsStartFault}
 use Rattle.ebpf_core.proofs.OneEvent.{starting_none, starting_long, starting_shows}
 use Rattle.ebpf_core.proofs.world.World.start.Goals as goal
