@@ -1,39 +1,64 @@
--- The run alone: one run in a world of its own, fed with answers until it ends.
-use Rattle.std.specs.Prelude.{ℕ, zero, suc, max, List, [], ◌∷◌, Bool, length, map, Option, Some, None, Result, Ok, Err, slice_get}
+-- The run alone: one run in a world of its own, fed with replies until it ends.
+use Rattle.std.specs.Prelude.{ℕ, zero, suc, max, nat_lt, if◌then◌else◌, List, [], ◌∷◌, length, map, Option, Some, None, Result, Ok, Err, slice_get, slice_set}
 use Rattle.ebpf_insn.specs.Program.{instructions}
 use Rattle.ebpf_verify.specs.Subject.{Subject}
-use Rattle.ebpf_machine.specs.World.{World, Running, Status, Going, Absent, kinds_of, first_run, holds_of}
-use Rattle.ebpf_machine.specs.Events.{Illegal, exec}
+use Rattle.ebpf_machine.specs.declared.report.Reply.{Reply}
+use Rattle.ebpf_machine.specs.declared.report.Reply.TheVariants.{Granted}
+use Rattle.ebpf_machine.specs.World.{World, Running, Status, Going, Answer, Absent, Null, Slot, kinds_of, image_at, ledger_of, first_run, holds_of}
+use Rattle.ebpf_machine.specs.Events.{Illegal, Asking, Unasked, OfNoKind, OfKind, asking_of, with_bytes, exec}
 
--- the world of one run; the answers to its calls of new that are left; how many were asked for; the most objects that it
--- held at one time
+-- the world of one run, and the most objects that it held at one time
 pub record Alone : Type 0 where
   pub world : World
-  pub answers : List Bool
-  pub asked : ℕ
   pub peak : ℕ
 
 -- no slots, no owners, and one run at its first instruction
-abbrev pub alone_first : Subject → List ℕ → List Bool → Alone
-alone_first subject context answers = record {
-  world = record { kinds = kinds_of subject.rows; ledgers = map (λ row. []) subject.rows; owners = []; bytes = []; runs = first_run subject context ∷ [] };
-  answers = answers;
-  asked = 0;
+abbrev pub alone_first : Subject → List ℕ → Alone
+alone_first subject context = record {
+  world = record { kinds = kinds_of subject.rows; ledgers = map (λ row. []) subject.rows; owners = []; bytes = λ slot. []; runs = first_run subject context ∷ [] };
   peak = 0;
 }
 
+-- a slot in its place in an ascending ledger
+unfoldable pub with_slot : ℕ → List ℕ → List ℕ
+with_slot slot [] = slot ∷ []
+with_slot slot (s ∷ slots) = if nat_lt s slot then s ∷ with_slot slot slots else slot ∷ s ∷ slots
+
+-- a slot joins the ledger of a kind, with its image
+abbrev pub joined : ℕ → ℕ → World → World
+joined kind slot w = with_bytes slot (image_at w.kinds kind) (record w { ledgers = slice_set w.ledgers kind (with_slot slot (ledger_of w kind)) })
+
+-- the world before an instruction, and the answer to it
+pub record Fed : Type 0 where
+  pub world : World
+  pub answer : Answer
+
+-- a call of new that is to be granted is granted a slot of the number of the calls before it, which joins the ledger first
+abbrev pub fed : Asking → Option Reply → ℕ → World → Fed
+fed Unasked reply i w = record { world = w; answer = Absent }
+fed (OfKind kind) (Some Granted) i w = record { world = joined kind i w; answer = Slot i }
+fed _ reply i w = record { world = w; answer = Null }
+
 abbrev pub advanced : Result World Illegal → Alone → Alone
-advanced (Ok w) a = record a { world = w; peak = max a.peak (holds_of w 0) }
+advanced (Ok w) a = record { world = w; peak = max a.peak (holds_of w 0) }
 advanced (Err why) a = a
 
--- one instruction more. No instruction asks for an object yet, so no answer is used.
-abbrev pub alone_next : Alone → Alone
-alone_next a = advanced (exec a.world 0 Absent) a
+-- the replies are read by index: as many were used as the run was told
+abbrev pub fed_to : World → Running → List Reply → Fed
+fed_to w r replies = fed (asking_of w r) (slice_get replies (length r.told)) (length r.told) w
 
--- after so many instructions
-unfoldable pub alone_after : ℕ → Subject → List ℕ → List Bool → Alone
-alone_after zero subject context answers = alone_first subject context answers
-alone_after (suc n) subject context answers = alone_next (alone_after n subject context answers)
+abbrev pub alone_by : Option Running → List Reply → Alone → Alone
+alone_by None replies a = a
+alone_by (Some r) replies a = let f = fed_to a.world r replies in advanced (exec f.world 0 f.answer) a
+
+-- one instruction more
+abbrev pub alone_next : List Reply → Alone → Alone
+alone_next replies a = alone_by (slice_get a.world.runs 0) replies a
+
+-- after so many instructions, with these replies to the calls of new in their order
+unfoldable pub alone_after : ℕ → Subject → List ℕ → List Reply → Alone
+alone_after zero subject context replies = alone_first subject context
+alone_after (suc n) subject context replies = alone_next replies (alone_after n subject context replies)
 
 -- what a run ended with
 pub record Outcome : Type 0 where
@@ -50,5 +75,5 @@ abbrev pub outcome_of : Alone → Outcome
 outcome_of a = outcome_in (slice_get a.world.runs 0) a.peak
 
 -- the outcome of the run alone: no run goes on for longer than its program has instructions
-abbrev pub outcome_alone : Subject → List ℕ → List Bool → Outcome
-outcome_alone subject context answers = outcome_of (alone_after (length (instructions subject.program)) subject context answers)
+abbrev pub outcome_alone : Subject → List ℕ → List Reply → Outcome
+outcome_alone subject context replies = outcome_of (alone_after (length (instructions subject.program)) subject context replies)

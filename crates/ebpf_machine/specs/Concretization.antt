@@ -10,30 +10,35 @@ use Rattle.ebpf_verify.specs.declared.arrival.Arrival.TheVariants.{Never, Entere
 use Rattle.ebpf_machine.specs.declared.value.Value.{Value}
 use Rattle.ebpf_machine.specs.declared.value.Value.TheVariants.{Number, Pointer}
 use Rattle.ebpf_machine.specs.declared.value.Base.TheVariants.{Stack, Context, Object}
+use Rattle.ebpf_machine.specs.View.{ObjectView}
 
--- an abstract value speaks of a value: a 64-bit number of the range, a pointer at an offset between the ends. An answer that was
--- not compared yet is the object or 0. Of a register of which nothing is known, anything may be so.
-abbrev pub IsOf : Abs → Option (Value ℕ) → Type 0
-IsOf Unset v = Unit {0}
-IsOf (Num a) (Some (Number n)) = IsWithin n a × (n < 2 ^ 64)
-IsOf (Stk k) (Some (Pointer Stack w)) = w ≡ k
-IsOf (Ctx a b) (Some (Pointer Context w)) = (a ≤ℤ w) × (w ≤ℤ b)
-IsOf (Ob call a b) (Some (Pointer (Object at) w)) = (at ≡ call) × (a ≤ℤ w) × (w ≤ℤ b)
-IsOf (May call) (Some (Pointer (Object at) w)) = (at ≡ call) × (w ≡ pos 0)
-IsOf (May call) (Some (Number n)) = n ≡ 0
-IsOf _ _ = ⊥
+-- an abstract value speaks of a value, where the run holds the objects of these calls: a 64-bit number of the range, a pointer at
+-- an offset between the ends, to an object that is held. An answer that was not compared yet is the object, where it is held, or 0.
+-- Of a register of which nothing is known, anything may be so.
+abbrev pub IsOf : List ℕ → Abs → Option (Value ℕ) → Type 0
+IsOf calls Unset v = Unit {0}
+IsOf calls (Num a) (Some (Number n)) = IsWithin n a × (n < 2 ^ 64)
+IsOf calls (Stk k) (Some (Pointer Stack w)) = w ≡ k
+IsOf calls (Ctx a b) (Some (Pointer Context w)) = (a ≤ℤ w) × (w ≤ℤ b)
+IsOf calls (Ob call a b) (Some (Pointer (Object at) w)) = (at ≡ call) × (a ≤ℤ w) × (w ≤ℤ b) × Contains calls call
+IsOf calls (May call) (Some (Pointer (Object at) w)) = (at ≡ call) × (w ≡ pos 0) × Contains calls call
+IsOf calls (May call) (Some (Number n)) = (n ≡ 0) × (Contains calls call → ⊥)
+IsOf calls _ _ = ⊥
 
--- the calls whose references a state holds
-abbrev pub calls_of : List Held → List ℕ
-calls_of held = map (λ h. h.call) held
+abbrev pub calls_of : List ObjectView → List ℕ
+calls_of objects = map (λ o. o.call) objects
 
--- a state speaks of these registers, and of a run that holds the objects of these calls: it holds a reference to each
-pub record AreOf (s : StateView) (registers : List (Option (Value ℕ))) (calls : List ℕ) : Type 0 where
-  pub each : (k : ℕ) → k < 11 → IsOf (slice_index_or s.registers k Unset) (slice_index_or registers k None)
-  pub held : (call : ℕ) → Contains calls call → Contains (calls_of s.held) call
+-- each object is that of a reference, and of its kind
+abbrev pub AreReferred : List Held → List ObjectView → Type 0
+AreReferred held objects = (o : ObjectView) → Contains objects o → (h : Held) × Contains held h × (h.call ≡ o.call) × (h.kind ≡ o.kind)
+
+-- a state speaks of a run with these registers and objects
+pub record AreOf (s : StateView) (registers : List (Option (Value ℕ))) (objects : List ObjectView) : Type 0 where
+  pub each : (k : ℕ) → k < 11 → IsOf (calls_of objects) (slice_index_or s.registers k Unset) (slice_index_or registers k None)
+  pub held : AreReferred s.held objects
 
 -- what comes to a slot speaks of a run there
-abbrev pub Arrives : Arrival → List (Option (Value ℕ)) → List ℕ → Type 0
-Arrives Never registers calls = ⊥
-Arrives (Entered s) registers calls = AreOf s registers calls
-Arrives Differ registers calls = Unit {0}
+abbrev pub Arrives : Arrival → List (Option (Value ℕ)) → List ObjectView → Type 0
+Arrives Never registers objects = ⊥
+Arrives (Entered s) registers objects = AreOf s registers objects
+Arrives Differ registers objects = Unit {0}

@@ -1,9 +1,20 @@
 -- One event of the world: a run starts, or does the instruction at its pc.
-use Rattle.std.specs.Prelude.{ℕ, ◌+◌, ◌++◌, ◌==◌, List, [], ◌∷◌, length, if◌then◌else◌, Option, Some, None, Result, Ok, Err, slice_get, slice_set}
+use Rattle.std.specs.Prelude.{ℕ, zero, suc, pos, ◌+◌, ◌++◌, ◌==◌, Bool, true, false, not, ◌&&◌, nat_le, nat_lt, List, [], ◌∷◌, length, filter, if◌then◌else◌, Option, Some, None, Result, Ok, Err, slice_get, slice_set}
+use Rattle.ebpf_insn.specs.declared.insn.Insn.{Insn}
+use Rattle.ebpf_insn.specs.declared.insn.Insn.TheVariants as insn
+use Rattle.ebpf_insn.specs.declared.register.Reg.TheVariants.{R0, R1}
 use Rattle.ebpf_insn.specs.Program.{insn_at}
+use Rattle.ebpf_insn.specs.Faults.{first_of}
 use Rattle.ebpf_verify.specs.Subject.{Subject}
-use Rattle.ebpf_machine.specs.Effect.{Effect, Goes, Ends, Traps, effect_at}
-use Rattle.ebpf_machine.specs.World.{Name, World, Running, Status, Going, Exited, Trapped, Answer, Absent, Null, Slot, is_home, holds_of, first_run}
+use Rattle.ebpf_machine.specs.declared.value.Value.{Value}
+use Rattle.ebpf_machine.specs.declared.value.Value.TheVariants.{Number, Pointer}
+use Rattle.ebpf_machine.specs.declared.value.Base.TheVariants.{Object}
+use Rattle.ebpf_machine.specs.declared.report.Reply.{Reply}
+use Rattle.ebpf_machine.specs.declared.report.Reply.TheVariants as reply
+use Rattle.ebpf_machine.specs.Bytes.{patched}
+use Rattle.ebpf_machine.specs.Values.{Trap, TooManyObjects, Frame, read}
+use Rattle.ebpf_machine.specs.Effect.{Act, Nothing, Write, Take, Give, Effect, Goes, Ends, Traps, effect_at, with_value}
+use Rattle.ebpf_machine.specs.World.{Name, World, Running, Told, Status, Going, Exited, Trapped, Holder, Run, Answer, Absent, Null, Slot, is_in, is_home, is_call, ledger_of, kind_in, image_at, holds_of, around, first_run}
 
 -- why an event is not legal. The causes are tested in this order, but for an event that names a kind: there an unknown one
 -- goes before what is wrong with the slot.
@@ -19,45 +30,126 @@ pub data Illegal : Type 0 where
   NoSuchProgramOrKind : Illegal
   WrongContext : Illegal
 
--- the run after an instruction; one that traps changes nothing but the status and the count
-abbrev pub run_after : Effect Name → Running → Running
-run_after (Goes to frame) r = record r { pc = to; frame = frame; executed = r.executed + 1 }
-run_after (Ends n) r = record r { status = Exited n; executed = r.executed + 1 }
-run_after (Traps trap) r = record r { status = Trapped trap; executed = r.executed + 1 }
+-- ---- changes of the world
+
+abbrev pub with_run : World → ℕ → Running → World
+with_run w run r = record w { runs = slice_set w.runs run r }
+
+abbrev pub with_bytes : ℕ → List ℕ → World → World
+with_bytes slot bytes w = record w { bytes = λ s. if s == slot then bytes else w.bytes s }
+
+abbrev pub with_owner : ℕ → Holder → World → World
+with_owner slot holder w = record w { owners = w.owners ++ record { slot = slot; holder = holder } ∷ [] }
+
+-- the run has the slot by this call no more
+abbrev pub without_owner : ℕ → Name → World → World
+without_owner run name w = record w { owners = filter (λ o. not ((o.slot == name.0) && is_call run name.1 o.holder)) w.owners }
+
+-- ---- Start: one more run of an accepted program, on a context of the length that it declares
 
 abbrev pub started : Subject → List ℕ → World → World
 started subject context w = record w { runs = w.runs ++ first_run subject context ∷ [] }
 
--- Start: one more run of an accepted program, on a context of the length that it declares
 abbrev pub starting : Option Subject → List ℕ → World → Result World Illegal
 starting None context w = Err NoSuchProgramOrKind
 starting (Some s) context w = if length context == s.decl.context then Ok (started s context w) else Err WrongContext
 
--- why an answered slot is refused
-abbrev pub answer_fault : World → Answer → Option Illegal
-answer_fault w (Slot slot) = if is_home w slot then Some AnswerUnasked else Some SlotNotHome
-answer_fault w Null = Some AnswerUnasked
-answer_fault w Absent = None
+-- ---- Exec: one run does the instruction at its pc
+
+abbrev pub gone : ℕ → Frame Name → Running → Running
+gone to frame r = record r { pc = to; frame = frame; executed = r.executed + 1 }
+
+abbrev pub ended : ℕ → Running → Running
+ended n r = record r { status = Exited n; executed = r.executed + 1 }
+
+-- a run that traps changes nothing but the status and the count
+abbrev pub trapped : Trap → Running → Running
+trapped trap r = record r { status = Trapped trap; executed = r.executed + 1 }
+
+-- a call of new goes on with the reply, in r0
+abbrev pub replied : ℕ → Reply → Value Name → ℕ → Frame Name → Running → Running
+replied kind told v to frame r = record (gone to (with_value frame R0 v) r) { told = r.told ++ record { at = r.pc; kind = kind; reply = told } ∷ [] }
+
+-- a slot is granted, with its image, unless the run holds as many as it declared
+abbrev pub granted : ℕ → World → ℕ → Running → ℕ → Frame Name → ℕ → World
+granted slot w run r to frame kind =
+    if nat_le r.subject.decl.held (holds_of w run) then with_run w run (trapped TooManyObjects r) else
+    with_owner slot (Run run r.pc) (with_bytes slot (image_at w.kinds kind) (with_run w run (replied kind reply.Granted (Pointer (Object (slot, r.pc)) (pos 0)) to frame r)))
+
+abbrev pub taken : Answer → World → ℕ → Running → ℕ → Frame Name → ℕ → World
+taken (Slot slot) w run r to frame kind = granted slot w run r to frame kind
+taken _ w run r to frame kind = with_run w run (replied kind reply.Null (Number 0) to frame r)
+
+-- what an instruction that goes on asks of the world; an object that is taken back gets its image
+abbrev pub acted : Act Name → Answer → World → ℕ → Running → ℕ → Frame Name → World
+acted Nothing answer w run r to frame = with_run w run (gone to frame r)
+acted (Write name at bytes) answer w run r to frame = with_bytes name.0 (patched (w.bytes name.0) at bytes) (with_run w run (gone to frame r))
+acted (Take kind) answer w run r to frame = taken answer w run r to frame kind
+acted (Give name) answer w run r to frame = with_bytes name.0 (image_at w.kinds (kind_in w name.0)) (without_owner run name (with_run w run (gone to frame r)))
+
+abbrev pub done_by : Effect Name → Answer → World → ℕ → Running → World
+done_by (Goes act to frame) answer w run r = acted act answer w run r to frame
+done_by (Ends n) answer w run r = with_run w run (ended n r)
+done_by (Traps trap) answer w run r = with_run w run (trapped trap r)
+
+-- what the instruction at a slot asks of whoever answers: nothing; an object of no kind that there is; or one of the kind that r1 names
+pub data Asking : Type 0 where
+  Unasked : Asking
+  OfNoKind : Asking
+  OfKind : (kind : ℕ) → Asking
+
+abbrev pub asking_for : {N : Type 0} → Option (Value N) → ℕ → Asking
+asking_for (Some (Number kind)) kinds = if nat_lt kind kinds then OfKind kind else OfNoKind
+asking_for _ kinds = OfNoKind
+
+-- call 1 is new
+abbrev pub asking : {N : Type 0} → Option Insn → ℕ → Frame N → Asking
+asking (Some (insn.Call (pos (suc zero)))) kinds frame = asking_for (read frame R1) kinds
+asking _ kinds frame = Unasked
+
+abbrev pub is_asked : Asking → Bool
+is_asked Unasked = false
+is_asked _ = true
+
+abbrev pub is_answer : Answer → Bool
+is_answer Absent = false
+is_answer _ = true
+
+abbrev pub is_away : World → Answer → Bool
+is_away w (Slot slot) = not (is_home w slot)
+is_away w _ = false
+
+abbrev pub is_of_another_kind : World → Asking → Answer → Bool
+is_of_another_kind w (OfKind kind) (Slot slot) = not (is_in slot (ledger_of w kind))
+is_of_another_kind w _ _ = false
+
+-- why an answer is not legal
+abbrev pub answer_fault : World → Asking → Answer → Option Illegal
+answer_fault w asked answer = first_of (
+    (is_away w answer, SlotNotHome) ∷
+    (is_of_another_kind w asked answer, SlotOfAnotherKind) ∷
+    (not (is_asked asked) && is_answer answer, AnswerUnasked) ∷
+    (is_asked asked && not (is_answer answer), AnswerMissing) ∷
+    [])
 
 abbrev pub or_illegal : Option Illegal → World → Result World Illegal
 or_illegal (Some why) w = Err why
 or_illegal None w = Ok w
 
-abbrev pub with_run : World → ℕ → Running → World
-with_run w run r = record w { runs = slice_set w.runs run r }
+abbrev pub asking_of : World → Running → Asking
+asking_of w r = asking (insn_at r.subject.program r.pc) (length w.kinds) r.frame
 
--- the run after the instruction at its pc, where it holds so many objects
-abbrev pub run_stepped : ℕ → Running → Running
-run_stepped holds r = run_after (effect_at (insn_at r.subject.program r.pc) r.pc holds r.frame) r
+-- what the instruction at its pc does to a run of the world
+abbrev pub effect_of_run : World → ℕ → Running → Effect Name
+effect_of_run w run r = effect_at (insn_at r.subject.program r.pc) r.pc (around w run r) r.frame
 
 abbrev pub exec_going : Status → World → ℕ → Answer → Running → Result World Illegal
-exec_going Going w run answer r = or_illegal (answer_fault w answer) (with_run w run (run_stepped (holds_of w run) r))
+exec_going Going w run answer r = or_illegal (answer_fault w (asking_of w r) answer) (done_by (effect_of_run w run r) answer w run r)
 exec_going _ w run answer r = Err RunEnded
 
 abbrev pub exec_by : Option Running → World → ℕ → Answer → Result World Illegal
 exec_by None w run answer = Err NoSuchRun
 exec_by (Some r) w run answer = exec_going r.status w run answer r
 
--- Exec: one run does the instruction at its pc. No instruction asks for an object yet, so every answer is unasked.
 abbrev pub exec : World → ℕ → Answer → Result World Illegal
 exec w run answer = exec_by (slice_get w.runs run) w run answer

@@ -4,7 +4,9 @@ pub mod Bytes
 pub mod World
 pub mod Events
 pub mod Alone
+pub mod View
+pub mod RunState
 pub mod Concretization
-pub mod RunView
-pub mod Executable
+pub mod Sound
+pub mod Step
 pub mod Turns

@@ -1,12 +1,14 @@
 -- The world: ledgers, owners, object bytes and runs, and what it says of a slot.
-use Rattle.std.specs.Prelude.{ℕ, ◌==◌, Bool, not, ◌&&◌, List, [], ◌∷◌, length, filter, map, pos, Option, Some, None}
+use Rattle.std.specs.Prelude.{ℕ, suc, ◌==◌, Bool, not, ◌&&◌, if◌then◌else◌, List, [], ◌∷◌, length, filter, map, replicate, pos, Option, Some, None, Result, Ok, Err, slice_index_or}
 use Rattle.std.specs.List.{list_any}
 use Rattle.ebpf_state.specs.declared.kinds.KindRow.{KindRow}
 use Rattle.ebpf_verify.specs.Subject.{Subject}
 use Rattle.ebpf_machine.specs.declared.value.Value.{Value}
 use Rattle.ebpf_machine.specs.declared.value.Value.TheVariants.{Pointer}
 use Rattle.ebpf_machine.specs.declared.value.Base.TheVariants.{Stack, Context}
-use Rattle.ebpf_machine.specs.Values.{Trap, Frame, empty_stack}
+use Rattle.ebpf_machine.specs.declared.report.Reply.{Reply}
+use Rattle.ebpf_machine.specs.Values.{Trap, UseAfterFree, AnotherRunsObject, Frame, empty_stack}
+use Rattle.ebpf_machine.specs.Effect.{Around, Found}
 
 -- how the world names an object: its slot, and the call that was granted it
 abbrev pub Name : Type 0
@@ -17,19 +19,28 @@ pub data Status : Type 0 where
   Exited : (result : ℕ) → Status
   Trapped : (trap : Trap) → Status
 
+-- a call of new that a run made: where, for which kind, and the reply. A run keeps these, and no instruction reads them
+pub record Told : Type 0 where
+  pub at : ℕ
+  pub kind : ℕ
+  pub reply : Reply
+
 pub record Running : Type 0 where
   pub subject : Subject
   pub context : List ℕ
   pub pc : ℕ
   pub frame : Frame Name
+  pub told : List Told
   pub executed : ℕ
   pub status : Status
 
--- a run holds a slot, by the call at this place of its program
+-- who has a slot: a run, by the call at this place of its program
+pub data Holder : Type 0 where
+  Run : (run at : ℕ) → Holder
+
 pub record Owner : Type 0 where
   pub slot : ℕ
-  pub run : ℕ
-  pub at : ℕ
+  pub holder : Holder
 
 -- a kind of object: its size, and the byte that fills a new one
 pub record Kind : Type 0 where
@@ -39,12 +50,20 @@ pub record Kind : Type 0 where
 abbrev pub kinds_of : List KindRow → List Kind
 kinds_of rows = map (λ row. record { size = row.size; fill = row.fill }) rows
 
+-- the bytes of a new object
+abbrev pub image_of : Kind → List ℕ
+image_of kind = replicate kind.size kind.fill
+
+-- the image of a kind, by its number
+abbrev pub image_at : List Kind → ℕ → List ℕ
+image_at kinds kind = image_of (slice_index_or kinds kind (record { size = 0; fill = 0 }))
+
 -- the kinds; the slots of each, ascending; who owns which; the bytes of each slot of a ledger; the runs
 pub record World : Type 0 where
   pub kinds : List Kind
   pub ledgers : List (List ℕ)
   pub owners : List Owner
-  pub bytes : List (ℕ × List ℕ)
+  pub bytes : ℕ → List ℕ
   pub runs : List Running
 
 -- the answer that an event brings to a call of new
@@ -53,8 +72,13 @@ pub data Answer : Type 0 where
   Null : Answer
   Slot : (slot : ℕ) → Answer
 
+-- ---- what the world says of a slot
+
 abbrev pub is_in : ℕ → List ℕ → Bool
 is_in slot slots = list_any (λ s. s == slot) slots
+
+abbrev pub ledger_of : World → ℕ → List ℕ
+ledger_of w kind = slice_index_or w.ledgers kind []
 
 abbrev pub is_in_ledger : World → ℕ → Bool
 is_in_ledger w slot = list_any (is_in slot) w.ledgers
@@ -62,13 +86,56 @@ is_in_ledger w slot = list_any (is_in slot) w.ledgers
 abbrev pub is_owned : World → ℕ → Bool
 is_owned w slot = list_any (λ o. o.slot == slot) w.owners
 
--- in a ledger, and held by no run
+-- in a ledger, and nobody's
 abbrev pub is_home : World → ℕ → Bool
 is_home w slot = is_in_ledger w slot && not (is_owned w slot)
 
+-- the kind in whose ledger a slot is, from this kind's ledger on
+unfoldable pub kind_from : ℕ → List (List ℕ) → ℕ → ℕ
+kind_from kind [] slot = kind
+kind_from kind (slots ∷ ledgers) slot = if is_in slot slots then kind else kind_from (suc kind) ledgers slot
+
+abbrev pub kind_in : World → ℕ → ℕ
+kind_in w slot = kind_from 0 w.ledgers slot
+
+-- ---- what the world says of a run's objects
+
+abbrev pub is_run : ℕ → Holder → Bool
+is_run run (Run r at) = r == run
+
+abbrev pub is_call : ℕ → ℕ → Holder → Bool
+is_call run at (Run r a) = (r == run) && (a == at)
+
+abbrev pub held_by : World → ℕ → List Owner
+held_by w run = filter (λ o. is_run run o.holder) w.owners
+
 -- how many objects a run holds
 abbrev pub holds_of : World → ℕ → ℕ
-holds_of w run = length (filter (λ o. o.run == run) w.owners)
+holds_of w run = length (held_by w run)
+
+-- the run has the slot by this call
+abbrev pub is_held_by : World → ℕ → Name → Bool
+is_held_by w run name = list_any (λ o. (o.slot == name.0) && is_call run name.1 o.holder) w.owners
+
+-- another run has the slot, and this one has not
+abbrev pub is_anothers : World → ℕ → ℕ → Bool
+is_anothers w run slot = is_owned w slot && not (list_any (λ o. o.slot == slot) (held_by w run))
+
+-- what a run finds under the name of an object: its own under that call; else another run's; else nobody's
+abbrev pub object_for : World → ℕ → Name → Result Found Trap
+object_for w run name =
+    if is_held_by w run name then Ok (record { kind = kind_in w name.0; bytes = w.bytes name.0 }) else
+    if is_anothers w run name.0 then Err AnotherRunsObject else
+    Err UseAfterFree
+
+abbrev pub is_same_name : Name → Name → Bool
+is_same_name a b = (a.0 == b.0) && (a.1 == b.1)
+
+-- what a run meets in the world
+abbrev pub around : World → ℕ → Running → Around Name
+around w run r = record { context = r.context; kinds = length w.kinds; holds = holds_of w run; object = object_for w run; is_same = is_same_name }
+
+-- ---- a run before its first instruction
 
 abbrev pub first_registers : {N : Type 0} → List (Option (Value N))
 first_registers = None ∷ Some (Pointer Context (pos 0)) ∷ None ∷ None ∷ None ∷ None ∷ None ∷ None ∷ None ∷ None ∷ Some (Pointer Stack (pos 0)) ∷ []
@@ -76,6 +143,5 @@ first_registers = None ∷ Some (Pointer Context (pos 0)) ∷ None ∷ None ∷ 
 abbrev pub first_frame : {N : Type 0} → Frame N
 first_frame = record { registers = first_registers; stack = empty_stack; output = [] }
 
--- a run before its first instruction
 abbrev pub first_run : Subject → List ℕ → Running
-first_run subject context = record { subject = subject; context = context; pc = 0; frame = first_frame; executed = 0; status = Going }
+first_run subject context = record { subject = subject; context = context; pc = 0; frame = first_frame; told = []; executed = 0; status = Going }

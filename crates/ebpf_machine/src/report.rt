@@ -34,33 +34,43 @@ impl Output {
     }
 }
 
-/// For each call of `new` that a run made, in order, whether it was granted. Contracts see it as the list.
+/// What a call of `new` was answered.
+#[derive(Clone, Copy)]
+pub enum Reply {
+    /// No object.
+    Null,
+    /// An object of the kind that it asked for.
+    Granted,
+}
+
+/// What each call of `new` that a run made was answered, in order. Contracts see it as the list.
 #[derive(Drop)]
 pub struct Answers {
-    granted: Vec<bool>,
+    replies: Vec<Reply>,
 }
 
 impl Model for Answers {
-    ghost use Rattle.std.specs.Prelude.{List, Bool};
+    ghost use Rattle.std.specs.Prelude.{List};
+    ghost use Rattle.ebpf_machine.specs.declared.report.Reply.{Reply};
 
-    ghost Value = { List Bool };
+    ghost Value = { List Reply };
 
-    ghost view = { λ a. a.granted.items };
+    ghost view = { λ a. a.replies.items };
 }
 
 impl Answers {
-    /// These answers.
-    pub(crate) fn new(granted: Vec<bool>) -> Answers
-        ensures { result ≡ granted.items }
+    /// These replies.
+    pub(crate) fn new(replies: Vec<Reply>) -> Answers
+        ensures { result ≡ replies.items }
     {
-        Answers { granted }
+        Answers { replies }
     }
 
-    /// The answers as a slice: true where the call was granted.
-    pub fn as_slice(&self) -> &[bool]
+    /// The replies as a slice.
+    pub fn as_slice(&self) -> &[Reply]
         ensures { result.now ≡ self.now }
     {
-        &self.granted
+        &self.replies
     }
 }
 

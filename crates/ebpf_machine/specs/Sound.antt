@@ -1,0 +1,109 @@
+-- What always holds: of a run, that what is known at its pc speaks of it, and that it is where the run alone is; of the world, that
+-- owners, ledgers and pointers fit together.
+use Rattle.std.specs.Prelude.{◌≡◌, ◌<◌, ◌≤◌, ℕ, false, true, ◌==◌, List, [], length, map, All, Contains, count_by, FitsSigned, is_none, Option, Some, None, slice_get}
+use Rattle.std.specs.Int.{w64}
+use Rattle.ebpf_insn.specs.Program.{instructions, insn_at, count_below}
+use Rattle.ebpf_verify.specs.Verdict.{IsAccepted}
+use Rattle.ebpf_verify.specs.Entry.{entry_of}
+use Rattle.ebpf_machine.specs.declared.value.Value.{Value}
+use Rattle.ebpf_machine.specs.declared.value.Value.TheVariants.{Number, Pointer}
+use Rattle.ebpf_machine.specs.declared.value.Base.TheVariants.{Object}
+use Rattle.ebpf_machine.specs.declared.value.Cell.{Cell}
+use Rattle.ebpf_machine.specs.declared.value.Cell.TheVariants.{Part}
+use Rattle.ebpf_machine.specs.declared.report.Reply.TheVariants.{Granted}
+use Rattle.ebpf_machine.specs.Values.{Frame}
+use Rattle.ebpf_machine.specs.Effect.{Effect, Goes, Ends, Traps}
+use Rattle.ebpf_machine.specs.World.{Name, Status, Going, Exited, Trapped, World, Running, Told, Owner, Holder, Run, kinds_of, image_at, is_in, is_home, kind_in}
+use Rattle.ebpf_machine.specs.Alone.{alone_after}
+use Rattle.ebpf_machine.specs.View.{RunView, view_in}
+use Rattle.ebpf_machine.specs.Concretization.{Arrives}
+
+-- ---- one instruction
+
+-- the offset of a pointer fits 64 bits
+abbrev pub FitsValue : Value ℕ → Type 0
+FitsValue (Number n) = Unit {0}
+FitsValue (Pointer base k) = FitsSigned w64 k
+
+abbrev pub FitsRegister : Option (Value ℕ) → Type 0
+FitsRegister None = Unit {0}
+FitsRegister (Some v) = FitsValue v
+
+-- it does not trap, and what it leaves in the registers fits
+abbrev pub IsFine : Effect ℕ → Type 0
+IsFine (Goes act to frame) = All FitsRegister frame.registers
+IsFine (Ends n) = Unit {0}
+IsFine (Traps trap) = ⊥
+
+-- ---- a run of an accepted program, as it sees itself
+
+-- one that goes on is at an instruction, and what is known there speaks of it; its objects are of calls behind it
+pub record IsGoing (v : RunView) : Type 0 where
+  pub inside : is_none (insn_at v.subject.program v.pc) ≡ false
+  pub few : v.executed ≤ count_below v.subject.program v.pc
+  pub state : Arrives (entry_of v.subject.program v.pc) v.frame.registers v.objects
+  pub behind : All (λ o. o.call < v.pc) v.objects
+  pub declared : length v.objects ≤ v.subject.decl.held
+
+pub record HasExited (v : RunView) : Type 0 where
+  pub few : v.executed ≤ length (instructions v.subject.program)
+  pub returned : v.objects ≡ []
+
+abbrev pub IsWellStated : Status → RunView → Type 0
+IsWellStated Going v = IsGoing v
+IsWellStated (Exited n) v = HasExited v
+IsWellStated (Trapped trap) v = ⊥
+
+pub record IsSound (v : RunView) : Type 0 where
+  pub accepted : IsAccepted v.subject
+  pub registers : length v.frame.registers ≡ 11
+  pub fit : All FitsRegister v.frame.registers
+  pub stated : IsWellStated v.status v
+
+-- it is what the run alone is after as many instructions, with its own replies
+abbrev pub IsAlone : RunView → Type 0
+IsAlone v = view_in (alone_after v.executed v.subject v.context v.replies).world 0 ≡ Some v
+
+-- ---- owners, ledgers and pointers of a world fit together
+
+-- a value is a pointer to the object of a name
+abbrev pub Names : Option (Value Name) → Name → Type 0
+Names (Some (Pointer (Object name) k)) n = name ≡ n
+Names _ n = ⊥
+
+abbrev pub NamesPart : Cell Name → Name → Type 0
+NamesPart (Part v j) n = Names (Some v) n
+NamesPart _ n = ⊥
+
+-- a run has a pointer to the object of a name
+pub data HasPointer (frame : Frame Name) (n : Name) : Type 0 where
+  InRegister : (v : Option (Value Name)) → Contains frame.registers v → Names v n → HasPointer frame n
+  InCell : (c : Cell Name) → Contains frame.stack c → NamesPart c n → HasPointer frame n
+
+-- a pointer stems from a call behind the run; where the run still holds what that call was granted, it is to that slot
+pub record IsTrue (w : World) (run : ℕ) (r : Running) (n : Name) : Type 0 where
+  pub behind : n.1 < r.pc
+  pub slot : (o : Owner) → Contains w.owners o → o.holder ≡ Run run n.1 → o.slot ≡ n.0
+
+-- a call of the run, behind it, asked for an object of this kind and was granted one
+pub record AskedFor (w : World) (run at kind : ℕ) : Type 0 where
+  pub asker : Running
+  pub there : slice_get w.runs run ≡ Some asker
+  pub behind : at < asker.pc
+  pub told : Contains asker.told (record { at = at; kind = kind; reply = Granted })
+
+-- whoever has a slot has it as one of this kind
+abbrev pub IsOfKind : World → Holder → ℕ → Type 0
+IsOfKind w (Run run at) kind = AskedFor w run at kind
+
+pub record IsOwned (w : World) : Type 0 where
+  pub once : (slot : ℕ) → count_by (λ o. o.slot == slot) w.owners ≤ 1
+  pub in_ledger : (o : Owner) → Contains w.owners o → count_by (is_in o.slot) w.ledgers ≡ 1
+  pub apart : (slot : ℕ) → count_by (is_in slot) w.ledgers ≤ 1
+  pub as_many : length w.ledgers ≡ length w.kinds
+  pub kinds_are : (run : ℕ) (r : Running) → slice_get w.runs run ≡ Some r → kinds_of r.subject.rows ≡ w.kinds
+  pub imaged : (slot : ℕ) → is_home w slot ≡ true → w.bytes slot ≡ image_at w.kinds (kind_in w slot)
+  pub sized : (o : Owner) → Contains w.owners o → length (w.bytes o.slot) ≡ length (image_at w.kinds (kind_in w o.slot))
+  pub one_a_call : (o p : Owner) → Contains w.owners o → Contains w.owners p → o.holder ≡ p.holder → o ≡ p
+  pub asked : (o : Owner) → Contains w.owners o → IsOfKind w o.holder (kind_in w o.slot)
+  pub pointers : (run : ℕ) (r : Running) → slice_get w.runs run ≡ Some r → (n : Name) → HasPointer r.frame n → IsTrue w run r n
