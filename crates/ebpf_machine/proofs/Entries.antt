@@ -15,6 +15,7 @@ use Rattle.ebpf_verify.specs.declared.arrival.Arrival.TheVariants.{Never, Entere
 use Rattle.ebpf_verify.specs.Rules.{after_fall, result_of, operand}
 use Rattle.ebpf_verify.specs.Entry.{with_edge, with_sent, arrived, entry_of}
 use Rattle.ebpf_machine.specs.declared.value.Value.{Value}
+use Rattle.ebpf_machine.specs.View.{ObjectView}
 use Rattle.ebpf_machine.specs.Concretization.{AreOf, Arrives}
 use Rattle.ebpf_machine.proofs.Joins.{IsWhole, IsWhole-with_state, Arrives-with_state_old, Arrives-with_state_new}
 
@@ -28,13 +29,13 @@ IsWhole-with_edge None leads a w v = v
 IsWhole-with_edge (Some s) true a w v = IsWhole-with_state a s v w
 IsWhole-with_edge (Some s) false a w v = v
 
-old_by_edge : (o : Option StateView) (leads : Bool) (a : Arrival) (regs : List (Option (Value ℕ))) (calls : List ℕ) → IsWholeState o → IsWhole a → Arrives a regs calls → Arrives (with_edge o leads a) regs calls
-old_by_edge None leads a regs calls w v h = h
-old_by_edge (Some s) true a regs calls w v h = Arrives-with_state_old a s regs calls v w h
-old_by_edge (Some s) false a regs calls w v h = h
+old_by_edge : (o : Option StateView) (leads : Bool) (a : Arrival) (regs : List (Option (Value ℕ))) (objects : List ObjectView) → IsWholeState o → IsWhole a → Arrives a regs objects → Arrives (with_edge o leads a) regs objects
+old_by_edge None leads a regs objects w v h = h
+old_by_edge (Some s) true a regs objects w v h = Arrives-with_state_old a s regs objects v w h
+old_by_edge (Some s) false a regs objects w v h = h
 
-new_by_edge : (o : Option StateView) (s : StateView) (leads : Bool) (a : Arrival) (regs : List (Option (Value ℕ))) (calls : List ℕ) → o ≡ Some s → leads ≡ true → length s.registers ≡ 11 → IsWhole a → AreOf s regs calls → Arrives (with_edge o leads a) regs calls
-new_by_edge o s leads a regs calls carries e w v h = rw (carries, e) (Arrives-with_state_new a s regs calls v w h)
+new_by_edge : (o : Option StateView) (s : StateView) (leads : Bool) (a : Arrival) (regs : List (Option (Value ℕ))) (objects : List ObjectView) → o ≡ Some s → leads ≡ true → length s.registers ≡ 11 → IsWhole a → AreOf s regs objects → Arrives (with_edge o leads a) regs objects
+new_by_edge o s leads a regs objects carries e w v h = rw (carries, e) (Arrives-with_state_new a s regs objects v w h)
 
 whole_after_fall : (i : Insn) (s : StateView) → length s.registers ≡ 11 → IsWholeState (after_fall i s)
 whole_after_fall (insn.Alu width o dst src) s w = length-set s.registers (number_of dst) (result_of width o (register_of s dst) (operand s width src)) ∙ w
@@ -46,11 +47,11 @@ IsWhole-with_sent (Some i) e to Never old w v = v
 IsWhole-with_sent (Some i) e to Differ old w v = v
 IsWhole-with_sent (Some i) e to (Entered s) old w v = IsWhole-with_edge (after_fall i s) (leads_to e.fall to) old (whole_after_fall i s w) v
 
-old_by_sent : (o : Option Insn) (e : Edges) (to : ℕ) (a old : Arrival) (regs : List (Option (Value ℕ))) (calls : List ℕ) → IsWhole a → IsWhole old → Arrives old regs calls → Arrives (with_sent o e to a old) regs calls
-old_by_sent None e to a old regs calls w v h = h
-old_by_sent (Some i) e to Never old regs calls w v h = h
-old_by_sent (Some i) e to Differ old regs calls w v h = h
-old_by_sent (Some i) e to (Entered s) old regs calls w v h = old_by_edge (after_fall i s) (leads_to e.fall to) old regs calls (whole_after_fall i s w) v h
+old_by_sent : (o : Option Insn) (e : Edges) (to : ℕ) (a old : Arrival) (regs : List (Option (Value ℕ))) (objects : List ObjectView) → IsWhole a → IsWhole old → Arrives old regs objects → Arrives (with_sent o e to a old) regs objects
+old_by_sent None e to a old regs objects w v h = h
+old_by_sent (Some i) e to Never old regs objects w v h = h
+old_by_sent (Some i) e to Differ old regs objects w v h = h
+old_by_sent (Some i) e to (Entered s) old regs objects w v h = old_by_edge (after_fall i s) (leads_to e.fall to) old regs objects (whole_after_fall i s w) v h
 
 IsWhole-first : (b : Bool) → IsWhole (cond b (Entered first_state) Never)
 IsWhole-first true = refl
@@ -62,26 +63,26 @@ IsWhole-arrived p zero to = IsWhole-first (eqb to 0)
 IsWhole-arrived p (suc m) to = IsWhole-with_sent (insn_at p m) (edges_at p m) to (arrived p m m) (arrived p m to) (IsWhole-arrived p m m) (IsWhole-arrived p m to)
 
 -- what a lower slot sends comes in
-sent_arrives : (p : List (Option Insn)) (m j to : ℕ) (regs : List (Option (Value ℕ))) (calls : List ℕ) → j < m → Arrives (with_sent (insn_at p j) (edges_at p j) to (entry_of p j) (arrived p j to)) regs calls → Arrives (arrived p m to) regs calls
+sent_arrives : (p : List (Option Insn)) (m j to : ℕ) (regs : List (Option (Value ℕ))) (objects : List ObjectView) → j < m → Arrives (with_sent (insn_at p j) (edges_at p j) to (entry_of p j) (arrived p j to)) regs objects → Arrives (arrived p m to) regs objects
 unfolding arrived
-sent_arrives p zero j to regs calls lt h = absurd (omega arith)
-sent_arrives p (suc m) j to regs calls lt h =
+sent_arrives p zero j to regs objects lt h = absurd (omega arith)
+sent_arrives p (suc m) j to regs objects lt h =
     elim (cases_lt j m) [
-      | inl less ↦ old_by_sent (insn_at p m) (edges_at p m) to (arrived p m m) (arrived p m to) regs calls (IsWhole-arrived p m m) (IsWhole-arrived p m to) (sent_arrives p m j to regs calls less h)
-      | inr more ↦ let same : j ≡ m = omega arith in subst (λ (n : ℕ). Arrives (with_sent (insn_at p n) (edges_at p n) to (arrived p n n) (arrived p n to)) regs calls) same h
+      | inl less ↦ old_by_sent (insn_at p m) (edges_at p m) to (arrived p m m) (arrived p m to) regs objects (IsWhole-arrived p m m) (IsWhole-arrived p m to) (sent_arrives p m j to regs objects less h)
+      | inr more ↦ let same : j ≡ m = omega arith in subst (λ (n : ℕ). Arrives (with_sent (insn_at p n) (edges_at p n) to (arrived p n n) (arrived p n to)) regs objects) same h
     ]
 
 -- the state that an instruction sends to the slot after it speaks of a run that goes there
-pub fall_arrives : (p : List (Option Insn)) (from to : ℕ) (i : Insn) (s after : StateView) (regs : List (Option (Value ℕ))) (calls : List ℕ) → insn_at p from ≡ Some i → entry_of p from ≡ Entered s → length s.registers ≡ 11 → after_fall i s ≡ Some after → length after.registers ≡ 11 → fall_of i from ≡ Some to → from < to → AreOf after regs calls → Arrives (entry_of p to) regs calls
-fall_arrives p from to i s after regs calls at entered whole makes whole_after edge lt h =
+pub fall_arrives : (p : List (Option Insn)) (from to : ℕ) (i : Insn) (s after : StateView) (regs : List (Option (Value ℕ))) (objects : List ObjectView) → insn_at p from ≡ Some i → entry_of p from ≡ Entered s → length s.registers ≡ 11 → after_fall i s ≡ Some after → length after.registers ≡ 11 → fall_of i from ≡ Some to → from < to → AreOf after regs objects → Arrives (entry_of p to) regs objects
+fall_arrives p from to i s after regs objects at entered whole makes whole_after edge lt h =
     let leads : leads_to (fall_of i from) to ≡ true = rw edge (eqb_same to) in
-    sent_arrives p to from to regs calls lt
-    (rw (at, entered) (new_by_edge (after_fall i s) after (leads_to (fall_of i from) to) (arrived p from to) regs calls makes leads whole_after (IsWhole-arrived p from to) h))
+    sent_arrives p to from to regs objects lt
+    (rw (at, entered) (new_by_edge (after_fall i s) after (leads_to (fall_of i from) to) (arrived p from to) regs objects makes leads whole_after (IsWhole-arrived p from to) h))
   where
     eqb_same : (n : ℕ) → eqb n n ≡ true
     eqb_same n = grind (arith, nat_tests)
 
 -- the first state comes to slot 0
-pub first_arrives : (p : List (Option Insn)) (regs : List (Option (Value ℕ))) (calls : List ℕ) → AreOf first_state regs calls → Arrives (entry_of p 0) regs calls
+pub first_arrives : (p : List (Option Insn)) (regs : List (Option (Value ℕ))) (objects : List ObjectView) → AreOf first_state regs objects → Arrives (entry_of p 0) regs objects
 unfolding arrived
-first_arrives p regs calls h = h
+first_arrives p regs objects h = h

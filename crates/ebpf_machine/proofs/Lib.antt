@@ -4,8 +4,13 @@ pub mod Pointers
 pub mod Operations
 pub mod Additions
 pub mod Soundness
+pub mod Acts
+pub mod Owned
 pub mod Projection
-pub mod AloneLemmas
+pub mod Pointing
 pub mod Steps
-pub mod NextState
-pub mod InWorld
+pub mod Execs
+pub mod Lone
+pub mod Runs
+pub mod Giving
+pub mod Doable

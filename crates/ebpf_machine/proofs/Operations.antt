@@ -1,5 +1,5 @@
 -- What an accepted operation computes is what its rule says.
-use Rattle.std.proofs.Common.{◌≡◌, ℕ, ◌<◌, ◌^◌, ℤ, ◌+ℤ◌, ◌≤ℤ◌, Bool, true, false, cond, eqb, not, Option, Some, None, Result, Ok, refl, sym, ap, ◌∙◌, subst, arith}
+use Rattle.std.proofs.Common.{◌≡◌, ℕ, ◌<◌, ◌^◌, ℤ, ◌+ℤ◌, ◌≤ℤ◌, Bool, true, false, cond, eqb, not, List, Option, Some, None, Result, Ok, refl, sym, ap, ◌∙◌, subst, arith}
 use Rattle.std.specs.Prelude.{nat_lt, ◌||◌, unwrap_or}
 use Rattle.std.proofs.lemmas.Bool.Decides.{nat_tests}
 use Rattle.std.proofs.lemmas.Int.{ints}
@@ -18,7 +18,7 @@ use Rattle.ebpf_machine.specs.declared.value.Base.TheVariants.{Stack, Context, O
 use Rattle.ebpf_machine.specs.Values.{Trap}
 use Rattle.ebpf_machine.specs.Effect.{sum_of}
 use Rattle.ebpf_machine.specs.Concretization.{IsOf}
-use Rattle.ebpf_machine.specs.Executable.{FitsValue}
+use Rattle.ebpf_machine.specs.Sound.{FitsValue}
 use Rattle.ebpf_machine.proofs.Pointers.{signed_between, near_end, near_fits, between_near}
 
 -- the first test of a list fails where no code is given
@@ -33,37 +33,32 @@ neither false true e = absurd (cc)
 neither true b e = absurd (cc)
 
 -- a value that is set
-pub set_value : (a : Abs) (x : Option (Value ℕ)) → is_unset a ≡ false → IsOf a x → (v : Value ℕ) × (x ≡ Some v) × IsOf a (Some v)
-set_value Unset x e h = absurd (cc)
-set_value a (Some v) e h = (v, refl, h)
-set_value (Num a) None e h = absurd h
-set_value (Stk k) None e h = absurd h
-set_value (Ctx a b) None e h = absurd h
-set_value (Ob c a b) None e h = absurd h
-set_value (May c) None e h = absurd h
+pub set_value : (calls : List ℕ) (a : Abs) (x : Option (Value ℕ)) → is_unset a ≡ false → IsOf calls a x → (v : Value ℕ) × (x ≡ Some v) × IsOf calls a (Some v)
+set_value calls Unset x e h = absurd (cc)
+set_value calls a (Some v) e h = (v, refl, h)
+set_value calls (Num a) None e h = absurd h
+set_value calls (Stk k) None e h = absurd h
+set_value calls (Ctx a b) None e h = absurd h
+set_value calls (Ob c a b) None e h = absurd h
+set_value calls (May c) None e h = absurd h
 
 -- a value that is a number
-pub number_value : (a : Abs) (x : Option (Value ℕ)) → is_unset a ≡ false → is_may a ≡ false → is_pointer a ≡ false → IsOf a x → (n : ℕ) × (r : Range) × (x ≡ Some (Number n)) × (a ≡ Num r) × IsWithin n r × (n < 2 ^ 64)
-number_value Unset x e m p h = absurd (cc)
-number_value (May c) x e m p h = absurd (cc)
-number_value (Stk k) x e m p h = absurd (cc)
-number_value (Ctx a b) x e m p h = absurd (cc)
-number_value (Ob c a b) x e m p h = absurd (cc)
-number_value (Num r) None e m p h = absurd h
-number_value (Num r) (Some (Number n)) e m p h = (n, r, refl, refl, h.0, h.1)
-number_value (Num r) (Some (Pointer base k)) e m p h = absurd h
+pub number_value : (calls : List ℕ) (a : Abs) (x : Option (Value ℕ)) → is_unset a ≡ false → is_may a ≡ false → is_pointer a ≡ false → IsOf calls a x → (n : ℕ) × (r : Range) × (x ≡ Some (Number n)) × (a ≡ Num r) × IsWithin n r × (n < 2 ^ 64)
+number_value calls Unset x e m p h = absurd (cc)
+number_value calls (May c) x e m p h = absurd (cc)
+number_value calls (Stk k) x e m p h = absurd (cc)
+number_value calls (Ctx a b) x e m p h = absurd (cc)
+number_value calls (Ob c a b) x e m p h = absurd (cc)
+number_value calls (Num r) None e m p h = absurd h
+number_value calls (Num r) (Some (Number n)) e m p h = (n, r, refl, refl, h.0, h.1)
+number_value calls (Num r) (Some (Pointer base k)) e m p h = absurd h
 
--- a result, with what is known of it
-pub record IsComputed (known : Abs) (result : Result (Value ℕ) Trap) : Type 0 where
-  pub v : Value ℕ
-  pub is : result ≡ Ok v
-  pub of : IsOf known (Some v)
-
-pub record IsFitting (known : Abs) (result : Result (Value ℕ) Trap) : Type 0 where
+-- a result that fits, with what is known of it
+pub record IsFitting (calls : List ℕ) (known : Abs) (result : Result (Value ℕ) Trap) : Type 0 where
   pub v : Value ℕ
   pub is : result ≡ Ok v
   pub fits : FitsValue v
-  pub of : IsOf known (Some v)
+  pub of : IsOf calls known (Some v)
 
 -- a pointer that is moved
 
@@ -94,33 +89,33 @@ constant_reading b n ends one h e =
 moved_between : (a b k low high s : ℤ) (e f : ℤ) → e ≡ a +ℤ low → f ≡ b +ℤ high → a ≤ℤ k → k ≤ℤ b → low ≤ℤ s → s ≤ℤ high → (e ≤ℤ (k +ℤ s)) × ((k +ℤ s) ≤ℤ f)
 moved_between a b k low high s e f p q ak kb ls sh = (omega (arith, ints, p, ak, ls), omega (arith, ints, q, kb, sh))
 
-pub moved_fits : (p q : Abs) (b : Range) (v : Value ℕ) (n : ℕ) → is_pointer p ≡ true → IsOf p (Some v) → IsWithin n b → blurs_stack p (Num b) ≡ false → (ends : Option (ℤ × ℤ)) → signed_ends b ≡ ends → moved_by p ends ≡ Some q → IsFitting q (sum_of W64 v (Number n))
-moved_fits Unset q b v n is_p h w clear ends ends_are m = absurd (cc)
-moved_fits (Num a) q b v n is_p h w clear ends ends_are m = absurd (cc)
-moved_fits (May c) q b v n is_p h w clear ends ends_are m = absurd (cc)
-moved_fits (Stk k) q b v n is_p h w clear None ends_are m = absurd (cc)
-moved_fits (Ctx a d) q b v n is_p h w clear None ends_are m = absurd (cc)
-moved_fits (Ob c a d) q b v n is_p h w clear None ends_are m = absurd (cc)
-moved_fits (Stk k) q b (Pointer Stack j) n is_p h w clear (Some ends) ends_are m =
+pub moved_fits : (calls : List ℕ) (p q : Abs) (b : Range) (v : Value ℕ) (n : ℕ) → is_pointer p ≡ true → IsOf calls p (Some v) → IsWithin n b → blurs_stack p (Num b) ≡ false → (ends : Option (ℤ × ℤ)) → signed_ends b ≡ ends → moved_by p ends ≡ Some q → IsFitting calls q (sum_of W64 v (Number n))
+moved_fits calls Unset q b v n is_p h w clear ends ends_are m = absurd (cc)
+moved_fits calls (Num a) q b v n is_p h w clear ends ends_are m = absurd (cc)
+moved_fits calls (May c) q b v n is_p h w clear ends ends_are m = absurd (cc)
+moved_fits calls (Stk k) q b v n is_p h w clear None ends_are m = absurd (cc)
+moved_fits calls (Ctx a d) q b v n is_p h w clear None ends_are m = absurd (cc)
+moved_fits calls (Ob c a d) q b v n is_p h w clear None ends_are m = absurd (cc)
+moved_fits calls (Stk k) q b (Pointer Stack j) n is_p h w clear (Some ends) ends_are m =
     let one = one_end (moved_end k ends.0) Stk q m in
     let near = near_end k ends.0 one.0 one.1 in
     let reading = constant_reading b n ends clear w ends_are in
     let lands : j +ℤ signed_of n ≡ one.0 = ap (λ (z : ℤ). z +ℤ signed_of n) h ∙ ap (λ (z : ℤ). k +ℤ z) reading ∙ sym near.0 in
-    record { v = Pointer Stack (j +ℤ signed_of n); is = refl; fits = near_fits (j +ℤ signed_of n) (rw lands near.1); of = subst (λ (u : Abs). IsOf u (Some (Pointer Stack (j +ℤ signed_of n)))) one.2 lands }
-moved_fits (Ctx a d) q b (Pointer Context j) n is_p h w clear (Some ends) ends_are m =
+    record { v = Pointer Stack (j +ℤ signed_of n); is = refl; fits = near_fits (j +ℤ signed_of n) (rw lands near.1); of = subst (λ (u : Abs). IsOf calls u (Some (Pointer Stack (j +ℤ signed_of n)))) one.2 lands }
+moved_fits calls (Ctx a d) q b (Pointer Context j) n is_p h w clear (Some ends) ends_are m =
     let two = two_ends (moved_end a ends.0) (moved_end d ends.1) Ctx q m in
     let near = near_end a ends.0 two.0 two.2 in
     let far = near_end d ends.1 two.1 two.3 in
     let reading = signed_between b n ends w ends_are in
     let inside = moved_between a d j ends.0 ends.1 (signed_of n) two.0 two.1 near.0 far.0 h.0 h.1 reading.0 reading.1 in
-    record { v = Pointer Context (j +ℤ signed_of n); is = refl; fits = near_fits (j +ℤ signed_of n) (between_near two.0 two.1 (j +ℤ signed_of n) near.1 far.1 inside.0 inside.1); of = subst (λ (u : Abs). IsOf u (Some (Pointer Context (j +ℤ signed_of n)))) two.4 inside }
-moved_fits (Ob c a d) q b (Pointer (Object at) j) n is_p h w clear (Some ends) ends_are m =
+    record { v = Pointer Context (j +ℤ signed_of n); is = refl; fits = near_fits (j +ℤ signed_of n) (between_near two.0 two.1 (j +ℤ signed_of n) near.1 far.1 inside.0 inside.1); of = subst (λ (u : Abs). IsOf calls u (Some (Pointer Context (j +ℤ signed_of n)))) two.4 inside }
+moved_fits calls (Ob c a d) q b (Pointer (Object at) j) n is_p h w clear (Some ends) ends_are m =
     let two = two_ends (moved_end a ends.0) (moved_end d ends.1) (Ob c) q m in
     let near = near_end a ends.0 two.0 two.2 in
     let far = near_end d ends.1 two.1 two.3 in
     let reading = signed_between b n ends w ends_are in
     let inside = moved_between a d j ends.0 ends.1 (signed_of n) two.0 two.1 near.0 far.0 h.1 h.2 reading.0 reading.1 in
-    record { v = Pointer (Object at) (j +ℤ signed_of n); is = refl; fits = near_fits (j +ℤ signed_of n) (between_near two.0 two.1 (j +ℤ signed_of n) near.1 far.1 inside.0 inside.1); of = subst (λ (u : Abs). IsOf u (Some (Pointer (Object at) (j +ℤ signed_of n)))) two.4 (h.0, inside.0, inside.1) }
-moved_fits (Stk k) q b _ n is_p h w clear (Some ends) ends_are m = absurd h
-moved_fits (Ctx a d) q b _ n is_p h w clear (Some ends) ends_are m = absurd h
-moved_fits (Ob c a d) q b _ n is_p h w clear (Some ends) ends_are m = absurd h
+    record { v = Pointer (Object at) (j +ℤ signed_of n); is = refl; fits = near_fits (j +ℤ signed_of n) (between_near two.0 two.1 (j +ℤ signed_of n) near.1 far.1 inside.0 inside.1); of = subst (λ (u : Abs). IsOf calls u (Some (Pointer (Object at) (j +ℤ signed_of n)))) two.4 (h.0, inside.0, inside.1, h.3) }
+moved_fits calls (Stk k) q b _ n is_p h w clear (Some ends) ends_are m = absurd h
+moved_fits calls (Ctx a d) q b _ n is_p h w clear (Some ends) ends_are m = absurd h
+moved_fits calls (Ob c a d) q b _ n is_p h w clear (Some ends) ends_are m = absurd h

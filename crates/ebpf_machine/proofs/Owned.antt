@@ -6,6 +6,7 @@ use Rattle.ebpf_machine.specs.Values.{Frame}
 use Rattle.ebpf_machine.specs.Effect.{Effect, Goes, Ends, Traps}
 use Rattle.ebpf_machine.specs.World.{Name, World, Running, Answer, kinds_of}
 use Rattle.ebpf_machine.specs.Events.{done_by, started}
+use Rattle.ebpf_machine.specs.Alone.{alone_first}
 use Rattle.ebpf_machine.specs.View.{view_in}
 use Rattle.ebpf_machine.specs.Sound.{IsOwned, HasPointer}
 use Rattle.ebpf_machine.proofs.Acts.{IsOwnEffect}
@@ -21,3 +22,6 @@ owned_done w run r e answer owned there own forward = ?
 
 pub owned_started : (w : World) (subject : Subject) (context : List ℕ) → IsOwned w → kinds_of subject.rows ≡ w.kinds → IsOwned (started subject context w)
 owned_started w subject context owned kinds = ?
+
+pub owned_first : (subject : Subject) (context : List ℕ) → IsOwned (alone_first subject context).world
+owned_first subject context = ?

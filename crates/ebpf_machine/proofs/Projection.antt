@@ -17,15 +17,10 @@ use Rattle.ebpf_verify.specs.Rules.{is_frame_pointer}
 use Rattle.ebpf_machine.specs.declared.value.Value.{Value}
 use Rattle.ebpf_machine.specs.declared.value.Value.TheVariants.{Number, Pointer}
 use Rattle.ebpf_machine.specs.Values.{Trap, FramePointerWritten, Leak, Frame, read, source_value}
-use Rattle.ebpf_machine.specs.Effect.{Effect, Goes, Ends, Traps, effect, moved_value, sum_of, sum_value, alu_value, with_value, written, exits, result_number}
+use Rattle.ebpf_machine.specs.Effect.{Around, Nothing, Effect, Goes, Ends, Traps, effect, moved_value, sum_of, sum_value, alu_value, with_value, written, exits, result_number}
 use Rattle.ebpf_machine.specs.World.{Name}
-use Rattle.ebpf_machine.specs.RunView.{value_seen, register_seen, frame_seen}
-
--- what a run sees of an effect
-abbrev pub effect_seen : Effect Name → Effect ℕ
-effect_seen (Goes to frame) = Goes to (frame_seen frame)
-effect_seen (Ends n) = Ends n
-effect_seen (Traps trap) = Traps trap
+use Rattle.ebpf_machine.specs.View.{value_seen, register_seen, frame_seen}
+use Rattle.ebpf_machine.proofs.Acts.{effect_seen}
 
 abbrev pub result_seen : Result (Value Name) Trap → Result (Value ℕ) Trap
 result_seen (Ok v) = Ok (value_seen v)
@@ -78,7 +73,7 @@ alu-seen width _ x y = refl
 with_value-seen : (frame : Frame Name) (dst : Reg) (v : Value Name) → with_value (frame_seen frame) dst (value_seen v) ≡ frame_seen (with_value frame dst v)
 with_value-seen frame dst v = ap (λ (regs : List (Option (Value ℕ))). record (frame_seen frame) { registers = regs }) (sym (set-seen frame.registers (number_of dst) v))
 
-chosen-seen : (t : Bool) (trap : Trap) (to : ℕ) (frame : Frame Name) → cond t (Traps trap) (Goes to (frame_seen frame)) ≡ effect_seen (cond t (Traps trap) (Goes to frame))
+chosen-seen : (t : Bool) (trap : Trap) (to : ℕ) (frame : Frame Name) → cond t (Traps trap) (Goes Nothing to (frame_seen frame)) ≡ effect_seen (cond t (Traps trap) (Goes Nothing to frame))
 chosen-seen true trap to frame = refl
 chosen-seen false trap to frame = refl
 
@@ -98,8 +93,9 @@ exits-seen : (holds : ℕ) (x : Option (Value Name)) → exits holds (register_s
 exits-seen holds None = refl
 exits-seen holds (Some v) = rw (number-seen v) (leaks-seen (nat_lt 0 holds) Leak (result_number v))
 
-pub effect-seen : (i : Insn) (pc holds : ℕ) (frame : Frame Name) → effect i pc holds (frame_seen frame) ≡ effect_seen (effect i pc holds frame)
-effect-seen (insn.Alu width o dst src) pc holds frame =
+-- an effect of the run is the effect as it sees itself, where it holds as many objects on both sides
+pub effect-seen : (i : Insn) (pc : ℕ) (a : Around Name) (b : Around ℕ) (frame : Frame Name) → b.holds ≡ a.holds → effect i pc b (frame_seen frame) ≡ effect_seen (effect i pc a frame)
+effect-seen (insn.Alu width o dst src) pc a b frame same =
     rw (read-seen frame dst, source-seen frame width src, alu-seen width o (read frame dst) (source_value frame width src)) (written-seen (pc + slots_in (insn.Alu width o dst src)) frame dst (alu_value width o (read frame dst) (source_value frame width src)))
-effect-seen insn.Exit pc holds frame = rw (read-seen frame R0) (exits-seen holds (read frame R0))
-effect-seen _ pc holds frame = refl
+effect-seen insn.Exit pc a b frame same = rw (read-seen frame R0, same) (exits-seen a.holds (read frame R0))
+effect-seen _ pc a b frame same = refl

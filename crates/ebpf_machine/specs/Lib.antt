@@ -9,4 +9,5 @@ pub mod RunState
 pub mod Concretization
 pub mod Sound
 pub mod Step
+pub mod Flows
 pub mod Turns

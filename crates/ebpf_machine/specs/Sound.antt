@@ -16,6 +16,7 @@ use Rattle.ebpf_machine.specs.Effect.{Effect, Goes, Ends, Traps}
 use Rattle.ebpf_machine.specs.World.{Name, Status, Going, Exited, Trapped, World, Running, Told, Owner, Holder, Run, kinds_of, image_at, is_in, is_home, kind_in}
 use Rattle.ebpf_machine.specs.Alone.{alone_after}
 use Rattle.ebpf_machine.specs.View.{RunView, view_in}
+use Rattle.ebpf_machine.specs.RunState.{RunState, seen}
 use Rattle.ebpf_machine.specs.Concretization.{Arrives}
 
 -- ---- one instruction
@@ -63,6 +64,12 @@ pub record IsSound (v : RunView) : Type 0 where
 -- it is what the run alone is after as many instructions, with its own replies
 abbrev pub IsAlone : RunView → Type 0
 IsAlone v = view_in (alone_after v.executed v.subject v.context v.replies).world 0 ≡ Some v
+
+-- a run as it is kept: whatever bytes its objects have it is sound, its peak is that of the run alone
+pub record IsRun {H : Type 0} (r : RunState H) : Type 0 where
+  pub sound : (bytes : H → List ℕ) → IsSound (seen bytes r)
+  pub peak : (alone_after r.executed r.subject r.context r.replies).peak ≡ r.peak
+  pub most : length r.held ≤ r.peak
 
 -- ---- owners, ledgers and pointers of a world fit together
 
