@@ -111,6 +111,7 @@ objects_given w run name bytes owned own =
   where
     stays : Owner → Bool
     stays o = not (call_of o.holder == name.1)
+
     kept : (o : Owner) → Contains (filter stays (held_by w run)) o → object_in (with_bytes name.0 bytes w) o ≡ object_in w o
     kept o among =
         let parts = Contains-filter stays (held_by w run) o among in
@@ -175,12 +176,16 @@ granted_seen w run r slot to kind frame owned there home kind_is =
   where
     now : Running
     now = replied kind reply.Granted (Pointer (Object (slot, r.pc)) (pos 0)) to frame r
+
     after : World
     after = with_owner slot (Run run r.pc) (with_bytes slot (image_at w.kinds kind) (with_run w run now))
+
     seen_now : RunView
     seen_now = record (view.replied reply.Granted (Pointer (Object r.pc) (pos 0)) to (frame_seen frame) (view_of w run r)) { objects = objects_of w run ++ new_object (view_of w run r) kind ∷ [] }
+
     seen_by : Bool → RunView
     seen_by t = cond t (view.trapped TooManyObjects (view_of w run r)) seen_now
+
     by : (t : Bool) → view_in (cond t (with_run w run (trapped TooManyObjects r)) after) run ≡ Some (seen_by t)
     by true = own_seen (with_run w run (trapped TooManyObjects r)) run w.runs r (trapped TooManyObjects r) there refl
     by false =
@@ -216,8 +221,10 @@ others_taken : (w : World) (run other : ℕ) (r : Running) (slot to kind : ℕ) 
 others_taken w run other r slot to kind frame home ne = by (nat_le r.subject.decl.held (holds_of w run)) where
   now : Running
   now = replied kind reply.Granted (Pointer (Object (slot, r.pc)) (pos 0)) to frame r
+
   after : World
   after = with_owner slot (Run run r.pc) (with_bytes slot (image_at w.kinds kind) (with_run w run now))
+
   by : (t : Bool) → view_in (cond t (with_run w run (trapped TooManyObjects r)) after) other ≡ view_in w other
   by true = other_seen (with_run w run (trapped TooManyObjects r)) w run other (trapped TooManyObjects r) ne refl refl
   by false = other_seen after w run other now ne refl (others_unchanged w run other r.pc slot (image_at w.kinds kind) home ne)
@@ -245,6 +252,7 @@ others_held : (w : World) (run other : ℕ) (r : Running) (slot to kind : ℕ) (
 others_held w run other r slot to kind frame ne = by (nat_le r.subject.decl.held (holds_of w run)) where
   now : Running
   now = replied kind reply.Granted (Pointer (Object (slot, r.pc)) (pos 0)) to frame r
+
   by : (t : Bool) → held_by (cond t (with_run w run (trapped TooManyObjects r)) (with_owner slot (Run run r.pc) (with_bytes slot (image_at w.kinds kind) (with_run w run now)))) other ≡ held_by w other
   by true = refl
   by false = others_granted w run other r.pc slot ne
@@ -275,8 +283,10 @@ slots_granted : (w : World) (run : ℕ) (r : Running) (slot to kind : ℕ) (fram
 slots_granted w run r slot to kind frame = by (nat_le r.subject.decl.held (holds_of w run)) ∙ ap (λ (n : ℕ). slots_by (nat_le r.subject.decl.held n)) (sym (length-map (held_by w run) slot_held)) where
   now : Running
   now = replied kind reply.Granted (Pointer (Object (slot, r.pc)) (pos 0)) to frame r
+
   slots_by : Bool → List Name
   slots_by t = cond t (slots_in w run) (slots_in w run ++ (slot, r.pc) ∷ [])
+
   by : (t : Bool) → slots_in (cond t (with_run w run (trapped TooManyObjects r)) (with_owner slot (Run run r.pc) (with_bytes slot (image_at w.kinds kind) (with_run w run now)))) run ≡ slots_by t
   by true = refl
   by false = ap (map slot_held) (held_granted w run r.pc slot) ∙ map_push slot_held (held_by w run) (owner_of run (slot, r.pc))

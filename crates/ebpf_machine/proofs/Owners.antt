@@ -90,6 +90,7 @@ held_given w run name owned own =
   where
     is_its : (o : Owner) → Contains w.owners o → is_run run o.holder ≡ true → (call_of o.holder == name.1) ≡ true → (o.slot == name.0) ≡ true
     is_its o among mine named = eq-eqb o.slot name.0 (slot_of_call w run name o owned own among (is_run-own run o.holder mine ∙ ap (λ (n : ℕ). Run run n) (eqb-true (call_of o.holder) name.1 named)))
+
     alike : (o : Owner) → Contains w.owners o → (not ((o.slot == name.0) && is_call run name.1 o.holder) && is_run run o.holder) ≡ (is_run run o.holder && not (call_of o.holder == name.1))
     alike o among =
         ap (λ (t : Bool). not ((o.slot == name.0) && t) && is_run run o.holder) (is_call-parts run name.1 o.holder)
