@@ -1,7 +1,8 @@
 -- Lists: an element by its place after a write, two lists that agree at each element, what a filter keeps, and what a count tells.
-use Rattle.std.proofs.Common.{◌≡◌, ◌≢◌, ◌⊎◌, inl, inr, ⊎_elim, ℕ, zero, suc, ◌+◌, ◌<◌, ◌≤◌, Bool, true, false, cond, not, ◌&&◌, List, [], ◌∷◌, ◌++◌, length, map, filter, count_by, sum_by, get_or, Option, Some, None, All, refl, sym, ap, ◌∙◌, subst, arith}
+use Rattle.std.proofs.Common.{◌≡◌, ◌≢◌, ◌⊎◌, inl, inr, ⊎_elim, ℕ, zero, suc, ◌+◌, ◌<◌, ◌≤◌, Bool, true, false, cond, not, ◌&&◌, ◌||◌, List, [], ◌∷◌, ◌++◌, length, map, filter, count_by, sum_by, get_or, Option, Some, None, All, refl, sym, ap, ◌∙◌, subst, arith}
 use Rattle.std.specs.Prelude.{Contains, slice_get, slice_set}
-use Rattle.std.proofs.lemmas.Bool.{cases_eq, cases_Bool}
+use Rattle.std.specs.List.{list_any}
+use Rattle.std.proofs.lemmas.Bool.{cases_eq, or_parts}
 use Rattle.std.proofs.lemmas.List.Elements.{All-contains, All-contains_itself, All-filter, All-set, All-weaker, Contains-get_or, filter_passes}
 use Rattle.std.proofs.lemmas.List.Filters.{sum_by-filter_both}
 use Rattle.std.proofs.lemmas.List.Sums.{sum_by-cons}
@@ -123,3 +124,18 @@ only_one p (z ∷ xs) zero zero x y li lj ei ej px py most = sym ei ∙ ej
 only_one p (z ∷ xs) zero (suc j) x y li lj ei ej px py most = absurd (omega (arith, counted_once p z xs (ap p ei ∙ px), counted p xs j y (omega arith) ej py))
 only_one p (z ∷ xs) (suc i) zero x y li lj ei ej px py most = absurd (omega (arith, counted_once p z xs (ap p ej ∙ py), counted p xs i x (omega arith) ei px))
 only_one p (z ∷ xs) (suc i) (suc j) x y li lj ei ej px py most = only_one p xs i j x y (omega arith) (omega arith) ei ej px py (omega (arith, counted_less p z xs))
+
+-- a filter that keeps all that passes a test
+pub list_any-filter : {X : Type 0} (p q : X → Bool) (xs : List X) → ((x : X) → p x ≡ true → q x ≡ true) → list_any p (filter q xs) ≡ list_any p xs
+list_any-filter p q [] h = refl
+list_any-filter {X} p q (x ∷ xs) h = by (p x) (q x) refl (h x) (list_any-filter p q xs h) where
+  by : (s t : Bool) → p x ≡ s → (s ≡ true → t ≡ true) → list_any p (filter q xs) ≡ list_any p xs → list_any p (cond t (x ∷ filter q xs) (filter q xs)) ≡ (s || list_any p xs)
+  by s true e passes rest = ap (λ (b : Bool). b || list_any p (filter q xs)) e ∙ ap (λ (b : Bool). s || b) rest
+  by true false e passes rest = let no = passes refl in absurd (cc)
+  by false false e passes rest = rest
+
+pub none_counted : {X : Type 0} (p : X → Bool) (xs : List X) → list_any p xs ≡ false → count_by p xs ≡ 0
+none_counted p [] none = refl
+none_counted p (x ∷ xs) none =
+    let parts = or_parts (p x) (list_any p xs) none in
+    sum_by-cons (λ y. cond (p y) 1 0) x xs ∙ ap (λ b. cond b 1 0 + count_by p xs) parts.0 ∙ omega (arith, none_counted p xs parts.1)
