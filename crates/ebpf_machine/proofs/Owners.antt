@@ -17,7 +17,7 @@ owner_of run name = record { slot = name.0; holder = Run run name.1 }
 
 -- ---- holders
 
-abbrev run_of : Holder → ℕ
+abbrev pub run_of : Holder → ℕ
 run_of (Run run at) = run
 
 is_run-own : (run : ℕ) (h : Holder) → is_run run h ≡ true → h ≡ Run run (call_of h)
