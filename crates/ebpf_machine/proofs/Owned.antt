@@ -3,7 +3,6 @@ use Rattle.std.proofs.Common.{◌≡◌, ◌≢◌, ◌⊎◌, inl, inr, ℕ, �
 use Rattle.std.specs.Prelude.{Contains, slice_get, nat_le}
 use Rattle.std.proofs.lemmas.List.{length-append, length-take, length-drop}
 use Rattle.std.proofs.lemmas.List.Elements.{Contains-append_left, Contains-push}
-use Rattle.ebpf_insn.specs.declared.register.Reg.TheVariants.{R0}
 use Rattle.ebpf_verify.specs.Subject.{Subject}
 use Rattle.ebpf_machine.specs.declared.value.Value.{Value}
 use Rattle.ebpf_machine.specs.declared.value.Value.TheVariants.{Number, Pointer}
@@ -12,14 +11,14 @@ use Rattle.ebpf_machine.specs.declared.report.Reply.{Reply}
 use Rattle.ebpf_machine.specs.declared.report.Reply.TheVariants as reply
 use Rattle.ebpf_machine.specs.Bytes.{patched}
 use Rattle.ebpf_machine.specs.Values.{Frame, TooManyObjects}
-use Rattle.ebpf_machine.specs.Effect.{Effect, Goes, Ends, Traps, Nothing, Write, Take, Give, with_value}
+use Rattle.ebpf_machine.specs.Effect.{Effect, Goes, Ends, Traps, Nothing, Write, Take, Give}
 use Rattle.ebpf_machine.specs.World.{Name, World, Running, Told, Owner, Run, Answer, Absent, Null, Slot, is_in, is_home, holds_of, ledger_of, kind_in, kinds_of, image_at, first_run}
 use Rattle.ebpf_machine.specs.Events.{with_run, with_bytes, with_owner, gone, ended, trapped, replied, granted, done_by, started}
 use Rattle.ebpf_machine.specs.Sound.{IsOwned, IsOfKind, AskedFor, Names, HasPointer, IsTrue}
 use Rattle.ebpf_machine.proofs.ListLemmas.{get_set_same, get_push, get_push_cases}
 use Rattle.ebpf_machine.proofs.Owners.{owner_of}
 use Rattle.ebpf_machine.proofs.ObjectPointers.{pointer_written, no_first_pointer}
-use Rattle.ebpf_machine.proofs.OwnedParts.{IsLater, same_run, of_kind_same, true_same, owned_running, owned_bytes, owned_given, owned_granted}
+use Rattle.ebpf_machine.proofs.OwnedParts.{IsLater, same_run, true_same, owned_running, owned_bytes, owned_given, owned_granted}
 use Rattle.ebpf_machine.proofs.Acts.{IsOwnEffect}
 
 -- an instruction leads forward, and makes no pointer to an object that its run had none to
@@ -51,6 +50,7 @@ owned_null : (w : World) (run : ℕ) (r : Running) (kind to : ℕ) (frame : Fram
 owned_null w run r kind to frame owned there forward fewer = owned_running w run r now owned there (later_replied r kind to reply.Null (Number 0) frame forward) (λ n has. by n (pointer_written frame (Number 0) n has)) where
   now : Running
   now = replied kind reply.Null (Number 0) to frame r
+
   by : (n : Name) → HasPointer frame n ⊎ Names (Some (Number 0)) n → IsTrue w run now n
   by n (inl has) = true_later w run r now n (omega arith) (owned.pointers run r there n (fewer n has))
   by n (inr named) = absurd named
@@ -69,30 +69,38 @@ owned_taken : (w : World) (run : ℕ) (r : Running) (slot kind to : ℕ) (frame 
 owned_taken w run r slot kind to frame owned there home of_kind forward fewer = by (nat_le r.subject.decl.held (holds_of w run)) where
   now : Running
   now = replied kind reply.Granted (Pointer (Object (slot, r.pc)) (pos 0)) to frame r
+
   next : World
   next = with_run w run now
+
   -- a pointer that the run has then is an older one, or the new one
   cases : (n : Name) → HasPointer now.frame n → (HasPointer r.frame n) ⊎ ((slot, r.pc) ≡ n)
   cases n has = old_or_new n (pointer_written frame (Pointer (Object (slot, r.pc)) (pos 0)) n has) where
     old_or_new : (n : Name) → HasPointer frame n ⊎ Names (Some (Pointer (Object (slot, r.pc)) (pos 0))) n → (HasPointer r.frame n) ⊎ ((slot, r.pc) ≡ n)
     old_or_new n (inl old) = inl (fewer n old)
     old_or_new n (inr new) = inr new
+
   true_now : (n : Name) → (HasPointer r.frame n) ⊎ ((slot, r.pc) ≡ n) → IsTrue w run now n
   true_now n (inl old) = true_later w run r now n (omega arith) (owned.pointers run r there n old)
   true_now n (inr new) =
       let call : r.pc ≡ n.1 = ap (λ (m : Name). m.1) new in
       record { behind = omega arith; slot = λ o among e. absurd (nothing_yet w run r o owned there among (e ∙ ap (λ (k : ℕ). Run run k) (sym call))) }
+
   points : (n : Name) → (HasPointer r.frame n) ⊎ ((slot, r.pc) ≡ n) → n.1 ≡ r.pc → n.0 ≡ slot
   points n (inl old) e = let behind = (owned.pointers run r there n old).behind in absurd (omega (arith, e))
   points n (inr new) e = ap (λ (m : Name). m.0) (sym new)
+
   points_in : (x : Running) (n : Name) → slice_get next.runs run ≡ Some x → HasPointer x.frame n → n.1 ≡ r.pc → n.0 ≡ slot
   points_in x n at has e =
       let same = same_run next run now x (get_set_same w.runs run r now there) at in
       points n (cases n (subst (λ (y : Running). HasPointer y.frame n) same has)) e
+
   asked : AskedFor next run r.pc kind
   asked = record { asker = now; there = get_set_same w.runs run r now there; behind = forward; told = Contains-push r.told (record { at = r.pc; kind = kind; reply = reply.Granted }) }
+
   owned_next : IsOwned next
   owned_next = owned_running w run r now owned there (later_replied r kind to reply.Granted (Pointer (Object (slot, r.pc)) (pos 0)) frame forward) (λ n has. true_now n (cases n has))
+
   by : (t : Bool) → IsOwned (cond t (with_run w run (trapped TooManyObjects r)) (with_owner slot (Run run r.pc) (with_bytes slot (image_at w.kinds kind) (with_run w run now))))
   by true = owned_stays w run r (trapped TooManyObjects r) owned there refl refl refl refl
   by false = owned_granted next run r.pc slot kind owned_next home of_kind asked (λ o among. nothing_yet w run r o owned there among) points_in
@@ -136,6 +144,7 @@ owned_started w subject context owned kinds = record {
     kinds_in : (k : ℕ) (x : Running) → (slice_get w.runs k ≡ Some x) ⊎ (first_run subject context ≡ x) → kinds_of x.subject.rows ≡ w.kinds
     kinds_in k x (inl at) = owned.kinds_are k x at
     kinds_in k x (inr same) = ap (λ (y : Running). kinds_of y.subject.rows) (sym same) ∙ kinds
+
     true_in : (k : ℕ) (x : Running) (n : Name) → HasPointer x.frame n → (slice_get w.runs k ≡ Some x) ⊎ (first_run subject context ≡ x) → IsTrue (started subject context w) k x n
     true_in k x n has (inl at) = true_same w (started subject context w) k x n (λ o among. among) (owned.pointers k x at n has)
     true_in k x n has (inr same) = absurd (no_first_pointer n (subst (λ (y : Running). HasPointer y.frame n) (sym same) has))

@@ -1,13 +1,13 @@
 -- Owners, ledgers and pointers still fit together where one part of a world changes: a run, the bytes of a slot, or who owns one.
-use Rattle.std.proofs.Common.{◌≡◌, ◌≢◌, ◌⊎◌, inl, inr, ℕ, ◌+◌, ◌<◌, ◌≤◌, Bool, true, false, cond, not, ◌&&◌, ◌||◌, List, [], ◌∷◌, ◌++◌, length, filter, count_by, Some, refl, sym, ap, ◌∙◌, subst, arith}
+use Rattle.std.proofs.Common.{◌≡◌, ◌≢◌, ◌⊎◌, inl, inr, ℕ, ◌+◌, ◌<◌, ◌≤◌, Bool, true, false, cond, not, ◌&&◌, List, [], ◌∷◌, ◌++◌, length, filter, count_by, Some, refl, sym, ap, ◌∙◌, subst, arith}
 use Rattle.std.specs.Prelude.{Contains, slice_get, ◌==◌}
 use Rattle.std.specs.List.{list_any}
-use Rattle.std.proofs.lemmas.Bool.{cases_eq, cases_Bool, eqb-true, eqb-false, eq-eqb, ne_eqb, and_parts, and_from, not-true, not_from_false, or_parts}
+use Rattle.std.proofs.lemmas.Bool.{cases_eq, eqb-true, eqb-false, eq-eqb, ne_eqb, and_parts, and_from, not-true, not_from_false, or_parts}
 use Rattle.std.proofs.lemmas.List.Elements.{Contains-push_cases}
 use Rattle.std.proofs.lemmas.List.Folds.{list_any-append}
 use Rattle.std.proofs.lemmas.List.Sums.{sum_by_push}
 use Rattle.ebpf_verify.specs.Subject.{Subject}
-use Rattle.ebpf_machine.specs.World.{Name, World, Running, Told, Owner, Holder, Run, is_in, is_in_ledger, is_owned, is_home, is_run, is_call, ledger_of, kinds_of, image_at, kind_in}
+use Rattle.ebpf_machine.specs.World.{Name, World, Running, Told, Owner, Holder, Run, is_in, is_in_ledger, is_owned, is_home, is_call, ledger_of, kinds_of, image_at, kind_in}
 use Rattle.ebpf_machine.specs.Events.{with_run, with_bytes, with_owner, without_owner}
 use Rattle.ebpf_machine.specs.View.{call_of}
 use Rattle.ebpf_machine.specs.Sound.{IsOwned, IsOfKind, AskedFor, HasPointer, IsTrue}
@@ -63,6 +63,7 @@ owned_running w run r now owned there later true_now = record {
     kinds : (k : ℕ) (x : Running) → ((k ≡ run) × (now ≡ x)) ⊎ ((k ≢ run) × (slice_get w.runs k ≡ Some x)) → kinds_of x.subject.rows ≡ w.kinds
     kinds k x (inl e) = ap (λ (y : Running). kinds_of y.subject.rows) (sym e.1) ∙ ap (λ (s : Subject). kinds_of s.rows) later.subject ∙ owned.kinds_are run r there
     kinds k x (inr at) = owned.kinds_are k x at.1
+
     true_in : (k : ℕ) (x : Running) (n : Name) → HasPointer x.frame n → ((k ≡ run) × (now ≡ x)) ⊎ ((k ≢ run) × (slice_get w.runs k ≡ Some x)) → IsTrue (with_run w run now) k x n
     true_in k x n has (inl e) =
         let here = true_now n (subst (λ (y : Running). HasPointer y.frame n) (sym e.1) has) in
@@ -87,6 +88,7 @@ owned_bytes w slot bytes p owned own is as_long = record {
   where
     elsewhere : (s : ℕ) → is_home w s ≡ true → cond (s == slot) bytes (w.bytes s) ≡ image_at w.kinds (kind_in w s)
     elsewhere s home = let apart = ne_eqb s slot (λ e. not_home w p s home own (is ∙ sym e)) in rw apart (owned.imaged s home)
+
     long : (o : Owner) → Contains w.owners o → (o.slot ≡ slot) ⊎ (o.slot ≢ slot) → length (cond (o.slot == slot) bytes (w.bytes o.slot)) ≡ length (image_at w.kinds (kind_in w o.slot))
     long o among (inl e) = let here = eq-eqb o.slot slot e in rw here (as_long ∙ ap (λ (s : ℕ). length (w.bytes s)) (sym e) ∙ owned.sized o among)
     long o among (inr ne) = let apart = ne_eqb o.slot slot ne in rw apart (owned.sized o among)
@@ -109,12 +111,16 @@ owned_given w run name owned own = record {
   where
     stays : Owner → Bool
     stays o = not ((o.slot == name.0) && is_call run name.1 o.holder)
+
     after : World
     after = with_bytes name.0 (image_at w.kinds (kind_in w name.0)) (without_owner run name w)
+
     was : (o : Owner) → Contains (filter stays w.owners) o → Contains w.owners o
     was o among = (Contains-filter stays w.owners o among).0
+
     named : (h : Holder) → h ≡ Run run name.1 → is_call run name.1 h ≡ true
     named h e = ap (is_call run name.1) e ∙ and_from (run == run) (name.1 == name.1) (eq-eqb run run refl) (eq-eqb name.1 name.1 refl)
+
     other : (o : Owner) → Contains (filter stays w.owners) o → o.slot ≢ name.0
     other o among e =
         let here = eq-eqb o.slot name.0 e in
@@ -122,6 +128,7 @@ owned_given w run name owned own = record {
         let stayed : not ((o.slot == name.0) && is_call run name.1 o.holder) ≡ true = (Contains-filter stays w.owners o among).1 in
         let gone : not ((o.slot == name.0) && is_call run name.1 o.holder) ≡ false = rw (here, its) refl in
         absurd (cc)
+
     still : (s : ℕ) → s ≢ name.0 → is_home after s ≡ true → is_home w s ≡ true
     still s ne home =
         let parts = and_parts (is_in_ledger w s) (not (is_owned after s)) home in
@@ -130,6 +137,7 @@ owned_given w run name owned own = record {
       where
         stays_there : (s : ℕ) → s ≢ name.0 → (o : Owner) → (o.slot == s) ≡ true → stays o ≡ true
         stays_there s ne o here = let apart = ne_eqb o.slot name.0 (λ e. ne (sym (eqb-true o.slot s here) ∙ e)) in rw apart refl
+
     image : (s : ℕ) → is_home after s ≡ true → (s ≡ name.0) ⊎ (s ≢ name.0) → cond (s == name.0) (image_at w.kinds (kind_in w name.0)) (w.bytes s) ≡ image_at w.kinds (kind_in w s)
     image s home (inl e) = let here = eq-eqb s name.0 e in rw here (ap (λ (m : ℕ). image_at w.kinds (kind_in w m)) (sym e))
     image s home (inr ne) = let apart = ne_eqb s name.0 ne in rw apart (owned.imaged s (still s ne home))
@@ -139,8 +147,8 @@ owned_given w run name owned own = record {
 added : (w : World) (run at slot : ℕ) (o : Owner) → Contains (w.owners ++ owner_of run (slot, at) ∷ []) o → Contains w.owners o ⊎ (owner_of run (slot, at) ≡ o)
 added w run at slot o among = Contains-push_cases w.owners (owner_of run (slot, at)) o among
 
-nobody's : (w : World) (slot : ℕ) → is_home w slot ≡ true → is_owned w slot ≡ false
-nobody's w slot home = not-true (is_owned w slot) (and_parts (is_in_ledger w slot) (not (is_owned w slot)) home).1
+unowned : (w : World) (slot : ℕ) → is_home w slot ≡ true → is_owned w slot ≡ false
+unowned w slot home = not-true (is_owned w slot) (and_parts (is_in_ledger w slot) (not (is_owned w slot)) home).1
 
 -- a slot is home after it, where it was so before and isn't the one that was granted
 still_home : (w : World) (run at slot s : ℕ) → is_home (with_owner slot (Run run at) w) s ≡ true → (is_home w s ≡ true) × (s ≢ slot)
@@ -157,10 +165,11 @@ counted_more : (w : World) (run at slot s : ℕ) → IsOwned w → is_home w slo
 counted_more w run at slot s owned home = by (cases_eq slot s) where
   more : count_by (λ (o : Owner). o.slot == s) (w.owners ++ owner_of run (slot, at) ∷ []) ≡ count_by (λ (o : Owner). o.slot == s) w.owners + cond (slot == s) 1 0
   more = sum_by_push (λ (o : Owner). cond (o.slot == s) 1 0) w.owners (owner_of run (slot, at))
+
   by : (slot ≡ s) ⊎ (slot ≢ s) → count_by (λ (o : Owner). o.slot == s) (w.owners ++ owner_of run (slot, at) ∷ []) ≤ 1
   by (inl e) =
       let here = more ∙ ap (λ (b : Bool). count_by (λ (o : Owner). o.slot == s) w.owners + cond b 1 0) (eq-eqb slot s e) in
-      omega (arith, here, none_counted (λ (o : Owner). o.slot == s) w.owners (ap (is_owned w) (sym e) ∙ nobody's w slot home))
+      omega (arith, here, none_counted (λ (o : Owner). o.slot == s) w.owners (ap (is_owned w) (sym e) ∙ unowned w slot home))
   by (inr ne) =
       let here = more ∙ ap (λ (b : Bool). count_by (λ (o : Owner). o.slot == s) w.owners + cond b 1 0) (ne_eqb slot s ne) in
       omega (arith, here, owned.once s)
@@ -185,26 +194,34 @@ owned_granted w run at slot kind owned home there asked nothing points = record 
   where
     after : World
     after = with_owner slot (Run run at) (with_bytes slot (image_at w.kinds kind) w)
+
     in_one : (o : Owner) → Contains w.owners o ⊎ (owner_of run (slot, at) ≡ o) → count_by (is_in o.slot) w.ledgers ≡ 1
     in_one o (inl among) = owned.in_ledger o among
     in_one o (inr e) = ap (λ (p : Owner). count_by (is_in p.slot) w.ledgers) (sym e) ∙ in_one_ledger w kind slot owned there
+
     image : (s : ℕ) → (is_home w s ≡ true) × (s ≢ slot) → cond (s == slot) (image_at w.kinds kind) (w.bytes s) ≡ image_at w.kinds (kind_in w s)
     image s h = let apart = ne_eqb s slot h.1 in rw apart (owned.imaged s h.0)
+
     new_long : length (cond (slot == slot) (image_at w.kinds kind) (w.bytes slot)) ≡ length (image_at w.kinds (kind_in w slot))
     new_long = let here = eq-eqb slot slot refl in let of_its = kind_in-ledger w kind slot owned there in rw (here, of_its) refl
+
     long : (o : Owner) → Contains w.owners o ⊎ (owner_of run (slot, at) ≡ o) → length (cond (o.slot == slot) (image_at w.kinds kind) (w.bytes o.slot)) ≡ length (image_at w.kinds (kind_in w o.slot))
     long o (inl among) = let apart = ne_eqb o.slot slot (not_home w o slot home among) in rw apart (owned.sized o among)
     long o (inr e) = subst (λ (p : Owner). length (cond (p.slot == slot) (image_at w.kinds kind) (w.bytes p.slot)) ≡ length (image_at w.kinds (kind_in w p.slot))) e new_long
+
     one : (o p : Owner) → Contains w.owners o ⊎ (owner_of run (slot, at) ≡ o) → Contains w.owners p ⊎ (owner_of run (slot, at) ≡ p) → o.holder ≡ p.holder → o ≡ p
     one o p (inl among) (inl here) e = owned.one_a_call o p among here e
     one o p (inl among) (inr same) e = absurd (nothing o among (e ∙ ap (λ (q : Owner). q.holder) (sym same)))
     one o p (inr same) (inl here) e = absurd (nothing p here (sym e ∙ ap (λ (q : Owner). q.holder) (sym same)))
     one o p (inr same) (inr alike) e = sym same ∙ alike
+
     new_asked : AskedFor w run at (kind_in w slot)
     new_asked = subst (λ (k : ℕ). AskedFor w run at k) (sym (kind_in-ledger w kind slot owned there)) asked
+
     of_kind : (o : Owner) → Contains w.owners o ⊎ (owner_of run (slot, at) ≡ o) → IsOfKind after o.holder (kind_in w o.slot)
     of_kind o (inl among) = of_kind_same w after o.holder (kind_in w o.slot) refl (owned.asked o among)
     of_kind o (inr e) = subst (λ (p : Owner). IsOfKind after p.holder (kind_in w p.slot)) e (of_kind_same w after (Run run at) (kind_in w slot) refl new_asked)
+
     true_in : (k : ℕ) (x : Running) (n : Name) → slice_get w.runs k ≡ Some x → HasPointer x.frame n → IsTrue w k x n → IsTrue after k x n
     true_in k x n seen has h = record { behind = h.behind; slot = λ o among e. to o (added w run at slot o among) e }
       where
