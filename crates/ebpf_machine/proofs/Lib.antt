@@ -4,7 +4,12 @@ pub mod Pointers
 pub mod Operations
 pub mod Additions
 pub mod Soundness
+pub mod ListLemmas
+pub mod Owners
+pub mod ObjectsSeen
 pub mod Acts
+pub mod ObjectPointers
+pub mod OwnedParts
 pub mod Owned
 pub mod Projection
 pub mod Pointing

@@ -194,3 +194,23 @@ outcome_exited v n sound alone ended =
         let output : r.frame.output ≡ v.frame.output = ap (λ (u : RunView). u.frame.output) same in
         let executed : r.executed ≡ v.executed = ap (λ (u : RunView). u.executed) same in
         rw (only, status, output, executed) refl
+
+-- ---- no instruction asks for an object yet, so no reply is used
+
+next_unused : (a : Alone) (these others : List Reply) → IsLone a → alone_next these a ≡ alone_next others a
+next_unused a these others h = by_status h.run.status refl where
+  by_status : (s : Status) → h.run.status ≡ s → alone_next these a ≡ alone_next others a
+  by_status Going e = (next_alone a these h e).1.is ∙ sym (next_alone a others h e).1.is
+  by_status (Exited n) e = ended_next a these h n e ∙ sym (ended_next a others h n e)
+  by_status (Trapped trap) e = absurd (subst (λ (s : Status). IsWellStated s (view_of a.world 0 h.run)) e h.sound.stated)
+
+after_unused : (n : ℕ) (subject : Subject) (context : List ℕ) (these others : List Reply) → IsAccepted subject → alone_after n subject context these ≡ alone_after n subject context others
+unfolding alone_after
+after_unused zero subject context these others accepted = refl
+after_unused (suc n) subject context these others accepted =
+    ap (alone_next these) (after_unused n subject context these others accepted)
+    ∙ next_unused (alone_after n subject context others) these others (lone_after n subject context others accepted)
+
+-- so the outcome is the same with other replies
+pub outcome_any_replies : (subject : Subject) (context : List ℕ) (these others : List Reply) → IsAccepted subject → outcome_alone subject context these ≡ outcome_alone subject context others
+outcome_any_replies subject context these others accepted = ap outcome_of (after_unused (length (instructions subject.program)) subject context these others accepted)
