@@ -109,15 +109,17 @@ quiet_goes_on w run r i after sound at unasked g =
     let effect_is : effect_of_view v ≡ Goes Nothing (r.pc + insn_slots i) (record (frame_seen r.frame) { registers = after }) = ap (λ (o : Option Insn). effect_at o r.pc (around_view v) (frame_seen r.frame)) at ∙ g.does (around_view v) in
     let goes = seen_goes e (r.pc + insn_slots i) _ (seen ∙ effect_is) in
     let plain = plain_goes i r.pc (around w run r) r.frame goes.act (r.pc + insn_slots i) goes.frame goes.is in
-    let is : e ≡ Goes Nothing (r.pc + insn_slots i) goes.frame = goes.is ∙ ap (λ (a : Act Name). Goes a (r.pc + insn_slots i) goes.frame) plain.asks in
-    (Goes Nothing (r.pc + insn_slots i) goes.frame, record {
-      unasked = unasked;
-      does = ap (λ (o : Option Insn). effect_at o r.pc (around w run r) r.frame) at ∙ is;
-      seen = sym (ap effect_seen is) ∙ seen;
-      own = tt;
-      forward = ((falls_forward v i after sound at g).0, plain.pointers);
-      quiet = quiet_goes w run r _ goes.frame;
-    })
+    let is : e ≡ Goes Nothing (r.pc + insn_slots i) goes.frame = goes.is ∙ ap (λ (a : Act Name). Goes a (r.pc + insn_slots i) goes.frame) plain.asks in (
+      Goes Nothing (r.pc + insn_slots i) goes.frame,
+      record {
+        unasked = unasked;
+        does = ap (λ (o : Option Insn). effect_at o r.pc (around w run r) r.frame) at ∙ is;
+        seen = sym (ap effect_seen is) ∙ seen;
+        own = tt;
+        forward = ((falls_forward v i after sound at g).0, plain.pointers);
+        quiet = quiet_goes w run r _ goes.frame;
+      },
+    )
 
 quiet_ends_run : (w : World) (run : ℕ) (r : Running) (i : Insn) (n : ℕ) → insn_at r.subject.program r.pc ≡ Some i → asking_of w r ≡ Unasked → EndsRun (view_of w run r).objects r.pc i (frame_seen r.frame) n → (e : Effect Name) × IsQuietNext w run r e
 quiet_ends_run w run r i n at unasked g =
@@ -125,15 +127,17 @@ quiet_ends_run w run r i n at unasked g =
     let e = effect i r.pc (around w run r) r.frame in
     let seen = seen_effect w run r i at in
     let effect_is : effect_of_view v ≡ Ends n = ap (λ (o : Option Insn). effect_at o r.pc (around_view v) (frame_seen r.frame)) at ∙ g.does (around_view v) (ap (λ (os : List ObjectView). length os) g.none) in
-    let is = seen_ends e n (seen ∙ effect_is) in
-    (Ends n, record {
-      unasked = unasked;
-      does = ap (λ (o : Option Insn). effect_at o r.pc (around w run r) r.frame) at ∙ is;
-      seen = sym (ap effect_seen is) ∙ seen;
-      own = tt;
-      forward = tt;
-      quiet = quiet_ends w run r n;
-    })
+    let is = seen_ends e n (seen ∙ effect_is) in (
+      Ends n,
+      record {
+        unasked = unasked;
+        does = ap (λ (o : Option Insn). effect_at o r.pc (around w run r) r.frame) at ∙ is;
+        seen = sym (ap effect_seen is) ∙ seen;
+        own = tt;
+        forward = tt;
+        quiet = quiet_ends w run r n;
+      },
+    )
 
 -- the next instruction of a sound run asks for nothing
 pub unasked_next : (w : World) (run : ℕ) (r : Running) → IsSound (view_of w run r) → r.status ≡ Going → asking_of w r ≡ Unasked
@@ -156,6 +160,10 @@ next_world w run r owned there sound going = let e = quiet_next w run r sound go
 
 -- ---- one step is one event
 
+-- an event leads to one world
+pub ok_same : (a b : World) (the : Result World Illegal) → the ≡ Ok a → the ≡ Ok b → a ≡ b
+ok_same a b the e f = cc
+
 -- the run of a world that is seen so
 pub shown_run : (w : World) (run : ℕ) (v : RunView) → view_in w run ≡ Some v → (r : Running) × (slice_get w.runs run ≡ Some r) × (view_of w run r ≡ v)
 shown_run w run v e = of_run (slice_get w.runs run) refl where
@@ -169,6 +177,3 @@ step_event v held sound going w after run owned shows slots does =
     let next = next_world w run r.0 owned r.1 (subst IsSound (sym r.2) sound) (ap (λ (u : RunView). u.status) r.2 ∙ going) in
     let same : next.0 ≡ after = ok_same next.0 after (exec w run Absent) next.1.legal does in
     subst (λ (u : World). (view_in u run ≡ Some (stepped Null v)) × (slots_in u run ≡ held)) same (next.1.seen ∙ ap (λ (u : RunView). Some (stepped Null u)) r.2, next.1.slots ∙ slots)
-  where
-    ok_same : (a b : World) → (the : Result World Illegal) → the ≡ Ok a → the ≡ Ok b → a ≡ b
-    ok_same a b the e f = cc

@@ -19,3 +19,4 @@ pub mod Lone
 pub mod Runs
 pub mod Giving
 pub mod Doable
+pub mod KindLemmas

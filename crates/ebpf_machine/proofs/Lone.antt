@@ -10,7 +10,7 @@ use Rattle.ebpf_machine.specs.declared.value.Value.{Value}
 use Rattle.ebpf_machine.specs.declared.report.Reply.{Reply}
 use Rattle.ebpf_machine.specs.declared.report.Reply.TheVariants.{Null, Granted}
 use Rattle.ebpf_machine.specs.Values.{Frame}
-use Rattle.ebpf_machine.specs.World.{Name, Answer, World, Running, Status, Going, Exited, Trapped, held_by, holds_of, first_run}
+use Rattle.ebpf_machine.specs.World.{Name, Answer, Absent, World, Running, Status, Going, Exited, Trapped, held_by, holds_of, first_run}
 use Rattle.ebpf_machine.specs.Events.{Asking, Unasked, OfNoKind, OfKind, asking_of, exec}
 use Rattle.ebpf_machine.specs.Alone.{Alone, fed, fed_to, advanced, alone_first, alone_next, alone_after, outcome_of, outcome_alone, Outcome}
 use Rattle.ebpf_machine.specs.View.{ObjectView, RunView, object_in, view_of, view_in, slots_in, stepped}
@@ -19,7 +19,7 @@ use Rattle.ebpf_machine.specs.Sound.{IsOwned, IsSound, IsAlone, IsWellStated}
 use Rattle.ebpf_machine.proofs.Owned.{owned_first}
 use Rattle.ebpf_machine.proofs.Steps.{next_of, stepped_goes, stepped_ends, sound_stepped, bounded, first_sound}
 use Rattle.ebpf_machine.proofs.Soundness.{GoesOn, EndsRun}
-use Rattle.ebpf_machine.proofs.Execs.{IsNextWorld, next_world, shown_run, unasked_next}
+use Rattle.ebpf_machine.proofs.Execs.{IsNextWorld, next_world, shown_run, unasked_next, ok_same}
 
 -- ---- what an instruction leaves of a view
 
@@ -149,7 +149,7 @@ alone_stepped v sound alone going =
     let on = one_on v Null sound going in
     let later = after_more v.executed v.subject v.context v.replies in
     let here : view_in (alone_after (v.executed + 1) v.subject v.context v.replies).world 0 ≡ Some (stepped Null v) =
-      ap (λ (b : Alone). view_in b.world 0) (later ∙ n.1.is) ∙ (n.1.next.seen ∙ ap (λ (u : RunView). Some (stepped Null u)) h.seen) in
+    ap (λ (b : Alone). view_in b.world 0) (later ∙ n.1.is) ∙ (n.1.next.seen ∙ ap (λ (u : RunView). Some (stepped Null u)) h.seen) in
     rw (on.executed, on.subject, on.context, on.replies) here
 
 -- and has the peak that it had, where that is no less than what it holds
@@ -197,10 +197,17 @@ outcome_exited v n sound alone ended =
 
 -- ---- no instruction asks for an object yet, so no reply is used
 
+abbrev peaked : Alone → World → Alone
+peaked a w = record { world = w; peak = max a.peak (holds_of w 0) }
+
 next_unused : (a : Alone) (these others : List Reply) → IsLone a → alone_next these a ≡ alone_next others a
 next_unused a these others h = by_status h.run.status refl where
   by_status : (s : Status) → h.run.status ≡ s → alone_next these a ≡ alone_next others a
-  by_status Going e = (next_alone a these h e).1.is ∙ sym (next_alone a others h e).1.is
+  by_status Going e =
+      let one = next_alone a these h e in
+      let two = next_alone a others h e in
+      let same = ok_same one.0 two.0 (exec a.world 0 Absent) one.1.next.legal two.1.next.legal in
+      one.1.is ∙ (ap (peaked a) same ∙ sym two.1.is)
   by_status (Exited n) e = ended_next a these h n e ∙ sym (ended_next a others h n e)
   by_status (Trapped trap) e = absurd (subst (λ (s : Status). IsWellStated s (view_of a.world 0 h.run)) e h.sound.stated)
 

@@ -123,13 +123,16 @@ alu_stepped p objects k width o dst src s frame at defined entered ls lr fit h f
     record {
       unasked = λ kinds other. refl;
       unasked_seen = λ kinds other. refl;
-      next = inl (set frame.registers (number_of dst) (Some v), record {
-        does = is_written;
-        falls = refl;
-        whole = length-set frame.registers (number_of dst) (Some v) ∙ lr;
-        fit = All-set FitsRegister frame.registers (number_of dst) (Some v) sound.result.fits fit;
-        state = fall_arrives p k (k + 1) (insn.Alu width o dst src) s (with_register s dst known) (set frame.registers (number_of dst) (Some v)) objects at entered ls refl (length-set s.registers (number_of dst) known ∙ ls) refl (omega arith) there;
-      });
+      next = inl (
+        set frame.registers (number_of dst) (Some v),
+        record {
+          does = is_written;
+          falls = refl;
+          whole = length-set frame.registers (number_of dst) (Some v) ∙ lr;
+          fit = All-set FitsRegister frame.registers (number_of dst) (Some v) sound.result.fits fit;
+          state = fall_arrives p k (k + 1) (insn.Alu width o dst src) s (with_register s dst known) (set frame.registers (number_of dst) (Some v)) objects at entered ls refl (length-set s.registers (number_of dst) known ∙ ls) refl (omega arith) there;
+        },
+      );
     }
 
 -- an exit
@@ -165,10 +168,13 @@ exit_stepped p objects k s frame h fine =
     record {
       unasked = λ kinds other. refl;
       unasked_seen = λ kinds other. refl;
-      next = inr (number.0.0, record {
-        does = λ a none. exits_number a.holds (read frame R0) number.0.0 number.0.1 none;
-        none = no_objects s.held objects number.1 h.held;
-      });
+      next = inr (
+        number.0.0,
+        record {
+          does = λ a none. exits_number a.holds (read frame R0) number.0.0 number.0.1 none;
+          none = no_objects s.held objects number.1 h.held;
+        },
+      );
     }
 
 insn_stepped : (p : List (Option Insn)) (objects : List ObjectView) (k : ℕ) (i : Insn) (s : StateView) (frame : Frame ℕ) → insn_at p k ≡ Some i → IsDefined i → entry_of p k ≡ Entered s → length s.registers ≡ 11 → length frame.registers ≡ 11 → All FitsRegister frame.registers → AreOf s frame.registers objects → refusal i s ≡ None → IsStepped p objects k i frame

@@ -2,6 +2,7 @@ pub mod Values
 pub mod Effect
 pub mod Bytes
 pub mod World
+pub mod Kinds
 pub mod Events
 pub mod Alone
 pub mod View
