@@ -8,11 +8,11 @@ use Rattle.ebpf_core.specs.declared.event.Answer.{Answer}
 use Rattle.ebpf_core.specs.declared.event.Answer.TheVariants.{Absent, Null, Slot}
 use Rattle.ebpf_core.specs.declared.event.Event.{Event}
 use Rattle.ebpf_core.specs.declared.event.Event.TheVariants.{Start, Exec, Grow, Reap}
-use Rattle.ebpf_core.specs.Kinds.{world_kinds}
+use Rattle.ebpf_machine.specs.Kinds.{known_kinds}
 
 -- the world before any event: a ledger for each kind, with no slot; no runs
 abbrev pub first_world : World
-first_world = record { kinds = world_kinds; ledgers = map (λ kind. []) world_kinds; owners = []; bytes = []; runs = [] }
+first_world = record { kinds = known_kinds; ledgers = map (λ kind. []) known_kinds; owners = []; bytes = λ slot. []; runs = [] }
 
 abbrev pub answer_of : Answer → world.Answer
 answer_of Absent = world.Absent

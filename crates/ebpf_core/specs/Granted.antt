@@ -1,13 +1,14 @@
 -- The slot that an event grants.
 use Rattle.std.specs.Prelude.{◌≡◌, ◌<◌, ℕ, ◌==◌, if◌then◌else◌, List, length, Option, Some, None}
 use Rattle.ebpf_core.specs.declared.slots.Slot.{Slot}
-use Rattle.ebpf_core.specs.Kinds.{size_of_kind}
+use Rattle.ebpf_machine.specs.World.{image_at}
+use Rattle.ebpf_machine.specs.Kinds.{known_kinds}
 
 -- it is this one, and its bytes are as many as its kind has
 pub record IsGranted (granted : Option Slot) (bytes : List ℕ) (slot : Slot) : Type 0 where
   pub this : granted ≡ Some slot
-  pub size : length bytes ≡ size_of_kind slot.kind
-  pub known : slot.kind < 3
+  pub size : length bytes ≡ length (image_at known_kinds slot.kind)
+  pub known : slot.kind < length known_kinds
 
 -- how many slots of a kind are granted
 abbrev pub granted_of_kind : Option Slot → ℕ → ℕ

@@ -1,31 +1,38 @@
 -- The main theorem: for every legal list of events no run traps, each computes what it computes alone with the same
 -- answers and executes at most as many instructions as its program has, none holds more objects than it declared or exits
--- holding one, and no object is held twice or missing from its ledger.
-use Rattle.std.specs.Prelude.{◌≡◌, ◌≤◌, ℕ, ◌==◌, if◌then◌else◌, Bool, true, false, List, [], ◌∷◌, length, take, count_by, Contains, Some, Ok, slice_get}
+-- holding one, and no object is held twice or missing from the ledger of its kind.
+use Rattle.std.specs.Prelude.{◌≡◌, ◌≤◌, ℕ, ◌==◌, if◌then◌else◌, true, List, [], ◌∷◌, length, map, take, count_by, Contains, Some, Ok, slice_get}
 use Rattle.std.specs.List.{flat_map}
 use Rattle.ebpf_insn.specs.Program.{instructions}
 use Rattle.ebpf_verify.specs.Subject.{Subject}
-use Rattle.ebpf_machine.specs.World.{World, Running, Owner, Going, Exited, Trapped, Status, is_in, holds_of}
+use Rattle.ebpf_machine.specs.declared.report.Reply.{Reply}
+use Rattle.ebpf_machine.specs.declared.report.Reply.TheVariants as reply
+use Rattle.ebpf_machine.specs.World.{World, Running, Owner, Going, Exited, Trapped, Status, is_in, is_home, ledger_of, kind_in, image_at, holds_of}
 use Rattle.ebpf_machine.specs.Alone.{Outcome, alone_after, outcome_alone}
+use Rattle.ebpf_machine.specs.Sound.{IsOfKind}
 use Rattle.ebpf_core.specs.declared.event.Answer.{Answer}
 use Rattle.ebpf_core.specs.declared.event.Answer.TheVariants.{Absent, Null, Slot}
 use Rattle.ebpf_core.specs.declared.event.Event.{Event}
 use Rattle.ebpf_core.specs.declared.event.Event.TheVariants.{Start, Exec, Grow, Reap}
 use Rattle.ebpf_core.specs.Replay.{lead}
 
--- what the events answer to the calls of new of a run, in order: granted, or null
-abbrev pub granted_by : Answer → List Bool
-granted_by Absent = []
-granted_by Null = false ∷ []
-granted_by (Slot slot) = true ∷ []
+-- what a run was told by its calls of new, in order
+abbrev pub replies_to : Running → List Reply
+replies_to run = map (λ t. t.reply) run.told
 
-abbrev pub answer_in : ℕ → Event → List Bool
-answer_in run (Exec of answer) = if of == run then granted_by answer else []
+-- what the events answer to them: granted, or null
+abbrev pub reply_by : Answer → List Reply
+reply_by Absent = []
+reply_by Null = reply.Null ∷ []
+reply_by (Slot slot) = reply.Granted ∷ []
+
+abbrev pub answer_in : ℕ → Event → List Reply
+answer_in run (Exec of answer) = if of == run then reply_by answer else []
 answer_in run (Start program context) = []
 answer_in run (Grow kind slot) = []
 answer_in run (Reap kind slot) = []
 
-abbrev pub answers_to : ℕ → List Event → List Bool
+abbrev pub answers_to : ℕ → List Event → List Reply
 answers_to run events = flat_map (answer_in run) events
 
 -- a run did not trap
@@ -34,11 +41,11 @@ IsUntrapped Going = Unit {0}
 IsUntrapped (Exited n) = Unit {0}
 IsUntrapped (Trapped trap) = ⊥
 
--- a run is where the run alone is after as many instructions with its answers: at the same pc, with the same output, going
--- on or ended alike
-pub record IsWhereAlone (run : Running) (answers : List Bool) : Type 0 where
+-- a run is where the run alone is after as many instructions with the same replies: at the same pc, with the same output,
+-- going on or ended alike
+pub record IsWhereAlone (run : Running) : Type 0 where
   pub alone : Running
-  pub only : (alone_after run.executed run.subject run.context answers).world.runs ≡ alone ∷ []
+  pub only : (alone_after run.executed run.subject run.context (replies_to run)).world.runs ≡ alone ∷ []
   pub pc : run.pc ≡ alone.pc
   pub output : run.frame.output ≡ alone.frame.output
   pub executed : run.executed ≡ alone.executed
@@ -51,19 +58,27 @@ pub record IsOutcomeOf (run : Running) (n : ℕ) (o : Outcome) : Type 0 where
   pub executed : o.executed ≡ run.executed
 
 -- a run of the world, by its number, that was given these answers
-pub record IsIsolated (w : World) (k : ℕ) (run : Running) (answers : List Bool) : Type 0 where
+pub record IsIsolated (w : World) (k : ℕ) (run : Running) (answers : List Reply) : Type 0 where
   pub untrapped : IsUntrapped run.status
-  pub alone : IsWhereAlone run answers
-  pub ended : (n : ℕ) → run.status ≡ Exited n → IsOutcomeOf run n (outcome_alone run.subject run.context answers)
+  pub told : replies_to run ≡ answers
+  pub alone : IsWhereAlone run
+  pub ended : (n : ℕ) → run.status ≡ Exited n → IsOutcomeOf run n (outcome_alone run.subject run.context (replies_to run))
   pub bounded : run.executed ≤ length (instructions run.subject.program)
   pub declared : holds_of w k ≤ run.subject.decl.held
   pub returned : (n : ℕ) → run.status ≡ Exited n → holds_of w k ≡ 0
+
+-- an owned slot is in one ledger, that of the kind that its call asked for
+pub record IsInLedger (w : World) (o : Owner) : Type 0 where
+  pub once : count_by (is_in o.slot) w.ledgers ≡ 1
+  pub there : is_in o.slot (ledger_of w (kind_in w o.slot)) ≡ true
+  pub asked : IsOfKind w o.holder (kind_in w o.slot)
 
 -- the world after these events
 pub record IsSafe (w : World) (events : List Event) : Type 0 where
   pub runs : (k : ℕ) (run : Running) → slice_get w.runs k ≡ Some run → IsIsolated w k run (answers_to k events)
   pub held_once : (slot : ℕ) → count_by (λ o. o.slot == slot) w.owners ≤ 1
-  pub in_ledger : (o : Owner) → Contains w.owners o → count_by (is_in o.slot) w.ledgers ≡ 1
+  pub in_ledger : (o : Owner) → Contains w.owners o → IsInLedger w o
+  pub imaged : (slot : ℕ) → is_home w slot ≡ true → w.bytes slot ≡ image_at w.kinds (kind_in w slot)
 
 -- after every beginning of the list that is legal
 abbrev pub IsAlwaysSafe : List Subject → List Event → Type 0

@@ -1,4 +1,3 @@
-pub mod Kinds
 pub mod Granted
 pub mod Events
 pub mod Faults

@@ -1,8 +1,8 @@
 -- What is read of a world.
-use Rattle.std.specs.Prelude.{ℕ, ◌==◌, List, [], Option, Some, None, option_map, slice_get, slice_index_or}
+use Rattle.std.specs.Prelude.{ℕ, ◌==◌, if◌then◌else◌, List, Option, Some, None, option_map, slice_get}
 use Rattle.std.specs.Option.{option_and_then}
 use Rattle.std.specs.List.{find}
-use Rattle.ebpf_machine.specs.World.{World, Running, Owner, Going, Exited, Trapped}
+use Rattle.ebpf_machine.specs.World.{World, Running, Owner, Holder, Run, Going, Exited, Trapped, is_in_ledger, ledger_of}
 use Rattle.ebpf_machine.specs.World as world
 use Rattle.ebpf_core.specs.declared.world.Status.{Status}
 use Rattle.ebpf_core.specs.declared.world.Status.TheVariants as status
@@ -24,13 +24,16 @@ abbrev pub executed_in : World → ℕ → Option ℕ
 executed_in w run = option_map (λ r. r.executed) (slice_get w.runs run)
 
 -- the run that holds a slot, with the place of the call that was granted it
+abbrev pub run_of : Holder → ℕ × ℕ
+run_of (Run run at) = (run, at)
+
 abbrev pub owner_in : World → ℕ → Option (ℕ × ℕ)
-owner_in w slot = option_map (λ o. (o.run, o.at)) (find (λ o. o.slot == slot) w.owners)
+owner_in w slot = option_map (λ o. run_of o.holder) (find (λ o. o.slot == slot) w.owners)
 
 -- the bytes of a slot of a ledger
 abbrev pub bytes_in : World → ℕ → Option (List ℕ)
-bytes_in w slot = option_map (λ b. b.1) (find (λ b. b.0 == slot) w.bytes)
+bytes_in w slot = if is_in_ledger w slot then Some (w.bytes slot) else None
 
 -- the slots of a kind
 abbrev pub ledger_in : World → ℕ → List ℕ
-ledger_in w kind = slice_index_or w.ledgers kind []
+ledger_in w kind = ledger_of w kind

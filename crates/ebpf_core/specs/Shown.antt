@@ -1,12 +1,14 @@
 -- The world that is kept, and the world that it shows.
-use Rattle.std.specs.Prelude.{◌≡◌, List, [], ◌∷◌, map, Ok}
+use Rattle.std.specs.Prelude.{◌≡◌, ℕ, All, List, [], ◌∷◌, length, map, Ok, option_map, slice_get}
 use Rattle.ebpf_verify.specs.Subject.{Subject}
-use Rattle.ebpf_machine.specs.World.{World, Running}
-use Rattle.ebpf_machine.specs.RunView.{RunState, IsSeenAs}
+use Rattle.ebpf_machine.specs.World.{World, kinds_of}
+use Rattle.ebpf_machine.specs.Kinds.{known_kinds}
+use Rattle.ebpf_machine.specs.View.{RunView, view_in}
+use Rattle.ebpf_machine.specs.RunState.{RunState, seen}
+use Rattle.ebpf_machine.specs.Sound.{IsSound, IsAlone, IsOwned}
 use Rattle.ebpf_core.specs.declared.slots.Slot.{Slot}
 use Rattle.ebpf_core.specs.declared.event.Event.{Event}
 use Rattle.ebpf_core.specs.declared.fault.ApplyFault.{ApplyFault}
-use Rattle.ebpf_core.specs.Kinds.{world_kinds}
 use Rattle.ebpf_core.specs.Events.{happened}
 use Rattle.ebpf_core.specs.Faults.{IsApplyFault}
 
@@ -15,19 +17,34 @@ pub record WorldState : Type 0 where
   pub programs : List Subject
   pub runs : List (RunState Slot)
 
--- each run of a world is the run that is kept in its place, slot numbers aside
-abbrev pub AreSeenAs : List Running → List (RunState Slot) → Type 0
-AreSeenAs [] [] = Unit {0}
-AreSeenAs (run ∷ runs) (kept ∷ rest) = IsSeenAs run kept × AreSeenAs runs rest
-AreSeenAs _ _ = ⊥
+-- programs that were verified with the known kinds
+abbrev pub AreKnown : List Subject → Type 0
+AreKnown programs = All (λ s. kinds_of s.rows ≡ known_kinds) programs
 
--- the world that is kept shows this one. No slot is in a ledger yet.
+-- what a run sees of itself; it holds no objects yet, so there are no bytes to see
+abbrev pub run_seen : RunState Slot → RunView
+run_seen r = seen (λ slot. []) r
+
+-- a run that is kept is sound and where the run alone is, and holds nothing, since no slot is in a ledger yet
+pub record IsTended (r : RunState Slot) : Type 0 where
+  pub sound : IsSound (run_seen r)
+  pub alone : IsAlone (run_seen r)
+  pub nothing : r.held ≡ []
+  pub kinds : kinds_of r.subject.rows ≡ known_kinds
+
+-- what always holds of the world that is kept
+pub record IsTendedWorld (kept : WorldState) : Type 0 where
+  pub known : AreKnown kept.programs
+  pub runs : All IsTended kept.runs
+
+-- the world that is kept shows this one: each run as it sees itself. No slot is in a ledger yet.
 pub record Shows (w : World) (kept : WorldState) : Type 0 where
-  pub runs : AreSeenAs w.runs kept.runs
-  pub kinds : w.kinds ≡ world_kinds
-  pub ledgers : w.ledgers ≡ map (λ kind. []) world_kinds
+  pub views : (run : ℕ) → view_in w run ≡ option_map run_seen (slice_get kept.runs run)
+  pub as_many : length w.runs ≡ length kept.runs
+  pub kinds : w.kinds ≡ known_kinds
+  pub ledgers : w.ledgers ≡ map (λ kind. []) known_kinds
   pub owners : w.owners ≡ []
-  pub bytes : w.bytes ≡ []
+  pub owned : IsOwned w
 
 -- something holds of the world that is shown
 abbrev pub OfWorld : WorldState → (World → Type 0) → Type 0
