@@ -1,63 +1,112 @@
 -- One event of the world that is kept is the event of the world that it shows.
-use Rattle.std.proofs.Common.{◌≡◌, ◌≢◌, ⊎_elim, ℕ, true, false, eqb, length, List, [], ◌∷◌, ◌++◌, Some, None, Ok, Err, refl, sym, ap, ◌∙◌, subst}
-use Rattle.std.specs.Prelude.{slice_get, slice_set}
+use Rattle.std.proofs.Common.{◌≡◌, ◌≢◌, ⊎_elim, ℕ, ◌+◌, true, false, eqb, length, List, [], ◌∷◌, ◌++◌, Some, None, Ok, Err, refl, sym, ap, ◌∙◌, subst, inl, inr, ◌⊎◌, length-set}
+use Rattle.std.specs.Prelude.{slice_get, slice_set, option_map, map}
+use Rattle.std.proofs.lemmas.List.{length_push}
 use Rattle.std.proofs.lemmas.Bool.{eq-eqb}
 use Rattle.std.proofs.lemmas.Bool.Decides.{eqb_tells}
 use Rattle.ebpf_verify.specs.Subject.{Subject}
-use Rattle.ebpf_machine.specs.World.{World, Running, Going, Exited, first_run}
-use Rattle.ebpf_machine.specs.Events.{NoSuchRun, RunEnded, NoSuchProgramOrKind, WrongContext, AnswerUnasked, SlotNotHome, started, starting, exec, run_stepped, with_run}
+use Rattle.ebpf_machine.specs.declared.report.Reply.TheVariants as reply
+use Rattle.ebpf_machine.specs.World.{World, Running, Going, Exited, kinds_of, first_run}
 use Rattle.ebpf_machine.specs.World as world
-use Rattle.ebpf_machine.specs.RunView.{RunState, IsSeenAs, first_state_of, status_of}
+use Rattle.ebpf_machine.specs.Events.{NoSuchRun, RunEnded, NoSuchProgramOrKind, WrongContext, AnswerUnasked, SlotNotHome, started, starting, exec}
+use Rattle.ebpf_machine.specs.Kinds.{known_kinds}
+use Rattle.ebpf_machine.specs.View.{RunView, view_of, view_in, stepped}
+use Rattle.ebpf_machine.specs.RunState.{RunState, first_state_of, status_of}
+use Rattle.ebpf_machine.specs.Sound.{IsSound}
+use Rattle.ebpf_machine.proofs.ListLemmas.{get_set_same, get_set_other}
+use Rattle.ebpf_machine.proofs.Owned.{owned_started}
+use Rattle.ebpf_machine.proofs.Execs.{IsNextWorld, next_world, unasked_next}
 use Rattle.ebpf_core.specs.declared.slots.Slot.{Slot}
-use Rattle.ebpf_core.specs.Shown.{WorldState, Shows}
-use Rattle.ebpf_core.proofs.Runs.{AreSeenAs-at, AreSeenAs-none, AreSeenAs-set, AreSeenAs-more}
+use Rattle.ebpf_core.specs.Shown.{WorldState, Shows, run_seen}
+use Rattle.ebpf_core.proofs.Runs.{run_shown, none_shown, get_past, get_last, same_number}
 
--- a run starts
-pub started_shows : (w : World) (kept : WorldState) (s : Subject) (context : List ℕ) → Shows w kept → Shows (started s context w) (record kept { runs = kept.runs ++ first_state_of s context ∷ [] })
-started_shows w kept s context h =
-    let first : IsSeenAs (first_run s context) (first_state_of {H = Slot} s context) = record { subject = refl; context = refl; pc = refl; frame = refl; executed = refl; status = refl } in
-    record { runs = AreSeenAs-more w.runs kept.runs (first_run s context) (first_state_of s context) h.runs first; kinds = h.kinds; ledgers = h.ledgers; owners = h.owners; bytes = h.bytes }
+-- ---- a run starts
 
--- a run does the instruction at its pc
-pub executed_shows : (w : World) (kept : WorldState) (k : ℕ) (r t : RunState Slot) → Shows w kept → slice_get kept.runs k ≡ Some r → r.exit ≡ None → ((m : Running) → IsSeenAs m r → IsSeenAs (run_stepped 0 m) t)
+-- what a new run sees
+first_seen : (w : World) (s : Subject) (context : List ℕ) (k : ℕ) → w.owners ≡ [] → view_of (started s context w) k (first_run s context) ≡ run_seen (first_state_of s context)
+first_seen w s context k none = rw none refl
+
+-- the view of a run of a world that grew by one
+view_started : (w : World) (s : Subject) (context : List ℕ) (k : ℕ) → view_in (started s context w) k ≡ option_map (view_of w k) (slice_get (w.runs ++ first_run s context ∷ []) k)
+view_started w s context k = refl
+
+started_views : (w : World) (kept : WorldState) (s : Subject) (context : List ℕ) → Shows w kept → (k : ℕ) → view_in (started s context w) k ≡ option_map run_seen (slice_get (kept.runs ++ first_state_of s context ∷ []) k)
+started_views w kept s context h k = by_place (same_number k (length w.runs)) where
+  by_place : (k ≡ length w.runs) ⊎ (k ≢ length w.runs) → view_in (started s context w) k ≡ option_map run_seen (slice_get (kept.runs ++ first_state_of s context ∷ []) k)
+  by_place (inl last) =
+      let there : slice_get (w.runs ++ first_run s context ∷ []) k ≡ Some (first_run s context) = ap (slice_get (w.runs ++ first_run s context ∷ [])) last ∙ get_last w.runs (first_run s context) in
+      let here : slice_get (kept.runs ++ first_state_of s context ∷ []) k ≡ Some (first_state_of s context) = ap (slice_get (kept.runs ++ first_state_of s context ∷ [])) (last ∙ h.as_many) ∙ get_last kept.runs (first_state_of s context) in
+      ap (option_map (view_of w k)) there ∙ (ap Some (first_seen w s context k h.owners) ∙ sym (ap (option_map run_seen) here))
+  by_place (inr ne) =
+      let there = get_past w.runs (first_run s context) k ne in
+      let here = get_past kept.runs (first_state_of {H = Slot} s context) k (λ e. ne (e ∙ sym h.as_many)) in
+      ap (option_map (view_of w k)) there ∙ (h.views k ∙ sym (ap (option_map run_seen) here))
+
+started_shows : (w : World) (kept : WorldState) (s : Subject) (context : List ℕ) → kinds_of s.rows ≡ w.kinds → Shows w kept → Shows (started s context w) (record kept { runs = kept.runs ++ first_state_of s context ∷ [] })
+started_shows w kept s context kinds h = record {
+  views = started_views w kept s context h;
+  as_many = length_push w.runs (first_run s context) ∙ (ap (λ (n : ℕ). n + 1) h.as_many ∙ sym (length_push kept.runs (first_state_of s context)));
+  kinds = h.kinds;
+  ledgers = h.ledgers;
+  owners = h.owners;
+  owned = owned_started w s context h.owned kinds;
+}
+
+-- ---- a run does the instruction at its pc
+
+pub executed_shows : (w : World) (kept : WorldState) (k : ℕ) (r t : RunState Slot) → Shows w kept → slice_get kept.runs k ≡ Some r → IsSound (run_seen r) → r.exit ≡ None → run_seen t ≡ stepped reply.Null (run_seen r)
     → (after : World) × (exec w k world.Absent ≡ Ok after) × Shows after (record kept { runs = slice_set kept.runs k t })
-executed_shows w kept k r t h at going step =
-    let run = AreSeenAs-at w.runs kept.runs k r h.runs at in
-    let goes : run.0.status ≡ Going = run.2.status ∙ ap status_of going in (
-      with_run w k (run_stepped 0 run.0),
-      rw (run.1, goes, h.owners) refl,
+executed_shows w kept k r t h at sound going step =
+    let run = run_shown w kept k r h at in
+    let goes : run.0.status ≡ Going = ap (λ (v : RunView). v.status) run.2 ∙ ap status_of going in
+    let next = next_world w k run.0 h.owned run.1 (subst IsSound (sym run.2) sound) goes in (
+      next.0,
+      next.1.legal,
       record {
-        runs = AreSeenAs-set w.runs kept.runs k (run_stepped 0 run.0) t h.runs (step run.0 run.2);
-        kinds = h.kinds;
-        ledgers = h.ledgers;
-        owners = h.owners;
-        bytes = h.bytes;
+        views = λ j. view_at next.0 run next.1 j (same_number j k);
+        as_many = next.1.as_many ∙ (h.as_many ∙ sym (length-set kept.runs k t));
+        kinds = next.1.kinds ∙ h.kinds;
+        ledgers = next.1.ledgers ∙ h.ledgers;
+        owners = next.1.owners ∙ h.owners;
+        owned = next.1.owned;
       },
     )
+  where
+    view_at : (after : World) (run : (m : Running) × (slice_get w.runs k ≡ Some m) × (view_of w k m ≡ run_seen r)) → IsNextWorld w k run.0 after → (j : ℕ) → (j ≡ k) ⊎ (j ≢ k) → view_in after j ≡ option_map run_seen (slice_get (slice_set kept.runs k t) j)
+    view_at after run n j (inl same) =
+        let seen : view_in after k ≡ Some (run_seen t) = n.seen ∙ ap Some (ap (stepped reply.Null) run.2 ∙ sym step) in
+        let here = ap (option_map run_seen) (get_set_same kept.runs k r t at) in
+        subst (λ (i : ℕ). view_in after i ≡ option_map run_seen (slice_get (slice_set kept.runs k t) i)) (sym same) (seen ∙ sym here)
+    view_at after run n j (inr ne) = n.others j ne ∙ (h.views j ∙ sym (ap (option_map run_seen) (get_set_other kept.runs k j t ne)))
 
 -- there is no such run
 pub executed_none : (w : World) (kept : WorldState) (k : ℕ) (answer : world.Answer) → Shows w kept → slice_get kept.runs k ≡ None → exec w k answer ≡ Err NoSuchRun
-executed_none w kept k answer h at = rw (AreSeenAs-none w.runs kept.runs k h.runs at) refl
+executed_none w kept k answer h at = rw (none_shown w kept k h at) refl
 
 -- the run has ended
 pub executed_ended : (w : World) (kept : WorldState) (k n : ℕ) (answer : world.Answer) (r : RunState Slot) → Shows w kept → slice_get kept.runs k ≡ Some r → r.exit ≡ Some n → exec w k answer ≡ Err RunEnded
 executed_ended w kept k n answer r h at ended =
-    let run = AreSeenAs-at w.runs kept.runs k r h.runs at in
-    let exited : run.0.status ≡ Exited n = run.2.status ∙ ap status_of ended in
+    let run = run_shown w kept k r h at in
+    let exited : run.0.status ≡ Exited n = ap (λ (v : RunView). v.status) run.2 ∙ ap status_of ended in
     rw (run.1, exited) refl
 
 -- an answer that was not asked for
-pub executed_null : (w : World) (kept : WorldState) (k : ℕ) (r : RunState Slot) → Shows w kept → slice_get kept.runs k ≡ Some r → r.exit ≡ None → exec w k world.Null ≡ Err AnswerUnasked
-executed_null w kept k r h at going =
-    let run = AreSeenAs-at w.runs kept.runs k r h.runs at in
-    let goes : run.0.status ≡ Going = run.2.status ∙ ap status_of going in
-    rw (run.1, goes) refl
+pub executed_null : (w : World) (kept : WorldState) (k : ℕ) (r : RunState Slot) → Shows w kept → slice_get kept.runs k ≡ Some r → IsSound (run_seen r) → r.exit ≡ None → exec w k world.Null ≡ Err AnswerUnasked
+executed_null w kept k r h at sound going =
+    let run = run_shown w kept k r h at in
+    let goes : run.0.status ≡ Going = ap (λ (v : RunView). v.status) run.2 ∙ ap status_of going in
+    let unasked = unasked_next w k run.0 (subst IsSound (sym run.2) sound) goes in
+    rw (run.1, goes, unasked) refl
+
+-- a slot of no ledger is not home
+away : (w : World) (k slot : ℕ) (run : Running) → w.ledgers ≡ map (λ kind. []) known_kinds → slice_get w.runs k ≡ Some run → run.status ≡ Going → exec w k (world.Slot slot) ≡ Err SlotNotHome
+away w k slot run none there goes = rw (there, goes, none) refl
 
 pub executed_slot : (w : World) (kept : WorldState) (k slot : ℕ) (r : RunState Slot) → Shows w kept → slice_get kept.runs k ≡ Some r → r.exit ≡ None → exec w k (world.Slot slot) ≡ Err SlotNotHome
 executed_slot w kept k slot r h at going =
-    let run = AreSeenAs-at w.runs kept.runs k r h.runs at in
-    let goes : run.0.status ≡ Going = run.2.status ∙ ap status_of going in
-    rw (run.1, goes, h.ledgers) refl
+    let run = run_shown w kept k r h at in
+    let goes : run.0.status ≡ Going = ap (λ (v : RunView). v.status) run.2 ∙ ap status_of going in
+    away w k slot run.0 h.ledgers run.1 goes
 
 -- a run starts, or why it doesn't
 pub starting_none : (programs : List Subject) (program : ℕ) (context : List ℕ) (w : World) → slice_get programs program ≡ None → starting (slice_get programs program) context w ≡ Err NoSuchProgramOrKind
@@ -68,9 +117,9 @@ starting_long programs program s context w at long = rw (at, differ (length cont
   differ : (a b : ℕ) → a ≢ b → eqb a b ≡ false
   differ a b ne = ⊎_elim (λ (e : (eqb a b ≡ true) × (a ≡ b)). absurd (ne e.1)) (λ (e : (eqb a b ≡ false) × (a ≢ b)). e.0) (eqb_tells a b)
 
-pub starting_shows : (programs : List Subject) (program : ℕ) (s : Subject) (context bytes : List ℕ) (w : World) (kept : WorldState) (r : RunState Slot) (runs : List (RunState Slot)) → Shows w kept → slice_get programs program ≡ Some s → bytes ≡ context → length bytes ≡ s.decl.context → r ≡ first_state_of s bytes → runs ≡ kept.runs ++ r ∷ []
+pub starting_shows : (programs : List Subject) (program : ℕ) (s : Subject) (context bytes : List ℕ) (w : World) (kept : WorldState) (r : RunState Slot) (runs : List (RunState Slot)) → kinds_of s.rows ≡ known_kinds → Shows w kept → slice_get programs program ≡ Some s → bytes ≡ context → length bytes ≡ s.decl.context → r ≡ first_state_of s bytes → runs ≡ kept.runs ++ r ∷ []
     → (after : World) × (starting (slice_get programs program) context w ≡ Ok after) × Shows after (record kept { runs = runs })
-starting_shows programs program s context bytes w kept r runs h at same fits first more =
+starting_shows programs program s context bytes w kept r runs kinds h at same fits first more =
     let here : length context ≡ s.decl.context = ap length (sym same) ∙ fits in
-    let then : runs ≡ kept.runs ++ first_state_of s context ∷ [] = more ∙ ap (λ (x : RunState Slot). kept.runs ++ x ∷ []) (first ∙ ap (first_state_of s) same) in
-    (started s context w, rw (at, eq-eqb (length context) s.decl.context here) refl, subst (λ (rs : List (RunState Slot)). Shows (started s context w) (record kept { runs = rs })) (sym then) (started_shows w kept s context h))
+    let grown : runs ≡ kept.runs ++ first_state_of s context ∷ [] = more ∙ ap (λ (x : RunState Slot). kept.runs ++ x ∷ []) (first ∙ ap (first_state_of s) same) in
+    (started s context w, rw (at, eq-eqb (length context) s.decl.context here) refl, subst (λ (rs : List (RunState Slot)). Shows (started s context w) (record kept { runs = rs })) (sym grown) (started_shows w kept s context (kinds ∙ sym h.kinds) h))

@@ -1,5 +1,5 @@
 -- What an event does to the world.
-use Rattle.std.specs.Prelude.{ℕ, List, [], map, Result, Err, slice_get}
+use Rattle.std.specs.Prelude.{List, [], map, Result, Err, slice_get}
 use Rattle.ebpf_verify.specs.Subject.{Subject}
 use Rattle.ebpf_machine.specs.World.{World}
 use Rattle.ebpf_machine.specs.Events.{Illegal, NoSuchProgramOrKind, starting, exec}

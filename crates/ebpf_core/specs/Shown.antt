@@ -1,5 +1,5 @@
 -- The world that is kept, and the world that it shows.
-use Rattle.std.specs.Prelude.{◌≡◌, ℕ, All, List, [], ◌∷◌, length, map, Ok, option_map, slice_get}
+use Rattle.std.specs.Prelude.{◌≡◌, ℕ, All, List, [], length, map, Ok, option_map, slice_get}
 use Rattle.ebpf_verify.specs.Subject.{Subject}
 use Rattle.ebpf_machine.specs.World.{World, kinds_of}
 use Rattle.ebpf_machine.specs.Kinds.{known_kinds}

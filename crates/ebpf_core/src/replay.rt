@@ -3,6 +3,7 @@
 ghost use Rattle.std.specs.Prelude.{◌≡◌, IfOk, IfErr, List};
 ghost use Rattle.ebpf_core.specs.Replay.{lead, IsReplayed, IsReplayFault};
 ghost use Rattle.ebpf_core.specs.Isolation.{IsAlwaysSafe};
+ghost use Rattle.ebpf_core.specs.Shown.{AreKnown};
 
 use crate::event::Event;
 use crate::fault::{ApplyFault, ReplayFault};
@@ -10,7 +11,8 @@ use crate::world::World;
 use ebpf_verify::verified::Verified;
 use std::alloc::Global;
 
-/// The world after a list of events over accepted programs, from one with no slots and no runs.
+/// The world after a list of events over accepted programs, from one with no slots and no runs. The programs were verified
+/// with the kinds of [`ebpf_state::kinds::kinds`].
 ///
 /// # Errors
 /// `Bad` with the number of the first event that isn't legal, and the first code that applies to it; `NoMemory` where a
@@ -20,6 +22,7 @@ pub fn replay<'v>(
     programs: &'v [Verified],
     events: &[Event],
 ) -> Result<World<'v>, ReplayFault>
+    requires known { AreKnown programs.now }
     // It is the world that the events lead to, and there is one exactly where each event is legal.
     ensures done { IfOk result (IsReplayed programs.now events.now) }
     ensures programs { IfOk result (λ w. w.programs ≡ programs.now) }
@@ -41,6 +44,7 @@ pub fn replay<'v>(
 
 // The main theorem: every list of events over accepted programs is safe. That they were accepted is in their type.
 fn accept(programs: &[Verified])
+    requires { AreKnown programs.now }
     ensures { (events : List Event) → IsAlwaysSafe programs.now events }
 {
     for verified in programs {

@@ -44,16 +44,12 @@ impl<L: Ledger> Answering<L> {
 }
 
 impl<L: Ledger> Objects for Answering<L> {
-    ghost use Rattle.ebpf_core.specs.Kinds.{size_of_kind, fill_of_kind};
+    ghost use Rattle.ebpf_machine.specs.Kinds.{known_kinds};
     ghost use Rattle.ebpf_core.specs.Granted.{IsGranted, granted_of_kind};
 
     type Held = Slot;
 
-    ghost kinds = { 3 };
-
-    ghost size_of = { size_of_kind };
-
-    ghost fill_of = { fill_of_kind };
+    ghost kinds = { known_kinds };
 
     ghost kind_of = { λ slot. slot.kind };
 

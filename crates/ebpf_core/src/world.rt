@@ -1,12 +1,11 @@
 //! The world.
 
 ghost use Rattle.std.specs.Prelude.{◌≡◌, length, slice_get, option_map, OnOk, OnErr, IfOk, IfErr, IfSome, IfNone};
-ghost use Rattle.ebpf_machine.specs.World.{Running};
-ghost use Rattle.ebpf_machine.specs.Events.{run_stepped};
 ghost use Rattle.ebpf_core.specs.Events.{first_world, happened};
-ghost use Rattle.ebpf_machine.specs.RunView.{IsSeenAs};
+ghost use Rattle.ebpf_machine.specs.declared.report.Reply.TheVariants.{Null};
+ghost use Rattle.ebpf_machine.specs.View.{stepped};
 ghost use Rattle.ebpf_core.specs.declared.event.Event.TheVariants.{Start, Exec};
-ghost use Rattle.ebpf_core.specs.Shown.{Shows, OfWorld, IsDone, IsRefused};
+ghost use Rattle.ebpf_core.specs.Shown.{Shows, OfWorld, IsDone, IsRefused, IsTended, AreKnown, run_seen};
 ghost use Rattle.ebpf_state.specs.Ascending.{IsAscending};
 ghost use Rattle.ebpf_core.specs.Readers.{status_in, output_in, executed_in, owner_in, bytes_in, ledger_in};
 
@@ -37,19 +36,23 @@ pub struct World<'v> {
 }
 
 impl<'v> Model for World<'v> {
-    ghost use Rattle.ebpf_core.specs.Shown.{WorldState};
+    ghost use Rattle.ebpf_core.specs.Shown.{WorldState, IsTendedWorld};
 
     ghost Value = { WorldState };
 
     ghost view = { λ w. record { programs = w.programs.now; runs = w.runs.items } };
+
+    ghost invariant = { λ w. IsTendedWorld (record { programs = w.programs.now; runs = w.runs.items }) };
 }
 
 impl<'v> World<'v> {
-    /// The world of these programs before any event: it has no slots and no runs.
+    /// The world of these programs before any event: it has no slots and no runs. The programs were verified with the
+    /// kinds of [`ebpf_state::kinds::kinds`].
     ///
     /// # Errors
     /// It fails for want of memory alone.
     pub fn new(alloc: Global, programs: &'v [Verified]) -> Result<World<'v>, AllocError>
+        requires known { AreKnown programs.now }
         ensures shows { IfOk result (Shows first_world) }
         ensures programs { IfOk result (λ w. w.programs ≡ programs.now) }
     {
@@ -210,7 +213,9 @@ impl<'v> World<'v> {
 fn step_in<L: Ledger>(alloc: Global, run: &mut Run<Slot>, blank: Blank)
     requires name { blank.name ≡ L.name }
     requires parts { (blank.parts ≡ L.parts) × (L.parts ≡ 1) }
-    ensures { IfNone run.old.exit ((shown : Running) → IsSeenAs shown run.old → IsSeenAs (run_stepped 0 shown) run.new) }
+    requires tended { IsTended run.old }
+    ensures next { IfNone run.old.exit (run_seen run.new ≡ stepped Null (run_seen run.old)) }
+    ensures tended { IsTended run.new }
 {
     let (book, share) = blank.open::<L>();
     let mut answering = Answering::<L>::new(alloc, book, share);

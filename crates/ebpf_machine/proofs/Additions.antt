@@ -1,5 +1,5 @@
 -- Moves and sums that are accepted compute what their rules say.
-use Rattle.std.proofs.Common.{◌≡◌, ℕ, ◌+◌, ◌<◌, ◌^◌, ◌%◌, true, false, List, Option, Some, None, Result, Ok, refl, subst, arith}
+use Rattle.std.proofs.Common.{◌≡◌, ℕ, ◌+◌, ◌<◌, ◌^◌, ◌%◌, true, false, List, Option, Some, None, Result, refl, subst, arith}
 use Rattle.std.specs.Prelude.{◌||◌, ◌&&◌, is_none, unwrap_or}
 use Rattle.std.proofs.Math.Nat.{mod-lt}
 use Rattle.ebpf_insn.specs.declared.register.Reg.{Reg}

@@ -1,24 +1,23 @@
 -- The next instruction of a sound run in its world: it is legal without an answer, and the run goes on as it sees itself.
-use Rattle.std.proofs.Common.{◌≡◌, ◌≢◌, ℕ, ◌+◌, ◌<◌, List, length, Option, Some, None, Result, Ok, Err, refl, sym, ap, ◌∙◌, subst, arith, inl, inr, ◌⊎◌, length-set}
-use Rattle.std.specs.Prelude.{map, slice_get}
+use Rattle.std.proofs.Common.{◌≡◌, ◌≢◌, ℕ, ◌+◌, List, length, Option, Some, None, Result, Ok, refl, sym, ap, ◌∙◌, subst, inl, inr, ◌⊎◌, length-set}
+use Rattle.std.specs.Prelude.{slice_get}
 use Rattle.std.proofs.lemmas.List.{length-map}
 use Rattle.ebpf_insn.specs.declared.insn.Insn.{Insn}
 use Rattle.ebpf_insn.specs.Program.{insn_at, slots_in as insn_slots}
 use Rattle.ebpf_machine.specs.declared.value.Value.{Value}
 use Rattle.ebpf_machine.specs.declared.report.Reply.TheVariants.{Null}
-use Rattle.ebpf_machine.specs.Values.{Trap, Frame}
+use Rattle.ebpf_machine.specs.Values.{Frame}
 use Rattle.ebpf_machine.specs.Effect.{Act, Nothing, Effect, Goes, Ends, Traps, effect, effect_at}
 use Rattle.ebpf_machine.specs.World.{Name, World, Running, Going, Absent, around, held_by}
 use Rattle.ebpf_machine.specs.Events.{Illegal, Unasked, done_by, effect_of_run, asking_of, exec}
 use Rattle.ebpf_machine.specs.View.{ObjectView, RunView, frame_seen, object_in, view_of, view_in, slots_in, around_view, effect_of_view, stepped}
-use Rattle.ebpf_machine.specs.View as view
 use Rattle.ebpf_machine.specs.Step.{IsEvent}
 use Rattle.ebpf_machine.specs.Sound.{IsOwned, IsSound}
 use Rattle.ebpf_machine.proofs.Acts.{effect_seen, IsOwnEffect, own_view, others_view, others_slots}
 use Rattle.ebpf_machine.proofs.Owned.{IsForward, owned_done}
 use Rattle.ebpf_machine.proofs.Projection.{effect-seen}
 use Rattle.ebpf_machine.proofs.Pointing.{plain_goes}
-use Rattle.ebpf_machine.proofs.Steps.{IsAt, next_of, falls_forward}
+use Rattle.ebpf_machine.proofs.Steps.{next_of, falls_forward}
 use Rattle.ebpf_machine.proofs.Soundness.{GoesOn, EndsRun}
 
 -- the world that the next instruction of a run leads to

@@ -1,20 +1,18 @@
 -- The run alone goes on as the run does, and stays once it has ended.
-use Rattle.std.proofs.Common.{◌≡◌, ℕ, zero, suc, ◌+◌, ◌-◌, ◌<◌, ◌≤◌, max, List, [], ◌∷◌, length, Option, Some, None, refl, sym, ap, ◌∙◌, subst, arith, inl, inr, ◌⊎◌, add-one}
-use Rattle.std.specs.Prelude.{map, slice_get, IfSome}
+use Rattle.std.proofs.Common.{◌≡◌, ℕ, zero, suc, ◌+◌, ◌-◌, ◌≤◌, max, List, [], ◌∷◌, length, Option, Some, None, refl, sym, ap, ◌∙◌, subst, arith, inl, inr, ◌⊎◌, add-one}
+use Rattle.std.specs.Prelude.{slice_get}
 use Rattle.std.proofs.lemmas.List.{length-map}
 use Rattle.ebpf_insn.specs.declared.insn.Insn.{Insn}
-use Rattle.ebpf_insn.specs.Program.{insn_at, instructions, slots_in as insn_slots}
+use Rattle.ebpf_insn.specs.Program.{insn_at, instructions}
 use Rattle.ebpf_verify.specs.Subject.{Subject}
 use Rattle.ebpf_verify.specs.Verdict.{IsAccepted}
 use Rattle.ebpf_machine.specs.declared.value.Value.{Value}
 use Rattle.ebpf_machine.specs.declared.report.Reply.{Reply}
 use Rattle.ebpf_machine.specs.declared.report.Reply.TheVariants.{Null, Granted}
-use Rattle.ebpf_machine.specs.Values.{Frame}
 use Rattle.ebpf_machine.specs.World.{Name, Answer, Absent, World, Running, Status, Going, Exited, Trapped, held_by, holds_of, first_run}
 use Rattle.ebpf_machine.specs.Events.{Asking, Unasked, OfNoKind, OfKind, asking_of, exec}
-use Rattle.ebpf_machine.specs.Alone.{Alone, fed, fed_to, advanced, alone_first, alone_next, alone_after, outcome_of, outcome_alone, Outcome}
-use Rattle.ebpf_machine.specs.View.{ObjectView, RunView, object_in, view_of, view_in, slots_in, stepped}
-use Rattle.ebpf_machine.specs.RunState.{RunState, first_state_of, seen}
+use Rattle.ebpf_machine.specs.Alone.{Alone, fed, fed_to, advanced, alone_first, alone_next, alone_after, outcome_of, outcome_alone}
+use Rattle.ebpf_machine.specs.View.{RunView, object_in, view_of, view_in, slots_in, stepped}
 use Rattle.ebpf_machine.specs.Sound.{IsOwned, IsSound, IsAlone, IsWellStated}
 use Rattle.ebpf_machine.proofs.Owned.{owned_first}
 use Rattle.ebpf_machine.proofs.Steps.{next_of, stepped_goes, stepped_ends, sound_stepped, bounded, first_sound}

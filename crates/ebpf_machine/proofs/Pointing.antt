@@ -1,5 +1,5 @@
 -- An instruction makes no pointer to an object that its run had none to, and asks for nothing.
-use Rattle.std.proofs.Common.{◌≡◌, ℕ, zero, suc, ◌+◌, ◌<◌, ℤ, Bool, true, false, cond, List, [], ◌∷◌, length, get_or, set, Option, Some, None, Result, Ok, Err, refl, sym, ◌∙◌, ap, subst, arith, inl, inr, ◌⊎◌}
+use Rattle.std.proofs.Common.{◌≡◌, ℕ, zero, suc, ◌+◌, ◌<◌, ℤ, Bool, true, false, cond, List, [], ◌∷◌, length, get_or, set, Option, Some, None, Result, Ok, Err, refl, sym, subst, arith, inl, inr, ◌⊎◌}
 use Rattle.std.specs.Prelude.{Contains, nat_lt}
 use Rattle.ebpf_insn.specs.declared.register.Reg.{Reg}
 use Rattle.ebpf_insn.specs.declared.register.Reg.TheVariants.{R0}
@@ -19,7 +19,7 @@ use Rattle.ebpf_machine.specs.declared.value.Value.TheVariants.{Number, Pointer}
 use Rattle.ebpf_machine.specs.declared.value.Base.{Base}
 use Rattle.ebpf_machine.specs.declared.value.Base.TheVariants.{Stack, Context, Object}
 use Rattle.ebpf_machine.specs.Values.{Trap, FramePointerWritten, Leak, Frame, read, source_value}
-use Rattle.ebpf_machine.specs.Effect.{Around, Act, Nothing, Effect, Goes, Ends, Traps, effect, moved_value, sum_of, sum_value, alu_value, with_value, written, exits, result_number}
+use Rattle.ebpf_machine.specs.Effect.{Around, Act, Nothing, Effect, Goes, Traps, effect, moved_value, sum_of, sum_value, alu_value, with_value, written, exits, result_number}
 use Rattle.ebpf_machine.specs.World.{Name}
 use Rattle.ebpf_machine.specs.Sound.{Names, HasPointer, InRegister, InCell}
 

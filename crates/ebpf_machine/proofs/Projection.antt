@@ -17,7 +17,7 @@ use Rattle.ebpf_verify.specs.Rules.{is_frame_pointer}
 use Rattle.ebpf_machine.specs.declared.value.Value.{Value}
 use Rattle.ebpf_machine.specs.declared.value.Value.TheVariants.{Number, Pointer}
 use Rattle.ebpf_machine.specs.Values.{Trap, FramePointerWritten, Leak, Frame, read, source_value}
-use Rattle.ebpf_machine.specs.Effect.{Around, Nothing, Effect, Goes, Ends, Traps, effect, moved_value, sum_of, sum_value, alu_value, with_value, written, exits, result_number}
+use Rattle.ebpf_machine.specs.Effect.{Around, Nothing, Effect, Goes, Traps, effect, moved_value, sum_of, sum_value, alu_value, with_value, written, exits, result_number}
 use Rattle.ebpf_machine.specs.World.{Name}
 use Rattle.ebpf_machine.specs.View.{value_seen, register_seen, frame_seen}
 use Rattle.ebpf_machine.proofs.Acts.{effect_seen}

@@ -1,5 +1,5 @@
 -- An instruction that is not refused does not trap, and what it sends on speaks of the run after it.
-use Rattle.std.proofs.Common.{◌≡◌, ◌≢◌, ℕ, zero, suc, ◌+◌, ◌<◌, ◌≤◌, true, false, List, [], ◌∷◌, length, get_or, set, Option, Some, None, Result, Ok, refl, ◌∙◌, subst, arith, rules, inl, inr, ◌⊎◌, length-set}
+use Rattle.std.proofs.Common.{◌≡◌, ◌≢◌, ℕ, zero, suc, ◌+◌, ◌<◌, ◌≤◌, true, false, List, [], ◌∷◌, length, get_or, set, Option, Some, None, refl, ◌∙◌, arith, rules, inl, inr, ◌⊎◌, length-set}
 use Rattle.std.specs.Prelude.{ℤ, FitsSigned, ◌||◌, nat_lt, All}
 use Rattle.std.specs.Int.{w32}
 use Rattle.std.proofs.lemmas.List.{get_or-set_same, get_or-set_other}
@@ -32,12 +32,12 @@ use Rattle.ebpf_state.specs.States.{register_of, with_register, first_state}
 use Rattle.ebpf_verify.specs.declared.arrival.Arrival.{Arrival}
 use Rattle.ebpf_verify.specs.declared.arrival.Arrival.TheVariants.{Never, Entered, Differ}
 use Rattle.ebpf_verify.specs.declared.fault.VerifyCode.TheVariants.{V0}
-use Rattle.ebpf_verify.specs.Rules.{alu_refusal, refusal, operand, result_of, is_frame_pointer, exit_refusal}
+use Rattle.ebpf_verify.specs.Rules.{alu_refusal, refusal, operand, result_of, exit_refusal}
 use Rattle.ebpf_verify.specs.Entry.{entry_of}
 use Rattle.ebpf_verify.specs.Verdict.{refusal_in}
 use Rattle.ebpf_machine.specs.declared.value.Value.{Value}
-use Rattle.ebpf_machine.specs.declared.value.Value.TheVariants.{Number, Pointer}
-use Rattle.ebpf_machine.specs.Values.{Trap, Frame, read, source_value}
+use Rattle.ebpf_machine.specs.declared.value.Value.TheVariants.{Number}
+use Rattle.ebpf_machine.specs.Values.{Frame, read, source_value}
 use Rattle.ebpf_machine.specs.Effect.{Around, Nothing, Goes, Ends, effect, with_value, exits}
 use Rattle.ebpf_machine.specs.World.{Name, first_registers}
 use Rattle.ebpf_machine.specs.Events.{Unasked, asking}

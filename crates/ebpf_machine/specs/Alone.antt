@@ -5,7 +5,7 @@ use Rattle.ebpf_verify.specs.Subject.{Subject}
 use Rattle.ebpf_machine.specs.declared.report.Reply.{Reply}
 use Rattle.ebpf_machine.specs.declared.report.Reply.TheVariants.{Granted}
 use Rattle.ebpf_machine.specs.World.{World, Running, Status, Going, Answer, Absent, Null, Slot, kinds_of, image_at, ledger_of, first_run, holds_of}
-use Rattle.ebpf_machine.specs.Events.{Illegal, Asking, Unasked, OfNoKind, OfKind, asking_of, with_bytes, exec}
+use Rattle.ebpf_machine.specs.Events.{Illegal, Asking, Unasked, OfKind, asking_of, with_bytes, exec}
 
 -- the world of one run, and the most objects that it held at one time
 pub record Alone : Type 0 where

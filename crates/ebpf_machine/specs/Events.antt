@@ -14,7 +14,7 @@ use Rattle.ebpf_machine.specs.declared.report.Reply.TheVariants as reply
 use Rattle.ebpf_machine.specs.Bytes.{patched}
 use Rattle.ebpf_machine.specs.Values.{Trap, TooManyObjects, Frame, read}
 use Rattle.ebpf_machine.specs.Effect.{Act, Nothing, Write, Take, Give, Effect, Goes, Ends, Traps, effect_at, with_value}
-use Rattle.ebpf_machine.specs.World.{Name, World, Running, Told, Status, Going, Exited, Trapped, Holder, Run, Answer, Absent, Null, Slot, is_in, is_home, is_call, ledger_of, kind_in, image_at, holds_of, around, first_run}
+use Rattle.ebpf_machine.specs.World.{Name, World, Running, Status, Going, Exited, Trapped, Holder, Run, Answer, Absent, Slot, is_in, is_home, is_call, ledger_of, kind_in, image_at, holds_of, around, first_run}
 
 -- why an event is not legal. The causes are tested in this order, but for an event that names a kind: there an unknown one
 -- goes before what is wrong with the slot.

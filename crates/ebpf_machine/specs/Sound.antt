@@ -1,6 +1,6 @@
 -- What always holds: of a run, that what is known at its pc speaks of it, and that it is where the run alone is; of the world, that
 -- owners, ledgers and pointers fit together.
-use Rattle.std.specs.Prelude.{◌≡◌, ◌<◌, ◌≤◌, ℕ, false, true, ◌==◌, List, [], length, map, All, Contains, count_by, FitsSigned, is_none, Option, Some, None, slice_get}
+use Rattle.std.specs.Prelude.{◌≡◌, ◌<◌, ◌≤◌, ℕ, false, true, ◌==◌, List, [], length, All, Contains, count_by, FitsSigned, is_none, Option, Some, None, slice_get}
 use Rattle.std.specs.Int.{w64}
 use Rattle.ebpf_insn.specs.Program.{instructions, insn_at, count_below}
 use Rattle.ebpf_verify.specs.Verdict.{IsAccepted}
@@ -13,7 +13,7 @@ use Rattle.ebpf_machine.specs.declared.value.Cell.TheVariants.{Part}
 use Rattle.ebpf_machine.specs.declared.report.Reply.TheVariants.{Granted}
 use Rattle.ebpf_machine.specs.Values.{Frame}
 use Rattle.ebpf_machine.specs.Effect.{Effect, Goes, Ends, Traps}
-use Rattle.ebpf_machine.specs.World.{Name, Status, Going, Exited, Trapped, World, Running, Told, Owner, Holder, Run, kinds_of, image_at, is_in, is_home, kind_in}
+use Rattle.ebpf_machine.specs.World.{Name, Status, Going, Exited, Trapped, World, Running, Owner, Holder, Run, kinds_of, image_at, is_in, is_home, kind_in}
 use Rattle.ebpf_machine.specs.Alone.{alone_after}
 use Rattle.ebpf_machine.specs.View.{RunView, view_in}
 use Rattle.ebpf_machine.specs.RunState.{RunState, seen}

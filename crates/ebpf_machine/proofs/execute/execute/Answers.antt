@@ -1,4 +1,4 @@
-use Rattle.std.proofs.Common.{refl, subst}
+use Rattle.std.proofs.Common.{subst}
 use Rattle.ebpf_insn.specs.declared.insn.Insn.{Insn}
 use Rattle.ebpf_machine.specs.Flows.{IsDoable}
 use Rattle.ebpf_machine.proofs.Doable.{alu_doable}
