@@ -3,6 +3,7 @@
 ghost use Rattle.std.specs.Prelude.{◌≡◌, ◌≢◌, ◌≤◌, ◌++◌, ℕ, string_bytes, length, take, IfOk, IfErr, IfSome};
 ghost use Rattle.std.specs.Io.KnownBytes.{Appends, Consumes};
 ghost use Rattle.ebpf_core.specs.Replay.{lead};
+ghost use Rattle.ebpf_core.specs.Shown.{AreKnown};
 ghost use Rattle.ebpf_script.specs.declared.done.EngineFault.TheVariants.{Output};
 ghost use Rattle.ebpf_script.specs.ReadScripts.{said_by};
 ghost use Rattle.ebpf_script.specs.ReplayText.{TellsReplay, TellsSaid, world_told};
@@ -79,6 +80,7 @@ fn answer_events(
     programs: &[Verified],
     events: &[Event],
 ) -> Result<Answer, AllocError>
+    requires { AreKnown programs.now }
     ensures { IfOk result (λ answer. answer ≡ world_told (string_bytes text) (lead programs.now events.now)) }
 {
     let mut text = text;
