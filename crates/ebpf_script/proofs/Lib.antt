@@ -4,6 +4,7 @@ pub mod NameLemmas
 pub mod NumberLemmas
 pub mod ScriptLemmas
 pub mod LinesLemmas
+pub mod JudgedKinds
 pub mod VerdictLemmas
 pub mod WorldLemmas
 pub mod Written

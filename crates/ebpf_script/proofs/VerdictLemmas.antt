@@ -1,26 +1,20 @@
 -- The verdicts on the programs of a script, one after another.
-use Rattle.std.proofs.Common.{◌≡◌, ◌||◌, ℕ, zero, suc, true, false, Bool, Option, Some, None, List, [], ◌∷◌, ◌++◌, map, string_bytes, refl, sym, ap, ◌∙◌, subst, append_assoc, arith}
+use Rattle.std.proofs.Common.{◌≡◌, ◌||◌, ℕ, zero, suc, true, false, Bool, List, [], ◌∷◌, ◌++◌, map, string_bytes, refl, sym, ap, ◌∙◌, subst, append_assoc, arith}
 use Rattle.std.proofs.lemmas.List.{map-append}
 use Rattle.std.proofs.lemmas.Grind.{flat_map-append, common_steps}
 use Rattle.std.proofs.lemmas.List.Folds.{list_any-append}
 use Rattle.std.proofs.lemmas.List.Elements.{All-append}
-use Rattle.ebpf_insn.specs.declared.fault.DecodeCode.{DecodeCode}
-use Rattle.ebpf_insn.specs.Decoding.{decode_fault}
-use Rattle.ebpf_flow.specs.declared.fault.FlowCode.{FlowCode}
-use Rattle.ebpf_flow.specs.Flow.{flow_fault}
 use Rattle.ebpf_state.specs.declared.kinds.KindRow.{KindRow}
 use Rattle.ebpf_state.specs.Kinds.{AreKinds}
 use Rattle.ebpf_verify.specs.declared.decl.Decl.{Decl}
-use Rattle.ebpf_verify.specs.declared.fault.VerifyCode.{VerifyCode}
 use Rattle.ebpf_verify.specs.Subject.{Subject}
-use Rattle.ebpf_verify.specs.Verdict.{verdict}
 use Rattle.ebpf_machine.specs.World.{kinds_of}
 use Rattle.ebpf_machine.specs.Kinds.{known_kinds}
-use Rattle.ebpf_machine.proofs.KindLemmas.{kinds_known}
 use Rattle.ebpf_core.specs.Shown.{AreKnown}
 use Rattle.ebpf_script.specs.declared.judge.Judged.{Judged}
 use Rattle.ebpf_script.specs.declared.judge.Judged.TheVariants.{Accepted, Refused}
-use Rattle.ebpf_script.specs.Judging.{judged_by_verdict, judged_by_flow, IsJudgedBy, IsJudged}
+use Rattle.ebpf_script.specs.Judging.{IsJudged}
+use Rattle.ebpf_script.proofs.JudgedKinds.{accepted_kinds}
 use Rattle.ebpf_script.specs.declared.verdicts.Verdicts.{Verdicts}
 use Rattle.ebpf_script.specs.Said.{Named}
 use Rattle.ebpf_script.specs.Verdicts.{Verdict, verdict_lines, accepted_of, is_any_refused, judged_line, accepted_in, is_refused}
@@ -59,21 +53,9 @@ kept_all programs kept h = record { verdicts = h.verdicts; on = sym (append_nil_
 
 -- ---- the programs that are accepted were verified with the known kinds
 
-kinds_by_verdict : (o : Option (ℕ × VerifyCode)) (s t : Subject) → Accepted t ≡ judged_by_verdict o s → t.rows ≡ s.rows
-kinds_by_verdict None s t e = cc
-kinds_by_verdict (Some refusal) s t e = absurd (cc)
-
-kinds_by_flow : (o : Option (ℕ × FlowCode)) (s t : Subject) → Accepted t ≡ judged_by_flow o s → t.rows ≡ s.rows
-kinds_by_flow None s t e = kinds_by_verdict (verdict s) s t e
-kinds_by_flow (Some refusal) s t e = absurd (cc)
-
-kinds_by_decode : (o : Option (ℕ × DecodeCode)) (bytes : List ℕ) (decl : Decl) (rows : List KindRow) (t : Subject) → IsJudgedBy o bytes decl rows (Accepted t) → t.rows ≡ rows
-kinds_by_decode None bytes decl rows t (p, is, e) = let s : Subject = record { program = p; decl = decl; rows = rows } in kinds_by_flow (flow_fault p) s t e
-kinds_by_decode (Some refusal) bytes decl rows t e = absurd (cc)
-
 known_in : (bytes : List ℕ) (decl : Decl) (rows : List KindRow) (judged : Judged) → AreKinds rows → IsJudged bytes decl rows judged → AreKnown (accepted_in judged)
 known_in bytes decl rows (Refused code slot) kinds is k d lt = absurd (omega arith)
-known_in bytes decl rows (Accepted t) kinds is zero d lt = ap kinds_of (kinds_by_decode (decode_fault bytes) bytes decl rows t is) ∙ kinds_known rows kinds
+known_in bytes decl rows (Accepted t) kinds is zero d lt = accepted_kinds bytes decl rows (Accepted t) t kinds is refl
 known_in bytes decl rows (Accepted t) kinds is (suc k) d lt = absurd (omega (arith, lt))
 
 known_of : (verdicts : List Verdict) → AreKnown (accepted_of verdicts)

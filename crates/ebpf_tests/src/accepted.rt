@@ -1,5 +1,10 @@
 //! Accepted programs, from scripts.
 
+ghost use Rattle.std.specs.Prelude.{◌≡◌};
+ghost use Rattle.ebpf_machine.specs.World.{kinds_of};
+ghost use Rattle.ebpf_machine.specs.Kinds.{known_kinds};
+ghost use Rattle.ebpf_core.specs.Shown.{AreKnown};
+
 use crate::programs::holds;
 use ebpf_core::event::Event;
 use ebpf_script::judge::{Judged, judge};
@@ -19,7 +24,9 @@ pub(crate) fn script_of(rt: &impl Abort, alloc: Global, text: &str) -> Script {
 }
 
 // A program of a script, accepted.
-fn accepted(rt: &impl Abort, alloc: Global, program: &ProgramText) -> Verified {
+fn accepted(rt: &impl Abort, alloc: Global, program: &ProgramText) -> Verified
+    ensures { kinds_of result.rows ≡ known_kinds }
+{
     match judge(alloc, &program.bytes, program.decl, &kinds()) {
         Ok(Judged::Accepted(verified)) => verified,
         _ => panic!(rt; "a program is refused"),
@@ -27,7 +34,9 @@ fn accepted(rt: &impl Abort, alloc: Global, program: &ProgramText) -> Verified {
 }
 
 // The programs of a script, each accepted, and its events.
-pub(crate) fn read(rt: &impl Abort, alloc: Global, text: &str) -> (Vec<Verified>, Vec<Event>) {
+pub(crate) fn read(rt: &impl Abort, alloc: Global, text: &str) -> (Vec<Verified>, Vec<Event>)
+    ensures { AreKnown result.0.items }
+{
     let script = script_of(rt, alloc, text);
     let mut programs = Vec::new(alloc);
     for (_, program) in script.programs.iter() {

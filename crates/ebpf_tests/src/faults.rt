@@ -28,12 +28,27 @@ fn faults(alloc: Global) -> Result<String, AllocError> {
     let mut told = String::new(alloc);
     let slot = 3;
     let code = FlowCode::F2;
-    write!(told, "{}\n{}\n", FlowFault::Bad { slot, code }, FlowFault::NoMemory)?;
+    write!(
+        told,
+        "{}\n{}\n",
+        FlowFault::Bad { slot, code },
+        FlowFault::NoMemory
+    )?;
     let slot = 4095;
     let code = VerifyCode::V19;
-    write!(told, "{}\n{}\n", VerifyFault::Refused { slot, code }, VerifyFault::NoMemory)?;
+    write!(
+        told,
+        "{}\n{}\n",
+        VerifyFault::Refused { slot, code },
+        VerifyFault::NoMemory
+    )?;
     write!(told, "{}\n{}\n", JoinFault::HeldDiffer, JoinFault::NoMemory)?;
-    write!(told, "{}\n{}\n", StartFault::ContextLength, StartFault::NoMemory)?;
+    write!(
+        told,
+        "{}\n{}\n",
+        StartFault::ContextLength,
+        StartFault::NoMemory
+    )?;
     write!(told, "{}\n{}\n", EngineFault::Input, EngineFault::Output)?;
     write!(told, "{}\n", EngineFault::NoMemory)?;
     Ok(told)

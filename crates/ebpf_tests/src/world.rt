@@ -1,6 +1,8 @@
 //! Worlds of small programs, each written as a script: what replay answers, which events are refused, and that no order
 //! matters.
 
+ghost use Rattle.ebpf_core.specs.Shown.{AreKnown};
+
 use crate::accepted::read;
 use crate::programs::{column, holds, is_told};
 use ebpf_core::event::{Answer, Context, Event};
@@ -142,7 +144,9 @@ the context is too long | E10 | start seven 09
 ";
 
 // The code and the number of the first event that isn't legal.
-fn fault_of(alloc: Global, programs: &[Verified], events: &[Event]) -> Result<String, AllocError> {
+fn fault_of(alloc: Global, programs: &[Verified], events: &[Event]) -> Result<String, AllocError>
+    requires { AreKnown programs.now }
+{
     match replay(alloc, programs, events) {
         Err(ReplayFault::Bad { index, code }) => format!(in alloc; "{code:?} {index}"),
         _ => "no fault".to_string(alloc),
@@ -157,7 +161,9 @@ fn is_refused(
     events: &[Event],
     event: Event,
     code: &str,
-) {
+)
+    requires { AreKnown programs.now }
+{
     let mut world = replay(alloc, programs, events).expect(rt, "each event is legal");
     let told = match world.apply(event) {
         Err(ApplyFault::Bad(code)) => format!(in alloc; "{code:?}"),
@@ -262,7 +268,9 @@ fn ends_with(rt: &impl Abort, alloc: Global, world: &World<'_>, run: usize, expe
 }
 
 // Tries an order: each program returns its number after five instructions.
-fn ends_alike(rt: &impl Abort, alloc: Global, programs: &[Verified], order: u16) {
+fn ends_alike(rt: &impl Abort, alloc: Global, programs: &[Verified], order: u16)
+    requires { AreKnown programs.now }
+{
     let events = events_of(alloc, order).expect(rt, "out of memory");
     let world = replay(alloc, programs, &events).expect(rt, "each event is legal");
     ends_with(rt, alloc, &world, run_of(order, 0), "exit 10 executed 5");
