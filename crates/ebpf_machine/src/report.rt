@@ -1,13 +1,11 @@
 //! What a run is found to have done.
 
-ghost use Rattle.std.specs.Prelude.{◌≡◌};
-
 use std::marker::Model;
 
 /// The numbers that a run added to its output, in order. Contracts see it as the list.
 #[derive(Drop)]
 pub struct Output {
-    numbers: Vec<u64>,
+    pub numbers: Vec<u64>,
 }
 
 impl Model for Output {
@@ -18,26 +16,10 @@ impl Model for Output {
     ghost view = { λ o. o.numbers.items };
 }
 
-impl Output {
-    /// An output of these numbers.
-    pub(crate) fn new(numbers: Vec<u64>) -> Output
-        ensures { result ≡ numbers.items }
-    {
-        Output { numbers }
-    }
-
-    /// The numbers as a slice.
-    pub fn as_slice(&self) -> &[u64]
-        ensures { result.now ≡ self.now }
-    {
-        &self.numbers
-    }
-}
-
 /// For each call of `new` that a run made, in order, whether it was granted. Contracts see it as the list.
 #[derive(Drop)]
 pub struct Answers {
-    granted: Vec<bool>,
+    pub granted: Vec<bool>,
 }
 
 impl Model for Answers {
@@ -46,22 +28,6 @@ impl Model for Answers {
     ghost Value = { List Bool };
 
     ghost view = { λ a. a.granted.items };
-}
-
-impl Answers {
-    /// These answers.
-    pub(crate) fn new(granted: Vec<bool>) -> Answers
-        ensures { result ≡ granted.items }
-    {
-        Answers { granted }
-    }
-
-    /// The answers as a slice: true where the call was granted.
-    pub fn as_slice(&self) -> &[bool]
-        ensures { result.now ≡ self.now }
-    {
-        &self.granted
-    }
 }
 
 /// What a run did until it exited, or until it was given up.
