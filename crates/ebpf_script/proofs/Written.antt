@@ -58,7 +58,6 @@ begun_through Tells None old new (Err fault) h tells = tt
 begun_through Tells (Some all) old new (Err fault) h tells = λ e. let begun = h e in (begun.0, tells all begun.0 begun.1, begun.2)
 
 -- what was read is gone from the reader
-pub consumed_by : (input rest : Option (List ℕ)) (bytes : List ℕ) (result : Result Done EngineFault) → IfSome input (λ all. bytes ≡ read_of all) → Consumes input rest bytes → IfOk result (λ done. IfSome input (λ all. Consumes input rest (read_of all)))
-consumed_by input rest bytes (Err fault) read took = tt
-consumed_by None rest bytes (Ok done) read took = tt
-consumed_by (Some all) rest bytes (Ok done) read took = subst (λ (xs : List ℕ). Consumes (Some all) rest xs) read took
+pub consumed_by : (input rest : Option (List ℕ)) (bytes : List ℕ) → IfSome input (λ all. bytes ≡ read_of all) → Consumes input rest bytes → IfSome input (λ all. Consumes input rest (read_of all))
+consumed_by None rest bytes read took = tt
+consumed_by (Some all) rest bytes read took = subst (λ (xs : List ℕ). Consumes (Some all) rest xs) read took

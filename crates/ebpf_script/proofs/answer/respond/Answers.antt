@@ -17,4 +17,4 @@ returns-clause-told g c =
     told_by (λ xs t. FnOnceReturnsAt g.F.FnOnce c.args.answer xs (Ok t)) _ _ _ _ _ told c.in_ok-input.ensures.read c.deref.ensures.value (rw c.answer-2.view_is (c.deref.result, c.in_ok-answer.ensures, refl)) (rw (← c.as_bytes.ensures.value) c.in_ok-write_text.ensures.written)
 
 pub returns-clause-consumed : goal.returns-clause-consumed
-returns-clause-consumed g c = consumed_by _ _ _ _ c.in_ok-input.ensures.read c.in_ok-input.ensures.consumed
+returns-clause-consumed g c = consumed_by _ _ _ c.in_ok-input.ensures.read c.in_ok-input.ensures.consumed
