@@ -1,13 +1,11 @@
 //! What can happen in the world.
 
-ghost use Rattle.std.specs.Prelude.{◌≡◌};
-
 use std::marker::Model;
 
 /// The bytes that a run's program reads as its context. Contracts see it as the list.
 #[derive(Drop)]
 pub struct Context {
-    bytes: Vec<u8>,
+    pub bytes: Vec<u8>,
 }
 
 impl Model for Context {
@@ -16,29 +14,6 @@ impl Model for Context {
     ghost Value = { List ℕ };
 
     ghost view = { λ c. c.bytes.items };
-}
-
-impl Context {
-    /// The context of these bytes.
-    pub fn new(bytes: Vec<u8>) -> Context
-        ensures { result ≡ bytes.items }
-    {
-        Context { bytes }
-    }
-
-    /// The bytes as a slice.
-    pub fn as_slice(&self) -> &[u8]
-        ensures { result.now ≡ self.now }
-    {
-        &self.bytes
-    }
-
-    // The bytes themselves.
-    pub(crate) fn into_bytes(self) -> Vec<u8>
-        ensures { result.items ≡ self }
-    {
-        self.bytes
-    }
 }
 
 /// What an event brings to a call of `new`.

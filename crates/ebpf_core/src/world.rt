@@ -89,10 +89,10 @@ impl<'v> World<'v> {
     {
         match event {
             Event::Start { program, context } => {
-                let Ok(bytes) = context.as_slice().to_vec(self.alloc) else {
+                let Ok(bytes) = context.bytes.to_vec(self.alloc) else {
                     return Err(ApplyFault::NoMemory);
                 };
-                self.start(*program, Context::new(bytes))
+                self.start(*program, Context { bytes })
             }
             Event::Exec { run, answer } => self.execute(*run, *answer),
             Event::Grow { kind: _, slot: _ } => Err(ApplyFault::Bad(ApplyCode::E9)),
@@ -111,7 +111,7 @@ impl<'v> World<'v> {
         if program >= programs.len() {
             return Err(ApplyFault::Bad(ApplyCode::E9));
         }
-        match Run::start(self.alloc, &programs[program], context.into_bytes()) {
+        match Run::start(self.alloc, &programs[program], context.bytes) {
             Ok(run) => {
                 if self.runs.push(run).is_err() {
                     return Err(ApplyFault::NoMemory);

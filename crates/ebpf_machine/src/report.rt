@@ -1,13 +1,11 @@
 //! What a run is found to have done.
 
-ghost use Rattle.std.specs.Prelude.{◌≡◌};
-
 use std::marker::Model;
 
 /// The numbers that a run added to its output, in order. Contracts see it as the list.
 #[derive(Drop)]
 pub struct Output {
-    numbers: Vec<u64>,
+    pub numbers: Vec<u64>,
 }
 
 impl Model for Output {
@@ -16,22 +14,6 @@ impl Model for Output {
     ghost Value = { List ℕ };
 
     ghost view = { λ o. o.numbers.items };
-}
-
-impl Output {
-    /// An output of these numbers.
-    pub(crate) fn new(numbers: Vec<u64>) -> Output
-        ensures { result ≡ numbers.items }
-    {
-        Output { numbers }
-    }
-
-    /// The numbers as a slice.
-    pub fn as_slice(&self) -> &[u64]
-        ensures { result.now ≡ self.now }
-    {
-        &self.numbers
-    }
 }
 
 /// What a call of `new` was answered.
@@ -46,7 +28,7 @@ pub enum Reply {
 /// What each call of `new` that a run made was answered, in order. Contracts see it as the list.
 #[derive(Drop)]
 pub struct Answers {
-    replies: Vec<Reply>,
+    pub replies: Vec<Reply>,
 }
 
 impl Model for Answers {
@@ -56,22 +38,6 @@ impl Model for Answers {
     ghost Value = { List Reply };
 
     ghost view = { λ a. a.replies.items };
-}
-
-impl Answers {
-    /// These replies.
-    pub(crate) fn new(replies: Vec<Reply>) -> Answers
-        ensures { result ≡ replies.items }
-    {
-        Answers { replies }
-    }
-
-    /// The replies as a slice.
-    pub fn as_slice(&self) -> &[Reply]
-        ensures { result.now ≡ self.now }
-    {
-        &self.replies
-    }
 }
 
 /// What a run did until it exited, or until it was given up.

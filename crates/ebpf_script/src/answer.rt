@@ -1,19 +1,24 @@
-//! What a command answers.
+//! What a command answers, and how each command is answered.
 
-ghost use Rattle.std.specs.Prelude.{◌≡◌, ◌≤◌, ℕ, IfOk, IfErr, OnErr, length, string_bytes, take};
-ghost use Rattle.std.specs.Io.KnownBytes.{Appends};
+ghost use Rattle.std.specs.Prelude.{◌≡◌, ◌≢◌, ◌≤◌, ℕ, IfOk, IfErr, IfSome, Ok, length, take};
+ghost use Rattle.std.specs.Fn.{FnOnceReturnsAt};
+ghost use Rattle.std.specs.Io.KnownBytes.{Appends, Consumes};
 ghost use Rattle.ebpf_script.specs.declared.done.EngineFault.TheVariants.{Output};
+ghost use Rattle.ebpf_script.specs.Input.{read_of};
+ghost use Rattle.ebpf_script.specs.Told.{Told};
 
 use crate::done::{Done, EngineFault};
+use crate::input::read_input;
 use crate::output::write_text;
-use std::io::Write;
+use std::alloc::{AllocError, Global};
+use std::io::{Read, Write};
 use std::marker::Model;
 
-/// A whole text, and how the command that writes it ends.
+/// A whole text, and how the command that writes it ends. Contracts see the text as its bytes.
 #[derive(Drop)]
 pub struct Answer {
-    text: String,
-    done: Done,
+    pub text: String,
+    pub done: Done,
 }
 
 impl Model for Answer {
@@ -25,25 +30,28 @@ impl Model for Answer {
     ghost view = { λ a. record { text = string_bytes a.text; done = a.done } };
 }
 
-impl Answer {
-    /// The answer of a text and of how the command ends.
-    pub fn new(text: String, done: Done) -> Answer
-        ensures { result ≡ record { text = string_bytes text; done = done } }
-    {
-        Answer { text, done }
-    }
-
-    /// Writes the text, flushes the writer, and says how the command ends.
-    ///
-    /// # Errors
-    /// `Output` where a write failed, an interrupted one too, or took nothing, or the flush failed: what was written is a
-    /// beginning of the text.
-    pub fn write_to<W: Write>(&self, writer: &mut W) -> Result<Done, EngineFault>
-        ensures told { IfOk result (λ done. (self.now.done ≡ done) × Appends (W.contents writer.old) (W.contents writer.new) self.now.text) }
-        ensures beginning { OnErr result ((n : ℕ) × (n ≤ length self.now.text) × Appends (W.contents writer.old) (W.contents writer.new) (take n self.now.text)) }
-        ensures err { IfErr result (λ e. e ≡ Output) }
-    {
-        write_text(writer, self.text.as_bytes())?;
-        Ok(self.done)
-    }
+/// Reads the whole input, has it answered, writes the answer's text, flushes the writer, and says how the command ends. Of
+/// an input that is too long the first 1,048,577 bytes are read and answered.
+///
+/// # Errors
+/// `Input` where a read failed and `NoMemory` where a growth was refused: nothing was written then. `Output` where a write
+/// failed or took nothing.
+pub fn respond<R: Read, W: Write, F: FnOnce(&[u8]) -> Result<Answer, AllocError> + Drop>(
+    alloc: Global,
+    reader: &mut R,
+    writer: &mut W,
+    answer: F,
+) -> Result<Done, EngineFault>
+    requires { F.IsAlwaysCallable answer }
+    // The text of the input's answer is written, and nothing else.
+    ensures told { IfOk result (λ done. IfSome (R.remaining reader.old) (λ input. (told : Told) × FnOnceReturnsAt F.FnOnce answer (read_of input) (Ok told) × (told.done ≡ done) × Appends (W.contents writer.old) (W.contents writer.new) told.text)) }
+    // What was read is gone from the reader, and nothing behind it.
+    ensures consumed { IfOk result (λ done. IfSome (R.remaining reader.old) (λ input. Consumes (R.remaining reader.old) (R.remaining reader.new) (read_of input))) }
+    ensures untouched { IfErr result (λ fault. fault ≢ Output → writer.new ≡ writer.old) }
+    ensures beginning { IfErr result (λ fault. IfSome (R.remaining reader.old) (λ input. fault ≡ Output → (told : Told) × FnOnceReturnsAt F.FnOnce answer (read_of input) (Ok told) × ((n : ℕ) × (n ≤ length told.text) × Appends (W.contents writer.old) (W.contents writer.new) (take n told.text)))) }
+{
+    let input = read_input(alloc, reader)?;
+    let answer = answer(&input)?;
+    write_text(writer, answer.text.as_bytes())?;
+    Ok(answer.done)
 }

@@ -1,8 +1,8 @@
-//! What the commands over scripts share with one another and with the command `one`: reading an input, hex, the verdict
-//! on the bytes of a program, and the text that is told.
+//! What the commands over scripts share with one another and with the command `one`: hex, the verdict on the bytes of a
+//! program, the text that is told, and how an input is answered.
 //!
 //! A command tells a whole text or a beginning of it, and writes nothing else. So each command is a function from what is
-//! read to an [`answer::Answer`], between [`input::read_input`] and [`answer::Answer::write_to`].
+//! read to an [`answer::Answer`], and [`answer::respond`] reads and writes around it.
 //!
 //! To be read in this order: `done`, `input`, `hex_text`, `codes`, `judge`, `text`, `output`, `answer`.
 #![tactic(auto)]
@@ -11,7 +11,7 @@ pub mod answer;
 pub mod codes;
 pub mod done;
 pub mod hex_text;
-pub mod input;
+mod input;
 pub mod judge;
 mod output;
 pub mod reader;

@@ -10,10 +10,9 @@ ghost use Rattle.ebpf_script.specs.ReplayText.{TellsReplay, TellsSaid, world_tol
 ghost use Rattle.ebpf_script.specs.Input.{read_of};
 ghost use Rattle.ebpf_script.specs.Told.{Told};
 
-use crate::answer::Answer;
+use crate::answer::{Answer, respond};
 use crate::codes::apply_name;
 use crate::done::{Done, EngineFault};
-use crate::input::read_input;
 use crate::reader::read_script;
 use crate::reader::script::{Script, ScriptStop};
 use crate::text::fault_line;
@@ -43,9 +42,7 @@ pub fn replay<R: Read, W: Write>(
     ensures untouched { IfErr result (λ fault. fault ≢ Output → writer.new ≡ writer.old) }
     ensures beginning { IfErr result (λ fault. IfSome (R.remaining reader.old) (λ input. fault ≡ Output → (told : Told) × TellsReplay input told × ((n : ℕ) × (n ≤ length told.text) × Appends (W.contents writer.old) (W.contents writer.new) (take n told.text)))) }
 {
-    let input = read_input(alloc, reader)?;
-    let answer = answer_text(alloc, &input)?;
-    answer.write_to(writer)
+    respond(alloc, reader, writer, |input| answer_text(alloc, input))
 }
 
 // What is told of a text.
@@ -56,7 +53,10 @@ fn answer_text(alloc: Global, text: &[u8]) -> Result<Answer, AllocError>
         Ok(script) => answer_script(alloc, &script),
         Err(ScriptStop::Fault(fault)) => {
             let line = fault_line(alloc, fault.code, fault.line)?;
-            Ok(Answer::new(line, Done::Refused))
+            Ok(Answer {
+                text: line,
+                done: Done::Refused,
+            })
         }
         Err(ScriptStop::NoMemory) => Err(AllocError),
     }
@@ -68,7 +68,10 @@ fn answer_script(alloc: Global, script: &Script) -> Result<Answer, AllocError>
 {
     let verdicts = verdicts_on(alloc, &script.programs)?;
     if verdicts.refused {
-        return Ok(Answer::new(verdicts.text, Done::Refused));
+        return Ok(Answer {
+            text: verdicts.text,
+            done: Done::Refused,
+        });
     }
     answer_events(alloc, verdicts.text, &verdicts.accepted, &script.events)
 }
@@ -87,12 +90,18 @@ fn answer_events(
     match replay_events(alloc, programs, events) {
         Ok(world) => {
             write_world(&mut text, &world)?;
-            Ok(Answer::new(text, Done::Clean))
+            Ok(Answer {
+                text,
+                done: Done::Clean,
+            })
         }
         Err(ReplayFault::Bad { index, code }) => {
             let code = apply_name(code);
             write!(text, "stopped {code} {index}\n")?;
-            Ok(Answer::new(text, Done::Refused))
+            Ok(Answer {
+                text,
+                done: Done::Refused,
+            })
         }
         Err(ReplayFault::NoMemory) => Err(AllocError),
     }

@@ -54,7 +54,7 @@ impl Abs {
     }
 
     /// What is known where two paths meet, one of which knows each.
-    pub fn join(self, other: Abs) -> Abs
+    pub(crate) fn join(self, other: Abs) -> Abs
         requires left { IsProper self }
         requires right { IsProper other }
         ensures value { result ≡ joined_value self other }

@@ -7,7 +7,7 @@ use std::alloc::AllocError;
 pub(crate) fn tell_event(told: &mut String, event: &Event) -> Result<(), AllocError> {
     match event {
         Event::Start { program, context } => {
-            let bytes = context.as_slice();
+            let bytes = context.bytes.as_slice();
             write!(told, "start {program} {bytes:?}\n")
         }
         Event::Exec { run, answer } => match answer {

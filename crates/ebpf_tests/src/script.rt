@@ -5,11 +5,10 @@ use crate::events::tell_event;
 use crate::programs::{holds, is_told};
 use ebpf_flow::fault::FlowCode;
 use ebpf_insn::fault::DecodeCode;
-use ebpf_script::answer::Answer;
+use ebpf_script::answer::{Answer, respond};
 use ebpf_script::codes::RefusalCode;
 use ebpf_script::done::{Done, FaultCode};
 use ebpf_script::hex_text::{hex_bytes, hex_or_dash};
-use ebpf_script::input::read_input;
 use ebpf_script::reader::script::{ProgramText, Script};
 use ebpf_script::text::fault_line;
 use ebpf_verify::fault::VerifyCode;
@@ -108,14 +107,21 @@ fn codes_are_written_by_their_names(rt: HostRuntime) {
 }
 
 #[test]
-fn an_input_is_read_and_an_answer_is_written(rt: HostRuntime) {
+fn an_input_is_read_and_its_answer_is_written(rt: HostRuntime) {
+    let alloc = rt.alloc();
     let mut reader = b"b70".as_slice();
-    let input = read_input(rt.alloc(), &mut reader).expect(&rt, "no input");
-    holds(&rt, "the input", input.as_slice() == b"b70".as_slice());
-    let line = fault_line(rt.alloc(), FaultCode::S3, 12).expect(&rt, "out of memory");
-    let answer = Answer::new(line, Done::Refused);
-    let mut written = Vec::new(rt.alloc());
-    let done = answer.write_to(&mut written).expect(&rt, "no output");
+    let mut written = Vec::new(alloc);
+    let done = respond(alloc, &mut reader, &mut written, |input| {
+        holds(&rt, "the input", input == b"b70".as_slice());
+        Ok(Answer {
+            text: fault_line(alloc, FaultCode::S3, 12)?,
+            done: Done::Refused,
+        })
+    });
     let is_whole = written.as_slice() == b"fault S3 line 12\n".as_slice();
-    holds(&rt, "the line", is_whole && matches!(done, Done::Refused));
+    holds(
+        &rt,
+        "the line",
+        is_whole && matches!(done, Ok(Done::Refused)),
+    );
 }

@@ -10,6 +10,8 @@ use ebpf_state::kinds::kinds;
 use ebpf_state::state::State;
 use ebpf_state::value::Abs;
 use ebpf_state::word::Word;
+use std::alloc::Global;
+use std::process::Abort;
 
 // Their names, sizes and fills.
 const KINDS: [(&str, u32, u8); 3] = [
@@ -42,38 +44,50 @@ fn spilled_number(value: u64) -> Word
     Word::Spill(Abs::Num(Range::constant(value)))
 }
 
+// What is known of a register where two paths meet, one of which knows each.
+fn joined(rt: &impl Abort, alloc: Global, left: Abs, right: Abs) -> Abs
+    requires left { IsProper left }
+    requires right { IsProper right }
+{
+    let mut one = State::start(alloc);
+    let mut other = State::start(alloc);
+    one.set(Reg::R2, left);
+    other.set(Reg::R2, right);
+    one.join(&other).expect(rt, "out of memory").reg(Reg::R2)
+}
+
 #[test]
 fn values_are_joined_to_what_both_know(rt: HostRuntime) {
-    let hull = number(1).join(number(5));
+    let hull = joined(&rt, rt.alloc(), number(1), number(5));
     let is_hull = matches!(hull, Abs::Num(Range { lo: 1, hi: 5 }));
     holds(&rt, "two numbers", is_hull);
-    let none = number(1).join(Abs::Stk(0));
+    let none = joined(&rt, rt.alloc(), number(1), Abs::Stk(0));
     holds(&rt, "a number and a pointer", none.is_unset());
-    let same = Abs::Stk(8).join(Abs::Stk(8));
+    let same = joined(&rt, rt.alloc(), Abs::Stk(8), Abs::Stk(8));
     holds(
         &rt,
         "the same place of the stack",
         matches!(same, Abs::Stk(8)),
     );
-    let none = Abs::Stk(8).join(Abs::Stk(0));
+    let none = joined(&rt, rt.alloc(), Abs::Stk(8), Abs::Stk(0));
     holds(&rt, "two places of the stack", none.is_unset());
-    let both = Abs::Ctx(0, 1).join(Abs::Ctx(4, 4));
+    let both = joined(&rt, rt.alloc(), Abs::Ctx(0, 1), Abs::Ctx(4, 4));
     holds(
         &rt,
         "two places of the context",
         matches!(both, Abs::Ctx(0, 4)),
     );
-    let both = Abs::Ob(1, 0, 0).join(Abs::Ob(1, 8, 8));
+    let both = joined(&rt, rt.alloc(), Abs::Ob(1, 0, 0), Abs::Ob(1, 8, 8));
     holds(
         &rt,
         "two places of an object",
         matches!(both, Abs::Ob(1, 0, 8)),
     );
-    let none = Abs::Ob(1, 0, 0).join(Abs::Ob(2, 0, 0));
+    let none = joined(&rt, rt.alloc(), Abs::Ob(1, 0, 0), Abs::Ob(2, 0, 0));
     holds(&rt, "two objects", none.is_unset());
-    let same = Abs::May(1).join(Abs::May(1));
+    let same = joined(&rt, rt.alloc(), Abs::May(1), Abs::May(1));
     holds(&rt, "the same answer", matches!(same, Abs::May(1)));
-    let none = Abs::May(1).join(Abs::May(2));
+    let none = joined(&rt, rt.alloc(), Abs::May(1), Abs::May(2));
     holds(&rt, "two answers", none.is_unset());
 }
 

@@ -27,13 +27,6 @@ exec 0
 // What is read of a world of two runs after those events.
 const AFTER_SEVEN: &str = "exit 7 executed 2, going 1 executed 1";
 
-#[test]
-fn a_context_has_its_bytes(rt: HostRuntime) {
-    let bytes = Vec::from_slice(rt.alloc(), &[1, 2, 3]).expect(&rt, "out of memory");
-    let context = Context::new(bytes);
-    holds(&rt, "three bytes", matches!(context.as_slice(), [1, 2, 3]));
-}
-
 // How far a run of a world is.
 fn progress(alloc: Global, world: &World<'_>, run: usize) -> Result<String, AllocError> {
     match (world.status(run), world.executed(run)) {
@@ -200,7 +193,9 @@ fn a_start_of_no_program_is_not_legal(rt: HostRuntime) {
     let (programs, mut events) = read(&rt, rt.alloc(), SEVEN);
     let start = |alloc| Event::Start {
         program: 1,
-        context: Context::new(Vec::new(alloc)),
+        context: Context {
+            bytes: Vec::new(alloc),
+        },
     };
     is_refused(&rt, rt.alloc(), &programs, &events, start(rt.alloc()), "E9");
     let is_pushed = events.push(start(rt.alloc())).is_ok();
@@ -251,7 +246,9 @@ fn events_of(alloc: Global, order: u16) -> Result<Vec<Event>, AllocError> {
                 answer: Answer::Absent,
             })?;
         } else {
-            let context = Context::new(Vec::new(alloc));
+            let context = Context {
+                bytes: Vec::new(alloc),
+            };
             events.push(Event::Start { program, context })?;
         }
         if let Some(mark) = begun.get_mut(program) {

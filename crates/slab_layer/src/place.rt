@@ -3,7 +3,7 @@
 //! *The idea.* An object of a slab is in one of two places, and a slot of no slab is in none.
 
 /// Where an object of a slab is: home, in its slab, or out, with whoever took it.
-#[derive(Clone, Copy, PartialEq)]
+#[derive(Clone, Copy)]
 pub enum Place {
     Home,
     Out,

@@ -94,7 +94,7 @@ impl<K: Kind> Slab<K> {
     pub fn is_out(&self, index: usize) -> bool
         ensures { IsTrue result ↔ (slice_get self.now.places.items index ≡ Some Out) }
     {
-        self.places.get(index).copied() == Some(Place::Out)
+        matches!(self.places.get(index), Some(Place::Out))
     }
 
     /// Some object is home.

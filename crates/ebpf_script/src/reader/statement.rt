@@ -67,7 +67,7 @@ pub(crate) fn read_start(
     let Some(program) = script.programs.get_index_of(name) else {
         return Err(LineStop::Fault(FaultCode::S7));
     };
-    let context = Context::new(bytes);
+    let context = Context { bytes };
     script.events.push(Event::Start { program, context })?;
     Ok(())
 }

@@ -21,7 +21,7 @@ returns-in-Err-ContextLength-clause-refused c = rw (← c.self.view_is) (λ w h.
     let at = slice_get_read c.self.inside.programs.now _ c.args.program c.index-programs-program.result refl (omega arith) c.index-programs-program.is in (
       WrongContext,
       starting_long c.self.inside.programs.now c.args.program c.index-programs-program.result c.args.context w at
-          (λ e. subst (IsStartFault (length c.into_bytes.result.items) c.index-programs-program.result.decl.context) c.in-Err-ContextLength.field-0-is c.in-Err-ContextLength.ensures.refused (ap length c.into_bytes.ensures ∙ e)),
+          (λ e. subst (IsStartFault (length c.context.inside.bytes.items) c.index-programs-program.result.decl.context) c.in-Err-ContextLength.field-0-is c.in-Err-ContextLength.ensures.refused (ap length c.context.view_is ∙ e)),
       refl,
     ))
 
@@ -29,7 +29,7 @@ pub returns-else-is_err-clause-done : goal.returns-else-is_err-clause-done
 returns-else-is_err-clause-done c = rw (← c.self.view_is) (λ w h.
     let at = slice_get_read c.self.inside.programs.now _ c.args.program c.index-programs-program.result refl (omega arith) c.index-programs-program.is in
     let pushed : c.push.new.self.items ≡ c.self.inside.runs.items ++ c.in-Ok.run' ∷ [] = search rules in
-    starting_shows c.self.inside.programs.now c.args.program c.index-programs-program.result c.args.context c.into_bytes.result.items w _ c.in-Ok.run' c.push.new.self.items (at_number (λ (s : Subject). kinds_of s.rows ≡ known_kinds) c.self.inside.programs.now c.args.program c.index-programs-program.result c.self.invariant.known at) h at c.into_bytes.ensures c.in-Ok.ensures.length c.in-Ok.ensures.started pushed)
+    starting_shows c.self.inside.programs.now c.args.program c.index-programs-program.result c.args.context c.context.inside.bytes.items w _ c.in-Ok.run' c.push.new.self.items (at_number (λ (s : Subject). kinds_of s.rows ≡ known_kinds) c.self.inside.programs.now c.args.program c.index-programs-program.result c.self.invariant.known at) h at c.context.view_is c.in-Ok.ensures.length c.in-Ok.ensures.started pushed)
 
 pub invariant_of-self-in-Ok : goal.invariant_of-self-in-Ok
 invariant_of-self-in-Ok c =
