@@ -1,0 +1,2 @@
+pub mod Reaping
+pub mod Moving

@@ -1,0 +1,12 @@
+use Rattle.std.proofs.Common.{◌≡◌, ◌+◌, ◌^◌, ◌≤◌, length}
+use Rattle.slab_layer.specs.Slots.{out_count}
+use Rattle.object_cache.proofs.homing.unload.Given as goal
+
+abbrev pub invariant-loop-object : goal.invariant-loop-object
+invariant-loop-object g l = record {
+  few : l.foreign ≤ 2 ^ 56;
+  counted : out_count l.slabs + l.initial.foreign + length l.initial.magazine ≡ out_count l.initial.slabs + l.foreign + length l.magazine;
+}
+
+abbrev pub decreases-loop-object : goal.decreases-loop-object
+decreases-loop-object g l = length l.magazine
