@@ -1,6 +1,6 @@
 //! Objects that go through caches, by one hand and by many on threads side by side.
 
-ghost use Rattle.std.specs.Prelude.{◌≡◌, ◌<◌, ◌≤◌, length, vec_len};
+ghost use Rattle.std.specs.Prelude.{◌≡◌, ◌+◌, ◌<◌, ◌≤◌, length, vec_len, vec_capacity};
 ghost use denote.Param.Send.{IsSync};
 
 use crate::facts::holds;
@@ -219,6 +219,100 @@ fn an_object_given_to_another_cache_is_missing_here_and_foreign_there(rt: HostRu
         Blank::new(65),
         Blank::new(65),
     );
+}
+
+// Takes so many objects, or fewer where memory is refused.
+fn take_some<K: Kind, A: Ledger, B: Ledger, R: Wait>(
+    rt: &R,
+    cache: &Cache<K, A, B>,
+    arena: &ArenaLock,
+    hand: &mut Hand<K, A, B>,
+    held: &mut Vec<Obj<K, Held>>,
+    count: u32,
+)
+    requires { vec_len held.old + count ≤ vec_capacity held.old }
+    ensures { vec_len held.new ≤ vec_len held.old + count }
+{
+    for _taken in 0..count {
+        if let Ok(object) = hand.take(rt, cache, arena) {
+            held.push_reserved(object);
+        }
+    }
+}
+
+// One hand takes up to 17 cells and gives them back. Where the memory of a page is refused, one of the takes is; where that
+// of the new magazine is, the last cell goes home. The answer is how many were taken, and how many slots were still out
+// when all were given back.
+fn spared<A: Ledger, B: Ledger, R: Wait + Abort>(
+    rt: &R,
+    arena: &ArenaLock,
+    cache: &Cache<CellKind, A, B>,
+    hand: &mut Hand<CellKind, A, B>,
+    held: &mut Vec<Obj<CellKind, Held>>,
+) -> (u32, u32)
+    requires none { vec_len held.old ≡ 0 }
+    requires room { 17 ≤ vec_capacity held.old }
+    ensures none { vec_len held.new ≡ 0 }
+    ensures most { result.0 ≤ 17 }
+{
+    take_some(rt, cache, arena, hand, held, 17);
+    let taken = held.len() as u32;
+    holds(rt, cache.out(rt) == taken);
+    give_all(rt, cache, hand, held);
+    let given = cache.out(rt);
+    holds(rt, given == taken || (taken == 17 && given == 16));
+    let left = if given == 17 { 9 } else { given };
+    holds(rt, cache.reap_pass(rt, arena) == 0 && cache.out(rt) == left);
+    hand.flush(rt, cache);
+    holds(rt, cache.reap_pass(rt, arena) == 1 && cache.out(rt) == 0);
+    (taken, given)
+}
+
+// The same with a cache of its own, where there is memory for one.
+fn sparing<A: Ledger, B: Ledger, R: Wait + Abort + Print>(
+    rt: &R,
+    alloc: Global,
+    outs: Blank,
+    ins: Blank,
+)
+    requires names { (outs.name ≡ A.name) × (ins.name ≡ B.name) }
+    requires parts { (outs.parts ≡ A.parts) × (ins.parts ≡ B.parts) }
+    requires all { (A.parts ≡ 65) × (B.parts ≡ 65) }
+{
+    let Ok(arena) = ArenaLock::new(alloc, 4) else {
+        return;
+    };
+    let Ok(mut hands) = Vec::with_capacity(alloc, 1) else {
+        return;
+    };
+    let Ok(mut held) = Vec::with_capacity(alloc, 17) else {
+        hands.destroy_empty();
+        return;
+    };
+    let Ok(mut cache) = Cache::<CellKind, A, B>::new(alloc, outs, ins) else {
+        hands.destroy_empty();
+        held.destroy_empty();
+        return;
+    };
+    let Ok(mut hand) = cache.hand(alloc) else {
+        held.destroy_empty();
+        holds(rt, are(cache.close(rt, hands, &arena), 0, 0, 0));
+        return;
+    };
+    let (taken, given) = spared(rt, &arena, &cache, &mut hand, &mut held);
+    held.destroy_empty();
+    hands.push_reserved(hand);
+    let count = u64::from(taken);
+    let totals = cache.close(rt, hands, &arena);
+    holds(rt, are(totals, count, count, 17 - count));
+
+    // The script that refuses memory looks for each of the outcomes.
+    let _ = println!(rt; "taken {taken}, out {given}");
+}
+
+#[test]
+fn cells_add_up_whatever_memory_is_refused(rt: HostRuntime) {
+    sparing::<Brand, Brand, HostRuntime>(&rt, rt.alloc(), Blank::new(65), Blank::new(65));
 }
 
 // Takes 17 objects and gives them back, so often.
