@@ -1,5 +1,5 @@
 -- How many pages slabs have, as they are given up one by one.
-use Rattle.std.proofs.Common.{◌≡◌, ℕ, zero, suc, ◌+◌, ◌*◌, ◌/◌, ◌<◌, ◌≤◌, ◌↔◌, ◌⊎◌, inl, inr, true, Option, None, Some, is_some, refl, sym, ap, ◌∙◌, arith}
+use Rattle.std.proofs.Common.{◌≡◌, ℕ, zero, suc, ◌+◌, ◌*◌, ◌/◌, ◌<◌, ◌≤◌, ◌↔◌, inl, inr, true, Option, None, Some, is_some, refl, sym, ap, ◌∙◌, arith}
 use Rattle.std.proofs.lemmas.Bool.{cases_lt, cases_eq, false≢true}
 use Rattle.slab_layer.specs.declared.place.Place.{Place}
 use Rattle.slab_layer.specs.Slots.{Pages, place_of, IsOut, Has, RemovesPage}
@@ -59,4 +59,15 @@ out_stays old new page removes idle slot = elim (cases_eq (slot / 256) page) [
   | inr other ↦
       let same = removes.others slot other in
       (λ is. sym same ∙ is, λ is. same ∙ is)
+]
+
+-- and of a page that stays no slot changes
+pub place_stays : (old new : Pages) (page : ℕ) → RemovesPage old new page → (slot : ℕ) → Has new (slot / 256) → Has old (slot / 256) × (place_of new slot ≡ place_of old slot)
+place_stays old new page removes slot has = elim (cases_eq (slot / 256) page) [
+  | inl here ↦
+      let gone = removes.removed (slot / 256 * 256) (omega arith) in
+      absurd (false≢true (sym (ap is_some gone) ∙ has))
+  | inr other ↦
+      let first = removes.others (slot / 256 * 256) (λ e. other (omega arith)) in
+      (sym (ap is_some first) ∙ has, removes.others slot other)
 ]

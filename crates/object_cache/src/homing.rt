@@ -3,9 +3,9 @@
 //! *The reason.* While a magazine is unloaded its rounds are neither in the depot nor home, so what the inside of a
 //! cache keeps does not hold in between. The steps here are on its parts, and each says how far they moved.
 
-ghost use Rattle.std.specs.Prelude.{◌≡◌, ℕ, ◌+◌, ◌/◌, ◌^◌, ◌≤◌, ◌↔◌, [], length};
-ghost use Rattle.slab_layer.specs.Slots.{IsOut, Has, Moves, out_count};
-ghost use Rattle.slab_layer.specs.declared.place.Place.TheVariants.{Home as HomePlace};
+ghost use Rattle.std.specs.Prelude.{◌≡◌, ℕ, ◌+◌, ◌/◌, ◌^◌, ◌≤◌, ◌↔◌, [], ◌∷◌, length};
+ghost use Rattle.slab_layer.specs.Slots.{IsOut, Has, out_count, place_of};
+ghost use Rattle.object_cache.specs.Homing.{SendsHome};
 
 use crate::count::count;
 use magazine::{Depot, Magazine};
@@ -21,8 +21,8 @@ pub fn go_home<K: Kind, R: Wait>(
     object: Obj<K, Ready>,
 )
     requires { foreign.old ≤ 2 ^ 56 }
-    ensures home { IsOut slabs.old object.slot → Moves slabs.old slabs.new object.slot HomePlace }
-    ensures stranger { (IsOut slabs.old object.slot → ⊥) → (slabs.new ≡ slabs.old) × (foreign.new ≡ foreign.old + 1) }
+    ensures sent { SendsHome slabs.old slabs.new (object.slot ∷ []) }
+    ensures stranger { (IsOut slabs.old object.slot → ⊥) → foreign.new ≡ foreign.old + 1 }
     ensures counted { out_count slabs.new + foreign.old + 1 ≡ out_count slabs.old + foreign.new }
     ensures few { foreign.new ≤ 2 ^ 56 }
 {
@@ -39,6 +39,7 @@ pub fn unload<K: Kind, R: Wait>(
     mut magazine: Magazine<K>,
 )
     requires { foreign.old ≤ 2 ^ 56 }
+    ensures sent { SendsHome slabs.old slabs.new magazine }
     ensures counted { out_count slabs.new + foreign.old + length magazine ≡ out_count slabs.old + foreign.new }
     ensures few { foreign.new ≤ 2 ^ 56 }
 {
@@ -56,6 +57,7 @@ pub fn drain<K: Kind, R: Wait>(
     depot: &mut Depot<K>,
 )
     requires { foreign.old ≤ 2 ^ 56 }
+    ensures sent { SendsHome slabs.old slabs.new depot.old.rounds }
     ensures empty { depot.new.rounds ≡ [] }
     ensures empties { depot.new.empties ≡ depot.old.empties }
     ensures counted { out_count slabs.new + foreign.old + length depot.old.rounds ≡ out_count slabs.old + foreign.new }
@@ -71,6 +73,7 @@ pub fn give_pages<K: Kind>(slabs: &mut Slabs<K>, arena: &mut Arena) -> u32
     ensures pages { arena.new.pages ≡ arena.old.pages }
     ensures taken { result + length arena.new.out ≡ length arena.old.out }
     ensures out { (slot : ℕ) → IsOut slabs.new slot ↔ IsOut slabs.old slot }
+    ensures kept { (slot : ℕ) → Has slabs.new (slot / 256) → place_of slabs.new slot ≡ place_of slabs.old slot }
     ensures counted { out_count slabs.new ≡ out_count slabs.old }
     ensures busy { (page : ℕ) → Has slabs.new page → (slot : ℕ) × (slot / 256 ≡ page) × IsOut slabs.new slot }
 {

@@ -12,13 +12,14 @@
 //! moves as much in a book as in the hand's share of it, so the sums agree when all shares are together again. Each
 //! change is a method that does the whole of it, so the equation holds whenever the lock is free.
 
-ghost use Rattle.std.specs.Prelude.{◌≡◌, ℕ, ◌+◌, ◌/◌, ◌^◌, ◌<◌, ◌≤◌, ◌↔◌, ◌⊎◌, [], ◌++◌, length, false, Some, None, IsTrue, IsSome, IsOk, IfOk, OnOk, OnErr, IfSome, IfNone, MatchOption, IsPermutation};
+ghost use Rattle.std.specs.Prelude.{◌≡◌, ℕ, ◌+◌, ◌/◌, ◌^◌, ◌<◌, ◌≤◌, ◌↔◌, ◌⊎◌, [], ◌∷◌, ◌++◌, length, false, None, Contains, IsTrue, IsSome, IsOk, IfOk, OnOk, OnErr, IfSome, IfNone, MatchOption, IsPermutation};
 ghost use Rattle.vmem_arena.specs.Spans.{AreFree};
-ghost use Rattle.slab_layer.specs.Slots.{IsHome, IsOut, Has, Moves, out_count, place_of};
-ghost use Rattle.slab_layer.specs.declared.place.Place.TheVariants.{Home as HomePlace, Out};
+ghost use Rattle.slab_layer.specs.Slots.{IsHome, IsOut, Has, Moves, out_count};
+ghost use Rattle.slab_layer.specs.declared.place.Place.TheVariants.{Out};
 ghost use Rattle.magazine.specs.LayerView.{rounds_of, IsEmpty, IsFull};
 ghost use Rattle.object_cache.specs.Growth.{GrowsBy, KeepsOut};
 ghost use Rattle.object_cache.specs.HandView.{refilled};
+ghost use Rattle.object_cache.specs.Homing.{TakesOut, SendsHome};
 
 use crate::arena_lock::ArenaLock;
 use crate::fault::TakeFault;
@@ -74,6 +75,7 @@ impl<K: Kind, A: Ledger, B: Ledger> Inner<K, A, B> {
         ensures previous { IsTrue result → layer.new.previous ≡ [] }
         ensures amount { IsTrue result → share.new.amount ≡ share.old.amount + K.ROUNDS }
         ensures rounds { IsTrue result → IsPermutation self.old.depot.rounds (layer.new.loaded ++ self.new.depot.rounds) }
+        ensures empties { IsTrue result → self.new.depot.empties ≡ self.old.depot.empties + 1 }
         ensures unchanged { result ≡ false → (layer.new ≡ layer.old) × (share.new.amount ≡ share.old.amount) × (self.new.depot ≡ self.old.depot) }
         ensures slabs { (self.new.slabs ≡ self.old.slabs) × (self.new.foreign ≡ self.old.foreign) }
     {
@@ -149,7 +151,7 @@ impl<K: Kind, A: Ledger, B: Ledger> Inner<K, A, B> {
 
         // An object that is home goes before a page more.
         ensures home { (slot : ℕ) → IsHome self.old.slabs slot → IsOk result }
-        ensures moved { IfOk result (λ found. IfSome found (λ object. place_of self.new.slabs object.slot ≡ Some Out)) }
+        ensures out { IfOk result (λ found. MatchOption found (self.new.slabs ≡ self.old.slabs) (λ object. TakesOut self.old.slabs self.new.slabs object.slot)) }
         ensures kept { IfOk result (λ found. IfSome found (λ _. layer.new ≡ layer.old)) }
         ensures fault { OnErr result ((layer.new ≡ layer.old) × (share.new.amount ≡ share.old.amount) × (self.new.slabs ≡ self.old.slabs)) }
     {
@@ -176,6 +178,7 @@ impl<K: Kind, A: Ledger, B: Ledger> Inner<K, A, B> {
         ensures previous { IsTrue result → layer.new.previous ≡ layer.old.loaded }
         ensures amount { IsTrue result → share.new.amount ≡ share.old.amount + K.ROUNDS }
         ensures rounds { IsTrue result → IsPermutation (layer.old.previous ++ self.old.depot.rounds) self.new.depot.rounds }
+        ensures empties { IsTrue result → self.new.depot.empties + 1 ≡ self.old.depot.empties }
         ensures unchanged { result ≡ false → (layer.new ≡ layer.old) × (share.new.amount ≡ share.old.amount) × (self.new.depot ≡ self.old.depot) }
         ensures slabs { (self.new.slabs ≡ self.old.slabs) × (self.new.foreign ≡ self.old.foreign) }
     {
@@ -211,8 +214,8 @@ impl<K: Kind, A: Ledger, B: Ledger> Inner<K, A, B> {
         requires { 0 < share.old.parts }
         ensures parts { share.new.parts ≡ share.old.parts }
         ensures amount { share.new.amount ≡ share.old.amount + 1 }
-        ensures home { IsOut self.old.slabs object.slot → Moves self.old.slabs self.new.slabs object.slot HomePlace }
-        ensures stranger { (IsOut self.old.slabs object.slot → ⊥) → (self.new.slabs ≡ self.old.slabs) × (self.new.foreign ≡ self.old.foreign + 1) }
+        ensures sent { SendsHome self.old.slabs self.new.slabs (object.slot ∷ []) }
+        ensures stranger { (IsOut self.old.slabs object.slot → ⊥) → self.new.foreign ≡ self.old.foreign + 1 }
         ensures depot { self.new.depot ≡ self.old.depot }
     {
         let Inner {
@@ -260,7 +263,7 @@ impl<K: Kind, A: Ledger, B: Ledger> Inner<K, A, B> {
 
         // An empty magazine of the depot always serves.
         ensures depot { (0 < self.old.depot.empties) → layer.new ≡ refilled layer.old object.slot }
-        ensures served { (layer.new ≡ refilled layer.old object.slot) ⊎ ((layer.new ≡ layer.old) × (IsOut self.old.slabs object.slot → Moves self.old.slabs self.new.slabs object.slot HomePlace)) }
+        ensures served { ((layer.new ≡ refilled layer.old object.slot) × (self.new.slabs ≡ self.old.slabs)) ⊎ ((layer.new ≡ layer.old) × SendsHome self.old.slabs self.new.slabs (object.slot ∷ [])) }
     {
         self.make_room(layer, share);
         if let Err(back) = layer.try_give(object) {
@@ -274,6 +277,7 @@ impl<K: Kind, A: Ledger, B: Ledger> Inner<K, A, B> {
         ensures parts { share.new.parts ≡ share.old.parts }
         ensures empty { IsEmpty layer.new }
         ensures amount { share.new.amount ≡ share.old.amount + length (rounds_of layer.old) }
+        ensures sent { SendsHome self.old.slabs self.new.slabs (rounds_of layer.old) }
         ensures depot { self.new.depot ≡ self.old.depot }
     {
         while let Some(object) = layer.try_take() {
@@ -285,6 +289,11 @@ impl<K: Kind, A: Ledger, B: Ledger> Inner<K, A, B> {
     /// how many it took.
     pub fn reap<R: Wait>(&mut self, rt: &R, arena: &ArenaLock) -> u32
         ensures empty { self.new.depot.rounds ≡ [] }
+
+        // The rounds of the depot are out no more, and all else that was out still is.
+        ensures home { (slot : ℕ) → Contains self.old.depot.rounds slot → IsOut self.new.slabs slot → ⊥ }
+        ensures stays { (slot : ℕ) → IsOut self.old.slabs slot → (Contains self.old.depot.rounds slot → ⊥) → IsOut self.new.slabs slot }
+        ensures only { (slot : ℕ) → IsOut self.new.slabs slot → IsOut self.old.slabs slot }
         ensures busy { (page : ℕ) → Has self.new.slabs page → (slot : ℕ) × (slot / 256 ≡ page) × IsOut self.new.slabs slot }
     {
         let Inner {

@@ -1,7 +1,7 @@
 use Rattle.std.proofs.Common.{refl, ap, ◌∙◌, length, arith}
 use Rattle.vmem_arena.specs.Spans.{Spans, pages_of}
 use Rattle.object_cache.proofs.Moving.{one_more}
-use Rattle.object_cache.proofs.Reaping.{had_most, had_less, out_stays}
+use Rattle.object_cache.proofs.Reaping.{had_most, had_less, out_stays, place_stays}
 use Rattle.object_cache.proofs.homing.give_pages.Goals as goal
 
 pub loop-span-init : goal.loop-span-init
@@ -10,6 +10,7 @@ loop-span-init g c = record {
   taken = omega arith;
   few = omega (arith, had_most 256 c.args.slabs.now);
   out = λ slot. (λ is. is, λ is. is);
+  kept = λ slot has. refl;
   counted = refl;
 }
 
@@ -30,6 +31,9 @@ loop-span-preserved-then-give g c =
       out = λ slot.
           let stays = out_stays _ _ _ c.in-Some.ensures.removed c.in-Some.ensures.idle slot in
           (λ is. (i.out slot).0 (stays.0 is), λ is. stays.1 ((i.out slot).1 is));
+      kept = λ slot has.
+          let stays = place_stays c.loop-span.slabs c.reap.new.self c.in-Some.span.first c.in-Some.ensures.removed slot has in
+          stays.1 ∙ i.kept slot stays.0;
       counted = c.in-Some.ensures.counted ∙ i.counted;
     }
 
@@ -44,6 +48,9 @@ loop-span-preserved g c =
       out = λ slot.
           let stays = out_stays _ _ _ c.in-Some.ensures.removed c.in-Some.ensures.idle slot in
           (λ is. (i.out slot).0 (stays.0 is), λ is. stays.1 ((i.out slot).1 is));
+      kept = λ slot has.
+          let stays = place_stays c.loop-span.slabs c.reap.new.self c.in-Some.span.first c.in-Some.ensures.removed slot has in
+          stays.1 ∙ i.kept slot stays.0;
       counted = c.in-Some.ensures.counted ∙ i.counted;
     }
 

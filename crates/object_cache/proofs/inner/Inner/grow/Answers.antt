@@ -1,4 +1,4 @@
-use Rattle.std.proofs.Common.{◌≡◌, ◌+◌, ◌*◌, ◌∷◌, refl, ap, ◌∙◌}
+use Rattle.std.proofs.Common.{◌≡◌, ◌+◌, ◌*◌, ◌∷◌, refl}
 use Rattle.std.specs.List.Sorted.{IsPermutation}
 use Rattle.vmem_arena.specs.Spans.{pages_of}
 use Rattle.slab_layer.proofs.Homes.{row_objects}
