@@ -414,8 +414,8 @@ fn two_threads_and_a_reaper_add_up(rt: HostRuntime) {
         Blank::new(65),
         Blank::new(65),
         2,
-        10_000,
-        340_000,
+        60_000,
+        2_040_000,
     );
 }
 
@@ -427,8 +427,8 @@ fn four_threads_and_a_reaper_add_up(rt: HostRuntime) {
         Blank::new(65),
         Blank::new(65),
         4,
-        10_000,
-        680_000,
+        60_000,
+        4_080_000,
     );
 }
 
