@@ -1,12 +1,15 @@
-//! Tests of the arena, the slabs, the magazines and the tables of owners, as a user of the four crates calls them.
+//! Tests of the arena, the slabs, the magazines, the caches and the tables of owners, as a user of the five crates calls them.
 //!
 //! A contract says what a call does, and each is proved where it stands. What is tried here is what no contract says: that the
-//! calls succeed where memory is there, that the definitions mean the numbers that a person expects, and that threads
-//! really claim, release and draw side by side. The crates themselves have no tests, so that they are proved once.
+//! calls succeed where memory is there, that the definitions mean the numbers that a person expects, what a pass of the
+//! reaper does, and that threads really take, give, claim, release and draw side by side. The crates themselves have no
+//! tests, so that they are proved once.
 #![tactic(auto)]
 
 #[cfg(test)]
 mod arena;
+#[cfg(test)]
+mod caches;
 #[cfg(test)]
 mod facts;
 #[cfg(test)]

@@ -1,0 +1,11 @@
+use Rattle.std.proofs.Common.{refl, arith}
+use Rattle.object_cache.proofs.Moving.{list_less}
+use Rattle.object_cache.proofs.inner.Inner.refill.Goals as goal
+
+pub invariant_of-self-2 : goal.invariant_of-self-2
+invariant_of-self-2 g c =
+    let moved = list_less c.refill.new.self.loaded c.args.self.now.depot.rounds c.refill.new.depot.rounds (c.if-not-refill.ensures.rounds refl) in
+    record {
+      even = omega (arith, moved, c.if-not-refill.ensures.loaded refl, c.add.ensures.total, c.args.self.now.even, c.ROUNDS.ensures);
+      few = c.args.self.now.few;
+    }

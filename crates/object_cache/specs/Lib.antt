@@ -1,0 +1,4 @@
+pub mod Growth
+pub mod Homing
+pub mod HandView
+pub mod CacheView

@@ -1,0 +1,27 @@
+//! The arena, under a lock.
+
+ghost use Rattle.std.specs.Prelude.{◌≡◌, ◌<◌, ◌↔◌, ◌⊎◌};
+
+use std::alloc::Global;
+use std::sync::Mutex;
+use vmem_arena::{Arena, ArenaFault};
+
+/// An arena that caches share.
+#[derive(Drop)]
+pub struct ArenaLock {
+    pub(crate) arena: Mutex<Arena>,
+}
+
+impl ArenaLock {
+    /// An arena of this many pages, 1 to 256, all of them free.
+    pub fn new(alloc: Global, pages: u32) -> Result<ArenaLock, ArenaFault>
+        ensures pages { (result ≡ Err ArenaFault.Pages) ↔ ((pages ≡ 0) ⊎ (256 < pages)) }
+    {
+        match Arena::new(alloc, pages) {
+            Ok(arena) => Ok(ArenaLock {
+                arena: Mutex::new(arena),
+            }),
+            Err(fault) => Err(fault),
+        }
+    }
+}

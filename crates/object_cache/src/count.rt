@@ -1,0 +1,29 @@
+//! Counts that stop at 2^56.
+//!
+//! *The reason.* No host ever counts that far, and the sums of 64 such counts fit a word. So a count needs no error
+//! that nobody meets: a call that would pass the end waits for ever.
+
+ghost use Rattle.std.specs.Prelude.{◌≡◌, ◌+◌, ◌^◌, ◌≤◌};
+
+use std::sync::Wait;
+
+/// The most that is counted.
+const MOST: u64 = 1 << 56;
+
+/// Counts one more.
+#[inline]
+pub fn count<R: Wait>(rt: &R, number: &mut u64)
+    ensures counted { number.new ≡ number.old + 1 }
+    ensures most { number.new ≤ 2 ^ 56 }
+{
+    if *number >= MOST {
+        wait_for_ever(rt);
+    }
+    *number += 1;
+}
+
+fn wait_for_ever<R: Wait>(rt: &R)
+    ensures { ⊥ }
+{
+    for _ in rt.forever() {}
+}

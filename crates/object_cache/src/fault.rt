@@ -1,0 +1,14 @@
+//! Why a hand is refused an object.
+
+use thiserror::Error;
+
+/// Why a hand was given no object.
+#[derive(Clone, Copy, Debug, Error)]
+pub enum TakeFault {
+    /// The arena has no free page, or gave one that the cache has already, which went back.
+    #[error("no page is free")]
+    NoSpan,
+    /// The objects of one more page found no memory, and the page went back.
+    #[error("no memory")]
+    NoMemory,
+}

@@ -1,0 +1,101 @@
+//! Hands: what one worker takes objects with, and gives them back.
+//!
+//! *The idea* (Bonwick and Adams 2001, section 3.1). Each worker has a layer of its own, from which it takes and to
+//! which it gives without asking anybody. It goes to the cache's lock where the layer can't serve.
+//!
+//! *The invariant.* The objects that left the inside of the cache for this hand, and those that were given back to it,
+//! are as many as those that it sent in, those that it gave out, and its rounds.
+//!
+//! *The reason.* Each call changes as much on the one side as on the other. What left and what came in stands in the
+//! hand's shares of the cache's books, of which the inside knows the totals: so when a cache is closed, the counts of
+//! all hands can be compared with what is out of its slabs.
+
+ghost use Rattle.std.specs.Prelude.{◌≡◌, ℕ, ◌+◌, ◌∷◌, length, replicate, IsOk, IfOk, OnErr, MatchResult, IsPermutation};
+ghost use Rattle.magazine.specs.LayerView.{rounds_of, IsEmpty};
+ghost use Rattle.object_cache.specs.HandView.{HasRound, HasRoom};
+
+use crate::arena_lock::ArenaLock;
+use crate::cache::Cache;
+use crate::count::count;
+use crate::fault::TakeFault;
+use magazine::Layer;
+use slab_layer::{Held, Kind, Obj};
+use std::marker::Model;
+use std::sync::Wait;
+use std::sync::ledger::{Ledger, Share};
+
+/// What a worker takes objects of a cache with. It must be handed to `Cache::close`. Its type says by the two ledgers
+/// which cache made it.
+pub struct Hand<K: Kind, A: Ledger, B: Ledger> {
+    pub(crate) layer: Layer<K>,
+    pub(crate) outs: Share<A>,
+    pub(crate) ins: Share<B>,
+    pub(crate) allocs: u64,
+    pub(crate) frees: u64,
+    pub(crate) nulls: u64,
+}
+
+impl<K: Kind, A: Ledger, B: Ledger> Model for Hand<K, A, B> {
+    ghost use Rattle.object_cache.specs.HandView.{HandView, IsHand};
+
+    ghost Value = { HandView };
+
+    ghost view = { λ h. record { layer = h.layer; allocs = h.allocs; frees = h.frees; nulls = h.nulls } };
+
+    ghost invariant = { λ h. IsHand (record { layer = h.layer; allocs = h.allocs; frees = h.frees; nulls = h.nulls }) h.outs.parts h.outs.amount h.ins.parts h.ins.amount };
+}
+
+impl<K: Kind, A: Ledger, B: Ledger> Hand<K, A, B> {
+    /// Takes an object, with its image: a round of this hand; else one of a full magazine of the depot, which this hand
+    /// then has; else one of the slabs, which grow by a page of the arena where none is home. It waits for the two
+    /// locks, the arena's inside the cache's, and for ever past 2^56 calls. The cache is the one that made this hand.
+    pub fn take<R: Wait>(
+        &mut self,
+        rt: &R,
+        cache: &Cache<K, A, B>,
+        arena: &ArenaLock,
+    ) -> Result<Obj<K, Held>, TakeFault>
+        ensures size { IfOk result (λ object. length object.bytes.items ≡ K.SIZE) }
+        ensures image { IfOk result (λ object. object.bytes.items ≡ replicate K.SIZE K.FILL) }
+        ensures allocs { MatchResult result (λ _. self.new.allocs ≡ self.old.allocs + 1) (λ _. self.new.allocs ≡ self.old.allocs) }
+        ensures nulls { MatchResult result (λ _. self.new.nulls ≡ self.old.nulls) (λ _. self.new.nulls ≡ self.old.nulls + 1) }
+        ensures frees { self.new.frees ≡ self.old.frees }
+
+        // A round of this hand goes before all else.
+        ensures round { HasRound self.old.layer → IsOk result }
+        ensures taken { IfOk result (λ object. HasRound self.old.layer → IsPermutation (rounds_of self.old.layer) (object.slot ∷ rounds_of self.new.layer)) }
+        ensures fault { OnErr result (IsEmpty self.old.layer × (self.new.layer ≡ self.old.layer)) }
+    {
+        match cache.find(rt, arena, &mut self.layer, &mut self.outs) {
+            Ok(object) => {
+                count(rt, &mut self.allocs);
+                Ok(object.hold())
+            }
+            Err(fault) => {
+                count(rt, &mut self.nulls);
+                Err(fault)
+            }
+        }
+    }
+
+    /// Gives an object back, with its image restored: to this hand's layer; where that has no room, an empty magazine of
+    /// the depot makes some, or a new one; where there is no memory for it, the object goes home to the slabs. It waits
+    /// for the cache's lock, and for ever past 2^56 calls. The cache is the one that made this hand.
+    pub fn give<R: Wait>(&mut self, rt: &R, cache: &Cache<K, A, B>, object: Obj<K, Held>)
+        ensures frees { self.new.frees ≡ self.old.frees + 1 }
+        ensures allocs { (self.new.allocs ≡ self.old.allocs) × (self.new.nulls ≡ self.old.nulls) }
+        ensures given { HasRoom K.ROUNDS self.old.layer → IsPermutation (object.slot ∷ rounds_of self.old.layer) (rounds_of self.new.layer) }
+    {
+        count(rt, &mut self.frees);
+        cache.put(rt, &mut self.layer, &mut self.ins, object.restore());
+    }
+
+    /// Sends all rounds of this hand home to the slabs. It waits for the cache's lock. The cache is the one that made
+    /// this hand.
+    pub fn flush<R: Wait>(&mut self, rt: &R, cache: &Cache<K, A, B>)
+        ensures empty { IsEmpty self.new.layer }
+        ensures counts { (self.new.allocs ≡ self.old.allocs) × (self.new.frees ≡ self.old.frees) × (self.new.nulls ≡ self.old.nulls) }
+    {
+        cache.empty(rt, &mut self.layer, &mut self.ins);
+    }
+}
