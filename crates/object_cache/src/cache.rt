@@ -8,7 +8,7 @@
 //! hand alone: to its rounds, and to its share of a book. That is enough: what a share counts, the inside counts too.
 
 ghost use Rattle.std.specs.Prelude.{◌≡◌, ℕ, ◌+◌, ◌<◌, ◌∷◌, length, vec_len, sum_by, IsOk, IfOk, OnOk, OnErr, IsPermutation};
-ghost use Rattle.magazine.specs.LayerView.{rounds_of, IsEmpty};
+ghost use Rattle.magazine.specs.LayerView.{rounds_of, IsEmpty, IsFull};
 ghost use Rattle.object_cache.specs.HandView.{HasRound, HasRoom, fresh};
 
 use crate::arena_lock::ArenaLock;
@@ -105,6 +105,24 @@ impl<K: Kind, A: Ledger, B: Ledger> Cache<K, A, B> {
         if let Some(object) = layer.try_take() {
             return Ok(object);
         }
+        self.find_inside(rt, arena, layer, outs)
+    }
+
+    // The same for a layer with no round. It stands apart, so that the way above stays short.
+    #[inline(never)]
+    fn find_inside<R: Wait>(
+        &self,
+        rt: &R,
+        arena: &ArenaLock,
+        layer: &mut Layer<K>,
+        outs: &mut Share<A>,
+    ) -> Result<Obj<K, Ready>, TakeFault>
+        requires empty { IsEmpty layer.old }
+        requires part { 0 < outs.old.parts }
+        ensures parts { outs.new.parts ≡ outs.old.parts }
+        ensures even { OnOk result (outs.new.amount ≡ outs.old.amount + length (rounds_of layer.new) + 1) }
+        ensures fault { OnErr result ((layer.new ≡ layer.old) × (outs.new.amount ≡ outs.old.amount)) }
+    {
         let found = self.inner.lock(rt).supply(rt, arena, layer, outs)?;
         match found {
             Some(object) => Ok(object.construct()),
@@ -132,7 +150,24 @@ impl<K: Kind, A: Ledger, B: Ledger> Cache<K, A, B> {
         let Err(back) = layer.try_give(object) else {
             return;
         };
-        self.inner.lock(rt).take_back(rt, layer, ins, back);
+        self.put_inside(rt, layer, ins, back);
+    }
+
+    // The same for a layer with no room. It stands apart, so that the way above stays short.
+    #[inline(never)]
+    fn put_inside<R: Wait>(
+        &self,
+        rt: &R,
+        layer: &mut Layer<K>,
+        ins: &mut Share<B>,
+        object: Obj<K, Ready>,
+    )
+        requires full { IsFull K.ROUNDS layer.old }
+        requires part { 0 < ins.old.parts }
+        ensures parts { ins.new.parts ≡ ins.old.parts }
+        ensures even { ins.new.amount + length (rounds_of layer.new) ≡ ins.old.amount + length (rounds_of layer.old) + 1 }
+    {
+        self.inner.lock(rt).take_back(rt, layer, ins, object);
     }
 
     // Sends the rounds of a hand's layer home.
