@@ -47,6 +47,8 @@ impl<K: Kind, A: Ledger, B: Ledger> Inner<K, A, B> {
     /// No object and no magazine. It takes no memory; the allocator serves the calls that do.
     pub fn new(alloc: Global, outs: Book<A>, ins: Book<B>) -> Inner<K, A, B>
         requires { (outs.total ≡ 0) × (ins.total ≡ 0) }
+        ensures slabs { (result.slabs ≡ []) × (result.foreign ≡ 0) }
+        ensures depot { (result.depot.rounds ≡ []) × (result.depot.empties ≡ 0) }
     {
         Inner {
             alloc,
