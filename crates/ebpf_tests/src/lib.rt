@@ -23,6 +23,8 @@ mod programs;
 #[cfg(test)]
 mod range;
 #[cfg(test)]
+mod run;
+#[cfg(test)]
 mod script;
 #[cfg(test)]
 mod state;

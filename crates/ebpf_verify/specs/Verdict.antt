@@ -55,8 +55,9 @@ pub record AreRows (rows : List KindRow) : Type 0 where
   pub few : length rows ≤ 8
   pub sizes : All (λ row. (1 ≤ row.size) × (row.size ≤ 4096)) rows
 
--- what is known of a program that was accepted: its flow is forward, and no slot refuses
+-- what is known of a program that was accepted: its flow is forward, no slot refuses, and there are few kinds
 pub record IsAccepted (s : Subject) : Type 0 where
   pub formed : IsWellFormed s.program
   pub forward : AreForward s.program
   pub accepted : verdict s ≡ None
+  pub rows : AreRows s.rows

@@ -1,0 +1,19 @@
+//! Runs, before their first instruction.
+
+use crate::accepted::read;
+use crate::programs::holds;
+use ebpf_machine::run::Run;
+use std::test::*;
+
+const SEVEN: &str = "\
+program seven 0 0 b7000000070000009500000000000000
+";
+
+#[test]
+fn a_move_asks_for_no_object(rt: HostRuntime) {
+    let (programs, _) = read(&rt, rt.alloc(), SEVEN);
+    let verified = programs.first().expect(&rt, "there is a program");
+    let run = Run::<u32>::start(rt.alloc(), verified, Vec::new(rt.alloc()));
+    let run = run.expect(&rt, "it starts");
+    holds(&rt, "no kind", run.wants().is_none());
+}
