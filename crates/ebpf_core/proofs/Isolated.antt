@@ -20,7 +20,7 @@ use Rattle.ebpf_machine.proofs.Owned.{owned_started, owned_empty}
 use Rattle.ebpf_machine.proofs.Steps.{going_of, bounded, first_sound, sound_stepped}
 use Rattle.ebpf_machine.proofs.Execs.{IsNextWorld, next_world, shown_run, unasked_next, ok_same}
 use Rattle.ebpf_machine.proofs.Lone.{one_on, alone_stepped, seen_alone, outcome_exited}
-use Rattle.ebpf_core.specs.declared.slots.Slot.{Slot}
+use Rattle.ebpf_core.specs.declared.passing.Object.{Object}
 use Rattle.ebpf_core.specs.declared.event.Answer.{Answer}
 use Rattle.ebpf_core.specs.declared.event.Answer.TheVariants.{Absent, Null, Slot as Granted}
 use Rattle.ebpf_core.specs.declared.event.Event.{Event}
@@ -67,7 +67,7 @@ own_first : (w : World) (s : Subject) (context : List ℕ) (k : ℕ) → IsAccep
 own_first w s context k accepted none =
     let v : RunView = run_seen (first_state_of s context) in
     let same : v ≡ view_of w k (first_run s context) = rw none refl in
-    subst IsOwn same (record { sound = first_sound {H = Slot} (λ slot. []) s context accepted; alone = first_alone s context; untold = refl })
+    subst IsOwn same (record { sound = first_sound {H = Object} (λ o. o.bytes.items) s context accepted; alone = first_alone s context; untold = refl })
 
 kept_started : (s : Subject) (context : List ℕ) (w : World) (program : ℕ) (bytes : List ℕ) (events : List Event) → IsAccepted s → kinds_of s.rows ≡ known_kinds → IsKept w events → IsKept (started s context w) (events ++ Start program bytes ∷ [])
 kept_started s context w program bytes events accepted known h = record {

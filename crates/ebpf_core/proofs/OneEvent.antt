@@ -16,7 +16,7 @@ use Rattle.ebpf_machine.specs.Sound.{IsSound}
 use Rattle.ebpf_machine.proofs.ListLemmas.{get_set_same, get_set_other}
 use Rattle.ebpf_machine.proofs.Owned.{owned_started}
 use Rattle.ebpf_machine.proofs.Execs.{IsNextWorld, next_world, unasked_next}
-use Rattle.ebpf_core.specs.declared.slots.Slot.{Slot}
+use Rattle.ebpf_core.specs.declared.passing.Object.{Object}
 use Rattle.ebpf_core.specs.Shown.{WorldState, Shows, run_seen}
 use Rattle.ebpf_core.proofs.Runs.{run_shown, none_shown, get_past, get_last, same_number}
 
@@ -39,7 +39,7 @@ started_views w kept s context h k = by_place (same_number k (length w.runs)) wh
       ap (option_map (view_of w k)) there ∙ (ap Some (first_seen w s context k h.owners) ∙ sym (ap (option_map run_seen) here))
   by_place (inr ne) =
       let there = get_past w.runs (first_run s context) k ne in
-      let here = get_past kept.runs (first_state_of {H = Slot} s context) k (λ e. ne (e ∙ sym h.as_many)) in
+      let here = get_past kept.runs (first_state_of {H = Object} s context) k (λ e. ne (e ∙ sym h.as_many)) in
       ap (option_map (view_of w k)) there ∙ (h.views k ∙ sym (ap (option_map run_seen) here))
 
 started_shows : (w : World) (kept : WorldState) (s : Subject) (context : List ℕ) → kinds_of s.rows ≡ w.kinds → Shows w kept → Shows (started s context w) (record kept { runs = kept.runs ++ first_state_of s context ∷ [] })
@@ -54,7 +54,7 @@ started_shows w kept s context kinds h = record {
 
 -- ---- a run does the instruction at its pc
 
-pub executed_shows : (w : World) (kept : WorldState) (k : ℕ) (r t : RunState Slot) → Shows w kept → slice_get kept.runs k ≡ Some r → IsSound (run_seen r) → r.exit ≡ None → run_seen t ≡ stepped reply.Null (run_seen r)
+pub executed_shows : (w : World) (kept : WorldState) (k : ℕ) (r t : RunState Object) → Shows w kept → slice_get kept.runs k ≡ Some r → IsSound (run_seen r) → r.exit ≡ None → run_seen t ≡ stepped reply.Null (run_seen r)
     → (after : World) × (exec w k world.Absent ≡ Ok after) × Shows after (record kept { runs = slice_set kept.runs k t })
 executed_shows w kept k r t h at sound going step =
     let run = run_shown w kept k r h at in
@@ -84,14 +84,14 @@ pub executed_none : (w : World) (kept : WorldState) (k : ℕ) (answer : world.An
 executed_none w kept k answer h at = rw (none_shown w kept k h at) refl
 
 -- the run has ended
-pub executed_ended : (w : World) (kept : WorldState) (k n : ℕ) (answer : world.Answer) (r : RunState Slot) → Shows w kept → slice_get kept.runs k ≡ Some r → r.exit ≡ Some n → exec w k answer ≡ Err RunEnded
+pub executed_ended : (w : World) (kept : WorldState) (k n : ℕ) (answer : world.Answer) (r : RunState Object) → Shows w kept → slice_get kept.runs k ≡ Some r → r.exit ≡ Some n → exec w k answer ≡ Err RunEnded
 executed_ended w kept k n answer r h at ended =
     let run = run_shown w kept k r h at in
     let exited : run.0.status ≡ Exited n = ap (λ (v : RunView). v.status) run.2 ∙ ap status_of ended in
     rw (run.1, exited) refl
 
 -- an answer that was not asked for
-pub executed_null : (w : World) (kept : WorldState) (k : ℕ) (r : RunState Slot) → Shows w kept → slice_get kept.runs k ≡ Some r → IsSound (run_seen r) → r.exit ≡ None → exec w k world.Null ≡ Err AnswerUnasked
+pub executed_null : (w : World) (kept : WorldState) (k : ℕ) (r : RunState Object) → Shows w kept → slice_get kept.runs k ≡ Some r → IsSound (run_seen r) → r.exit ≡ None → exec w k world.Null ≡ Err AnswerUnasked
 executed_null w kept k r h at sound going =
     let run = run_shown w kept k r h at in
     let goes : run.0.status ≡ Going = ap (λ (v : RunView). v.status) run.2 ∙ ap status_of going in
@@ -102,7 +102,7 @@ executed_null w kept k r h at sound going =
 away : (w : World) (k slot : ℕ) (run : Running) → w.ledgers ≡ map (λ kind. []) known_kinds → slice_get w.runs k ≡ Some run → run.status ≡ Going → exec w k (world.Slot slot) ≡ Err SlotNotHome
 away w k slot run none there goes = rw (there, goes, none) refl
 
-pub executed_slot : (w : World) (kept : WorldState) (k slot : ℕ) (r : RunState Slot) → Shows w kept → slice_get kept.runs k ≡ Some r → r.exit ≡ None → exec w k (world.Slot slot) ≡ Err SlotNotHome
+pub executed_slot : (w : World) (kept : WorldState) (k slot : ℕ) (r : RunState Object) → Shows w kept → slice_get kept.runs k ≡ Some r → r.exit ≡ None → exec w k (world.Slot slot) ≡ Err SlotNotHome
 executed_slot w kept k slot r h at going =
     let run = run_shown w kept k r h at in
     let goes : run.0.status ≡ Going = ap (λ (v : RunView). v.status) run.2 ∙ ap status_of going in
@@ -117,9 +117,9 @@ starting_long programs program s context w at long = rw (at, differ (length cont
   differ : (a b : ℕ) → a ≢ b → eqb a b ≡ false
   differ a b ne = ⊎_elim (λ (e : (eqb a b ≡ true) × (a ≡ b)). absurd (ne e.1)) (λ (e : (eqb a b ≡ false) × (a ≢ b)). e.0) (eqb_tells a b)
 
-pub starting_shows : (programs : List Subject) (program : ℕ) (s : Subject) (context bytes : List ℕ) (w : World) (kept : WorldState) (r : RunState Slot) (runs : List (RunState Slot)) → kinds_of s.rows ≡ known_kinds → Shows w kept → slice_get programs program ≡ Some s → bytes ≡ context → length bytes ≡ s.decl.context → r ≡ first_state_of s bytes → runs ≡ kept.runs ++ r ∷ []
+pub starting_shows : (programs : List Subject) (program : ℕ) (s : Subject) (context bytes : List ℕ) (w : World) (kept : WorldState) (r : RunState Object) (runs : List (RunState Object)) → kinds_of s.rows ≡ known_kinds → Shows w kept → slice_get programs program ≡ Some s → bytes ≡ context → length bytes ≡ s.decl.context → r ≡ first_state_of s bytes → runs ≡ kept.runs ++ r ∷ []
     → (after : World) × (starting (slice_get programs program) context w ≡ Ok after) × Shows after (record kept { runs = runs })
 starting_shows programs program s context bytes w kept r runs kinds h at same fits first more =
     let here : length context ≡ s.decl.context = ap length (sym same) ∙ fits in
-    let grown : runs ≡ kept.runs ++ first_state_of s context ∷ [] = more ∙ ap (λ (x : RunState Slot). kept.runs ++ x ∷ []) (first ∙ ap (first_state_of s) same) in
-    (started s context w, rw (at, eq-eqb (length context) s.decl.context here) refl, subst (λ (rs : List (RunState Slot)). Shows (started s context w) (record kept { runs = rs })) (sym grown) (started_shows w kept s context (kinds ∙ sym h.kinds) h))
+    let grown : runs ≡ kept.runs ++ first_state_of s context ∷ [] = more ∙ ap (λ (x : RunState Object). kept.runs ++ x ∷ []) (first ∙ ap (first_state_of s) same) in
+    (started s context w, rw (at, eq-eqb (length context) s.decl.context here) refl, subst (λ (rs : List (RunState Object)). Shows (started s context w) (record kept { runs = rs })) (sym grown) (started_shows w kept s context (kinds ∙ sym h.kinds) h))

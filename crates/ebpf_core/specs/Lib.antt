@@ -1,4 +1,4 @@
-pub mod Granted
+pub mod Passing
 pub mod Events
 pub mod Faults
 pub mod Shown

@@ -6,7 +6,7 @@ use Rattle.ebpf_machine.specs.Kinds.{known_kinds}
 use Rattle.ebpf_machine.specs.View.{RunView, view_in}
 use Rattle.ebpf_machine.specs.RunState.{RunState, seen}
 use Rattle.ebpf_machine.specs.Sound.{IsSound, IsAlone, IsOwned}
-use Rattle.ebpf_core.specs.declared.slots.Slot.{Slot}
+use Rattle.ebpf_core.specs.declared.passing.Object.{Object}
 use Rattle.ebpf_core.specs.declared.event.Event.{Event}
 use Rattle.ebpf_core.specs.declared.fault.ApplyFault.{ApplyFault}
 use Rattle.ebpf_core.specs.Events.{happened}
@@ -15,18 +15,18 @@ use Rattle.ebpf_core.specs.Faults.{IsApplyFault}
 -- the world as it is kept: the programs, and the runs in the order of their starts
 pub record WorldState : Type 0 where
   pub programs : List Subject
-  pub runs : List (RunState Slot)
+  pub runs : List (RunState Object)
 
 -- programs that were verified with the known kinds
 abbrev pub AreKnown : List Subject → Type 0
 AreKnown programs = All (λ s. kinds_of s.rows ≡ known_kinds) programs
 
 -- what a run sees of itself; it holds no objects yet, so there are no bytes to see
-abbrev pub run_seen : RunState Slot → RunView
-run_seen r = seen (λ slot. []) r
+abbrev pub run_seen : RunState Object → RunView
+run_seen r = seen (λ o. o.bytes.items) r
 
 -- a run that is kept is sound and where the run alone is, and holds nothing, since no slot is in a ledger yet
-pub record IsTended (r : RunState Slot) : Type 0 where
+pub record IsTended (r : RunState Object) : Type 0 where
   pub sound : IsSound (run_seen r)
   pub alone : IsAlone (run_seen r)
   pub nothing : r.held ≡ []

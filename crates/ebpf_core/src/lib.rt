@@ -5,11 +5,11 @@
 //! [`replay::replay`] makes the world after a list of events. It carries the main theorem: for every legal list no run
 //! traps, and each computes what its program computes alone, whatever the others do between (specs/Isolation).
 //!
-//! To be read in this order: `event`, `fault`, `slots`, `world`, `replay`.
+//! To be read in this order: `event`, `fault`, `passing`, `world`, `replay`.
 #![tactic(auto)]
 
 pub mod event;
 pub mod fault;
+mod passing;
 pub mod replay;
-mod slots;
 pub mod world;

@@ -11,7 +11,7 @@ ghost use Rattle.ebpf_core.specs.Readers.{status_in, output_in, executed_in, own
 
 use crate::event::{Answer, Context, Event};
 use crate::fault::{ApplyCode, ApplyFault};
-use crate::slots::{Answering, Slot};
+use crate::passing::{Object, Passing};
 use ebpf_machine::run::{Run, StartFault};
 use ebpf_verify::verified::Verified;
 use std::alloc::{AllocError, Global};
@@ -32,7 +32,7 @@ pub enum Status {
 pub struct World<'v> {
     alloc: Global,
     programs: &'v [Verified],
-    runs: Vec<Run<'v, Slot>>,
+    runs: Vec<Run<'v, Object>>,
 }
 
 impl<'v> Model for World<'v> {
@@ -142,7 +142,7 @@ impl<'v> World<'v> {
             Answer::Null => return Err(ApplyFault::Bad(ApplyCode::E5)),
             Answer::Slot(_) => return Err(ApplyFault::Bad(ApplyCode::E3)),
         }
-        step_in::<Brand>(self.alloc, run, Blank::new(1));
+        step_in::<Brand, Brand>(run, Blank::new(1), Blank::new(1));
         Ok(())
     }
 
@@ -154,7 +154,7 @@ impl<'v> World<'v> {
     }
 
     // The run of a number.
-    fn run_at(&self, run: usize) -> Option<&Run<'v, Slot>>
+    fn run_at(&self, run: usize) -> Option<&Run<'v, Object>>
         ensures { option_map (λ r. r.now) result ≡ slice_get self.now.runs run }
     {
         self.runs.get(run)
@@ -209,15 +209,17 @@ impl<'v> World<'v> {
     }
 }
 
-// One instruction of a run, with a new ledger, in which null answers are counted.
-fn step_in<L: Ledger>(alloc: Global, run: &mut Run<Slot>, blank: Blank)
-    requires name { blank.name ≡ L.name }
-    requires parts { (blank.parts ≡ L.parts) × (L.parts ≡ 1) }
+// One instruction of a run, with new ledgers for what it is answered. No slot is in a ledger yet, so there is no object to
+// lend.
+fn step_in<G: Ledger, N: Ledger>(run: &mut Run<Object>, grants: Blank, nulls: Blank)
+    requires names { (grants.name ≡ G.name) × (nulls.name ≡ N.name) }
+    requires parts { (grants.parts ≡ G.parts) × (nulls.parts ≡ N.parts) × (G.parts ≡ 1) × (N.parts ≡ 1) }
     requires tended { IsTended run.old }
     ensures next { IfNone run.old.exit (run_seen run.new ≡ stepped Null (run_seen run.old)) }
     ensures tended { IsTended run.new }
 {
-    let (book, share) = blank.open::<L>();
-    let mut answering = Answering::<L>::new(alloc, book, share);
-    run.step(&mut answering);
+    let (grants, grants_share) = grants.open::<G>();
+    let (nulls, nulls_share) = nulls.open::<N>();
+    let mut passing = Passing::<G, N>::new(grants, grants_share, nulls, nulls_share);
+    run.step(&mut passing);
 }

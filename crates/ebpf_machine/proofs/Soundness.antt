@@ -86,7 +86,8 @@ AreOf-set s regs objects r a v ls lr h e =
     let room = number_of-lt r in
     record { each = λ k lt. set_at s regs objects (number_of r) a v k (omega arith) (omega arith) lt h e (cases_lt k (number_of r)); held = h.held }
 
--- a run that goes on after the instruction at a slot: it falls to the next one, with these registers, and what is known there speaks of it
+-- a run that goes on after the instruction at a slot: it falls to the next one, with these registers, and what is known there
+-- speaks of it
 pub record GoesOn (p : List (Option Insn)) (objects : List ObjectView) (from : ℕ) (i : Insn) (frame : Frame ℕ) (after : List (Option (Value ℕ))) : Type 0 where
   pub does : (a : Around ℕ) → effect i from a frame ≡ Goes Nothing (from + slots_in i) (record frame { registers = after })
   pub falls : falls i ≡ true

@@ -92,7 +92,8 @@ done_by (Goes act to frame) answer w run r = acted act answer w run r to frame
 done_by (Ends n) answer w run r = with_run w run (ended n r)
 done_by (Traps trap) answer w run r = with_run w run (trapped trap r)
 
--- what the instruction at a slot asks of whoever answers: nothing; an object of no kind that there is; or one of the kind that r1 names
+-- what the instruction at a slot asks of whoever answers: nothing; an object of no kind that there is; or one of the kind that
+-- r1 names
 pub data Asking : Type 0 where
   Unasked : Asking
   OfNoKind : Asking

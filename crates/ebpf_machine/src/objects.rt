@@ -8,8 +8,8 @@ ghost use Rattle.ebpf_machine.specs.World.{Kind, image_at};
 ///
 /// What an implementation promises is said by ghost members, which are no code: the `kinds` that there are; each object has
 /// a kind (`kind_of`) and a slot (`slot_of`); `is_out` says that it was taken and not given back, with `bytes_of` as its
-/// bytes; `can_grant` and `can_refuse` say what `take` may answer now; `grants` and `nulls` count its answers; `outs` counts
-/// what is out of each kind.
+/// bytes; `can_grant` and `can_refuse` say what `take` may answer now; `can_give` says that there is room for an object to
+/// come back; `grants` and `nulls` count its answers; `outs` counts what is out of each kind.
 pub trait Objects {
     /// An object that is out. It must be given back and is not dropped.
     type Held;
@@ -27,6 +27,8 @@ pub trait Objects {
     ghost can_grant: { Self → ℕ → ℕ → Type 0 };
 
     ghost can_refuse: { Self → ℕ → Type 0 };
+
+    ghost can_give: { Self → Type 0 };
 
     ghost grants: { Self → ℕ };
 
@@ -51,6 +53,7 @@ pub trait Objects {
 
     /// Takes an object back: it is out no more, and nothing else comes out by that.
     fn give(&mut self, kind: u8, object: Self::Held)
+        requires room { can_give self.old }
         requires out { is_out self.old object }
         requires kind { kind_of object ≡ kind }
         ensures counts { (grants self.new ≡ grants self.old) × (nulls self.new ≡ nulls self.old) }

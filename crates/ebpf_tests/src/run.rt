@@ -1,7 +1,8 @@
-//! Runs, before their first instruction.
+//! Runs, before their first instruction, and the kinds of their objects.
 
 use crate::accepted::read;
 use crate::programs::holds;
+use ebpf_machine::kinds::row_of;
 use ebpf_machine::run::Run;
 use std::test::*;
 
@@ -16,4 +17,10 @@ fn a_move_asks_for_no_object(rt: HostRuntime) {
     let run = Run::<u32>::start(rt.alloc(), verified, Vec::new(rt.alloc()));
     let run = run.expect(&rt, "it starts");
     holds(&rt, "no kind", run.wants().is_none());
+}
+
+#[test]
+fn a_kind_has_its_row(rt: HostRuntime) {
+    let row = row_of(2);
+    holds(&rt, "a block", row.size == 512 && row.fill == 0x5a);
 }

@@ -26,7 +26,8 @@ faults limit t = (if t.limit == limit then 0 else 1) + ((late limit t.drawn - pa
 abbrev pub NeverWraps : ℕ → ℕ → Type 0
 NeverWraps limit seats = limit + seats < 2 ^ 64
 
--- The rule of the tickets. There is a sheet for each seat made, and none is at fault. Each number below the word stands once on one sheet, and no other does. The word is at the limit until a sheet passes it, and each that does adds one
+-- The rule of the tickets. There is a sheet for each seat made, and none is at fault. Each number below the word stands once on
+-- one sheet, and no other does. The word is at the limit until a sheet passes it, and each that does adds one
 pub record Drawn (limit seats : ℕ) (s : State (Unit {0}) (List TicketSheet)) : Type 0 where
   pub wide : length s.words ≡ 1
   pub sheets : sheet_count s.views ≡ seats

@@ -1,4 +1,5 @@
--- Who owns which slot. The word of a slot is 0 where the slot is free, and the word of a mark where a run owns it; words below 4096 are no run's.
+-- Who owns which slot. The word of a slot is 0 where the slot is free, and the word of a mark where a run owns it; words below
+-- 4096 are no run's.
 -- What a seat holds, and what its claims found, are lists of entries: a slot with a word.
 use Rattle.std.specs.Prelude.{◌≡◌, ℕ, suc, ◌+◌, ◌<◌, ◌≤◌, ◌==◌, nat_lt, if◌then◌else◌, List, [], ◌∷◌, ◌++◌, length, slice_index, sum_by, count_by, filter, flat_map}
 use Rattle.atomic_table.specs.Table.{State, Me, Step}
@@ -47,7 +48,8 @@ abbrev pub weigh_words : (ℕ → ℕ → ℕ) → ℕ → List ℕ → ℕ
 weigh_words h slot [] = 0
 weigh_words h slot (w ∷ ws) = weigh_word h slot w + weigh_words h (suc slot) ws
 
--- The rule of the table. There is a sheet for each seat made. However slots and words are weighed, the lists of all sheets weigh what the words of runs weigh: they have those entries, each once, and no other.
+-- The rule of the table. There is a sheet for each seat made. However slots and words are weighed, the lists of all sheets weigh
+-- what the words of runs weigh: they have those entries, each once, and no other.
 pub record Owned (slots seats : ℕ) (s : State (Unit {0}) (List OwnerSheet)) : Type 0 where
   pub wide : length s.words ≡ slots + 1
   pub spare : slice_index s.words slots ≡ 0
@@ -131,7 +133,8 @@ held_by seats = flat_map (λ s. s.held) seats
 abbrev pub sheet : SeatView → OwnerSheet
 sheet s = record { held = s.held; tries = s.tries; notes = s.notes }
 
--- What is left of a table that was closed with these seats: the words keep the rule, the seats' lists weigh no more than they do, and as much where these are all the seats that were made
+-- What is left of a table that was closed with these seats: the words keep the rule, the seats' lists weigh no more than they do,
+-- and as much where these are all the seats that were made
 pub record IsLeft (table : OwnersView) (seats : List SeatView) (ws : List ℕ) : Type 0 where
   pub wide : length ws ≡ table.slots + 1
   pub words : (slot : ℕ) → IsSlotWord (slice_index ws slot)

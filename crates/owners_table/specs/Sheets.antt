@@ -1,4 +1,5 @@
--- A seat has a sheet, on which stands what was done with it. What a seat knows is a list of sheets, one for each seat that was joined into it.
+-- A seat has a sheet, on which stands what was done with it. What a seat knows is a list of sheets, one for each seat that was
+-- joined into it.
 use Rattle.std.specs.Prelude.{ℕ, List, [], ◌∷◌, sum_by, length}
 
 -- f of each sheet of each seat, added up

@@ -35,6 +35,6 @@ pub invariant_of-self-in-Ok : goal.invariant_of-self-in-Ok
 invariant_of-self-in-Ok c =
     let at = slice_get_read c.self.inside.programs.now _ c.args.program c.index-programs-program.result refl (omega arith) c.index-programs-program.is in
     let known = at_number (λ (s : Subject). kinds_of s.rows ≡ known_kinds) c.self.inside.programs.now c.args.program c.index-programs-program.result c.self.invariant.known at in
-    let tended = tended_first _ _ c.in-Ok.run' c.in-Ok.ensures.started (c.in-Ok.ensures.sound (λ slot. [])) known in
+    let tended = tended_first _ _ c.in-Ok.run' c.in-Ok.ensures.started (c.in-Ok.ensures.sound (λ o. o.bytes.items)) known in
     let pushed : c.push.new.self.items ≡ c.self.inside.runs.items ++ c.in-Ok.run' ∷ [] = search rules in
     record { known = c.self.invariant.known; runs = subst (All IsTended) (sym pushed) (All-push IsTended c.self.inside.runs.items c.in-Ok.run' c.self.invariant.runs tended) }

@@ -1,0 +1,136 @@
+//! The objects of the world, and the store through which one of them passes to or from a run.
+
+ghost use Rattle.std.specs.Prelude.{◌≡◌, ◌<◌, None, length, IfSome};
+ghost use Rattle.std.proofs.Props.{props};
+ghost use Rattle.ebpf_machine.specs.World.{image_at};
+ghost use Rattle.ebpf_machine.specs.Kinds.{known_kinds};
+ghost use Rattle.ebpf_core.specs.Passing.{is_of_kind};
+
+use ebpf_machine::kinds::row_of;
+use ebpf_machine::objects::Objects;
+use std::sync::ledger::{Book, Ledger, Share};
+
+/// A slot with its bytes. Whoever has the object has the slot.
+#[derive(Drop)]
+pub struct Object {
+    pub slot: u32,
+    pub kind: u8,
+    pub bytes: Vec<u8>,
+}
+
+/// The store of one instruction of a run. An object that is lent to it goes to the run where a call of `new` takes it, and
+/// one that the run frees lies here afterwards; all others are out of the instruction's reach.
+///
+/// What it answers is counted by contracts alone, in ledgers that take no bytes.
+#[derive(Drop)]
+pub struct Passing<G: Ledger, N: Ledger> {
+    object: Option<Object>,
+    grants: Book<G>,
+    grants_share: Share<G>,
+    nulls: Book<N>,
+    nulls_share: Share<N>,
+    ghost image: { IfSome object (λ o. o.bytes.items ≡ image_at known_kinds o.kind) } by { Prim.hlevel props },
+    ghost known: { IfSome object (λ o. o.kind < length known_kinds) } by { Prim.hlevel props },
+    ghost counts_grants: { 0 < grants_share.parts },
+    ghost counts_nulls: { 0 < nulls_share.parts },
+}
+
+impl<G: Ledger, N: Ledger> Passing<G, N> {
+    /// A store that is lent nothing, over new ledgers.
+    pub(crate) fn new(
+        grants: Book<G>,
+        grants_share: Share<G>,
+        nulls: Book<N>,
+        nulls_share: Share<N>,
+    ) -> Passing<G, N>
+        requires { (0 < grants_share.parts) × (0 < nulls_share.parts) }
+        ensures { result.object ≡ None }
+    {
+        Passing {
+            object: None,
+            grants,
+            grants_share,
+            nulls,
+            nulls_share,
+        }
+    }
+}
+
+// An object of this kind is here.
+fn is_of_kind(object: &Option<Object>, kind: u8) -> bool
+    ensures { result ≡ is_of_kind object.now kind }
+{
+    match object {
+        Some(object) => object.kind == kind,
+        None => false,
+    }
+}
+
+// The object with its kind's fill in all its bytes.
+fn restored(object: Object) -> Object
+    requires size { length object.bytes.items ≡ length (image_at known_kinds object.kind) }
+    requires known { object.kind < length known_kinds }
+    ensures same { (result.slot ≡ object.slot) × (result.kind ≡ object.kind) }
+    ensures image { result.bytes.items ≡ image_at known_kinds object.kind }
+{
+    let Object {
+        slot,
+        kind,
+        mut bytes,
+    } = object;
+    bytes.as_mut_slice().fill(row_of(kind).fill);
+    Object { slot, kind, bytes }
+}
+
+impl<G: Ledger, N: Ledger> Objects for Passing<G, N> {
+    ghost use Rattle.std.specs.Prelude.{◌≡◌, None};
+    ghost use Rattle.ebpf_machine.specs.Kinds.{known_kinds};
+    ghost use Rattle.ebpf_core.specs.Passing.{IsOut, Lends, LendsNone, out_of_kind};
+
+    type Held = Object;
+
+    ghost kinds = { known_kinds };
+
+    ghost kind_of = { λ o. o.kind };
+
+    ghost slot_of = { λ o. o.slot };
+
+    ghost is_out = { λ p o. IsOut p.object o };
+
+    ghost bytes_of = { λ p o. o.bytes.items };
+
+    ghost can_grant = { λ p kind slot. Lends p.object kind slot };
+
+    ghost can_refuse = { λ p kind. LendsNone p.object kind };
+
+    ghost can_give = { λ p. p.object ≡ None };
+
+    ghost grants = { λ p. p.grants.total };
+
+    ghost nulls = { λ p. p.nulls.total };
+
+    ghost outs = { λ p kind. out_of_kind p.object kind };
+
+    fn take(&mut self, kind: u8, _at: u16) -> Option<Object> {
+        if is_of_kind(&self.object, kind) {
+            self.grants.add(&mut self.grants_share, 1);
+            return self.object.take();
+        }
+        self.nulls.add(&mut self.nulls_share, 1);
+        None
+    }
+
+    fn give(&mut self, _kind: u8, object: Object) {
+        self.object = Some(restored(object));
+    }
+
+    fn bytes<'a>(&'a self, held: &'a Object) -> &'a [u8] {
+        &held.bytes
+    }
+
+    fn write(&mut self, held: &mut Object, place: usize, bytes: &[u8]) {
+        held.bytes[place..place + bytes.len()].copy_from_slice(bytes);
+    }
+
+    ghost has_size = { λ p o out. (out.size, out.known) };
+}
