@@ -10,8 +10,8 @@ use Rattle.ebpf_flow.specs.declared.edges.Edges.{Edges}
 use Rattle.ebpf_flow.specs.Edges.{edges_at, leads_to, fall_of}
 use Rattle.ebpf_state.specs.StateView.{StateView}
 use Rattle.ebpf_state.specs.States.{first_state, register_of}
-use Rattle.ebpf_verify.specs.declared.arrival.Arrival.{Arrival}
-use Rattle.ebpf_verify.specs.declared.arrival.Arrival.TheVariants.{Never, Entered, Differ}
+use Rattle.ebpf_verify.specs.declared.entry.EntryState.{EntryState}
+use Rattle.ebpf_verify.specs.declared.entry.EntryState.TheVariants.{Unreached, Known, Conflict}
 use Rattle.ebpf_verify.specs.Rules.{after_fall, result_of, operand}
 use Rattle.ebpf_verify.specs.Entry.{with_edge, with_sent, arrived, entry_of}
 use Rattle.ebpf_machine.specs.declared.value.Value.{Value}
@@ -24,36 +24,36 @@ abbrev IsWholeState : Option StateView → Type 0
 IsWholeState None = Unit {0}
 IsWholeState (Some s) = length s.registers ≡ 11
 
-IsWhole-with_edge : (o : Option StateView) (leads : Bool) (a : Arrival) → IsWholeState o → IsWhole a → IsWhole (with_edge o leads a)
+IsWhole-with_edge : (o : Option StateView) (leads : Bool) (a : EntryState) → IsWholeState o → IsWhole a → IsWhole (with_edge o leads a)
 IsWhole-with_edge None leads a w v = v
 IsWhole-with_edge (Some s) true a w v = IsWhole-with_state a s v w
 IsWhole-with_edge (Some s) false a w v = v
 
-old_by_edge : (o : Option StateView) (leads : Bool) (a : Arrival) (regs : List (Option (Value ℕ))) (objects : List ObjectView) → IsWholeState o → IsWhole a → Arrives a regs objects → Arrives (with_edge o leads a) regs objects
+old_by_edge : (o : Option StateView) (leads : Bool) (a : EntryState) (regs : List (Option (Value ℕ))) (objects : List ObjectView) → IsWholeState o → IsWhole a → Arrives a regs objects → Arrives (with_edge o leads a) regs objects
 old_by_edge None leads a regs objects w v h = h
 old_by_edge (Some s) true a regs objects w v h = Arrives-with_state_old a s regs objects v w h
 old_by_edge (Some s) false a regs objects w v h = h
 
-new_by_edge : (o : Option StateView) (s : StateView) (leads : Bool) (a : Arrival) (regs : List (Option (Value ℕ))) (objects : List ObjectView) → o ≡ Some s → leads ≡ true → length s.registers ≡ 11 → IsWhole a → AreOf s regs objects → Arrives (with_edge o leads a) regs objects
+new_by_edge : (o : Option StateView) (s : StateView) (leads : Bool) (a : EntryState) (regs : List (Option (Value ℕ))) (objects : List ObjectView) → o ≡ Some s → leads ≡ true → length s.registers ≡ 11 → IsWhole a → AreOf s regs objects → Arrives (with_edge o leads a) regs objects
 new_by_edge o s leads a regs objects carries e w v h = rw (carries, e) (Arrives-with_state_new a s regs objects v w h)
 
 whole_after_fall : (i : Insn) (s : StateView) → length s.registers ≡ 11 → IsWholeState (after_fall i s)
 whole_after_fall (insn.Alu width o dst src) s w = length-set s.registers (number_of dst) (result_of width o (register_of s dst) (operand s width src)) ∙ w
 whole_after_fall _ s w = tt
 
-IsWhole-with_sent : (o : Option Insn) (e : Edges) (to : ℕ) (a old : Arrival) → IsWhole a → IsWhole old → IsWhole (with_sent o e to a old)
+IsWhole-with_sent : (o : Option Insn) (e : Edges) (to : ℕ) (a old : EntryState) → IsWhole a → IsWhole old → IsWhole (with_sent o e to a old)
 IsWhole-with_sent None e to a old w v = v
-IsWhole-with_sent (Some i) e to Never old w v = v
-IsWhole-with_sent (Some i) e to Differ old w v = v
-IsWhole-with_sent (Some i) e to (Entered s) old w v = IsWhole-with_edge (after_fall i s) (leads_to e.fall to) old (whole_after_fall i s w) v
+IsWhole-with_sent (Some i) e to Unreached old w v = v
+IsWhole-with_sent (Some i) e to Conflict old w v = v
+IsWhole-with_sent (Some i) e to (Known s) old w v = IsWhole-with_edge (after_fall i s) (leads_to e.fall to) old (whole_after_fall i s w) v
 
-old_by_sent : (o : Option Insn) (e : Edges) (to : ℕ) (a old : Arrival) (regs : List (Option (Value ℕ))) (objects : List ObjectView) → IsWhole a → IsWhole old → Arrives old regs objects → Arrives (with_sent o e to a old) regs objects
+old_by_sent : (o : Option Insn) (e : Edges) (to : ℕ) (a old : EntryState) (regs : List (Option (Value ℕ))) (objects : List ObjectView) → IsWhole a → IsWhole old → Arrives old regs objects → Arrives (with_sent o e to a old) regs objects
 old_by_sent None e to a old regs objects w v h = h
-old_by_sent (Some i) e to Never old regs objects w v h = h
-old_by_sent (Some i) e to Differ old regs objects w v h = h
-old_by_sent (Some i) e to (Entered s) old regs objects w v h = old_by_edge (after_fall i s) (leads_to e.fall to) old regs objects (whole_after_fall i s w) v h
+old_by_sent (Some i) e to Unreached old regs objects w v h = h
+old_by_sent (Some i) e to Conflict old regs objects w v h = h
+old_by_sent (Some i) e to (Known s) old regs objects w v h = old_by_edge (after_fall i s) (leads_to e.fall to) old regs objects (whole_after_fall i s w) v h
 
-IsWhole-first : (b : Bool) → IsWhole (cond b (Entered first_state) Never)
+IsWhole-first : (b : Bool) → IsWhole (cond b (Known first_state) Unreached)
 IsWhole-first true = refl
 IsWhole-first false = tt
 
@@ -73,7 +73,7 @@ sent_arrives p (suc m) j to regs objects lt h =
     ]
 
 -- the state that an instruction sends to the slot after it speaks of a run that goes there
-pub fall_arrives : (p : List (Option Insn)) (from to : ℕ) (i : Insn) (s after : StateView) (regs : List (Option (Value ℕ))) (objects : List ObjectView) → insn_at p from ≡ Some i → entry_of p from ≡ Entered s → length s.registers ≡ 11 → after_fall i s ≡ Some after → length after.registers ≡ 11 → fall_of i from ≡ Some to → from < to → AreOf after regs objects → Arrives (entry_of p to) regs objects
+pub fall_arrives : (p : List (Option Insn)) (from to : ℕ) (i : Insn) (s after : StateView) (regs : List (Option (Value ℕ))) (objects : List ObjectView) → insn_at p from ≡ Some i → entry_of p from ≡ Known s → length s.registers ≡ 11 → after_fall i s ≡ Some after → length after.registers ≡ 11 → fall_of i from ≡ Some to → from < to → AreOf after regs objects → Arrives (entry_of p to) regs objects
 fall_arrives p from to i s after regs objects at entered whole makes whole_after edge lt h =
     let leads : leads_to (fall_of i from) to ≡ true = rw edge (eqb_same to) in
     sent_arrives p to from to regs objects lt

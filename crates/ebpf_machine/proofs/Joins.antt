@@ -15,9 +15,9 @@ use Rattle.ebpf_state.specs.Words.{joined_word}
 use Rattle.ebpf_state.specs.StateView.{StateView}
 use Rattle.ebpf_state.specs.States.{joined_list, is_same_held, is_same_reference}
 use Rattle.ebpf_state.proofs.JoinLists.{joined_list-index, joined_list-length}
-use Rattle.ebpf_verify.specs.declared.arrival.Arrival.{Arrival}
-use Rattle.ebpf_verify.specs.declared.arrival.Arrival.TheVariants.{Never, Entered, Differ}
-use Rattle.ebpf_verify.specs.Entry.{with_state, entered_or_differ}
+use Rattle.ebpf_verify.specs.declared.entry.EntryState.{EntryState}
+use Rattle.ebpf_verify.specs.declared.entry.EntryState.TheVariants.{Unreached, Known, Conflict}
+use Rattle.ebpf_verify.specs.Entry.{with_state, known_or_conflict}
 use Rattle.ebpf_machine.specs.declared.value.Value.{Value}
 use Rattle.ebpf_machine.specs.declared.value.Value.TheVariants.{Number, Pointer}
 use Rattle.ebpf_machine.specs.declared.value.Base.TheVariants.{Stack, Context, Object}
@@ -98,8 +98,8 @@ same_referred a b objects same h o there =
     (get_or a at it.0, Contains-get_or a at it.0 other.0, other.1 ∙ (ap (λ (x : Held). x.call) here ∙ it.2), other.2 ∙ (ap (λ (x : Held). x.kind) here ∙ it.3))
 
 -- a state has all registers
-abbrev pub IsWhole : Arrival → Type 0
-IsWhole (Entered s) = length s.registers ≡ 11
+abbrev pub IsWhole : EntryState → Type 0
+IsWhole (Known s) = length s.registers ≡ 11
 IsWhole _ = Unit {0}
 
 abbrev joined_registers : StateView → StateView → StateView
@@ -117,8 +117,8 @@ right_side s t regs objects v w same h = record {
   held = same_referred s.held t.held objects same h.held;
 }
 
-abbrev joined_by : Bool → StateView → StateView → Arrival
-joined_by same s t = entered_or_differ (cond same (Some (joined_registers s t)) None)
+abbrev joined_by : Bool → StateView → StateView → EntryState
+joined_by same s t = known_or_conflict (cond same (Some (joined_registers s t)) None)
 
 by_test : (same : Bool) (s t : StateView) (regs : List (Option (Value ℕ))) (objects : List ObjectView) → (same ≡ true → AreOf (joined_registers s t) regs objects) → Arrives (joined_by same s t) regs objects
 by_test true s t regs objects h = h refl
@@ -128,19 +128,19 @@ whole_by_test : (same : Bool) (s t : StateView) → length s.registers ≡ 11 �
 whole_by_test true s t v w = joined_list-length joined_value s.registers t.registers (v ∙ sym w) ∙ v
 whole_by_test false s t v w = tt
 
-pub IsWhole-with_state : (a : Arrival) (t : StateView) → IsWhole a → length t.registers ≡ 11 → IsWhole (with_state a t)
-IsWhole-with_state Never t v w = w
-IsWhole-with_state (Entered s) t v w = whole_by_test (is_same_held s.held t.held) s t v w
-IsWhole-with_state Differ t v w = tt
+pub IsWhole-with_state : (a : EntryState) (t : StateView) → IsWhole a → length t.registers ≡ 11 → IsWhole (with_state a t)
+IsWhole-with_state Unreached t v w = w
+IsWhole-with_state (Known s) t v w = whole_by_test (is_same_held s.held t.held) s t v w
+IsWhole-with_state Conflict t v w = tt
 
 -- what came before one more state still comes
-pub Arrives-with_state_old : (a : Arrival) (t : StateView) (regs : List (Option (Value ℕ))) (objects : List ObjectView) → IsWhole a → length t.registers ≡ 11 → Arrives a regs objects → Arrives (with_state a t) regs objects
-Arrives-with_state_old Never t regs objects v w h = absurd h
-Arrives-with_state_old (Entered s) t regs objects v w h = by_test (is_same_held s.held t.held) s t regs objects (λ same. left_side s t regs objects v w h)
-Arrives-with_state_old Differ t regs objects v w h = tt
+pub Arrives-with_state_old : (a : EntryState) (t : StateView) (regs : List (Option (Value ℕ))) (objects : List ObjectView) → IsWhole a → length t.registers ≡ 11 → Arrives a regs objects → Arrives (with_state a t) regs objects
+Arrives-with_state_old Unreached t regs objects v w h = absurd h
+Arrives-with_state_old (Known s) t regs objects v w h = by_test (is_same_held s.held t.held) s t regs objects (λ same. left_side s t regs objects v w h)
+Arrives-with_state_old Conflict t regs objects v w h = tt
 
 -- and so does what one more state speaks of
-pub Arrives-with_state_new : (a : Arrival) (t : StateView) (regs : List (Option (Value ℕ))) (objects : List ObjectView) → IsWhole a → length t.registers ≡ 11 → AreOf t regs objects → Arrives (with_state a t) regs objects
-Arrives-with_state_new Never t regs objects v w h = h
-Arrives-with_state_new (Entered s) t regs objects v w h = by_test (is_same_held s.held t.held) s t regs objects (λ same. right_side s t regs objects v w same h)
-Arrives-with_state_new Differ t regs objects v w h = tt
+pub Arrives-with_state_new : (a : EntryState) (t : StateView) (regs : List (Option (Value ℕ))) (objects : List ObjectView) → IsWhole a → length t.registers ≡ 11 → AreOf t regs objects → Arrives (with_state a t) regs objects
+Arrives-with_state_new Unreached t regs objects v w h = h
+Arrives-with_state_new (Known s) t regs objects v w h = by_test (is_same_held s.held t.held) s t regs objects (λ same. right_side s t regs objects v w same h)
+Arrives-with_state_new Conflict t regs objects v w h = tt

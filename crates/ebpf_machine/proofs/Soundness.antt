@@ -29,8 +29,8 @@ use Rattle.ebpf_state.specs.Abstract.{is_unset, is_pointer, is_may}
 use Rattle.ebpf_state.specs.declared.held.Held.{Held}
 use Rattle.ebpf_state.specs.StateView.{StateView}
 use Rattle.ebpf_state.specs.States.{register_of, with_register, first_state}
-use Rattle.ebpf_verify.specs.declared.arrival.Arrival.{Arrival}
-use Rattle.ebpf_verify.specs.declared.arrival.Arrival.TheVariants.{Never, Entered, Differ}
+use Rattle.ebpf_verify.specs.declared.entry.EntryState.{EntryState}
+use Rattle.ebpf_verify.specs.declared.entry.EntryState.TheVariants.{Unreached, Known, Conflict}
 use Rattle.ebpf_verify.specs.declared.fault.VerifyCode.TheVariants.{V0}
 use Rattle.ebpf_verify.specs.Rules.{alu_refusal, refusal, operand, result_of, exit_refusal}
 use Rattle.ebpf_verify.specs.Entry.{entry_of}
@@ -111,7 +111,7 @@ source_fits frame width (Register r) whole fit = let room = number_of-lt r in Al
 source_fits frame width (Imm z) whole fit = tt
 
 -- an operation
-alu_stepped : (p : List (Option Insn)) (objects : List ObjectView) (k : ℕ) (width : Width) (o : AluOp) (dst : Reg) (src : Source) (s : StateView) (frame : Frame ℕ) → insn_at p k ≡ Some (insn.Alu width o dst src) → IsDefined (insn.Alu width o dst src) → entry_of p k ≡ Entered s → length s.registers ≡ 11 → length frame.registers ≡ 11 → All FitsRegister frame.registers → AreOf s frame.registers objects → refusal (insn.Alu width o dst src) s ≡ None → IsStepped p objects k (insn.Alu width o dst src) frame
+alu_stepped : (p : List (Option Insn)) (objects : List ObjectView) (k : ℕ) (width : Width) (o : AluOp) (dst : Reg) (src : Source) (s : StateView) (frame : Frame ℕ) → insn_at p k ≡ Some (insn.Alu width o dst src) → IsDefined (insn.Alu width o dst src) → entry_of p k ≡ Known s → length s.registers ≡ 11 → length frame.registers ≡ 11 → All FitsRegister frame.registers → AreOf s frame.registers objects → refusal (insn.Alu width o dst src) s ≡ None → IsStepped p objects k (insn.Alu width o dst src) frame
 alu_stepped p objects k width o dst src s frame at defined entered ls lr fit h fine =
     let x = read frame dst in
     let y = source_value frame width src in
@@ -178,16 +178,16 @@ exit_stepped p objects k s frame h fine =
       );
     }
 
-insn_stepped : (p : List (Option Insn)) (objects : List ObjectView) (k : ℕ) (i : Insn) (s : StateView) (frame : Frame ℕ) → insn_at p k ≡ Some i → IsDefined i → entry_of p k ≡ Entered s → length s.registers ≡ 11 → length frame.registers ≡ 11 → All FitsRegister frame.registers → AreOf s frame.registers objects → refusal i s ≡ None → IsStepped p objects k i frame
+insn_stepped : (p : List (Option Insn)) (objects : List ObjectView) (k : ℕ) (i : Insn) (s : StateView) (frame : Frame ℕ) → insn_at p k ≡ Some i → IsDefined i → entry_of p k ≡ Known s → length s.registers ≡ 11 → length frame.registers ≡ 11 → All FitsRegister frame.registers → AreOf s frame.registers objects → refusal i s ≡ None → IsStepped p objects k i frame
 insn_stepped p objects k (insn.Alu width o dst src) s frame at defined entered ls lr fit h fine = alu_stepped p objects k width o dst src s frame at defined entered ls lr fit h fine
 insn_stepped p objects k insn.Exit s frame at defined entered ls lr fit h fine = exit_stepped p objects k s frame h fine
 insn_stepped p objects k _ s frame at defined entered ls lr fit h fine = absurd (without_rule fine)
 
 -- one instruction of a program whose slot is not refused
-pub slot_stepped : (p : List (Option Insn)) (objects : List ObjectView) (k : ℕ) (i : Insn) (a : Arrival) (frame : Frame ℕ) → insn_at p k ≡ Some i → IsDefined i → entry_of p k ≡ a → IsWhole a → length frame.registers ≡ 11 → All FitsRegister frame.registers → Arrives a frame.registers objects → refusal_in (Some i) a ≡ None → IsStepped p objects k i frame
-slot_stepped p objects k i Never frame at defined entered w lr fit h fine = absurd h
-slot_stepped p objects k i Differ frame at defined entered w lr fit h fine = absurd (cc)
-slot_stepped p objects k i (Entered s) frame at defined entered w lr fit h fine = insn_stepped p objects k i s frame at defined entered w lr fit h fine
+pub slot_stepped : (p : List (Option Insn)) (objects : List ObjectView) (k : ℕ) (i : Insn) (a : EntryState) (frame : Frame ℕ) → insn_at p k ≡ Some i → IsDefined i → entry_of p k ≡ a → IsWhole a → length frame.registers ≡ 11 → All FitsRegister frame.registers → Arrives a frame.registers objects → refusal_in (Some i) a ≡ None → IsStepped p objects k i frame
+slot_stepped p objects k i Unreached frame at defined entered w lr fit h fine = absurd h
+slot_stepped p objects k i Conflict frame at defined entered w lr fit h fine = absurd (cc)
+slot_stepped p objects k i (Known s) frame at defined entered w lr fit h fine = insn_stepped p objects k i s frame at defined entered w lr fit h fine
 
 -- the first registers are as the first state says
 pub first_holds : AreOf first_state first_registers []

@@ -5,8 +5,8 @@ use Rattle.ebpf_state.specs.declared.value.Abs.{Abs}
 use Rattle.ebpf_state.specs.declared.value.Abs.TheVariants.{Unset, Num, Stk, Ctx, Ob, May}
 use Rattle.ebpf_state.specs.declared.held.Held.{Held}
 use Rattle.ebpf_state.specs.StateView.{StateView}
-use Rattle.ebpf_verify.specs.declared.arrival.Arrival.{Arrival}
-use Rattle.ebpf_verify.specs.declared.arrival.Arrival.TheVariants.{Never, Entered, Differ}
+use Rattle.ebpf_verify.specs.declared.entry.EntryState.{EntryState}
+use Rattle.ebpf_verify.specs.declared.entry.EntryState.TheVariants.{Unreached, Known, Conflict}
 use Rattle.ebpf_machine.specs.declared.value.Value.{Value}
 use Rattle.ebpf_machine.specs.declared.value.Value.TheVariants.{Number, Pointer}
 use Rattle.ebpf_machine.specs.declared.value.Base.TheVariants.{Stack, Context, Object}
@@ -38,7 +38,7 @@ pub record AreOf (s : StateView) (registers : List (Option (Value ℕ))) (object
   pub held : AreReferred s.held objects
 
 -- what comes to a slot speaks of a run there
-abbrev pub Arrives : Arrival → List (Option (Value ℕ)) → List ObjectView → Type 0
-Arrives Never registers objects = ⊥
-Arrives (Entered s) registers objects = AreOf s registers objects
-Arrives Differ registers objects = Unit {0}
+abbrev pub Arrives : EntryState → List (Option (Value ℕ)) → List ObjectView → Type 0
+Arrives Unreached registers objects = ⊥
+Arrives (Known s) registers objects = AreOf s registers objects
+Arrives Conflict registers objects = Unit {0}

@@ -1,2 +1,3 @@
 pub mod JoinLists
 pub mod SameHeld
+pub mod Stacks

@@ -1,5 +1,5 @@
 -- A state, as the lists of what is known.
-use Rattle.std.specs.Prelude.{◌≡◌, List, length, map, All}
+use Rattle.std.specs.Prelude.{◌≡◌, ◌≤◌, List, length, map, All}
 use Rattle.ebpf_state.specs.declared.value.Abs.{Abs}
 use Rattle.ebpf_state.specs.declared.word.Word.{Word}
 use Rattle.ebpf_state.specs.declared.held.Held.{Held}
@@ -13,9 +13,10 @@ pub record StateView : Type 0 where
   pub words : List Word
   pub held : List Held
 
-pub record IsState (s : StateView) : Type 0 where
-  pub registers_are : length s.registers ≡ 11
-  pub words_are : length s.words ≡ 64
-  pub proper : All IsProper s.registers
-  pub proper_words : All IsProperWord s.words
-  pub ascending : IsAscending (map (λ h. h.call) s.held)
+-- what is kept of a state: the registers, the topmost words of the stack, and the references
+pub record AreFacts (registers : List Abs) (words : List Word) (held : List Held) : Type 0 where
+  pub registers_are : length registers ≡ 11
+  pub few : length words ≤ 64
+  pub proper : All IsProper registers
+  pub proper_words : All IsProperWord words
+  pub ascending : IsAscending (map (λ h. h.call) held)

@@ -56,3 +56,8 @@ abbrev pub Joins : Option StateView → Result StateView JoinFault → Type 0
 Joins joined (Ok s) = joined ≡ Some s
 Joins joined (Err HeldDiffer) = joined ≡ None
 Joins joined (Err NoMemory) = is_none joined ≡ false
+
+-- what a join into a state answers, and leaves there
+abbrev pub JoinsInto : Option StateView → StateView → StateView → Bool → Type 0
+JoinsInto joined old new true = joined ≡ Some new
+JoinsInto joined old new false = (joined ≡ None) × (new ≡ old)

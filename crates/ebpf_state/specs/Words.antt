@@ -1,5 +1,5 @@
 -- What is known of a word of the stack.
-use Rattle.std.specs.Prelude.{bit_and}
+use Rattle.std.specs.Prelude.{bit_and, List, ◌++◌, ◌-◌, length, replicate}
 use Rattle.ebpf_state.specs.declared.value.Abs.{Abs}
 use Rattle.ebpf_state.specs.declared.value.Abs.TheVariants.{Unset, Num}
 use Rattle.ebpf_state.specs.declared.word.Word.{Word}
@@ -24,3 +24,7 @@ abbrev pub IsProperWord : Word → Type 0
 IsProperWord (Spill Unset) = ⊥
 IsProperWord (Spill value) = IsProper value
 IsProperWord (Bytes mask) = Unit {0}
+
+-- the 64 words of a stack, of which these are the topmost; nothing is known of the others
+abbrev pub all_words : List Word → List Word
+all_words words = replicate (64 - length words) (Bytes 0) ++ words

@@ -1,9 +1,10 @@
 //! Abstract states.
 
-ghost use Rattle.std.specs.Prelude.{◌≡◌, ◌≤◌, [], All, length, IfOk, IfErr, MatchResult, Some, None};
-ghost use Rattle.ebpf_state.specs.declared.state.JoinFault.{JoinFault};
+ghost use Rattle.std.specs.Prelude.{◌≡◌, ◌≤◌, ◌<◌, true, All, length, slice_index_or, IfOk, Some};
+ghost use Rattle.ebpf_state.specs.declared.value.Abs.{Abs};
+ghost use Rattle.ebpf_state.specs.declared.word.Word.{Word};
 ghost use Rattle.ebpf_state.specs.Abstract.{joined_value, IsProper};
-ghost use Rattle.ebpf_state.specs.Words.{joined_word, IsProperWord};
+ghost use Rattle.ebpf_state.specs.Words.{joined_word, all_words, IsProperWord};
 ghost use Rattle.ebpf_state.specs.States.{joined_list, is_same_held};
 
 use crate::held::Held;
@@ -15,10 +16,18 @@ use std::marker::Model;
 use thiserror::Error;
 
 /// What is known before a slot: of each register, of each word of the stack, and which references are held.
+///
+/// A state lies on the heap, so it moves as a pointer does: a walk over a program hands the same one on from slot to slot.
 #[derive(Drop)]
 pub struct State {
+    facts: Box<Facts>,
+}
+
+#[derive(Drop)]
+struct Facts {
     registers: [Abs; 11],
-    words: [Word; 64],
+    // The topmost words of the stack, in ascending order. Nothing is known of those below them, which most programs never use.
+    words: Vec<Word>,
     held: Vec<Held>,
 }
 
@@ -27,11 +36,12 @@ impl Model for State {
 
     ghost Value = { StateView };
 
-    ghost use Rattle.ebpf_state.specs.StateView.{IsState};
+    ghost use Rattle.ebpf_state.specs.StateView.{AreFacts};
+    ghost use Rattle.ebpf_state.specs.Words.{all_words};
 
-    ghost view = { λ s. record { registers = s.registers; words = s.words; held = s.held.items } };
+    ghost view = { λ s. record { registers = s.facts.value.registers; words = all_words s.facts.value.words.items; held = s.facts.value.held.items } };
 
-    ghost invariant = { λ s. IsState (record { registers = s.registers; words = s.words; held = s.held.items }) };
+    ghost invariant = { λ s. AreFacts s.facts.value.registers s.facts.value.words.items s.facts.value.held.items };
 }
 
 /// Why two states have no join.
@@ -56,31 +66,43 @@ impl From<AllocError> for JoinFault {
 }
 
 impl State {
-    ghost use Rattle.ebpf_state.specs.States.{first_state, joined_state, register_of, with_register, Joins};
-    ghost use Rattle.ebpf_state.specs.StateView.{IsState};
+    ghost use Rattle.ebpf_state.specs.States.{first_state, joined_state, register_of, with_register, Joins, JoinsInto};
 
     /// The state before slot 0: `r1` points to the context, `r10` is the frame pointer, and nothing else is set or held.
-    pub fn start(alloc: Global) -> State
-        ensures { result ≡ first_state }
+    ///
+    /// # Errors
+    /// It fails for want of memory alone.
+    pub fn start(alloc: Global) -> Result<State, AllocError>
+        ensures { IfOk result (λ s. s ≡ first_state) }
     {
         let mut registers = [Abs::Unset; 11];
         registers[1] = Abs::Ctx(0, 0);
         registers[10] = Abs::Stk(0);
-        State {
+        let facts = Facts {
             registers,
-            words: [Word::Bytes(0); 64],
+            words: Vec::new(alloc),
             held: Vec::new(alloc),
-        }
+        };
+        Ok(State {
+            facts: Box::new(alloc, facts)?,
+        })
     }
 
     /// A copy of the state.
+    ///
+    /// # Errors
+    /// It fails for want of memory alone.
     pub fn copy(&self) -> Result<State, AllocError>
         ensures { IfOk result (λ s. s ≡ self.now) }
     {
+        let alloc = *self.facts.held.allocator();
+        let facts = Facts {
+            registers: self.facts.registers,
+            words: Vec::from_slice(alloc, &self.facts.words)?,
+            held: self.facts.held.clone()?,
+        };
         Ok(State {
-            registers: self.registers,
-            words: self.words,
-            held: self.held.clone()?,
+            facts: Box::new(alloc, facts)?,
         })
     }
 
@@ -88,7 +110,7 @@ impl State {
     pub fn held(&self) -> usize
         ensures { result ≡ length self.now.held }
     {
-        self.held.len()
+        self.facts.held.len()
     }
 
     /// What is known of a register.
@@ -96,7 +118,7 @@ impl State {
         ensures value { result ≡ register_of self.now register }
         ensures proper { IsProper result }
     {
-        self.registers[register.number()]
+        self.facts.registers[register.number()]
     }
 
     /// Says what is known of a register from now on.
@@ -105,7 +127,7 @@ impl State {
         ensures { self.new ≡ with_register self.old register value }
     {
         let number = register.number();
-        self.registers[number] = value;
+        self.facts.registers[number] = value;
     }
 
     /// What is known where two paths meet, one of which knows each.
@@ -115,13 +137,35 @@ impl State {
     pub fn join(&self, other: &State) -> Result<State, JoinFault>
         ensures { Joins (joined_state self.now other.now) result }
     {
-        if !is_same_held(&self.held, &other.held) {
+        if !is_same_held(&self.facts.held, &other.facts.held) {
             return Err(JoinFault::HeldDiffer);
         }
         let mut joined = self.copy()?;
-        joined.registers = joined_registers(&self.registers, &other.registers);
-        joined.words = joined_words(&self.words, &other.words);
+        joined.join_facts(other);
         Ok(joined)
+    }
+
+    /// Joins another state into this one, which takes no memory. It says whether the two hold the same references; where
+    /// they don't, this one stays as it is.
+    pub fn join_with(&mut self, other: &State) -> bool
+        ensures { JoinsInto (joined_state self.old other.now) self.old self.new result }
+    {
+        if !is_same_held(&self.facts.held, &other.facts.held) {
+            return false;
+        }
+        self.join_facts(other);
+        true
+    }
+
+    // Joins another state into this one, which holds the same references.
+    fn join_facts(&mut self, other: &State)
+        requires same { is_same_held self.old.held other.now.held ≡ true }
+        ensures { joined_state self.old other.now ≡ Some self.new }
+    {
+        let here = &mut *self.facts;
+        let there = &*other.facts;
+        join_registers(&mut here.registers, &there.registers);
+        join_words(&mut here.words, &there.words);
     }
 }
 
@@ -132,28 +176,45 @@ fn is_same_held(left: &[Held], right: &[Held]) -> bool
     left == right
 }
 
-fn joined_registers(left: &[Abs; 11], right: &[Abs; 11]) -> [Abs; 11]
-    requires left { All IsProper left.now }
+fn join_registers(left: &mut [Abs; 11], right: &[Abs; 11])
+    requires left { All IsProper left.old }
     requires right { All IsProper right.now }
-    ensures value { result ≡ joined_list joined_value left.now right.now }
-    ensures proper { All IsProper result }
+    ensures value { left.new ≡ joined_list joined_value left.old right.now }
+    ensures proper { All IsProper left.new }
 {
-    let mut joined = *left;
     for i in 0..11 {
-        joined[i] = joined[i].join(right[i]);
+        left[i] = left[i].join(right[i]);
     }
-    joined
 }
 
-fn joined_words(left: &[Word; 64], right: &[Word; 64]) -> [Word; 64]
-    requires left { All IsProperWord left.now }
-    requires right { All IsProperWord right.now }
-    ensures value { result ≡ joined_list joined_word left.now right.now }
-    ensures proper { All IsProperWord result }
+// Joins the topmost words of two stacks. Where nothing is known of a word of the left one, nothing is afterwards.
+fn join_words(left: &mut [Word], right: &[Word])
+    requires few_left { length left.old ≤ 64 }
+    requires few_right { length right.now ≤ 64 }
+    requires proper_left { All IsProperWord left.old }
+    requires proper_right { All IsProperWord right.now }
+    ensures value { all_words left.new ≡ joined_list joined_word (all_words left.old) (all_words right.now) }
+    ensures len { length left.new ≡ length left.old }
+    ensures proper { All IsProperWord left.new }
 {
-    let mut joined = *left;
-    for i in 0..64 {
-        joined[i] = joined[i].join(right[i]);
+    let below = 64 - left.len();
+    for i in 0..left.len() {
+        left[i] = left[i].join(word_at(right, below + i));
     }
-    joined
+}
+
+// What is known of a word of the stack, by its topmost words.
+fn word_at(words: &[Word], number: usize) -> Word
+    requires few { length words.now ≤ 64 }
+    requires inside { number < 64 }
+    requires proper { All IsProperWord words.now }
+    ensures value { result ≡ slice_index_or (all_words words.now) number (Word.Spill Abs.Unset) }
+    ensures proper { IsProperWord result }
+{
+    let below = 64 - words.len();
+    if number < below {
+        Word::Bytes(0)
+    } else {
+        words[number - below]
+    }
 }

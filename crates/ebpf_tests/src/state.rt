@@ -49,8 +49,8 @@ fn joined(rt: &impl Abort, alloc: Global, left: Abs, right: Abs) -> Abs
     requires left { IsProper left }
     requires right { IsProper right }
 {
-    let mut one = State::start(alloc);
-    let mut other = State::start(alloc);
+    let mut one = State::start(alloc).expect(rt, "out of memory");
+    let mut other = State::start(alloc).expect(rt, "out of memory");
     one.set(Reg::R2, left);
     other.set(Reg::R2, right);
     one.join(&other).expect(rt, "out of memory").reg(Reg::R2)
@@ -128,7 +128,7 @@ fn words_are_joined_to_the_bytes_that_both_set(rt: HostRuntime) {
 
 #[test]
 fn a_state_is_copied_changed_and_joined(rt: HostRuntime) {
-    let mut state = State::start(rt.alloc());
+    let mut state = State::start(rt.alloc()).expect(&rt, "out of memory");
     let first = state.copy().expect(&rt, "out of memory");
     holds(
         &rt,
@@ -146,4 +146,7 @@ fn a_state_is_copied_changed_and_joined(rt: HostRuntime) {
         matches!(joined.reg(Reg::R1), Abs::Ctx(0, 0)),
     );
     holds(&rt, "what one knows", joined.reg(Reg::R2).is_unset());
+    let is_joined = state.join_with(&first);
+    let what_one_knows = state.reg(Reg::R2).is_unset();
+    holds(&rt, "a join in place", is_joined && what_one_knows);
 }

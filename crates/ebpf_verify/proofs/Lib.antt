@@ -1,2 +1,2 @@
-pub mod Arrivals
+pub mod Entries
 pub mod Undone

@@ -6,8 +6,8 @@ use Rattle.ebpf_insn.specs.Encoding.{IsWellFormed}
 use Rattle.ebpf_flow.specs.Flow.{AreForward, is_done, or_else}
 use Rattle.ebpf_insn.specs.Faults.{lowest}
 use Rattle.ebpf_state.specs.declared.kinds.KindRow.{KindRow}
-use Rattle.ebpf_verify.specs.declared.arrival.Arrival.{Arrival}
-use Rattle.ebpf_verify.specs.declared.arrival.Arrival.TheVariants.{Entered, Differ}
+use Rattle.ebpf_verify.specs.declared.entry.EntryState.{EntryState}
+use Rattle.ebpf_verify.specs.declared.entry.EntryState.TheVariants.{Known, Conflict}
 use Rattle.ebpf_verify.specs.declared.fault.VerifyCode.{VerifyCode}
 use Rattle.ebpf_verify.specs.declared.fault.VerifyCode.TheVariants.{V0, V19}
 use Rattle.ebpf_verify.specs.declared.fault.VerifyFault.{VerifyFault}
@@ -17,9 +17,9 @@ use Rattle.ebpf_verify.specs.Rules.{refusal}
 use Rattle.ebpf_verify.specs.Entry.{entry_of}
 
 -- a slot that is never entered refuses nothing
-abbrev pub refusal_in : Option Insn → Arrival → Option VerifyCode
-refusal_in i Differ = Some V19
-refusal_in (Some i) (Entered s) = refusal i s
+abbrev pub refusal_in : Option Insn → EntryState → Option VerifyCode
+refusal_in i Conflict = Some V19
+refusal_in (Some i) (Known s) = refusal i s
 refusal_in i _ = None
 
 -- the first code that refuses a slot

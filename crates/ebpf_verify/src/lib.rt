@@ -5,8 +5,8 @@
 //! makes a [`verified::Verified`], and no run of that program traps.
 #![tactic(auto)]
 
-mod arrival;
 pub mod decl;
+mod entry;
 pub mod fault;
 mod pointer;
 mod rules;

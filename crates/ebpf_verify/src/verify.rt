@@ -12,8 +12,8 @@ ghost use Rattle.ebpf_verify.specs.Rules.{refusal, after_fall};
 ghost use Rattle.ebpf_verify.specs.Entry.{with_state, with_edge, with_sent};
 ghost use Rattle.ebpf_verify.specs.Verdict.{refusal_in, verdict, IsVerifyFault, AreRows, IsSlotFault};
 
-use crate::arrival::Arrival;
 use crate::decl::Decl;
+use crate::entry::EntryState;
 use crate::fault::{VerifyCode, VerifyFault};
 use crate::rules::{after_fall, refusal};
 use crate::verified::Verified;
@@ -22,7 +22,7 @@ use ebpf_flow::flowed::Flowed;
 use ebpf_insn::insn::Insn;
 use ebpf_state::kinds::KindRow;
 use ebpf_state::state::State;
-use std::alloc::{AllocFailed, Global};
+use std::alloc::{AllocError, Global};
 use std::mem;
 
 /// The verdict on a program whose flow was checked.
@@ -43,44 +43,44 @@ pub fn verify(
 {
     let rows = Vec::from_slice(alloc, rows)?;
     let slots = flowed.program().slots();
-    let mut pending = first_arrivals(alloc, slots)?;
+    let mut entries = first_entries(alloc, slots)?;
     for slot in 0..slots {
-        visit(&flowed, slot, &mut pending)?;
+        visit(&flowed, slot, &mut entries)?;
     }
     Ok(Verified { flowed, decl, rows })
 }
 
-// An arrival for each slot: the first state comes to slot 0, and nothing to the others.
-fn first_arrivals(alloc: Global, slots: usize) -> Result<Vec<Arrival>, AllocFailed<Arrival>>
+// What is known before each slot at first: the first state comes to slot 0, and nothing to the others.
+fn first_entries(alloc: Global, slots: usize) -> Result<Vec<EntryState>, AllocError>
     ensures len { IfOk result (λ v. length v.items ≡ slots) }
-    ensures first { IfOk result (λ v. (k : ℕ) → k < slots → slice_index_or v.items k Arrival.Never ≡ (if k == 0 then Arrival.Entered first_state else Arrival.Never)) }
+    ensures first { IfOk result (λ v. (k : ℕ) → k < slots → slice_index_or v.items k EntryState.Unreached ≡ (if k == 0 then EntryState.Known first_state else EntryState.Unreached)) }
 {
-    let mut pending = Vec::new(alloc);
+    let mut entries = Vec::with_capacity(alloc, slots)?;
     for slot in 0..slots {
-        let arrival = if slot == 0 {
-            Arrival::Entered(State::start(alloc))
+        let entry = if slot == 0 {
+            EntryState::Known(State::start(alloc)?)
         } else {
-            Arrival::Never
+            EntryState::Unreached
         };
-        pending.push(arrival)?;
+        entries.push(entry)?;
     }
-    Ok(pending)
+    Ok(entries)
 }
 
 // Takes what came to a slot, and sends it on, or says why it is refused.
-fn visit(flowed: &Flowed, slot: usize, pending: &mut Vec<Arrival>) -> Result<(), VerifyFault>
+fn visit(flowed: &Flowed, slot: usize, entries: &mut Vec<EntryState>) -> Result<(), VerifyFault>
     requires inside { slot < length flowed.now }
-    requires len { length pending.old.items ≡ length flowed.now }
-    ensures len { length pending.new.items ≡ length pending.old.items }
-    ensures fine { OnOk result (refusal_in (insn_at flowed.now slot) (slice_index_or pending.old.items slot Arrival.Never) ≡ None) }
-    ensures sent { OnOk result ((t : ℕ) → slot < t → t < length flowed.now → slice_index_or pending.new.items t Arrival.Never ≡ with_sent (insn_at flowed.now slot) (edges_at flowed.now slot) t (slice_index_or pending.old.items slot Arrival.Never) (slice_index_or pending.old.items t Arrival.Never)) }
-    ensures refused { IfErr result (IsSlotFault slot (refusal_in (insn_at flowed.now slot) (slice_index_or pending.old.items slot Arrival.Never))) }
+    requires len { length entries.old.items ≡ length flowed.now }
+    ensures len { length entries.new.items ≡ length entries.old.items }
+    ensures fine { OnOk result (refusal_in (insn_at flowed.now slot) (slice_index_or entries.old.items slot EntryState.Unreached) ≡ None) }
+    ensures sent { OnOk result ((t : ℕ) → slot < t → t < length flowed.now → slice_index_or entries.new.items t EntryState.Unreached ≡ with_sent (insn_at flowed.now slot) (edges_at flowed.now slot) t (slice_index_or entries.old.items slot EntryState.Unreached) (slice_index_or entries.old.items t EntryState.Unreached)) }
+    ensures refused { IfErr result (IsSlotFault slot (refusal_in (insn_at flowed.now slot) (slice_index_or entries.old.items slot EntryState.Unreached))) }
 {
-    let arrival = mem::replace(&mut pending[slot], Arrival::Never);
+    let entry = mem::replace(&mut entries[slot], EntryState::Unreached);
     let edges = flowed.successors(slot);
-    match (flowed.program().at(slot), arrival) {
-        (_, Arrival::Differ) => Err(refused_at(slot, VerifyCode::V19)),
-        (Some(insn), Arrival::Entered(state)) => pass_on(*insn, slot, state, edges, pending),
+    match (flowed.program().at(slot), entry) {
+        (_, EntryState::Conflict) => Err(refused_at(slot, VerifyCode::V19)),
+        (Some(insn), EntryState::Known(state)) => pass_on(*insn, slot, state, edges, entries),
         _ => Ok(()),
     }
 }
@@ -91,34 +91,32 @@ fn pass_on(
     slot: usize,
     state: State,
     edges: Edges,
-    pending: &mut Vec<Arrival>,
+    entries: &mut Vec<EntryState>,
 ) -> Result<(), VerifyFault>
     requires few { slot < 4096 }
-    requires fall { IfSome edges.fall (λ to. to < length pending.old.items) }
-    ensures len { length pending.new.items ≡ length pending.old.items }
+    requires fall { IfSome edges.fall (λ to. to < length entries.old.items) }
+    ensures len { length entries.new.items ≡ length entries.old.items }
     ensures fine { OnOk result (refusal insn state ≡ None) }
-    ensures sent { OnOk result ((t : ℕ) → t < length pending.old.items → slice_index_or pending.new.items t Arrival.Never ≡ with_sent (Some insn) edges t (Arrival.Entered state) (slice_index_or pending.old.items t Arrival.Never)) }
+    ensures sent { OnOk result ((t : ℕ) → t < length entries.old.items → slice_index_or entries.new.items t EntryState.Unreached ≡ with_sent (Some insn) edges t (EntryState.Known state) (slice_index_or entries.old.items t EntryState.Unreached)) }
     ensures refused { IfErr result (IsSlotFault slot (refusal insn state)) }
 {
     if let Some(code) = refusal(insn, &state) {
         return Err(refused_at(slot, code));
     }
     if let (Some(to), Some(after)) = (edges.fall, after_fall(insn, state)) {
-        send(pending, to as usize, after)?;
+        send(entries, to as usize, after);
     }
     Ok(())
 }
 
 // Adds a state to what comes to a slot.
-fn send(pending: &mut Vec<Arrival>, to: usize, state: State) -> Result<(), VerifyFault>
-    requires { to < length pending.old.items }
-    ensures len { length pending.new.items ≡ length pending.old.items }
-    ensures sent { OnOk result (pending.new.items ≡ slice_set pending.old.items to (with_state (slice_index_or pending.old.items to Arrival.Never) state)) }
-    ensures err { IfErr result (λ e. e ≡ NoMemory) }
+fn send(entries: &mut Vec<EntryState>, to: usize, state: State)
+    requires { to < length entries.old.items }
+    ensures len { length entries.new.items ≡ length entries.old.items }
+    ensures sent { entries.new.items ≡ slice_set entries.old.items to (with_state (slice_index_or entries.old.items to EntryState.Unreached) state) }
 {
-    let old = mem::replace(&mut pending[to], Arrival::Never);
-    pending[to] = old.with(state)?;
-    Ok(())
+    let old = mem::replace(&mut entries[to], EntryState::Unreached);
+    entries[to] = old.with(state);
 }
 
 fn refused_at(slot: usize, code: VerifyCode) -> VerifyFault

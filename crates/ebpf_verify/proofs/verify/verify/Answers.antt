@@ -2,17 +2,17 @@ use Rattle.std.proofs.Common.{◌<◌, length, List, slice_index_or, None, arith
 use Rattle.std.proofs.lemmas.Result.{err_from_is_err_and}
 use Rattle.ebpf_insn.proofs.FaultLemmas.{lowest-zero, lowest-more_none}
 use Rattle.ebpf_state.specs.declared.kinds.KindRow.{KindRow}
-use Rattle.ebpf_verify.specs.declared.arrival.Arrival.TheVariants.{Never}
+use Rattle.ebpf_verify.specs.declared.entry.EntryState.TheVariants.{Unreached}
 use Rattle.ebpf_verify.specs.Verdict.{refusal_at, IsVerifyFault}
-use Rattle.ebpf_verify.proofs.Arrivals.{arrived-zero, arrived-more, refusal_here, refused_here}
+use Rattle.ebpf_verify.proofs.Entries.{arrived-zero, arrived-more, refusal_here, refused_here}
 use Rattle.ebpf_verify.proofs.Undone.{all_done}
 use Rattle.ebpf_verify.proofs.verify.verify.Goals as goal
 
 pub loop-slot-init : goal.loop-slot-init
 loop-slot-init c = record {
   all = c.slots-slots.ensures.value ∙ ap length c.program.ensures.value;
-  len = c.in_ok-pending.ensures.len;
-  came = λ t lo lt. c.in_ok-pending.ensures.first t lt ∙ sym (arrived-zero c.args.flowed t);
+  len = c.in_ok-entries.ensures.len;
+  came = λ t lo lt. c.in_ok-entries.ensures.first t lt ∙ sym (arrived-zero c.args.flowed t);
   done = all_done (record { program = c.args.flowed; decl = c.args.decl; rows = c.in_ok-rows.rows.items }) c.program.ensures.fine;
   fine = lowest-zero (refusal_at (record { program = c.args.flowed; decl = c.args.decl; rows = c.in_ok-rows.rows.items }));
 }
@@ -23,7 +23,7 @@ returns-in_err-visit-clause-refused c =
     let here = c.loop-slot.invariant.came c.loop-slot.slot (omega arith) (omega arith) in
     let p = err_from_is_err_and c.from_residual-in_err-visit.result c.from_residual-in_err-visit.ensures.1 in
     rw (p.1, p.2) (subst (λ (rows : List KindRow). IsVerifyFault (record { program = c.args.flowed; decl = c.args.decl; rows = rows }) c.in_err-visit.field-0.0) c.in_ok-rows.ensures.items
-    (refused_here (record { program = c.args.flowed; decl = c.args.decl; rows = c.in_ok-rows.rows.items }) c.loop-slot.slot (slice_index_or c.loop-slot.pending.items c.loop-slot.slot Never) c.in_err-visit.field-0.0 inside c.loop-slot.invariant.done c.loop-slot.invariant.fine here c.in_err-visit.ensures.refused))
+    (refused_here (record { program = c.args.flowed; decl = c.args.decl; rows = c.in_ok-rows.rows.items }) c.loop-slot.slot (slice_index_or c.loop-slot.entries.items c.loop-slot.slot Unreached) c.in_err-visit.field-0.0 inside c.loop-slot.invariant.done c.loop-slot.invariant.fine here c.in_err-visit.ensures.refused))
 
 pub loop-slot-preserved : goal.loop-slot-preserved
 loop-slot-preserved c =

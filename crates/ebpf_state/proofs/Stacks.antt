@@ -1,0 +1,47 @@
+-- The topmost words of the stack, and the words below them of which nothing is known.
+use Rattle.std.proofs.Common.{◌≡◌, ℕ, zero, suc, ◌-◌, ◌<◌, ◌≤◌, List, [], ◌∷◌, ◌++◌, length, get_or, drop, refl, sym, ap, ◌∙◌, arith, length-append}
+use Rattle.std.specs.Prelude.{replicate}
+use Rattle.std.specs.Int.Bits.{and_zero_l}
+use Rattle.std.proofs.lemmas.List.{length-replicate, get_or-replicate, get_or_append_left, get_or-append_right}
+use Rattle.ebpf_state.specs.declared.value.Abs.TheVariants.{Unset, Num, Stk, Ctx, Ob, May}
+use Rattle.ebpf_state.specs.declared.word.Word.{Word}
+use Rattle.ebpf_state.specs.declared.word.Word.TheVariants.{Spill, Bytes}
+use Rattle.ebpf_state.specs.Words.{joined_word, all_words}
+use Rattle.ebpf_state.specs.States.{joined_list}
+
+-- with a word of which nothing is known, nothing is known
+pub joined_nothing : (w : Word) → joined_word (Bytes 0) w ≡ Bytes 0
+joined_nothing (Bytes b) = ap Bytes (and_zero_l b)
+joined_nothing (Spill Unset) = refl
+joined_nothing (Spill (Num a)) = refl
+joined_nothing (Spill (Stk k)) = refl
+joined_nothing (Spill (Ctx a b)) = refl
+joined_nothing (Spill (Ob r a b)) = refl
+joined_nothing (Spill (May r)) = refl
+
+pub length-all_words : (words : List Word) → length words ≤ 64 → length (all_words words) ≡ 64
+length-all_words words few = length-append (replicate (64 - length words) (Bytes 0)) words ∙ omega (arith, length-replicate (64 - length words) (Bytes 0), few)
+
+pub all_words-below : (words : List Word) (w : ℕ) (d : Word) → w < 64 - length words → get_or (all_words words) w d ≡ Bytes 0
+all_words-below words w d lt =
+    let inside : w < length (replicate (64 - length words) (Bytes 0)) = omega (arith, length-replicate (64 - length words) (Bytes 0)) in
+    get_or_append_left (replicate (64 - length words) (Bytes 0)) words d w inside ∙ get_or-replicate (64 - length words) w (Bytes 0) d lt
+
+pub all_words-known : (words : List Word) (w : ℕ) (d : Word) → 64 - length words ≤ w → get_or (all_words words) w d ≡ get_or words (w - (64 - length words)) d
+all_words-known words w d le = get_or-append_right (replicate (64 - length words) (Bytes 0)) words (64 - length words) w d (length-replicate (64 - length words) (Bytes 0)) le
+
+-- the join of two stacks, from the join of the last words of one
+pub joined_below : (n : ℕ) (left right : List Word) → n ≤ length right → replicate n (Bytes 0) ++ joined_list joined_word left (drop n right) ≡ joined_list joined_word (replicate n (Bytes 0) ++ left) right
+joined_below zero left right le = refl
+joined_below (suc n) left [] le = absurd (omega arith)
+joined_below (suc n) left (r ∷ rs) le =
+    ap (λ (ws : List Word). Bytes 0 ∷ ws) (joined_below n left rs (omega arith))
+    ∙ ap (λ (w : Word). w ∷ joined_list joined_word (replicate n (Bytes 0) ++ left) rs) (sym (joined_nothing r))
+
+pub all_words-joined : (left right joined : List Word) → length left ≤ 64 → length right ≤ 64 → length joined ≡ length left → joined ≡ joined_list joined_word left (drop (64 - length left) (all_words right)) → all_words joined ≡ joined_list joined_word (all_words left) (all_words right)
+all_words-joined left right joined few_left few_right same e =
+    let all : length (all_words right) ≡ 64 = length-all_words right few_right in
+    let fits : 64 - length left ≤ length (all_words right) = omega (arith, all) in
+    ap (λ (n : ℕ). replicate (64 - n) (Bytes 0) ++ joined) same
+    ∙ (ap (λ (ws : List Word). replicate (64 - length left) (Bytes 0) ++ ws) e
+    ∙ joined_below (64 - length left) left (all_words right) fits)
