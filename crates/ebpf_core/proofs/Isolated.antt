@@ -27,7 +27,7 @@ use Rattle.ebpf_core.specs.declared.event.Event.{Event}
 use Rattle.ebpf_core.specs.declared.event.Event.TheVariants.{Start, Exec, Grow, Reap}
 use Rattle.ebpf_core.specs.Events.{first_world, answer_of, happened}
 use Rattle.ebpf_core.specs.Shown.{AreKnown, run_seen}
-use Rattle.ebpf_core.specs.Replay.{and_then, lead_from}
+use Rattle.ebpf_core.specs.Replay.{and_then, world_after_from}
 use Rattle.ebpf_core.specs.Isolation.{answers_to, answer_in, replies_to, IsUntrapped, IsWhereAlone, IsOutcomeOf, IsIsolated, IsSafe, IsAlwaysSafe}
 use Rattle.ebpf_core.proofs.Runs.{at_number, same_number, first_alone}
 
@@ -152,16 +152,16 @@ first_owned = owned_empty known_kinds known_kinds refl
 first_kept : IsKept first_world []
 first_kept = record { owned = first_owned; kinds = refl; ledgers = refl; owners = refl; runs = λ k run at. absurd (cc); unanswered = λ k. refl }
 
-lead_kept : (programs : List Subject) (rest events : List Event) (index : ℕ) (w v : World) → All IsAccepted programs → AreKnown programs → IsKept w events → lead_from programs rest index w ≡ Ok v → IsKept v (events ++ rest)
-unfolding lead_from
-lead_kept programs [] events index w v all known h e =
+world_after_kept : (programs : List Subject) (rest events : List Event) (index : ℕ) (w v : World) → All IsAccepted programs → AreKnown programs → IsKept w events → world_after_from programs rest index w ≡ Ok v → IsKept v (events ++ rest)
+unfolding world_after_from
+world_after_kept programs [] events index w v all known h e =
     let same : w ≡ v = cc in
     let whole : events ++ [] ≡ events = grind (arith, common_steps) in
     rw whole (subst (λ (u : World). IsKept u events) same h)
-lead_kept programs (x ∷ rest) events index w v all known h e =
-    subst (IsKept v) (append_assoc events (x ∷ []) rest) (next (happened programs x w) refl e (λ u k f. lead_kept programs rest (events ++ x ∷ []) (index + 1) u v all known k f))
+world_after_kept programs (x ∷ rest) events index w v all known h e =
+    subst (IsKept v) (append_assoc events (x ∷ []) rest) (next (happened programs x w) refl e (λ u k f. world_after_kept programs rest (events ++ x ∷ []) (index + 1) u v all known k f))
   where
-    next : (r : Result World Illegal) → happened programs x w ≡ r → and_then r index (lead_from programs rest (index + 1)) ≡ Ok v → ((u : World) → IsKept u (events ++ x ∷ []) → lead_from programs rest (index + 1) u ≡ Ok v → IsKept v ((events ++ x ∷ []) ++ rest)) → IsKept v ((events ++ x ∷ []) ++ rest)
+    next : (r : Result World Illegal) → happened programs x w ≡ r → and_then r index (world_after_from programs rest (index + 1)) ≡ Ok v → ((u : World) → IsKept u (events ++ x ∷ []) → world_after_from programs rest (index + 1) u ≡ Ok v → IsKept v ((events ++ x ∷ []) ++ rest)) → IsKept v ((events ++ x ∷ []) ++ rest)
     next (Err why) is e go = absurd (cc)
     next (Ok u) is e go = go u (kept_by programs x w u events all known h is) e
 
@@ -230,4 +230,4 @@ safe_kept w events h = record {
 
 -- the main theorem: every beginning of a list, where it is legal, leads to a safe world
 pub always_safe : (programs : List Subject) (events : List Event) → All IsAccepted programs → AreKnown programs → IsAlwaysSafe programs events
-always_safe programs events all known = λ n w e. safe_kept w (take n events) (lead_kept programs (take n events) [] 0 first_world w all known first_kept e)
+always_safe programs events all known = λ n w e. safe_kept w (take n events) (world_after_kept programs (take n events) [] 0 first_world w all known first_kept e)

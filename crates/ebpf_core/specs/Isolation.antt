@@ -14,7 +14,7 @@ use Rattle.ebpf_core.specs.declared.event.Answer.{Answer}
 use Rattle.ebpf_core.specs.declared.event.Answer.TheVariants.{Absent, Null, Slot}
 use Rattle.ebpf_core.specs.declared.event.Event.{Event}
 use Rattle.ebpf_core.specs.declared.event.Event.TheVariants.{Start, Exec, Grow, Reap}
-use Rattle.ebpf_core.specs.Replay.{lead}
+use Rattle.ebpf_core.specs.Replay.{world_after}
 
 -- what a run was told by its calls of new, in order
 abbrev pub replies_to : Running → List Reply
@@ -82,4 +82,4 @@ pub record IsSafe (w : World) (events : List Event) : Type 0 where
 
 -- after every beginning of the list that is legal
 abbrev pub IsAlwaysSafe : List Subject → List Event → Type 0
-IsAlwaysSafe programs events = (n : ℕ) (w : World) → lead programs (take n events) ≡ Ok w → IsSafe w (take n events)
+IsAlwaysSafe programs events = (n : ℕ) (w : World) → world_after programs (take n events) ≡ Ok w → IsSafe w (take n events)

@@ -16,18 +16,18 @@ and_then (Ok w) index rest = rest w
 and_then (Err why) index rest = Err (index, why)
 
 -- the world after these events, the first of which has this number
-unfoldable pub lead_from : List Subject → List Event → ℕ → World → Result World (ℕ × Illegal)
-lead_from programs [] index w = Ok w
-lead_from programs (e ∷ events) index w = and_then (happened programs e w) index (lead_from programs events (index + 1))
+unfoldable pub world_after_from : List Subject → List Event → ℕ → World → Result World (ℕ × Illegal)
+world_after_from programs [] index w = Ok w
+world_after_from programs (e ∷ events) index w = and_then (happened programs e w) index (world_after_from programs events (index + 1))
 
 -- the world after a list of events, where each is legal in the world after those before it; else the number of the first
 -- that is not, and why
-abbrev pub lead : List Subject → List Event → Result World (ℕ × Illegal)
-lead programs events = lead_from programs events 0 first_world
+abbrev pub world_after : List Subject → List Event → Result World (ℕ × Illegal)
+world_after programs events = world_after_from programs events 0 first_world
 
 -- the world that is kept shows the one after the events
 abbrev pub IsReplayed : List Subject → List Event → WorldState → Type 0
-IsReplayed programs events kept = (w : World) × (lead programs events ≡ Ok w) × Shows w kept
+IsReplayed programs events kept = (w : World) × (world_after programs events ≡ Ok w) × Shows w kept
 
 -- the events have no world, for the cause of the code at the event of the index; or memory ran out
 abbrev pub IsReplayFault : Result World (ℕ × Illegal) → ReplayFault → Type 0

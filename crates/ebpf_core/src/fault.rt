@@ -25,7 +25,7 @@ pub enum ApplyCode {
     E8,
     /// There is no such program, or no such kind.
     E9,
-    /// The context hasn't the length that the program declares.
+    /// The context doesn't have the length that the program declares.
     E10,
 }
 
@@ -35,7 +35,7 @@ pub enum ApplyFault {
     /// The event isn't legal.
     #[error("the event isn't legal")]
     Bad(ApplyCode),
-    /// A growth was refused.
+    /// An allocation failed.
     #[error("out of memory")]
     NoMemory,
 }
@@ -46,7 +46,7 @@ pub enum ReplayFault {
     /// The event of this number, from 0, isn't legal; all before it are.
     #[error("event {index} isn't legal")]
     Bad { index: usize, code: ApplyCode },
-    /// A growth was refused.
+    /// An allocation failed.
     #[error("out of memory")]
     NoMemory,
 }

@@ -1,7 +1,7 @@
 //! The world after a list of events.
 
 ghost use Rattle.std.specs.Prelude.{◌≡◌, IfOk, IfErr, List};
-ghost use Rattle.ebpf_core.specs.Replay.{lead, IsReplayed, IsReplayFault};
+ghost use Rattle.ebpf_core.specs.Replay.{world_after, IsReplayed, IsReplayFault};
 ghost use Rattle.ebpf_core.specs.Isolation.{IsAlwaysSafe};
 ghost use Rattle.ebpf_core.specs.Shown.{AreKnown};
 
@@ -15,8 +15,8 @@ use std::alloc::Global;
 /// with the kinds of [`ebpf_state::kinds::kinds`].
 ///
 /// # Errors
-/// `Bad` with the number of the first event that isn't legal, and the first code that applies to it; `NoMemory` where a
-/// growth was refused.
+/// `Bad` with the number of the first event that isn't legal, and the first code that applies to it; `NoMemory` where an
+/// allocation failed.
 pub fn replay<'v>(
     alloc: Global,
     programs: &'v [Verified],
@@ -26,7 +26,7 @@ pub fn replay<'v>(
     // It is the world that the events lead to, and there is one exactly where each event is legal.
     ensures done { IfOk result (IsReplayed programs.now events.now) }
     ensures programs { IfOk result (λ w. w.programs ≡ programs.now) }
-    ensures refused { IfErr result (IsReplayFault (lead programs.now events.now)) }
+    ensures refused { IfErr result (IsReplayFault (world_after programs.now events.now)) }
     // The main theorem.
     ensures safe { IsAlwaysSafe programs.now events.now }
 {
@@ -42,7 +42,8 @@ pub fn replay<'v>(
     Ok(world)
 }
 
-// The main theorem: every list of events over accepted programs is safe. That they were accepted is in their type.
+// The main theorem: every list of events over accepted programs is safe. That a program was accepted is in its type, and is
+// known of the one that is read: so each is read once, and nothing is done with it.
 fn accept(programs: &[Verified])
     requires { AreKnown programs.now }
     ensures { (events : List Event) → IsAlwaysSafe programs.now events }

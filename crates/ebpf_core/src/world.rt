@@ -1,4 +1,15 @@
 //! The world.
+//!
+//! *The idea.* A world is a list of runs, and what they share. An event is tested against the world as it is: the first cause
+//! that makes it illegal is told, and the world stays as it was. A legal event changes one run, and the objects that this run
+//! asks for or frees pass to and from it through a store that has no other object in it.
+//!
+//! *The invariant.* Each run is sound for its program and is where it would be alone (ebpf_machine). All programs were verified
+//! with the known kinds.
+//!
+//! *The reason.* A step sees its own run and the object that it is lent, and nothing else: so what is known of all other runs
+//! stays, and the world that is kept shows the model's world after the event. The main theorem is about the model's world
+//! alone; what ties the code to it is what each call here says of every world that is shown (specs/Shown).
 
 ghost use Rattle.std.specs.Prelude.{◌≡◌, length, slice_get, option_map, OnOk, OnErr, IfOk, IfErr, IfSome, IfNone};
 ghost use Rattle.ebpf_core.specs.Events.{first_world, happened};
@@ -50,7 +61,7 @@ impl<'v> World<'v> {
     /// kinds of [`ebpf_state::kinds::kinds`].
     ///
     /// # Errors
-    /// It fails for want of memory alone.
+    /// It fails only where an allocation fails.
     pub fn new(alloc: Global, programs: &'v [Verified]) -> Result<World<'v>, AllocError>
         requires known { AreKnown programs.now }
         ensures shows { IfOk result (Shows first_world) }
@@ -66,7 +77,7 @@ impl<'v> World<'v> {
     /// One event.
     ///
     /// # Errors
-    /// `Bad` where the event isn't legal, with the first code that applies; `NoMemory` where a growth was refused. The
+    /// `Bad` where the event isn't legal, with the first code that applies; `NoMemory` where an allocation failed. The
     /// world is as it was then.
     pub fn apply(&mut self, event: Event) -> Result<(), ApplyFault>
         ensures done { OnOk result (IsDone event self.old self.new) }

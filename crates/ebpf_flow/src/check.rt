@@ -18,7 +18,7 @@ use std::alloc::{AllocFailed, Global};
 ///
 /// # Errors
 /// `Bad` with F0 and the lowest slot whose instruction isn't done by the verifier, where there is one; else with the lowest
-/// slot at fault and the first code that applies there; `NoMemory` where a growth was refused. The program is gone then.
+/// slot at fault and the first code that applies there; `NoMemory` where an allocation failed. The program is gone then.
 pub fn check(alloc: Global, program: Program) -> Result<Flowed, FlowFault>
     ensures checked { IfOk result (λ f. f ≡ program) }
     ensures fine { OnOk result (flow_fault program ≡ None) }

@@ -28,7 +28,7 @@ pub enum FlowFault {
     /// The lowest slot at fault, and the first code that applies there.
     #[error("slot {slot} is refused with {code:?}")]
     Bad { slot: u16, code: FlowCode },
-    /// A growth was refused.
+    /// An allocation failed.
     #[error("out of memory")]
     NoMemory,
 }

@@ -37,6 +37,7 @@ impl Flowed {
         ensures formed { IsWellFormed self.now }
         ensures fine { flow_fault self.now ≡ None }
     {
+        // Read for what they promise: the edges lead forward, and the program is well formed.
         let _ = &self.edges;
         let _ = self.program.slots();
         &self.program

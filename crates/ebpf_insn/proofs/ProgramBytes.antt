@@ -264,7 +264,7 @@ no_decode_fault bytes p h =
     (λ k lt. fault_at_is bytes k None (λ e. omega arith)
     (ap (λ (b : List ℕ). place_fault b k) h.encoded ∙ fine_at (instructions p) k h.formed.defined (omega arith))))
 
--- a program's bytes are refused for want of memory alone
+-- a program's bytes are refused only where an allocation fails
 pub refusal_is : (bytes : List ℕ) (p : List (Option Insn)) (e : DecodeFault) → IsProgram bytes p → IsDecodeFault bytes e → e ≡ NoMemory
 refusal_is bytes p NoMemory h refused = refl
 refusal_is bytes p (Bad slot code) h refused = let fine = no_decode_fault bytes p h in absurd cc

@@ -15,7 +15,7 @@ use std::alloc::{AllocError, Global};
 /// The bytes that encode a program: it has these and no others.
 ///
 /// # Errors
-/// A growth was refused.
+/// An allocation failed.
 pub fn encode(alloc: Global, program: &Program) -> Result<Vec<u8>, AllocError>
     ensures { IfOk result (λ bytes. IsProgram bytes.items program.now) }
 {

@@ -32,7 +32,7 @@ pub enum DecodeFault {
     /// The lowest slot at fault, and the first code that applies there.
     #[error("slot {slot} is refused with {code:?}")]
     Bad { slot: u16, code: DecodeCode },
-    /// A growth was refused.
+    /// An allocation failed.
     #[error("out of memory")]
     NoMemory,
 }

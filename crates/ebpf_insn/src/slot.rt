@@ -32,7 +32,7 @@ pub(crate) fn read_slot(bytes: &[u8]) -> Slot
     }
 }
 
-// Writes the bytes of a slot after the others. It fails for want of memory alone.
+// Writes the bytes of a slot after the others. It fails only where an allocation fails.
 pub(crate) fn push_slot(bytes: &mut Vec<u8>, slot: Slot) -> Result<(), AllocError>
     requires dst { slot.dst < 16 }
     requires src { slot.src < 16 }

@@ -11,7 +11,7 @@ use Rattle.ebpf_state.specs.declared.value.Abs.{Abs}
 use Rattle.ebpf_state.specs.declared.value.Abs.TheVariants.{Unset, Num, Stk, Ctx, Ob, May}
 use Rattle.ebpf_state.specs.Abstract.{is_unset, is_pointer, is_may}
 use Rattle.ebpf_verify.specs.Pointers.{signed_ends, moved_end, with_end, with_ends, moved_by}
-use Rattle.ebpf_verify.specs.Rules.{blurs_stack}
+use Rattle.ebpf_verify.specs.Rules.{makes_stack_offset_vary}
 use Rattle.ebpf_machine.specs.declared.value.Value.{Value}
 use Rattle.ebpf_machine.specs.declared.value.Value.TheVariants.{Number, Pointer}
 use Rattle.ebpf_machine.specs.declared.value.Base.TheVariants.{Stack, Context, Object}
@@ -89,7 +89,7 @@ constant_reading b n ends one h e =
 moved_between : (a b k low high s : ℤ) (e f : ℤ) → e ≡ a +ℤ low → f ≡ b +ℤ high → a ≤ℤ k → k ≤ℤ b → low ≤ℤ s → s ≤ℤ high → (e ≤ℤ (k +ℤ s)) × ((k +ℤ s) ≤ℤ f)
 moved_between a b k low high s e f p q ak kb ls sh = (omega (arith, ints, p, ak, ls), omega (arith, ints, q, kb, sh))
 
-pub moved_fits : (calls : List ℕ) (p q : Abs) (b : Range) (v : Value ℕ) (n : ℕ) → is_pointer p ≡ true → IsOf calls p (Some v) → IsWithin n b → blurs_stack p (Num b) ≡ false → (ends : Option (ℤ × ℤ)) → signed_ends b ≡ ends → moved_by p ends ≡ Some q → IsFitting calls q (sum_of W64 v (Number n))
+pub moved_fits : (calls : List ℕ) (p q : Abs) (b : Range) (v : Value ℕ) (n : ℕ) → is_pointer p ≡ true → IsOf calls p (Some v) → IsWithin n b → makes_stack_offset_vary p (Num b) ≡ false → (ends : Option (ℤ × ℤ)) → signed_ends b ≡ ends → moved_by p ends ≡ Some q → IsFitting calls q (sum_of W64 v (Number n))
 moved_fits calls Unset q b v n is_p h w clear ends ends_are m = absurd (cc)
 moved_fits calls (Num a) q b v n is_p h w clear ends ends_are m = absurd (cc)
 moved_fits calls (May c) q b v n is_p h w clear ends ends_are m = absurd (cc)

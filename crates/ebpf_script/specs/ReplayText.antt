@@ -5,7 +5,7 @@ use Rattle.ebpf_machine.specs.World.{World}
 use Rattle.ebpf_machine.specs.Events.{Illegal}
 use Rattle.ebpf_core.specs.declared.event.Event.{Event}
 use Rattle.ebpf_core.specs.Faults.{code_of}
-use Rattle.ebpf_core.specs.Replay.{lead}
+use Rattle.ebpf_core.specs.Replay.{world_after}
 use Rattle.ebpf_script.specs.declared.done.Done.TheVariants.{Clean}
 use Rattle.ebpf_script.specs.declared.done.FaultCode.{FaultCode}
 use Rattle.ebpf_script.specs.Codes.{apply_name}

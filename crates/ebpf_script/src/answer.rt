@@ -34,7 +34,7 @@ impl Model for Answer {
 /// an input that is too long the first 1,048,577 bytes are read and answered.
 ///
 /// # Errors
-/// `Input` where a read failed and `NoMemory` where a growth was refused: nothing was written then. `Output` where a write
+/// `Input` where a read failed and `NoMemory` where an allocation failed: nothing was written then. `Output` where a write
 /// failed or took nothing.
 pub fn respond<R: Read, W: Write, F: FnOnce(&[u8]) -> Result<Answer, AllocError> + Drop>(
     alloc: Global,

@@ -24,7 +24,7 @@ pub enum EngineFault {
     /// A write failed, or took nothing. What was written is a beginning of the text.
     #[error("output")]
     Output,
-    /// A growth was refused. Nothing was written.
+    /// An allocation failed. Nothing was written.
     #[error("no memory")]
     NoMemory,
 }
@@ -48,7 +48,7 @@ pub enum FaultCode {
     S7,
     /// There is an `arena` already.
     S8,
-    /// The context of `run` hasn't the declared length.
+    /// The context of `run` doesn't have the declared length.
     S9,
 }
 

@@ -27,7 +27,7 @@ pub enum Judged {
 }
 
 /// Judges the bytes of a program: they are decoded, then the flow is checked, then the program is verified for what it
-/// declares, with these kinds. It fails for want of memory alone.
+/// declares, with these kinds. It fails only where an allocation fails.
 pub fn judge(
     alloc: Global,
     bytes: &[u8],

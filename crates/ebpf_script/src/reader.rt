@@ -22,7 +22,7 @@ use std::alloc::Global;
 /// The script that a text says.
 ///
 /// # Errors
-/// `Fault` with the lowest line that has a fault, and its first code; `NoMemory` where a growth was refused.
+/// `Fault` with the lowest line that has a fault, and its first code; `NoMemory` where an allocation failed.
 #[tactic(auto, unfolding(crate::specs::Scripts::script_of))]
 pub fn read_script(alloc: Global, text: &[u8]) -> Result<Script, ScriptStop>
     ensures said { IfOk result (λ script. script_of text.now ≡ Ok (said_by script)) }

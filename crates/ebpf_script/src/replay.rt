@@ -2,7 +2,7 @@
 
 ghost use Rattle.std.specs.Prelude.{◌≡◌, ◌≢◌, ◌≤◌, ◌++◌, ℕ, string_bytes, length, take, IfOk, IfErr, IfSome};
 ghost use Rattle.std.specs.Io.KnownBytes.{Appends, Consumes};
-ghost use Rattle.ebpf_core.specs.Replay.{lead};
+ghost use Rattle.ebpf_core.specs.Replay.{world_after};
 ghost use Rattle.ebpf_core.specs.Shown.{AreKnown};
 ghost use Rattle.ebpf_script.specs.declared.done.EngineFault.TheVariants.{Output};
 ghost use Rattle.ebpf_script.specs.ReadScripts.{said_by};
@@ -28,7 +28,7 @@ use std::io::{Read, Write};
 /// Reads a script, judges its programs, makes the world after its events, and writes what became of each.
 ///
 /// # Errors
-/// `Input` where a read failed and `NoMemory` where a growth was refused: nothing was written then. `Output` where a write
+/// `Input` where a read failed and `NoMemory` where an allocation failed: nothing was written then. `Output` where a write
 /// failed or took nothing.
 pub fn replay<R: Read, W: Write>(
     alloc: Global,
@@ -84,7 +84,7 @@ fn answer_events(
     events: &[Event],
 ) -> Result<Answer, AllocError>
     requires { AreKnown programs.now }
-    ensures { IfOk result (λ answer. answer ≡ world_told (string_bytes text) (lead programs.now events.now)) }
+    ensures { IfOk result (λ answer. answer ≡ world_told (string_bytes text) (world_after programs.now events.now)) }
 {
     let mut text = text;
     match replay_events(alloc, programs, events) {

@@ -21,7 +21,7 @@ pub struct Verdicts {
     pub refused: bool,
 }
 
-/// Judges each program of a script. It fails for want of memory alone.
+/// Judges each program of a script. It fails only where an allocation fails.
 pub(crate) fn verdicts_on(
     alloc: Global,
     programs: &IndexMap<String, ProgramText>,

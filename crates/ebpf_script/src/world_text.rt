@@ -8,7 +8,8 @@ ghost use Rattle.ebpf_script.specs.WorldLines.{run_emit_line, run_lines, runs_be
 use ebpf_core::world::{Status, World};
 use std::alloc::{AllocError, Global};
 
-/// Tells a world behind a text: each run in order, and then the slots of each kind. It fails for want of memory alone.
+/// Tells a world behind a text: each run in order, and then the slots of each kind. It fails only where an allocation
+/// fails.
 pub(crate) fn write_world(text: &mut String, world: &World<'_>) -> Result<(), AllocError>
     ensures { OnOk result (OfWorld world.now (λ w. string_bytes text.new ≡ string_bytes text.old ++ world_lines w)) }
 {

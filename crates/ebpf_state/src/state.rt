@@ -1,4 +1,15 @@
 //! Abstract states.
+//!
+//! *The idea.* A state speaks of every run that may be at a slot: it says of each register and of each word of the stack what
+//! all of them have in common, and which references all of them hold. Where two paths meet, their states are joined: what
+//! both know stays, what only one knows is forgotten.
+//!
+//! *The invariant.* There are eleven registers; at most 64 words, each of them a spill of something or a mask; ranges have
+//! their ends in order; references ascend by their calls.
+//!
+//! *The reason.* A state has only what an instruction's rule asks for, and forgetting is always sound: a state that knows less
+//! refuses more. Most programs use few words of the stack, so only the topmost ones are kept, down to the lowest of which
+//! something is known. References ascend so that two states hold the same ones exactly where the lists are equal.
 
 ghost use Rattle.std.specs.Prelude.{◌≡◌, ◌≤◌, ◌<◌, true, All, length, slice_index_or, IfOk, Some};
 ghost use Rattle.ebpf_state.specs.declared.value.Abs.{Abs};
@@ -50,7 +61,7 @@ pub enum JoinFault {
     /// They don't hold the same references, tested alike.
     #[error("the paths that meet hold different references")]
     HeldDiffer,
-    /// A growth was refused.
+    /// An allocation failed.
     #[error("out of memory")]
     NoMemory,
 }
@@ -71,7 +82,7 @@ impl State {
     /// The state before slot 0: `r1` points to the context, `r10` is the frame pointer, and nothing else is set or held.
     ///
     /// # Errors
-    /// It fails for want of memory alone.
+    /// It fails only where an allocation fails.
     pub fn start(alloc: Global) -> Result<State, AllocError>
         ensures { IfOk result (λ s. s ≡ first_state) }
     {
@@ -91,7 +102,7 @@ impl State {
     /// A copy of the state.
     ///
     /// # Errors
-    /// It fails for want of memory alone.
+    /// It fails only where an allocation fails.
     pub fn copy(&self) -> Result<State, AllocError>
         ensures { IfOk result (λ s. s ≡ self.now) }
     {
@@ -133,7 +144,7 @@ impl State {
     /// What is known where two paths meet, one of which knows each.
     ///
     /// # Errors
-    /// `HeldDiffer` where the two don't hold the same references; `NoMemory` where a growth was refused.
+    /// `HeldDiffer` where the two don't hold the same references; `NoMemory` where an allocation failed.
     pub fn join(&self, other: &State) -> Result<State, JoinFault>
         ensures { Joins (joined_state self.now other.now) result }
     {

@@ -16,7 +16,7 @@ slot 4095 is refused with V19
 out of memory
 the paths that meet hold different references
 out of memory
-the context hasn't the declared length
+the context doesn't have the declared length
 out of memory
 input
 output

@@ -9,7 +9,7 @@ use ebpf_insn::insn::Insn;
 use std::alloc::{AllocError, Global};
 
 /// The line of the instruction at a slot: the slot in decimal, a colon and a space, the instruction, and a newline. It
-/// fails for want of memory alone.
+/// fails only where an allocation fails.
 pub fn line(alloc: Global, slot: usize, insn: &Insn) -> Result<String, AllocError>
     ensures { IfOk result (λ text. string_bytes text ≡ line_of slot insn.now) }
 {
@@ -18,7 +18,7 @@ pub fn line(alloc: Global, slot: usize, insn: &Insn) -> Result<String, AllocErro
     Ok(text)
 }
 
-// Writes the line of an instruction behind a text. It fails for want of memory alone.
+// Writes the line of an instruction behind a text. It fails only where an allocation fails.
 pub(crate) fn write_line(text: &mut String, slot: usize, insn: &Insn) -> Result<(), AllocError>
     ensures { OnOk result (string_bytes text.new ≡ string_bytes text.old ++ line_of slot insn.now) }
 {

@@ -8,7 +8,7 @@ use crate::line::write_line;
 use ebpf_insn::program::Program;
 use std::alloc::{AllocError, Global};
 
-/// The lines of a program's instructions, in the order of their slots. It fails for want of memory alone.
+/// The lines of a program's instructions, in the order of their slots. It fails only where an allocation fails.
 pub fn listing(alloc: Global, program: &Program) -> Result<String, AllocError>
     ensures { IfOk result (λ text. string_bytes text ≡ listing_of program.now) }
 {
@@ -19,7 +19,7 @@ pub fn listing(alloc: Global, program: &Program) -> Result<String, AllocError>
     Ok(text)
 }
 
-// Writes the line of a slot behind a text, if an instruction begins there. It fails for want of memory alone.
+// Writes the line of a slot behind a text, if an instruction begins there. It fails only where an allocation fails.
 fn write_slot(text: &mut String, program: &Program, slot: usize) -> Result<(), AllocError>
     ensures { OnOk result (string_bytes text.new ≡ string_bytes text.old ++ line_at slot (insn_at program.now slot)) }
 {

@@ -7,7 +7,7 @@ use crate::names::{alu_name, cond_name, order_name, size_name, width_name};
 use ebpf_insn::insn::{Insn, Source};
 use std::alloc::AllocError;
 
-// Writes the word of an instruction behind a text. It fails for want of memory alone.
+// Writes the word of an instruction behind a text. It fails only where an allocation fails.
 pub(crate) fn write_mnemonic(text: &mut String, insn: &Insn) -> Result<(), AllocError>
     ensures { OnOk result (string_bytes text.new ≡ string_bytes text.old ++ mnemonic_of insn.now) }
 {

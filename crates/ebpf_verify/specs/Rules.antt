@@ -1,4 +1,5 @@
--- The rule of each instruction: the codes that refuse it, in order, and the states that it sends on.
+-- The rule of each instruction: the codes that refuse it, in order, and the states that it sends on. That the rules are sound for
+-- the machine is ebpf_machine/proofs/Soundness.
 use Rattle.std.specs.Prelude.{ℕ, [], ◌∷◌, Bool, true, false, ◌&&◌, ◌||◌, ◌==◌, nat_lt, not, is_none, Option, Some, None, length, unwrap_or}
 use Rattle.ebpf_insn.specs.declared.register.Reg.{Reg}
 use Rattle.ebpf_insn.specs.declared.register.Reg.TheVariants.{R0, R10}
@@ -32,43 +33,44 @@ is_frame_pointer R10 = true
 is_frame_pointer _ = false
 
 -- a pointer to the stack, and a value that is no constant: the stack's pointers are known exactly
-abbrev pub blurs_stack : Abs → Abs → Bool
-blurs_stack (Stk k) (Num a) = not (a.lo == a.hi)
-blurs_stack _ _ = false
+abbrev pub makes_stack_offset_vary : Abs → Abs → Bool
+makes_stack_offset_vary (Stk k) (Num a) = not (a.lo == a.hi)
+makes_stack_offset_vary _ _ = false
 
--- a move at 64 bits copies any value
-abbrev pub copy_refusal : Abs → Reg → Option VerifyCode
-copy_refusal src dst = first_of ((is_unset src, V1) ∷ (is_frame_pointer dst, V2) ∷ [])
+-- mov at 64 bits copies any value, pointers too
+abbrev pub mov64_refusal : Abs → Reg → Option VerifyCode
+mov64_refusal src dst = first_of ((is_unset src, V1) ∷ (is_frame_pointer dst, V2) ∷ [])
 
--- a move at 32 bits keeps the low half of a number
-abbrev pub low_refusal : Abs → Reg → Option VerifyCode
-low_refusal src dst = first_of (
+-- mov32 keeps the low half of a number
+abbrev pub mov32_refusal : Abs → Reg → Option VerifyCode
+mov32_refusal src dst = first_of (
     (is_unset src, V1) ∷
     (is_frame_pointer dst, V2) ∷
     (is_may src, V11) ∷
     (is_pointer src, V3) ∷
     [])
 
--- a sum at 64 bits: of two numbers, or of a pointer and a number
-abbrev pub sum_refusal : Abs → Abs → Reg → Option VerifyCode
-sum_refusal left right dst = first_of (
+-- add at 64 bits: two numbers are added, or a pointer is moved by a number
+abbrev pub add64_refusal : Abs → Abs → Reg → Option VerifyCode
+add64_refusal left right dst = first_of (
     (is_unset left || is_unset right, V1) ∷
     (is_frame_pointer dst, V2) ∷
     (is_may left || is_may right, V11) ∷
     (is_pointer left && is_pointer right, V3) ∷
-    (blurs_stack left right || blurs_stack right left, V3) ∷
+    (makes_stack_offset_vary left right || makes_stack_offset_vary right left, V3) ∷
     (is_none (sum_value left right), V4) ∷
     [])
 
--- an operation on two numbers
-abbrev pub numbers_refusal : Abs → Abs → Reg → Option VerifyCode
-numbers_refusal left right dst = first_of (
+-- add32 adds two numbers
+abbrev pub add32_refusal : Abs → Abs → Reg → Option VerifyCode
+add32_refusal left right dst = first_of (
     (is_unset left || is_unset right, V1) ∷
     (is_frame_pointer dst, V2) ∷
     (is_may left || is_may right, V11) ∷
     (is_pointer left || is_pointer right, V3) ∷
     [])
 
+-- exit returns a number, with no object held
 abbrev pub exit_refusal : Abs → ℕ → Option VerifyCode
 exit_refusal result held = first_of (
     (is_unset result, V1) ∷
@@ -76,12 +78,12 @@ exit_refusal result held = first_of (
     (is_pointer result || is_may result, V18) ∷
     [])
 
--- the operations that have a rule
+-- the rule of an operation (RFC 9669, section 4.1)
 abbrev pub alu_refusal : Width → AluOp → Abs → Abs → Reg → Option VerifyCode
-alu_refusal W64 op.Mov left right dst = copy_refusal right dst
-alu_refusal W32 op.Mov left right dst = low_refusal right dst
-alu_refusal W64 op.Add left right dst = sum_refusal left right dst
-alu_refusal W32 op.Add left right dst = numbers_refusal left right dst
+alu_refusal W64 op.Mov left right dst = mov64_refusal right dst
+alu_refusal W32 op.Mov left right dst = mov32_refusal right dst
+alu_refusal W64 op.Add left right dst = add64_refusal left right dst
+alu_refusal W32 op.Add left right dst = add32_refusal left right dst
 alu_refusal _ _ left right dst = Some V0
 
 -- the first code that refuses an instruction, where this is known before it
@@ -90,20 +92,20 @@ refusal (insn.Alu width o dst src) s = alu_refusal width o (register_of s dst) (
 refusal insn.Exit s = exit_refusal (register_of s R0) (length s.held)
 refusal _ s = Some V0
 
-abbrev pub low_value : Abs → Abs
-low_value (Num a) = Num (low a)
-low_value _ = Unset
+abbrev pub mov32_value : Abs → Abs
+mov32_value (Num a) = Num (low a)
+mov32_value _ = Unset
 
-abbrev pub numbers_value : Abs → Abs → Abs
-numbers_value (Num a) (Num b) = Num (sum_range W32 a b)
-numbers_value _ _ = Unset
+abbrev pub add32_value : Abs → Abs → Abs
+add32_value (Num a) (Num b) = Num (sum_range W32 a b)
+add32_value _ _ = Unset
 
 -- what is known of the result that is written
 abbrev pub result_of : Width → AluOp → Abs → Abs → Abs
 result_of W64 op.Mov left right = right
-result_of W32 op.Mov left right = low_value right
+result_of W32 op.Mov left right = mov32_value right
 result_of W64 op.Add left right = unwrap_or (sum_value left right) Unset
-result_of W32 op.Add left right = numbers_value left right
+result_of W32 op.Add left right = add32_value left right
 result_of _ _ left right = Unset
 
 -- what is known after an instruction that is not refused, on the edge to the slot after it

@@ -56,7 +56,7 @@ pub enum VerifyFault {
     /// The lowest slot that is refused, and the first code that applies there.
     #[error("slot {slot} is refused with {code:?}")]
     Refused { slot: u16, code: VerifyCode },
-    /// A growth was refused.
+    /// An allocation failed.
     #[error("out of memory")]
     NoMemory,
 }

@@ -3,6 +3,8 @@
 //! [`verify::verify`] walks a program once, in the order of its slots, and keeps for each slot what is known of every
 //! run that comes there. It refuses the lowest slot whose rule refuses what is known there; where it refuses none, it
 //! makes a [`verified::Verified`], and no run of that program traps.
+//!
+//! To be read in this order: `fault`, `decl`, `rules` with `pointer`, `entry`, `verify`, `verified`.
 #![tactic(auto)]
 
 pub mod decl;

@@ -2,7 +2,7 @@
 
 ghost use Rattle.std.specs.Prelude.{◌≡◌};
 ghost use Rattle.ebpf_state.specs.Abstract.{IsProper};
-ghost use Rattle.ebpf_verify.specs.Rules.{operand, blurs_stack, alu_refusal, copy_refusal, low_refusal, sum_refusal, numbers_refusal, exit_refusal, refusal, result_of, low_value, numbers_value, after_fall, is_frame_pointer};
+ghost use Rattle.ebpf_verify.specs.Rules.{operand, makes_stack_offset_vary, alu_refusal, mov64_refusal, mov32_refusal, add64_refusal, add32_refusal, exit_refusal, refusal, result_of, mov32_value, add32_value, after_fall, is_frame_pointer};
 
 use crate::fault::VerifyCode;
 use crate::pointer::sum_value;
@@ -61,22 +61,24 @@ fn operand(state: &State, width: Width, source: Source) -> Abs
     }
 }
 
+// The rule of an operation: the first code that refuses it (RFC 9669, section 4.1).
 fn alu_refusal(width: Width, op: AluOp, left: Abs, right: Abs, dst: Reg) -> Option<VerifyCode>
     requires left { IsProper left }
     requires right { IsProper right }
     ensures { result ≡ alu_refusal width op left right dst }
 {
     match (width, op) {
-        (Width::W64, AluOp::Mov) => copy_refusal(right, dst),
-        (Width::W32, AluOp::Mov) => low_refusal(right, dst),
-        (Width::W64, AluOp::Add) => sum_refusal(left, right, dst),
-        (Width::W32, AluOp::Add) => numbers_refusal(left, right, dst),
+        (Width::W64, AluOp::Mov) => mov64_refusal(right, dst),
+        (Width::W32, AluOp::Mov) => mov32_refusal(right, dst),
+        (Width::W64, AluOp::Add) => add64_refusal(left, right, dst),
+        (Width::W32, AluOp::Add) => add32_refusal(left, right, dst),
         _ => Some(VerifyCode::V0),
     }
 }
 
-fn copy_refusal(src: Abs, dst: Reg) -> Option<VerifyCode>
-    ensures { result ≡ copy_refusal src dst }
+// `mov` at 64 bits copies any value, pointers too.
+fn mov64_refusal(src: Abs, dst: Reg) -> Option<VerifyCode>
+    ensures { result ≡ mov64_refusal src dst }
 {
     if src.is_unset() {
         Some(VerifyCode::V1)
@@ -87,8 +89,9 @@ fn copy_refusal(src: Abs, dst: Reg) -> Option<VerifyCode>
     }
 }
 
-fn low_refusal(src: Abs, dst: Reg) -> Option<VerifyCode>
-    ensures { result ≡ low_refusal src dst }
+// `mov32` keeps the low half of a number.
+fn mov32_refusal(src: Abs, dst: Reg) -> Option<VerifyCode>
+    ensures { result ≡ mov32_refusal src dst }
 {
     if src.is_unset() {
         Some(VerifyCode::V1)
@@ -103,8 +106,9 @@ fn low_refusal(src: Abs, dst: Reg) -> Option<VerifyCode>
     }
 }
 
-fn numbers_refusal(left: Abs, right: Abs, dst: Reg) -> Option<VerifyCode>
-    ensures { result ≡ numbers_refusal left right dst }
+// `add32` adds two numbers.
+fn add32_refusal(left: Abs, right: Abs, dst: Reg) -> Option<VerifyCode>
+    ensures { result ≡ add32_refusal left right dst }
 {
     if left.is_unset() || right.is_unset() {
         Some(VerifyCode::V1)
@@ -119,10 +123,11 @@ fn numbers_refusal(left: Abs, right: Abs, dst: Reg) -> Option<VerifyCode>
     }
 }
 
-fn sum_refusal(left: Abs, right: Abs, dst: Reg) -> Option<VerifyCode>
+// `add` at 64 bits adds two numbers, or moves a pointer by a number.
+fn add64_refusal(left: Abs, right: Abs, dst: Reg) -> Option<VerifyCode>
     requires left { IsProper left }
     requires right { IsProper right }
-    ensures { result ≡ sum_refusal left right dst }
+    ensures { result ≡ add64_refusal left right dst }
 {
     if left.is_unset() || right.is_unset() {
         Some(VerifyCode::V1)
@@ -132,7 +137,7 @@ fn sum_refusal(left: Abs, right: Abs, dst: Reg) -> Option<VerifyCode>
         Some(VerifyCode::V11)
     } else if left.is_pointer() && right.is_pointer() {
         Some(VerifyCode::V3)
-    } else if blurs_stack(left, right) || blurs_stack(right, left) {
+    } else if makes_stack_offset_vary(left, right) || makes_stack_offset_vary(right, left) {
         Some(VerifyCode::V3)
     } else if sum_value(left, right).is_none() {
         Some(VerifyCode::V4)
@@ -149,8 +154,8 @@ fn is_frame_pointer(register: Reg) -> bool
 }
 
 // A pointer to the stack would be moved by a number that isn't known exactly.
-fn blurs_stack(pointer: Abs, by: Abs) -> bool
-    ensures { result ≡ blurs_stack pointer by }
+fn makes_stack_offset_vary(pointer: Abs, by: Abs) -> bool
+    ensures { result ≡ makes_stack_offset_vary pointer by }
 {
     match (pointer, by) {
         (Abs::Stk(_), Abs::Num(by)) => by.lo != by.hi,
@@ -158,6 +163,7 @@ fn blurs_stack(pointer: Abs, by: Abs) -> bool
     }
 }
 
+// `exit` returns a number, with no object held (RFC 9669, section 4.3).
 fn exit_refusal(result_value: Abs, held: usize) -> Option<VerifyCode>
     ensures { result ≡ exit_refusal result_value held }
 {
@@ -181,16 +187,17 @@ fn result_of(width: Width, op: AluOp, left: Abs, right: Abs) -> Abs
 {
     match (width, op) {
         (Width::W64, AluOp::Mov) => right,
-        (Width::W32, AluOp::Mov) => low_value(right),
+        (Width::W32, AluOp::Mov) => mov32_value(right),
         (Width::W64, AluOp::Add) => sum_value(left, right).unwrap_or(Abs::Unset),
-        (Width::W32, AluOp::Add) => numbers_value(left, right),
+        (Width::W32, AluOp::Add) => add32_value(left, right),
         _ => Abs::Unset,
     }
 }
 
-fn low_value(value: Abs) -> Abs
+// The low half of a number.
+fn mov32_value(value: Abs) -> Abs
     requires { IsProper value }
-    ensures value { result ≡ low_value value }
+    ensures value { result ≡ mov32_value value }
     ensures proper { IsProper result }
 {
     match value {
@@ -199,10 +206,11 @@ fn low_value(value: Abs) -> Abs
     }
 }
 
-fn numbers_value(left: Abs, right: Abs) -> Abs
+// The sum of two numbers modulo 2^32.
+fn add32_value(left: Abs, right: Abs) -> Abs
     requires left { IsProper left }
     requires right { IsProper right }
-    ensures value { result ≡ numbers_value left right }
+    ensures value { result ≡ add32_value left right }
     ensures proper { IsProper result }
 {
     match (left, right) {

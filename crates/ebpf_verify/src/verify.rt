@@ -1,4 +1,16 @@
 //! The walk over a program that gives the verdict.
+//!
+//! *The idea.* It is an abstract interpretation. For each slot there is an entry state: what is known of the registers, the
+//! stack and the held references of every run that comes there. The slots are visited once, in ascending order. A visit asks
+//! the rule of the instruction whether what is known refuses it, and sends what is known afterwards along its edges, where
+//! it is joined with what came there before.
+//!
+//! *The invariant.* After the slots below `m` were visited, the entry state of each slot from `m` on is the join of what the
+//! slots below `m` send there (specs/Entry, `arrived`), and none of them is refused.
+//!
+//! *The reason.* All edges lead forward, since the flow was checked. So when a slot is visited, all that will ever come there
+//! has come: one visit a slot is enough, there is nothing to iterate to, and the verdict takes time linear in the slots. A
+//! state goes on along the fall as it is, without a copy.
 
 ghost use Rattle.std.specs.Prelude.{◌≡◌, ◌≤◌, ◌<◌, ◌==◌, if◌then◌else◌, ℕ, IfErr, IfOk, IfSome, OnOk, None, Some, Option, length, slice_index_or, slice_set, All};
 ghost use Rattle.ebpf_insn.specs.declared.insn.Insn.{Insn};
