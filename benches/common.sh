@@ -29,6 +29,10 @@ copy_crates() {
         trap 'rm -rf "$folder"' EXIT
         trap 'exit 1' HUP INT TERM
     fi
+    if [ -e "$folder/benches" ]; then
+        echo "$folder is a repository: its crates would be overwritten" >&2
+        exit 1
+    fi
     mkdir -p "$folder/crates"
     folder=$(CDPATH='' cd -- "$folder" && pwd)
     git init -q "$folder"
