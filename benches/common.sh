@@ -3,9 +3,9 @@
 #     benches/NAME/run [FOLDER]
 #
 # Its program is text (main.rt.txt, and FUNCTION.FILE.antt.txt for proofs/FUNCTION/FILE.antt), since it is no crate of the
-# repository: it is proved and built in a copy of the crates. With a FOLDER the copy is kept there, and the next run proves only
-# what has changed; one FOLDER serves all benchmarks. With none it is made new and removed. The first standard output is a line
-# with the machine and the date, and then a table.
+# repository: it is proved and built in a copy of the crates, in which what the repository has proved (out/) isn't proved again.
+# With a FOLDER the copy is kept there, and the next run proves only what has changed; one FOLDER serves all benchmarks. With none
+# it is made new and removed. Standard output has a line with the machine and the date, and then a table.
 #
 # `here` is the benchmark's folder and `root` the repository.
 here=$(CDPATH='' cd -- "$(dirname -- "$0")" && pwd)
@@ -44,6 +44,9 @@ copy_crates() {
             rm -rf "${copy:?}/$part"
             [ ! -d "$crate/$part" ] || cp -r "$crate/$part" "$copy"
         done
+        if [ -d "$crate/out" ] && [ ! -d "$copy/out" ]; then
+            cp -r "$crate/out" "$copy"
+        fi
     done
 }
 
