@@ -1,4 +1,4 @@
-// The same loop over the atomics of Rust's std: rustc -O plain_rust.rs
+// The same loop over the atomics of Rust's std.
 use std::sync::atomic::{AtomicU64, Ordering};
 use std::thread;
 use std::time::Instant;
@@ -15,7 +15,7 @@ fn plain_pairs(words: &[AtomicU64], slot: usize) {
 
 fn main() {
     let words: Vec<AtomicU64> = (0..256).map(|_| AtomicU64::new(0)).collect();
-    for _ in 0..2 {
+    for _ in 0..3 {
         for threads in [1, 2, 4] {
             for apart in [64, 0] {
                 let start = Instant::now();
@@ -25,8 +25,12 @@ fn main() {
                         s.spawn(move || plain_pairs(words, i * apart));
                     }
                 });
-                let place = if apart == 0 { "one slot" } else { "own slots" };
-                println!("{threads} threads, {place}: Rust's std {} ns", start.elapsed().as_nanos() / ROUNDS as u128);
+                let nanos = start.elapsed().as_nanos() / ROUNDS as u128;
+                match (threads, apart) {
+                    (1, _) => println!("1 thread|Rust's std, ns|{nanos}"),
+                    (_, 0) => println!("{threads} threads, one slot|Rust's std, ns|{nanos}"),
+                    _ => println!("{threads} threads, own slots|Rust's std, ns|{nanos}"),
+                }
             }
         }
     }
