@@ -65,15 +65,16 @@ pub(crate) fn has_defined_fields(form: Form, slot: Slot) -> bool
     ensures { result ≡ has_defined_fields form slot }
 {
     match form {
+        Form::Alu { .. } if slot.offset == 0 => true,
         Form::Alu {
             op: AluOp::Div | AluOp::Rem,
             ..
-        } => slot.offset <= 1,
+        } => slot.offset == 1,
         Form::Alu {
             width,
             op: AluOp::Mov,
             operand: Operand::Register,
-        } => slot.offset == 0 || is_move_of(width, slot.offset),
+        } => is_move_of(width, slot.offset),
         Form::Swap { .. } => is_swap_of(slot.imm),
         _ => true,
     }
