@@ -37,12 +37,13 @@ pub fn check(alloc: Global, program: Program) -> Result<Flowed, FlowFault>
 
 // A flag for each slot: only slot 0 is reached so far.
 fn first_reached(alloc: Global, slots: usize) -> Result<Vec<bool>, AllocError>
-    requires { 1 ≤ slots }
     ensures len { IfOk result (λ reached. length reached.items ≡ slots) }
     ensures first { IfOk result (λ reached. (k : ℕ) → k < slots → slice_index_or reached.items k false ≡ (k == 0)) }
 {
     let mut reached = vec![in alloc; false; slots]?;
-    reached[0] = true;
+    if let Some(first) = reached.first_mut() {
+        *first = true;
+    }
     Ok(reached)
 }
 
