@@ -12,7 +12,7 @@ use crate::fault::{FlowCode, FlowFault};
 use crate::flowed::Flowed;
 use ebpf_insn::insn::Insn;
 use ebpf_insn::program::Program;
-use std::alloc::{AllocFailed, Global};
+use std::alloc::{AllocError, Global};
 
 /// Checks where a program's instructions lead.
 ///
@@ -27,22 +27,22 @@ pub fn check(alloc: Global, program: Program) -> Result<Flowed, FlowFault>
     refuse_undone(&program)?;
     let slots = program.slots();
     let mut reached = first_reached(alloc, slots)?;
-    let mut edges = Vec::new(alloc);
+    let mut edges = Vec::with_capacity(alloc, slots)?;
     for slot in 0..slots {
         let leaving = check_slot(&program, slot, &mut reached)?;
-        edges.push(leaving)?;
+        edges.push_reserved(leaving);
     }
     Ok(Flowed { program, edges })
 }
 
 // A flag for each slot: only slot 0 is reached so far.
-fn first_reached(alloc: Global, slots: usize) -> Result<Vec<bool>, AllocFailed<bool>>
+fn first_reached(alloc: Global, slots: usize) -> Result<Vec<bool>, AllocError>
     ensures len { IfOk result (λ reached. length reached.items ≡ slots) }
     ensures first { IfOk result (λ reached. (k : ℕ) → k < slots → slice_index_or reached.items k false ≡ (k == 0)) }
 {
-    let mut reached = Vec::new(alloc);
-    for slot in 0..slots {
-        reached.push(slot == 0)?;
+    let mut reached = vec![in alloc; false; slots]?;
+    if let Some(first) = reached.first_mut() {
+        *first = true;
     }
     Ok(reached)
 }

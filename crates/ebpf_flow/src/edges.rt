@@ -3,7 +3,7 @@
 ghost use Rattle.std.specs.Prelude.{◌≡◌, ◌≤◌, ◌<◌, ◌+◌, ℕ, ℤ, pos, negsuc, ◌+ℤ◌, ◌≤ℤ◌, Option, Some, None, length, IfOk, IfErr, IfSome, MatchResult, MatchOption, OnOk, false, true};
 ghost use Rattle.ebpf_insn.specs.Program.{insn_at, slots_in};
 ghost use Rattle.ebpf_insn.specs.Encoding.{IsWellFormed};
-ghost use Rattle.ebpf_flow.specs.Edges.{falls, displacement_of, fall_of, jump_of, edges_of, is_reached};
+ghost use Rattle.ebpf_flow.specs.Edges.{falls, displacement_of, fall_of, target_of, edges_of, is_reached};
 ghost use Rattle.ebpf_flow.specs.Flow.{jump_fault, fall_fault, insn_fault, LeadsForward};
 
 use crate::fault::FlowCode;
@@ -35,7 +35,10 @@ pub(crate) fn edges_from(
     ensures jump { IfOk result (λ e. LeadsForward program.now slot e.jump) }
     ensures refused { IfErr result (λ code. insn_fault program.now slot (Some insn) ≡ Some code) }
 {
-    let jump = jump_from(program, slot, insn)?;
+    let jump = match displacement_of(insn) {
+        Some(displacement) => Some(target_from(program, slot, displacement)?),
+        None => None,
+    };
     let fall = fall_from(program, slot, insn, reaches)?;
     Ok(Edges { fall, jump })
 }
@@ -54,17 +57,16 @@ fn displacement_of(insn: Insn) -> Option<i64>
     }
 }
 
-// The target of the jump, or the first code that refuses it.
-fn jump_from(program: &Program, slot: usize, insn: Insn) -> Result<Option<u16>, FlowCode>
-    requires { slot < length program.now }
-    ensures fine { OnOk result (jump_fault program.now slot (displacement_of insn) (jump_of insn slot) ≡ None) }
-    ensures edge { IfOk result (λ e. e ≡ jump_of insn slot) }
-    ensures forward { IfOk result (LeadsForward program.now slot) }
-    ensures refused { IfErr result (λ code. jump_fault program.now slot (displacement_of insn) (jump_of insn slot) ≡ Some code) }
+// The target of a jump by so many slots, or the first code that refuses it.
+fn target_from(program: &Program, slot: usize, displacement: i64) -> Result<u16, FlowCode>
+    requires inside { slot < length program.now }
+    requires low { negsuc 2147483647 ≤ℤ displacement }
+    requires high { displacement ≤ℤ pos 2147483647 }
+    ensures fine { OnOk result (jump_fault program.now slot (Some displacement) (target_of (Some displacement) slot) ≡ None) }
+    ensures edge { IfOk result (λ to. target_of (Some displacement) slot ≡ Some to) }
+    ensures forward { IfOk result (λ to. LeadsForward program.now slot (Some to)) }
+    ensures refused { IfErr result (λ code. jump_fault program.now slot (Some displacement) (target_of (Some displacement) slot) ≡ Some code) }
 {
-    let Some(displacement) = displacement_of(insn) else {
-        return Ok(None);
-    };
     let slots = program.slots();
     let to = slot as i64 + 1 + displacement;
     if to < 0 || to >= slots as i64 {
@@ -77,7 +79,7 @@ fn jump_from(program: &Program, slot: usize, insn: Insn) -> Result<Option<u16>, 
     if to <= slot {
         return Err(FlowCode::F3);
     }
-    Ok(Some(to as u16))
+    Ok(to as u16)
 }
 
 // The slot after the instruction, or the first code that refuses going on.

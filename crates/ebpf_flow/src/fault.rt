@@ -2,7 +2,7 @@
 
 ghost use Rattle.std.specs.Prelude.{◌≡◌};
 
-use std::alloc::AllocFailed;
+use std::alloc::AllocError;
 use thiserror::Error;
 
 /// Why a slot is refused. Within a slot the order is that of the numbers.
@@ -33,12 +33,12 @@ pub enum FlowFault {
     NoMemory,
 }
 
-impl<T: Drop> From<AllocFailed<T>> for FlowFault {
+impl From<AllocError> for FlowFault {
     ghost use Rattle.ebpf_flow.specs.declared.fault.FlowFault.TheVariants.{NoMemory};
 
     ghost from_gives = { λ _ e. e ≡ NoMemory };
 
-    fn from(_e: AllocFailed<T>) -> FlowFault {
+    fn from(_e: AllocError) -> FlowFault {
         FlowFault::NoMemory
     }
 }

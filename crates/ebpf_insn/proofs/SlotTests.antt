@@ -1,16 +1,21 @@
 -- What the tests of decode_slot show of a slot, apart from its context, through which no tactic has to look then.
-use Rattle.std.proofs.Common.{◌≡◌, ℕ, ◌<◌, true, false, Option, Some, None, refl, sym}
+use Rattle.std.proofs.Common.{◌≡◌, ℕ, ◌<◌, Bool, true, false, List, [], ◌∷◌, length, take, Option, Some, None, refl, sym, ap, subst, ◌∙◌, arith}
 use Rattle.ebpf_insn.specs.declared.slot.Slot.{Slot}
 use Rattle.ebpf_insn.specs.declared.register.Reg.{Reg}
 use Rattle.ebpf_insn.specs.declared.insn.Insn.{Insn}
 use Rattle.ebpf_insn.specs.declared.opcode.Form.{Form}
+use Rattle.ebpf_insn.specs.declared.opcode.Form.TheVariants as form
 use Rattle.ebpf_insn.specs.declared.fault.DecodeCode.TheVariants.{I2, I3, I4, I5, I6, I7, I8}
 use Rattle.ebpf_insn.specs.Registers.{number_of, register_of}
 use Rattle.ebpf_insn.specs.Opcodes.{form_of, is_left_out}
 use Rattle.ebpf_insn.specs.Fields.{has_left_out_source, leaves_unused_zero, lacks_second, has_bad_second, has_defined_fields}
-use Rattle.ebpf_insn.specs.Decoding.{is_register, slot_fault}
+use Rattle.ebpf_insn.specs.Slot.{listed}
+use Rattle.ebpf_insn.specs.Program.{slots_in}
+use Rattle.ebpf_insn.specs.Encoding.{slots_of}
+use Rattle.ebpf_insn.specs.Decoding.{is_register, slot_fault, second_at, second_of}
 use Rattle.ebpf_insn.specs.Decoded.{insn_at_slot}
 use Rattle.ebpf_insn.proofs.Registers.{is_register_of, no_register, number_below}
+use Rattle.ebpf_insn.proofs.InsnBytes.{by_wide}
 use Rattle.ebpf_insn.proofs.FromSlots.{IsFine, IsEncodedBy, encoded}
 
 pub nibble : (r : Reg) (n : ℕ) → number_of r ≡ n → n < 16
@@ -28,6 +33,37 @@ pub record HasRegisters (f : Form) (s : Slot) : Type 0 where
 
 pub registers : {f : Form} {s : Slot} {dst src : Reg} → Some f ≡ form_of s.opcode → false ≡ has_left_out_source f s.src → Some dst ≡ register_of s.dst → Some src ≡ register_of s.src → HasRegisters f s
 registers {f} {s} {dst} {src} here source to from = record { here = sym here; source = sym source; dst = is_register_of s.dst dst (sym to); src = is_register_of s.src src (sym from) }
+
+-- ---- the next slot, which is read only where a form takes two
+
+lacks_same : (f : Form) (bytes : List ℕ) → lacks_second f (second_of f bytes) ≡ lacks_second f (second_at bytes)
+lacks_same form.Wide bytes = refl
+lacks_same _ bytes = refl
+
+pub lacks_is : {b : Bool} {second : Option Slot} (f : Form) (bytes : List ℕ) → second ≡ second_of f bytes → b ≡ lacks_second f second → b ≡ lacks_second f (second_at bytes)
+lacks_is f bytes read e = e ∙ ap (lacks_second f) read ∙ lacks_same f bytes
+
+bad_same : (f : Form) (bytes : List ℕ) → has_bad_second f (second_of f bytes) ≡ has_bad_second f (second_at bytes)
+bad_same form.Wide bytes = refl
+bad_same _ bytes = refl
+
+pub bad_is : {b : Bool} {second : Option Slot} (f : Form) (bytes : List ℕ) → second ≡ second_of f bytes → b ≡ has_bad_second f second → b ≡ has_bad_second f (second_at bytes)
+bad_is f bytes read e = e ∙ ap (has_bad_second f) read ∙ bad_same f bytes
+
+alone_encoded : (i : Insn) (s : Slot) (second : Option Slot) → slots_of i ≡ take (slots_in i) (s ∷ []) → slots_of i ≡ take (slots_in i) (s ∷ listed second)
+alone_encoded i s None h = h
+alone_encoded i s (Some t) h = by_wide (λ j. slots_of j ≡ take (slots_in j) (s ∷ []) → slots_of j ≡ take (slots_in j) (s ∷ t ∷ []))
+    (λ dst value e. absurd (let two : 2 ≡ 1 = ap length e in omega arith))
+    (λ j alone e. let one : slots_in j ≡ 1 = ap length alone.placed in rw one (rw one at e)) i h
+
+encoded_same : (f : Form) (i : Insn) (s : Slot) (bytes : List ℕ) → IsEncodedBy i s (second_of f bytes) → IsEncodedBy i s (second_at bytes)
+encoded_same form.Wide i s bytes h = h
+encoded_same _ i s bytes h = (h.0, alone_encoded i s (second_at bytes) h.1)
+
+pub encoded_with : (f : Form) (i : Insn) (s : Slot) (second : Option Slot) (bytes : List ℕ) → second ≡ second_of f bytes → IsEncodedBy i s second → IsEncodedBy i s (second_at bytes)
+encoded_with f i s second bytes read h =
+    let P : Option Slot → Type 0 = λ o. IsEncodedBy i s o in
+    encoded_same f i s bytes (subst P read h)
 
 -- ---- the first code that applies
 

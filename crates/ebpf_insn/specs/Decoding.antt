@@ -35,6 +35,11 @@ slot_fault s second = form_fault (form_of s.opcode) s second
 abbrev pub second_at : List ℕ → Option Slot
 second_at bytes = if nat_le 16 (length bytes) then Some (slot_at (drop 8 bytes)) else None
 
+-- the same, where a form takes two slots
+abbrev pub second_of : Form → List ℕ → Option Slot
+second_of Wide bytes = second_at bytes
+second_of _ bytes = None
+
 -- the slot after one with the opcode of a wide instruction, which was looked at with it
 abbrev pub is_second_half : List ℕ → ℕ → Bool
 is_second_half bytes zero = false

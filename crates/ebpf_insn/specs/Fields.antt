@@ -1,7 +1,6 @@
 -- Which fields of its slots an instruction uses, and what they may hold (RFC 9669, sections 3 to 5).
 use Rattle.std.specs.Prelude.{ℕ, Bool, true, false, not, ◌&&◌, ◌||◌, ◌==◌, nat_le, Option, Some, None}
 use Rattle.ebpf_insn.specs.declared.slot.Slot.{Slot}
-use Rattle.ebpf_insn.specs.declared.fields.UsedFields.{UsedFields}
 use Rattle.ebpf_insn.specs.declared.insn.Width.{Width}
 use Rattle.ebpf_insn.specs.declared.insn.Width.TheVariants.{W32, W64}
 use Rattle.ebpf_insn.specs.declared.insn.AluOp.{AluOp}
@@ -22,6 +21,13 @@ offset_chooses Div operand = true
 offset_chooses Rem operand = true
 offset_chooses Mov operand = takes_register operand
 offset_chooses _ operand = false
+
+-- the fields of a slot that an instruction of some form uses
+pub record UsedFields : Type 0 where
+  pub dst : Bool
+  pub src : Bool
+  pub offset : Bool
+  pub imm : Bool
 
 -- the fields that a form uses
 abbrev pub uses : Form → UsedFields

@@ -5,7 +5,7 @@ ghost use Rattle.ebpf_insn.specs.declared.insn.Insn.{Insn};
 ghost use Rattle.ebpf_insn.specs.declared.fault.DecodeFault.TheVariants.{NoMemory};
 ghost use Rattle.ebpf_insn.specs.Program.{slots_in};
 ghost use Rattle.ebpf_insn.specs.Encoding.{slots_of, encoding, program_bytes, IsDefined, IsWellFormed, IsProgram};
-ghost use Rattle.ebpf_insn.specs.Decoding.{slot_fault, place_fault, decode_fault, second_at, is_second_half, IsDecodeFault};
+ghost use Rattle.ebpf_insn.specs.Decoding.{slot_fault, place_fault, decode_fault, second_at, second_of, is_second_half, IsDecodeFault};
 ghost use Rattle.ebpf_insn.specs.Slot.{listed};
 
 use crate::decoded::insn_at_slot;
@@ -14,7 +14,7 @@ use crate::fields::{
     has_bad_second, has_defined_fields, has_left_out_source, lacks_second, leaves_unused_zero,
 };
 use crate::insn::Insn;
-use crate::opcode::{form_of, is_left_out};
+use crate::opcode::{Form, form_of, is_left_out};
 use crate::program::Program;
 use crate::register::Reg;
 use crate::slot::{Slot, read_slot};
@@ -40,10 +40,11 @@ pub fn decode(alloc: Global, bytes: &[u8]) -> Result<Program, DecodeFault>
             code: DecodeCode::I1,
         });
     }
-    let mut slots = Vec::new(alloc);
+    let count = bytes.len() / 8;
+    let mut slots = Vec::with_capacity(alloc, count.min(4096))?;
     let mut len = 0;
     let mut is_second_half = false;
-    for slot in 0..bytes.len() / 8 {
+    for slot in 0..count {
         if slot == 4096 {
             return Err(DecodeFault::Bad {
                 slot: 4096,
@@ -51,13 +52,13 @@ pub fn decode(alloc: Global, bytes: &[u8]) -> Result<Program, DecodeFault>
             });
         }
         if is_second_half {
-            slots.push(None)?;
+            slots.push_reserved(None);
             is_second_half = false;
             continue;
         }
         match decode_at(bytes, slot) {
             Ok(insn) => {
-                slots.push(Some(insn))?;
+                slots.push_reserved(Some(insn));
                 is_second_half = insn.slots() == 2;
             }
             Err(code) => {
@@ -80,25 +81,15 @@ fn decode_at(bytes: &[u8], slot: usize) -> Result<Insn, DecodeCode>
     ensures fault { MatchResult result (λ _. place_fault bytes.now slot ≡ None) (λ code. place_fault bytes.now slot ≡ Some code) }
 {
     let rest = &bytes[8 * slot..];
-    decode_slot(read_slot(rest), second_slot(rest))
+    decode_slot(read_slot(rest), rest)
 }
 
-// The slot after the one that the bytes begin with.
-fn second_slot(bytes: &[u8]) -> Option<Slot>
-    ensures { result ≡ second_at bytes.now }
-{
-    if bytes.len() >= 16 {
-        Some(read_slot(&bytes[8..]))
-    } else {
-        None
-    }
-}
-
-// The instruction of a slot and, where it is a wide one, of the slot after it, or the first code that applies: `I2` for an
-// opcode that stands for no instruction, `I8` for a form that is left out, then `I3` to `I7` in this order.
-fn decode_slot(slot: Slot, second: Option<Slot>) -> Result<Insn, DecodeCode>
-    ensures found { IfOk result (λ i. IsDefined i × (slots_of i ≡ take (slots_in i) (slot ∷ listed second))) }
-    ensures fault { MatchResult result (λ _. slot_fault slot second ≡ None) (λ code. slot_fault slot second ≡ Some code) }
+// The instruction of the slot that the bytes begin with and, where it is a wide one, of the slot after it, or the first code
+// that applies: `I2` for an opcode that stands for no instruction, `I8` for a form that is left out, then `I3` to `I7` in this
+// order.
+fn decode_slot(slot: Slot, bytes: &[u8]) -> Result<Insn, DecodeCode>
+    ensures found { IfOk result (λ i. IsDefined i × (slots_of i ≡ take (slots_in i) (slot ∷ listed (second_at bytes.now)))) }
+    ensures fault { MatchResult result (λ _. slot_fault slot (second_at bytes.now) ≡ None) (λ code. slot_fault slot (second_at bytes.now) ≡ Some code) }
 {
     let Some(form) = form_of(slot.opcode) else {
         return Err(if is_left_out(slot.opcode) {
@@ -116,6 +107,7 @@ fn decode_slot(slot: Slot, second: Option<Slot>) -> Result<Insn, DecodeCode>
     if !leaves_unused_zero(form, slot) {
         return Err(DecodeCode::I4);
     }
+    let second = second_of(form, bytes);
     if lacks_second(form, second) {
         return Err(DecodeCode::I5);
     }
@@ -126,6 +118,16 @@ fn decode_slot(slot: Slot, second: Option<Slot>) -> Result<Insn, DecodeCode>
         return Err(DecodeCode::I7);
     }
     Ok(insn_at_slot(form, slot, second, dst, src))
+}
+
+// The slot after the one that the bytes begin with, where a form takes two. It is read only there, as few do.
+fn second_of(form: Form, bytes: &[u8]) -> Option<Slot>
+    ensures { result ≡ second_of form bytes.now }
+{
+    match form {
+        Form::Wide if bytes.len() >= 16 => Some(read_slot(&bytes[8..])),
+        _ => None,
+    }
 }
 
 /// The laws of decoding, whatever memory there is: bytes encode one program at most, those of a program have no fault, and

@@ -82,8 +82,16 @@ fn alu_at(width: Width, op: AluOp, operand: Operand, slot: Slot, dst: Reg, src: 
     requires { has_defined_fields (form.Alu width op operand) slot ≡ true }
     ensures { result ≡ alu_at width op operand slot dst src }
 {
+    if slot.offset == 0 {
+        return Insn::Alu {
+            width,
+            op,
+            dst,
+            src: source_at(operand, slot, src),
+        };
+    }
     match (op, operand) {
-        (AluOp::Mov, Operand::Register) if slot.offset != 0 => Insn::Sext {
+        (AluOp::Mov, Operand::Register) => Insn::Sext {
             width,
             bits: slot.offset as u8,
             dst,

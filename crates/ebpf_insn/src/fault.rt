@@ -1,6 +1,6 @@
 //! Why bytes are no program.
 
-use std::alloc::AllocFailed;
+use std::alloc::AllocError;
 use thiserror::Error;
 
 /// Why a slot is refused. Within a slot `I9` comes first, then `I2`, `I8`, `I3`, `I4`, `I5`, `I6`, `I7`.
@@ -37,13 +37,13 @@ pub enum DecodeFault {
     NoMemory,
 }
 
-impl<T: Drop> From<AllocFailed<T>> for DecodeFault {
+impl From<AllocError> for DecodeFault {
     ghost use Rattle.std.specs.Prelude.{◌≡◌};
     ghost use Rattle.ebpf_insn.specs.declared.fault.DecodeFault.TheVariants.{NoMemory};
 
     ghost from_gives = { λ _ e. e ≡ NoMemory };
 
-    fn from(_e: AllocFailed<T>) -> DecodeFault {
+    fn from(_e: AllocError) -> DecodeFault {
         DecodeFault::NoMemory
     }
 }

@@ -1,48 +1,11 @@
 //! Which fields of its slot an instruction uses, and what they may hold (RFC 9669, sections 3 to 5).
 
-ghost use Rattle.std.specs.Prelude.{◌≡◌};
-ghost use Rattle.ebpf_insn.specs.Fields.{uses, leaves_unused_zero, offset_chooses, has_left_out_source, has_defined_fields, is_move_of, is_swap_of, lacks_second, has_bad_second, is_blank};
+ghost use Rattle.std.specs.Prelude.{◌≡◌, not, ◌==◌, ◌&&◌, ◌||◌};
+ghost use Rattle.ebpf_insn.specs.Fields.{takes_register, leaves_unused_zero, offset_chooses, has_left_out_source, has_defined_fields, is_move_of, is_swap_of, lacks_second, has_bad_second, is_blank};
 
 use crate::insn::{AluOp, Width};
 use crate::opcode::{Form, Operand};
 use crate::slot::Slot;
-
-// The fields of a slot that an instruction of some form uses. The others must be zero.
-#[derive(Clone, Copy)]
-struct UsedFields {
-    dst: bool,
-    src: bool,
-    offset: bool,
-    imm: bool,
-}
-
-// Which fields a form uses.
-fn uses(form: Form) -> UsedFields
-    ensures { result ≡ uses form }
-{
-    let (dst, src, offset, imm) = match form {
-        Form::Alu { op, operand, .. } => {
-            let is_register = matches!(operand, Operand::Register);
-            (true, is_register, offset_chooses(op, operand), !is_register)
-        }
-        Form::Neg { .. } => (true, false, false, false),
-        Form::Swap { .. } | Form::Wide => (true, false, false, true),
-        Form::Load { .. } => (true, true, true, false),
-        Form::Store { operand, .. } | Form::Branch { operand, .. } => {
-            let is_register = matches!(operand, Operand::Register);
-            (true, is_register, true, !is_register)
-        }
-        Form::Jump => (false, false, true, false),
-        Form::JumpFar | Form::Call => (false, false, false, true),
-        Form::Exit => (false, false, false, false),
-    };
-    UsedFields {
-        dst,
-        src,
-        offset,
-        imm,
-    }
-}
 
 // Whether the offset chooses among operations: the sign of a division or a remainder, and how far a move extends one.
 fn offset_chooses(op: AluOp, operand: Operand) -> bool
@@ -59,11 +22,30 @@ fn offset_chooses(op: AluOp, operand: Operand) -> bool
 pub(crate) fn leaves_unused_zero(form: Form, slot: Slot) -> bool
     ensures { result ≡ leaves_unused_zero form slot }
 {
-    let uses = uses(form);
-    (uses.dst || slot.dst == 0)
-        && (uses.src || slot.src == 0)
-        && (uses.offset || slot.offset == 0)
-        && (uses.imm || slot.imm == 0)
+    match form {
+        Form::Alu { op, operand, .. } => {
+            leaves_source_zero(operand, slot) && (slot.offset == 0 || offset_chooses(op, operand))
+        }
+        Form::Store { operand, .. } | Form::Branch { operand, .. } => {
+            leaves_source_zero(operand, slot)
+        }
+        Form::Load { .. } => slot.imm == 0,
+        Form::Swap { .. } | Form::Wide => slot.src == 0 && slot.offset == 0,
+        Form::Neg { .. } => slot.src == 0 && slot.offset == 0 && slot.imm == 0,
+        Form::Jump => slot.dst == 0 && slot.src == 0 && slot.imm == 0,
+        Form::JumpFar | Form::Call => slot.dst == 0 && slot.src == 0 && slot.offset == 0,
+        Form::Exit => slot.dst == 0 && slot.src == 0 && slot.offset == 0 && slot.imm == 0,
+    }
+}
+
+// Whether of src and the immediate the one is zero that isn't the second operand.
+fn leaves_source_zero(operand: Operand, slot: Slot) -> bool
+    ensures { result ≡ ((takes_register operand || slot.src == 0) && (not (takes_register operand) || slot.imm == 0)) }
+{
+    match operand {
+        Operand::Immediate => slot.src == 0,
+        Operand::Register => slot.imm == 0,
+    }
 }
 
 // Whether src makes a call or a wide load one of the forms that are left out: calls within a program and by the numbers of
@@ -83,15 +65,16 @@ pub(crate) fn has_defined_fields(form: Form, slot: Slot) -> bool
     ensures { result ≡ has_defined_fields form slot }
 {
     match form {
+        Form::Alu { .. } if slot.offset == 0 => true,
         Form::Alu {
             op: AluOp::Div | AluOp::Rem,
             ..
-        } => slot.offset <= 1,
+        } => slot.offset == 1,
         Form::Alu {
             width,
             op: AluOp::Mov,
             operand: Operand::Register,
-        } => slot.offset == 0 || is_move_of(width, slot.offset),
+        } => is_move_of(width, slot.offset),
         Form::Swap { .. } => is_swap_of(slot.imm),
         _ => true,
     }

@@ -1,4 +1,4 @@
-use Rattle.std.proofs.Common.{◌≡◌, ◌<◌, ◌≤◌, ℕ, length, slice_index_or, false, None, Some}
+use Rattle.std.proofs.Common.{◌≡◌, ◌<◌, ◌≤◌, ℕ, length, slice_index_or, vec_capacity, false, None, Some}
 use Rattle.std.specs.Prelude.{slice_get}
 use Rattle.ebpf_insn.specs.Faults.{lowest}
 use Rattle.ebpf_flow.specs.Edges.{edges_at, reached_by}
@@ -13,6 +13,7 @@ invariant-loop-slot l = record {
   flags : length l.reached.items ≡ l.slots;
   reached : (k : ℕ) → k < l.slots → slice_index_or l.reached.items k false ≡ reached_by l.fn.program l.slot k;
   len : length l.edges.items ≡ l.slot;
+  room : vec_capacity l.edges ≡ l.slots;
   fine : lowest (flow_fault_at l.fn.program) l.slot ≡ None;
   forward : (k : ℕ) → k < l.slot → LeadsForward l.fn.program k (edges_at l.fn.program k).fall × LeadsForward l.fn.program k (edges_at l.fn.program k).jump;
   each : (k : ℕ) → k < l.slot → slice_get l.edges.items k ≡ Some (edges_at l.fn.program k);

@@ -19,10 +19,11 @@ pub loop-slot-init : goal.loop-slot-init
 loop-slot-init c = record {
   even = is_even (length c.args.bytes.now) (grind (arith, nat_tests)) (omega arith);
   few = omega arith;
+  room = c.in_ok-slots.ensures.exact ∙ c.min.ensures;
   fine = lowest-zero (fault_at c.args.bytes.now);
-  read = rw c.new-slots.ensures.items (read_none c.args.bytes.now);
+  read = rw c.in_ok-slots.ensures.items (read_none c.args.bytes.now);
   short = omega arith;
-  len = rw c.new-slots.ensures.items refl;
+  len = rw c.in_ok-slots.ensures.items refl;
 }
 
 pub returns-then-slot-eq4096-clause-refused : goal.returns-then-slot-eq4096-clause-refused
@@ -46,10 +47,11 @@ loop-slot-preserved-then-is_second_half c =
     record {
       even = c.loop-slot.invariant.even;
       few = let few : c.loop-slot.slot ≤ 4096 = c.loop-slot.invariant.few in let below : c.loop-slot.slot ≢ 4096 = c.if-slot-eq4096.false in omega arith;
+      room = c.push_reserved.ensures.capacity ∙ c.loop-slot.invariant.room;
       fine = lowest-more_none (fault_at c.args.bytes.now) c.loop-slot.slot c.loop-slot.invariant.fine fine;
-      read = rw c.in_ok-push.ensures.items (read_half c.args.bytes.now c.loop-slot.slot c.loop-slot.slots.items read);
+      read = rw c.push_reserved.ensures.items (read_half c.args.bytes.now c.loop-slot.slot c.loop-slot.slots.items read);
       short = let short : c.loop-slot.len ≤ c.loop-slot.slot = c.loop-slot.invariant.short in omega arith;
-      len = rw (c.in_ok-push.ensures.items, parts) c.loop-slot.invariant.len;
+      len = rw (c.push_reserved.ensures.items, parts) c.loop-slot.invariant.len;
     }
 
 pub decode_at-requires-clause-first : goal.decode_at-requires-clause-first
@@ -79,10 +81,11 @@ loop-slot-preserved c =
     record {
       even = c.loop-slot.invariant.even;
       few = let few : c.loop-slot.slot ≤ 4096 = c.loop-slot.invariant.few in let below : c.loop-slot.slot ≢ 4096 = c.if-slot-eq4096.false in omega arith;
+      room = c.push_reserved-in-Ok.ensures.capacity ∙ c.loop-slot.invariant.room;
       fine = lowest-more_none (fault_at c.args.bytes.now) c.loop-slot.slot c.loop-slot.invariant.fine (fault_at_is c.args.bytes.now c.loop-slot.slot _ c.if-slot-eq4096.false c.in-Ok.ensures.fault);
-      read = rw (c.in_ok-push-in-Ok.ensures.items, c.slots-is_second_half.ensures.value) (read_more c.args.bytes.now c.loop-slot.slot c.loop-slot.slots.items c.in-Ok.insn read here.0 here.1);
+      read = rw (c.push_reserved-in-Ok.ensures.items, c.slots-is_second_half.ensures.value) (read_more c.args.bytes.now c.loop-slot.slot c.loop-slot.slots.items c.in-Ok.insn read here.0 here.1);
       short = let short : c.loop-slot.len ≤ c.loop-slot.slot = c.loop-slot.invariant.short in omega arith;
-      len = rw (c.in_ok-push-in-Ok.ensures.items, parts) (omega (arith, length_push (instructions c.loop-slot.slots.items) c.in-Ok.insn, c.loop-slot.invariant.len));
+      len = rw (c.push_reserved-in-Ok.ensures.items, parts) (omega (arith, length_push (instructions c.loop-slot.slots.items) c.in-Ok.insn, c.loop-slot.invariant.len));
     }
 
 pub new-requires-clause-formed : goal.new-requires-clause-formed

@@ -10,14 +10,12 @@ pub returns-clause-found : goal.returns-clause-found
 returns-clause-found c =
     let rest = take_rest c.args.bytes.now (8 * c.args.slot) in
     let first : c.read_slot.result ≡ slot_at (drop (8 * c.args.slot) c.args.bytes.now) = c.read_slot.ensures ∙ ap slot_at rest in
-    let second : c.second_slot.result ≡ second_at (drop (8 * c.args.slot) c.args.bytes.now) = c.second_slot.ensures ∙ ap second_at rest in
-    IfOk-weaker c.decode_slot.result _ _ (λ i h. (h.0, encoding_at c.args.bytes.now c.args.slot i c.read_slot.result c.second_slot.result (λ k. omega (arith, c.type_inv.bytes k)) c.requires.room first second h.1)) c.decode_slot.ensures.found
+    IfOk-weaker c.decode_slot.result _ _ (λ i h. (h.0, encoding_at c.args.bytes.now c.args.slot i c.read_slot.result _ (λ k. omega (arith, c.type_inv.bytes k)) c.requires.room first (ap second_at rest) h.1)) c.decode_slot.ensures.found
 
 pub returns-clause-fault : goal.returns-clause-fault
 returns-clause-fault c =
     let rest = take_rest c.args.bytes.now (8 * c.args.slot) in
     let first : c.read_slot.result ≡ slot_at (drop (8 * c.args.slot) c.args.bytes.now) = c.read_slot.ensures ∙ ap slot_at rest in
-    let second : c.second_slot.result ≡ second_at (drop (8 * c.args.slot) c.args.bytes.now) = c.second_slot.ensures ∙ ap second_at rest in
     MatchResult-weaker c.decode_slot.result c.decode_slot.ensures.fault
-    (λ i h. place_fault_is c.args.bytes.now c.args.slot c.read_slot.result c.second_slot.result _ c.requires.first first second h)
-    (λ e h. place_fault_is c.args.bytes.now c.args.slot c.read_slot.result c.second_slot.result _ c.requires.first first second h)
+    (λ i h. place_fault_is c.args.bytes.now c.args.slot c.read_slot.result _ _ c.requires.first first (ap second_at rest) h)
+    (λ e h. place_fault_is c.args.bytes.now c.args.slot c.read_slot.result _ _ c.requires.first first (ap second_at rest) h)
