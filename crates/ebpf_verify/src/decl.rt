@@ -1,6 +1,7 @@
 //! What a program declares.
 
 ghost use Rattle.std.specs.Prelude.{◌≡◌, ◌≤◌, ◌↔◌, IsSome, IfSome};
+ghost use Rattle.ebpf_verify.specs.declared.decl.TheConstants.{MAX_CONTEXT, MAX_HELD};
 
 /// The most bytes of a context.
 pub const MAX_CONTEXT: u32 = 4096;
