@@ -27,7 +27,7 @@ world_told verdicts (Err stop) = refused_told (verdicts ++ stopped_line stop.0 s
 
 abbrev pub verdicts_told : List Verdict → List Event → Told
 verdicts_told verdicts events =
-    if is_any_refused verdicts then refused_told (verdict_lines verdicts) else world_told (verdict_lines verdicts) (lead (accepted_of verdicts) events)
+    if is_any_refused verdicts then refused_told (verdict_lines verdicts) else world_told (verdict_lines verdicts) (world_after (accepted_of verdicts) events)
 
 abbrev pub TellsSaid : Result Said (ℕ × FaultCode) → Told → Type 0
 TellsSaid (Err fault) told = told ≡ refused_told (fault_line fault.1 fault.0)

@@ -17,6 +17,8 @@ mod flow;
 #[cfg(test)]
 mod insn;
 #[cfg(test)]
+mod library;
+#[cfg(test)]
 mod one;
 #[cfg(test)]
 mod programs;

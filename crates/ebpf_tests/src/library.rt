@@ -18,10 +18,20 @@ fn status_at_the_end(alloc: Global, bytes: &[u8], context: Context) -> Option<St
     let decl = Decl::new(context.bytes.len() as u32, 0)?;
     let programs = [verify(alloc, flowed, decl, &kinds()).ok()?];
     let mut world = World::new(alloc, &programs).ok()?;
-    world.apply(Event::Start { program: 0, context }).ok()?;
+    world
+        .apply(Event::Start {
+            program: 0,
+            context,
+        })
+        .ok()?;
     for _ in 0..programs[0].len() {
         if let Some(Status::Going(_)) = world.status(0) {
-            world.apply(Event::Exec { run: 0, answer: Answer::Absent }).ok()?;
+            world
+                .apply(Event::Exec {
+                    run: 0,
+                    answer: Answer::Absent,
+                })
+                .ok()?;
         }
     }
     world.status(0)
@@ -30,7 +40,13 @@ fn status_at_the_end(alloc: Global, bytes: &[u8], context: Context) -> Option<St
 #[test]
 fn a_program_is_run_by_calls(rt: HostRuntime) {
     let bytes = bytes_of(&rt, rt.alloc(), "b7000000070000009500000000000000");
-    let context = Context { bytes: Vec::new(rt.alloc()) };
+    let context = Context {
+        bytes: Vec::new(rt.alloc()),
+    };
     let status = status_at_the_end(rt.alloc(), &bytes, context);
-    holds(&rt, "it exits with 7", matches!(status, Some(Status::Exited(7))));
+    holds(
+        &rt,
+        "it exits with 7",
+        matches!(status, Some(Status::Exited(7))),
+    );
 }
