@@ -15,7 +15,8 @@ use std::test::*;
 fn status_at_the_end(alloc: Global, bytes: &[u8], context: Context) -> Option<Status> {
     let program = decode(alloc, bytes).ok()?;
     let flowed = check(alloc, program).ok()?;
-    let decl = Decl::new(context.bytes.len() as u32, 0)?;
+    let length = u32::try_from(context.bytes.len()).ok()?;
+    let decl = Decl::new(length, 0)?;
     let programs = [verify(alloc, flowed, decl, &kinds()).ok()?];
     let mut world = World::new(alloc, &programs).ok()?;
     world
