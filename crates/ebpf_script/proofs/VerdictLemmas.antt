@@ -16,7 +16,7 @@ use Rattle.ebpf_script.specs.declared.judge.Judged.TheVariants.{Accepted, Refuse
 use Rattle.ebpf_script.specs.Judging.{IsJudged}
 use Rattle.ebpf_script.proofs.JudgedKinds.{accepted_kinds}
 use Rattle.ebpf_script.specs.declared.verdicts.Verdicts.{Verdicts}
-use Rattle.ebpf_script.specs.Said.{Named}
+use Rattle.ebpf_script.specs.ParsedScript.{Named}
 use Rattle.ebpf_script.specs.Verdicts.{Verdict, verdict_lines, accepted_of, is_any_refused, judged_line, accepted_in, is_refused}
 use Rattle.ebpf_script.specs.VerdictsKept.{AreKept}
 

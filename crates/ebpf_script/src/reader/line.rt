@@ -2,7 +2,7 @@
 
 ghost use Rattle.std.specs.Prelude.{◌≡◌, [], ◌∷◌, IfErr, OnOk, map};
 ghost use Rattle.ebpf_script.specs.LineFaults.{shape_fault, line_fault};
-ghost use Rattle.ebpf_script.specs.ReadScripts.{said_by, Adds, IsLineStop};
+ghost use Rattle.ebpf_script.specs.ReadScripts.{parsed_script, Adds, IsLineStop};
 ghost use Rattle.ebpf_script.specs.Shapes.{is_comment, replay_shape, shape_of};
 ghost use Rattle.ebpf_script.specs.Words.{words};
 
@@ -14,12 +14,12 @@ use crate::reader::statement::{
 use crate::reader::words::{is_text, line_words};
 use std::alloc::Global;
 
-/// Reads a line behind those that the script has. Where it stops, nothing is said of the script.
+/// Reads a line behind those that the script has. Where it stops, nothing is promised of the script.
 #[tactic(auto, unfolding(crate::specs::LineFaults::line_fault))]
 pub(crate) fn read_line(alloc: Global, script: &mut Script, line: &[u8]) -> Result<(), LineStop>
-    ensures fine { OnOk result (line_fault (said_by script.old).programs line.now ≡ None) }
+    ensures fine { OnOk result (line_fault (parsed_script script.old).programs line.now ≡ None) }
     ensures ok { OnOk result (Adds (shape_of (words line.now)) script.old script.new) }
-    ensures refused { IfErr result (IsLineStop (line_fault (said_by script.old).programs line.now)) }
+    ensures refused { IfErr result (IsLineStop (line_fault (parsed_script script.old).programs line.now)) }
 {
     if !is_text(line) {
         return Err(LineStop::Fault(FaultCode::S2));
@@ -31,7 +31,7 @@ pub(crate) fn read_line(alloc: Global, script: &mut Script, line: &[u8]) -> Resu
 // Reads the words of a line.
 fn read_words(alloc: Global, script: &mut Script, words: &[&[u8]]) -> Result<(), LineStop>
     ensures ok { OnOk result (Adds (shape_of (map (λ w. w.now) words.now)) script.old script.new) }
-    ensures refused { IfErr result (IsLineStop (shape_fault (said_by script.old).programs (shape_of (map (λ w. w.now) words.now)))) }
+    ensures refused { IfErr result (IsLineStop (shape_fault (parsed_script script.old).programs (shape_of (map (λ w. w.now) words.now)))) }
 {
     let Some((first, rest)) = words.split_first() else {
         return Ok(());
@@ -60,7 +60,7 @@ fn is_comment(word: &[u8]) -> bool
 // Reads a line of two words.
 fn read_two(script: &mut Script, first: &[u8], a: &[u8]) -> Result<(), LineStop>
     ensures ok { OnOk result (Adds (replay_shape first.now (a.now ∷ [])) script.old script.new) }
-    ensures refused { IfErr result (IsLineStop (shape_fault (said_by script.old).programs (replay_shape first.now (a.now ∷ [])))) }
+    ensures refused { IfErr result (IsLineStop (shape_fault (parsed_script script.old).programs (replay_shape first.now (a.now ∷ [])))) }
 {
     if first == b"exec".as_slice() {
         read_exec(script, a)
@@ -78,7 +78,7 @@ fn read_three(
     b: &[u8],
 ) -> Result<(), LineStop>
     ensures ok { OnOk result (Adds (replay_shape first.now (a.now ∷ b.now ∷ [])) script.old script.new) }
-    ensures refused { IfErr result (IsLineStop (shape_fault (said_by script.old).programs (replay_shape first.now (a.now ∷ b.now ∷ [])))) }
+    ensures refused { IfErr result (IsLineStop (shape_fault (parsed_script script.old).programs (replay_shape first.now (a.now ∷ b.now ∷ [])))) }
 {
     if first == b"start".as_slice() {
         read_start(alloc, script, a, b)
@@ -104,7 +104,7 @@ fn read_five(
     d: &[u8],
 ) -> Result<(), LineStop>
     ensures ok { OnOk result (Adds (replay_shape first.now (a.now ∷ b.now ∷ c.now ∷ d.now ∷ [])) script.old script.new) }
-    ensures refused { IfErr result (IsLineStop (shape_fault (said_by script.old).programs (replay_shape first.now (a.now ∷ b.now ∷ c.now ∷ d.now ∷ [])))) }
+    ensures refused { IfErr result (IsLineStop (shape_fault (parsed_script script.old).programs (replay_shape first.now (a.now ∷ b.now ∷ c.now ∷ d.now ∷ [])))) }
 {
     if first == b"program".as_slice() {
         read_program(alloc, script, a, b, c, d)

@@ -2,8 +2,8 @@
 
 ghost use Rattle.std.specs.Prelude.{◌≡◌, IfErr, OnOk};
 ghost use Rattle.ebpf_script.specs.LineFaults.{shape_fault};
-ghost use Rattle.ebpf_script.specs.ReadScripts.{said_by, Adds, IsLineStop};
-ghost use Rattle.ebpf_script.specs.Said.{answer_of};
+ghost use Rattle.ebpf_script.specs.ReadScripts.{parsed_script, Adds, IsLineStop};
+ghost use Rattle.ebpf_script.specs.ParsedScript.{answer_of};
 ghost use Rattle.ebpf_script.specs.Shapes.{ProgramLine, StartLine, ExecLine, AnsweredLine, GrowLine, ReapLine};
 
 use crate::done::FaultCode;
@@ -25,7 +25,7 @@ pub(crate) fn read_program(
     hex: &[u8],
 ) -> Result<(), LineStop>
     ensures ok { OnOk result (Adds (ProgramLine name.now context.now held.now hex.now) script.old script.new) }
-    ensures refused { IfErr result (IsLineStop (shape_fault (said_by script.old).programs (ProgramLine name.now context.now held.now hex.now))) }
+    ensures refused { IfErr result (IsLineStop (shape_fault (parsed_script script.old).programs (ProgramLine name.now context.now held.now hex.now))) }
 {
     let Some(context) = context_of(context) else {
         return Err(LineStop::Fault(FaultCode::S4));
@@ -56,7 +56,7 @@ pub(crate) fn read_start(
     hex: &[u8],
 ) -> Result<(), LineStop>
     ensures ok { OnOk result (Adds (StartLine name.now hex.now) script.old script.new) }
-    ensures refused { IfErr result (IsLineStop (shape_fault (said_by script.old).programs (StartLine name.now hex.now))) }
+    ensures refused { IfErr result (IsLineStop (shape_fault (parsed_script script.old).programs (StartLine name.now hex.now))) }
 {
     let Some(bytes) = hex_or_dash(alloc, hex)? else {
         return Err(LineStop::Fault(FaultCode::S5));
@@ -75,7 +75,7 @@ pub(crate) fn read_start(
 /// Reads `exec RUN`.
 pub(crate) fn read_exec(script: &mut Script, run: &[u8]) -> Result<(), LineStop>
     ensures ok { OnOk result (Adds (ExecLine run.now) script.old script.new) }
-    ensures refused { IfErr result (IsLineStop (shape_fault (said_by script.old).programs (ExecLine run.now))) }
+    ensures refused { IfErr result (IsLineStop (shape_fault (parsed_script script.old).programs (ExecLine run.now))) }
 {
     let Some(run) = run_of(run) else {
         return Err(LineStop::Fault(FaultCode::S4));
@@ -90,7 +90,7 @@ pub(crate) fn read_exec(script: &mut Script, run: &[u8]) -> Result<(), LineStop>
 /// Reads `exec RUN null` and `exec RUN SLOT`.
 pub(crate) fn read_answered(script: &mut Script, run: &[u8], answer: &[u8]) -> Result<(), LineStop>
     ensures ok { OnOk result (Adds (AnsweredLine run.now answer.now) script.old script.new) }
-    ensures refused { IfErr result (IsLineStop (shape_fault (said_by script.old).programs (AnsweredLine run.now answer.now))) }
+    ensures refused { IfErr result (IsLineStop (shape_fault (parsed_script script.old).programs (AnsweredLine run.now answer.now))) }
 {
     let Some(run) = run_of(run) else {
         return Err(LineStop::Fault(FaultCode::S4));
@@ -103,7 +103,7 @@ pub(crate) fn read_answered(script: &mut Script, run: &[u8], answer: &[u8]) -> R
 }
 
 // The answer that a word gives: `null`, or a slot.
-#[tactic(auto, unfolding(crate::specs::Said::answer_of))]
+#[tactic(auto, unfolding(crate::specs::ParsedScript::answer_of))]
 fn answer_of(word: &[u8]) -> Option<Answer>
     ensures { result ≡ answer_of word.now }
 {
@@ -117,7 +117,7 @@ fn answer_of(word: &[u8]) -> Option<Answer>
 /// Reads `grow KIND SLOT`.
 pub(crate) fn read_grow(script: &mut Script, kind: &[u8], slot: &[u8]) -> Result<(), LineStop>
     ensures ok { OnOk result (Adds (GrowLine kind.now slot.now) script.old script.new) }
-    ensures refused { IfErr result (IsLineStop (shape_fault (said_by script.old).programs (GrowLine kind.now slot.now))) }
+    ensures refused { IfErr result (IsLineStop (shape_fault (parsed_script script.old).programs (GrowLine kind.now slot.now))) }
 {
     let Some(kind) = kind_of(kind) else {
         return Err(LineStop::Fault(FaultCode::S4));
@@ -132,7 +132,7 @@ pub(crate) fn read_grow(script: &mut Script, kind: &[u8], slot: &[u8]) -> Result
 /// Reads `reap KIND SLOT`.
 pub(crate) fn read_reap(script: &mut Script, kind: &[u8], slot: &[u8]) -> Result<(), LineStop>
     ensures ok { OnOk result (Adds (ReapLine kind.now slot.now) script.old script.new) }
-    ensures refused { IfErr result (IsLineStop (shape_fault (said_by script.old).programs (ReapLine kind.now slot.now))) }
+    ensures refused { IfErr result (IsLineStop (shape_fault (parsed_script script.old).programs (ReapLine kind.now slot.now))) }
 {
     let Some(kind) = kind_of(kind) else {
         return Err(LineStop::Fault(FaultCode::S4));
