@@ -3,12 +3,13 @@ use Rattle.std.proofs.Common.{◌≡◌, ℕ, ◌+◌, ◌<◌, ◌≤◌, false
 use Rattle.std.proofs.lemmas.Bool.Decides.{nat_tests}
 use Rattle.std.proofs.lemmas.List.{at_drop_more, at_drop_all}
 use Rattle.ebpf_script.specs.declared.done.FaultCode.{FaultCode}
-use Rattle.ebpf_script.specs.declared.reader.script.LineStop.{LineStop}
-use Rattle.ebpf_script.specs.declared.reader.script.LineStop.TheVariants as stops
+use Rattle.ebpf_script.specs.declared.done.Stop.{Stop}
+use Rattle.ebpf_script.specs.declared.done.Stop.TheVariants as stops
 use Rattle.ebpf_script.specs.LineFaults.{line_fault}
-use Rattle.ebpf_script.specs.ReadScripts.{IsLineStop, IsScriptStop, stop_at}
+use Rattle.ebpf_script.specs.ReadScripts.{IsScriptStop, stop_at}
 use Rattle.ebpf_script.specs.ParsedScript.{ParsedScript, empty_script, with_line}
 use Rattle.ebpf_script.specs.ScriptLines.{script_lines}
+use Rattle.ebpf_script.specs.Stops.{IsStop}
 use Rattle.ebpf_script.specs.Scripts.{parsed_lines, parsed_text, unless_fault}
 use Rattle.ebpf_script.specs.Shapes.{shape_of}
 use Rattle.ebpf_script.specs.Words.{words}
@@ -37,7 +38,7 @@ pub lines_end : (n : ℕ) (parsed : ParsedScript) (lines : List (List ℕ)) → 
 lines_end n parsed lines all = at_drop_all (parsed_lines (n + 1) parsed) lines n all
 
 -- where a line stops, and its fault is the script's, the script stops there
-pub stops_at : (read : Result ParsedScript (ℕ × FaultCode)) (fault : Option FaultCode) (stop : LineStop) (number : ℕ) → IsLineStop fault stop → ((code : FaultCode) → fault ≡ Some code → read ≡ Err (number, code)) → IsScriptStop read (stop_at stop number)
+pub stops_at : (read : Result ParsedScript (ℕ × FaultCode)) (fault : Option FaultCode) (stop : Stop) (number : ℕ) → IsStop fault stop → ((code : FaultCode) → fault ≡ Some code → read ≡ Err (number, code)) → IsScriptStop read (stop_at stop number)
 stops_at read fault stops.NoMemory number stop here = tt
 stops_at read fault (stops.Fault code) number stop here = here code stop
 

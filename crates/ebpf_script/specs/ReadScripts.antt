@@ -1,11 +1,11 @@
 -- A script and the stops of its reader, as contracts see them.
-use Rattle.std.specs.Prelude.{◌≡◌, ℕ, map, Option, Some, None, Result, Err, String, string_bytes}
+use Rattle.std.specs.Prelude.{◌≡◌, ℕ, map, None, Result, Err, String, string_bytes}
 use Rattle.std.specs.declared.alloc.Global.{Global}
 use Rattle.ebpf_script.specs.declared.done.FaultCode.{FaultCode}
 use Rattle.ebpf_script.specs.declared.reader.script.ProgramText.{ProgramText}
 use Rattle.ebpf_script.specs.declared.reader.script.Script.{Script}
-use Rattle.ebpf_script.specs.declared.reader.script.LineStop.{LineStop}
-use Rattle.ebpf_script.specs.declared.reader.script.LineStop.TheVariants as line
+use Rattle.ebpf_script.specs.declared.done.Stop.{Stop}
+use Rattle.ebpf_script.specs.declared.done.Stop.TheVariants as line
 use Rattle.ebpf_script.specs.declared.reader.script.ScriptStop.{ScriptStop}
 use Rattle.ebpf_script.specs.declared.reader.script.ScriptStop.TheVariants as script
 use Rattle.ebpf_script.specs.LineFaults.{shape_fault}
@@ -25,13 +25,8 @@ pub record Adds (shape : Shape) (old new : Script) : Type 0 where
   pub fine : shape_fault (parsed_script old).programs shape ≡ None
   pub parsed : parsed_script new ≡ with_line (parsed_script old) shape
 
--- a line's stop is its fault, or memory ran out
-abbrev pub IsLineStop : Option FaultCode → LineStop → Type 0
-IsLineStop fault line.NoMemory = Unit {0}
-IsLineStop fault (line.Fault code) = fault ≡ Some code
-
 -- a line's stop is a script's, at the line of this number
-abbrev pub stop_at : LineStop → ℕ → ScriptStop
+abbrev pub stop_at : Stop → ℕ → ScriptStop
 stop_at line.NoMemory number = script.NoMemory
 stop_at (line.Fault code) number = script.Fault (record { code = code; line = number })
 
