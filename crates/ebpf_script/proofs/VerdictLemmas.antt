@@ -47,10 +47,6 @@ kept_next programs left old new v h text accepted refused = record {
     or_false true = refl
     or_false false = refl
 
--- all verdicts
-pub kept_all : (programs : List Named) (kept : Verdicts) → AreKeptBefore programs [] kept → AreKept programs kept
-kept_all programs kept h = record { verdicts = h.verdicts; on = sym (append_nil_of (map (λ (v : Verdict). v.program) h.verdicts)) ∙ h.on; text = h.text; accepted = h.accepted; refused = h.refused }
-
 -- ---- the programs that are accepted were verified with the known kinds
 
 known_in : (bytes : List ℕ) (decl : Decl) (rows : List KindRow) (judged : Judged) → AreKinds rows → IsJudged bytes decl rows judged → AreKnown (accepted_in judged)
