@@ -3,6 +3,16 @@
 use clap::{Arg, ArgAction, ArgMatches, Command, value_parser};
 use std::alloc::{AllocError, Global};
 
+// Behind the help of the program and of `one`.
+const ONE_EXAMPLE: &str = "Example: echo 'b700000007000000 9500000000000000' | ebpf_run one";
+
+// Behind the help of `list`.
+const LIST_EXAMPLE: &str = "Example: echo 'b700000007000000 9500000000000000' | ebpf_run list";
+
+// Behind the help of `replay`.
+const REPLAY_EXAMPLE: &str =
+    "Example: printf '%s\\n' 'program p 0 0 b7000000070000009500000000000000' 'start p -' 'exec 0' | ebpf_run replay";
+
 /// What the command line asks for.
 #[derive(Clone, Copy)]
 pub enum Task<'a> {
@@ -27,6 +37,8 @@ pub fn command<'a>(alloc: Global) -> Result<Command<'a>, AllocError> {
     let one = one_command(alloc)?;
     let all = Command::new(alloc, "ebpf_run")
         .about("Runs small eBPF programs")
+        .version("0.1.0")
+        .after_help(ONE_EXAMPLE)
         .subcommand_required(true)
         .subcommand(one)?;
     all.subcommand(list_command(alloc))?
@@ -34,7 +46,9 @@ pub fn command<'a>(alloc: Global) -> Result<Command<'a>, AllocError> {
 }
 
 fn one_command<'a>(alloc: Global) -> Result<Command<'a>, AllocError> {
-    let one = Command::new(alloc, "one").about("Runs the program whose hex is on standard input");
+    let one = Command::new(alloc, "one")
+        .about("Runs the program whose hex is on standard input")
+        .after_help(ONE_EXAMPLE);
     one.arg(context_option(alloc))?
         .arg(held_option(alloc))?
         .arg(nulls_option(alloc))
@@ -65,15 +79,15 @@ fn nulls_option<'a>(alloc: Global) -> Arg<'a> {
 }
 
 fn list_command<'a>(alloc: Global) -> Command<'a> {
-    Command::new(alloc, "list").about(
-        "Lists the instructions of the program whose hex is on standard input",
-    )
+    Command::new(alloc, "list")
+        .about("Lists the instructions of the program whose hex is on standard input")
+        .after_help(LIST_EXAMPLE)
 }
 
 fn replay_command<'a>(alloc: Global) -> Command<'a> {
-    Command::new(alloc, "replay").about(
-        "Replays the script on standard input: programs, and events over runs of them",
-    )
+    Command::new(alloc, "replay")
+        .about("Replays the script on standard input: programs, and events over runs of them")
+        .after_help(REPLAY_EXAMPLE)
 }
 
 /// The task that the words of the command line ask for, where they are a command.

@@ -35,8 +35,9 @@ fn main(rt: HostRuntime) -> ExitCode {
 // Does what the command line asks for, and gives the exit status.
 fn run<R: AllocGlobal + Env + Eprint + Input + Print>(rt: &R) -> Result<u8, EngineFault> {
     let alloc = rt.alloc();
-    let Ok(words) = env::args(rt) else {
-        return Err(EngineFault::NoMemory);
+    let words = match env::args(rt) {
+        Ok(words) => words,
+        Err(error) => return tell_unread(rt, error.kind()),
     };
     let Ok(words): Result<Vec<String>, _> = words.collect(alloc) else {
         return Err(EngineFault::NoMemory);
@@ -72,6 +73,22 @@ fn perform<R: AllocGlobal + Input + Print>(rt: &R, task: Task<'_>) -> Result<u8,
         Done::Clean => 0,
         Done::Refused => 2,
     })
+}
+
+// Prints why the words of the command line can't be read, and gives the exit status.
+fn tell_unread<R: AllocGlobal + Eprint + Print>(
+    rt: &R,
+    kind: io::ErrorKind,
+) -> Result<u8, EngineFault> {
+    if kind != io::ErrorKind::InvalidData {
+        return Err(EngineFault::NoMemory);
+    }
+    let mut commands = command(rt.alloc())?;
+    let error = commands.error(
+        ErrorKind::ValueValidation,
+        "invalid UTF-8 was detected in one or more arguments",
+    )?;
+    tell(rt, &error)
 }
 
 // Prints why the command line is refused, or the help that it asks for, and gives the exit status.

@@ -1,5 +1,5 @@
 -- What a word of digits writes.
-use Rattle.std.proofs.Common.{◌≡◌, ℕ, ◌+◌, ◌-◌, ◌*◌, ◌<◌, ◌≤◌, true, false, List, [], ◌∷◌, length, get_or, drop, fold, Some, None, refl, sym, ◌∙◌, arith}
+use Rattle.std.proofs.Common.{◌≡◌, ℕ, ◌+◌, ◌-◌, ◌*◌, ◌<◌, ◌≤◌, true, false, List, [], ◌∷◌, length, get_or, drop, fold, Some, None, sym, ◌∙◌, arith}
 use Rattle.std.specs.Char.{is_ascii_digit}
 use Rattle.std.specs.Str.{all_ascii_digits}
 use Rattle.std.proofs.lemmas.List.{at_drop_more}
@@ -36,11 +36,6 @@ number_to-fits most value word some digits same fits = grind (arith, nat_tests)
 -- one digit on
 pub value_here : (word : List ℕ) (i value : ℕ) → i < length word → fold more value (drop i word) ≡ value_of word → fold more (more value (get_or word i 0)) (drop (i + 1) word) ≡ value_of word
 value_here word i value inside h = sym (at_drop_more (fold more value) word i 0 inside) ∙ h
-
-pub digits_here : (word : List ℕ) (i : ℕ) → i < length word → is_ascii_digit (get_or word i 0) ≡ true → all_ascii_digits (drop i word) ≡ all_ascii_digits word → all_ascii_digits (drop (i + 1) word) ≡ all_ascii_digits word
-digits_here word i inside digit h =
-    let here : all_ascii_digits (drop i word) ≡ all_ascii_digits (drop (i + 1) word) = at_drop_more all_ascii_digits word i 0 inside ∙ rw digit refl in
-    sym here ∙ h
 
 -- a byte here that is no digit
 pub not_digits_here : (word : List ℕ) (i : ℕ) → i < length word → is_ascii_digit (get_or word i 0) ≡ false → all_ascii_digits (drop i word) ≡ all_ascii_digits word → all_ascii_digits word ≡ false

@@ -11,7 +11,7 @@ use Rattle.indexmap.proofs.MapLemmas.{some_index}
 use Rattle.indexmap.proofs.CallerLemmas.{insert_entry-new}
 use Rattle.ebpf_script.specs.declared.reader.script.ProgramText.{ProgramText}
 use Rattle.ebpf_script.specs.ReadScripts.{named}
-use Rattle.ebpf_script.specs.Said.{number_of}
+use Rattle.ebpf_script.specs.ParsedScript.{number_of}
 
 prefix_len-map : {X Y : Type 0} (p : Y → Bool) (f : X → Y) (xs : List X) → prefix_len p (map f xs) ≡ prefix_len (λ x. p (f x)) xs
 prefix_len-map p f [] = refl

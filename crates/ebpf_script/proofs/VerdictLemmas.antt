@@ -16,7 +16,7 @@ use Rattle.ebpf_script.specs.declared.judge.Judged.TheVariants.{Accepted, Refuse
 use Rattle.ebpf_script.specs.Judging.{IsJudged}
 use Rattle.ebpf_script.proofs.JudgedKinds.{accepted_kinds}
 use Rattle.ebpf_script.specs.declared.verdicts.Verdicts.{Verdicts}
-use Rattle.ebpf_script.specs.Said.{Named}
+use Rattle.ebpf_script.specs.ParsedScript.{Named}
 use Rattle.ebpf_script.specs.Verdicts.{Verdict, verdict_lines, accepted_of, is_any_refused, judged_line, accepted_in, is_refused}
 use Rattle.ebpf_script.specs.VerdictsKept.{AreKept}
 
@@ -46,10 +46,6 @@ kept_next programs left old new v h text accepted refused = record {
     or_false : (b : Bool) → (b || false) ≡ b
     or_false true = refl
     or_false false = refl
-
--- all verdicts
-pub kept_all : (programs : List Named) (kept : Verdicts) → AreKeptBefore programs [] kept → AreKept programs kept
-kept_all programs kept h = record { verdicts = h.verdicts; on = sym (append_nil_of (map (λ (v : Verdict). v.program) h.verdicts)) ∙ h.on; text = h.text; accepted = h.accepted; refused = h.refused }
 
 -- ---- the programs that are accepted were verified with the known kinds
 

@@ -1,4 +1,4 @@
--- What is answered of what is read is told of the input, and written: for every command.
+-- The response to what is read is the response to the input, and written: for every command.
 use Rattle.std.proofs.Common.{◌≡◌, ℕ, ◌<◌, ◌≤◌, Bool, true, false, nat_lt, List, length, take, Option, Some, None, Result, Ok, Err, refl, ◌∙◌, subst, arith}
 use Rattle.std.specs.Prelude.{IfSome, IfOk, IfErr}
 use Rattle.std.specs.Borrow.{Bor}
@@ -9,53 +9,53 @@ use Rattle.ebpf_script.specs.declared.done.Done.{Done}
 use Rattle.ebpf_script.specs.declared.done.EngineFault.{EngineFault}
 use Rattle.ebpf_script.specs.declared.done.EngineFault.TheVariants.{Output}
 use Rattle.ebpf_script.specs.Input.{read_of}
-use Rattle.ebpf_script.specs.Told.{Told}
+use Rattle.ebpf_script.specs.Response.{Response}
 use Rattle.ebpf_script.proofs.Known.{front_of_short}
 
--- what a command tells of an input
-abbrev pub Telling : Type 1
-Telling = List ℕ → Told → Type 0
+-- the responses of a command to an input
+abbrev pub Responding : Type 1
+Responding = List ℕ → Response → Type 0
 
--- of an input that is too long the command tells what it tells of its beginning
-abbrev pub CutsLong : Telling → Type 0
-CutsLong Tells = (input : List ℕ) (told : Told) → 1048577 < length input → Tells (read_of input) told → Tells input told
+-- to an input that is too long the command responds as to its beginning
+abbrev pub CutsLong : Responding → Type 0
+CutsLong Responds = (input : List ℕ) (response : Response) → 1048577 < length input → Responds (read_of input) response → Responds input response
 
 not-lt : (a b : ℕ) → nat_lt a b ≡ false → b ≤ a
 not-lt a b h = grind (arith, common_steps)
 
-pub told_of_read : (Tells : Telling) → CutsLong Tells → (input : List ℕ) (told : Told) → Tells (read_of input) told → Tells input told
-told_of_read Tells cuts input told h = by_length (nat_lt 1048577 (length input)) refl where
-  by_length : (b : Bool) → nat_lt 1048577 (length input) ≡ b → Tells input told
-  by_length true e = cuts input told (ltb-true 1048577 (length input) e) h
-  by_length false e = subst (λ (xs : List ℕ). Tells xs told) (front_of_short 1048577 input (not-lt 1048577 (length input) e)) h
+pub response_of_read : (Responds : Responding) → CutsLong Responds → (input : List ℕ) (response : Response) → Responds (read_of input) response → Responds input response
+response_of_read Responds cuts input response h = by_length (nat_lt 1048577 (length input)) refl where
+  by_length : (b : Bool) → nat_lt 1048577 (length input) ≡ b → Responds input response
+  by_length true e = cuts input response (ltb-true 1048577 (length input) e) h
+  by_length false e = subst (λ (xs : List ℕ). Responds xs response) (front_of_short 1048577 input (not-lt 1048577 (length input) e)) h
 
 -- what was answered of what was read was written
-pub told_by : (Answers : Telling) (input old new : Option (List ℕ)) (bytes seen : List ℕ) (told : Told) → IfSome input (λ all. bytes ≡ read_of all) → seen ≡ bytes → Answers seen told → Appends old new told.text → IfSome input (λ all. (t : Told) × Answers (read_of all) t × (t.done ≡ told.done) × Appends old new t.text)
-told_by Answers None old new bytes seen told read same h k = tt
-told_by Answers (Some all) old new bytes seen told read same h k =
-    (told, subst (λ (xs : List ℕ). Answers xs told) (same ∙ read) h, refl, k)
+pub response_by : (Answers : Responding) (input old new : Option (List ℕ)) (bytes seen : List ℕ) (response : Response) → IfSome input (λ all. bytes ≡ read_of all) → seen ≡ bytes → Answers seen response → Appends old new response.text → IfSome input (λ all. (t : Response) × Answers (read_of all) t × (t.done ≡ response.done) × Appends old new t.text)
+response_by Answers None old new bytes seen response read same h k = tt
+response_by Answers (Some all) old new bytes seen response read same h k =
+    (response, subst (λ (xs : List ℕ). Answers xs response) (same ∙ read) h, refl, k)
 
 -- a beginning of it was written
-pub begun_by : (Answers : Telling) (fault : EngineFault) (input old new : Option (List ℕ)) (bytes seen : List ℕ) (told : Told) → IfSome input (λ all. bytes ≡ read_of all) → seen ≡ bytes → Answers seen told → ((n : ℕ) × (n ≤ length told.text) × Appends old new (take n told.text)) → IfSome input (λ all. fault ≡ Output → (t : Told) × Answers (read_of all) t × ((n : ℕ) × (n ≤ length t.text) × Appends old new (take n t.text)))
-begun_by Answers fault None old new bytes seen told read same h k = tt
-begun_by Answers fault (Some all) old new bytes seen told read same h k =
-    λ _. (told, subst (λ (xs : List ℕ). Answers xs told) (same ∙ read) h, k)
+pub begun_by : (Answers : Responding) (fault : EngineFault) (input old new : Option (List ℕ)) (bytes seen : List ℕ) (response : Response) → IfSome input (λ all. bytes ≡ read_of all) → seen ≡ bytes → Answers seen response → ((n : ℕ) × (n ≤ length response.text) × Appends old new (take n response.text)) → IfSome input (λ all. fault ≡ Output → (t : Response) × Answers (read_of all) t × ((n : ℕ) × (n ≤ length t.text) × Appends old new (take n t.text)))
+begun_by Answers fault None old new bytes seen response read same h k = tt
+begun_by Answers fault (Some all) old new bytes seen response read same h k =
+    λ _. (response, subst (λ (xs : List ℕ). Answers xs response) (same ∙ read) h, k)
 
--- what is told of the bytes that were shown to the answer is told of the input
-pub told_of_shown : (Tells : Telling) → CutsLong Tells → (all : List ℕ) (told : Told) (shown : Bor (List ℕ)) → shown.now ≡ read_of all → Tells shown.now told → Tells all told
-told_of_shown Tells cuts all told shown read h = told_of_read Tells cuts all told (subst (λ (xs : List ℕ). Tells xs told) read h)
+-- the response to the bytes that were shown to the answer is the response to the input
+pub response_of_shown : (Responds : Responding) → CutsLong Responds → (all : List ℕ) (response : Response) (shown : Bor (List ℕ)) → shown.now ≡ read_of all → Responds shown.now response → Responds all response
+response_of_shown Responds cuts all response shown read h = response_of_read Responds cuts all response (subst (λ (xs : List ℕ). Responds xs response) read h)
 
--- where a command tells what was answered, it writes what it tells
-pub told_through : {Answers : Telling} (Tells : Telling) (input old new : Option (List ℕ)) (result : Result Done EngineFault) → IfOk result (λ done. IfSome input (λ all. (t : Told) × Answers all t × (t.done ≡ done) × Appends old new t.text)) → ((all : List ℕ) (t : Told) → Answers all t → Tells all t) → IfOk result (λ done. IfSome input (λ all. (t : Told) × Tells all t × (t.done ≡ done) × Appends old new t.text))
-told_through Tells input old new (Err fault) h tells = tt
-told_through Tells None old new (Ok done) h tells = tt
-told_through Tells (Some all) old new (Ok done) h tells = (h.0, tells all h.0 h.1, h.2, h.3)
+-- where a command responds with what was answered, it writes its response
+pub response_through : {Answers : Responding} (Responds : Responding) (input old new : Option (List ℕ)) (result : Result Done EngineFault) → IfOk result (λ done. IfSome input (λ all. (t : Response) × Answers all t × (t.done ≡ done) × Appends old new t.text)) → ((all : List ℕ) (t : Response) → Answers all t → Responds all t) → IfOk result (λ done. IfSome input (λ all. (t : Response) × Responds all t × (t.done ≡ done) × Appends old new t.text))
+response_through Responds input old new (Err fault) h responds = tt
+response_through Responds None old new (Ok done) h responds = tt
+response_through Responds (Some all) old new (Ok done) h responds = (h.0, responds all h.0 h.1, h.2, h.3)
 
 -- or a beginning of it
-pub begun_through : {Answers : Telling} (Tells : Telling) (input old new : Option (List ℕ)) (result : Result Done EngineFault) → IfErr result (λ fault. IfSome input (λ all. fault ≡ Output → (t : Told) × Answers all t × ((n : ℕ) × (n ≤ length t.text) × Appends old new (take n t.text)))) → ((all : List ℕ) (t : Told) → Answers all t → Tells all t) → IfErr result (λ fault. IfSome input (λ all. fault ≡ Output → (t : Told) × Tells all t × ((n : ℕ) × (n ≤ length t.text) × Appends old new (take n t.text))))
-begun_through Tells input old new (Ok done) h tells = tt
-begun_through Tells None old new (Err fault) h tells = tt
-begun_through Tells (Some all) old new (Err fault) h tells = λ e. let begun = h e in (begun.0, tells all begun.0 begun.1, begun.2)
+pub begun_through : {Answers : Responding} (Responds : Responding) (input old new : Option (List ℕ)) (result : Result Done EngineFault) → IfErr result (λ fault. IfSome input (λ all. fault ≡ Output → (t : Response) × Answers all t × ((n : ℕ) × (n ≤ length t.text) × Appends old new (take n t.text)))) → ((all : List ℕ) (t : Response) → Answers all t → Responds all t) → IfErr result (λ fault. IfSome input (λ all. fault ≡ Output → (t : Response) × Responds all t × ((n : ℕ) × (n ≤ length t.text) × Appends old new (take n t.text))))
+begun_through Responds input old new (Ok done) h responds = tt
+begun_through Responds None old new (Err fault) h responds = tt
+begun_through Responds (Some all) old new (Err fault) h responds = λ e. let begun = h e in (begun.0, responds all begun.0 begun.1, begun.2)
 
 -- what was read is gone from the reader
 pub consumed_by : (input rest : Option (List ℕ)) (bytes : List ℕ) → IfSome input (λ all. bytes ≡ read_of all) → Consumes input rest bytes → IfSome input (λ all. Consumes input rest (read_of all))

@@ -3,13 +3,14 @@ pub mod HexText
 pub mod Codes
 pub mod Judging
 pub mod Lines
-pub mod Told
+pub mod Stops
+pub mod Response
 pub mod ScriptLines
 pub mod Words
 pub mod Numbers
 pub mod Names
 pub mod Shapes
-pub mod Said
+pub mod ParsedScript
 pub mod LineFaults
 pub mod Scripts
 pub mod ReadScripts

@@ -6,7 +6,7 @@ use Rattle.ebpf_script.specs.declared.done.FaultCode.TheVariants.{S2, S3, S4, S5
 use Rattle.ebpf_script.specs.HexText.{hex_or_dash}
 use Rattle.ebpf_script.specs.Names.{is_name}
 use Rattle.ebpf_script.specs.Numbers.{context_of, held_of, run_of, kind_of, slot_of}
-use Rattle.ebpf_script.specs.Said.{Named, number_of, answer_of}
+use Rattle.ebpf_script.specs.ParsedScript.{Named, number_of, answer_of}
 use Rattle.ebpf_script.specs.ScriptLines.{is_text}
 use Rattle.ebpf_script.specs.Shapes.{Shape, Passed, Unknown, ProgramLine, StartLine, ExecLine, AnsweredLine, GrowLine, ReapLine, shape_of}
 use Rattle.ebpf_script.specs.Words.{words}

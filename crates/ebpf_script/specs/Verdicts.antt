@@ -1,4 +1,4 @@
--- The verdicts on the programs of a script, and the lines that tell them.
+-- The verdicts on the programs of a script, and their lines.
 use Rattle.std.specs.Prelude.{◌≡◌, ℕ, ◌++◌, Bool, true, false, List, [], ◌∷◌, length, map, codes, decimal}
 use Rattle.std.specs.List.{flat_map, list_any}
 use Rattle.ebpf_insn.specs.Program.{instructions}
@@ -10,7 +10,7 @@ use Rattle.ebpf_script.specs.declared.judge.Judged.{Judged}
 use Rattle.ebpf_script.specs.declared.judge.Judged.TheVariants.{Accepted, Refused}
 use Rattle.ebpf_script.specs.Codes.{refusal_name}
 use Rattle.ebpf_script.specs.Judging.{IsJudged}
-use Rattle.ebpf_script.specs.Said.{Named}
+use Rattle.ebpf_script.specs.ParsedScript.{Named}
 
 -- what a program of a script is judged to be, with what it declares and the kinds that there are
 pub record Verdict : Type 0 where

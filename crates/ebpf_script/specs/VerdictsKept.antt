@@ -1,7 +1,7 @@
 -- The verdicts that are kept.
 use Rattle.std.specs.Prelude.{◌≡◌, List, string_bytes}
 use Rattle.ebpf_script.specs.declared.verdicts.Verdicts.{Verdicts}
-use Rattle.ebpf_script.specs.Said.{Named}
+use Rattle.ebpf_script.specs.ParsedScript.{Named}
 use Rattle.ebpf_script.specs.Verdicts.{Verdict, AreOn, verdict_lines, accepted_of, is_any_refused}
 
 -- they are verdicts on these programs: their lines, the programs that are accepted, and whether one is refused

@@ -5,7 +5,7 @@ ghost use Rattle.std.specs.Fn.{FnOnceReturnsAt};
 ghost use Rattle.std.specs.Io.KnownBytes.{Appends, Consumes};
 ghost use Rattle.ebpf_script.specs.declared.done.EngineFault.TheVariants.{Output};
 ghost use Rattle.ebpf_script.specs.Input.{read_of};
-ghost use Rattle.ebpf_script.specs.Told.{Told};
+ghost use Rattle.ebpf_script.specs.Response.{Response};
 
 use crate::done::{Done, EngineFault};
 use crate::input::read_input;
@@ -23,9 +23,9 @@ pub struct Answer {
 
 impl Model for Answer {
     ghost use Rattle.std.specs.Prelude.{string_bytes};
-    ghost use Rattle.ebpf_script.specs.Told.{Told};
+    ghost use Rattle.ebpf_script.specs.Response.{Response};
 
-    ghost Value = { Told };
+    ghost Value = { Response };
 
     ghost view = { λ a. record { text = string_bytes a.text; done = a.done } };
 }
@@ -44,11 +44,11 @@ pub fn respond<R: Read, W: Write, F: FnOnce(&[u8]) -> Result<Answer, AllocError>
 ) -> Result<Done, EngineFault>
     requires { F.IsAlwaysCallable answer }
     // The text of the input's answer is written, and nothing else.
-    ensures told { IfOk result (λ done. IfSome (R.remaining reader.old) (λ input. (told : Told) × FnOnceReturnsAt F.FnOnce answer (read_of input) (Ok told) × (told.done ≡ done) × Appends (W.contents writer.old) (W.contents writer.new) told.text)) }
+    ensures response { IfOk result (λ done. IfSome (R.remaining reader.old) (λ input. (response : Response) × FnOnceReturnsAt F.FnOnce answer (read_of input) (Ok response) × (response.done ≡ done) × Appends (W.contents writer.old) (W.contents writer.new) response.text)) }
     // What was read is gone from the reader, and nothing behind it.
     ensures consumed { IfOk result (λ done. IfSome (R.remaining reader.old) (λ input. Consumes (R.remaining reader.old) (R.remaining reader.new) (read_of input))) }
     ensures untouched { IfErr result (λ fault. fault ≢ Output → writer.new ≡ writer.old) }
-    ensures beginning { IfErr result (λ fault. IfSome (R.remaining reader.old) (λ input. fault ≡ Output → (told : Told) × FnOnceReturnsAt F.FnOnce answer (read_of input) (Ok told) × ((n : ℕ) × (n ≤ length told.text) × Appends (W.contents writer.old) (W.contents writer.new) (take n told.text)))) }
+    ensures beginning { IfErr result (λ fault. IfSome (R.remaining reader.old) (λ input. fault ≡ Output → (response : Response) × FnOnceReturnsAt F.FnOnce answer (read_of input) (Ok response) × ((n : ℕ) × (n ≤ length response.text) × Appends (W.contents writer.old) (W.contents writer.new) (take n response.text)))) }
 {
     let input = read_input(alloc, reader)?;
     let answer = answer(&input)?;

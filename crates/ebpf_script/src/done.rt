@@ -52,6 +52,15 @@ pub enum FaultCode {
     S9,
 }
 
+/// Why an input, an option or a line of a script is not read.
+#[derive(Clone, Copy)]
+pub enum Stop {
+    /// It can't be used.
+    Fault(FaultCode),
+    /// An allocation failed.
+    NoMemory,
+}
+
 impl FaultCode {
     // The code as it is written.
     pub(crate) fn name(self) -> &'static str
@@ -88,5 +97,25 @@ impl From<AllocError> for EngineFault {
 
     fn from(_e: AllocError) -> EngineFault {
         EngineFault::NoMemory
+    }
+}
+
+impl From<AllocError> for Stop {
+    ghost use Rattle.ebpf_script.specs.declared.done.Stop.TheVariants.{NoMemory};
+
+    ghost from_gives = { λ _ e. e ≡ NoMemory };
+
+    fn from(_e: AllocError) -> Stop {
+        Stop::NoMemory
+    }
+}
+
+impl<T: Drop> From<AllocFailed<T>> for Stop {
+    ghost use Rattle.ebpf_script.specs.declared.done.Stop.TheVariants.{NoMemory};
+
+    ghost from_gives = { λ _ e. e ≡ NoMemory };
+
+    fn from(_e: AllocFailed<T>) -> Stop {
+        Stop::NoMemory
     }
 }

@@ -1,7 +1,7 @@
 //! What the commands over scripts share with one another and with the command `one`: hex, the verdict on the bytes of a
-//! program, the text that is told, and how an input is answered.
+//! program, the text that is written, and how an input is answered.
 //!
-//! A command tells a whole text or a beginning of it, and writes nothing else. So each command is a function from what is
+//! A command writes a whole text or a beginning of it, and writes nothing else. So each command is a function from what is
 //! read to an [`answer::Answer`], and [`answer::respond`] reads and writes around it.
 //!
 //! To be read in this order: `done`, `input`, `hex_text`, `codes`, `judge`, `text`, `output`, `answer`.

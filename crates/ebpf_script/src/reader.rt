@@ -3,8 +3,8 @@
 //! To be read in this order: `words`, `numbers`, `names`, `script`, `statement`, `line`.
 
 ghost use Rattle.std.specs.Prelude.{◌≡◌, IfOk, IfErr};
-ghost use Rattle.ebpf_script.specs.ReadScripts.{said_by, IsScriptStop};
-ghost use Rattle.ebpf_script.specs.Scripts.{script_of};
+ghost use Rattle.ebpf_script.specs.ReadScripts.{parsed_script, IsScriptStop};
+ghost use Rattle.ebpf_script.specs.Scripts.{parsed_text};
 
 mod line;
 mod names;
@@ -19,14 +19,14 @@ use crate::reader::script::{Script, ScriptFault, ScriptStop};
 use indexmap::IndexMap;
 use std::alloc::Global;
 
-/// The script that a text says.
+/// The script that a text is parsed to.
 ///
 /// # Errors
 /// `Fault` with the lowest line that has a fault, and its first code; `NoMemory` where an allocation failed.
-#[tactic(auto, unfolding(crate::specs::Scripts::script_of))]
+#[tactic(auto, unfolding(crate::specs::Scripts::parsed_text))]
 pub fn read_script(alloc: Global, text: &[u8]) -> Result<Script, ScriptStop>
-    ensures said { IfOk result (λ script. script_of text.now ≡ Ok (said_by script)) }
-    ensures refused { IfErr result (IsScriptStop (script_of text.now)) }
+    ensures parsed { IfOk result (λ script. parsed_text text.now ≡ Ok (parsed_script script)) }
+    ensures refused { IfErr result (IsScriptStop (parsed_text text.now)) }
 {
     if text.len() > 1_048_576 {
         return Err(ScriptStop::Fault(ScriptFault {

@@ -5,10 +5,10 @@ ghost use Rattle.std.specs.Io.KnownBytes.{Appends, Consumes};
 ghost use Rattle.ebpf_core.specs.Replay.{world_after};
 ghost use Rattle.ebpf_core.specs.Shown.{AreKnown};
 ghost use Rattle.ebpf_script.specs.declared.done.EngineFault.TheVariants.{Output};
-ghost use Rattle.ebpf_script.specs.ReadScripts.{said_by};
-ghost use Rattle.ebpf_script.specs.ReplayText.{TellsReplay, TellsSaid, world_told};
+ghost use Rattle.ebpf_script.specs.ReadScripts.{parsed_script};
+ghost use Rattle.ebpf_script.specs.ReplayText.{RespondsReplay, RespondsParsed, world_response};
 ghost use Rattle.ebpf_script.specs.Input.{read_of};
-ghost use Rattle.ebpf_script.specs.Told.{Told};
+ghost use Rattle.ebpf_script.specs.Response.{Response};
 
 use crate::answer::{Answer, respond};
 use crate::codes::apply_name;
@@ -36,18 +36,18 @@ pub fn replay<R: Read, W: Write>(
     writer: &mut W,
 ) -> Result<Done, EngineFault>
     // The text of the input is written, and nothing else.
-    ensures told { IfOk result (λ done. IfSome (R.remaining reader.old) (λ input. (told : Told) × TellsReplay input told × (told.done ≡ done) × Appends (W.contents writer.old) (W.contents writer.new) told.text)) }
+    ensures response { IfOk result (λ done. IfSome (R.remaining reader.old) (λ input. (response : Response) × RespondsReplay input response × (response.done ≡ done) × Appends (W.contents writer.old) (W.contents writer.new) response.text)) }
     // What was read is gone from the reader, and nothing behind it.
     ensures consumed { IfOk result (λ done. IfSome (R.remaining reader.old) (λ input. Consumes (R.remaining reader.old) (R.remaining reader.new) (read_of input))) }
     ensures untouched { IfErr result (λ fault. fault ≢ Output → writer.new ≡ writer.old) }
-    ensures beginning { IfErr result (λ fault. IfSome (R.remaining reader.old) (λ input. fault ≡ Output → (told : Told) × TellsReplay input told × ((n : ℕ) × (n ≤ length told.text) × Appends (W.contents writer.old) (W.contents writer.new) (take n told.text)))) }
+    ensures beginning { IfErr result (λ fault. IfSome (R.remaining reader.old) (λ input. fault ≡ Output → (response : Response) × RespondsReplay input response × ((n : ℕ) × (n ≤ length response.text) × Appends (W.contents writer.old) (W.contents writer.new) (take n response.text)))) }
 {
     respond(alloc, reader, writer, |input| answer_text(alloc, input))
 }
 
-// What is told of a text.
+// The response to a text.
 fn answer_text(alloc: Global, text: &[u8]) -> Result<Answer, AllocError>
-    ensures { IfOk result (TellsReplay text.now) }
+    ensures { IfOk result (RespondsReplay text.now) }
 {
     match read_script(alloc, text) {
         Ok(script) => answer_script(alloc, &script),
@@ -62,9 +62,9 @@ fn answer_text(alloc: Global, text: &[u8]) -> Result<Answer, AllocError>
     }
 }
 
-// What is told of a script.
+// The response to a script.
 fn answer_script(alloc: Global, script: &Script) -> Result<Answer, AllocError>
-    ensures { IfOk result (TellsSaid (Ok (said_by script.now))) }
+    ensures { IfOk result (RespondsParsed (Ok (parsed_script script.now))) }
 {
     let verdicts = verdicts_on(alloc, &script.programs)?;
     if verdicts.refused {
@@ -76,7 +76,7 @@ fn answer_script(alloc: Global, script: &Script) -> Result<Answer, AllocError>
     answer_events(alloc, verdicts.text, &verdicts.accepted, &script.events)
 }
 
-// What is told of the events, behind the verdicts.
+// The response to the events, behind the verdicts.
 fn answer_events(
     alloc: Global,
     text: String,
@@ -84,7 +84,7 @@ fn answer_events(
     events: &[Event],
 ) -> Result<Answer, AllocError>
     requires { AreKnown programs.now }
-    ensures { IfOk result (λ answer. answer ≡ world_told (string_bytes text) (world_after programs.now events.now)) }
+    ensures { IfOk result (λ answer. answer ≡ world_response (string_bytes text) (world_after programs.now events.now)) }
 {
     let mut text = text;
     match replay_events(alloc, programs, events) {

@@ -12,7 +12,7 @@ use ebpf_verify::verified::Verified;
 use indexmap::IndexMap;
 use std::alloc::{AllocError, Global};
 
-/// The verdicts on the programs of a script: the lines that tell them, the programs that are accepted, and whether one is
+/// The verdicts on the programs of a script: their lines, the programs that are accepted, and whether one is
 /// refused.
 #[derive(Drop)]
 pub struct Verdicts {

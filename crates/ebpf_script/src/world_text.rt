@@ -1,4 +1,4 @@
-//! The lines that tell a world.
+//! The lines of a world.
 
 ghost use Rattle.std.specs.Prelude.{◌≡◌, ◌++◌, string_bytes, length, slice_get, IfOk, OnOk};
 ghost use Rattle.std.specs.List.{flat_map};
@@ -8,7 +8,7 @@ ghost use Rattle.ebpf_script.specs.WorldLines.{run_emit_line, run_lines, runs_be
 use ebpf_core::world::{Status, World};
 use std::alloc::{AllocError, Global};
 
-/// Tells a world behind a text: each run in order, and then the slots of each kind. It fails only where an allocation
+/// Writes a world behind a text: each run in order, and then the slots of each kind. It fails only where an allocation
 /// fails.
 pub(crate) fn write_world(text: &mut String, world: &World<'_>) -> Result<(), AllocError>
     ensures { OnOk result (OfWorld world.now (λ w. string_bytes text.new ≡ string_bytes text.old ++ world_lines w)) }
@@ -19,7 +19,7 @@ pub(crate) fn write_world(text: &mut String, world: &World<'_>) -> Result<(), Al
     write_kind(text, world, 2)
 }
 
-// Tells the runs.
+// Writes the runs.
 fn write_runs(text: &mut String, world: &World<'_>) -> Result<(), AllocError>
     ensures { OnOk result (OfWorld world.now (λ w. string_bytes text.new ≡ string_bytes text.old ++ runs_below (length w.runs) w)) }
 {
@@ -29,7 +29,7 @@ fn write_runs(text: &mut String, world: &World<'_>) -> Result<(), AllocError>
     Ok(())
 }
 
-// Tells a run: what it added to its output, and how far it is.
+// Writes a run: what it added to its output, and how far it is.
 fn write_run(text: &mut String, world: &World<'_>, run: usize) -> Result<(), AllocError>
     ensures { OnOk result (OfWorld world.now (λ w. string_bytes text.new ≡ string_bytes text.old ++ run_lines w run)) }
 {
@@ -47,7 +47,7 @@ fn write_run(text: &mut String, world: &World<'_>, run: usize) -> Result<(), All
     }
 }
 
-// Tells the output of a run.
+// Writes the output of a run.
 fn write_output(text: &mut String, run: usize, output: &[u64]) -> Result<(), AllocError>
     ensures { OnOk result (string_bytes text.new ≡ string_bytes text.old ++ flat_map (run_emit_line run) output.now) }
 {
@@ -57,7 +57,7 @@ fn write_output(text: &mut String, run: usize, output: &[u64]) -> Result<(), All
     Ok(())
 }
 
-// Tells the slots of a kind.
+// Writes the slots of a kind.
 fn write_kind(text: &mut String, world: &World<'_>, kind: u8) -> Result<(), AllocError>
     ensures { OnOk result (OfWorld world.now (λ w. string_bytes text.new ≡ string_bytes text.old ++ kind_line w kind)) }
 {

@@ -2,36 +2,37 @@
 
 ghost use Rattle.std.specs.Prelude.{◌≡◌, [], ◌∷◌, IfErr, OnOk, map};
 ghost use Rattle.ebpf_script.specs.LineFaults.{shape_fault, line_fault};
-ghost use Rattle.ebpf_script.specs.ReadScripts.{said_by, Adds, IsLineStop};
+ghost use Rattle.ebpf_script.specs.ReadScripts.{parsed_script, Adds};
+ghost use Rattle.ebpf_script.specs.Stops.{IsStop};
 ghost use Rattle.ebpf_script.specs.Shapes.{is_comment, replay_shape, shape_of};
 ghost use Rattle.ebpf_script.specs.Words.{words};
 
-use crate::done::FaultCode;
-use crate::reader::script::{LineStop, Script};
+use crate::done::{FaultCode, Stop};
+use crate::reader::script::Script;
 use crate::reader::statement::{
     read_answered, read_exec, read_grow, read_program, read_reap, read_start,
 };
 use crate::reader::words::{is_text, line_words};
 use std::alloc::Global;
 
-/// Reads a line behind those that the script has. Where it stops, nothing is said of the script.
+/// Reads a line behind those that the script has. Where it stops, nothing is promised of the script.
 #[tactic(auto, unfolding(crate::specs::LineFaults::line_fault))]
-pub(crate) fn read_line(alloc: Global, script: &mut Script, line: &[u8]) -> Result<(), LineStop>
-    ensures fine { OnOk result (line_fault (said_by script.old).programs line.now ≡ None) }
+pub(crate) fn read_line(alloc: Global, script: &mut Script, line: &[u8]) -> Result<(), Stop>
+    ensures fine { OnOk result (line_fault (parsed_script script.old).programs line.now ≡ None) }
     ensures ok { OnOk result (Adds (shape_of (words line.now)) script.old script.new) }
-    ensures refused { IfErr result (IsLineStop (line_fault (said_by script.old).programs line.now)) }
+    ensures refused { IfErr result (IsStop (line_fault (parsed_script script.old).programs line.now)) }
 {
     if !is_text(line) {
-        return Err(LineStop::Fault(FaultCode::S2));
+        return Err(Stop::Fault(FaultCode::S2));
     }
     let words = line_words(alloc, line)?;
     read_words(alloc, script, &words)
 }
 
 // Reads the words of a line.
-fn read_words(alloc: Global, script: &mut Script, words: &[&[u8]]) -> Result<(), LineStop>
+fn read_words(alloc: Global, script: &mut Script, words: &[&[u8]]) -> Result<(), Stop>
     ensures ok { OnOk result (Adds (shape_of (map (λ w. w.now) words.now)) script.old script.new) }
-    ensures refused { IfErr result (IsLineStop (shape_fault (said_by script.old).programs (shape_of (map (λ w. w.now) words.now)))) }
+    ensures refused { IfErr result (IsStop (shape_fault (parsed_script script.old).programs (shape_of (map (λ w. w.now) words.now)))) }
 {
     let Some((first, rest)) = words.split_first() else {
         return Ok(());
@@ -43,7 +44,7 @@ fn read_words(alloc: Global, script: &mut Script, words: &[&[u8]]) -> Result<(),
         [a] => read_two(script, first, a),
         [a, b] => read_three(alloc, script, first, a, b),
         [a, b, c, d] => read_five(alloc, script, first, a, b, c, d),
-        _ => Err(LineStop::Fault(FaultCode::S3)),
+        _ => Err(Stop::Fault(FaultCode::S3)),
     }
 }
 
@@ -58,14 +59,14 @@ fn is_comment(word: &[u8]) -> bool
 }
 
 // Reads a line of two words.
-fn read_two(script: &mut Script, first: &[u8], a: &[u8]) -> Result<(), LineStop>
+fn read_two(script: &mut Script, first: &[u8], a: &[u8]) -> Result<(), Stop>
     ensures ok { OnOk result (Adds (replay_shape first.now (a.now ∷ [])) script.old script.new) }
-    ensures refused { IfErr result (IsLineStop (shape_fault (said_by script.old).programs (replay_shape first.now (a.now ∷ [])))) }
+    ensures refused { IfErr result (IsStop (shape_fault (parsed_script script.old).programs (replay_shape first.now (a.now ∷ [])))) }
 {
     if first == b"exec".as_slice() {
         read_exec(script, a)
     } else {
-        Err(LineStop::Fault(FaultCode::S3))
+        Err(Stop::Fault(FaultCode::S3))
     }
 }
 
@@ -76,9 +77,9 @@ fn read_three(
     first: &[u8],
     a: &[u8],
     b: &[u8],
-) -> Result<(), LineStop>
+) -> Result<(), Stop>
     ensures ok { OnOk result (Adds (replay_shape first.now (a.now ∷ b.now ∷ [])) script.old script.new) }
-    ensures refused { IfErr result (IsLineStop (shape_fault (said_by script.old).programs (replay_shape first.now (a.now ∷ b.now ∷ [])))) }
+    ensures refused { IfErr result (IsStop (shape_fault (parsed_script script.old).programs (replay_shape first.now (a.now ∷ b.now ∷ [])))) }
 {
     if first == b"start".as_slice() {
         read_start(alloc, script, a, b)
@@ -89,7 +90,7 @@ fn read_three(
     } else if first == b"reap".as_slice() {
         read_reap(script, a, b)
     } else {
-        Err(LineStop::Fault(FaultCode::S3))
+        Err(Stop::Fault(FaultCode::S3))
     }
 }
 
@@ -102,13 +103,13 @@ fn read_five(
     b: &[u8],
     c: &[u8],
     d: &[u8],
-) -> Result<(), LineStop>
+) -> Result<(), Stop>
     ensures ok { OnOk result (Adds (replay_shape first.now (a.now ∷ b.now ∷ c.now ∷ d.now ∷ [])) script.old script.new) }
-    ensures refused { IfErr result (IsLineStop (shape_fault (said_by script.old).programs (replay_shape first.now (a.now ∷ b.now ∷ c.now ∷ d.now ∷ [])))) }
+    ensures refused { IfErr result (IsStop (shape_fault (parsed_script script.old).programs (replay_shape first.now (a.now ∷ b.now ∷ c.now ∷ d.now ∷ [])))) }
 {
     if first == b"program".as_slice() {
         read_program(alloc, script, a, b, c, d)
     } else {
-        Err(LineStop::Fault(FaultCode::S3))
+        Err(Stop::Fault(FaultCode::S3))
     }
 }

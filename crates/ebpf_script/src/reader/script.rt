@@ -2,11 +2,10 @@
 
 ghost use Rattle.std.specs.Prelude.{◌≡◌};
 
-use crate::done::FaultCode;
+use crate::done::{FaultCode, Stop};
 use ebpf_core::event::Event;
 use ebpf_verify::decl::Decl;
 use indexmap::IndexMap;
-use std::alloc::{AllocError, AllocFailed};
 
 /// A program of a script: what its hex says, and what it declares.
 #[derive(Drop)]
@@ -37,15 +36,7 @@ pub enum ScriptStop {
     NoMemory,
 }
 
-/// Why a line is not read.
-#[derive(Clone, Copy)]
-pub enum LineStop {
-    /// The line can't be used.
-    Fault(FaultCode),
-    NoMemory,
-}
-
-impl LineStop {
+impl Stop {
     ghost use Rattle.ebpf_script.specs.ReadScripts.{stop_at};
 
     /// The stop of a script at this line.
@@ -53,28 +44,8 @@ impl LineStop {
         ensures { result ≡ stop_at self line }
     {
         match self {
-            LineStop::Fault(code) => ScriptStop::Fault(ScriptFault { code, line }),
-            LineStop::NoMemory => ScriptStop::NoMemory,
+            Stop::Fault(code) => ScriptStop::Fault(ScriptFault { code, line }),
+            Stop::NoMemory => ScriptStop::NoMemory,
         }
-    }
-}
-
-impl From<AllocError> for LineStop {
-    ghost use Rattle.ebpf_script.specs.declared.reader.script.LineStop.TheVariants.{NoMemory};
-
-    ghost from_gives = { λ _ e. e ≡ NoMemory };
-
-    fn from(_e: AllocError) -> LineStop {
-        LineStop::NoMemory
-    }
-}
-
-impl<T: Drop> From<AllocFailed<T>> for LineStop {
-    ghost use Rattle.ebpf_script.specs.declared.reader.script.LineStop.TheVariants.{NoMemory};
-
-    ghost from_gives = { λ _ e. e ≡ NoMemory };
-
-    fn from(_e: AllocFailed<T>) -> LineStop {
-        LineStop::NoMemory
     }
 }

@@ -2,15 +2,16 @@
 
 ghost use Rattle.std.specs.Prelude.{◌≡◌, IfErr, OnOk};
 ghost use Rattle.ebpf_script.specs.LineFaults.{shape_fault};
-ghost use Rattle.ebpf_script.specs.ReadScripts.{said_by, Adds, IsLineStop};
-ghost use Rattle.ebpf_script.specs.Said.{answer_of};
+ghost use Rattle.ebpf_script.specs.ReadScripts.{parsed_script, Adds};
+ghost use Rattle.ebpf_script.specs.Stops.{IsStop};
+ghost use Rattle.ebpf_script.specs.ParsedScript.{answer_of};
 ghost use Rattle.ebpf_script.specs.Shapes.{ProgramLine, StartLine, ExecLine, AnsweredLine, GrowLine, ReapLine};
 
-use crate::done::FaultCode;
+use crate::done::{FaultCode, Stop};
 use crate::hex_text::hex_or_dash;
 use crate::reader::names::name_of;
 use crate::reader::numbers::{context_of, held_of, kind_of, run_of, slot_of};
-use crate::reader::script::{LineStop, ProgramText, Script};
+use crate::reader::script::{ProgramText, Script};
 use ebpf_core::event::{Answer, Context, Event};
 use ebpf_verify::decl::Decl;
 use std::alloc::Global;
@@ -23,24 +24,24 @@ pub(crate) fn read_program(
     context: &[u8],
     held: &[u8],
     hex: &[u8],
-) -> Result<(), LineStop>
+) -> Result<(), Stop>
     ensures ok { OnOk result (Adds (ProgramLine name.now context.now held.now hex.now) script.old script.new) }
-    ensures refused { IfErr result (IsLineStop (shape_fault (said_by script.old).programs (ProgramLine name.now context.now held.now hex.now))) }
+    ensures refused { IfErr result (IsStop (shape_fault (parsed_script script.old).programs (ProgramLine name.now context.now held.now hex.now))) }
 {
     let Some(context) = context_of(context) else {
-        return Err(LineStop::Fault(FaultCode::S4));
+        return Err(Stop::Fault(FaultCode::S4));
     };
     let Some(held) = held_of(held) else {
-        return Err(LineStop::Fault(FaultCode::S4));
+        return Err(Stop::Fault(FaultCode::S4));
     };
     let Some(bytes) = hex_or_dash(alloc, hex)? else {
-        return Err(LineStop::Fault(FaultCode::S5));
+        return Err(Stop::Fault(FaultCode::S5));
     };
     let Some(name) = name_of(name) else {
-        return Err(LineStop::Fault(FaultCode::S6));
+        return Err(Stop::Fault(FaultCode::S6));
     };
     if script.programs.contains_key(name) {
-        return Err(LineStop::Fault(FaultCode::S6));
+        return Err(Stop::Fault(FaultCode::S6));
     }
     let decl = Decl::new(context, held).unwrap();
     let name = String::from_str(alloc, name)?;
@@ -54,18 +55,18 @@ pub(crate) fn read_start(
     script: &mut Script,
     name: &[u8],
     hex: &[u8],
-) -> Result<(), LineStop>
+) -> Result<(), Stop>
     ensures ok { OnOk result (Adds (StartLine name.now hex.now) script.old script.new) }
-    ensures refused { IfErr result (IsLineStop (shape_fault (said_by script.old).programs (StartLine name.now hex.now))) }
+    ensures refused { IfErr result (IsStop (shape_fault (parsed_script script.old).programs (StartLine name.now hex.now))) }
 {
     let Some(bytes) = hex_or_dash(alloc, hex)? else {
-        return Err(LineStop::Fault(FaultCode::S5));
+        return Err(Stop::Fault(FaultCode::S5));
     };
     let Some(name) = name_of(name) else {
-        return Err(LineStop::Fault(FaultCode::S6));
+        return Err(Stop::Fault(FaultCode::S6));
     };
     let Some(program) = script.programs.get_index_of(name) else {
-        return Err(LineStop::Fault(FaultCode::S7));
+        return Err(Stop::Fault(FaultCode::S7));
     };
     let context = Context { bytes };
     script.events.push(Event::Start { program, context })?;
@@ -73,12 +74,12 @@ pub(crate) fn read_start(
 }
 
 /// Reads `exec RUN`.
-pub(crate) fn read_exec(script: &mut Script, run: &[u8]) -> Result<(), LineStop>
+pub(crate) fn read_exec(script: &mut Script, run: &[u8]) -> Result<(), Stop>
     ensures ok { OnOk result (Adds (ExecLine run.now) script.old script.new) }
-    ensures refused { IfErr result (IsLineStop (shape_fault (said_by script.old).programs (ExecLine run.now))) }
+    ensures refused { IfErr result (IsStop (shape_fault (parsed_script script.old).programs (ExecLine run.now))) }
 {
     let Some(run) = run_of(run) else {
-        return Err(LineStop::Fault(FaultCode::S4));
+        return Err(Stop::Fault(FaultCode::S4));
     };
     script.events.push(Event::Exec {
         run,
@@ -88,22 +89,22 @@ pub(crate) fn read_exec(script: &mut Script, run: &[u8]) -> Result<(), LineStop>
 }
 
 /// Reads `exec RUN null` and `exec RUN SLOT`.
-pub(crate) fn read_answered(script: &mut Script, run: &[u8], answer: &[u8]) -> Result<(), LineStop>
+pub(crate) fn read_answered(script: &mut Script, run: &[u8], answer: &[u8]) -> Result<(), Stop>
     ensures ok { OnOk result (Adds (AnsweredLine run.now answer.now) script.old script.new) }
-    ensures refused { IfErr result (IsLineStop (shape_fault (said_by script.old).programs (AnsweredLine run.now answer.now))) }
+    ensures refused { IfErr result (IsStop (shape_fault (parsed_script script.old).programs (AnsweredLine run.now answer.now))) }
 {
     let Some(run) = run_of(run) else {
-        return Err(LineStop::Fault(FaultCode::S4));
+        return Err(Stop::Fault(FaultCode::S4));
     };
     let Some(answer) = answer_of(answer) else {
-        return Err(LineStop::Fault(FaultCode::S4));
+        return Err(Stop::Fault(FaultCode::S4));
     };
     script.events.push(Event::Exec { run, answer })?;
     Ok(())
 }
 
 // The answer that a word gives: `null`, or a slot.
-#[tactic(auto, unfolding(crate::specs::Said::answer_of))]
+#[tactic(auto, unfolding(crate::specs::ParsedScript::answer_of))]
 fn answer_of(word: &[u8]) -> Option<Answer>
     ensures { result ≡ answer_of word.now }
 {
@@ -115,30 +116,30 @@ fn answer_of(word: &[u8]) -> Option<Answer>
 }
 
 /// Reads `grow KIND SLOT`.
-pub(crate) fn read_grow(script: &mut Script, kind: &[u8], slot: &[u8]) -> Result<(), LineStop>
+pub(crate) fn read_grow(script: &mut Script, kind: &[u8], slot: &[u8]) -> Result<(), Stop>
     ensures ok { OnOk result (Adds (GrowLine kind.now slot.now) script.old script.new) }
-    ensures refused { IfErr result (IsLineStop (shape_fault (said_by script.old).programs (GrowLine kind.now slot.now))) }
+    ensures refused { IfErr result (IsStop (shape_fault (parsed_script script.old).programs (GrowLine kind.now slot.now))) }
 {
     let Some(kind) = kind_of(kind) else {
-        return Err(LineStop::Fault(FaultCode::S4));
+        return Err(Stop::Fault(FaultCode::S4));
     };
     let Some(slot) = slot_of(slot) else {
-        return Err(LineStop::Fault(FaultCode::S4));
+        return Err(Stop::Fault(FaultCode::S4));
     };
     script.events.push(Event::Grow { kind, slot })?;
     Ok(())
 }
 
 /// Reads `reap KIND SLOT`.
-pub(crate) fn read_reap(script: &mut Script, kind: &[u8], slot: &[u8]) -> Result<(), LineStop>
+pub(crate) fn read_reap(script: &mut Script, kind: &[u8], slot: &[u8]) -> Result<(), Stop>
     ensures ok { OnOk result (Adds (ReapLine kind.now slot.now) script.old script.new) }
-    ensures refused { IfErr result (IsLineStop (shape_fault (said_by script.old).programs (ReapLine kind.now slot.now))) }
+    ensures refused { IfErr result (IsStop (shape_fault (parsed_script script.old).programs (ReapLine kind.now slot.now))) }
 {
     let Some(kind) = kind_of(kind) else {
-        return Err(LineStop::Fault(FaultCode::S4));
+        return Err(Stop::Fault(FaultCode::S4));
     };
     let Some(slot) = slot_of(slot) else {
-        return Err(LineStop::Fault(FaultCode::S4));
+        return Err(Stop::Fault(FaultCode::S4));
     };
     script.events.push(Event::Reap { kind, slot })?;
     Ok(())

@@ -1,5 +1,5 @@
 use Rattle.std.proofs.Common.{List, map, refl, ap, subst}
-use Rattle.ebpf_script.specs.Said.{Named}
+use Rattle.ebpf_script.specs.ParsedScript.{Named}
 use Rattle.ebpf_script.specs.ReadScripts.{named}
 use Rattle.ebpf_script.specs.Verdicts.{Verdict}
 use Rattle.ebpf_script.proofs.VerdictLemmas.{AreKeptBefore, kept_next}

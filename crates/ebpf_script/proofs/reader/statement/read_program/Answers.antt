@@ -3,7 +3,7 @@ use Rattle.ebpf_script.specs.HexText.{hex_or_dash}
 use Rattle.ebpf_script.specs.Names.{is_name}
 use Rattle.ebpf_script.specs.Numbers.{context_of, held_of}
 use Rattle.ebpf_script.specs.ReadScripts.{named}
-use Rattle.ebpf_script.specs.Said.{number_of}
+use Rattle.ebpf_script.specs.ParsedScript.{number_of}
 use Rattle.ebpf_script.proofs.ScriptLemmas.{is_defined-test, entries-more}
 use Rattle.ebpf_script.proofs.reader.statement.read_program.Goals as goal
 
@@ -26,4 +26,4 @@ returns-clause-ok c =
     let once : is_some (number_of (map named c.args.script.now.programs.entries) c.args.name.now) ≡ false = is_defined-test _ _ c.args.name.now _ c.in-Some-name_of.ensures.same c.contains_key.ensures ∙ c.if-contains_key.false in
     let more = entries-more c.args.script.now.programs c.in_ok-name.name _ c.in-Some-name_of.name.now c.insert.new.self.entries c.in_ok-name.ensures.ok (sym c.if-contains_key.false ∙ c.contains_key.ensures) c.in_ok-insert.ensures.entries in
     let declared = rw c.unwrap-decl.ensures at c.new.ensures.value in
-    record { fine = rw (context, held, bytes, allowed, once) refl; said = rw (bytes, context, held, more, c.in_ok-name.ensures.ok, c.in-Some-name_of.ensures.same, declared.0, declared.1) refl }
+    record { fine = rw (context, held, bytes, allowed, once) refl; parsed = rw (bytes, context, held, more, c.in_ok-name.ensures.ok, c.in-Some-name_of.ensures.same, declared.0, declared.1) refl }

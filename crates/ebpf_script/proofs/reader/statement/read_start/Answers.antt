@@ -2,7 +2,7 @@ use Rattle.std.proofs.Common.{◌≡◌, map, true, Some, None, refl, sym, ◌�
 use Rattle.ebpf_script.specs.HexText.{hex_or_dash}
 use Rattle.ebpf_script.specs.Names.{is_name}
 use Rattle.ebpf_script.specs.ReadScripts.{named}
-use Rattle.ebpf_script.specs.Said.{number_of}
+use Rattle.ebpf_script.specs.ParsedScript.{number_of}
 use Rattle.ebpf_script.proofs.ScriptLemmas.{number_of-index}
 use Rattle.ebpf_script.proofs.reader.statement.read_start.Goals as goal
 
@@ -19,4 +19,4 @@ returns-clause-ok c =
     let bytes : hex_or_dash c.args.hex.now ≡ Some c.in-Some.bytes.items = sym (rw c.in-Some.is at c.in_ok-bytes.ensures) in
     let allowed : is_name c.args.name.now ≡ true = sym c.in-Some-name_of.ensures.allowed in
     let number : number_of (map named c.args.script.now.programs.entries) c.args.name.now ≡ Some c.in-Some-get_index_of.program = number_of-index _ _ c.args.name.now _ c.in-Some-name_of.ensures.same c.get_index_of.ensures.index ∙ c.in-Some-get_index_of.is in
-    record { fine = rw (bytes, allowed, number) refl; said = rw (bytes, number, c.in_ok-push.ensures.items) refl }
+    record { fine = rw (bytes, allowed, number) refl; parsed = rw (bytes, number, c.in_ok-push.ensures.items) refl }

@@ -1,0 +1,54 @@
+-- The responses of `one` and `list` to an input are their responses to what is read of it.
+use Rattle.std.proofs.Common.{◌≡◌, ℕ, ◌<◌, Bool, List, length, Option, Some, None, refl, sym, subst, arith}
+use Rattle.std.proofs.lemmas.List.{length-take-le}
+use Rattle.std.proofs.lemmas.Bool.{lt-ltb}
+use Rattle.ebpf_state.specs.declared.kinds.KindRow.{KindRow}
+use Rattle.ebpf_verify.specs.declared.decl.Decl.{Decl}
+use Rattle.ebpf_script.specs.declared.done.FaultCode.{FaultCode}
+use Rattle.ebpf_script.specs.declared.done.FaultCode.TheVariants.{S1}
+use Rattle.ebpf_script.specs.declared.judge.Judged.{Judged}
+use Rattle.ebpf_script.specs.Input.{read_of}
+use Rattle.ebpf_script.specs.Judging.{IsJudged}
+use Rattle.ebpf_script.specs.Response.{Response}
+use Rattle.ebpf_script.proofs.Written.{CutsLong}
+use Rattle.ebpf_one.specs.Asked.{Asked, asked_for, bytes_in, input_fault, fault_of}
+use Rattle.ebpf_one.specs.ListText.{RespondsList, RespondsGiven}
+use Rattle.ebpf_one.specs.OneText.{Responds, RespondsAsked, RespondsBytes, RespondsJudged, AreGiven}
+
+-- an input that is too long is S1, whatever it holds
+input_fault_long : (input : List ℕ) → 1048576 < length input → input_fault input ≡ Some S1
+input_fault_long input long = rw (lt-ltb 1048576 (length input) long) refl
+
+fault_of_long : (input context : List ℕ) (held : ℕ) → 1048576 < length input → fault_of input context held ≡ Some S1
+fault_of_long input context held long = rw (lt-ltb 1048576 (length input) long) refl
+
+-- the responses to an input by the fault that it has
+abbrev RespondsBy : Type 1
+RespondsBy = Option FaultCode → List ℕ → Response → Type 0
+
+-- where the response to an input that is too long is S1, whatever its bytes, it is the response to its beginning
+cuts_at : (fault : List ℕ → Option FaultCode) (Responds : RespondsBy) → ((input : List ℕ) → 1048576 < length input → fault input ≡ Some S1) → ((a b : List ℕ) (response : Response) → Responds (Some S1) a response → Responds (Some S1) b response) → CutsLong (λ input response. Responds (fault input) input response)
+cuts_at fault Responds is_long same input response long h =
+    let cut : length (read_of input) ≡ 1048577 = length-take-le 1048577 input (omega (arith, long)) in
+    let of_beginning : Responds (Some S1) (read_of input) response = subst (λ (f : Option FaultCode). Responds f (read_of input) response) (is_long (read_of input) (omega (arith, cut))) h in
+    subst (λ (f : Option FaultCode). Responds f input response) (sym (is_long input (omega (arith, long)))) (same (read_of input) input response of_beginning)
+
+-- so `one` responds to an input that is too long as to its beginning
+pub one_cuts : (context : List ℕ) (held : ℕ) (nulls : Bool) → CutsLong (λ input response. Responds input context held nulls response)
+one_cuts context held nulls =
+    cuts_at (λ input. fault_of input context held) (λ f input response. RespondsAsked f (asked_for input context held) nulls response) (λ input long. fault_of_long input context held long) (λ a b response h. h)
+
+-- and so does `list`
+pub list_cuts : CutsLong RespondsList
+list_cuts = cuts_at input_fault (λ f input response. RespondsGiven f (bytes_in input) response) input_fault_long (λ a b response h. h)
+
+-- the bytes of a request are judged to be this, to which this is the response
+pub response_of_judged : (a : Asked) (seen : List ℕ) (decl : Decl) (rows : List KindRow) (was judged : Judged) (nulls : Bool) (response : Response) → seen ≡ a.bytes → AreGiven a decl rows → IsJudged seen decl rows was → was ≡ judged → RespondsJudged judged a.context nulls response → RespondsBytes a nulls response
+response_of_judged a seen decl rows was judged nulls response same given is e h =
+    (decl, rows, judged, given, subst (λ (j : Judged). IsJudged a.bytes decl rows j) e (subst (λ (bytes : List ℕ). IsJudged bytes decl rows was) same is), h)
+
+-- the response to the bytes that an input asks for is the response to the input
+pub Responds-asked : (input context : List ℕ) (held : ℕ) (nulls : Bool) (a : Asked) (response : Response) → fault_of input context held ≡ None → a ≡ asked_for input context held → RespondsBytes a nulls response → Responds input context held nulls response
+Responds-asked input context held nulls a response fine same h =
+    let P : Option FaultCode → Type 0 = λ f. RespondsAsked f (asked_for input context held) nulls response in
+    subst P (sym fine) (subst (λ (x : Asked). RespondsBytes x nulls response) same h)
