@@ -86,76 +86,35 @@ impl<K: Kind, A: Ledger, B: Ledger> Cache<K, A, B> {
         })
     }
 
-    // Finds an object for a hand: a round of its layer, or what the inside has.
-    #[inline]
-    pub(crate) fn find<R: Wait>(
-        &self,
-        rt: &R,
-        arena: &ArenaLock,
-        layer: &mut Layer<K>,
-        outs: &mut Share<A>,
-    ) -> Result<Obj<K, Ready>, TakeFault>
-        requires { 0 < outs.old.parts }
-        ensures parts { outs.new.parts ≡ outs.old.parts }
-        ensures even { OnOk result (outs.new.amount + length (rounds_of layer.old) ≡ outs.old.amount + length (rounds_of layer.new) + 1) }
-        ensures round { HasRound layer.old → IsOk result }
-        ensures taken { IfOk result (λ object. HasRound layer.old → IsPermutation (rounds_of layer.old) (object.slot ∷ rounds_of layer.new)) }
-        ensures fault { OnErr result (IsEmpty layer.old × (layer.new ≡ layer.old) × (outs.new.amount ≡ outs.old.amount)) }
-    {
-        if let Some(object) = layer.try_take() {
-            return Ok(object);
-        }
-        self.find_inside(rt, arena, layer, outs)
-    }
-
-    // The same for a layer with no round. It stands apart, so that the way above stays short.
+    // Gives a hand whose layer has no round at least one. It stands apart, so that `Hand::take` stays short.
     #[inline(never)]
-    fn find_inside<R: Wait>(
+    pub(crate) fn supply<R: Wait>(
         &self,
         rt: &R,
         arena: &ArenaLock,
         layer: &mut Layer<K>,
         outs: &mut Share<A>,
-    ) -> Result<Obj<K, Ready>, TakeFault>
+    ) -> Result<(), TakeFault>
         requires empty { IsEmpty layer.old }
         requires part { 0 < outs.old.parts }
         ensures parts { outs.new.parts ≡ outs.old.parts }
-        ensures even { OnOk result (outs.new.amount ≡ outs.old.amount + length (rounds_of layer.new) + 1) }
+        ensures loaded { OnOk result (0 < length layer.new.loaded) }
+        ensures even { OnOk result (outs.new.amount ≡ outs.old.amount + length (rounds_of layer.new)) }
         ensures fault { OnErr result ((layer.new ≡ layer.old) × (outs.new.amount ≡ outs.old.amount)) }
     {
         let found = self.inner.lock(rt).supply(rt, arena, layer, outs)?;
-        match found {
-            Some(object) => Ok(object.construct()),
-            None => match layer.try_take() {
-                Some(object) => Ok(object),
-                None => unreachable!(),
-            },
+        let Some(object) = found else {
+            return Ok(());
+        };
+        match layer.try_give(object.construct()) {
+            Ok(()) => Ok(()),
+            Err(_) => unreachable!(),
         }
     }
 
-    // Puts an object into a hand's layer, with the help of the inside where that has no room.
-    #[inline]
-    pub(crate) fn put<R: Wait>(
-        &self,
-        rt: &R,
-        layer: &mut Layer<K>,
-        ins: &mut Share<B>,
-        object: Obj<K, Ready>,
-    )
-        requires { 0 < ins.old.parts }
-        ensures parts { ins.new.parts ≡ ins.old.parts }
-        ensures even { ins.new.amount + length (rounds_of layer.new) ≡ ins.old.amount + length (rounds_of layer.old) + 1 }
-        ensures given { HasRoom K.ROUNDS layer.old → IsPermutation (object.slot ∷ rounds_of layer.old) (rounds_of layer.new) }
-    {
-        let Err(back) = layer.try_give(object) else {
-            return;
-        };
-        self.put_inside(rt, layer, ins, back);
-    }
-
-    // The same for a layer with no room. It stands apart, so that the way above stays short.
+    // Takes an object back from a hand whose layer has no room. It stands apart, so that `Hand::give` stays short.
     #[inline(never)]
-    fn put_inside<R: Wait>(
+    pub(crate) fn take_back<R: Wait>(
         &self,
         rt: &R,
         layer: &mut Layer<K>,

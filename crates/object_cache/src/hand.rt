@@ -16,7 +16,7 @@ ghost use Rattle.object_cache.specs.HandView.{HasRound, HasRoom};
 
 use crate::arena_lock::ArenaLock;
 use crate::cache::Cache;
-use crate::count::count;
+use crate::count::{MOST, count, wait_for_ever};
 use crate::fault::TakeFault;
 use magazine::Layer;
 use slab_layer::{Held, Kind, Obj};
@@ -67,15 +67,19 @@ impl<K: Kind, A: Ledger, B: Ledger> Hand<K, A, B> {
         ensures taken { IfOk result (λ object. HasRound self.old.layer → IsPermutation (rounds_of self.old.layer) (object.slot ∷ rounds_of self.new.layer)) }
         ensures fault { OnErr result (IsEmpty self.old.layer × (self.new.layer ≡ self.old.layer)) }
     {
-        match cache.find(rt, arena, &mut self.layer, &mut self.outs) {
-            Ok(object) => {
-                count(rt, &mut self.allocs);
-                Ok(object.hold())
-            }
-            Err(fault) => {
+        if self.layer.is_empty() {
+            if let Err(fault) = cache.supply(rt, arena, &mut self.layer, &mut self.outs) {
                 count(rt, &mut self.nulls);
-                Err(fault)
+                return Err(fault);
             }
+        }
+        if self.allocs >= MOST {
+            wait_for_ever(rt);
+        }
+        self.allocs += 1;
+        match self.layer.try_take() {
+            Some(object) => Ok(object.hold()),
+            None => unreachable!(),
         }
     }
 
@@ -88,8 +92,14 @@ impl<K: Kind, A: Ledger, B: Ledger> Hand<K, A, B> {
         ensures allocs { (self.new.allocs ≡ self.old.allocs) × (self.new.nulls ≡ self.old.nulls) }
         ensures given { HasRoom K.ROUNDS self.old.layer → IsPermutation (object.slot ∷ rounds_of self.old.layer) (rounds_of self.new.layer) }
     {
-        count(rt, &mut self.frees);
-        cache.put(rt, &mut self.layer, &mut self.ins, object.restore());
+        if self.frees >= MOST {
+            wait_for_ever(rt);
+        }
+        self.frees += 1;
+        let Err(back) = self.layer.try_give(object.restore()) else {
+            return;
+        };
+        cache.take_back(rt, &mut self.layer, &mut self.ins, back);
     }
 
     /// Sends all rounds of this hand home to the slabs. It waits for the cache's lock. The cache is the one that made

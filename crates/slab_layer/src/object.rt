@@ -171,6 +171,11 @@ impl<K: Kind> Obj<K, Held> {
             bytes: mut used,
             of: _,
         } = self;
+
+        // The length is known when this is compiled, so that a short image is written by a few moves.
+        if used.len() != K::SIZE {
+            unreachable!();
+        }
         used.as_mut_slice().fill(K::FILL);
         Obj {
             slot,
