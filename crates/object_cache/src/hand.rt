@@ -49,7 +49,7 @@ impl<K: Kind, A: Ledger, B: Ledger> Hand<K, A, B> {
     /// Takes an object, with its image: a round of this hand; else one of a full magazine of the depot, which this hand
     /// then has; else one of the slabs, which grow by a page of the arena where none is home. It waits for the two
     /// locks, the arena's inside the cache's, and for ever past 2^56 calls. The cache is the one that made this hand.
-    #[inline]
+    #[inline(always)]
     pub fn take<R: Wait>(
         &mut self,
         rt: &R,
@@ -86,7 +86,7 @@ impl<K: Kind, A: Ledger, B: Ledger> Hand<K, A, B> {
     /// Gives an object back, with its image restored: to this hand's layer; where that has no room, an empty magazine of
     /// the depot makes some, or a new one; where there is no memory for it, the object goes home to the slabs. It waits
     /// for the cache's lock, and for ever past 2^56 calls. The cache is the one that made this hand.
-    #[inline]
+    #[inline(always)]
     pub fn give<R: Wait>(&mut self, rt: &R, cache: &Cache<K, A, B>, object: Obj<K, Held>)
         ensures frees { self.new.frees ≡ self.old.frees + 1 }
         ensures allocs { (self.new.allocs ≡ self.old.allocs) × (self.new.nulls ≡ self.old.nulls) }

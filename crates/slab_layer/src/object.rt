@@ -52,6 +52,15 @@ impl State for Held {
     ghost imaged = { false };
 }
 
+// Writes the image over all bytes. Their number is known when this is compiled, so a short image takes a few moves.
+#[inline(always)]
+fn write_image<K: Kind>(bytes: &mut [u8])
+    requires { length bytes.old ≡ K.SIZE }
+    ensures { bytes.new ≡ replicate K.SIZE K.FILL }
+{
+    bytes[..K::SIZE].fill(K::FILL);
+}
+
 /// An object of a kind in a state. It must be spent, and can't be dropped.
 pub struct Obj<K: Kind, S: State> {
     slot: u32,
@@ -104,7 +113,7 @@ impl<K: Kind> Obj<K, Home> {
             mut bytes,
             of: _,
         } = self;
-        bytes.as_mut_slice().fill(K::FILL);
+        write_image::<K>(bytes.as_mut_slice());
         Obj {
             slot,
             bytes,
@@ -171,12 +180,7 @@ impl<K: Kind> Obj<K, Held> {
             bytes: mut used,
             of: _,
         } = self;
-
-        // The length is known when this is compiled, so that a short image is written by a few moves.
-        if used.len() != K::SIZE {
-            unreachable!();
-        }
-        used.as_mut_slice().fill(K::FILL);
+        write_image::<K>(used.as_mut_slice());
         Obj {
             slot,
             bytes: used,
