@@ -31,6 +31,7 @@ pub record IsHand (h : HandView) (out_parts outs in_parts ins : ℕ) : Type 0 wh
   pub one_out : out_parts ≡ 1
   pub one_in : in_parts ≡ 1
   pub even : outs + h.frees ≡ ins + h.allocs + length (rounds_of h.layer)
+  pub lent : 2 ^ 56 ≤ ins
   pub few_allocs : h.allocs ≤ 2 ^ 56
   pub few_frees : h.frees ≤ 2 ^ 56
   pub few_nulls : h.nulls ≤ 2 ^ 56

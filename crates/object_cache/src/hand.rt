@@ -27,6 +27,7 @@ use std::sync::ledger::{Ledger, Share};
 /// What a worker takes objects of a cache with. It must be handed to `Cache::close`. Its type says by the two ledgers
 /// which cache made it.
 pub struct Hand<K: Kind, A: Ledger, B: Ledger> {
+    pub(crate) number: usize,
     pub(crate) layer: Layer<K>,
     pub(crate) outs: Share<A>,
     pub(crate) ins: Share<B>,
@@ -68,7 +69,7 @@ impl<K: Kind, A: Ledger, B: Ledger> Hand<K, A, B> {
         ensures fault { OnErr result (IsEmpty self.old.layer × (self.new.layer ≡ self.old.layer)) }
     {
         if self.layer.is_empty() {
-            if let Err(fault) = cache.supply(rt, arena, &mut self.layer, &mut self.outs) {
+            if let Err(fault) = cache.supply(rt, arena, self.number, &mut self.layer, &mut self.outs) {
                 count(rt, &mut self.nulls);
                 return Err(fault);
             }
@@ -99,7 +100,14 @@ impl<K: Kind, A: Ledger, B: Ledger> Hand<K, A, B> {
         let Err(back) = self.layer.try_give(object.restore()) else {
             return;
         };
-        cache.take_back(rt, &mut self.layer, &mut self.ins, back);
+        cache.take_back(
+            rt,
+            self.number,
+            &mut self.layer,
+            &mut self.outs,
+            &mut self.ins,
+            back,
+        );
     }
 
     /// Sends all rounds of this hand home to the slabs. It waits for the cache's lock. The cache is the one that made
