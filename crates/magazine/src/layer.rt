@@ -53,14 +53,6 @@ impl<K: Kind> Layer<K> {
         }
     }
 
-    /// No round is here.
-    #[inline]
-    pub fn is_empty(&self) -> bool
-        ensures { IsTrue result ↔ IsEmpty self.now }
-    {
-        self.loaded.is_empty() && self.previous.is_empty()
-    }
-
     /// Exchanges the two magazines.
     fn exchange(&mut self)
         requires { (self.old.loaded ≡ []) ⊎ (length self.old.loaded ≡ K.ROUNDS) }

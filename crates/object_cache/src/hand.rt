@@ -68,20 +68,24 @@ impl<K: Kind, A: Ledger, B: Ledger> Hand<K, A, B> {
         ensures taken { IfOk result (λ object. HasRound self.old.layer → IsPermutation (rounds_of self.old.layer) (object.slot ∷ rounds_of self.new.layer)) }
         ensures fault { OnErr result (IsEmpty self.old.layer × (self.new.layer ≡ self.old.layer)) }
     {
-        if self.layer.is_empty() {
-            if let Err(fault) = cache.supply(rt, arena, self.number, &mut self.layer, &mut self.outs) {
-                count(rt, &mut self.nulls);
-                return Err(fault);
+        let object = match self.layer.try_take() {
+            Some(object) => object,
+            None => {
+                if let Err(fault) = cache.supply(rt, arena, self.number, &mut self.layer, &mut self.outs) {
+                    count(rt, &mut self.nulls);
+                    return Err(fault);
+                }
+                match self.layer.try_take() {
+                    Some(object) => object,
+                    None => unreachable!(),
+                }
             }
-        }
+        };
         if self.allocs >= MOST {
             wait_for_ever(rt);
         }
         self.allocs += 1;
-        match self.layer.try_take() {
-            Some(object) => Ok(object.hold()),
-            None => unreachable!(),
-        }
+        Ok(object.hold())
     }
 
     /// Gives an object back, with its image restored: to this hand's layer; where that has no room, an empty magazine of

@@ -63,7 +63,8 @@ fn write_image<K: Kind>(bytes: &mut [u8])
 
 /// An object of a kind in a state. It must be spent, and can't be dropped.
 pub struct Obj<K: Kind, S: State> {
-    slot: u32,
+    // A whole word, so that an object is moved word by word.
+    slot: u64,
     bytes: Vec<u8>,
     of: PhantomData<(K, S)>,
     pub ghost placed: { slot < 65536 },
@@ -76,7 +77,7 @@ impl<K: Kind, S: State> Obj<K, S> {
     pub fn slot(&self) -> u32
         ensures { result ≡ self.now.slot }
     {
-        self.slot
+        self.slot as u32
     }
 }
 
@@ -88,7 +89,7 @@ impl<K: Kind> Obj<K, Home> {
         ensures { result.slot ≡ slot }
     {
         Obj {
-            slot,
+            slot: u64::from(slot),
             bytes,
             of: PhantomData,
         }
