@@ -113,6 +113,16 @@ impl<K: Kind> Depot<K> {
         self.full.pop()
     }
 
+    /// Takes an empty magazine out. None only where there is none.
+    pub fn drain_empty(&mut self) -> Option<Magazine<K>>
+        ensures empty { IfSome result (λ magazine. (magazine ≡ []) × (self.new.empties + 1 ≡ self.old.empties)) }
+        ensures rounds { self.new.rounds ≡ self.old.rounds }
+        ensures none { IfNone result (self.old.empties ≡ 0) }
+        ensures unchanged { IfNone result (self.new ≡ self.old) }
+    {
+        self.empty.pop()
+    }
+
     /// Moves a full magazine to another depot, with room for it in both stacks of that one. False where there is none.
     /// Where memory is refused nothing changed.
     pub fn move_full(&mut self, to: &mut Depot<K>) -> Result<bool, AllocError>

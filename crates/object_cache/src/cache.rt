@@ -1,11 +1,11 @@
 //! Caches of objects of one kind, which many workers share.
 //!
-//! *The idea* (Bonwick 1994; Bonwick and Adams 2001). The inside of a cache lies under one lock. A worker has a hand, and
-//! goes to the lock where the hand can't serve; the reaper goes there to give pages back. The functions here lock, let
-//! the inside change by one of its methods, and let go.
+//! *The idea* (Bonwick 1994; Bonwick and Adams 2001). The inside of a cache lies under one lock, and each part of its depot
+//! under another. A worker has a hand, and goes to a lock where the hand can't serve; the reaper goes there to give pages
+//! back. The functions here lock, let what is there change by one of its methods, and let go.
 //!
 //! *The reason.* No clause names what a lock holds between two calls, so each of these functions says what it does to the
-//! hand alone: to its rounds, and to its share of a book. That is enough: what a share counts, the inside counts too.
+//! hand alone: to its rounds, and to its shares of the books. That is enough: what a share counts, a book counts too.
 
 ghost use Rattle.std.specs.Prelude.{◌≡◌, ◌+◌, ◌<◌, ◌≤◌, [], length, false, vec_len, sum_by, IsTrue, IfOk, OnOk, OnErr};
 ghost use Rattle.magazine.specs.LayerView.{rounds_of, IsEmpty, IsFull};
@@ -25,7 +25,8 @@ use std::marker::Model;
 use std::sync::ledger::{Blank, Ledger, Share};
 use std::sync::{Mutex, Wait};
 
-/// The objects of a kind that all hands share. It must be closed.
+/// The objects of a kind that all hands share. It must be closed. A part of the depot goes with each hand that is made, since
+/// the hand needs its shares; one part always stays.
 pub struct Cache<K: Kind, A: Ledger, B: Ledger> {
     inner: Mutex<Inner<K, A, B>>,
     parts: Vec<Mutex<Part<K, A, B>>>,
@@ -134,7 +135,7 @@ impl<K: Kind, A: Ledger, B: Ledger> Cache<K, A, B> {
         if self.home(number).lock(rt).refill(layer, outs) {
             return Ok(());
         }
-        self.supply_inside(rt, arena, layer, outs)
+        self.supply_inside(rt, arena, number, layer, outs)
     }
 
     // The same where the hand's home has no full magazine. No other hand gets at the slabs until this one has its object.
@@ -143,6 +144,7 @@ impl<K: Kind, A: Ledger, B: Ledger> Cache<K, A, B> {
         &self,
         rt: &R,
         arena: &ArenaLock,
+        number: usize,
         layer: &mut Layer<K>,
         outs: &mut Share<A>,
     ) -> Result<(), TakeFault>
@@ -154,7 +156,7 @@ impl<K: Kind, A: Ledger, B: Ledger> Cache<K, A, B> {
         ensures fault { OnErr result ((layer.new ≡ layer.old) × (outs.new.amount ≡ outs.old.amount)) }
     {
         let mut inner = self.inner.lock(rt);
-        if self.refill_anywhere(rt, layer, outs) {
+        if self.refill_anywhere(rt, number, layer, outs) {
             return Ok(());
         }
         let object = inner.supply(rt, arena, outs)?;
@@ -164,10 +166,11 @@ impl<K: Kind, A: Ledger, B: Ledger> Cache<K, A, B> {
         }
     }
 
-    // Gives a full magazine of any part to a layer that has no round.
+    // Gives a full magazine of any part to a layer that has no round, and brings an empty one from there to the hand's home.
     fn refill_anywhere<R: Wait>(
         &self,
         rt: &R,
+        number: usize,
         layer: &mut Layer<K>,
         outs: &mut Share<A>,
     ) -> bool
@@ -178,12 +181,22 @@ impl<K: Kind, A: Ledger, B: Ledger> Cache<K, A, B> {
         ensures amount { IsTrue result → outs.new.amount ≡ outs.old.amount + K.ROUNDS }
         ensures unchanged { result ≡ false → (layer.new ≡ layer.old) × (outs.new.amount ≡ outs.old.amount) }
     {
-        for number in 0..self.homes() {
-            if self.home(number).lock(rt).refill(layer, outs) {
+        for other in 0..self.homes() {
+            let refilled = self.home(other).lock(rt).refill(layer, outs);
+            if refilled {
+                self.bring_home(rt, other, number);
                 return true;
             }
         }
         false
+    }
+
+    // Moves an empty magazine from a part to another hand's home.
+    fn bring_home<R: Wait>(&self, rt: &R, other: usize, number: usize) {
+        let found = self.home(other).lock(rt).drain_empty();
+        if let Some(magazine) = found {
+            self.home(number).lock(rt).keep(magazine);
+        }
     }
 
     // Takes an object back from a hand whose layer has no room. It stands apart, so that `Hand::give` stays short.
@@ -212,13 +225,7 @@ impl<K: Kind, A: Ledger, B: Ledger> Cache<K, A, B> {
 
     // Makes room in a layer that has none: by an empty magazine of the hand's home, or else of any part, or else by a new
     // one. It makes none only for want of memory.
-    fn make_room<R: Wait>(
-        &self,
-        rt: &R,
-        number: usize,
-        layer: &mut Layer<K>,
-        outs: &mut Share<A>,
-    )
+    fn make_room<R: Wait>(&self, rt: &R, number: usize, layer: &mut Layer<K>, outs: &mut Share<A>)
         requires full { IsFull K.ROUNDS layer.old }
         requires part { 0 < outs.old.parts }
         requires amount { K.ROUNDS ≤ outs.old.amount }
@@ -234,12 +241,7 @@ impl<K: Kind, A: Ledger, B: Ledger> Cache<K, A, B> {
     }
 
     // Gives an empty magazine of any part to a layer that has no room.
-    fn relieve_anywhere<R: Wait>(
-        &self,
-        rt: &R,
-        layer: &mut Layer<K>,
-        outs: &mut Share<A>,
-    ) -> bool
+    fn relieve_anywhere<R: Wait>(&self, rt: &R, layer: &mut Layer<K>, outs: &mut Share<A>) -> bool
         requires full { IsFull K.ROUNDS layer.old }
         requires part { 0 < outs.old.parts }
         requires amount { K.ROUNDS ≤ outs.old.amount }

@@ -25,7 +25,7 @@ use std::sync::Wait;
 use std::sync::ledger::{Ledger, Share};
 
 /// What a worker takes objects of a cache with. It must be handed to `Cache::close`. Its type says by the two ledgers
-/// which cache made it.
+/// which cache made it, and its number is how many hands that one had made before.
 pub struct Hand<K: Kind, A: Ledger, B: Ledger> {
     pub(crate) number: usize,
     pub(crate) layer: Layer<K>,
@@ -71,7 +71,13 @@ impl<K: Kind, A: Ledger, B: Ledger> Hand<K, A, B> {
         let object = match self.layer.try_take() {
             Some(object) => object,
             None => {
-                if let Err(fault) = cache.supply(rt, arena, self.number, &mut self.layer, &mut self.outs) {
+                if let Err(fault) = cache.supply(
+                    rt,
+                    arena,
+                    self.number,
+                    &mut self.layer,
+                    &mut self.outs,
+                ) {
                     count(rt, &mut self.nulls);
                     return Err(fault);
                 }

@@ -1,16 +1,15 @@
 //! The inside of a cache, which all its hands share under one lock.
 //!
-//! *The idea* (Bonwick and Adams 2001, section 3). Below the hands lie the depot and, below it, the slabs. A hand with
-//! no round gets a full magazine of the depot, or else one object of the slabs, which grow by a page where none is home.
-//! A hand with no room gets an empty magazine for a full one, or else sends the object home.
+//! *The idea* (Bonwick 1994). Below the hands and the depot lie the slabs. Where no magazine serves, a hand gets one object
+//! of the slabs, which grow by a page where none is home. Rounds come home where a hand is flushed, where the reaper
+//! empties a magazine, and where there is no memory for one.
 //!
-//! *The invariant.* Two books count the objects that left for hands and those that came in from them. The slots that
-//! are out of the slabs, and the objects that came in, are as many as the rounds of the depot, the objects that left,
-//! and those that came home as strangers.
+//! *The invariant.* Two books count the objects that left for hands and those that came in. The slots that are out of the
+//! slabs, and the objects that came in, are as many as the objects that left, and those that came home as strangers.
 //!
-//! *The reason.* What a hand keeps can't be seen from here, and what is here can't be seen from a hand. But each step
-//! moves as much in a book as in the hand's share of it, so the sums agree when all shares are together again. Each
-//! change is a method that does the whole of it, so the equation holds whenever the lock is free.
+//! *The reason.* What a hand or a part of the depot keeps can't be seen from here, and what is here can't be seen from
+//! there. But each step moves as much in a book as in a share of it, so the sums agree when all shares are together again.
+//! Each change is a method that does the whole of it, so the equation holds whenever the lock is free.
 
 ghost use Rattle.std.specs.Prelude.{◌≡◌, ℕ, ◌+◌, ◌/◌, ◌^◌, ◌<◌, ◌≤◌, ◌↔◌, ◌⊎◌, [], ◌∷◌, ◌++◌, length, false, None, Contains, IsTrue, IsSome, IsOk, IfOk, OnOk, OnErr, IfSome, IfNone, MatchOption, IsPermutation};
 ghost use Rattle.vmem_arena.specs.Spans.{AreFree};
@@ -30,7 +29,7 @@ use std::sync::Wait;
 use std::sync::ledger::{Book, Ledger, Share};
 use vmem_arena::Arena;
 
-/// Slabs, depot and books.
+/// Slabs and books.
 pub struct Inner<K: Kind, A: Ledger, B: Ledger> {
     slabs: Slabs<K>,
     outs: Book<A>,

@@ -3,7 +3,8 @@
 //! *The idea.* Where all hands go to one depot, they wait for its lock. So the depot lies in parts, each under a lock of
 //! its own. A hand goes to one part first, its home, which it shares with no other hand while these are few. It looks at
 //! the others only where its home can't serve. A new magazine is made at home, and an exchange leaves as many magazines
-//! where it is made: so a worker that takes as much as it gives stays at home.
+//! where it is made. A hand that found a full one elsewhere brings an empty one home from there, so that its home has one to
+//! exchange: so a worker that takes as much as it gives stays at home from then on.
 //!
 //! *The invariant.* A part has a share of each book, as a hand has. What the one counts is what the other counts and the
 //! part's rounds.
@@ -12,7 +13,7 @@
 //! So its rounds move from share to share, and neither the books nor the lock that they lie under are asked. A hand that
 //! only gives has nothing to move. So 2^56 stands in both shares from the start: it changes no sum, and no hand gives more.
 
-ghost use Rattle.std.specs.Prelude.{◌≡◌, ◌+◌, ◌^◌, ◌<◌, ◌≤◌, ◌↔◌, [], ◌++◌, length, false, vec_len, IsTrue, OnOk, IsPermutation};
+ghost use Rattle.std.specs.Prelude.{◌≡◌, ◌+◌, ◌^◌, ◌<◌, ◌≤◌, ◌↔◌, [], ◌++◌, length, false, vec_len, IsTrue, IfSome, IfNone, OnOk, IsPermutation};
 ghost use Rattle.magazine.specs.LayerView.{rounds_of, IsEmpty, IsFull};
 ghost use Rattle.object_cache.specs.Homing.{SendsHome};
 
@@ -110,6 +111,25 @@ impl<K: Kind, A: Ledger, B: Ledger> Part<K, A, B> {
                 back.end();
                 false
             }
+        }
+    }
+
+    /// Takes an empty magazine out. None only where there is none.
+    pub fn drain_empty(&mut self) -> Option<Magazine<K>>
+        ensures empty { IfSome result (λ magazine. magazine ≡ []) }
+        ensures rounds { self.new.depot.rounds ≡ self.old.depot.rounds }
+        ensures none { IfNone result (self.old.depot.empties ≡ 0) }
+    {
+        self.depot.drain_empty()
+    }
+
+    /// Adds an empty magazine. Where there is no memory for its place it is ended.
+    pub fn keep(&mut self, magazine: Magazine<K>)
+        requires { magazine ≡ [] }
+        ensures { self.new.depot.rounds ≡ self.old.depot.rounds }
+    {
+        if let Err(back) = self.depot.add_empty(magazine) {
+            back.end();
         }
     }
 
