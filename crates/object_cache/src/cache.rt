@@ -155,11 +155,13 @@ impl<K: Kind, A: Ledger, B: Ledger> Cache<K, A, B> {
         ensures even { OnOk result (outs.new.amount ≡ outs.old.amount + length (rounds_of layer.new)) }
         ensures fault { OnErr result ((layer.new ≡ layer.old) × (outs.new.amount ≡ outs.old.amount)) }
     {
-        let mut inner = self.inner.lock(rt);
-        if self.refill_anywhere(rt, number, layer, outs) {
-            return Ok(());
-        }
-        let object = inner.supply(rt, arena, outs)?;
+        let object = {
+            let mut inner = self.inner.lock(rt);
+            if self.refill_anywhere(rt, number, layer, outs) {
+                return Ok(());
+            }
+            inner.supply(rt, arena, outs)?
+        };
         match layer.try_give(object.construct()) {
             Ok(()) => Ok(()),
             Err(_) => unreachable!(),
