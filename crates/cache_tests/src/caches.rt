@@ -147,6 +147,86 @@ fn cells_go_out_and_back_by_one_hand(rt: HostRuntime) {
     seventeen::<Brand, Brand, HostRuntime>(&rt, rt.alloc(), Blank::new(65), Blank::new(65));
 }
 
+// Each hand takes 17 objects, each of which is there.
+fn take_each<K: Kind, A: Ledger, B: Ledger, R: Wait + Abort>(
+    rt: &R,
+    cache: &Cache<K, A, B>,
+    arena: &ArenaLock,
+    hands: &mut [Hand<K, A, B>],
+    held: &mut Vec<Obj<K, Held>>,
+) {
+    for hand in hands {
+        take_all(rt, cache, arena, hand, held, 17);
+    }
+}
+
+// Each hand gives 17 of them back.
+fn give_each<K: Kind, A: Ledger, B: Ledger, R: Wait>(
+    rt: &R,
+    cache: &Cache<K, A, B>,
+    hands: &mut [Hand<K, A, B>],
+    held: &mut Vec<Obj<K, Held>>,
+) {
+    for hand in hands {
+        for _ in 0..17u32 {
+            if let Some(object) = held.pop() {
+                hand.give(rt, cache, object);
+            }
+        }
+    }
+}
+
+// So many hands more.
+fn more_hands<K: Kind, A: Ledger, B: Ledger>(
+    rt: &impl Abort,
+    alloc: Global,
+    cache: &mut Cache<K, A, B>,
+    hands: &mut Vec<Hand<K, A, B>>,
+    count: u32,
+)
+    requires all { vec_len hands.old ≡ cache.old.hands }
+    requires most { cache.old.hands + count ≤ 64 }
+    ensures all { vec_len hands.new ≡ cache.new.hands }
+    ensures made { cache.new.hands ≡ cache.old.hands + count }
+{
+    if hands.reserve(count as usize).is_err() {
+        panic!(rt; "no memory");
+    }
+    for _i in 0..count {
+        let Ok(hand) = cache.hand(alloc) else {
+            panic!(rt; "no memory");
+        };
+        hands.push_reserved(hand);
+    }
+}
+
+// Of 64 hands 32 are made when the others have each put a full magazine into the depot: a part of it goes with each of these,
+// and no round is lost.
+fn halves<A: Ledger, B: Ledger, R: Wait + Abort>(rt: &R, alloc: Global, outs: Blank, ins: Blank)
+    requires names { (outs.name ≡ A.name) × (ins.name ≡ B.name) }
+    requires parts { (outs.parts ≡ A.parts) × (ins.parts ≡ B.parts) }
+    requires all { (A.parts ≡ 65) × (B.parts ≡ 65) }
+{
+    let arena = arena_of(rt, alloc, 4);
+    let mut cache = cache_of::<CellKind, A, B>(rt, alloc, outs, ins);
+    let mut hands = hands_of(rt, alloc, &mut cache, 32);
+    let mut held = Vec::new(alloc);
+    take_each(rt, &cache, &arena, hands.as_mut_slice(), &mut held);
+    holds(rt, cache.out(rt) == 544 && held.len() == 544);
+    give_each(rt, &cache, hands.as_mut_slice(), &mut held);
+    give_all(rt, &cache, &mut hands[0], &mut held);
+    held.destroy_empty();
+    more_hands(rt, alloc, &mut cache, &mut hands, 32);
+    holds(rt, cache.out(rt) == 544);
+    holds(rt, cache.reap_pass(rt, &arena) == 0 && cache.out(rt) == 288);
+    holds(rt, are(cache.close(rt, hands, &arena), 544, 544, 0));
+}
+
+#[test]
+fn hands_that_are_made_late_take_no_round_away(rt: HostRuntime) {
+    halves::<Brand, Brand, HostRuntime>(&rt, rt.alloc(), Blank::new(65), Blank::new(65));
+}
+
 // One hand takes the 8 blocks of the one page, gives them back and takes them again.
 fn eight<A: Ledger, B: Ledger, R: Wait + Abort>(rt: &R, alloc: Global, outs: Blank, ins: Blank)
     requires names { (outs.name ≡ A.name) × (ins.name ≡ B.name) }

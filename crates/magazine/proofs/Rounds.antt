@@ -4,7 +4,7 @@ use Rattle.std.specs.Prelude.{IfSome, option_to_list}
 use Rattle.std.specs.List.{concat, All}
 use Rattle.std.specs.List.Sorted.{IsPermutation}
 use Rattle.std.proofs.lemmas.List.Elements.{All-head}
-use Rattle.std.proofs.lemmas.List.Sorted.{IsPermutation-refl, IsPermutation-sym, IsPermutation-trans, IsPermutation-cons, IsPermutation-to_front, IsPermutation-append_left, IsPermutation-append_comm}
+use Rattle.std.proofs.lemmas.List.Sorted.{IsPermutation-refl, IsPermutation-sym, IsPermutation-trans, IsPermutation-cons, IsPermutation-to_front, IsPermutation-append_left, IsPermutation-append_right, IsPermutation-append_comm}
 use Rattle.slab_layer.specs.Kinds.{Row, IsRow}
 use Rattle.magazine.specs.LayerView.{LayerView, rounds_of, exchanged}
 use Rattle.magazine.specs.DepotView.{DepotView}
@@ -60,6 +60,12 @@ pub pushed_rounds : (depot : DepotView) (old new : List (List ℕ)) (empties : �
 pushed_rounds depot old new empties m given is pushed same =
     let to : concat new ≡ concat old ++ m = ap concat pushed ∙ concat_push old m in
     rw (to, ← ap (λ (d : DepotView). d.rounds) is, ← same) (IsPermutation-append_comm m (concat old))
+
+-- where one went from one depot to another
+pub moved_rounds : (old new from to m : List ℕ) → IsPermutation old (m ++ new) → IsPermutation (m ++ from) to → IsPermutation (old ++ from) (new ++ to)
+moved_rounds old new from to m out came =
+    let turned = IsPermutation-trans old (m ++ new) (new ++ m) out (IsPermutation-append_comm m new) in
+    IsPermutation-trans (old ++ from) ((new ++ m) ++ from) (new ++ to) (IsPermutation-append_left from old (new ++ m) turned) (rw (append_assoc new m from) (IsPermutation-append_right new (m ++ from) to came))
 
 -- where there is no round, no magazine is full
 pub none_full : (full : List (List ℕ)) (rounds : ℕ) → 0 < rounds → All (λ m. length m ≡ rounds) full → concat full ≡ [] → length full ≡ 0

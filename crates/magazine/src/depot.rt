@@ -10,11 +10,11 @@
 //! before, and there is room for them: only `add_empty` takes memory. Since each magazine is full or empty,
 //! what a depot has is told by the rounds of the full ones and the number of the empty ones.
 
-ghost use Rattle.std.specs.Prelude.{◌≡◌, ℕ, ◌+◌, ◌<◌, ◌↔◌, [], ◌++◌, length, false, IsTrue, IfSome, IfNone, OnOk, OnErr, IfErr, IsPermutation};
+ghost use Rattle.std.specs.Prelude.{◌≡◌, ℕ, ◌+◌, ◌<◌, ◌↔◌, [], ◌++◌, length, true, false, IsTrue, IfSome, IfNone, OnOk, OnErr, IfErr, IsPermutation};
 
 use crate::magazine::Magazine;
 use slab_layer::Kind;
-use std::alloc::Global;
+use std::alloc::{AllocError, Global};
 use std::marker::Model;
 use std::mem;
 
@@ -111,6 +111,37 @@ impl<K: Kind> Depot<K> {
         ensures unchanged { IfNone result (self.new ≡ self.old) }
     {
         self.full.pop()
+    }
+
+    /// Takes an empty magazine out. None only where there is none.
+    pub fn drain_empty(&mut self) -> Option<Magazine<K>>
+        ensures empty { IfSome result (λ magazine. (magazine ≡ []) × (self.new.empties + 1 ≡ self.old.empties)) }
+        ensures rounds { self.new.rounds ≡ self.old.rounds }
+        ensures none { IfNone result (self.old.empties ≡ 0) }
+        ensures unchanged { IfNone result (self.new ≡ self.old) }
+    {
+        self.empty.pop()
+    }
+
+    /// Moves a full magazine to another depot, with room for it in both stacks of that one. False where there is none.
+    /// Where memory is refused nothing changed.
+    pub fn move_full(&mut self, to: &mut Depot<K>) -> Result<bool, AllocError>
+        ensures none { result ≡ Ok false → self.old.rounds ≡ [] }
+        ensures moved { result ≡ Ok true → length self.old.rounds ≡ length self.new.rounds + K.ROUNDS }
+        ensures came { result ≡ Ok true → length to.new.rounds ≡ length to.old.rounds + K.ROUNDS }
+        ensures rounds { IsPermutation (self.old.rounds ++ to.old.rounds) (self.new.rounds ++ to.new.rounds) }
+        ensures empties { (self.new.empties ≡ self.old.empties) × (to.new.empties ≡ to.old.empties) }
+        ensures unchanged { (result ≡ Ok true → ⊥) → (self.new ≡ self.old) × (to.new ≡ to.old) }
+    {
+        let fulls = to.full.len();
+        let empties = to.empty.len();
+        to.full.reserve(empties + 1)?;
+        to.empty.reserve(fulls + 1)?;
+        let Some(magazine) = self.full.pop() else {
+            return Ok(false);
+        };
+        to.full.push_reserved(magazine);
+        Ok(true)
     }
 
     /// Ends a depot with no full magazine, and the empty ones with it.

@@ -26,11 +26,12 @@ abbrev pub refilled : LayerView → ℕ → LayerView
 refilled l slot = record { loaded = slot ∷ []; previous = l.loaded }
 
 -- a hand has one part of each book. The objects that left the inside for it, and those that it was given back, are as
--- many as those that came in from it, those that it gave away, and its rounds.
+-- many as those that came in from it, those that it gave away, and its rounds. Both shares began with more than is ever given.
 pub record IsHand (h : HandView) (out_parts outs in_parts ins : ℕ) : Type 0 where
   pub one_out : out_parts ≡ 1
   pub one_in : in_parts ≡ 1
   pub even : outs + h.frees ≡ ins + h.allocs + length (rounds_of h.layer)
+  pub lent : 2 ^ 56 ≤ ins
   pub few_allocs : h.allocs ≤ 2 ^ 56
   pub few_frees : h.frees ≤ 2 ^ 56
   pub few_nulls : h.nulls ≤ 2 ^ 56

@@ -1,17 +1,18 @@
 //! Caches of objects of one kind, which many workers share.
 //!
-//! *The idea* (Bonwick 1994; Bonwick and Adams 2001). The inside of a cache lies under one lock. A worker has a hand, and
-//! goes to the lock where the hand can't serve; the reaper goes there to give pages back. The functions here lock, let
-//! the inside change by one of its methods, and let go.
+//! *The idea* (Bonwick 1994; Bonwick and Adams 2001). The inside of a cache lies under one lock, and each part of its depot
+//! under another. A worker has a hand, and goes to a lock where the hand can't serve; the reaper goes there to give pages
+//! back. The functions here lock, let what is there change by one of its methods, and let go.
 //!
 //! *The reason.* No clause names what a lock holds between two calls, so each of these functions says what it does to the
-//! hand alone: to its rounds, and to its share of a book. That is enough: what a share counts, the inside counts too.
+//! hand alone: to its rounds, and to its shares of the books. That is enough: what a share counts, a book counts too.
 
-ghost use Rattle.std.specs.Prelude.{◌≡◌, ℕ, ◌+◌, ◌<◌, ◌∷◌, length, vec_len, sum_by, IsOk, IfOk, OnOk, OnErr, IsPermutation};
+ghost use Rattle.std.specs.Prelude.{◌≡◌, ◌+◌, ◌<◌, ◌≤◌, [], length, false, vec_len, sum_by, IsTrue, IfOk, OnOk, OnErr};
 ghost use Rattle.magazine.specs.LayerView.{rounds_of, IsEmpty, IsFull};
-ghost use Rattle.object_cache.specs.HandView.{HasRound, HasRoom, fresh};
+ghost use Rattle.object_cache.specs.HandView.{fresh};
 
 use crate::arena_lock::ArenaLock;
+use crate::count::MOST;
 use crate::fault::TakeFault;
 use crate::hand::Hand;
 use crate::inner::Inner;
@@ -24,10 +25,11 @@ use std::marker::Model;
 use std::sync::ledger::{Blank, Ledger, Share};
 use std::sync::{Mutex, Wait};
 
-/// The objects of a kind that all hands share. It must be closed.
+/// The objects of a kind that all hands share. It must be closed. A part of the depot goes with each hand that is made, since
+/// the hand needs its shares; one part always stays.
 pub struct Cache<K: Kind, A: Ledger, B: Ledger> {
     inner: Mutex<Inner<K, A, B>>,
-    parts: Vec<Mutex<Part<A, B>>>,
+    parts: Vec<Mutex<Part<K, A, B>>>,
     hands: u64,
 }
 
@@ -52,12 +54,14 @@ impl<K: Kind, A: Ledger, B: Ledger> Cache<K, A, B> {
         ensures { IfOk result (λ cache. cache.hands ≡ 0) }
     {
         let mut parts = Vec::with_capacity(alloc, 65)?;
-        let (outs, mut out_rest) = outs.open::<A>();
-        let (ins, mut in_rest) = ins.open::<B>();
+        let (mut outs, mut out_rest) = outs.open::<A>();
+        let (mut ins, mut in_rest) = ins.open::<B>();
         for _i in 0..65u64 {
-            let outs = out_rest.split_off(1, 0);
-            let ins = in_rest.split_off(1, 0);
-            parts.push_reserved(Mutex::new(Part { outs, ins }));
+            let mut out_part = out_rest.split_off(1, 0);
+            let mut in_part = in_rest.split_off(1, 0);
+            outs.add(&mut out_part, MOST);
+            ins.add(&mut in_part, MOST);
+            parts.push_reserved(Mutex::new(Part::new(alloc, out_part, in_part)));
         }
         Ok(Cache {
             inner: Mutex::new(Inner::new(alloc, outs, ins)),
@@ -74,9 +78,20 @@ impl<K: Kind, A: Ledger, B: Ledger> Cache<K, A, B> {
         ensures unchanged { OnErr result (self.new ≡ self.old) }
     {
         let layer = Layer::new(alloc)?;
-        let Part { outs, ins } = self.parts.pop().unwrap().into_inner();
+        let mut part = self.parts.pop().unwrap().into_inner();
+        let mut heir = self.parts.pop().unwrap().into_inner();
+        let moved = part.move_to(&mut heir);
+        self.parts.push_reserved(Mutex::new(heir));
+        if let Err(refused) = moved {
+            self.parts.push_reserved(Mutex::new(part));
+            layer.end();
+            return Err(refused);
+        }
+        let (outs, ins) = part.end();
+        let number = self.hands as usize;
         self.hands += 1;
         Ok(Hand {
+            number,
             layer,
             outs,
             ins,
@@ -86,88 +101,164 @@ impl<K: Kind, A: Ledger, B: Ledger> Cache<K, A, B> {
         })
     }
 
-    // Finds an object for a hand: a round of its layer, or what the inside has.
-    #[inline]
-    pub(crate) fn find<R: Wait>(
-        &self,
-        rt: &R,
-        arena: &ArenaLock,
-        layer: &mut Layer<K>,
-        outs: &mut Share<A>,
-    ) -> Result<Obj<K, Ready>, TakeFault>
-        requires { 0 < outs.old.parts }
-        ensures parts { outs.new.parts ≡ outs.old.parts }
-        ensures even { OnOk result (outs.new.amount + length (rounds_of layer.old) ≡ outs.old.amount + length (rounds_of layer.new) + 1) }
-        ensures round { HasRound layer.old → IsOk result }
-        ensures taken { IfOk result (λ object. HasRound layer.old → IsPermutation (rounds_of layer.old) (object.slot ∷ rounds_of layer.new)) }
-        ensures fault { OnErr result (IsEmpty layer.old × (layer.new ≡ layer.old) × (outs.new.amount ≡ outs.old.amount)) }
-    {
-        if let Some(object) = layer.try_take() {
-            return Ok(object);
-        }
-        self.find_inside(rt, arena, layer, outs)
+    // How many parts of the depot are the homes of hands: those from the first one on. The others never had a magazine.
+    fn homes(&self) -> usize {
+        self.parts.len().min(self.hands as usize)
     }
 
-    // The same for a layer with no round. It stands apart, so that the way above stays short.
+    // The part of the depot that a hand goes to first.
+    fn home(&self, number: usize) -> &Mutex<Part<K, A, B>> {
+        if number < self.parts.len() {
+            &self.parts[number]
+        } else {
+            &self.parts[0]
+        }
+    }
+
+    // Gives a hand whose layer has no round at least one. It stands apart, so that `Hand::take` stays short.
     #[inline(never)]
-    fn find_inside<R: Wait>(
+    pub(crate) fn supply<R: Wait>(
         &self,
         rt: &R,
         arena: &ArenaLock,
+        number: usize,
         layer: &mut Layer<K>,
         outs: &mut Share<A>,
-    ) -> Result<Obj<K, Ready>, TakeFault>
+    ) -> Result<(), TakeFault>
         requires empty { IsEmpty layer.old }
         requires part { 0 < outs.old.parts }
         ensures parts { outs.new.parts ≡ outs.old.parts }
-        ensures even { OnOk result (outs.new.amount ≡ outs.old.amount + length (rounds_of layer.new) + 1) }
+        ensures loaded { OnOk result (0 < length layer.new.loaded) }
+        ensures even { OnOk result (outs.new.amount ≡ outs.old.amount + length (rounds_of layer.new)) }
         ensures fault { OnErr result ((layer.new ≡ layer.old) × (outs.new.amount ≡ outs.old.amount)) }
     {
-        let found = self.inner.lock(rt).supply(rt, arena, layer, outs)?;
-        match found {
-            Some(object) => Ok(object.construct()),
-            None => match layer.try_take() {
-                Some(object) => Ok(object),
-                None => unreachable!(),
-            },
+        if self.home(number).lock(rt).refill(layer, outs) {
+            return Ok(());
+        }
+        self.supply_inside(rt, arena, number, layer, outs)
+    }
+
+    // The same where the hand's home has no full magazine. No other hand gets at the slabs until this one has its object.
+    #[inline(never)]
+    fn supply_inside<R: Wait>(
+        &self,
+        rt: &R,
+        arena: &ArenaLock,
+        number: usize,
+        layer: &mut Layer<K>,
+        outs: &mut Share<A>,
+    ) -> Result<(), TakeFault>
+        requires empty { IsEmpty layer.old }
+        requires part { 0 < outs.old.parts }
+        ensures parts { outs.new.parts ≡ outs.old.parts }
+        ensures loaded { OnOk result (0 < length layer.new.loaded) }
+        ensures even { OnOk result (outs.new.amount ≡ outs.old.amount + length (rounds_of layer.new)) }
+        ensures fault { OnErr result ((layer.new ≡ layer.old) × (outs.new.amount ≡ outs.old.amount)) }
+    {
+        let object = {
+            let mut inner = self.inner.lock(rt);
+            if self.refill_anywhere(rt, number, layer, outs) {
+                return Ok(());
+            }
+            inner.supply(rt, arena, outs)?
+        };
+        match layer.try_give(object.construct()) {
+            Ok(()) => Ok(()),
+            Err(_) => unreachable!(),
         }
     }
 
-    // Puts an object into a hand's layer, with the help of the inside where that has no room.
-    #[inline]
-    pub(crate) fn put<R: Wait>(
+    // Gives a full magazine of any part to a layer that has no round, and brings an empty one from there to the hand's home.
+    fn refill_anywhere<R: Wait>(
         &self,
         rt: &R,
+        number: usize,
         layer: &mut Layer<K>,
-        ins: &mut Share<B>,
-        object: Obj<K, Ready>,
-    )
-        requires { 0 < ins.old.parts }
-        ensures parts { ins.new.parts ≡ ins.old.parts }
-        ensures even { ins.new.amount + length (rounds_of layer.new) ≡ ins.old.amount + length (rounds_of layer.old) + 1 }
-        ensures given { HasRoom K.ROUNDS layer.old → IsPermutation (object.slot ∷ rounds_of layer.old) (rounds_of layer.new) }
+        outs: &mut Share<A>,
+    ) -> bool
+        requires empty { IsEmpty layer.old }
+        requires part { 0 < outs.old.parts }
+        ensures parts { outs.new.parts ≡ outs.old.parts }
+        ensures loaded { IsTrue result → (length layer.new.loaded ≡ K.ROUNDS) × (layer.new.previous ≡ []) }
+        ensures amount { IsTrue result → outs.new.amount ≡ outs.old.amount + K.ROUNDS }
+        ensures unchanged { result ≡ false → (layer.new ≡ layer.old) × (outs.new.amount ≡ outs.old.amount) }
     {
-        let Err(back) = layer.try_give(object) else {
-            return;
-        };
-        self.put_inside(rt, layer, ins, back);
+        for other in 0..self.homes() {
+            let refilled = self.home(other).lock(rt).refill(layer, outs);
+            if refilled {
+                self.bring_home(rt, other, number);
+                return true;
+            }
+        }
+        false
     }
 
-    // The same for a layer with no room. It stands apart, so that the way above stays short.
+    // Moves an empty magazine from a part to another hand's home.
+    fn bring_home<R: Wait>(&self, rt: &R, other: usize, number: usize) {
+        let found = self.home(other).lock(rt).drain_empty();
+        if let Some(magazine) = found {
+            self.home(number).lock(rt).keep(magazine);
+        }
+    }
+
+    // Takes an object back from a hand whose layer has no room. It stands apart, so that `Hand::give` stays short.
     #[inline(never)]
-    fn put_inside<R: Wait>(
+    pub(crate) fn take_back<R: Wait>(
         &self,
         rt: &R,
+        number: usize,
         layer: &mut Layer<K>,
+        outs: &mut Share<A>,
         ins: &mut Share<B>,
         object: Obj<K, Ready>,
     )
         requires full { IsFull K.ROUNDS layer.old }
-        requires part { 0 < ins.old.parts }
-        ensures parts { ins.new.parts ≡ ins.old.parts }
-        ensures even { ins.new.amount + length (rounds_of layer.new) ≡ ins.old.amount + length (rounds_of layer.old) + 1 }
+        requires parts { (0 < outs.old.parts) × (0 < ins.old.parts) }
+        requires amount { K.ROUNDS ≤ outs.old.amount }
+        ensures parts { (outs.new.parts ≡ outs.old.parts) × (ins.new.parts ≡ ins.old.parts) }
+        ensures even { outs.new.amount + ins.old.amount + length (rounds_of layer.old) + 1 ≡ outs.old.amount + ins.new.amount + length (rounds_of layer.new) }
+        ensures lent { ins.old.amount ≤ ins.new.amount }
     {
-        self.inner.lock(rt).take_back(rt, layer, ins, object);
+        self.make_room(rt, number, layer, outs);
+        if let Err(back) = layer.try_give(object) {
+            self.inner.lock(rt).retire(rt, ins, back);
+        }
+    }
+
+    // Makes room in a layer that has none: by an empty magazine of the hand's home, or else of any part, or else by a new
+    // one. It makes none only for want of memory.
+    fn make_room<R: Wait>(&self, rt: &R, number: usize, layer: &mut Layer<K>, outs: &mut Share<A>)
+        requires full { IsFull K.ROUNDS layer.old }
+        requires part { 0 < outs.old.parts }
+        requires amount { K.ROUNDS ≤ outs.old.amount }
+        ensures parts { outs.new.parts ≡ outs.old.parts }
+        ensures even { outs.new.amount + length (rounds_of layer.old) ≡ outs.old.amount + length (rounds_of layer.new) }
+    {
+        let home = self.home(number);
+        let relieved = home.lock(rt).relieve(layer, outs);
+        if relieved || self.relieve_anywhere(rt, layer, outs) {
+            return;
+        }
+        home.lock(rt).make_room(layer, outs);
+    }
+
+    // Gives an empty magazine of any part to a layer that has no room.
+    fn relieve_anywhere<R: Wait>(&self, rt: &R, layer: &mut Layer<K>, outs: &mut Share<A>) -> bool
+        requires full { IsFull K.ROUNDS layer.old }
+        requires part { 0 < outs.old.parts }
+        requires amount { K.ROUNDS ≤ outs.old.amount }
+        ensures parts { outs.new.parts ≡ outs.old.parts }
+        ensures made { IsTrue result → layer.new ≡ record { loaded = []; previous = layer.old.loaded } }
+        ensures amount { IsTrue result → outs.new.amount + K.ROUNDS ≡ outs.old.amount }
+        ensures even { outs.new.amount + length (rounds_of layer.old) ≡ outs.old.amount + length (rounds_of layer.new) }
+        ensures unchanged { result ≡ false → (layer.new ≡ layer.old) × (outs.new.amount ≡ outs.old.amount) }
+    {
+        for number in 0..self.homes() {
+            if self.home(number).lock(rt).relieve(layer, outs) {
+                return true;
+            }
+        }
+        false
     }
 
     // Sends the rounds of a hand's layer home.
@@ -183,7 +274,11 @@ impl<K: Kind, A: Ledger, B: Ledger> Cache<K, A, B> {
     /// A pass of the reaper: the full magazines of the depot are emptied into the slabs, and each page with nothing out
     /// goes back to the arena. The answer is the number of pages that went back.
     pub fn reap_pass<R: Wait>(&self, rt: &R, arena: &ArenaLock) -> u32 {
-        self.inner.lock(rt).reap(rt, arena)
+        let mut inner = self.inner.lock(rt);
+        for number in 0..self.homes() {
+            self.home(number).lock(rt).drain(rt, &mut *inner);
+        }
+        inner.give_pages(rt, arena)
     }
 
     /// How many slots are out of the slabs now, in hands, magazines or with clients. It is for tests: another worker may
@@ -208,12 +303,13 @@ impl<K: Kind, A: Ledger, B: Ledger> Cache<K, A, B> {
             hands: _,
         } = self;
         let mut inner = inner.into_inner();
-        let (mut all_outs, mut all_ins) = gathered(parts);
+        let (mut all_outs, mut all_ins) = gathered(rt, &mut inner, parts);
         let mut allocs = 0;
         let mut frees = 0;
         let mut nulls = 0;
         while let Some(hand) = hands.pop() {
             let Hand {
+                number: _,
                 mut layer,
                 outs,
                 mut ins,
@@ -230,7 +326,7 @@ impl<K: Kind, A: Ledger, B: Ledger> Cache<K, A, B> {
             nulls += refused;
         }
         hands.destroy_empty();
-        inner.reap(rt, arena);
+        inner.give_pages(rt, arena);
         inner.audit(&mut all_outs, &mut all_ins);
         let (missing, foreign) = inner.end();
         Totals {

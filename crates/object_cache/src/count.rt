@@ -8,7 +8,7 @@ ghost use Rattle.std.specs.Prelude.{◌≡◌, ◌+◌, ◌^◌, ◌≤◌};
 use std::sync::Wait;
 
 /// The most that is counted.
-const MOST: u64 = 1 << 56;
+pub const MOST: u64 = 1 << 56;
 
 /// Counts one more.
 #[inline]
@@ -22,7 +22,8 @@ pub fn count<R: Wait>(rt: &R, number: &mut u64)
     *number += 1;
 }
 
-fn wait_for_ever<R: Wait>(rt: &R)
+/// Never returns.
+pub fn wait_for_ever<R: Wait>(rt: &R)
     ensures { ⊥ }
 {
     for _ in rt.forever() {}

@@ -16,7 +16,7 @@ ghost use Rattle.object_cache.specs.HandView.{HasRound, HasRoom};
 
 use crate::arena_lock::ArenaLock;
 use crate::cache::Cache;
-use crate::count::count;
+use crate::count::{MOST, count, wait_for_ever};
 use crate::fault::TakeFault;
 use magazine::Layer;
 use slab_layer::{Held, Kind, Obj};
@@ -25,8 +25,9 @@ use std::sync::Wait;
 use std::sync::ledger::{Ledger, Share};
 
 /// What a worker takes objects of a cache with. It must be handed to `Cache::close`. Its type says by the two ledgers
-/// which cache made it.
+/// which cache made it, and its number is how many hands that one had made before.
 pub struct Hand<K: Kind, A: Ledger, B: Ledger> {
+    pub(crate) number: usize,
     pub(crate) layer: Layer<K>,
     pub(crate) outs: Share<A>,
     pub(crate) ins: Share<B>,
@@ -49,7 +50,7 @@ impl<K: Kind, A: Ledger, B: Ledger> Hand<K, A, B> {
     /// Takes an object, with its image: a round of this hand; else one of a full magazine of the depot, which this hand
     /// then has; else one of the slabs, which grow by a page of the arena where none is home. It waits for the two
     /// locks, the arena's inside the cache's, and for ever past 2^56 calls. The cache is the one that made this hand.
-    #[inline]
+    #[inline(always)]
     pub fn take<R: Wait>(
         &mut self,
         rt: &R,
@@ -67,29 +68,56 @@ impl<K: Kind, A: Ledger, B: Ledger> Hand<K, A, B> {
         ensures taken { IfOk result (λ object. HasRound self.old.layer → IsPermutation (rounds_of self.old.layer) (object.slot ∷ rounds_of self.new.layer)) }
         ensures fault { OnErr result (IsEmpty self.old.layer × (self.new.layer ≡ self.old.layer)) }
     {
-        match cache.find(rt, arena, &mut self.layer, &mut self.outs) {
-            Ok(object) => {
-                count(rt, &mut self.allocs);
-                Ok(object.hold())
+        let object = match self.layer.try_take() {
+            Some(object) => object,
+            None => {
+                if let Err(fault) = cache.supply(
+                    rt,
+                    arena,
+                    self.number,
+                    &mut self.layer,
+                    &mut self.outs,
+                ) {
+                    count(rt, &mut self.nulls);
+                    return Err(fault);
+                }
+                match self.layer.try_take() {
+                    Some(object) => object,
+                    None => unreachable!(),
+                }
             }
-            Err(fault) => {
-                count(rt, &mut self.nulls);
-                Err(fault)
-            }
+        };
+        if self.allocs >= MOST {
+            wait_for_ever(rt);
         }
+        self.allocs += 1;
+        Ok(object.hold())
     }
 
     /// Gives an object back, with its image restored: to this hand's layer; where that has no room, an empty magazine of
     /// the depot makes some, or a new one; where there is no memory for it, the object goes home to the slabs. It waits
     /// for the cache's lock, and for ever past 2^56 calls. The cache is the one that made this hand.
-    #[inline]
+    #[inline(always)]
     pub fn give<R: Wait>(&mut self, rt: &R, cache: &Cache<K, A, B>, object: Obj<K, Held>)
         ensures frees { self.new.frees ≡ self.old.frees + 1 }
         ensures allocs { (self.new.allocs ≡ self.old.allocs) × (self.new.nulls ≡ self.old.nulls) }
         ensures given { HasRoom K.ROUNDS self.old.layer → IsPermutation (object.slot ∷ rounds_of self.old.layer) (rounds_of self.new.layer) }
     {
-        count(rt, &mut self.frees);
-        cache.put(rt, &mut self.layer, &mut self.ins, object.restore());
+        if self.frees >= MOST {
+            wait_for_ever(rt);
+        }
+        self.frees += 1;
+        let Err(back) = self.layer.try_give(object.restore()) else {
+            return;
+        };
+        cache.take_back(
+            rt,
+            self.number,
+            &mut self.layer,
+            &mut self.outs,
+            &mut self.ins,
+            back,
+        );
     }
 
     /// Sends all rounds of this hand home to the slabs. It waits for the cache's lock. The cache is the one that made

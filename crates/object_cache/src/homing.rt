@@ -8,7 +8,7 @@ ghost use Rattle.slab_layer.specs.Slots.{IsOut, Has, out_count, place_of};
 ghost use Rattle.object_cache.specs.Homing.{SendsHome};
 
 use crate::count::count;
-use magazine::{Depot, Magazine};
+use magazine::Magazine;
 use slab_layer::{Kind, Obj, Ready, Slabs};
 use std::sync::Wait;
 use vmem_arena::Arena;
@@ -47,25 +47,6 @@ pub fn unload<K: Kind, R: Wait>(
         go_home(rt, slabs, foreign, object);
     }
     magazine.end();
-}
-
-/// Sends the rounds of all full magazines of a depot home, and ends these.
-pub fn drain<K: Kind, R: Wait>(
-    rt: &R,
-    slabs: &mut Slabs<K>,
-    foreign: &mut u64,
-    depot: &mut Depot<K>,
-)
-    requires { foreign.old ≤ 2 ^ 56 }
-    ensures sent { SendsHome slabs.old slabs.new depot.old.rounds }
-    ensures empty { depot.new.rounds ≡ [] }
-    ensures empties { depot.new.empties ≡ depot.old.empties }
-    ensures counted { out_count slabs.new + foreign.old + length depot.old.rounds ≡ out_count slabs.old + foreign.new }
-    ensures few { foreign.new ≤ 2 ^ 56 }
-{
-    while let Some(magazine) = depot.drain_full() {
-        unload(rt, slabs, foreign, magazine);
-    }
 }
 
 /// Gives each page with nothing out back to the arena; the answer is how many it took.

@@ -2,17 +2,17 @@
 //!
 //! *The idea.* An allocator with Bonwick's slabs below and Bonwick and Adams' magazines above (1994; 2001). Each worker
 //! takes and gives objects by a [`Hand`] of its own, which keeps some ready objects in a layer of two magazines, and asks
-//! nobody. Where the layer can't serve, the hand goes to the [`Cache`]: there, under one lock, lie a depot of magazines
-//! and the slabs, whose pages come from an arena under a lock of its own, the [`ArenaLock`], which several caches share.
-//! A reaper gives pages with nothing out back to it.
+//! nobody. Where the layer can't serve, the hand goes to the [`Cache`]: there lies a depot of magazines, in parts, of which
+//! one is the hand's home; and below it, under one lock, the slabs, whose pages come from an arena under a lock of its own,
+//! the [`ArenaLock`], which several caches share. A reaper gives pages with nothing out back to it.
 //!
 //! *The order.* To take: a round of the layer; else a full magazine of the depot; else an object of the slabs, which grow
 //! by a page where none is home. To give: to the layer; else an empty magazine of the depot for a full one, or a new one;
 //! else, where there is no memory for that, home to the slabs.
 //!
-//! *The locks.* The arena's lock is taken inside a cache's, and nothing is locked inside the arena's. From the moment
-//! that nothing is home until a new page's object is taken the cache's lock stays, so no other hand takes the objects of
-//! the page that one asked for.
+//! *The locks.* A hand locks its home alone, and lets go of it. The cache's lock comes before those of the other parts of
+//! the depot and the arena's, and nothing is locked inside these. From the moment that nothing is home until a new page's
+//! object is taken the cache's lock stays, so no other hand takes the objects of the page that one asked for.
 //!
 //! *Why the totals are exact.* Each object that leaves the inside of a cache, or comes in, is entered in a book and in the
 //! share of it that the hand has. So what the hands did can be compared with what is out of the slabs, though no worker

@@ -2,4 +2,3 @@ pub mod Selecting
 pub mod Homes
 pub mod Changes
 pub mod Pages
-pub mod Filled

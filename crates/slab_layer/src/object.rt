@@ -52,9 +52,19 @@ impl State for Held {
     ghost imaged = { false };
 }
 
+// Writes the image over all bytes. Their number is known when this is compiled, so a short image takes a few moves.
+#[inline(always)]
+fn write_image<K: Kind>(bytes: &mut [u8])
+    requires { length bytes.old ≡ K.SIZE }
+    ensures { bytes.new ≡ replicate K.SIZE K.FILL }
+{
+    bytes[..K::SIZE].fill(K::FILL);
+}
+
 /// An object of a kind in a state. It must be spent, and can't be dropped.
 pub struct Obj<K: Kind, S: State> {
-    slot: u32,
+    // A whole word, so that an object is moved word by word.
+    slot: u64,
     bytes: Vec<u8>,
     of: PhantomData<(K, S)>,
     pub ghost placed: { slot < 65536 },
@@ -67,7 +77,7 @@ impl<K: Kind, S: State> Obj<K, S> {
     pub fn slot(&self) -> u32
         ensures { result ≡ self.now.slot }
     {
-        self.slot
+        self.slot as u32
     }
 }
 
@@ -79,7 +89,7 @@ impl<K: Kind> Obj<K, Home> {
         ensures { result.slot ≡ slot }
     {
         Obj {
-            slot,
+            slot: u64::from(slot),
             bytes,
             of: PhantomData,
         }
@@ -104,7 +114,7 @@ impl<K: Kind> Obj<K, Home> {
             mut bytes,
             of: _,
         } = self;
-        bytes.as_mut_slice().fill(K::FILL);
+        write_image::<K>(bytes.as_mut_slice());
         Obj {
             slot,
             bytes,
@@ -171,7 +181,7 @@ impl<K: Kind> Obj<K, Held> {
             bytes: mut used,
             of: _,
         } = self;
-        used.as_mut_slice().fill(K::FILL);
+        write_image::<K>(used.as_mut_slice());
         Obj {
             slot,
             bytes: used,

@@ -5,7 +5,7 @@ abbrev pub invariant-loop-part : goal.invariant-loop-part
 invariant-loop-part g l = record {
   outs : l.all_outs.parts + vec_len l.parts ≡ vec_len l.initial.parts + 1;
   ins : l.all_ins.parts + vec_len l.parts ≡ vec_len l.initial.parts + 1;
-  unmoved : (l.all_outs.amount ≡ 0) × (l.all_ins.amount ≡ 0);
+  even : l.all_outs.amount ≡ l.all_ins.amount;
 }
 
 abbrev pub decreases-loop-part : goal.decreases-loop-part

@@ -9,7 +9,6 @@ invariant-loop-object g l = record {
   parts : l.share.parts ≡ l.initial.share.parts;
   amount : l.share.amount + length (rounds_of l.layer) ≡ l.initial.share.amount + length (rounds_of l.initial.layer);
   sent : (final : Pages) → SendsHome l.self.slabs final (rounds_of l.layer) → SendsHome l.initial.self.slabs final (rounds_of l.initial.layer);
-  depot : l.self.depot ≡ l.initial.self.depot;
 }
 
 abbrev pub decreases-loop-object : goal.decreases-loop-object

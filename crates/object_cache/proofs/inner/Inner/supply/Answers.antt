@@ -1,4 +1,4 @@
-use Rattle.std.proofs.Common.{◌/◌, ◌∙◌}
+use Rattle.std.proofs.Common.{◌/◌}
 use Rattle.object_cache.proofs.Homes.{takes_grown}
 use Rattle.object_cache.proofs.inner.Inner.supply.Goals as goal
 
@@ -6,4 +6,4 @@ pub returns-clause-out : goal.returns-clause-out
 returns-clause-out g c =
     let grown = c.in_ok-grow.ensures.grown in
     let taken = c.in-Some-take_home in
-    takes_grown c.args.self.now.slabs c.take_home.new.self.slabs c.grow.new.self.slabs c.take_home-2.new.self.slabs grown.page (4096 / g.K.Kind.SIZE) taken.object.slot (c.in_default.ensures.unchanged ∙ c.if-refill.ensures.slabs.0) grown.not_had grown.added taken.ensures.was_home taken.ensures.moved
+    takes_grown c.args.self.now.slabs c.take_home.new.self.slabs c.grow.new.self.slabs c.take_home-2.new.self.slabs grown.page (4096 / g.K.Kind.SIZE) taken.object.slot c.in_default.ensures.unchanged grown.not_had grown.added taken.ensures.was_home taken.ensures.moved
