@@ -1,9 +1,9 @@
 -- The slabs' map of slots, and what is kept beside it, after a change of one page.
 use Rattle.std.proofs.Common.{not, map, ◌≡◌, ◌≢◌, ℕ, zero, suc, ◌-◌, take, ◌+◌, ◌*◌, ◌/◌, ◌%◌, ◌<◌, ◌≤◌, ◌==◌, if◌then◌else◌, Bool, true, false, cond, List, [], ◌∷◌, ◌++◌, length, get_or, set, replicate, Some, refl, sym, ap, subst, ◌∙◌, arith, inl, inr, ◌⊎◌}
-use Rattle.std.specs.Prelude.{slice_get}
-use Rattle.std.proofs.lemmas.Bool.{cases_eq, cases_lt, false≢true}
-use Rattle.std.proofs.lemmas.List.{length_push, length-set, get_or-set_same, get_or-set_other, get_or_past, get_or_default, get_or-map, map-set, set-get_or, length-map}
-use Rattle.std.proofs.lemmas.Option.{slice_get_within, slice_get_past, get_or_from_slice_get}
+use Rattle.std.specs.Prelude.{slice_get, None}
+use Rattle.std.proofs.lemmas.Bool.{cases_eq, cases_lt}
+use Rattle.std.proofs.lemmas.List.{length_push, length-set, get_or-set_same, get_or-set_other, get_or_past, get_or_default, get_or-map, map-set, set-get_or, length-map, take_all, take_more}
+use Rattle.std.proofs.lemmas.Option.{slice_get_within, slice_get_past, get_or_from_slice_get, slice_get-get_or}
 use Rattle.slab_layer.specs.declared.place.Place.{Place}
 use Rattle.slab_layer.specs.declared.place.Place.TheVariants.{Home, Out}
 use Rattle.slab_layer.specs.Stacks.{times, HasSame, selected}
@@ -227,8 +227,8 @@ module _ {X : Type 0} (places : X → List Place) (number : X → ℕ) where
       (partial-set (map places xs) (map number xs) partial after out left at (places new) stack inside few stacked balance))
 
   -- an object is taken from the page on top of the stack
-  pub partial_taken : (xs : List X) (at i : ℕ) (old new : X) (partial rest after : List ℕ) (out : ℕ) (b : Bool) → IsPartialStack (map places xs) (map number xs) partial out → partial ≡ rest ++ at ∷ [] → at < length xs → old ≡ get_or xs at old → number new ≡ number old → slice_get (places old) i ≡ Some Home → places new ≡ set (places old) i Out → b ≡ has_home (places new) → after ≡ (if not b then rest else partial) → IsPartialStack (map places (set xs at new)) (map number (set xs at new)) after (out + 1)
-  partial_taken xs at i old new partial rest after out b stack top within read same was is now then' =
+  pub partial_taken : (xs : List X) (at i : ℕ) (old new : X) (partial rest : List ℕ) (out : ℕ) (b : Bool) → IsPartialStack (map places xs) (map number xs) partial out → partial ≡ rest ++ at ∷ [] → at < length xs → old ≡ get_or xs at old → number new ≡ number old → slice_get (places old) i ≡ Some Home → places new ≡ set (places old) i Out → b ≡ has_home (places new) → (after : List ℕ) → after ≡ (if not b then rest else partial) → IsPartialStack (map places (set xs at new)) (map number (set xs at new)) after (out + 1)
+  partial_taken xs at i old new partial rest out b stack top within read same was is now after then' =
       let inside : at < length (map places xs) = omega (arith, length-map xs places) in
       let reads = places_read xs at old within read in
       let few : length (places new) ≤ 256 = rw (is, length-set (places old) i Out, sym reads) (stack.small at) in
@@ -238,9 +238,17 @@ module _ {X : Type 0} (places : X → List Place) (number : X → ℕ) where
       let count : outs_in (places new) ≡ outs_in (places old) + 1 = ap outs_in is ∙ outs_in-out (places old) i was in
       partial_after xs at old new partial after out (out + 1) stack within read same few stacked (omega (arith, count))
 
+  -- and one more is out
+  pub count_taken : (xs : List X) (at i : ℕ) (old new : X) → at < length xs → old ≡ get_or xs at old → slice_get (places old) i ≡ Some Home → places new ≡ set (places old) i Out → out_count (map places (set xs at new)) ≡ out_count (map places xs) + 1
+  count_taken xs at i old new within read was is =
+      let inside : at < length (map places xs) = omega (arith, length-map xs places) in
+      let reads = ap outs_in (places_read xs at old within read) in
+      let more : outs_in (places new) ≡ outs_in (places old) + 1 = ap outs_in is ∙ outs_in-out (places old) i was in
+      rw (map-set places xs at new) (omega (arith, out_count-set (map places xs) at (places new) inside))
+
   -- an object is given back to its page
-  pub partial_given : (xs : List X) (at i : ℕ) (old new : X) (partial after : List ℕ) (out left : ℕ) (b : Bool) → IsPartialStack (map places xs) (map number xs) partial out → at < length xs → old ≡ get_or xs at old → number new ≡ number old → slice_get (places old) i ≡ Some Out → places new ≡ set (places old) i Home → b ≡ has_home (places old) → after ≡ (if not b then partial ++ at ∷ [] else partial) → left + 1 ≡ out → IsPartialStack (map places (set xs at new)) (map number (set xs at new)) after left
-  partial_given xs at i old new partial after out left b stack within read same was is before then' less =
+  pub partial_given : (xs : List X) (at i : ℕ) (old new : X) (partial : List ℕ) (out left : ℕ) (b : Bool) → IsPartialStack (map places xs) (map number xs) partial out → at < length xs → old ≡ get_or xs at old → number new ≡ number old → slice_get (places old) i ≡ Some Out → places new ≡ set (places old) i Home → b ≡ has_home (places old) → left + 1 ≡ out → (after : List ℕ) → after ≡ (if not b then partial ++ at ∷ [] else partial) → IsPartialStack (map places (set xs at new)) (map number (set xs at new)) after left
+  partial_given xs at i old new partial out left b stack within read same was is before less after then' =
       let inside : at < length (map places xs) = omega (arith, length-map xs places) in
       let reads = places_read xs at old within read in
       let few : length (places new) ≤ 256 = rw (is, length-set (places old) i Home, sym reads) (stack.small at) in
@@ -249,6 +257,18 @@ module _ {X : Type 0} (places : X → List Place) (number : X → ℕ) where
       let stacked = subst H (sym then') (after_give b (map places xs) partial at (places new) (ap has_home reads ∙ sym before) stack.stacked inside now) in
       let count : outs_in (places new) + 1 ≡ outs_in (places old) = ap (λ n. n + 1) (ap outs_in is) ∙ outs_in-home (places old) i was in
       partial_after xs at old new partial after out left stack within read same few stacked (omega (arith, count))
+
+  -- and one less is out
+  pub count_given : (xs : List X) (at i : ℕ) (old new : X) → at < length xs → old ≡ get_or xs at old → slice_get (places old) i ≡ Some Out → places new ≡ set (places old) i Home → out_count (map places (set xs at new)) + 1 ≡ out_count (map places xs)
+  count_given xs at i old new within read was is =
+      let inside : at < length (map places xs) = omega (arith, length-map xs places) in
+      let reads = ap outs_in (places_read xs at old within read) in
+      let less : outs_in (places new) + 1 ≡ outs_in (places old) = ap (λ n. n + 1) (ap outs_in is) ∙ outs_in-home (places old) i was in
+      rw (map-set places xs at new) (omega (arith, out_count-set (map places xs) at (places new) inside))
+
+  -- the object of a slot is out
+  pub out_read : (xs : List X) (at index : ℕ) (x : X) → at < length xs → x ≡ get_or xs at x → slice_get (places x) index ≡ Some Out → (y : X) → y ≡ get_or xs at y → slice_get (places y) index ≡ Some Out
+  out_read xs at index x within read out y is = subst (λ z. slice_get (places z) index ≡ Some Out) (read ∙ (get_or_default xs at x y within ∙ sym is)) out
 
   -- there is room for a page that gets its first object
   pub room_given : (xs : List X) (at i : ℕ) (old : X) (partial : List ℕ) (out : ℕ) → IsPartialStack (map places xs) (map number xs) partial out → at < length xs → old ≡ get_or xs at old → slice_get (places old) i ≡ Some Out → has_home (places old) ≡ false → length partial < length xs
@@ -268,32 +288,44 @@ module _ {X : Type 0} (places : X → List Place) (number : X → ℕ) where
       let made = subst M reads (moved (map places xs) at s a there here (subst L (sym reads) inside)) in
       rw (map-set places xs at new, is) made
 
--- a list is read through another that is equal
-pub top_read : (ds partial : List ℕ) (p : ℕ) → ds ≡ partial → ds ≡ take (length ds - 1) ds ++ p ∷ [] → partial ≡ take (length partial - 1) partial ++ p ∷ []
-top_read ds partial p same top = let P : List ℕ → Type 0 = λ ns. ns ≡ take (length ns - 1) ns ++ p ∷ [] in subst P same top
+-- the last number of a list, and all before it
+split_last : (ns : List ℕ) (n : ℕ) → Some n ≡ slice_get ns (length ns - 1) → ns ≡ take (length ns - 1) ns ++ n ∷ []
+split_last ns n last =
+    let i = length ns - 1 in
+    let within : i < length ns = slice_get_within ns i n (sym last) in
+    sym (take_all (i + 1) ns (omega arith)) ∙ (take_more ns i 0 within ∙ ap (λ k. take i ns ++ k ∷ []) (get_or_from_slice_get ns i n 0 (sym last)))
+
+-- a list with no last number is empty
+no_last : (ns : List ℕ) → None ≡ slice_get ns (length ns - 1) → length ns ≡ 0
+no_last [] none = refl
+no_last (n ∷ ns) none =
+    let within : length ns + 1 - 1 < length ns + 1 = omega arith in
+    let there = slice_get-get_or (n ∷ ns) (length (n ∷ ns) - 1) 0 (omega arith) in
+    absurd (let e : None ≡ Some (get_or (n ∷ ns) (length (n ∷ ns) - 1) 0) = none ∙ there in cc)
 
 -- with an empty stack no slot is home
-pub partial_none : (ds : List ℕ) (pages : Pages) (numbers partial : List ℕ) (out slot : ℕ) → ds ≡ partial → ds ≡ [] → IsPartialStack pages numbers partial out → IsHome pages slot → ⊥
+pub partial_none : (ds : List ℕ) (pages : Pages) (numbers partial : List ℕ) (out slot : ℕ) → ds ≡ partial → None ≡ slice_get ds (length ds - 1) → IsPartialStack pages numbers partial out → IsHome pages slot → ⊥
 partial_none ds pages numbers partial out slot same none stack home =
-    let e : length partial ≡ 0 = ap length (sym same ∙ none) in
+    let e : length partial ≡ 0 = ap length (sym same) ∙ no_last ds none in
     none_home pages slot (omega (arith, stack.stacked.count)) home
 
 -- the element that was written
 pub read_set : {X : Type 0} (xs : List X) (at : ℕ) (new y : X) → at < length xs → y ≡ get_or (set xs at new) at y → y ≡ new
 read_set xs at new y within read = read ∙ get_or-set_same xs at new y within
 
-module _ {X : Type 0} (places : X → List Place) (number : X → ℕ) where
-  -- the page on top of the stack is in the table
-  pub top_within : (xs : List X) (partial rest : List ℕ) (p out : ℕ) → IsPartialStack (map places xs) (map number xs) partial out → partial ≡ rest ++ p ∷ [] → p < length xs
-  top_within xs partial rest p out stack top =
-      let H : List ℕ → Type 0 = λ ns. HasSame ns (selected has_home 0 (map places xs)) in
-      omega (arith, length-map xs places, (top_has_home (map places xs) rest p (subst H top stack.stacked)).0)
+-- the page on top of the stack is in the table, and has an object at home
+pub record IsTop {X : Type 0} (places : X → List Place) (xs : List X) (partial : List ℕ) (at : ℕ) : Type 0 where
+  pub last : partial ≡ take (length partial - 1) partial ++ at ∷ []
+  pub within : at < length xs
+  pub home : (x : X) → x ≡ get_or xs at x → has_home (places x) ≡ true
 
-  -- and has an object at home
-  pub top_home : (xs : List X) (partial rest : List ℕ) (p out : ℕ) (x : X) → IsPartialStack (map places xs) (map number xs) partial out → partial ≡ rest ++ p ∷ [] → x ≡ get_or xs p x → has_home (places x) ≡ true
-  top_home xs partial rest p out x stack top read =
-      let H : List ℕ → Type 0 = λ ns. HasSame ns (selected has_home 0 (map places xs)) in
-      ap has_home (sym (places_read places number xs p x (top_within xs partial rest p out stack top) read)) ∙ (top_has_home (map places xs) rest p (subst H top stack.stacked)).1
+module _ {X : Type 0} (places : X → List Place) (number : X → ℕ) where
+  pub is_top : (xs : List X) (ds partial : List ℕ) (at out : ℕ) → IsPartialStack (map places xs) (map number xs) partial out → ds ≡ partial → Some at ≡ slice_get ds (length ds - 1) → IsTop places xs partial at
+  is_top xs ds partial at out stack same read =
+      let last = split_last partial at (subst (λ ns. Some at ≡ slice_get ns (length ns - 1)) same read) in
+      let top = top_has_home (map places xs) (take (length partial - 1) partial) at (subst (λ ns. HasSame ns (selected has_home 0 (map places xs))) last stack.stacked) in
+      let within : at < length xs = omega (arith, length-map xs places, top.0) in
+      record { last = last; within = within; home = λ x is. ap has_home (sym (places_read places number xs at x within is)) ∙ top.1 }
 
   -- where the object of a slot is, by its slab
   pub place_at : (xs : List X) (at s : ℕ) (x : X) → at < length xs → x ≡ get_or xs at x → s / 256 ≡ at → place_of (map places xs) s ≡ slice_get (places x) (s % 256)
@@ -315,7 +347,3 @@ out_some places number xs at i old partial out stack within read was =
     let f = ap outs_in (places_read places number xs at old within read) in
     let h = outs_in-home (places old) i was in
     omega (arith, stack.counted)
-
-pub from_not : (b : Bool) → not b ≡ true → b ≡ false
-from_not true e = absurd (false≢true e)
-from_not false e = refl

@@ -7,8 +7,8 @@ use Rattle.slab_layer.proofs.Homes.{row_objects}
 use Rattle.slab_layer.proofs.Pages.{partial_grown, grown, grown_same, not_had, room_for_all}
 use Rattle.slab_layer.proofs.slabs.Slabs.grow.Goals as goal
 
-pub push_if-requires : goal.push_if-requires
-push_if-requires g c = λ _.
+pub push_reserved-requires : goal.push_reserved-requires
+push_reserved-requires g c =
     let xs = c.fill_table.new.slabs.items in
     let olds = map (λ s. s.places.items) c.self.inside.slabs.items in
     let at = c.first-page.result in
@@ -59,7 +59,7 @@ invariant_of-self-2 g c =
     let whole = c.self.invariant.0.sized in
     let cap = room_for_all (length olds) (vec_len c.self.inside.slabs) (vec_capacity c.reserve_tables.new.partial) (vec_capacity c.self.inside.partial) whole (length-map c.self.inside.slabs.items (λ s. s.places.items) ∙ sym wide) c.in-Ok.ensures.room_open c.self.invariant.1 c.reserve_tables.ensures.capacity in
     let high : vec_len c.fill_table.new.slabs ≡ length xs = c.fill_table.new.slabs.ok.0 in
-    (rw c.push_if.ensures.items both.0, omega (arith, c.push_if.ensures.capacity))
+    (rw c.push_reserved.ensures.items both.0, omega (arith, c.push_reserved.ensures.capacity))
 
 pub returns-clause-added : goal.returns-clause-added
 returns-clause-added g c =

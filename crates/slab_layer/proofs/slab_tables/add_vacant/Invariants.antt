@@ -1,6 +1,6 @@
 use Rattle.std.proofs.Common.{◌≡◌, ℕ, ◌≤◌, ◌<◌, [], map, vec_len, vec_capacity}
 use Rattle.std.specs.Prelude.{slice_index, slice_index_or}
-use Rattle.slab_layer.proofs.table.add_vacant.Given as goal
+use Rattle.slab_layer.proofs.slab_tables.add_vacant.Given as goal
 
 abbrev pub invariant-loop-page : goal.invariant-loop-page
 invariant-loop-page g l = record {

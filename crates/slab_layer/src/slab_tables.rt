@@ -9,7 +9,7 @@
 //! *The reason.* A table of all places is filled once, with the first page, and never moves a slab: so a page
 //! comes and goes by a write in its place, and only the stack has to be searched, when a page is given up.
 
-ghost use Rattle.std.specs.Prelude.{◌≡◌, ◌≢◌, ◌⊎◌, List, ℕ, ◌≤◌, ◌<◌, ◌+◌, ◌==◌, ◌-◌, if◌then◌else◌, true, [], ◌∷◌, ◌++◌, take, map, length, vec_len, vec_capacity, slice_index, slice_index_or, All, IfSome, IfNone, OnOk};
+ghost use Rattle.std.specs.Prelude.{◌≡◌, ◌⊎◌, List, ℕ, ◌≤◌, ◌<◌, ◌+◌, ◌==◌, if◌then◌else◌, [], map, length, vec_len, vec_capacity, slice_index, slice_index_or, All, IfSome, IfNone, OnOk};
 ghost use Rattle.std.specs.List.{AllWithin};
 ghost use Rattle.slab_layer.specs.Slots.{outs_in};
 ghost use Rattle.slab_layer.specs.Stacks.{times};
@@ -82,35 +82,6 @@ pub fn idle_at<K: Kind>(slabs: &[Slab<K>]) -> Option<usize>
         }
     }
     None
-}
-
-/// The last number of a list.
-pub fn last_number(numbers: &[u32]) -> Option<u32>
-    ensures last { IfSome result (λ n. numbers.now ≡ take (length numbers.now - 1) numbers.now ++ n ∷ []) }
-    ensures none { IfNone result (numbers.now ≡ []) }
-{
-    numbers.last().copied()
-}
-
-/// Takes the last number off where the flag is set.
-pub fn pop_if(numbers: &mut Vec<u32>, flag: bool)
-    ensures items { numbers.new.items ≡ (if flag then take (length numbers.old.items - 1) numbers.old.items else numbers.old.items) }
-    ensures capacity { vec_capacity numbers.new ≡ vec_capacity numbers.old }
-{
-    if flag {
-        numbers.pop();
-    }
-}
-
-/// Puts a number at the end where the flag is set.
-pub fn push_if(numbers: &mut Vec<u32>, flag: bool, number: u32)
-    requires { flag ≡ true → vec_len numbers.old < vec_capacity numbers.old }
-    ensures items { numbers.new.items ≡ (if flag then numbers.old.items ++ number ∷ [] else numbers.old.items) }
-    ensures capacity { vec_capacity numbers.new ≡ vec_capacity numbers.old }
-{
-    if flag {
-        numbers.push_reserved(number);
-    }
 }
 
 /// Takes a number out of a list that has it.

@@ -1,7 +1,7 @@
 use Rattle.std.proofs.Common.{◌≡◌, ◌∙◌, map, length, rules}
 use Rattle.std.proofs.lemmas.List.{length-map}
 use Rattle.slab_layer.proofs.Pages.{partial_filled}
-use Rattle.slab_layer.proofs.table.fill_table.Goals as goal
+use Rattle.slab_layer.proofs.slab_tables.fill_table.Goals as goal
 
 pub returns-then-is_empty-clause-stack : goal.returns-then-is_empty-clause-stack
 returns-then-is_empty-clause-stack g c = λ partial out stack.

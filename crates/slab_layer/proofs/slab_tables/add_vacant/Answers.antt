@@ -2,7 +2,7 @@ use Rattle.std.proofs.Common.{◌≡◌, ◌+◌, ◌≤◌, [], ◌∙◌, map,
 use Rattle.std.specs.Prelude.{slice_index, slice_index_or}
 use Rattle.std.proofs.lemmas.List.{nil_from_length}
 use Rattle.slab_layer.proofs.Pages.{vacant_more, numbered_more}
-use Rattle.slab_layer.proofs.table.add_vacant.Goals as goal
+use Rattle.slab_layer.proofs.slab_tables.add_vacant.Goals as goal
 
 pub loop-page-init : goal.loop-page-init
 loop-page-init g c =
