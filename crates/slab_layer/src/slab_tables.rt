@@ -13,7 +13,7 @@ ghost use Rattle.std.specs.Prelude.{◌≡◌, ◌⊎◌, List, ℕ, ◌≤◌, 
 ghost use Rattle.std.specs.List.{AllWithin};
 ghost use Rattle.slab_layer.specs.Slots.{outs_in};
 ghost use Rattle.slab_layer.specs.Stacks.{times};
-ghost use Rattle.slab_layer.specs.PartialStack.{IsPartialStack};
+ghost use Rattle.slab_layer.specs.SlabTable.{page_of, pages_in, IsSlabTable, IsBusy};
 
 use crate::kind::Kind;
 use crate::slab::Slab;
@@ -45,8 +45,8 @@ fn add_vacant<K: Kind>(slabs: &mut Vec<Slab<K>>, alloc: Global)
     requires none { vec_len slabs.old ≡ 0 }
     requires room { 256 ≤ vec_capacity slabs.old }
     ensures all { length slabs.new.items ≡ 256 }
-    ensures vacant { (page : ℕ) → slice_index_or (map (λ s. s.places.items) slabs.new.items) page [] ≡ [] }
-    ensures numbered { (page : ℕ) → page < 256 → slice_index (map (λ s. s.page) slabs.new.items) page ≡ page }
+    ensures vacant { (page : ℕ) → slice_index_or (pages_in slabs.new.items) page [] ≡ [] }
+    ensures numbered { (page : ℕ) → page < 256 → slice_index (map page_of slabs.new.items) page ≡ page }
 {
     for page in 0..MOST_PAGES {
         slabs.push_reserved(Slab::vacant(alloc, page));
@@ -57,11 +57,11 @@ fn add_vacant<K: Kind>(slabs: &mut Vec<Slab<K>>, alloc: Global)
 pub fn fill_table<K: Kind>(slabs: &mut Vec<Slab<K>>, alloc: Global)
     requires { vec_len slabs.old ≡ 0 → 256 ≤ vec_capacity slabs.old }
     ensures stack { (partial : List ℕ) (out : ℕ)
-        → IsPartialStack (map (λ s. s.places.items) slabs.old.items) (map (λ s. s.page) slabs.old.items) partial out
-        → IsPartialStack (map (λ s. s.places.items) slabs.new.items) (map (λ s. s.page) slabs.new.items) partial out }
+        → IsSlabTable slabs.old.items partial out
+        → IsSlabTable slabs.new.items partial out }
     ensures all { (length slabs.old.items ≡ 0) ⊎ (length slabs.old.items ≡ 256) → length slabs.new.items ≡ 256 }
-    ensures same { (page : ℕ) → slice_index_or (map (λ s. s.places.items) slabs.new.items) page []
-        ≡ slice_index_or (map (λ s. s.places.items) slabs.old.items) page [] }
+    ensures same { (page : ℕ) → slice_index_or (pages_in slabs.new.items) page []
+        ≡ slice_index_or (pages_in slabs.old.items) page [] }
 {
     if slabs.is_empty() {
         add_vacant(slabs, alloc);
@@ -71,10 +71,10 @@ pub fn fill_table<K: Kind>(slabs: &mut Vec<Slab<K>>, alloc: Global)
 /// The place of the lowest slab that is idle.
 pub fn idle_at<K: Kind>(slabs: &[Slab<K>]) -> Option<usize>
     ensures within { IfSome result (λ i. i < length slabs.now) }
-    ensures had { IfSome result (λ i. 0 < length (slice_index_or (map (λ s. s.places.items) slabs.now) i [])) }
-    ensures idle { IfSome result (λ i. outs_in (slice_index_or (map (λ s. s.places.items) slabs.now) i []) ≡ 0) }
-    ensures lowest { IfSome result (λ i. AllWithin (λ s. 0 < length s.places.items → 0 < outs_in s.places.items) slabs.now 0 i) }
-    ensures none { IfNone result (All (λ s. 0 < length s.places.items → 0 < outs_in s.places.items) slabs.now) }
+    ensures had { IfSome result (λ i. 0 < length (slice_index_or (pages_in slabs.now) i [])) }
+    ensures idle { IfSome result (λ i. outs_in (slice_index_or (pages_in slabs.now) i []) ≡ 0) }
+    ensures lowest { IfSome result (λ i. AllWithin IsBusy slabs.now 0 i) }
+    ensures none { IfNone result (All IsBusy slabs.now) }
 {
     for (i, slab) in slabs.iter().enumerate() {
         if slab.is_idle() {

@@ -42,15 +42,15 @@ pub struct Slabs<K: Kind> {
 }
 
 impl<K: Kind> Model for Slabs<K> {
-    ghost use Rattle.std.specs.Prelude.{List, map, ◌≤◌, vec_len, vec_capacity};
+    ghost use Rattle.std.specs.Prelude.{List, ◌≤◌, vec_len, vec_capacity};
     ghost use Rattle.slab_layer.specs.declared.place.Place.{Place};
-    ghost use Rattle.slab_layer.specs.PartialStack.{IsPartialStack};
+    ghost use Rattle.slab_layer.specs.SlabTable.{pages_in, IsSlabTable};
 
     ghost Value = { List (List Place) };
 
-    ghost view = { λ a. map (λ s. s.places.items) a.slabs.items };
+    ghost view = { λ a. pages_in a.slabs.items };
 
-    ghost invariant = { λ a. (IsPartialStack (map (λ s. s.places.items) a.slabs.items) (map (λ s. s.page) a.slabs.items) a.partial.items a.out) × (vec_len a.slabs ≤ vec_capacity a.partial) };
+    ghost invariant = { λ a. (IsSlabTable a.slabs.items a.partial.items a.out) × (vec_len a.slabs ≤ vec_capacity a.partial) };
 }
 
 impl<K: Kind> Slabs<K> {

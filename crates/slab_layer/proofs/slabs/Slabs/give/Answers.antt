@@ -15,24 +15,24 @@ inside g c = subst (λ n. c.slot-slot.result / 256 < n) (c.len.ensures ∙ c.sel
 
 -- and the slot is out of its slab
 out : (g : Over) (c : After-index-2 g) (old : Slab g.row.K.Denot g.K.Kind) → old ≡ get_or c.self.inside.slabs.items (c.slot-slot.result / 256) old → slice_get old.places.items (c.slot-slot.result % 256) ≡ Some Out
-out g c old read = out_read (λ s. s.places.items) (λ s. s.page) c.self.inside.slabs.items (c.slot-slot.result / 256) (c.slot-slot.result % 256) c.index.result.now (inside g c) c.index.ensures (c.is_out.ensures.0 c.if-not-is_out.false) old read
+out g c old read = out_read c.self.inside.slabs.items (c.slot-slot.result / 256) (c.slot-slot.result % 256) c.index.result.now (inside g c) c.index.ensures (c.is_out.ensures.0 c.if-not-is_out.false) old read
 
 pub push_reserved-requires : goal.push_reserved-requires
 push_reserved-requires g c =
     let h = (goal.at.push_reserved-requires g c).After-index-2 in
     let old = c.index_mut.result.now in
-    let short = room_given (λ s. s.places.items) (λ s. s.page) c.self.inside.slabs.items (c.slot-slot.result / 256) (c.slot-slot.result % 256) c.index-2.result.now c.self.inside.partial.items c.self.inside.out c.self.invariant.0 (inside g h) c.index-2.ensures (out g h c.index-2.result.now c.index-2.ensures) (sym c.has_home-is_first.ensures ∙ c.if-is_first.true) in
+    let short = room_given c.self.inside.slabs.items (c.slot-slot.result / 256) (c.slot-slot.result % 256) c.index-2.result.now c.self.inside.partial.items c.self.inside.out c.self.invariant.0 (inside g h) c.index-2.ensures (out g h c.index-2.result.now c.index-2.ensures) (sym c.has_home-is_first.ensures ∙ c.if-is_first.true) in
     omega (arith, short, c.self.invariant.1, c.self.inside.slabs.ok.0, c.self.inside.partial.ok.0)
 
 pub give-requires-clause-slot : goal.give-requires-clause-slot
 give-requires-clause-slot g c =
     let h = (goal.at.give-requires-clause-slot g c).After-index-2 in
-    ap (λ n. n / 256) (sym c.slot-slot.ensures) ∙ sym (number_is (λ s. s.places.items) (λ s. s.page) c.self.inside.slabs.items (c.slot-slot.result / 256) c.self.inside.out c.self.inside.partial.items c.index_mut.result.now c.self.invariant.0 (inside g h) c.index_mut.ensures.value)
+    ap (λ n. n / 256) (sym c.slot-slot.ensures) ∙ sym (number_is c.self.inside.slabs.items (c.slot-slot.result / 256) c.self.inside.out c.self.inside.partial.items c.index_mut.result.now c.self.invariant.0 (inside g h) c.index_mut.ensures.value)
 
 pub overflow_sub-self : goal.overflow_sub-self
 overflow_sub-self g c =
     let h = (goal.at.overflow_sub-self g c).After-index-2 in
-    let some = out_some (λ s. s.places.items) (λ s. s.page) c.self.inside.slabs.items (c.slot-slot.result / 256) (c.slot-slot.result % 256) c.index_mut.result.now c.self.inside.partial.items c.self.inside.out c.self.invariant.0 (inside g h) c.index_mut.ensures.value (out g h c.index_mut.result.now c.index_mut.ensures.value) in
+    let some = out_some c.self.inside.slabs.items (c.slot-slot.result / 256) (c.slot-slot.result % 256) c.index_mut.result.now c.self.inside.partial.items c.self.inside.out c.self.invariant.0 (inside g h) c.index_mut.ensures.value (out g h c.index_mut.result.now c.index_mut.ensures.value) in
     elim c.if-is_first.branch [ then-is_first w ↦ rw w.self-inside-is some | else-is_first w ↦ rw w.self-inside-is some ]
 
 pub invariant_of-self : goal.invariant_of-self
@@ -46,8 +46,8 @@ invariant_of-self g c =
     let was = out g h old c.index_mut.ensures.value in
     let is : c.give.new.self.places.items ≡ set old.places.items index Home = c.give.ensures.home ∙ ap (λ n. set old.places.items (n % 256) Home) (sym c.slot-slot.ensures) in
     let before : c.has_home-is_first.result ≡ has_home old.places.items = c.has_home-is_first.ensures ∙ ap (λ s. has_home s.places.items) (same_read xs at c.index-2.result.now old (inside g h) c.index-2.ensures c.index_mut.ensures.value) in
-    let some = out_some (λ s. s.places.items) (λ s. s.page) xs at index old partial c.self.inside.out c.self.invariant.0 (inside g h) c.index_mut.ensures.value was in
-    let given = partial_given (λ s. s.places.items) (λ s. s.page) xs at index old c.give.new.self partial c.self.inside.out (c.self.inside.out - 1) c.has_home-is_first.result c.self.invariant.0 (inside g h) c.index_mut.ensures.value c.give.ensures.page was is before (omega (arith, some)) in
+    let some = out_some xs at index old partial c.self.inside.out c.self.invariant.0 (inside g h) c.index_mut.ensures.value was in
+    let given = partial_given xs at index old c.give.new.self partial c.self.inside.out (c.self.inside.out - 1) c.has_home-is_first.result c.self.invariant.0 (inside g h) c.index_mut.ensures.value c.give.ensures.page was is before (omega (arith, some)) in
     let pushed = λ (b : Bool). if not b then partial ++ at ∷ [] else partial in
     elim c.if-is_first.branch [
       | then-is_first w ↦ rw w.self-inside-is (given w.push_reserved.new.self.items (w.push_reserved.ensures.items ∙ sym (ap pushed w.if-is_first.true)), omega (arith, c.self.invariant.1, w.push_reserved.ensures.capacity))
@@ -62,7 +62,7 @@ returns-clause-moved g c = λ _.
     let old = c.index_mut.result.now in
     let is : c.give.new.self.places.items ≡ set old.places.items (c.slot-slot.result % 256) Home = c.give.ensures.home ∙ ap (λ n. set old.places.items (n % 256) Home) (sym c.slot-slot.ensures) in
     let kept : c.if-is_first.self-inside.slabs.items ≡ set xs at c.give.new.self = elim c.if-is_first.branch [ then-is_first w ↦ ap (λ s. s.slabs.items) w.self-inside-is | else-is_first w ↦ ap (λ s. s.slabs.items) w.self-inside-is ] in
-    rw (← c.self.view_is, kept, ← c.slot-slot.ensures) (moves (λ s. s.places.items) (λ s. s.page) xs c.slot-slot.result at Home old c.give.new.self (inside g h) c.index_mut.ensures.value refl (slice_get_within _ _ Out (out g h old c.index_mut.ensures.value)) is)
+    rw (← c.self.view_is, kept, ← c.slot-slot.ensures) (moves xs c.slot-slot.result at Home old c.give.new.self (inside g h) c.index_mut.ensures.value refl (slice_get_within _ _ Out (out g h old c.index_mut.ensures.value)) is)
 
 pub returns-clause-counted : goal.returns-clause-counted
 returns-clause-counted g c = λ _.
@@ -72,7 +72,7 @@ returns-clause-counted g c = λ _.
     let old = c.index_mut.result.now in
     let is : c.give.new.self.places.items ≡ set old.places.items (c.slot-slot.result % 256) Home = c.give.ensures.home ∙ ap (λ n. set old.places.items (n % 256) Home) (sym c.slot-slot.ensures) in
     let kept : c.if-is_first.self-inside.slabs.items ≡ set xs at c.give.new.self = elim c.if-is_first.branch [ then-is_first w ↦ ap (λ s. s.slabs.items) w.self-inside-is | else-is_first w ↦ ap (λ s. s.slabs.items) w.self-inside-is ] in
-    rw (← c.self.view_is, kept) (count_given (λ s. s.places.items) (λ s. s.page) xs at (c.slot-slot.result % 256) old c.give.new.self (inside g h) c.index_mut.ensures.value (out g h old c.index_mut.ensures.value) is)
+    rw (← c.self.view_is, kept) (count_given xs at (c.slot-slot.result % 256) old c.give.new.self (inside g h) c.index_mut.ensures.value (out g h old c.index_mut.ensures.value) is)
 
 -- the parts of a slot's number
 page_fits : (n slot : ℕ) → n ≡ slot → slot < 65536 → Fits w64 (n / 256)
