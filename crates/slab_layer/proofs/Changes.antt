@@ -2,7 +2,8 @@
 use Rattle.std.proofs.Common.{not, map, ◌≡◌, ◌≢◌, ℕ, zero, suc, ◌-◌, take, ◌+◌, ◌*◌, ◌/◌, ◌%◌, ◌<◌, ◌≤◌, ◌==◌, if◌then◌else◌, Bool, true, false, cond, List, [], ◌∷◌, ◌++◌, length, get_or, set, replicate, Some, refl, sym, ap, subst, ◌∙◌, arith, inl, inr, ◌⊎◌}
 use Rattle.std.specs.Prelude.{slice_get, None}
 use Rattle.std.proofs.lemmas.Bool.{cases_eq, cases_lt}
-use Rattle.std.proofs.lemmas.List.{length_push, length-set, get_or-set_same, get_or-set_other, get_or_past, get_or_default, get_or-map, map-set, set-get_or, length-map, take_all, take_more}
+use Rattle.std.proofs.lemmas.List.{length_push, length-set, get_or-set_same, get_or-set_other, get_or_past, get_or_default, get_or-map, map-set, set-get_or, length-map, take_all, take_more, length-replicate}
+use Rattle.std.proofs.lemmas.List.Folds.{list_any_at}
 use Rattle.std.proofs.lemmas.Option.{slice_get_within, slice_get_past, get_or_from_slice_get, slice_get-get_or}
 use Rattle.slab_layer.specs.declared.place.Place.{Place}
 use Rattle.slab_layer.specs.declared.place.Place.TheVariants.{Home, Out}
@@ -15,9 +16,7 @@ use Rattle.slab_layer.specs.SlabTable.{places_of, page_of, pages_in, IsSlabTable
 use Rattle.slab_layer.proofs.Selecting.{hit, one, times-selected-set, length-selected-set, length-selected-le, found, selected_some, popped_each, popped_here}
 
 slice_get-set_same : {A : Type 0} (xs : List A) (i : ℕ) (a : A) → i < length xs → slice_get (set xs i a) i ≡ Some a
-slice_get-set_same [] i a within = absurd (omega arith)
-slice_get-set_same (x ∷ xs) zero a within = refl
-slice_get-set_same (x ∷ xs) (suc i) a within = slice_get-set_same xs i a (omega arith)
+slice_get-set_same {A = A} xs i a within = slice_get-get_or (set xs i a) i a (omega (arith, length-set xs i a)) ∙ ap (λ (x : A). Some x) (get_or-set_same xs i a a within)
 
 slice_get-set_other : {A : Type 0} (xs : List A) (i j : ℕ) (a : A) → j ≢ i → slice_get (set xs i a) j ≡ slice_get xs j
 slice_get-set_other [] i j a other = refl
@@ -57,10 +56,6 @@ slice_get-replicate zero i a within = absurd (omega arith)
 slice_get-replicate (suc n) zero a within = refl
 slice_get-replicate (suc n) (suc i) a within = slice_get-replicate n i a (omega arith)
 
-pub length-homes : (n : ℕ) → length (replicate n Home) ≡ n
-length-homes zero = refl
-length-homes (suc n) = ap suc (length-homes n)
-
 -- a page is added
 pub added : (pages olds : Pages) (p n : ℕ) → n ≤ 256 → p < length pages → ((k : ℕ) → get_or pages k [] ≡ get_or olds k []) → AddsPage olds (set pages p (replicate n Home)) p n
 added pages olds p n few within same = record {
@@ -73,7 +68,7 @@ added pages olds p n few within same = record {
       let x = p * 256 + i in
       let here : x / 256 ≡ p = omega arith in
       let index : x % 256 ≡ i = omega arith in
-      let short = length-homes n in
+      let short = length-replicate n Home in
       place_of-set_here pages p x (replicate n Home) within here ∙ (ap (λ k. slice_get (replicate n Home) k) index ∙ slice_get_past (replicate n Home) i (omega arith));
   others = λ x other. place_of-set_other pages p x _ other ∙ ap (λ qs. slice_get qs (x % 256)) (same (x / 256));
 }
@@ -123,10 +118,7 @@ out_count-le (qs ∷ qss) small = omega (arith, outs_in-le qs, small 0, out_coun
 
 -- homes
 has_home_at : (ps : List Place) (i : ℕ) → slice_get ps i ≡ Some Home → has_home ps ≡ true
-has_home_at [] i at = absurd cc
-has_home_at (Home ∷ ps) i at = refl
-has_home_at (Out ∷ ps) zero at = absurd cc
-has_home_at (Out ∷ ps) (suc i) at = has_home_at ps i at
+has_home_at ps i at = list_any_at is_home ps i Home (slice_get_within ps i Home at) (ap is_home (get_or_from_slice_get ps i Home Home at))
 
 pub has_home-set : (ps : List Place) (i : ℕ) → i < length ps → has_home (set ps i Home) ≡ true
 has_home-set ps i within = has_home_at (set ps i Home) i (slice_get-set_same ps i Home within)

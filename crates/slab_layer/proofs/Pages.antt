@@ -4,7 +4,7 @@ use Rattle.std.specs.Prelude.{slice_get, slice_index, Option, None, IsSome, IfNo
 use Rattle.std.specs.List.{All, AllWithin}
 use Rattle.std.proofs.lemmas.Bool.{cases_lt, false≢true}
 use Rattle.std.proofs.Math.Seq.{get_or-append_seam}
-use Rattle.std.proofs.lemmas.List.{get_or_past, get_or_append_left, map-set, map_push, length-map, nil_from_length}
+use Rattle.std.proofs.lemmas.List.{get_or_past, get_or_append_left, map-set, map_push, length-map, length-replicate, nil_from_length}
 use Rattle.std.proofs.lemmas.List.Elements.{All-head, All-tail}
 use Rattle.std.proofs.lemmas.Bool.Decides.{nat_tests}
 use Rattle.slab_layer.specs.declared.place.Place.{Place}
@@ -15,7 +15,7 @@ use Rattle.slab_layer.specs.PartialStack.{IsPartialStack}
 use Rattle.slab_layer.specs.declared.kind.Kind.{Ghosts}
 use Rattle.slab_layer.specs.declared.slab.Slab.{Slab}
 use Rattle.slab_layer.specs.SlabTable.{places_of, page_of, pages_in, IsSlabTable, IsBusy}
-use Rattle.slab_layer.proofs.Changes.{places_read, partial_after, stack-more, stack-less, number_is, outs_in-home, outs_in-homes, has_home-homes, length-homes, added, removed}
+use Rattle.slab_layer.proofs.Changes.{places_read, partial_after, stack-more, stack-less, number_is, outs_in-home, outs_in-homes, has_home-homes, added, removed}
 
 first_place : (pages : Pages) (p : ℕ) → place_of pages (p * 256) ≡ slice_get (get_or pages p []) 0
 first_place pages p =
@@ -144,7 +144,7 @@ module _ {K : Type 0} {k : Ghosts K} where
       let now : has_home (places_of new) ≡ true = ap has_home is ∙ has_home-homes n some in
       let was : has_home (get_or (pages_in xs) at []) ≡ false = ap has_home vacant in
       let more = stack-more (pages_in xs) partial at (places_of new) stack.stacked inside now was in
-      let short : length (places_of new) ≤ 256 = let e = ap length is ∙ length-homes n in omega arith in
+      let short : length (places_of new) ≤ 256 = let e = ap length is ∙ length-replicate n Home in omega arith in
       let count : out + outs_in (places_of old) ≡ out + outs_in (places_of new) = let e = ap outs_in none in let f = ap outs_in is ∙ outs_in-homes n in omega arith in
       (partial_after xs at old new partial (partial ++ at ∷ []) out out stack within read (noted ∙ sym (number_is xs at out partial old stack within read)) short more.0 count, omega (arith, more.1, length-map xs places_of))
 
