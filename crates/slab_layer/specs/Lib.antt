@@ -3,3 +3,4 @@ pub mod Images
 pub mod Stacks
 pub mod Slots
 pub mod PartialStack
+pub mod SlabTable

@@ -1,7 +1,8 @@
 -- Slabs as their callers see them: a finite map from slots to home or out. It is kept as a list of pages, by
 -- their number, each with the places of its objects, by their index. A page that isn't had has none. A slot's
 -- number is page * 256 + index.
-use Rattle.std.specs.Prelude.{◌≡◌, ◌≢◌, ℕ, ◌+◌, ◌*◌, ◌/◌, ◌%◌, ◌<◌, ◌≤◌, Bool, true, false, ◌||◌, cond, List, [], ◌∷◌, slice_get, slice_index_or, Option, Some, None, IsSome}
+use Rattle.std.specs.Prelude.{◌≡◌, ◌≢◌, ℕ, ◌+◌, ◌*◌, ◌/◌, ◌%◌, ◌<◌, ◌≤◌, Bool, true, false, cond, List, [], ◌∷◌, slice_get, slice_index_or, Option, Some, None, IsSome}
+use Rattle.std.specs.List.{list_any}
 use Rattle.slab_layer.specs.declared.place.Place.{Place}
 use Rattle.slab_layer.specs.declared.place.Place.TheVariants.{Home, Out}
 
@@ -38,8 +39,7 @@ out_count (ps ∷ pss) = outs_in ps + out_count pss
 
 -- the page has an object that is home
 abbrev pub has_home : List Place → Bool
-has_home [] = false
-has_home (p ∷ ps) = is_home p || has_home ps
+has_home places = list_any is_home places
 
 -- one slot has another place now, and no other slot
 pub record Moves (old new : Pages) (slot : ℕ) (place : Place) : Type 0 where

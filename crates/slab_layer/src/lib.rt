@@ -18,8 +18,8 @@ mod object;
 mod place;
 mod room;
 mod slab;
+mod slab_tables;
 mod slabs;
-mod table;
 
 pub use kind::{BlockKind, CellKind, Kind, RecordKind};
 pub use object::{Held, Home, Obj, Ready, State};

@@ -27,9 +27,7 @@ use crate::kind::Kind;
 use crate::object::{Home, Obj};
 use crate::room::Room;
 use crate::slab::Slab;
-use crate::table::{
-    fill_table, idle_at, last_number, pop_if, push_if, reserve_tables, take_number,
-};
+use crate::slab_tables::{fill_table, idle_at, reserve_tables, take_number};
 use std::alloc::Global;
 use std::marker::Model;
 use std::mem;
@@ -44,15 +42,15 @@ pub struct Slabs<K: Kind> {
 }
 
 impl<K: Kind> Model for Slabs<K> {
-    ghost use Rattle.std.specs.Prelude.{List, map, ◌≤◌, vec_len, vec_capacity};
+    ghost use Rattle.std.specs.Prelude.{List, ◌≤◌, vec_len, vec_capacity};
     ghost use Rattle.slab_layer.specs.declared.place.Place.{Place};
-    ghost use Rattle.slab_layer.specs.PartialStack.{IsPartialStack};
+    ghost use Rattle.slab_layer.specs.SlabTable.{pages_in, IsSlabTable};
 
     ghost Value = { List (List Place) };
 
-    ghost view = { λ a. map (λ s. s.places.items) a.slabs.items };
+    ghost view = { λ a. pages_in a.slabs.items };
 
-    ghost invariant = { λ a. (IsPartialStack (map (λ s. s.places.items) a.slabs.items) (map (λ s. s.page) a.slabs.items) a.partial.items a.out) × (vec_len a.slabs ≤ vec_capacity a.partial) };
+    ghost invariant = { λ a. (IsSlabTable a.slabs.items a.partial.items a.out) × (vec_len a.slabs ≤ vec_capacity a.partial) };
 }
 
 impl<K: Kind> Slabs<K> {
@@ -91,13 +89,14 @@ impl<K: Kind> Slabs<K> {
         ensures none { IfNone result ((slot : ℕ) → IsHome self.old slot → ⊥) }
         ensures unchanged { IfNone result (self.new ≡ self.old) }
     {
-        let Some(page) = last_number(&self.partial) else {
+        let Some(&page) = self.partial.last() else {
             return None;
         };
         let at = page as usize;
         let object = self.slabs[at].take();
-        let was_last = !self.slabs[at].has_home();
-        pop_if(&mut self.partial, was_last);
+        if !self.slabs[at].has_home() {
+            self.partial.pop();
+        }
         self.out += 1;
         Some(object)
     }
@@ -118,8 +117,10 @@ impl<K: Kind> Slabs<K> {
             return false;
         }
         let is_first = !self.slabs[at].has_home();
-        push_if(&mut self.partial, is_first, at as u32);
         self.slabs[at].give(object);
+        if is_first {
+            self.partial.push_reserved(at as u32);
+        }
         self.out -= 1;
         true
     }
@@ -145,7 +146,7 @@ impl<K: Kind> Slabs<K> {
         let at = page as usize;
         let vacant = mem::replace(&mut self.slabs[at], Slab::new(room, span));
         let _ = vacant.end();
-        push_if(&mut self.partial, true, page);
+        self.partial.push_reserved(page);
         Ok(())
     }
 

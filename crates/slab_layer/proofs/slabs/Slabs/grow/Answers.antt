@@ -1,128 +1,78 @@
-use Rattle.std.proofs.Common.{ℕ, ◌+◌, ◌≤◌, Fits, w64, ◌≡◌, ◌<◌, ◌/◌, ◌⊎◌, ◌∙◌, ap, sym, subst, set, replicate, length, map, vec_len, vec_capacity, arith, rules}
+use Rattle.std.proofs.Common.{ℕ, ◌+◌, ◌≤◌, ◌++◌, ◌∷◌, [], Fits, w64, ◌≡◌, ◌<◌, ◌/◌, ◌⊎◌, ◌∙◌, ap, sym, subst, set, replicate, length, vec_len, vec_capacity, arith, rules}
 use Rattle.std.proofs.lemmas.List.{length-map}
 use Rattle.slab_layer.specs.declared.place.Place.TheVariants.{Home}
-use Rattle.slab_layer.specs.Slots.{Pages, Has, AddsPage, out_count}
-use Rattle.slab_layer.specs.PartialStack.{IsPartialStack}
+use Rattle.slab_layer.specs.Slots.{Has}
+use Rattle.slab_layer.specs.SlabTable.{places_of, page_of, pages_in, IsSlabTable}
 use Rattle.slab_layer.proofs.Homes.{row_objects}
-use Rattle.slab_layer.proofs.Pages.{partial_grown, grown, grown_same, not_had, room_for_all}
+use Rattle.slab_layer.proofs.Pages.{IsFilled, partial_grown, grown, grown_same, not_had, room_for_all}
+use Rattle.slab_layer.proofs.slabs.Slabs.grow.Given.{Over}
+use Rattle.slab_layer.proofs.slabs.Slabs.grow.Goals.{After-first-page, After-replace-vacant}
 use Rattle.slab_layer.proofs.slabs.Slabs.grow.Goals as goal
 
-pub push_if-requires : goal.push_if-requires
-push_if-requires g c = λ _.
+-- the table, with its places filled
+filled : (g : Over) (c : After-first-page g) → IsFilled c.self.inside.slabs.items c.fill_table.new.slabs.items c.reserve_tables.new.partial.items c.self.inside.out c.first-page.result
+filled g c =
     let xs = c.fill_table.new.slabs.items in
-    let olds = map (λ s. s.places.items) c.self.inside.slabs.items in
     let at = c.first-page.result in
-    let n = 4096 / g.K.Kind.SIZE in
+    let kept : IsSlabTable c.reserve_tables.new.slabs.items c.reserve_tables.new.partial.items c.self.inside.out = rw (c.reserve_tables.ensures.slabs, c.reserve_tables.ensures.partial) c.self.invariant.0 in
+    let all : length xs ≡ 256 = c.fill_table.ensures.all (subst (λ m. (m ≡ 0) ⊎ (m ≡ 256)) (length-map c.reserve_tables.new.slabs.items places_of) kept.sized) in
+    let same = grown_same xs c.reserve_tables.new.slabs.items c.self.inside.slabs.items c.fill_table.ensures.same c.reserve_tables.ensures.slabs in
+    let free : Has (pages_in c.self.inside.slabs.items) at → ⊥ = subst (λ v. Has v at → ⊥) (sym c.self.view_is) (subst (λ m. Has c.args.self.now m → ⊥) (sym c.first-page.ensures) c.requires.not_had) in
+    record {
+      stack = c.fill_table.ensures.stack c.reserve_tables.new.partial.items c.self.inside.out kept;
+      all = all;
+      within = omega (arith, all, c.first-page.ensures, c.args.span.within, c.args.span.some);
+      same = same;
+      vacant = same at ∙ not_had (pages_in c.self.inside.slabs.items) at free;
+    }
+
+-- the slab that comes to its place
+new : (g : Over) (c : After-replace-vacant g) → (c.replace-vacant.new.dest.places.items ≡ replicate (4096 / g.K.Kind.SIZE) Home) × (c.replace-vacant.new.dest.page ≡ c.first-page.result)
+new g c = (ap places_of c.replace-vacant.ensures.after ∙ c.new-2.ensures.places, ap page_of c.replace-vacant.ensures.after ∙ (c.new-2.ensures.page ∙ sym c.first-page.ensures))
+
+-- the table with it
+after : (g : Over) (c : After-replace-vacant g) → IsFilled c.self.inside.slabs.items c.fill_table.new.slabs.items c.reserve_tables.new.partial.items c.self.inside.out c.first-page.result → IsSlabTable (set c.fill_table.new.slabs.items c.first-page.result c.replace-vacant.new.dest) (c.reserve_tables.new.partial.items ++ c.first-page.result ∷ []) c.self.inside.out × (length c.reserve_tables.new.partial.items < length c.fill_table.new.slabs.items)
+after g c f =
     let row = row_objects _ g.K.Kind.is_row in
-    let partial = c.reserve_tables.new.partial.items in
-    let kept : IsPartialStack (map (λ s. s.places.items) c.reserve_tables.new.slabs.items) (map (λ s. s.page) c.reserve_tables.new.slabs.items) partial c.self.inside.out = rw (c.reserve_tables.ensures.slabs, c.reserve_tables.ensures.partial) c.self.invariant.0 in
-    let stack = c.fill_table.ensures.stack partial c.self.inside.out kept in
-    let all : length xs ≡ 256 = c.fill_table.ensures.all (subst (λ m. (m ≡ 0) ⊎ (m ≡ 256)) (length-map c.reserve_tables.new.slabs.items (λ s. s.places.items)) kept.sized) in
-    let page : at ≡ c.args.span.first = c.first-page.ensures in
-    let within : at < length xs = omega (arith, c.args.span.within, c.args.span.some) in
-    let same = grown_same (λ s. s.places.items) xs c.reserve_tables.new.slabs.items c.self.inside.slabs.items c.fill_table.ensures.same c.reserve_tables.ensures.slabs in
-    let H : Pages → Type 0 = λ v. Has v at → ⊥ in
-    let free : Has olds at → ⊥ = subst H (sym c.self.view_is) (subst (λ m. Has c.args.self.now m → ⊥) (sym page) c.requires.not_had) in
-    let vacant = same at ∙ not_had olds at free in
-    let new = c.replace-vacant.new.dest in
-    let is : new.places.items ≡ replicate n Home = ap (λ s. s.places.items) c.replace-vacant.ensures.after ∙ c.new-2.ensures.places in
-    let noted : new.page ≡ at = ap (λ s. s.page) c.replace-vacant.ensures.after ∙ (c.new-2.ensures.page ∙ sym page) in
-    let both = partial_grown (λ s. s.places.items) (λ s. s.page) xs at n c.self.inside.out c.index_mut.result.now new partial stack within c.index_mut.ensures.value vacant noted is row.0 row.1 in
-    let wide : vec_len c.self.inside.slabs ≡ length c.self.inside.slabs.items = c.self.inside.slabs.ok.0 in
-    let whole = c.self.invariant.0.sized in
-    let cap = room_for_all (length olds) (vec_len c.self.inside.slabs) (vec_capacity c.reserve_tables.new.partial) (vec_capacity c.self.inside.partial) whole (length-map c.self.inside.slabs.items (λ s. s.places.items) ∙ sym wide) c.in-Ok.ensures.room_open c.self.invariant.1 c.reserve_tables.ensures.capacity in
-    let low : vec_len c.reserve_tables.new.partial ≡ length partial = c.reserve_tables.new.partial.ok.0 in
-    omega (arith, both.1)
+    partial_grown c.fill_table.new.slabs.items c.first-page.result (4096 / g.K.Kind.SIZE) c.self.inside.out c.index_mut.result.now c.replace-vacant.new.dest c.reserve_tables.new.partial.items f.stack f.within c.index_mut.ensures.value f.vacant (new g c).1 (new g c).0 row.0 row.1
+
+-- the stack has room for all pages
+room : (g : Over) (c : After-first-page g) → 256 ≤ vec_capacity c.reserve_tables.new.partial
+room g c = room_for_all (length (pages_in c.self.inside.slabs.items)) (vec_len c.self.inside.slabs) (vec_capacity c.reserve_tables.new.partial) (vec_capacity c.self.inside.partial) c.self.invariant.0.sized (length-map c.self.inside.slabs.items places_of ∙ sym c.self.inside.slabs.ok.0) c.in-Ok.ensures.room_open c.self.invariant.1 c.reserve_tables.ensures.capacity
+
+pub push_reserved-requires : goal.push_reserved-requires
+push_reserved-requires g c =
+    let h = goal.at.push_reserved-requires g c in
+    let f = filled g h.After-first-page in
+    omega (arith, (after g h.After-replace-vacant f).1, room g h.After-first-page, f.all, c.reserve_tables.new.partial.ok.0)
 
 pub invariant_of-self-2 : goal.invariant_of-self-2
 invariant_of-self-2 g c =
-    let xs = c.fill_table.new.slabs.items in
-    let olds = map (λ s. s.places.items) c.self.inside.slabs.items in
-    let at = c.first-page.result in
-    let n = 4096 / g.K.Kind.SIZE in
-    let row = row_objects _ g.K.Kind.is_row in
-    let partial = c.reserve_tables.new.partial.items in
-    let kept : IsPartialStack (map (λ s. s.places.items) c.reserve_tables.new.slabs.items) (map (λ s. s.page) c.reserve_tables.new.slabs.items) partial c.self.inside.out = rw (c.reserve_tables.ensures.slabs, c.reserve_tables.ensures.partial) c.self.invariant.0 in
-    let stack = c.fill_table.ensures.stack partial c.self.inside.out kept in
-    let all : length xs ≡ 256 = c.fill_table.ensures.all (subst (λ m. (m ≡ 0) ⊎ (m ≡ 256)) (length-map c.reserve_tables.new.slabs.items (λ s. s.places.items)) kept.sized) in
-    let page : at ≡ c.args.span.first = c.first-page.ensures in
-    let within : at < length xs = omega (arith, c.args.span.within, c.args.span.some) in
-    let same = grown_same (λ s. s.places.items) xs c.reserve_tables.new.slabs.items c.self.inside.slabs.items c.fill_table.ensures.same c.reserve_tables.ensures.slabs in
-    let H : Pages → Type 0 = λ v. Has v at → ⊥ in
-    let free : Has olds at → ⊥ = subst H (sym c.self.view_is) (subst (λ m. Has c.args.self.now m → ⊥) (sym page) c.requires.not_had) in
-    let vacant = same at ∙ not_had olds at free in
-    let new = c.replace-vacant.new.dest in
-    let is : new.places.items ≡ replicate n Home = ap (λ s. s.places.items) c.replace-vacant.ensures.after ∙ c.new-2.ensures.places in
-    let noted : new.page ≡ at = ap (λ s. s.page) c.replace-vacant.ensures.after ∙ (c.new-2.ensures.page ∙ sym page) in
-    let both = partial_grown (λ s. s.places.items) (λ s. s.page) xs at n c.self.inside.out c.index_mut.result.now new partial stack within c.index_mut.ensures.value vacant noted is row.0 row.1 in
-    let wide : vec_len c.self.inside.slabs ≡ length c.self.inside.slabs.items = c.self.inside.slabs.ok.0 in
-    let whole = c.self.invariant.0.sized in
-    let cap = room_for_all (length olds) (vec_len c.self.inside.slabs) (vec_capacity c.reserve_tables.new.partial) (vec_capacity c.self.inside.partial) whole (length-map c.self.inside.slabs.items (λ s. s.places.items) ∙ sym wide) c.in-Ok.ensures.room_open c.self.invariant.1 c.reserve_tables.ensures.capacity in
-    let high : vec_len c.fill_table.new.slabs ≡ length xs = c.fill_table.new.slabs.ok.0 in
-    (rw c.push_if.ensures.items both.0, omega (arith, c.push_if.ensures.capacity))
+    let h = goal.at.invariant_of-self-2 g c in
+    let f = filled g h.After-first-page in
+    (rw c.push_reserved.ensures.items (after g h.After-replace-vacant f).0, omega (arith, c.push_reserved.ensures.capacity, room g h.After-first-page, f.all, c.fill_table.new.slabs.ok.0))
 
 pub returns-clause-added : goal.returns-clause-added
 returns-clause-added g c =
-    let xs = c.fill_table.new.slabs.items in
-    let olds = map (λ s. s.places.items) c.self.inside.slabs.items in
-    let at = c.first-page.result in
-    let n = 4096 / g.K.Kind.SIZE in
+    let h = goal.at.returns-clause-added g c in
+    let f = filled g h.After-first-page in
     let row = row_objects _ g.K.Kind.is_row in
-    let partial = c.reserve_tables.new.partial.items in
-    let kept : IsPartialStack (map (λ s. s.places.items) c.reserve_tables.new.slabs.items) (map (λ s. s.page) c.reserve_tables.new.slabs.items) partial c.self.inside.out = rw (c.reserve_tables.ensures.slabs, c.reserve_tables.ensures.partial) c.self.invariant.0 in
-    let stack = c.fill_table.ensures.stack partial c.self.inside.out kept in
-    let all : length xs ≡ 256 = c.fill_table.ensures.all (subst (λ m. (m ≡ 0) ⊎ (m ≡ 256)) (length-map c.reserve_tables.new.slabs.items (λ s. s.places.items)) kept.sized) in
-    let page : at ≡ c.args.span.first = c.first-page.ensures in
-    let within : at < length xs = omega (arith, c.args.span.within, c.args.span.some) in
-    let same = grown_same (λ s. s.places.items) xs c.reserve_tables.new.slabs.items c.self.inside.slabs.items c.fill_table.ensures.same c.reserve_tables.ensures.slabs in
-    let H : Pages → Type 0 = λ v. Has v at → ⊥ in
-    let free : Has olds at → ⊥ = subst H (sym c.self.view_is) (subst (λ m. Has c.args.self.now m → ⊥) (sym page) c.requires.not_had) in
-    let vacant = same at ∙ not_had olds at free in
-    let new = c.replace-vacant.new.dest in
-    let is : new.places.items ≡ replicate n Home = ap (λ s. s.places.items) c.replace-vacant.ensures.after ∙ c.new-2.ensures.places in
-    let noted : new.page ≡ at = ap (λ s. s.page) c.replace-vacant.ensures.after ∙ (c.new-2.ensures.page ∙ sym page) in
-    let A : Pages → Type 0 = λ v. AddsPage v (map (λ s. s.places.items) (set xs at new)) at n in
-    subst (λ m. AddsPage c.args.self.now (map (λ s. s.places.items) (set xs at new)) m n) page (subst A c.self.view_is (grown (λ s. s.places.items) (λ s. s.page) xs olds at n new within same is row.1))
+    rw (← c.self.view_is, ← c.first-page.ensures) (grown c.fill_table.new.slabs.items (pages_in c.self.inside.slabs.items) c.first-page.result (4096 / g.K.Kind.SIZE) c.replace-vacant.new.dest f.within f.same (new g h.After-replace-vacant).0 row.1)
 
 pub returns-clause-counted : goal.returns-clause-counted
 returns-clause-counted g c =
-    let xs = c.fill_table.new.slabs.items in
-    let olds = map (λ s. s.places.items) c.self.inside.slabs.items in
-    let at = c.first-page.result in
-    let n = 4096 / g.K.Kind.SIZE in
-    let row = row_objects _ g.K.Kind.is_row in
-    let partial = c.reserve_tables.new.partial.items in
-    let kept : IsPartialStack (map (λ s. s.places.items) c.reserve_tables.new.slabs.items) (map (λ s. s.page) c.reserve_tables.new.slabs.items) partial c.self.inside.out = rw (c.reserve_tables.ensures.slabs, c.reserve_tables.ensures.partial) c.self.invariant.0 in
-    let stack = c.fill_table.ensures.stack partial c.self.inside.out kept in
-    let all : length xs ≡ 256 = c.fill_table.ensures.all (subst (λ m. (m ≡ 0) ⊎ (m ≡ 256)) (length-map c.reserve_tables.new.slabs.items (λ s. s.places.items)) kept.sized) in
-    let page : at ≡ c.args.span.first = c.first-page.ensures in
-    let within : at < length xs = omega (arith, c.args.span.within, c.args.span.some) in
-    let same = grown_same (λ s. s.places.items) xs c.reserve_tables.new.slabs.items c.self.inside.slabs.items c.fill_table.ensures.same c.reserve_tables.ensures.slabs in
-    let H : Pages → Type 0 = λ v. Has v at → ⊥ in
-    let free : Has olds at → ⊥ = subst H (sym c.self.view_is) (subst (λ m. Has c.args.self.now m → ⊥) (sym page) c.requires.not_had) in
-    let vacant = same at ∙ not_had olds at free in
-    let new = c.replace-vacant.new.dest in
-    let is : new.places.items ≡ replicate n Home = ap (λ s. s.places.items) c.replace-vacant.ensures.after ∙ c.new-2.ensures.places in
-    let noted : new.page ≡ at = ap (λ s. s.page) c.replace-vacant.ensures.after ∙ (c.new-2.ensures.page ∙ sym page) in
-    let both = partial_grown (λ s. s.places.items) (λ s. s.page) xs at n c.self.inside.out c.index_mut.result.now new partial stack within c.index_mut.ensures.value vacant noted is row.0 row.1 in
-    let C : Pages → Type 0 = λ v. out_count (map (λ s. s.places.items) (set xs at new)) ≡ out_count v in
-    subst C c.self.view_is (sym both.0.counted ∙ c.self.invariant.0.counted)
+    let h = goal.at.returns-clause-counted g c in
+    rw (← c.self.view_is) (sym (after g h.After-replace-vacant (filled g h.After-first-page)).0.counted ∙ c.self.invariant.0.counted)
 
 -- the span's page is in the table
 page_fits : (page first len : ℕ) → page ≡ first → 0 < len → first + len ≤ 256 → Fits w64 page
 page_fits page first len same some within = search rules
 
-page_within : (page first len all there : ℕ) → page ≡ first → 0 < len → first + len ≤ 256 → all ≡ there → there ≡ 256 → page < all
-page_within page first len all there same some within a b = omega arith
-
 pub overflow_cast-at : goal.overflow_cast-at
 overflow_cast-at g c = page_fits c.first-page.result c.args.span.first c.args.span.len c.first-page.ensures c.args.span.some c.args.span.within
 
 pub index_mut-requires : goal.index_mut-requires
-index_mut-requires g c =
-    let kept : IsPartialStack (map (λ s. s.places.items) c.reserve_tables.new.slabs.items) (map (λ s. s.page) c.reserve_tables.new.slabs.items) c.reserve_tables.new.partial.items c.self.inside.out = rw (c.reserve_tables.ensures.slabs, c.reserve_tables.ensures.partial) c.self.invariant.0 in
-    let all : length c.fill_table.new.slabs.items ≡ 256 = c.fill_table.ensures.all (subst (λ m. (m ≡ 0) ⊎ (m ≡ 256)) (length-map c.reserve_tables.new.slabs.items (λ s. s.places.items)) kept.sized) in
-    page_within _ c.args.span.first c.args.span.len _ _ c.first-page.ensures c.args.span.some c.args.span.within c.fill_table.new.slabs.ok.0 all
+index_mut-requires g c = omega (arith, (filled g (goal.at.index_mut-requires g c).After-first-page).within, c.fill_table.new.slabs.ok.0)
 
 pub new-requires-2 : goal.new-requires-2
 new-requires-2 g c = c.requires.one_page

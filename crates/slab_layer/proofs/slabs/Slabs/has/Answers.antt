@@ -9,4 +9,4 @@ returns-then-at-len g c =
     let len : vec_len c.self.inside.slabs ≡ length xs = c.self.inside.slabs.ok.0 in
     let within : c.args.page < length xs = omega arith in
     let H : Pages → Type 0 = λ v. IsTrue c.is_had.result ↔ Has v c.args.page in
-    subst H c.self.view_is (has_here (λ s. s.places.items) (λ s. s.page) xs c.args.page c.index.result.now c.is_had.result within c.index.ensures c.is_had.ensures)
+    subst H c.self.view_is (has_here xs c.args.page c.index.result.now c.is_had.result within c.index.ensures c.is_had.ensures)

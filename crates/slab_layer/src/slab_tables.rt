@@ -9,11 +9,11 @@
 //! *The reason.* A table of all places is filled once, with the first page, and never moves a slab: so a page
 //! comes and goes by a write in its place, and only the stack has to be searched, when a page is given up.
 
-ghost use Rattle.std.specs.Prelude.{◌≡◌, ◌≢◌, ◌⊎◌, List, ℕ, ◌≤◌, ◌<◌, ◌+◌, ◌==◌, ◌-◌, if◌then◌else◌, true, [], ◌∷◌, ◌++◌, take, map, length, vec_len, vec_capacity, slice_index, slice_index_or, All, IfSome, IfNone, OnOk};
+ghost use Rattle.std.specs.Prelude.{◌≡◌, ◌⊎◌, List, ℕ, ◌≤◌, ◌<◌, ◌+◌, ◌==◌, if◌then◌else◌, [], map, length, vec_len, vec_capacity, slice_index, slice_index_or, All, IfSome, IfNone, OnOk};
 ghost use Rattle.std.specs.List.{AllWithin};
 ghost use Rattle.slab_layer.specs.Slots.{outs_in};
 ghost use Rattle.slab_layer.specs.Stacks.{times};
-ghost use Rattle.slab_layer.specs.PartialStack.{IsPartialStack};
+ghost use Rattle.slab_layer.specs.SlabTable.{page_of, pages_in, IsSlabTable, IsBusy};
 
 use crate::kind::Kind;
 use crate::slab::Slab;
@@ -45,8 +45,8 @@ fn add_vacant<K: Kind>(slabs: &mut Vec<Slab<K>>, alloc: Global)
     requires none { vec_len slabs.old ≡ 0 }
     requires room { 256 ≤ vec_capacity slabs.old }
     ensures all { length slabs.new.items ≡ 256 }
-    ensures vacant { (page : ℕ) → slice_index_or (map (λ s. s.places.items) slabs.new.items) page [] ≡ [] }
-    ensures numbered { (page : ℕ) → page < 256 → slice_index (map (λ s. s.page) slabs.new.items) page ≡ page }
+    ensures vacant { (page : ℕ) → slice_index_or (pages_in slabs.new.items) page [] ≡ [] }
+    ensures numbered { (page : ℕ) → page < 256 → slice_index (map page_of slabs.new.items) page ≡ page }
 {
     for page in 0..MOST_PAGES {
         slabs.push_reserved(Slab::vacant(alloc, page));
@@ -57,11 +57,11 @@ fn add_vacant<K: Kind>(slabs: &mut Vec<Slab<K>>, alloc: Global)
 pub fn fill_table<K: Kind>(slabs: &mut Vec<Slab<K>>, alloc: Global)
     requires { vec_len slabs.old ≡ 0 → 256 ≤ vec_capacity slabs.old }
     ensures stack { (partial : List ℕ) (out : ℕ)
-        → IsPartialStack (map (λ s. s.places.items) slabs.old.items) (map (λ s. s.page) slabs.old.items) partial out
-        → IsPartialStack (map (λ s. s.places.items) slabs.new.items) (map (λ s. s.page) slabs.new.items) partial out }
+        → IsSlabTable slabs.old.items partial out
+        → IsSlabTable slabs.new.items partial out }
     ensures all { (length slabs.old.items ≡ 0) ⊎ (length slabs.old.items ≡ 256) → length slabs.new.items ≡ 256 }
-    ensures same { (page : ℕ) → slice_index_or (map (λ s. s.places.items) slabs.new.items) page []
-        ≡ slice_index_or (map (λ s. s.places.items) slabs.old.items) page [] }
+    ensures same { (page : ℕ) → slice_index_or (pages_in slabs.new.items) page []
+        ≡ slice_index_or (pages_in slabs.old.items) page [] }
 {
     if slabs.is_empty() {
         add_vacant(slabs, alloc);
@@ -71,10 +71,10 @@ pub fn fill_table<K: Kind>(slabs: &mut Vec<Slab<K>>, alloc: Global)
 /// The place of the lowest slab that is idle.
 pub fn idle_at<K: Kind>(slabs: &[Slab<K>]) -> Option<usize>
     ensures within { IfSome result (λ i. i < length slabs.now) }
-    ensures had { IfSome result (λ i. 0 < length (slice_index_or (map (λ s. s.places.items) slabs.now) i [])) }
-    ensures idle { IfSome result (λ i. outs_in (slice_index_or (map (λ s. s.places.items) slabs.now) i []) ≡ 0) }
-    ensures lowest { IfSome result (λ i. AllWithin (λ s. 0 < length s.places.items → 0 < outs_in s.places.items) slabs.now 0 i) }
-    ensures none { IfNone result (All (λ s. 0 < length s.places.items → 0 < outs_in s.places.items) slabs.now) }
+    ensures had { IfSome result (λ i. 0 < length (slice_index_or (pages_in slabs.now) i [])) }
+    ensures idle { IfSome result (λ i. outs_in (slice_index_or (pages_in slabs.now) i []) ≡ 0) }
+    ensures lowest { IfSome result (λ i. AllWithin IsBusy slabs.now 0 i) }
+    ensures none { IfNone result (All IsBusy slabs.now) }
 {
     for (i, slab) in slabs.iter().enumerate() {
         if slab.is_idle() {
@@ -82,35 +82,6 @@ pub fn idle_at<K: Kind>(slabs: &[Slab<K>]) -> Option<usize>
         }
     }
     None
-}
-
-/// The last number of a list.
-pub fn last_number(numbers: &[u32]) -> Option<u32>
-    ensures last { IfSome result (λ n. numbers.now ≡ take (length numbers.now - 1) numbers.now ++ n ∷ []) }
-    ensures none { IfNone result (numbers.now ≡ []) }
-{
-    numbers.last().copied()
-}
-
-/// Takes the last number off where the flag is set.
-pub fn pop_if(numbers: &mut Vec<u32>, flag: bool)
-    ensures items { numbers.new.items ≡ (if flag then take (length numbers.old.items - 1) numbers.old.items else numbers.old.items) }
-    ensures capacity { vec_capacity numbers.new ≡ vec_capacity numbers.old }
-{
-    if flag {
-        numbers.pop();
-    }
-}
-
-/// Puts a number at the end where the flag is set.
-pub fn push_if(numbers: &mut Vec<u32>, flag: bool, number: u32)
-    requires { flag ≡ true → vec_len numbers.old < vec_capacity numbers.old }
-    ensures items { numbers.new.items ≡ (if flag then numbers.old.items ++ number ∷ [] else numbers.old.items) }
-    ensures capacity { vec_capacity numbers.new ≡ vec_capacity numbers.old }
-{
-    if flag {
-        numbers.push_reserved(number);
-    }
 }
 
 /// Takes a number out of a list that has it.

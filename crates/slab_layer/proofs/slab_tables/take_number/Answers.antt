@@ -1,6 +1,6 @@
 use Rattle.std.proofs.Common.{◌≡◌, ◌≢◌, ◌<◌, ℕ, ap, length, get_or, vec_len, arith}
 use Rattle.slab_layer.proofs.Selecting.{taken_out, times-absent}
-use Rattle.slab_layer.proofs.table.take_number.Goals as goal
+use Rattle.slab_layer.proofs.slab_tables.take_number.Goals as goal
 
 pub returns-then-index-number-clause-each : goal.returns-then-index-number-clause-each
 returns-then-index-number-clause-each c = λ x.
