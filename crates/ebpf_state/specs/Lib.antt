@@ -4,3 +4,4 @@ pub mod Ascending
 pub mod Words
 pub mod StateView
 pub mod States
+pub mod References

@@ -25,9 +25,9 @@ abbrev pub with_edge : Option StateView → Bool → EntryState → EntryState
 with_edge None leads old = old
 with_edge (Some s) leads old = if leads then with_state old s else old
 
--- what comes to a slot, with what a lower slot sends there: first by its fall, then by its jump
+-- what comes to a slot, with what a lower slot sends there: first by its jump, then by its fall
 abbrev pub with_sent : Option Insn → Edges → ℕ → EntryState → EntryState → EntryState
-with_sent (Some i) e to (Known s) old = with_edge (after_jump i s) (leads_to e.jump to) (with_edge (after_fall i s) (leads_to e.fall to) old)
+with_sent (Some i) e to (Known s) old = with_edge (after_fall i s) (leads_to e.fall to) (with_edge (after_jump i s) (leads_to e.jump to) old)
 with_sent _ e to _ old = old
 
 -- what the slots below m send to a slot, in ascending order; the first state comes to slot 0

@@ -1,5 +1,7 @@
 pub mod Subject
 pub mod Pointers
+pub mod Operations
+pub mod Branches
 pub mod Rules
 pub mod Entry
 pub mod Verdict

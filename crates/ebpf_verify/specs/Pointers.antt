@@ -1,9 +1,10 @@
--- Pointers that are moved by numbers.
-use Rattle.std.specs.Prelude.{◌^◌, ℤ, ◌+ℤ◌, nat_lt, nat_le, nat_abs, ◌||◌, if◌then◌else◌, Option, Some, None}
+-- Pointers that are moved by numbers, and the sums and differences of values.
+use Rattle.std.specs.Prelude.{◌^◌, ℤ, pos, ◌+ℤ◌, ◌-ℤ◌, nat_lt, nat_le, nat_abs, ◌||◌, if◌then◌else◌, Option, Some, None}
+use Rattle.ebpf_insn.specs.declared.insn.AluOp.TheVariants as op
 use Rattle.ebpf_insn.specs.declared.insn.Width.TheVariants.{W64}
 use Rattle.ebpf_insn.specs.Arithmetic.{signed_of}
 use Rattle.ebpf_range.specs.declared.range.Range.{Range}
-use Rattle.ebpf_range.specs.Interval.{sum_range}
+use Rattle.ebpf_range.specs.Results.{result_range}
 use Rattle.ebpf_state.specs.declared.value.Abs.{Abs}
 use Rattle.ebpf_state.specs.declared.value.Abs.TheVariants.{Num, Stk, Ctx, Ob}
 
@@ -33,9 +34,24 @@ moved_by _ _ = None
 abbrev pub moved : Abs → Range → Option Abs
 moved pointer by = moved_by pointer (signed_ends by)
 
+-- a range's ends, of the numbers' negations
+abbrev pub opposite_ends : Option (ℤ × ℤ) → Option (ℤ × ℤ)
+opposite_ends None = None
+opposite_ends (Some by) = Some (pos 0 -ℤ by.1, pos 0 -ℤ by.0)
+
+-- a pointer moved back by a number of a range
+abbrev pub moved_back : Abs → Range → Option Abs
+moved_back pointer by = moved_by pointer (opposite_ends (signed_ends by))
+
 -- the sum of two values at 64 bits
 abbrev pub sum_value : Abs → Abs → Option Abs
-sum_value (Num a) (Num b) = Some (Num (sum_range W64 a b))
+sum_value (Num a) (Num b) = Some (Num (result_range op.Add W64 a b))
 sum_value pointer (Num by) = moved pointer by
 sum_value (Num by) pointer = moved pointer by
 sum_value _ _ = None
+
+-- the difference of two values at 64 bits
+abbrev pub difference_value : Abs → Abs → Option Abs
+difference_value (Num a) (Num b) = Some (Num (result_range op.Sub W64 a b))
+difference_value pointer (Num by) = moved_back pointer by
+difference_value _ _ = None
