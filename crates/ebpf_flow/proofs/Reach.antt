@@ -8,7 +8,7 @@ use Rattle.ebpf_flow.specs.declared.fault.FlowCode.{FlowCode}
 use Rattle.ebpf_flow.specs.declared.fault.FlowFault.{FlowFault}
 use Rattle.ebpf_flow.specs.declared.fault.FlowFault.TheVariants.{Bad}
 use Rattle.ebpf_flow.specs.Edges.{reached_by, has_edge_to, edges_at}
-use Rattle.ebpf_flow.specs.Flow.{undone_fault, flow_fault_at, IsFlowFault}
+use Rattle.ebpf_flow.specs.Flow.{flow_fault_at, IsFlowFault}
 
 pub reached_by-none : (p : List (Option Insn)) (k : ℕ) → reached_by p 0 k ≡ (k == 0)
 unfolding reached_by
@@ -18,6 +18,6 @@ pub reached_by-more : (p : List (Option Insn)) (m k : ℕ) (old : Bool) → old 
 unfolding reached_by
 reached_by-more p m k old e = rw (add-one, e) refl
 
--- where each instruction is done, the lowest slot that is refused for its edges decides
-pub fault_here : (p : List (Option Insn)) (slot : ℕ) (fault : FlowFault) → undone_fault p ≡ None → slot < length p → lowest (flow_fault_at p) slot ≡ None → ((code : FlowCode) × (fault ≡ Bad slot code) × (flow_fault_at p slot ≡ Some code)) → IsFlowFault p fault
-fault_here p slot fault done inside before h = rw (h.1, done) (lowest_at (flow_fault_at p) slot (length p) h.0 before h.2 inside)
+-- the lowest slot that is refused decides
+pub fault_here : (p : List (Option Insn)) (slot : ℕ) (fault : FlowFault) → slot < length p → lowest (flow_fault_at p) slot ≡ None → ((code : FlowCode) × (fault ≡ Bad slot code) × (flow_fault_at p slot ≡ Some code)) → IsFlowFault p fault
+fault_here p slot fault inside before h = rw h.1 (lowest_at (flow_fault_at p) slot (length p) h.0 before h.2 inside)

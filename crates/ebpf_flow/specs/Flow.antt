@@ -1,35 +1,14 @@
 -- The flow fault of a program, and the programs that have none.
-use Rattle.std.specs.Prelude.{◌≡◌, ◌<◌, ◌+◌, ℕ, ℤ, List, [], ◌∷◌, length, Bool, true, false, not, ◌&&◌, nat_le, Option, Some, None, is_none, slice_get, IfSome, if◌then◌else◌}
+use Rattle.std.specs.Prelude.{◌≡◌, ◌<◌, ◌+◌, ℕ, ℤ, List, [], ◌∷◌, length, Bool, true, false, not, ◌&&◌, nat_le, Option, Some, None, is_none, slice_get, IfSome}
 use Rattle.ebpf_insn.specs.declared.insn.Insn.{Insn}
-use Rattle.ebpf_insn.specs.declared.insn.Insn.TheVariants as insn
-use Rattle.ebpf_insn.specs.declared.insn.AluOp.TheVariants as op
 use Rattle.ebpf_insn.specs.Program.{insn_at, slots_in}
 use Rattle.ebpf_insn.specs.Faults.{first_of, lowest}
 use Rattle.ebpf_flow.specs.declared.fault.FlowCode.{FlowCode}
-use Rattle.ebpf_flow.specs.declared.fault.FlowCode.TheVariants.{F0, F1, F2, F3, F4, F5}
+use Rattle.ebpf_flow.specs.declared.fault.FlowCode.TheVariants.{F1, F2, F3, F4, F5}
 use Rattle.ebpf_flow.specs.declared.fault.FlowFault.{FlowFault}
 use Rattle.ebpf_flow.specs.declared.fault.FlowFault.TheVariants.{Bad, NoMemory}
 use Rattle.ebpf_flow.specs.declared.edges.Edges.{Edges}
 use Rattle.ebpf_flow.specs.Edges.{falls, displacement_of, jump_of, is_reached, edges_at}
-
--- the instructions that the verifier has a rule for
-abbrev pub is_done : Insn → Bool
-is_done (insn.Alu width op.Add dst src) = true
-is_done (insn.Alu width op.Mov dst src) = true
-is_done insn.Exit = true
-is_done _ = false
-
-abbrev pub undone_code : Option Insn → Option FlowCode
-undone_code None = None
-undone_code (Some i) = if is_done i then None else Some F0
-
--- the code of a slot whose instruction is not done
-abbrev pub undone_fault_at : List (Option Insn) → ℕ → Option FlowCode
-undone_fault_at p slot = undone_code (insn_at p slot)
-
--- the lowest such slot
-abbrev pub undone_fault : List (Option Insn) → Option (ℕ × FlowCode)
-undone_fault p = lowest (undone_fault_at p) (length p)
 
 -- the tests of a jump
 abbrev pub is_outside : List (Option Insn) → Option ℕ → Bool
@@ -64,13 +43,13 @@ insn_fault p slot (Some i) = or_else (jump_fault p slot (displacement_of i) (jum
 abbrev pub flow_fault_at : List (Option Insn) → ℕ → Option FlowCode
 flow_fault_at p slot = insn_fault p slot (insn_at p slot)
 
--- the lowest slot whose instruction is not done; where each is done, the lowest slot that is refused, with its code
+-- the lowest slot that is refused, with its code
 abbrev pub flow_fault : List (Option Insn) → Option (ℕ × FlowCode)
-flow_fault p = or_else (undone_fault p) (lowest (flow_fault_at p) (length p))
+flow_fault p = lowest (flow_fault_at p) (length p)
 
 -- a fault is the defined one, or memory ran out
 abbrev pub IsFlowFault : List (Option Insn) → FlowFault → Type 0
-IsFlowFault p NoMemory = undone_fault p ≡ None
+IsFlowFault p NoMemory = Unit {0}
 IsFlowFault p (Bad slot code) = flow_fault p ≡ Some (slot, code)
 
 -- an edge leads forward to an instruction

@@ -6,7 +6,6 @@ ghost use Rattle.ebpf_flow.specs.declared.fault.FlowCode.{FlowCode};
 ghost use Rattle.ebpf_flow.specs.Edges.{falls, displacement_of, fall_of, jump_of, edges_at, edges_of, has_edge_to, leads_to, reached_by, is_reached};
 ghost use Rattle.ebpf_flow.specs.Flow.{jump_fault, flow_fault, flow_fault_at, IsFlowFault, LeadsForward};
 
-use crate::done::refuse_undone;
 use crate::edges::{Edges, edges_from};
 use crate::fault::{FlowCode, FlowFault};
 use crate::flowed::Flowed;
@@ -17,14 +16,13 @@ use std::alloc::{AllocError, Global};
 /// Checks where a program's instructions lead.
 ///
 /// # Errors
-/// `Bad` with F0 and the lowest slot whose instruction isn't done by the verifier, where there is one; else with the lowest
-/// slot at fault and the first code that applies there; `NoMemory` where an allocation failed. The program is gone then.
+/// `Bad` with the lowest slot at fault and the first code that applies there; `NoMemory` where an allocation failed. The
+/// program is gone then.
 pub fn check(alloc: Global, program: Program) -> Result<Flowed, FlowFault>
     ensures checked { IfOk result (λ f. f ≡ program) }
     ensures fine { OnOk result (flow_fault program ≡ None) }
     ensures refused { IfErr result (IsFlowFault program) }
 {
-    refuse_undone(&program)?;
     let slots = program.slots();
     let mut reached = first_reached(alloc, slots)?;
     let mut edges = Vec::with_capacity(alloc, slots)?;

@@ -8,8 +8,6 @@ use thiserror::Error;
 /// Why a slot is refused. Within a slot the order is that of the numbers.
 #[derive(Clone, Copy, Debug)]
 pub enum FlowCode {
-    /// The instruction isn't done by the verifier yet. It is tested of the whole program, before all other codes.
-    F0,
     /// The target of the jump is below slot 0 or past the last slot.
     F1,
     /// The target of the jump is the second half of a wide instruction.

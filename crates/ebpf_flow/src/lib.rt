@@ -1,12 +1,11 @@
 //! Control flow: where each instruction leads.
 //!
-//! [`check::check`] makes a [`flowed::Flowed`] of a program exactly where the verifier does every instruction, every edge
-//! leads forward to an instruction and every instruction is reached; else it names the lowest slot at fault and why.
+//! [`check::check`] makes a [`flowed::Flowed`] of a program exactly where every edge leads forward to an instruction and every
+//! instruction is reached; else it names the lowest slot at fault and why.
 //! Displacements are read here, once: the crates above see slots.
 #![tactic(auto)]
 
 pub mod check;
-mod done;
 pub mod edges;
 pub mod fault;
 pub mod flowed;

@@ -1,6 +1,6 @@
 -- Two lists that are joined, element by element.
 use Rattle.std.proofs.Common.{◌≡◌, ◌≢◌, ℕ, zero, suc, ◌+◌, ◌<◌, ◌≤◌, List, [], ◌∷◌, length, get_or, set, refl, sym, ap, ◌∙◌, arith, below_more, length-set}
-use Rattle.std.specs.Prelude.{All}
+use Rattle.std.specs.Prelude.{All, map}
 use Rattle.std.proofs.lemmas.List.{ext_get_or, get_or-set_same, get_or-set_other}
 use Rattle.std.proofs.lemmas.List.Elements.{All-set}
 use Rattle.ebpf_state.specs.States.{joined_list}
@@ -44,3 +44,8 @@ pub joining_all : {X : Type 0} (join : X → X → X) (P : X → Type 0) (d : X)
 joining_all join P d left right joined i e h =
     let long = joined_list-length join left right h.same in
     ext_get_or d joined (joined_list join left right) (omega (arith, h.whole)) (λ k lt. h.done k (omega (arith, h.whole)) ∙ sym (joined_list-index join d left right k h.same (omega (arith, h.whole))))
+
+-- a list that is changed in place, element by element, is joined with itself
+pub joined_alone : {X : Type 0} (f : X → X) (s : List X) → joined_list (λ x y. f x) s s ≡ map f s
+joined_alone f [] = refl
+joined_alone f (x ∷ s) = ap (λ (t : List _). f x ∷ t) (joined_alone f s)

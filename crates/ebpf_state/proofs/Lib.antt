@@ -1,3 +1,4 @@
+pub mod HeldLists
 pub mod JoinLists
 pub mod SameHeld
 pub mod Stacks

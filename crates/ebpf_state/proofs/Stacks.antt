@@ -1,8 +1,8 @@
 -- The topmost words of the stack, and the words below them of which nothing is known.
 use Rattle.std.proofs.Common.{◌≡◌, ℕ, zero, suc, ◌-◌, ◌<◌, ◌≤◌, List, [], ◌∷◌, ◌++◌, length, get_or, drop, refl, sym, ap, ◌∙◌, arith, length-append}
-use Rattle.std.specs.Prelude.{replicate}
+use Rattle.std.specs.Prelude.{replicate, map}
 use Rattle.std.specs.Int.Bits.{and_zero_l}
-use Rattle.std.proofs.lemmas.List.{length-replicate, get_or-replicate, get_or_append_left, get_or-append_right}
+use Rattle.std.proofs.lemmas.List.{length-map, length-replicate, get_or-replicate, get_or_append_left, get_or-append_right}
 use Rattle.ebpf_state.specs.declared.value.Abs.TheVariants.{Unset, Num, Stk, Ctx, Ob, May}
 use Rattle.ebpf_state.specs.declared.word.Word.{Word}
 use Rattle.ebpf_state.specs.declared.word.Word.TheVariants.{Spill, Bytes}
@@ -45,3 +45,13 @@ all_words-joined left right joined few_left few_right same e =
     ap (λ (n : ℕ). replicate (64 - n) (Bytes 0) ++ joined) same
     ∙ (ap (λ (ws : List Word). replicate (64 - length left) (Bytes 0) ++ ws) e
     ∙ joined_below (64 - length left) left (all_words right) fits)
+
+-- a change that leaves a word of which nothing is known as it is
+pub all_words-map : (f : Word → Word) (words : List Word) → f (Bytes 0) ≡ Bytes 0 → all_words (map f words) ≡ map f (all_words words)
+all_words-map f words same =
+    ap (λ (n : ℕ). replicate (64 - n) (Bytes 0) ++ map f words) (length-map words f)
+    ∙ behind (64 - length words)
+  where
+    behind : (n : ℕ) → replicate n (Bytes 0) ++ map f words ≡ map f (replicate n (Bytes 0) ++ words)
+    behind zero = refl
+    behind (suc n) = ap (λ (w : Word). w ∷ (replicate n (Bytes 0) ++ map f words)) (sym same) ∙ ap (λ (ws : List Word). f (Bytes 0) ∷ ws) (behind n)

@@ -1,5 +1,9 @@
 //! The references that are held.
 
+ghost use Rattle.std.specs.Prelude.{◌≡◌, ◌==◌, not, filter, map};
+ghost use Rattle.ebpf_state.specs.Ascending.{IsAscending};
+ghost use Rattle.ebpf_state.specs.References.{tested_reference, settled_held};
+
 /// A reference that a call of `new` gave and that was not freed yet.
 #[derive(Clone, Copy, PartialEq, Eq)]
 pub struct Held {
@@ -9,4 +13,50 @@ pub struct Held {
     pub kind: u8,
     /// It was compared with null, and isn't.
     pub tested: bool,
+}
+
+impl Held {
+    // The reference, tested where it is that of the call.
+    fn test(self, call: u16) -> Held
+        ensures { result ≡ tested_reference call self }
+    {
+        if self.call == call {
+            Held {
+                call: self.call,
+                kind: self.kind,
+                tested: true,
+            }
+        } else {
+            self
+        }
+    }
+}
+
+/// Says of the reference of a call whether it is null: then it is held no more, else it was tested.
+pub(crate) fn settle_held(held: &mut Vec<Held>, call: u16, null: bool)
+    requires { IsAscending (map (λ h. h.call) held.old.items) }
+    ensures value { held.new.items ≡ settled_held call null held.old.items }
+    ensures ascending { IsAscending (map (λ h. h.call) held.new.items) }
+{
+    if null {
+        forget_null(held, call);
+    } else {
+        mark_tested(held, call);
+    }
+}
+
+// Holds the reference of a call no more, whose answer was null.
+fn forget_null(held: &mut Vec<Held>, call: u16)
+    ensures { held.new.items ≡ filter (λ h. not (h.call == call)) held.old.items }
+{
+    held.retain(|reference| reference.call != call);
+}
+
+// Says that the reference of a call was compared with null.
+fn mark_tested(held: &mut Vec<Held>, call: u16)
+    ensures { held.new.items ≡ map (tested_reference call) held.old.items }
+{
+    for i in 0..held.len() {
+        held[i] = held[i].test(call);
+    }
 }

@@ -11,14 +11,15 @@
 //! refuses more. Most programs use few words of the stack, so only the topmost ones are kept, down to the lowest of which
 //! something is known. References ascend so that two states hold the same ones exactly where the lists are equal.
 
-ghost use Rattle.std.specs.Prelude.{◌≡◌, ◌≤◌, ◌<◌, true, All, length, slice_index_or, IfOk, Some};
+ghost use Rattle.std.specs.Prelude.{◌≡◌, ◌≤◌, ◌<◌, true, All, length, map, slice_index_or, IfOk, Some};
 ghost use Rattle.ebpf_state.specs.declared.value.Abs.{Abs};
 ghost use Rattle.ebpf_state.specs.declared.word.Word.{Word};
 ghost use Rattle.ebpf_state.specs.Abstract.{joined_value, IsProper};
 ghost use Rattle.ebpf_state.specs.Words.{joined_word, all_words, IsProperWord};
 ghost use Rattle.ebpf_state.specs.States.{joined_list, is_same_held};
+ghost use Rattle.ebpf_state.specs.References.{settled_value, settled_word};
 
-use crate::held::Held;
+use crate::held::{Held, settle_held};
 use crate::value::Abs;
 use crate::word::Word;
 use ebpf_insn::register::Reg;
@@ -77,6 +78,7 @@ impl From<AllocError> for JoinFault {
 }
 
 impl State {
+    ghost use Rattle.ebpf_state.specs.References.{settled};
     ghost use Rattle.ebpf_state.specs.States.{first_state, joined_state, register_of, with_register, Joins, JoinsInto};
 
     /// The state before slot 0: `r1` points to the context, `r10` is the frame pointer, and nothing else is set or held.
@@ -141,6 +143,17 @@ impl State {
         self.facts.registers[number] = value;
     }
 
+    /// Says that the answer of a call is null, or is not: from now on it is 0 and nothing is held by it, or it is the object
+    /// that the call was granted, which is held as one that was tested.
+    pub fn settle(&mut self, call: u16, null: bool)
+        ensures { self.new ≡ settled call null self.old }
+    {
+        let facts = &mut *self.facts;
+        settle_registers(&mut facts.registers, call, null);
+        settle_words(&mut facts.words, call, null);
+        settle_held(&mut facts.held, call, null);
+    }
+
     /// What is known where two paths meet, one of which knows each.
     ///
     /// # Errors
@@ -195,6 +208,28 @@ fn join_registers(left: &mut [Abs; 11], right: &[Abs; 11])
 {
     for i in 0..11 {
         left[i] = left[i].join(right[i]);
+    }
+}
+
+// Says in each register whether the answer of a call is null.
+fn settle_registers(registers: &mut [Abs; 11], call: u16, null: bool)
+    requires { All IsProper registers.old }
+    ensures value { registers.new ≡ map (settled_value call null) registers.old }
+    ensures proper { All IsProper registers.new }
+{
+    for i in 0..11 {
+        registers[i] = registers[i].settle(call, null);
+    }
+}
+
+// Says in each word whether the answer of a call is null.
+fn settle_words(words: &mut Vec<Word>, call: u16, null: bool)
+    requires { All IsProperWord words.old.items }
+    ensures value { words.new.items ≡ map (settled_word call null) words.old.items }
+    ensures proper { All IsProperWord words.new.items }
+{
+    for i in 0..words.len() {
+        words[i] = words[i].settle(call, null);
     }
 }
 

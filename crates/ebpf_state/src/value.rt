@@ -2,6 +2,7 @@
 
 ghost use Rattle.std.specs.Prelude.{◌≡◌};
 ghost use Rattle.ebpf_state.specs.Abstract.{joined_value, is_unset, is_pointer, is_may, IsProper};
+ghost use Rattle.ebpf_state.specs.References.{settled_value};
 
 use ebpf_range::range::{Range, hull};
 
@@ -67,6 +68,22 @@ impl Abs {
             (Abs::Ob(r, a, b), Abs::Ob(q, c, d)) if r == q => Abs::Ob(r, a.min(c), b.max(d)),
             (Abs::May(r), Abs::May(q)) if r == q => Abs::May(r),
             _ => Abs::Unset,
+        }
+    }
+
+    /// What is known once the answer of a call is known to be null, or not to be.
+    pub(crate) fn settle(self, call: u16, null: bool) -> Abs
+        requires { IsProper self }
+        ensures value { result ≡ settled_value call null self }
+        ensures proper { IsProper result }
+    {
+        match self {
+            Abs::May(r) if r == call => if null {
+                Abs::Num(Range::constant(0))
+            } else {
+                Abs::Ob(call, 0, 0)
+            },
+            value => value,
         }
     }
 }

@@ -2,6 +2,7 @@
 
 ghost use Rattle.std.specs.Prelude.{◌≡◌};
 ghost use Rattle.ebpf_state.specs.Abstract.{IsProper};
+ghost use Rattle.ebpf_state.specs.References.{settled_word};
 ghost use Rattle.ebpf_state.specs.Words.{joined_word, spill_or_nothing, IsProperWord};
 
 use crate::value::Abs;
@@ -30,6 +31,18 @@ impl Word {
             (Word::Bytes(a), Word::Spill(Abs::Num(_))) => Word::Bytes(a),
             (Word::Spill(a), Word::Spill(b)) => spill_or_nothing(a.join(b)),
             _ => Word::Bytes(0),
+        }
+    }
+
+    /// What is known once the answer of a call is known to be null, or not to be.
+    pub(crate) fn settle(self, call: u16, null: bool) -> Word
+        requires { IsProperWord self }
+        ensures value { result ≡ settled_word call null self }
+        ensures proper { IsProperWord result }
+    {
+        match self {
+            Word::Spill(value) => Word::Spill(value.settle(call, null)),
+            Word::Bytes(mask) => Word::Bytes(mask),
         }
     }
 }

@@ -14,7 +14,7 @@ use Rattle.ebpf_verify.specs.declared.fault.VerifyFault.{VerifyFault}
 use Rattle.ebpf_verify.specs.declared.fault.VerifyFault.TheVariants.{Refused, NoMemory}
 use Rattle.ebpf_verify.specs.Subject.{Subject}
 use Rattle.ebpf_verify.specs.Entry.{arrived, with_sent}
-use Rattle.ebpf_verify.specs.Verdict.{refusal_in, refusal_at, undone_at, IsVerifyFault, IsSlotFault}
+use Rattle.ebpf_verify.specs.Verdict.{refusal_in, refusal_at, unruled_at, IsVerifyFault, IsSlotFault}
 
 -- before the first slot
 pub arrived-zero : (p : List (Option Insn)) (t : ℕ) → arrived p 0 t ≡ (if t == 0 then Known first_state else Unreached)
@@ -33,6 +33,6 @@ arrived-more p slot t here there e f =
 pub refusal_here : (s : Subject) (slot : ℕ) (here : EntryState) (code : Option VerifyCode) → here ≡ arrived s.program slot slot → refusal_in (insn_at s.program slot) here ≡ code → refusal_at s slot ≡ code
 refusal_here s slot here code e h = ap (refusal_in (insn_at s.program slot)) (sym e) ∙ h
 
-pub refused_here : (s : Subject) (slot : ℕ) (here : EntryState) (fault : VerifyFault) → slot < length s.program → lowest (undone_at s) (length s.program) ≡ None → lowest (refusal_at s) slot ≡ None → here ≡ arrived s.program slot slot → IsSlotFault slot (refusal_in (insn_at s.program slot) here) fault → IsVerifyFault s fault
+pub refused_here : (s : Subject) (slot : ℕ) (here : EntryState) (fault : VerifyFault) → slot < length s.program → lowest (unruled_at s.program) (length s.program) ≡ None → lowest (refusal_at s) slot ≡ None → here ≡ arrived s.program slot slot → IsSlotFault slot (refusal_in (insn_at s.program slot) here) fault → IsVerifyFault s fault
 refused_here s slot here NoMemory inside done before e h = tt
 refused_here s slot here (Refused at code) inside done before e h = rw (h.0, done) (lowest_at (refusal_at s) slot (length s.program) code before (refusal_here s slot here (Some code) e h.1) inside)

@@ -45,15 +45,19 @@ refusal (insn.Branch width condition left right offset) s = branch_refusal (null
 refusal insn.Exit s = exit_refusal (register_of s R0) (length s.held)
 refusal _ s = Some V0
 
+-- what is known after arithmetic that is not refused
+abbrev pub after_operation : Insn → StateView → Option StateView
+after_operation (insn.Alu width o dst src) s = Some (with_register s dst (result_of width o (register_of s dst) (operand s width src)))
+after_operation (insn.Sext width bits dst src) s = Some (with_register s dst (unary_value (extension_range width bits) (register_of s src)))
+after_operation (insn.Neg width dst) s = Some (with_register s dst (unary_value (negation_range width) (register_of s dst)))
+after_operation (insn.Swap order bits dst) s = Some (with_register s dst (unary_value (swap_range order bits) (register_of s dst)))
+after_operation (insn.Wide dst value) s = Some (with_register s dst (Num (constant value)))
+after_operation _ s = None
+
 -- what is known after an instruction that is not refused, on the edge to the slot after it
 abbrev pub after_fall : Insn → StateView → Option StateView
-after_fall (insn.Alu width o dst src) s = Some (with_register s dst (result_of width o (register_of s dst) (operand s width src)))
-after_fall (insn.Sext width bits dst src) s = Some (with_register s dst (unary_value (extension_range width bits) (register_of s src)))
-after_fall (insn.Neg width dst) s = Some (with_register s dst (unary_value (negation_range width) (register_of s dst)))
-after_fall (insn.Swap order bits dst) s = Some (with_register s dst (unary_value (swap_range order bits) (register_of s dst)))
-after_fall (insn.Wide dst value) s = Some (with_register s dst (Num (constant value)))
 after_fall (insn.Branch width condition left right offset) s = after_branch condition width left right false s
-after_fall _ s = None
+after_fall i s = after_operation i s
 
 -- the same on the edge to the target of its jump
 abbrev pub after_jump : Insn → StateView → Option StateView

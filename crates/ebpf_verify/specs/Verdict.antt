@@ -3,7 +3,7 @@ use Rattle.std.specs.Prelude.{◌≡◌, ◌≤◌, ℕ, List, length, All, Opti
 use Rattle.ebpf_insn.specs.declared.insn.Insn.{Insn}
 use Rattle.ebpf_insn.specs.Program.{insn_at}
 use Rattle.ebpf_insn.specs.Encoding.{IsWellFormed}
-use Rattle.ebpf_flow.specs.Flow.{AreForward, is_done, or_else}
+use Rattle.ebpf_flow.specs.Flow.{AreForward, or_else}
 use Rattle.ebpf_insn.specs.Faults.{lowest}
 use Rattle.ebpf_state.specs.declared.kinds.KindRow.{KindRow}
 use Rattle.ebpf_verify.specs.declared.entry.EntryState.{EntryState}
@@ -13,7 +13,7 @@ use Rattle.ebpf_verify.specs.declared.fault.VerifyCode.TheVariants.{V0, V19}
 use Rattle.ebpf_verify.specs.declared.fault.VerifyFault.{VerifyFault}
 use Rattle.ebpf_verify.specs.declared.fault.VerifyFault.TheVariants.{Refused, NoMemory}
 use Rattle.ebpf_verify.specs.Subject.{Subject}
-use Rattle.ebpf_verify.specs.Rules.{refusal}
+use Rattle.ebpf_verify.specs.Rules.{has_rule, refusal}
 use Rattle.ebpf_verify.specs.Entry.{entry_of}
 
 -- a slot that is never entered refuses nothing
@@ -27,17 +27,17 @@ abbrev pub refusal_at : Subject → ℕ → Option VerifyCode
 refusal_at s slot = refusal_in (insn_at s.program slot) (entry_of s.program slot)
 
 -- the code of an instruction that has no rule yet
-abbrev pub undone_in : Option Insn → Option VerifyCode
-undone_in None = None
-undone_in (Some i) = if is_done i then None else Some V0
+abbrev pub unruled_in : Option Insn → Option VerifyCode
+unruled_in None = None
+unruled_in (Some i) = if has_rule i then None else Some V0
 
-abbrev pub undone_at : Subject → ℕ → Option VerifyCode
-undone_at s slot = undone_in (insn_at s.program slot)
+abbrev pub unruled_at : List (Option Insn) → ℕ → Option VerifyCode
+unruled_at p slot = unruled_in (insn_at p slot)
 
 -- the lowest slot that has no rule; where each has one, the lowest slot that is refused, with its code; none, and the
 -- program is accepted
 abbrev pub verdict : Subject → Option (ℕ × VerifyCode)
-verdict s = or_else (lowest (undone_at s) (length s.program)) (lowest (refusal_at s) (length s.program))
+verdict s = or_else (lowest (unruled_at s.program) (length s.program)) (lowest (refusal_at s) (length s.program))
 
 -- a fault is the verdict, or memory ran out
 abbrev pub IsVerifyFault : Subject → VerifyFault → Type 0

@@ -1,8 +1,9 @@
 //! What is known before a slot, of all runs that come there.
 
-ghost use Rattle.std.specs.Prelude.{◌≡◌};
+ghost use Rattle.std.specs.Prelude.{◌≡◌, OnOk};
 
 use ebpf_state::state::State;
+use std::alloc::AllocError;
 
 /// What is known before a slot of all runs that come there from the slots that were looked at.
 #[derive(Drop)]
@@ -33,5 +34,25 @@ impl EntryState {
             }
             EntryState::Conflict => EntryState::Conflict,
         }
+    }
+    /// Adds one more state to what comes. It is copied only where none came before.
+    ///
+    /// # Errors
+    /// It fails only where an allocation fails.
+    pub(crate) fn add(&mut self, state: &State) -> Result<(), AllocError>
+        ensures { OnOk result (self.new ≡ with_state self.old state.now) }
+    {
+        let differs = match self {
+            EntryState::Unreached => {
+                *self = EntryState::Known(state.copy()?);
+                false
+            }
+            EntryState::Known(known) => !known.join_with(state),
+            EntryState::Conflict => false,
+        };
+        if differs {
+            *self = EntryState::Conflict;
+        }
+        Ok(())
     }
 }

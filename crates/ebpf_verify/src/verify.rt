@@ -10,7 +10,8 @@
 //!
 //! *The reason.* All edges lead forward, since the flow was checked. So when a slot is visited, all that will ever come there
 //! has come: one visit a slot is enough, there is nothing to iterate to, and the verdict takes time linear in the slots. A
-//! state goes on along the fall as it is, without a copy.
+//! state goes on along the fall as it is; it is copied only where a branch sends it two ways and nothing has come to its
+//! target before.
 
 ghost use Rattle.std.specs.Prelude.{◌≡◌, ◌≤◌, ◌<◌, ◌==◌, if◌then◌else◌, ℕ, IfErr, IfOk, IfSome, OnOk, None, Some, Option, length, slice_index_or, slice_set, All};
 ghost use Rattle.ebpf_insn.specs.declared.insn.Insn.{Insn};
@@ -20,18 +21,19 @@ ghost use Rattle.ebpf_flow.specs.Flow.{LeadsForward};
 ghost use Rattle.ebpf_state.specs.States.{first_state};
 ghost use Rattle.ebpf_verify.specs.declared.fault.VerifyCode.{VerifyCode};
 ghost use Rattle.ebpf_verify.specs.declared.fault.VerifyFault.TheVariants.{NoMemory};
-ghost use Rattle.ebpf_verify.specs.Rules.{refusal, after_fall};
-ghost use Rattle.ebpf_verify.specs.Entry.{with_state, with_edge, with_sent};
-ghost use Rattle.ebpf_verify.specs.Verdict.{refusal_in, verdict, IsVerifyFault, AreRows, IsSlotFault};
+ghost use Rattle.ebpf_insn.specs.Faults.{lowest};
+ghost use Rattle.ebpf_verify.specs.Entry.{with_sent};
+ghost use Rattle.ebpf_verify.specs.Verdict.{unruled_at, refusal_in, verdict, IsVerifyFault, AreRows, IsSlotFault};
 
 use crate::decl::Decl;
 use crate::entry::EntryState;
 use crate::fault::{VerifyCode, VerifyFault};
-use crate::rules::{after_fall, refusal};
+use crate::propagate::pass_on;
+use crate::rules::{has_rule, refusal};
 use crate::verified::Verified;
 use ebpf_flow::edges::Edges;
 use ebpf_flow::flowed::Flowed;
-use ebpf_insn::insn::Insn;
+use ebpf_insn::program::Program;
 use ebpf_state::kinds::KindRow;
 use ebpf_state::state::State;
 use std::alloc::{AllocError, Global};
@@ -54,12 +56,32 @@ pub fn verify(
     ensures refused { IfErr result (IsVerifyFault (record { program = flowed; decl = decl; rows = rows.now })) }
 {
     let rows = Vec::from_slice(alloc, rows)?;
+    refuse_unruled(flowed.program())?;
     let slots = flowed.program().slots();
     let mut entries = first_entries(alloc, slots)?;
     for slot in 0..slots {
         visit(&flowed, slot, &mut entries)?;
     }
     Ok(Verified { flowed, decl, rows })
+}
+
+// Refuses a program at the lowest slot whose instruction has no rule.
+fn refuse_unruled(program: &Program) -> Result<(), VerifyFault>
+    ensures fine { OnOk result (lowest (unruled_at program.now) (length program.now) ≡ None) }
+    ensures refused { IfErr result (λ e. (slot : ℕ) × (e ≡ VerifyFault.Refused slot VerifyCode.V0) × (lowest (unruled_at program.now) (length program.now) ≡ Some (slot, VerifyCode.V0))) }
+{
+    for slot in 0..program.slots() {
+        let Some(insn) = program.at(slot) else {
+            continue;
+        };
+        if !has_rule(*insn) {
+            return Err(VerifyFault::Refused {
+                slot: slot as u16,
+                code: VerifyCode::V0,
+            });
+        }
+    }
+    Ok(())
 }
 
 // What is known before each slot at first: the first state comes to slot 0, and nothing to the others.
@@ -92,43 +114,15 @@ fn visit(flowed: &Flowed, slot: usize, entries: &mut Vec<EntryState>) -> Result<
     let edges = flowed.successors(slot);
     match (flowed.program().at(slot), entry) {
         (_, EntryState::Conflict) => Err(refused_at(slot, VerifyCode::V19)),
-        (Some(insn), EntryState::Known(state)) => pass_on(*insn, slot, state, edges, entries),
+        (Some(insn), EntryState::Known(state)) => {
+            if let Some(code) = refusal(*insn, &state) {
+                return Err(refused_at(slot, code));
+            }
+            pass_on(*insn, state, edges, entries)?;
+            Ok(())
+        }
         _ => Ok(()),
     }
-}
-
-// Sends what is known after an instruction on its edges, or says why it is refused.
-fn pass_on(
-    insn: Insn,
-    slot: usize,
-    state: State,
-    edges: Edges,
-    entries: &mut Vec<EntryState>,
-) -> Result<(), VerifyFault>
-    requires few { slot < 4096 }
-    requires fall { IfSome edges.fall (λ to. to < length entries.old.items) }
-    ensures len { length entries.new.items ≡ length entries.old.items }
-    ensures fine { OnOk result (refusal insn state ≡ None) }
-    ensures sent { OnOk result ((t : ℕ) → t < length entries.old.items → slice_index_or entries.new.items t EntryState.Unreached ≡ with_sent (Some insn) edges t (EntryState.Known state) (slice_index_or entries.old.items t EntryState.Unreached)) }
-    ensures refused { IfErr result (IsSlotFault slot (refusal insn state)) }
-{
-    if let Some(code) = refusal(insn, &state) {
-        return Err(refused_at(slot, code));
-    }
-    if let (Some(to), Some(after)) = (edges.fall, after_fall(insn, state)) {
-        send(entries, to as usize, after);
-    }
-    Ok(())
-}
-
-// Adds a state to what comes to a slot.
-fn send(entries: &mut Vec<EntryState>, to: usize, state: State)
-    requires { to < length entries.old.items }
-    ensures len { length entries.new.items ≡ length entries.old.items }
-    ensures sent { entries.new.items ≡ slice_set entries.old.items to (with_state (slice_index_or entries.old.items to EntryState.Unreached) state) }
-{
-    let old = mem::replace(&mut entries[to], EntryState::Unreached);
-    entries[to] = old.with(state);
 }
 
 fn refused_at(slot: usize, code: VerifyCode) -> VerifyFault

@@ -1,4 +1,4 @@
-use Rattle.std.proofs.Common.{◌<◌, length, arith, sym, ap, rules, ◌∙◌, subst, below_more}
+use Rattle.std.proofs.Common.{◌<◌, length, arith, sym, ap, ◌∙◌, subst, below_more}
 use Rattle.std.proofs.lemmas.Result.{err_from_is_err_and}
 use Rattle.std.proofs.lemmas.List.{length_push}
 use Rattle.ebpf_insn.proofs.FaultLemmas.{lowest-zero, lowest-more_none}
@@ -10,7 +10,6 @@ use Rattle.ebpf_flow.proofs.check.check.Goals as goal
 
 pub loop-slot-init : goal.loop-slot-init
 loop-slot-init c = record {
-  done = search rules;
   few = omega arith;
   all = c.slots-slots.ensures.value;
   flags = c.in_ok-reached.ensures.len;
@@ -26,13 +25,12 @@ pub returns-in_err-leaving-clause-refused : goal.returns-in_err-leaving-clause-r
 returns-in_err-leaving-clause-refused c =
     let inside : c.loop-slot.slot < length c.args.program = omega arith in
     let p = err_from_is_err_and c.from_residual-in_err-leaving.result c.from_residual-in_err-leaving.ensures.1 in
-    rw (p.1, p.2) (fault_here c.args.program c.loop-slot.slot c.in_err-leaving.field-0.0 c.loop-slot.invariant.done inside c.loop-slot.invariant.fine c.in_err-leaving.ensures.refused)
+    rw (p.1, p.2) (fault_here c.args.program c.loop-slot.slot c.in_err-leaving.field-0.0 inside c.loop-slot.invariant.fine c.in_err-leaving.ensures.refused)
 
 pub loop-slot-preserved : goal.loop-slot-preserved
 loop-slot-preserved c =
     let inside : c.loop-slot.slot < c.slots-slots.result = omega arith in
     record {
-      done = c.loop-slot.invariant.done;
       few = c.loop-slot.invariant.few;
       all = c.loop-slot.invariant.all;
       flags = c.in_ok-leaving.ensures.len ∙ c.loop-slot.invariant.flags;

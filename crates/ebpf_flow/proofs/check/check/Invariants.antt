@@ -2,12 +2,11 @@ use Rattle.std.proofs.Common.{◌≡◌, ◌<◌, ◌≤◌, ℕ, length, slice_
 use Rattle.std.specs.Prelude.{slice_get}
 use Rattle.ebpf_insn.specs.Faults.{lowest}
 use Rattle.ebpf_flow.specs.Edges.{edges_at, reached_by}
-use Rattle.ebpf_flow.specs.Flow.{undone_fault, flow_fault_at, LeadsForward}
+use Rattle.ebpf_flow.specs.Flow.{flow_fault_at, LeadsForward}
 use Rattle.ebpf_flow.proofs.check.check.Given as goal
 
 abbrev pub invariant-loop-slot : goal.invariant-loop-slot
 invariant-loop-slot l = record {
-  done : undone_fault l.fn.program ≡ None;
   few : l.slots ≤ 4096;
   all : l.slots ≡ length l.fn.program;
   flags : length l.reached.items ≡ l.slots;

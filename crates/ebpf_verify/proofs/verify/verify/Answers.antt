@@ -5,7 +5,6 @@ use Rattle.ebpf_state.specs.declared.kinds.KindRow.{KindRow}
 use Rattle.ebpf_verify.specs.declared.entry.EntryState.TheVariants.{Unreached}
 use Rattle.ebpf_verify.specs.Verdict.{refusal_at, IsVerifyFault}
 use Rattle.ebpf_verify.proofs.Entries.{arrived-zero, arrived-more, refusal_here, refused_here}
-use Rattle.ebpf_verify.proofs.Undone.{all_done}
 use Rattle.ebpf_verify.proofs.verify.verify.Goals as goal
 
 pub loop-slot-init : goal.loop-slot-init
@@ -13,7 +12,7 @@ loop-slot-init c = record {
   all = c.slots-slots.ensures.value ∙ ap length c.program.ensures.value;
   len = c.in_ok-entries.ensures.len;
   came = λ t lo lt. c.in_ok-entries.ensures.first t lt ∙ sym (arrived-zero c.args.flowed t);
-  done = all_done (record { program = c.args.flowed; decl = c.args.decl; rows = c.in_ok-rows.rows.items }) c.program.ensures.fine;
+  done = c.in_ok-refuse_unruled.ensures.fine;
   fine = lowest-zero (refusal_at (record { program = c.args.flowed; decl = c.args.decl; rows = c.in_ok-rows.rows.items }));
 }
 

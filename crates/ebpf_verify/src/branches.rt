@@ -1,0 +1,99 @@
+//! The rules of branches: what refuses one, and what is known on each of its edges (RFC 9669, section 4.3).
+
+ghost use Rattle.std.specs.Prelude.{◌≡◌, ◌≤◌, IfSome, Some};
+ghost use Rattle.ebpf_state.specs.Abstract.{IsProper};
+ghost use Rattle.ebpf_verify.specs.Branches.{operand, compares_with_null, answering_call, null_test, comparison_refusal, branch_refusal, refined_values, with_operand, with_operands, is_null_where, after_branch};
+
+use crate::fault::VerifyCode;
+use ebpf_insn::insn::{Cond, Source, Width};
+use ebpf_insn::register::Reg;
+use ebpf_range::branches::refine;
+use ebpf_range::range::Range;
+use ebpf_state::state::State;
+use ebpf_state::value::Abs;
+
+/// What a branch compares, and how.
+#[derive(Clone, Copy)]
+pub(crate) struct Branch {
+    pub(crate) width: Width,
+    pub(crate) cond: Cond,
+    pub(crate) left: Reg,
+    pub(crate) right: Source,
+}
+
+/// What is known of a second operand.
+pub(crate) fn operand(state: &State, width: Width, source: Source) -> Abs
+    ensures value { result ≡ operand state.now width source }
+    ensures proper { IsProper result }
+{
+    match source {
+        Source::Register(register) => state.reg(register),
+        Source::Imm(imm) => Abs::Num(Range::constant(width.immediate(imm))),
+    }
+}
+
+/// The call whose answer a branch compares with null, which `jeq` and `jne` with the immediate 0 do at 64 bits.
+pub(crate) fn null_test(width: Width, cond: Cond, left: Abs, right: Source) -> Option<u16>
+    ensures { result ≡ null_test width cond left right }
+{
+    match (width, cond, right, left) {
+        (Width::W64, Cond::Eq | Cond::Ne, Source::Imm(0), Abs::May(call)) => Some(call),
+        _ => None,
+    }
+}
+
+/// The first code that refuses a branch. A comparison that is no null test is of two numbers.
+pub(crate) fn branch_refusal(null_test: Option<u16>, left: Abs, right: Abs) -> Option<VerifyCode>
+    ensures { result ≡ branch_refusal null_test left right }
+{
+    if null_test.is_some() {
+        None
+    } else if left.is_unset() || right.is_unset() {
+        Some(VerifyCode::V1)
+    } else if left.is_pointer() || left.is_may() || right.is_pointer() || right.is_may() {
+        Some(VerifyCode::V5)
+    } else {
+        None
+    }
+}
+
+/// What is known of both operands where a branch is taken, or where it is not. `None` says that it never goes that way.
+pub(crate) fn refined_values(
+    cond: Cond,
+    width: Width,
+    left: Abs,
+    right: Abs,
+    taken: bool,
+) -> Option<(Range, Range)>
+    requires left { IsProper left }
+    requires right { IsProper right }
+    ensures value { result ≡ refined_values cond width left right taken }
+    ensures ordered { IfSome result (λ p. (p.0.lo ≤ p.0.hi) × (p.1.lo ≤ p.1.hi)) }
+{
+    match (left, right) {
+        (Abs::Num(a), Abs::Num(b)) => refine(cond, width, a, b, taken),
+        _ => None,
+    }
+}
+
+/// Says in the state what is known of both operands from now on. The left register is written first.
+pub(crate) fn set_operands(state: &mut State, left: Reg, right: Source, known: (Range, Range))
+    requires left { known.0.lo ≤ known.0.hi }
+    requires right { known.1.lo ≤ known.1.hi }
+    ensures { with_operands left right (Some known) state.old ≡ Some state.new }
+{
+    state.set(left, Abs::Num(known.0));
+    if let Source::Register(register) = right {
+        state.set(register, Abs::Num(known.1));
+    }
+}
+
+/// An answer is null where `jeq` is taken, and where `jne` is not.
+pub(crate) fn is_null_where(cond: Cond, taken: bool) -> bool
+    ensures { result ≡ is_null_where cond taken }
+{
+    match cond {
+        Cond::Eq => taken,
+        _ => !taken,
+    }
+}
