@@ -73,7 +73,12 @@ fn branch_on(
     ensures len { length entries.new.items ≡ length entries.old.items }
     ensures sent { OnOk result ((t : ℕ) → t < length entries.old.items → slice_index_or entries.new.items t EntryState.Unreached ≡ with_edge (after_branch branch.cond branch.width branch.left branch.right false state) (leads_to edges.fall t) (with_edge (after_branch branch.cond branch.width branch.left branch.right true state) (leads_to edges.jump t) (slice_index_or entries.old.items t EntryState.Unreached))) }
 {
-    match null_test(branch.width, branch.cond, state.reg(branch.left), branch.right) {
+    match null_test(
+        branch.width,
+        branch.cond,
+        state.reg(branch.left),
+        branch.right,
+    ) {
         Some(call) => settle_on(call, branch.cond, state, edges, entries),
         None => refine_on(branch, state, edges, entries),
     }
@@ -147,11 +152,7 @@ fn send(entries: &mut Vec<EntryState>, edge: Option<u16>, state: State)
 }
 
 // Sends what a state says along an edge, and keeps the state.
-fn add(
-    entries: &mut Vec<EntryState>,
-    edge: Option<u16>,
-    state: &State,
-) -> Result<(), AllocError>
+fn add(entries: &mut Vec<EntryState>, edge: Option<u16>, state: &State) -> Result<(), AllocError>
     requires { IfSome edge (λ to. to < length entries.old.items) }
     ensures len { length entries.new.items ≡ length entries.old.items }
     ensures sent { OnOk result ((t : ℕ) → t < length entries.old.items → slice_index_or entries.new.items t EntryState.Unreached ≡ with_edge (Some state.now) (leads_to edge t) (slice_index_or entries.old.items t EntryState.Unreached)) }

@@ -1,4 +1,4 @@
-use Rattle.std.proofs.Common.{◌<◌, length, List, slice_index_or, None, arith, sym, ap, ◌∙◌, subst}
+use Rattle.std.proofs.Common.{rules, ◌<◌, length, List, slice_index_or, None, arith, sym, ap, ◌∙◌, subst}
 use Rattle.std.proofs.lemmas.Result.{err_from_is_err_and}
 use Rattle.ebpf_insn.proofs.FaultLemmas.{lowest-zero, lowest-more_none}
 use Rattle.ebpf_state.specs.declared.kinds.KindRow.{KindRow}
@@ -9,10 +9,10 @@ use Rattle.ebpf_verify.proofs.verify.verify.Goals as goal
 
 pub loop-slot-init : goal.loop-slot-init
 loop-slot-init c = record {
-  all = c.slots-slots.ensures.value ∙ ap length c.program.ensures.value;
+  all = c.slots-slots.ensures.value ∙ ap length c.program-2.ensures.value;
   len = c.in_ok-entries.ensures.len;
   came = λ t lo lt. c.in_ok-entries.ensures.first t lt ∙ sym (arrived-zero c.args.flowed t);
-  done = c.in_ok-refuse_unruled.ensures.fine;
+  done = search rules;
   fine = lowest-zero (refusal_at (record { program = c.args.flowed; decl = c.args.decl; rows = c.in_ok-rows.rows.items }));
 }
 
@@ -28,7 +28,7 @@ pub loop-slot-preserved : goal.loop-slot-preserved
 loop-slot-preserved c =
     let here = c.loop-slot.invariant.came c.loop-slot.slot (omega arith) (omega arith) in
     record {
-      all = c.slots-slots.ensures.value ∙ ap length c.program.ensures.value;
+      all = c.slots-slots.ensures.value ∙ ap length c.program-2.ensures.value;
       len = c.in_ok-visit.ensures.len ∙ c.loop-slot.invariant.len;
       came = λ t lo lt. c.in_ok-visit.ensures.sent t (omega arith) (omega (arith, c.loop-slot.invariant.all)) ∙ arrived-more c.args.flowed c.loop-slot.slot t _ _ here (c.loop-slot.invariant.came t (omega arith) lt);
       done = c.loop-slot.invariant.done;
