@@ -3,7 +3,7 @@ use Rattle.std.proofs.Common.{◌≡◌, ◌≢◌, ℕ, ◌+◌, List, length, 
 use Rattle.std.specs.Prelude.{slice_get}
 use Rattle.std.proofs.lemmas.List.{length-map}
 use Rattle.ebpf_insn.specs.declared.insn.Insn.{Insn}
-use Rattle.ebpf_insn.specs.Program.{insn_at, slots_in as insn_slots}
+use Rattle.ebpf_insn.specs.Program.{insn_at}
 use Rattle.ebpf_machine.specs.declared.value.Value.{Value}
 use Rattle.ebpf_machine.specs.declared.report.Reply.TheVariants.{Null}
 use Rattle.ebpf_machine.specs.Values.{Frame}
@@ -17,7 +17,7 @@ use Rattle.ebpf_machine.proofs.Acts.{effect_seen, IsOwnEffect, own_view, others_
 use Rattle.ebpf_machine.proofs.Owned.{IsForward, owned_done}
 use Rattle.ebpf_machine.proofs.Projection.{effect-seen}
 use Rattle.ebpf_machine.proofs.Pointing.{plain_goes}
-use Rattle.ebpf_machine.proofs.Steps.{next_of, falls_forward}
+use Rattle.ebpf_machine.proofs.Steps.{next_of, goes_forward}
 use Rattle.ebpf_machine.proofs.Soundness.{GoesOn, EndsRun}
 
 -- the world that the next instruction of a run leads to
@@ -105,17 +105,17 @@ quiet_goes_on w run r i after sound at unasked g =
     let v = view_of w run r in
     let e = effect i r.pc (around w run r) r.frame in
     let seen = seen_effect w run r i at in
-    let effect_is : effect_of_view v ≡ Goes Nothing (r.pc + insn_slots i) (record (frame_seen r.frame) { registers = after }) = ap (λ (o : Option Insn). effect_at o r.pc (around_view v) (frame_seen r.frame)) at ∙ g.does (around_view v) in
-    let goes = seen_goes e (r.pc + insn_slots i) _ (seen ∙ effect_is) in
-    let plain = plain_goes i r.pc (around w run r) r.frame goes.act (r.pc + insn_slots i) goes.frame goes.is in
-    let is : e ≡ Goes Nothing (r.pc + insn_slots i) goes.frame = goes.is ∙ ap (λ (a : Act Name). Goes a (r.pc + insn_slots i) goes.frame) plain.asks in (
-      Goes Nothing (r.pc + insn_slots i) goes.frame,
+    let effect_is : effect_of_view v ≡ Goes Nothing g.to (record (frame_seen r.frame) { registers = after }) = ap (λ (o : Option Insn). effect_at o r.pc (around_view v) (frame_seen r.frame)) at ∙ g.does (around_view v) in
+    let goes = seen_goes e g.to _ (seen ∙ effect_is) in
+    let plain = plain_goes i r.pc (around w run r) r.frame goes.act g.to goes.frame goes.is in
+    let is : e ≡ Goes Nothing g.to goes.frame = goes.is ∙ ap (λ (a : Act Name). Goes a g.to goes.frame) plain.asks in (
+      Goes Nothing g.to goes.frame,
       record {
         unasked = unasked;
         does = ap (λ (o : Option Insn). effect_at o r.pc (around w run r) r.frame) at ∙ is;
         seen = sym (ap effect_seen is) ∙ seen;
         own = tt;
-        forward = ((falls_forward v i after sound at g).0, plain.pointers);
+        forward = ((goes_forward v i after sound at g).0, plain.pointers);
         quiet = quiet_goes w run r _ goes.frame;
       },
     )

@@ -12,14 +12,15 @@ use Rattle.ebpf_insn.specs.declared.insn.AluOp.TheVariants as op
 use Rattle.ebpf_insn.specs.declared.insn.Width.{Width}
 use Rattle.ebpf_insn.specs.declared.insn.Width.TheVariants.{W32, W64}
 use Rattle.ebpf_insn.specs.Registers.{number_of}
-use Rattle.ebpf_insn.specs.Program.{slots_in}
-use Rattle.ebpf_verify.specs.Rules.{is_frame_pointer}
+use Rattle.ebpf_insn.specs.Arithmetic.{kept_at, extension_at, negation_at, swap_of}
+use Rattle.ebpf_flow.specs.Edges.{jump_of}
+use Rattle.ebpf_verify.specs.Operations.{is_frame_pointer}
 use Rattle.ebpf_machine.specs.declared.value.Value.{Value}
 use Rattle.ebpf_machine.specs.declared.value.Value.TheVariants.{Number, Pointer}
 use Rattle.ebpf_machine.specs.declared.value.Base.{Base}
 use Rattle.ebpf_machine.specs.declared.value.Base.TheVariants.{Stack, Context, Object}
 use Rattle.ebpf_machine.specs.Values.{Trap, FramePointerWritten, Leak, Frame, read, source_value}
-use Rattle.ebpf_machine.specs.Effect.{Around, Act, Nothing, Effect, Goes, Traps, effect, moved_value, sum_of, sum_value, alu_value, with_value, written, exits, result_number}
+use Rattle.ebpf_machine.specs.Effect.{Around, Act, Nothing, Effect, Goes, Traps, effect, unary, copied, moved_on_left, moved_on_right, pointer_to, computed, binary, alu_value, with_value, written, is_taken, jumps, branches, exits, result_number}
 use Rattle.ebpf_machine.specs.World.{Name}
 use Rattle.ebpf_machine.specs.Sound.{Names, HasPointer, InRegister, InCell}
 
@@ -52,11 +53,14 @@ abbrev PointsAsBefore : Option (Value Name) → Option (Value Name) → Result (
 PointsAsBefore x y (Err trap) = Unit {0}
 PointsAsBefore x y (Ok v) = (n : Name) → Names (Some v) n → Names x n ⊎ Names y n
 
-moved_points : (width : Width) (x y : Option (Value Name)) → PointsAsBefore x y (moved_value width y)
-moved_points width x None = tt
-moved_points W64 x (Some v) = λ n h. inr h
-moved_points W32 x (Some (Number m)) = λ n h. absurd h
-moved_points W32 x (Some (Pointer base k)) = tt
+unary_points : (f : ℕ → ℕ) (x y : Option (Value Name)) → PointsAsBefore x y (unary f y)
+unary_points f x None = tt
+unary_points f x (Some (Number m)) = λ n h. absurd h
+unary_points f x (Some (Pointer base k)) = tt
+
+copied_points : (x y : Option (Value Name)) → PointsAsBefore x y (copied y)
+copied_points x None = tt
+copied_points x (Some v) = λ n h. inr h
 
 -- the offset of a pointer says nothing of its object
 moved_pointer : (base : Base Name) (j k : ℤ) (n : Name) → Names (Some (Pointer base j)) n → Names (Some (Pointer base k)) n
@@ -64,37 +68,42 @@ moved_pointer Stack j k n h = absurd h
 moved_pointer Context j k n h = absurd h
 moved_pointer (Object name) j k n h = h
 
-sum_of_points : (width : Width) (v w : Value Name) → PointsAsBefore (Some v) (Some w) (sum_of width v w)
-sum_of_points width (Number a) (Number b) = λ n h. absurd h
-sum_of_points W32 (Number a) (Pointer base k) = tt
-sum_of_points W64 (Number a) (Pointer base k) = λ n h. inr (moved_pointer base _ k n h)
-sum_of_points W32 (Pointer base k) (Number b) = tt
-sum_of_points W64 (Pointer base k) (Number b) = λ n h. inl (moved_pointer base _ k n h)
-sum_of_points W32 (Pointer base k) (Pointer other j) = tt
-sum_of_points W64 (Pointer base k) (Pointer other j) = tt
+on_left_points : (base : Base Name) (k : ℤ) (m : ℕ) (to : Option ℤ) → PointsAsBefore (Some (Pointer base k)) (Some (Number m)) (pointer_to base to)
+on_left_points base k m None = tt
+on_left_points base k m (Some j) = λ n h. inl (moved_pointer base j k n h)
 
-sum_points : (width : Width) (x y : Option (Value Name)) → PointsAsBefore x y (sum_value width x y)
-sum_points width None y = tt
-sum_points width (Some v) None = tt
-sum_points width (Some v) (Some w) = sum_of_points width v w
+on_right_points : (base : Base Name) (k : ℤ) (m : ℕ) (to : Option ℤ) → PointsAsBefore (Some (Number m)) (Some (Pointer base k)) (pointer_to base to)
+on_right_points base k m None = tt
+on_right_points base k m (Some j) = λ n h. inr (moved_pointer base j k n h)
+
+computed_points : (width : Width) (o : AluOp) (v w : Value Name) → PointsAsBefore (Some v) (Some w) (computed width o v w)
+computed_points width o (Number a) (Number b) = λ n h. absurd h
+computed_points width o (Number m) (Pointer base k) = on_right_points base k m (moved_on_right width o m k)
+computed_points width o (Pointer base k) (Number m) = on_left_points base k m (moved_on_left width o k m)
+computed_points width o (Pointer base k) (Pointer other j) = tt
+
+binary_points : (width : Width) (o : AluOp) (x y : Option (Value Name)) → PointsAsBefore x y (binary width o x y)
+binary_points width o None y = tt
+binary_points width o (Some v) None = tt
+binary_points width o (Some v) (Some w) = computed_points width o v w
 
 alu_points : (width : Width) (o : AluOp) (x y : Option (Value Name)) → PointsAsBefore x y (alu_value width o x y)
-alu_points width op.Mov x y = moved_points width x y
-alu_points width op.Add x y = sum_points width x y
-alu_points width _ x y = tt
+alu_points W64 op.Mov x y = copied_points x y
+alu_points W32 op.Mov x y = unary_points (kept_at W32) x y
+alu_points W32 o x y = binary_points W32 o x y
+alu_points W64 o x y = binary_points W64 o x y
 
--- what an instruction that goes on asks, where it leads, and which pointers are left
-pub record IsPlain (before : Frame Name) (later : ℕ) (act : Act Name) (to : ℕ) (after : Frame Name) : Type 0 where
+-- what an instruction that goes on asks, and which pointers are left
+pub record IsPlain (before : Frame Name) (act : Act Name) (after : Frame Name) : Type 0 where
   pub asks : act ≡ Nothing
-  pub falls : to ≡ later
   pub pointers : (n : Name) → HasPointer after n → HasPointer before n
 
-abbrev IsPlainEffect : Frame Name → ℕ → Effect Name → Type 0
-IsPlainEffect before later (Goes act to after) = IsPlain before later act to after
-IsPlainEffect before later _ = Unit {0}
+abbrev IsPlainEffect : Frame Name → Effect Name → Type 0
+IsPlainEffect before (Goes act to after) = IsPlain before act after
+IsPlainEffect before _ = Unit {0}
 
-value_plain : (later : ℕ) (frame : Frame Name) (dst : Reg) (v : Value Name) → ((n : Name) → Names (Some v) n → HasPointer frame n) → IsPlain frame later Nothing later (with_value frame dst v)
-value_plain later frame dst v from = record { asks = refl; falls = refl; pointers = pointed } where
+value_plain : (frame : Frame Name) (dst : Reg) (v : Value Name) → ((n : Name) → Names (Some v) n → HasPointer frame n) → IsPlain frame Nothing (with_value frame dst v)
+value_plain frame dst v from = record { asks = refl; pointers = pointed } where
   pointed : (n : Name) → HasPointer (with_value frame dst v) n → HasPointer frame n
   pointed n (InCell c there h) = InCell c there h
   pointed n (InRegister x there h) = by_place (in_set frame.registers (number_of dst) (Some v) x there.0 there.1 there.2) where
@@ -102,35 +111,55 @@ value_plain later frame dst v from = record { asks = refl; falls = refl; pointer
     by_place (inl same) = from n (subst (λ (o : Option (Value Name)). Names o n) (sym same) h)
     by_place (inr before) = InRegister x before h
 
-written_plain : (later : ℕ) (frame : Frame Name) (dst : Reg) (x y : Option (Value Name)) (r : Result (Value Name) Trap) → ((n : Name) → Names x n → HasPointer frame n) → ((n : Name) → Names y n → HasPointer frame n) → PointsAsBefore x y r → IsPlainEffect frame later (written later frame dst r)
-written_plain later frame dst x y (Err trap) left right points = tt
-written_plain later frame dst x y (Ok v) left right points = chosen (is_frame_pointer dst) where
+written_plain : (to : ℕ) (frame : Frame Name) (dst : Reg) (x y : Option (Value Name)) (r : Result (Value Name) Trap) → ((n : Name) → Names x n → HasPointer frame n) → ((n : Name) → Names y n → HasPointer frame n) → PointsAsBefore x y r → IsPlainEffect frame (written to frame dst r)
+written_plain to frame dst x y (Err trap) left right points = tt
+written_plain to frame dst x y (Ok v) left right points = chosen (is_frame_pointer dst) where
   from : (n : Name) → Names (Some v) n → HasPointer frame n
   from n h = either (points n h) where
     either : Names x n ⊎ Names y n → HasPointer frame n
     either (inl l) = left n l
     either (inr r) = right n r
 
-  chosen : (t : Bool) → IsPlainEffect frame later (cond t (Traps FramePointerWritten) (Goes Nothing later (with_value frame dst v)))
+  chosen : (t : Bool) → IsPlainEffect frame (cond t (Traps FramePointerWritten) (Goes Nothing to (with_value frame dst v)))
   chosen true = tt
-  chosen false = value_plain later frame dst v from
+  chosen false = value_plain frame dst v from
 
-exits_plain : (frame : Frame Name) (later holds : ℕ) (x : Option (Value Name)) → IsPlainEffect frame later (exits holds x)
-exits_plain frame later holds None = tt
-exits_plain frame later holds (Some v) = leaks (nat_lt 0 holds) v where
-  returns : (v : Value Name) → IsPlainEffect frame later (result_number v)
+-- an operation on one number
+number_plain : (to : ℕ) (frame : Frame Name) (dst : Reg) (f : ℕ → ℕ) (src : Reg) → IsPlainEffect frame (written to frame dst (unary f (read frame src)))
+number_plain to frame dst f src = written_plain to frame dst (read frame src) (read frame src) (unary f (read frame src)) (read_points frame src) (read_points frame src) (unary_points f (read frame src) (read frame src))
+
+jumps_plain : (target : Option ℕ) (frame : Frame Name) → IsPlainEffect frame (jumps target frame)
+jumps_plain None frame = tt
+jumps_plain (Some to) frame = record { asks = refl; pointers = λ n h. h }
+
+branches_plain : (next : ℕ) (target : Option ℕ) (frame : Frame Name) (r : Result Bool Trap) → IsPlainEffect frame (branches next target frame r)
+branches_plain next target frame (Err trap) = tt
+branches_plain next target frame (Ok true) = jumps_plain target frame
+branches_plain next target frame (Ok false) = record { asks = refl; pointers = λ n h. h }
+
+exits_plain : (frame : Frame Name) (holds : ℕ) (x : Option (Value Name)) → IsPlainEffect frame (exits holds x)
+exits_plain frame holds None = tt
+exits_plain frame holds (Some v) = leaks (nat_lt 0 holds) v where
+  returns : (v : Value Name) → IsPlainEffect frame (result_number v)
   returns (Number n) = tt
   returns (Pointer base k) = tt
 
-  leaks : (t : Bool) (v : Value Name) → IsPlainEffect frame later (cond t (Traps Leak) (result_number v))
+  leaks : (t : Bool) (v : Value Name) → IsPlainEffect frame (cond t (Traps Leak) (result_number v))
   leaks true v = tt
   leaks false v = returns v
 
-effect_plain : (i : Insn) (pc : ℕ) (a : Around Name) (frame : Frame Name) → IsPlainEffect frame (pc + slots_in i) (effect i pc a frame)
+effect_plain : (i : Insn) (pc : ℕ) (a : Around Name) (frame : Frame Name) → IsPlainEffect frame (effect i pc a frame)
 effect_plain (insn.Alu width o dst src) pc a frame =
     written_plain _ frame dst (read frame dst) (source_value frame width src) (alu_value width o (read frame dst) (source_value frame width src)) (read_points frame dst) (source_points frame width src) (alu_points width o (read frame dst) (source_value frame width src))
-effect_plain insn.Exit pc a frame = exits_plain frame _ a.holds (read frame R0)
+effect_plain (insn.Sext width bits dst src) pc a frame = number_plain _ frame dst (extension_at width bits) src
+effect_plain (insn.Neg width dst) pc a frame = number_plain _ frame dst (negation_at width) dst
+effect_plain (insn.Swap order bits dst) pc a frame = number_plain _ frame dst (swap_of order bits) dst
+effect_plain (insn.Wide dst value) pc a frame = written_plain _ frame dst None None (Ok (Number value)) (λ n h. absurd h) (λ n h. absurd h) (λ n h. absurd h)
+effect_plain (insn.Jump offset) pc a frame = jumps_plain (jump_of (insn.Jump offset) pc) frame
+effect_plain (insn.JumpFar offset) pc a frame = jumps_plain (jump_of (insn.JumpFar offset) pc) frame
+effect_plain (insn.Branch width condition left right offset) pc a frame = branches_plain _ (jump_of (insn.Branch width condition left right offset) pc) frame (is_taken width condition right (read frame left) (source_value frame width right))
+effect_plain insn.Exit pc a frame = exits_plain frame a.holds (read frame R0)
 effect_plain _ pc a frame = tt
 
-pub plain_goes : (i : Insn) (pc : ℕ) (a : Around Name) (frame : Frame Name) (act : Act Name) (to : ℕ) (after : Frame Name) → effect i pc a frame ≡ Goes act to after → IsPlain frame (pc + slots_in i) act to after
-plain_goes i pc a frame act to after e = subst (IsPlainEffect frame (pc + slots_in i)) e (effect_plain i pc a frame)
+pub plain_goes : (i : Insn) (pc : ℕ) (a : Around Name) (frame : Frame Name) (act : Act Name) (to : ℕ) (after : Frame Name) → effect i pc a frame ≡ Goes act to after → IsPlain frame act after
+plain_goes i pc a frame act to after e = subst (IsPlainEffect frame) e (effect_plain i pc a frame)

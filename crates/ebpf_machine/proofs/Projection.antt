@@ -1,5 +1,5 @@
 -- An instruction does to what a run sees what it does to the run in the world.
-use Rattle.std.proofs.Common.{◌≡◌, ℕ, zero, suc, ◌+◌, Bool, true, false, cond, List, [], ◌∷◌, get_or, set, Option, Some, None, Result, Ok, Err, refl, sym, ap}
+use Rattle.std.proofs.Common.{◌≡◌, ℕ, zero, suc, ◌+◌, ℤ, Bool, true, false, cond, List, [], ◌∷◌, get_or, set, Option, Some, None, Result, Ok, Err, refl, sym, ap}
 use Rattle.std.specs.Prelude.{map, nat_lt}
 use Rattle.ebpf_insn.specs.declared.register.Reg.{Reg}
 use Rattle.ebpf_insn.specs.declared.register.Reg.TheVariants.{R0}
@@ -9,17 +9,21 @@ use Rattle.ebpf_insn.specs.declared.insn.Source.{Source}
 use Rattle.ebpf_insn.specs.declared.insn.Source.TheVariants.{Register, Imm}
 use Rattle.ebpf_insn.specs.declared.insn.AluOp.{AluOp}
 use Rattle.ebpf_insn.specs.declared.insn.AluOp.TheVariants as op
+use Rattle.ebpf_insn.specs.declared.insn.Cond.{Cond}
 use Rattle.ebpf_insn.specs.declared.insn.Width.{Width}
 use Rattle.ebpf_insn.specs.declared.insn.Width.TheVariants.{W32, W64}
 use Rattle.ebpf_insn.specs.Registers.{number_of}
-use Rattle.ebpf_insn.specs.Program.{slots_in}
-use Rattle.ebpf_verify.specs.Rules.{is_frame_pointer}
+use Rattle.ebpf_insn.specs.Arithmetic.{kept_at, extension_at, negation_at, swap_of}
+use Rattle.ebpf_flow.specs.Edges.{jump_of}
+use Rattle.ebpf_verify.specs.Operations.{is_frame_pointer}
+use Rattle.ebpf_machine.specs.declared.value.Base.{Base}
+use Rattle.ebpf_machine.specs.declared.value.Base.TheVariants.{Stack, Context, Object}
 use Rattle.ebpf_machine.specs.declared.value.Value.{Value}
 use Rattle.ebpf_machine.specs.declared.value.Value.TheVariants.{Number, Pointer}
 use Rattle.ebpf_machine.specs.Values.{Trap, FramePointerWritten, Leak, Frame, read, source_value}
-use Rattle.ebpf_machine.specs.Effect.{Around, Nothing, Effect, Goes, Traps, effect, moved_value, sum_of, sum_value, alu_value, with_value, written, exits, result_number}
+use Rattle.ebpf_machine.specs.Effect.{Around, Nothing, Effect, Goes, Traps, effect, unary, copied, moved_on_left, moved_on_right, pointer_to, computed, binary, alu_value, with_value, written, compared, is_taken, jumps, branches, exits, result_number}
 use Rattle.ebpf_machine.specs.World.{Name}
-use Rattle.ebpf_machine.specs.View.{value_seen, register_seen, frame_seen}
+use Rattle.ebpf_machine.specs.View.{base_seen, value_seen, register_seen, frame_seen}
 use Rattle.ebpf_machine.proofs.Acts.{effect_seen}
 
 abbrev pub result_seen : Result (Value Name) Trap → Result (Value ℕ) Trap
@@ -43,32 +47,57 @@ source-seen : (frame : Frame Name) (width : Width) (src : Source) → source_val
 source-seen frame width (Register r) = read-seen frame r
 source-seen frame width (Imm z) = refl
 
-moved-seen : (width : Width) (x : Option (Value Name)) → moved_value width (register_seen x) ≡ result_seen (moved_value width x)
-moved-seen W32 None = refl
-moved-seen W64 None = refl
-moved-seen W64 (Some v) = refl
-moved-seen W32 (Some (Number n)) = refl
-moved-seen W32 (Some (Pointer base k)) = refl
+unary-seen : (f : ℕ → ℕ) (x : Option (Value Name)) → unary f (register_seen x) ≡ result_seen (unary f x)
+unary-seen f None = refl
+unary-seen f (Some (Number n)) = refl
+unary-seen f (Some (Pointer base k)) = refl
 
-sum_of-seen : (width : Width) (v w : Value Name) → sum_of width (value_seen v) (value_seen w) ≡ result_seen (sum_of width v w)
-sum_of-seen W32 (Number a) (Number b) = refl
-sum_of-seen W64 (Number a) (Number b) = refl
-sum_of-seen W32 (Number a) (Pointer base k) = refl
-sum_of-seen W64 (Number a) (Pointer base k) = refl
-sum_of-seen W32 (Pointer base k) (Number b) = refl
-sum_of-seen W64 (Pointer base k) (Number b) = refl
-sum_of-seen W32 (Pointer base k) (Pointer other j) = refl
-sum_of-seen W64 (Pointer base k) (Pointer other j) = refl
+copied-seen : (x : Option (Value Name)) → copied (register_seen x) ≡ result_seen (copied x)
+copied-seen None = refl
+copied-seen (Some v) = refl
 
-sum-seen : (width : Width) (x y : Option (Value Name)) → sum_value width (register_seen x) (register_seen y) ≡ result_seen (sum_value width x y)
-sum-seen width None y = refl
-sum-seen width (Some v) None = refl
-sum-seen width (Some v) (Some w) = sum_of-seen width v w
+pointer-seen : (base : Base Name) (k : Option ℤ) → pointer_to (base_seen base) k ≡ result_seen (pointer_to base k)
+pointer-seen base None = refl
+pointer-seen base (Some k) = refl
+
+computed-seen : (width : Width) (o : AluOp) (v w : Value Name) → computed width o (value_seen v) (value_seen w) ≡ result_seen (computed width o v w)
+computed-seen width o (Number a) (Number b) = refl
+computed-seen width o (Number n) (Pointer base k) = pointer-seen base (moved_on_right width o n k)
+computed-seen width o (Pointer base k) (Number n) = pointer-seen base (moved_on_left width o k n)
+computed-seen width o (Pointer base k) (Pointer other j) = refl
+
+binary-seen : (width : Width) (o : AluOp) (x y : Option (Value Name)) → binary width o (register_seen x) (register_seen y) ≡ result_seen (binary width o x y)
+binary-seen width o None y = refl
+binary-seen width o (Some v) None = refl
+binary-seen width o (Some v) (Some w) = computed-seen width o v w
 
 alu-seen : (width : Width) (o : AluOp) (x y : Option (Value Name)) → alu_value width o (register_seen x) (register_seen y) ≡ result_seen (alu_value width o x y)
-alu-seen width op.Mov x y = moved-seen width y
-alu-seen width op.Add x y = sum-seen width x y
-alu-seen width _ x y = refl
+alu-seen W64 op.Mov x y = copied-seen y
+alu-seen W32 op.Mov x y = unary-seen (kept_at W32) y
+alu-seen W32 o x y = binary-seen W32 o x y
+alu-seen W64 o x y = binary-seen W64 o x y
+
+compared-seen : (width : Width) (condition : Cond) (right : Source) (v w : Value Name) → compared width condition right (value_seen v) (value_seen w) ≡ compared width condition right v w
+compared-seen width condition right (Number a) (Number b) = refl
+compared-seen width condition right (Number a) (Pointer base k) = refl
+compared-seen width condition right (Pointer Stack k) w = refl
+compared-seen width condition right (Pointer Context k) w = refl
+compared-seen width condition right (Pointer (Object name) k) (Number b) = refl
+compared-seen width condition right (Pointer (Object name) k) (Pointer base j) = refl
+
+taken-seen : (width : Width) (condition : Cond) (right : Source) (x y : Option (Value Name)) → is_taken width condition right (register_seen x) (register_seen y) ≡ is_taken width condition right x y
+taken-seen width condition right None y = refl
+taken-seen width condition right (Some v) None = refl
+taken-seen width condition right (Some v) (Some w) = compared-seen width condition right v w
+
+jumps-seen : (target : Option ℕ) (frame : Frame Name) → jumps target (frame_seen frame) ≡ effect_seen (jumps target frame)
+jumps-seen None frame = refl
+jumps-seen (Some to) frame = refl
+
+branches-seen : (next : ℕ) (target : Option ℕ) (frame : Frame Name) (r : Result Bool Trap) → branches next target (frame_seen frame) r ≡ effect_seen (branches next target frame r)
+branches-seen next target frame (Err trap) = refl
+branches-seen next target frame (Ok true) = jumps-seen target frame
+branches-seen next target frame (Ok false) = refl
 
 with_value-seen : (frame : Frame Name) (dst : Reg) (v : Value Name) → with_value (frame_seen frame) dst (value_seen v) ≡ frame_seen (with_value frame dst v)
 with_value-seen frame dst v = ap (λ (regs : List (Option (Value ℕ))). record (frame_seen frame) { registers = regs }) (sym (set-seen frame.registers (number_of dst) v))
@@ -96,6 +125,17 @@ exits-seen holds (Some v) = rw (number-seen v) (leaks-seen (nat_lt 0 holds) Leak
 -- an effect of the run is the effect as it sees itself, where it holds as many objects on both sides
 pub effect-seen : (i : Insn) (pc : ℕ) (a : Around Name) (b : Around ℕ) (frame : Frame Name) → b.holds ≡ a.holds → effect i pc b (frame_seen frame) ≡ effect_seen (effect i pc a frame)
 effect-seen (insn.Alu width o dst src) pc a b frame same =
-    rw (read-seen frame dst, source-seen frame width src, alu-seen width o (read frame dst) (source_value frame width src)) (written-seen (pc + slots_in (insn.Alu width o dst src)) frame dst (alu_value width o (read frame dst) (source_value frame width src)))
+    rw (read-seen frame dst, source-seen frame width src, alu-seen width o (read frame dst) (source_value frame width src)) (written-seen (pc + 1) frame dst (alu_value width o (read frame dst) (source_value frame width src)))
+effect-seen (insn.Sext width bits dst src) pc a b frame same =
+    rw (read-seen frame src, unary-seen (extension_at width bits) (read frame src)) (written-seen (pc + 1) frame dst (unary (extension_at width bits) (read frame src)))
+effect-seen (insn.Neg width dst) pc a b frame same =
+    rw (read-seen frame dst, unary-seen (negation_at width) (read frame dst)) (written-seen (pc + 1) frame dst (unary (negation_at width) (read frame dst)))
+effect-seen (insn.Swap order bits dst) pc a b frame same =
+    rw (read-seen frame dst, unary-seen (swap_of order bits) (read frame dst)) (written-seen (pc + 1) frame dst (unary (swap_of order bits) (read frame dst)))
+effect-seen (insn.Wide dst value) pc a b frame same = written-seen (pc + 2) frame dst (Ok (Number value))
+effect-seen (insn.Jump offset) pc a b frame same = jumps-seen (jump_of (insn.Jump offset) pc) frame
+effect-seen (insn.JumpFar offset) pc a b frame same = jumps-seen (jump_of (insn.JumpFar offset) pc) frame
+effect-seen (insn.Branch width condition left right offset) pc a b frame same =
+    rw (read-seen frame left, source-seen frame width right, taken-seen width condition right (read frame left) (source_value frame width right)) (branches-seen (pc + 1) (jump_of (insn.Branch width condition left right offset) pc) frame (is_taken width condition right (read frame left) (source_value frame width right)))
 effect-seen insn.Exit pc a b frame same = rw (read-seen frame R0, same) (exits-seen a.holds (read frame R0))
 effect-seen _ pc a b frame same = refl
