@@ -1,8 +1,11 @@
+pub mod Bounded
 pub mod Joins
+pub mod RulesBounded
 pub mod Entries
 pub mod Pointers
 pub mod Operations
 pub mod Additions
+pub mod Results
 pub mod Soundness
 pub mod ListLemmas
 pub mod Owners
