@@ -1,9 +1,8 @@
 -- A state has all registers, and what it knows of their numbers has its ends in order and below 2^64: the rules keep this.
-use Rattle.std.proofs.Common.{◌≡◌, ℕ, zero, suc, ◌<◌, ◌≤◌, ◌^◌, min, max, ℤ, Bool, true, false, cond, eqb, List, [], ◌∷◌, length, get_or, set, Option, Some, None, refl, sym, ap, ◌∙◌, subst, arith, length-set, rules}
-use Rattle.std.specs.Prelude.{All, map, unwrap_or, ◌==◌}
+use Rattle.std.proofs.Common.{◌≡◌, ℕ, zero, suc, ◌<◌, Bool, true, false, eqb, List, [], ◌∷◌, length, get_or, refl, ◌∙◌, arith, length-set, rules}
+use Rattle.std.specs.Prelude.{All, ◌==◌}
 use Rattle.std.specs.Ordering.{int_eq}
-use Rattle.std.specs.Int.{int_min, int_max, w32}
-use Rattle.std.proofs.lemmas.Int.{ints}
+use Rattle.std.specs.Int.{int_min, int_max}
 use Rattle.std.proofs.lemmas.List.{length-map}
 use Rattle.std.proofs.lemmas.List.Elements.{All-get_or, All-set, All-cons, All-tail, All-map}
 use Rattle.std.proofs.lemmas.Bool.{cond_both}
@@ -18,7 +17,6 @@ use Rattle.ebpf_state.specs.Abstract.{joined_value}
 use Rattle.ebpf_state.specs.StateView.{StateView}
 use Rattle.ebpf_state.specs.States.{joined_list, register_of, with_register, first_state}
 use Rattle.ebpf_state.specs.References.{answer_known, settled_value, settled}
-use Rattle.ebpf_state.proofs.JoinLists.{joined_list-index, joined_list-length}
 
 abbrev pub IsBoundedValue : Abs → Type 0
 IsBoundedValue (Num a) = IsBounded a

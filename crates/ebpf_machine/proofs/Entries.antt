@@ -1,16 +1,14 @@
 -- What a lower slot sends comes to a slot.
-use Rattle.std.proofs.Common.{◌≡◌, ℕ, zero, suc, ◌<◌, Bool, true, false, cond, eqb, List, length, Option, Some, None, refl, ◌∙◌, subst, arith, inl, inr, length-set}
+use Rattle.std.proofs.Common.{◌≡◌, ℕ, zero, suc, ◌<◌, Bool, true, false, cond, eqb, List, Option, Some, None, refl, subst, arith, inl, inr}
 use Rattle.std.proofs.lemmas.Bool.{cases_lt}
 use Rattle.std.proofs.lemmas.Bool.Decides.{nat_tests}
 use Rattle.ebpf_insn.specs.declared.insn.Insn.{Insn}
-use Rattle.ebpf_insn.specs.declared.insn.Insn.TheVariants as insn
-use Rattle.ebpf_insn.specs.Registers.{number_of}
 use Rattle.ebpf_insn.specs.Program.{insn_at}
 use Rattle.ebpf_flow.specs.declared.edges.Edges.{Edges}
 use Rattle.ebpf_flow.specs.Edges.{edges_at, edges_of, leads_to, fall_of, jump_of}
 use Rattle.ebpf_insn.specs.Encoding.{IsDefined}
 use Rattle.ebpf_state.specs.StateView.{StateView}
-use Rattle.ebpf_state.specs.States.{first_state, register_of}
+use Rattle.ebpf_state.specs.States.{first_state}
 use Rattle.ebpf_verify.specs.declared.entry.EntryState.{EntryState}
 use Rattle.ebpf_verify.specs.declared.entry.EntryState.TheVariants.{Unreached, Known, Conflict}
 use Rattle.ebpf_verify.specs.Rules.{after_fall, after_jump}

@@ -1,3 +1,4 @@
+pub mod ListLemmas
 pub mod Bounded
 pub mod Joins
 pub mod RulesBounded
@@ -6,8 +7,9 @@ pub mod Pointers
 pub mod Operations
 pub mod Additions
 pub mod Results
+pub mod Leading
+pub mod Comparisons
 pub mod Soundness
-pub mod ListLemmas
 pub mod Owners
 pub mod ObjectsSeen
 pub mod Acts

@@ -3,7 +3,6 @@ use Rattle.std.proofs.Common.{◌≡◌, ℕ, ◌<◌, ◌^◌, ℤ, ◌+ℤ◌,
 use Rattle.std.specs.Prelude.{nat_lt, ◌||◌, unwrap_or}
 use Rattle.std.proofs.lemmas.Bool.Decides.{nat_tests}
 use Rattle.std.proofs.lemmas.Int.{ints}
-use Rattle.ebpf_insn.specs.declared.insn.Width.TheVariants.{W64}
 use Rattle.ebpf_insn.specs.Arithmetic.{signed_of}
 use Rattle.ebpf_range.specs.declared.range.Range.{Range}
 use Rattle.ebpf_range.specs.Interval.{IsWithin, low}
@@ -17,7 +16,7 @@ use Rattle.ebpf_machine.specs.declared.value.Base.TheVariants.{Stack, Context, O
 use Rattle.ebpf_machine.specs.Values.{Trap, PointerMisuse}
 use Rattle.ebpf_machine.specs.Concretization.{IsOf}
 use Rattle.ebpf_machine.specs.Sound.{FitsValue}
-use Rattle.ebpf_machine.proofs.Pointers.{signed_between, near_end, near_fits, between_near}
+use Rattle.ebpf_machine.proofs.Pointers.{near_end, near_fits, between_near}
 
 -- the first test of a list fails where no code is given
 pub none_first : {C : Type 0} (t : Bool) (c : C) (rest : Option C) → cond t (Some c) rest ≡ None → (t ≡ false) × (rest ≡ None)

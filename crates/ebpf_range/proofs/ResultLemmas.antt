@@ -154,7 +154,7 @@ in_order-below Little bits n low reversed = low
 in_order-below Big bits n low reversed = reversed
 in_order-below Flip bits n low reversed = reversed
 
-swap-below : (order : Order) (bits n : ℕ) → swap_of order bits n < 2 ^ swapped_bits bits
+pub swap-below : (order : Order) (bits n : ℕ) → swap_of order bits n < 2 ^ swapped_bits bits
 swap-below order bits n =
     cond_both (eqb bits 16) 16 (cond (eqb bits 32) 32 64) (λ (k : ℕ). swap order k (n % 2 ^ k) < 2 ^ k)
     (λ e. in_order-below order 16 (n % 2 ^ 16) (mod-lt n (pow_pos 16)) (reversal-below (n % 2 ^ 16)).0)
@@ -217,7 +217,7 @@ negation-bounded w a h =
     bounded_by w (negation_range w a) (negation_at w a.lo) (negation-sound w a a.lo h.1 (omega arith, h.0))
     (one-below (negation_at w) (modulus w) (low_at w a) (result-below op.Sub w 0) (some_numbers w))
 
-swapped_bits-few : (bits : ℕ) → 2 ^ swapped_bits bits ≤ 2 ^ 64
+pub swapped_bits-few : (bits : ℕ) → 2 ^ swapped_bits bits ≤ 2 ^ 64
 swapped_bits-few bits =
     cond_both (eqb bits 16) 16 (cond (eqb bits 32) 32 64) (λ (k : ℕ). 2 ^ k ≤ 2 ^ 64) (λ e. omega arith)
     (λ e. cond_both (eqb bits 32) 32 64 (λ (k : ℕ). 2 ^ k ≤ 2 ^ 64) (λ f. omega arith) (λ f. omega arith))
