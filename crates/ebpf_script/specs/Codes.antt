@@ -3,7 +3,7 @@ use Rattle.std.specs.Prelude.{ℕ, List, codes}
 use Rattle.ebpf_insn.specs.declared.fault.DecodeCode.{DecodeCode}
 use Rattle.ebpf_insn.specs.declared.fault.DecodeCode.TheVariants.{I1, I2, I3, I4, I5, I6, I7, I8, I9}
 use Rattle.ebpf_flow.specs.declared.fault.FlowCode.{FlowCode}
-use Rattle.ebpf_flow.specs.declared.fault.FlowCode.TheVariants.{F0, F1, F2, F3, F4, F5}
+use Rattle.ebpf_flow.specs.declared.fault.FlowCode.TheVariants.{F1, F2, F3, F4, F5}
 use Rattle.ebpf_verify.specs.declared.fault.VerifyCode.{VerifyCode}
 use Rattle.ebpf_verify.specs.declared.fault.VerifyCode.TheVariants.{V0, V1, V2, V3, V4, V5, V6, V7, V8, V9, V10, V11, V12, V13, V14, V15, V16, V17, V18, V19}
 use Rattle.ebpf_core.specs.declared.fault.ApplyCode.{ApplyCode}
@@ -23,7 +23,6 @@ decode_name I8 = codes "I8"
 decode_name I9 = codes "I9"
 
 abbrev pub flow_name : FlowCode → List ℕ
-flow_name F0 = codes "F0"
 flow_name F1 = codes "F1"
 flow_name F2 = codes "F2"
 flow_name F3 = codes "F3"

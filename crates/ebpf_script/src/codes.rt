@@ -54,7 +54,6 @@ fn flow_name(code: FlowCode) -> &'static str
     ensures { result.now ≡ flow_name code }
 {
     match code {
-        FlowCode::F0 => "F0",
         FlowCode::F1 => "F1",
         FlowCode::F2 => "F2",
         FlowCode::F3 => "F3",

@@ -8,8 +8,7 @@ use std::test::*;
 
 // What a row shows, the program, and why it is refused.
 const REFUSED: &str = "\
-an exit after an exit is not reached | 95000000000000009500000000000000 | slot 1 is refused with F5
-an instruction without a rule is refused before all else: exit, exit, a jump past the end | 950000000000000095000000000000000500090000000000 | slot 2 is refused with F0";
+an exit after an exit is not reached | 95000000000000009500000000000000 | slot 1 is refused with F5";
 
 // Tries a row of the refused.
 fn has_its_fault(rt: &impl Abort, alloc: Global, row: &str) {

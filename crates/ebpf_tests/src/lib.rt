@@ -19,6 +19,8 @@ mod insn;
 #[cfg(test)]
 mod library;
 #[cfg(test)]
+mod machine;
+#[cfg(test)]
 mod one;
 #[cfg(test)]
 mod programs;

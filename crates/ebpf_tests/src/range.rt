@@ -31,11 +31,11 @@ what isn't greater is less or equal | jgt | 64 | false | 0 255 | 3 3 | 0 3 | 3 3
 no bit is shared | jset | 64 | true | 4 4 | 3 3 | never | never
 high halves are left alone | jeq | 32 | true | 0 4294967296 | 3 3 | 0 4294967296 | 3 3";
 
-const OPERATIONS: &str = "add sub mul div sdiv or and lsh rsh mod smod xor mov arsh";
+pub(crate) const OPERATIONS: &str = "add sub mul div sdiv or and lsh rsh mod smod xor mov arsh";
 
-const CONDITIONS: &str = "jeq jne jgt jge jlt jle jset jsgt jsge jslt jsle";
+pub(crate) const CONDITIONS: &str = "jeq jne jgt jge jlt jle jset jsgt jsge jslt jsle";
 
-fn operation(rt: &impl Abort, word: &str) -> AluOp {
+pub(crate) fn operation(rt: &impl Abort, word: &str) -> AluOp {
     match word {
         "add" => AluOp::Add,
         "sub" => AluOp::Sub,
@@ -55,7 +55,7 @@ fn operation(rt: &impl Abort, word: &str) -> AluOp {
     }
 }
 
-fn condition(rt: &impl Abort, word: &str) -> Cond {
+pub(crate) fn condition(rt: &impl Abort, word: &str) -> Cond {
     match word {
         "jeq" => Cond::Eq,
         "jne" => Cond::Ne,
@@ -146,7 +146,7 @@ fn branches_are_as_the_table_says(rt: HostRuntime) {
     }
 }
 
-fn low_half(n: u64) -> u32 {
+pub(crate) fn low_half(n: u64) -> u32 {
     (n % (1 << 32)) as u32
 }
 
@@ -196,7 +196,7 @@ fn result_64(op: AluOp, a: u64, b: u64) -> u64 {
     }
 }
 
-fn result(op: AluOp, width: Width, a: u64, b: u64) -> u64 {
+pub(crate) fn result(op: AluOp, width: Width, a: u64, b: u64) -> u64 {
     match width {
         Width::W32 => result_32(op, low_half(a), low_half(b)) as u64,
         Width::W64 => result_64(op, a, b),
@@ -204,7 +204,7 @@ fn result(op: AluOp, width: Width, a: u64, b: u64) -> u64 {
 }
 
 // Whether Rust says that a condition holds of two numbers, which it can read as signed ones too.
-fn is_so(cond: Cond, (a, x): (u64, i64), (b, y): (u64, i64)) -> bool {
+pub(crate) fn is_so(cond: Cond, (a, x): (u64, i64), (b, y): (u64, i64)) -> bool {
     match cond {
         Cond::Eq => a == b,
         Cond::Ne => a != b,
@@ -221,7 +221,7 @@ fn is_so(cond: Cond, (a, x): (u64, i64), (b, y): (u64, i64)) -> bool {
 }
 
 // A number that a width compares, and its signed reading.
-fn readings(width: Width, n: u64) -> (u64, i64) {
+pub(crate) fn readings(width: Width, n: u64) -> (u64, i64) {
     match width {
         Width::W32 => (low_half(n) as u64, low_half(n).cast_signed() as i64),
         Width::W64 => (n, n.cast_signed()),
@@ -229,7 +229,7 @@ fn readings(width: Width, n: u64) -> (u64, i64) {
 }
 
 // The numbers at which something changes.
-const ENDS: [u64; 16] = [
+pub(crate) const ENDS: [u64; 16] = [
     0,
     1,
     2,
@@ -344,7 +344,7 @@ fn every_branch_keeps_the_numbers_that_go_its_way(rt: HostRuntime) {
     }
 }
 
-fn kept(width: Width, n: u64) -> u64 {
+pub(crate) fn kept(width: Width, n: u64) -> u64 {
     match width {
         Width::W32 => low_half(n) as u64,
         Width::W64 => n,
@@ -352,7 +352,7 @@ fn kept(width: Width, n: u64) -> u64 {
 }
 
 // The low 8, 16 or 32 bits, which Rust extends with their sign.
-fn extended(bits: u8, n: u64) -> u64 {
+pub(crate) fn extended(bits: u8, n: u64) -> u64 {
     let signed = match bits {
         8 => ((n % 0x100) as u8).cast_signed() as i64,
         16 => ((n % 0x1_0000) as u16).cast_signed() as i64,
@@ -362,7 +362,7 @@ fn extended(bits: u8, n: u64) -> u64 {
 }
 
 // The low 16, 32 or 64 bits, and their bytes reversed by Rust.
-fn orders(bits: u8, n: u64) -> (u64, u64) {
+pub(crate) fn orders(bits: u8, n: u64) -> (u64, u64) {
     let half = (n % 0x1_0000) as u16;
     match bits {
         16 => (half as u64, half.swap_bytes() as u64),

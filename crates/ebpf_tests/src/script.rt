@@ -97,7 +97,6 @@ fn codes_are_written_by_their_names(rt: HostRuntime) {
     is_line(&rt, rt.alloc(), FaultCode::S9, "fault S9 line 0\n");
     for (code, name) in [
         (RefusalCode::Decode(DecodeCode::I9), "I9"),
-        (RefusalCode::Flow(FlowCode::F0), "F0"),
         (RefusalCode::Flow(FlowCode::F3), "F3"),
         (RefusalCode::Verify(VerifyCode::V0), "V0"),
         (RefusalCode::Verify(VerifyCode::V19), "V19"),
