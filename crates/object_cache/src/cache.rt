@@ -7,8 +7,9 @@
 //! *The reason.* No clause names what a lock holds between two calls, so each of these functions says what it does to the
 //! hand alone: to its rounds, and to its shares of the books. That is enough: what a share counts, a book counts too.
 
-ghost use Rattle.std.specs.Prelude.{◌≡◌, ◌+◌, ◌<◌, ◌≤◌, [], length, false, vec_len, sum_by, IsTrue, IfOk, OnOk, OnErr};
+ghost use Rattle.std.specs.Prelude.{◌≡◌, ◌+◌, ◌<◌, ◌≤◌, [], length, vec_len, sum_by, IfOk, IfErr, OnOk, OnErr};
 ghost use Rattle.magazine.specs.LayerView.{rounds_of, IsEmpty, IsFull};
+ghost use Rattle.object_cache.specs.CacheView.{AreHomes};
 ghost use Rattle.object_cache.specs.HandView.{fresh};
 
 use crate::arena_lock::ArenaLock;
@@ -16,7 +17,7 @@ use crate::count::MOST;
 use crate::fault::TakeFault;
 use crate::hand::Hand;
 use crate::inner::Inner;
-use crate::part::{Part, gathered};
+use crate::part::{Part, Refusals, gathered, refill_from, relieve_from};
 use crate::totals::Totals;
 use magazine::Layer;
 use slab_layer::{Kind, Obj, Ready};
@@ -102,7 +103,9 @@ impl<K: Kind, A: Ledger, B: Ledger> Cache<K, A, B> {
     }
 
     // How many parts of the depot are the homes of hands: those from the first one on. The others never had a magazine.
-    fn homes(&self) -> usize {
+    fn homes(&self) -> usize
+        ensures { AreHomes self.now.hands result }
+    {
         self.parts.len().min(self.hands as usize)
     }
 
@@ -132,7 +135,7 @@ impl<K: Kind, A: Ledger, B: Ledger> Cache<K, A, B> {
         ensures even { OnOk result (outs.new.amount ≡ outs.old.amount + length (rounds_of layer.new)) }
         ensures fault { OnErr result ((layer.new ≡ layer.old) × (outs.new.amount ≡ outs.old.amount)) }
     {
-        if self.home(number).lock(rt).refill(layer, outs) {
+        if self.home(number).lock(rt).refill(layer, outs).is_ok() {
             return Ok(());
         }
         self.supply_inside(rt, arena, number, layer, outs)
@@ -157,10 +160,10 @@ impl<K: Kind, A: Ledger, B: Ledger> Cache<K, A, B> {
     {
         let object = {
             let mut inner = self.inner.lock(rt);
-            if self.refill_anywhere(rt, number, layer, outs) {
+            let Err(refusals) = self.refill_anywhere(rt, number, layer, outs) else {
                 return Ok(());
-            }
-            inner.supply(rt, arena, outs)?
+            };
+            inner.supply(rt, arena, outs, refusals)?
         };
         match layer.try_give(object.construct()) {
             Ok(()) => Ok(()),
@@ -175,22 +178,23 @@ impl<K: Kind, A: Ledger, B: Ledger> Cache<K, A, B> {
         number: usize,
         layer: &mut Layer<K>,
         outs: &mut Share<A>,
-    ) -> bool
+    ) -> Result<(), Refusals>
         requires empty { IsEmpty layer.old }
         requires part { 0 < outs.old.parts }
         ensures parts { outs.new.parts ≡ outs.old.parts }
-        ensures loaded { IsTrue result → (length layer.new.loaded ≡ K.ROUNDS) × (layer.new.previous ≡ []) }
-        ensures amount { IsTrue result → outs.new.amount ≡ outs.old.amount + K.ROUNDS }
-        ensures unchanged { result ≡ false → (layer.new ≡ layer.old) × (outs.new.amount ≡ outs.old.amount) }
+        ensures loaded { OnOk result ((length layer.new.loaded ≡ K.ROUNDS) × (layer.new.previous ≡ [])) }
+        ensures amount { OnOk result (outs.new.amount ≡ outs.old.amount + K.ROUNDS) }
+        ensures all { IfErr result (λ refusals. AreHomes self.now.hands refusals.count) }
+        ensures unchanged { OnErr result ((layer.new ≡ layer.old) × (outs.new.amount ≡ outs.old.amount)) }
     {
-        for other in 0..self.homes() {
-            let refilled = self.home(other).lock(rt).refill(layer, outs);
-            if refilled {
+        let homes = self.homes();
+        match refill_from(rt, &self.parts[..homes], layer, outs) {
+            Ok(other) => {
                 self.bring_home(rt, other, number);
-                return true;
+                Ok(())
             }
+            Err(refusals) => Err(refusals),
         }
-        false
     }
 
     // Moves an empty magazine from a part to another hand's home.
@@ -235,30 +239,33 @@ impl<K: Kind, A: Ledger, B: Ledger> Cache<K, A, B> {
         ensures even { outs.new.amount + length (rounds_of layer.old) ≡ outs.old.amount + length (rounds_of layer.new) }
     {
         let home = self.home(number);
-        let relieved = home.lock(rt).relieve(layer, outs);
-        if relieved || self.relieve_anywhere(rt, layer, outs) {
+        if home.lock(rt).relieve(layer, outs).is_ok() {
             return;
         }
-        home.lock(rt).make_room(layer, outs);
+        if let Err(refusals) = self.relieve_anywhere(rt, layer, outs) {
+            home.lock(rt).make_room(layer, outs, refusals);
+        }
     }
 
     // Gives an empty magazine of any part to a layer that has no room.
-    fn relieve_anywhere<R: Wait>(&self, rt: &R, layer: &mut Layer<K>, outs: &mut Share<A>) -> bool
+    fn relieve_anywhere<R: Wait>(
+        &self,
+        rt: &R,
+        layer: &mut Layer<K>,
+        outs: &mut Share<A>,
+    ) -> Result<(), Refusals>
         requires full { IsFull K.ROUNDS layer.old }
         requires part { 0 < outs.old.parts }
         requires amount { K.ROUNDS ≤ outs.old.amount }
         ensures parts { outs.new.parts ≡ outs.old.parts }
-        ensures made { IsTrue result → layer.new ≡ record { loaded = []; previous = layer.old.loaded } }
-        ensures amount { IsTrue result → outs.new.amount + K.ROUNDS ≡ outs.old.amount }
+        ensures made { OnOk result (layer.new ≡ record { loaded = []; previous = layer.old.loaded }) }
+        ensures amount { OnOk result (outs.new.amount + K.ROUNDS ≡ outs.old.amount) }
         ensures even { outs.new.amount + length (rounds_of layer.old) ≡ outs.old.amount + length (rounds_of layer.new) }
-        ensures unchanged { result ≡ false → (layer.new ≡ layer.old) × (outs.new.amount ≡ outs.old.amount) }
+        ensures all { IfErr result (λ refusals. AreHomes self.now.hands refusals.count) }
+        ensures unchanged { OnErr result ((layer.new ≡ layer.old) × (outs.new.amount ≡ outs.old.amount)) }
     {
-        for number in 0..self.homes() {
-            if self.home(number).lock(rt).relieve(layer, outs) {
-                return true;
-            }
-        }
-        false
+        let homes = self.homes();
+        relieve_from(rt, &self.parts[..homes], layer, outs)
     }
 
     // Sends the rounds of a hand's layer home.
