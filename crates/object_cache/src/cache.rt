@@ -7,17 +7,18 @@
 //! *The reason.* No clause names what a lock holds between two calls, so each of these functions says what it does to the
 //! hand alone: to its rounds, and to its shares of the books. That is enough: what a share counts, a book counts too.
 
-ghost use Rattle.std.specs.Prelude.{◌≡◌, ◌+◌, ◌<◌, ◌≤◌, [], length, vec_len, sum_by, IfOk, IfErr, OnOk, OnErr};
+ghost use Rattle.std.specs.Prelude.{◌≡◌, ◌+◌, ◌<◌, ◌≤◌, [], length, vec_len, sum_by, IfOk, OnOk, OnErr};
 ghost use Rattle.magazine.specs.LayerView.{rounds_of, IsEmpty, IsFull};
 ghost use Rattle.object_cache.specs.CacheView.{AreHomes};
 ghost use Rattle.object_cache.specs.HandView.{fresh};
 
 use crate::arena_lock::ArenaLock;
+use crate::asking::{refill_anywhere, relieve_anywhere};
 use crate::count::MOST;
 use crate::fault::TakeFault;
 use crate::hand::Hand;
 use crate::inner::Inner;
-use crate::part::{Part, Refusals, gathered, refill_from, relieve_from};
+use crate::part::{Part, gathered};
 use crate::totals::Totals;
 use magazine::Layer;
 use slab_layer::{Kind, Obj, Ready};
@@ -102,11 +103,12 @@ impl<K: Kind, A: Ledger, B: Ledger> Cache<K, A, B> {
         })
     }
 
-    // How many parts of the depot are the homes of hands: those from the first one on. The others never had a magazine.
-    fn homes(&self) -> usize
-        ensures { AreHomes self.now.hands result }
+    // The parts of the depot that are the homes of hands: those from the first one on. The others never had a magazine.
+    pub(crate) fn homes(&self) -> &[Mutex<Part<K, A, B>>]
+        ensures { AreHomes self.now.hands (length result.now) }
     {
-        self.parts.len().min(self.hands as usize)
+        let count = self.parts.len().min(self.hands as usize);
+        &self.parts[..count]
     }
 
     // The part of the depot that a hand goes to first.
@@ -141,7 +143,8 @@ impl<K: Kind, A: Ledger, B: Ledger> Cache<K, A, B> {
         self.supply_inside(rt, arena, number, layer, outs)
     }
 
-    // The same where the hand's home has no full magazine. No other hand gets at the slabs until this one has its object.
+    // The same where the hand's home has no full magazine. No other hand gets at the slabs until this one has its object. Where
+    // another part has one, an empty one comes home from there.
     #[inline(never)]
     fn supply_inside<R: Wait>(
         &self,
@@ -160,40 +163,17 @@ impl<K: Kind, A: Ledger, B: Ledger> Cache<K, A, B> {
     {
         let object = {
             let mut inner = self.inner.lock(rt);
-            let Err(refusals) = self.refill_anywhere(rt, number, layer, outs) else {
-                return Ok(());
-            };
-            inner.supply(rt, arena, outs, refusals)?
+            match refill_anywhere(rt, self, layer, outs) {
+                Ok(other) => {
+                    self.bring_home(rt, other, number);
+                    return Ok(());
+                }
+                Err(refusals) => inner.supply(rt, arena, outs, refusals)?,
+            }
         };
         match layer.try_give(object.construct()) {
             Ok(()) => Ok(()),
             Err(_) => unreachable!(),
-        }
-    }
-
-    // Gives a full magazine of any part to a layer that has no round, and brings an empty one from there to the hand's home.
-    fn refill_anywhere<R: Wait>(
-        &self,
-        rt: &R,
-        number: usize,
-        layer: &mut Layer<K>,
-        outs: &mut Share<A>,
-    ) -> Result<(), Refusals>
-        requires empty { IsEmpty layer.old }
-        requires part { 0 < outs.old.parts }
-        ensures parts { outs.new.parts ≡ outs.old.parts }
-        ensures loaded { OnOk result ((length layer.new.loaded ≡ K.ROUNDS) × (layer.new.previous ≡ [])) }
-        ensures amount { OnOk result (outs.new.amount ≡ outs.old.amount + K.ROUNDS) }
-        ensures all { IfErr result (λ refusals. AreHomes self.now.hands refusals.count) }
-        ensures unchanged { OnErr result ((layer.new ≡ layer.old) × (outs.new.amount ≡ outs.old.amount)) }
-    {
-        let homes = self.homes();
-        match refill_from(rt, &self.parts[..homes], layer, outs) {
-            Ok(other) => {
-                self.bring_home(rt, other, number);
-                Ok(())
-            }
-            Err(refusals) => Err(refusals),
         }
     }
 
@@ -242,30 +222,9 @@ impl<K: Kind, A: Ledger, B: Ledger> Cache<K, A, B> {
         if home.lock(rt).relieve(layer, outs).is_ok() {
             return;
         }
-        if let Err(refusals) = self.relieve_anywhere(rt, layer, outs) {
+        if let Err(refusals) = relieve_anywhere(rt, self, layer, outs) {
             home.lock(rt).make_room(layer, outs, refusals);
         }
-    }
-
-    // Gives an empty magazine of any part to a layer that has no room.
-    fn relieve_anywhere<R: Wait>(
-        &self,
-        rt: &R,
-        layer: &mut Layer<K>,
-        outs: &mut Share<A>,
-    ) -> Result<(), Refusals>
-        requires full { IsFull K.ROUNDS layer.old }
-        requires part { 0 < outs.old.parts }
-        requires amount { K.ROUNDS ≤ outs.old.amount }
-        ensures parts { outs.new.parts ≡ outs.old.parts }
-        ensures made { OnOk result (layer.new ≡ record { loaded = []; previous = layer.old.loaded }) }
-        ensures amount { OnOk result (outs.new.amount + K.ROUNDS ≡ outs.old.amount) }
-        ensures even { outs.new.amount + length (rounds_of layer.old) ≡ outs.old.amount + length (rounds_of layer.new) }
-        ensures all { IfErr result (λ refusals. AreHomes self.now.hands refusals.count) }
-        ensures unchanged { OnErr result ((layer.new ≡ layer.old) × (outs.new.amount ≡ outs.old.amount)) }
-    {
-        let homes = self.homes();
-        relieve_from(rt, &self.parts[..homes], layer, outs)
     }
 
     // Sends the rounds of a hand's layer home.
@@ -282,8 +241,8 @@ impl<K: Kind, A: Ledger, B: Ledger> Cache<K, A, B> {
     /// goes back to the arena. The answer is the number of pages that went back.
     pub fn reap_pass<R: Wait>(&self, rt: &R, arena: &ArenaLock) -> u32 {
         let mut inner = self.inner.lock(rt);
-        for number in 0..self.homes() {
-            self.home(number).lock(rt).drain(rt, &mut *inner);
+        for part in self.homes() {
+            part.lock(rt).drain(rt, &mut *inner);
         }
         inner.give_pages(rt, arena)
     }

@@ -14,13 +14,13 @@
 //! only gives has nothing to move. So 2^56 stands in both shares from the start: it changes no sum, and no hand gives more.
 //!
 //! What a part held when it was asked can't be named once its lock is free. So a part that has nothing to give answers with
-//! a refusal, which nothing else makes, and those that are asked in turn are counted by theirs: what may be done only where
-//! all have refused wants the count.
+//! a refusal, which nothing else makes.
 
-ghost use Rattle.std.specs.Prelude.{◌≡◌, ◌+◌, ◌^◌, ◌<◌, ◌≤◌, ◌↔◌, [], ◌++◌, length, false, vec_len, IsTrue, IsOk, IfErr, IfSome, IfNone, OnOk, OnErr, IsPermutation};
+ghost use Rattle.std.specs.Prelude.{◌≡◌, ◌+◌, ◌^◌, ◌<◌, ◌≤◌, ◌↔◌, [], ◌++◌, length, false, vec_len, IsTrue, IsOk, IfSome, IfNone, OnOk, OnErr, IsPermutation};
 ghost use Rattle.magazine.specs.LayerView.{rounds_of, IsEmpty, IsFull};
 ghost use Rattle.object_cache.specs.Homing.{SendsHome};
 
+use crate::asking::Refusals;
 use crate::inner::Inner;
 use magazine::{Depot, Layer, Magazine};
 use slab_layer::Kind;
@@ -31,22 +31,6 @@ use std::sync::{Mutex, Wait};
 /// That a part had nothing to give when it was asked.
 #[derive(Drop)]
 pub struct Refusal(());
-
-/// That parts, so many, were asked one after another, and each had nothing to give.
-#[derive(Drop)]
-pub struct Refusals {
-    count: usize,
-}
-
-impl Refusals {
-    // One more.
-    fn add(&mut self, _refusal: Refusal)
-        requires { self.old.count + 1 < 2 ^ 64 }
-        ensures { self.new.count ≡ self.old.count + 1 }
-    {
-        self.count += 1;
-    }
-}
 
 /// Full magazines and empty ones, with a share of each book.
 pub struct Part<K: Kind, A: Ledger, B: Ledger> {
@@ -218,60 +202,6 @@ impl<K: Kind, A: Ledger, B: Ledger> Part<K, A, B> {
         depot.end();
         (outs, ins)
     }
-}
-
-/// Gives a full magazine to a layer that has no round, from the first of these parts that has one: the answer is its place.
-/// Each is asked under its lock.
-pub fn refill_from<K: Kind, A: Ledger, B: Ledger, R: Wait>(
-    rt: &R,
-    parts: &[Mutex<Part<K, A, B>>],
-    layer: &mut Layer<K>,
-    share: &mut Share<A>,
-) -> Result<usize, Refusals>
-    requires empty { IsEmpty layer.old }
-    requires part { 0 < share.old.parts }
-    ensures parts { share.new.parts ≡ share.old.parts }
-    ensures loaded { OnOk result ((length layer.new.loaded ≡ K.ROUNDS) × (layer.new.previous ≡ [])) }
-    ensures amount { OnOk result (share.new.amount ≡ share.old.amount + K.ROUNDS) }
-    ensures all { IfErr result (λ refusals. refusals.count ≡ length parts.now) }
-    ensures unchanged { OnErr result ((layer.new ≡ layer.old) × (share.new.amount ≡ share.old.amount)) }
-{
-    let mut refusals = Refusals { count: 0 };
-    for (at, part) in parts.iter().enumerate() {
-        match part.lock(rt).refill(layer, share) {
-            Ok(()) => return Ok(at),
-            Err(refusal) => refusals.add(refusal),
-        }
-    }
-    Err(refusals)
-}
-
-/// Gives an empty magazine to a layer that has no room, from the first of these parts that has one. Each is asked under its
-/// lock.
-pub fn relieve_from<K: Kind, A: Ledger, B: Ledger, R: Wait>(
-    rt: &R,
-    parts: &[Mutex<Part<K, A, B>>],
-    layer: &mut Layer<K>,
-    share: &mut Share<A>,
-) -> Result<(), Refusals>
-    requires full { IsFull K.ROUNDS layer.old }
-    requires part { 0 < share.old.parts }
-    requires amount { K.ROUNDS ≤ share.old.amount }
-    ensures parts { share.new.parts ≡ share.old.parts }
-    ensures made { OnOk result (layer.new ≡ record { loaded = []; previous = layer.old.loaded }) }
-    ensures amount { OnOk result (share.new.amount + K.ROUNDS ≡ share.old.amount) }
-    ensures even { share.new.amount + length (rounds_of layer.old) ≡ share.old.amount + length (rounds_of layer.new) }
-    ensures all { IfErr result (λ refusals. refusals.count ≡ length parts.now) }
-    ensures unchanged { OnErr result ((layer.new ≡ layer.old) × (share.new.amount ≡ share.old.amount)) }
-{
-    let mut refusals = Refusals { count: 0 };
-    for part in parts {
-        match part.lock(rt).relieve(layer, share) {
-            Ok(()) => return Ok(()),
-            Err(refusal) => refusals.add(refusal),
-        }
-    }
-    Err(refusals)
 }
 
 /// The shares of all parts together, whose rounds go home.

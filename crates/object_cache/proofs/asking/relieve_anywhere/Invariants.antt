@@ -1,5 +1,5 @@
 use Rattle.std.proofs.Common.{◌≡◌}
-use Rattle.object_cache.proofs.part.relieve_from.Given as goal
+use Rattle.object_cache.proofs.asking.relieve_anywhere.Given as goal
 
 abbrev pub invariant-loop-part : goal.invariant-loop-part
 invariant-loop-part g l = record {
