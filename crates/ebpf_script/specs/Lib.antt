@@ -17,4 +17,5 @@ pub mod ReadScripts
 pub mod Verdicts
 pub mod VerdictsKept
 pub mod WorldLines
+pub mod ScriptText
 pub mod ReplayText
