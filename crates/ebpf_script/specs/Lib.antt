@@ -18,4 +18,5 @@ pub mod Verdicts
 pub mod VerdictsKept
 pub mod WorldLines
 pub mod ScriptText
+pub mod CheckText
 pub mod ReplayText
