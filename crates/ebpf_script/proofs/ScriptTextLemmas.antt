@@ -17,8 +17,8 @@ parsed_text_long : (dialect : Dialect) (text : List ℕ) → 1048576 < length te
 unfolding parsed_text
 parsed_text_long dialect text long = rw (lt-ltb 1048576 (length text) long) refl
 
-pub script_cuts : (dialect : Dialect) (made : ParsedScript → List Verdict → Response) → CutsLong (λ text response. RespondsScript made (parsed_text dialect text) response)
-script_cuts dialect made input response long h =
+pub script_cuts : (dialect : Dialect) (response_of : ParsedScript → List Verdict → Response) → CutsLong (λ text response. RespondsScript response_of (parsed_text dialect text) response)
+script_cuts dialect response_of input response long h =
     let cut : length (read_of input) ≡ 1048577 = length-take-le 1048577 input (omega (arith, long)) in
-    let P : Result ParsedScript (ℕ × FaultCode) → Type 0 = λ r. RespondsScript made r response in
+    let P : Result ParsedScript (ℕ × FaultCode) → Type 0 = λ r. RespondsScript response_of r response in
     subst P (sym (parsed_text_long dialect input (omega (arith, long)))) (subst P (parsed_text_long dialect (read_of input) (omega (arith, cut))) h)

@@ -1,6 +1,6 @@
 -- The response of `replay` to a text: the fault of the script, or the verdict on each program and then, where none is refused,
 -- the world after the events.
-use Rattle.std.specs.Prelude.{ℕ, ◌++◌, if◌then◌else◌, List, Result, Ok, Err, codes, decimal}
+use Rattle.std.specs.Prelude.{ℕ, ◌++◌, List, Result, Ok, Err, codes, decimal}
 use Rattle.ebpf_machine.specs.World.{World}
 use Rattle.ebpf_machine.specs.Events.{Illegal}
 use Rattle.ebpf_core.specs.Faults.{code_of}
@@ -11,7 +11,7 @@ use Rattle.ebpf_script.specs.ParsedScript.{ParsedScript}
 use Rattle.ebpf_script.specs.Scripts.{parsed_text}
 use Rattle.ebpf_script.specs.ScriptText.{RespondsScript}
 use Rattle.ebpf_script.specs.Response.{Response, refused_response, clean_response}
-use Rattle.ebpf_script.specs.Verdicts.{Verdict, verdict_lines, accepted_of, is_any_refused}
+use Rattle.ebpf_script.specs.Verdicts.{Verdict, verdict_lines, accepted_of}
 use Rattle.ebpf_script.specs.WorldLines.{world_lines}
 
 -- an event is not legal, for this cause; events count from 0
@@ -24,8 +24,7 @@ world_response verdicts (Ok w) = clean_response (verdicts ++ world_lines w)
 world_response verdicts (Err stop) = refused_response (verdicts ++ stopped_line stop.0 stop.1)
 
 abbrev pub replay_response : ParsedScript → List Verdict → Response
-replay_response parsed verdicts =
-    if is_any_refused verdicts then refused_response (verdict_lines verdicts) else world_response (verdict_lines verdicts) (world_after (accepted_of verdicts) parsed.events)
+replay_response parsed verdicts = world_response (verdict_lines verdicts) (world_after (accepted_of verdicts) parsed.events)
 
 abbrev pub RespondsReplay : List ℕ → Response → Type 0
 RespondsReplay text response = RespondsScript replay_response (parsed_text Events text) response

@@ -26,6 +26,7 @@ use std::alloc::Global;
 #[tactic(auto, unfolding(crate::specs::Scripts::parsed_text))]
 pub fn read_script(alloc: Global, dialect: Dialect, text: &[u8]) -> Result<Script, ScriptStop>
     ensures parsed { IfOk result (λ script. parsed_text dialect text.now ≡ Ok (parsed_script script)) }
+    // So a caller can count passes of its own beside them.
     ensures few { IfOk result (λ script. script.passes ≤ 1048577) }
     ensures refused { IfErr result (IsScriptStop (parsed_text dialect text.now)) }
 {
