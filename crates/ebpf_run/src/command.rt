@@ -9,6 +9,10 @@ const ONE_EXAMPLE: &str = "Example: echo 'b700000007000000 9500000000000000' | e
 // Behind the help of `list`.
 const LIST_EXAMPLE: &str = "Example: echo 'b700000007000000 9500000000000000' | ebpf_run list";
 
+// Behind the help of `check`.
+const CHECK_EXAMPLE: &str =
+    "Example: printf '%s\\n' 'program p 0 0 b7000000070000009500000000000000' 'run p -' | ebpf_run check";
+
 // Behind the help of `replay`.
 const REPLAY_EXAMPLE: &str =
     "Example: printf '%s\\n' 'program p 0 0 b7000000070000009500000000000000' 'start p -' 'exec 0' | ebpf_run replay";
@@ -18,6 +22,7 @@ const REPLAY_EXAMPLE: &str =
 pub enum Task<'a> {
     One(OneOptions<'a>),
     List,
+    Check,
     Replay,
 }
 
@@ -42,6 +47,7 @@ pub fn command<'a>(alloc: Global) -> Result<Command<'a>, AllocError> {
         .subcommand_required(true)
         .subcommand(one)?;
     all.subcommand(list_command(alloc))?
+        .subcommand(check_command(alloc))?
         .subcommand(replay_command(alloc))
 }
 
@@ -84,6 +90,12 @@ fn list_command<'a>(alloc: Global) -> Command<'a> {
         .after_help(LIST_EXAMPLE)
 }
 
+fn check_command<'a>(alloc: Global) -> Command<'a> {
+    Command::new(alloc, "check")
+        .about("Checks the script on standard input: programs, and jobs that run them")
+        .after_help(CHECK_EXAMPLE)
+}
+
 fn replay_command<'a>(alloc: Global) -> Command<'a> {
     Command::new(alloc, "replay")
         .about("Replays the script on standard input: programs, and events over runs of them")
@@ -99,6 +111,7 @@ pub fn task_of<'a>(matches: &ArgMatches<'a>) -> Option<Task<'a>> {
             nulls: given.get_flag("nulls"),
         })),
         Some(("list", _)) => Some(Task::List),
+        Some(("check", _)) => Some(Task::Check),
         Some(("replay", _)) => Some(Task::Replay),
         _ => None,
     }

@@ -1,8 +1,8 @@
 //! Runs small eBPF programs from the command line.
 //!
 //! This crate reads the command line and has the standard streams. What a command writes is a function of what it reads and
-//! of its options, errors included, and it writes nothing else: that is the contract of [`ebpf_one::one::one`], of
-//! [`ebpf_one::list::list`] and of [`ebpf_script::replay::replay`], which are all that it calls.
+//! of its options, errors included, and it writes nothing else: that is the contract of [`ebpf_one::one::one`] and
+//! [`ebpf_one::list::list`], of [`ebpf_script::check::check`] and [`ebpf_script::replay::replay`], which are all that it calls.
 #![tactic(auto)]
 
 mod command;
@@ -12,6 +12,7 @@ use clap::Error;
 use clap::error::ErrorKind;
 use ebpf_one::list::list;
 use ebpf_one::one::one;
+use ebpf_script::check::check;
 use ebpf_script::done::{Done, EngineFault};
 use ebpf_script::replay::replay;
 use std::process::ExitCode;
@@ -67,6 +68,7 @@ fn perform<R: AllocGlobal + Input + Print>(rt: &R, task: Task<'_>) -> Result<u8,
             options.nulls,
         ),
         Task::List => list(alloc, &mut reader, &mut writer),
+        Task::Check => check(alloc, &mut reader, &mut writer),
         Task::Replay => replay(alloc, &mut reader, &mut writer),
     }?;
     Ok(match done {

@@ -8,4 +8,4 @@ pub mod JudgedKinds
 pub mod VerdictLemmas
 pub mod WorldLemmas
 pub mod Written
-pub mod ReplayLemmas
+pub mod ScriptTextLemmas

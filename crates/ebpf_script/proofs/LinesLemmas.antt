@@ -1,50 +1,75 @@
 -- The lines of a script, one by one.
-use Rattle.std.proofs.Common.{◌≡◌, ℕ, ◌+◌, ◌<◌, ◌≤◌, false, nat_lt, arith, List, ◌∷◌, length, get_or, drop, Option, Some, None, Result, Ok, Err, refl, sym, ◌∙◌, ap}
+use Rattle.std.proofs.Common.{◌≡◌, ℕ, ◌+◌, ◌==◌, ◌<◌, ◌≤◌, false, nat_lt, arith, List, ◌∷◌, length, get_or, drop, Option, Some, None, Result, Ok, Err, refl, sym, ◌∙◌, ap}
 use Rattle.std.proofs.lemmas.Bool.Decides.{nat_tests}
 use Rattle.std.proofs.lemmas.List.{at_drop_more, at_drop_all}
+use Rattle.std.proofs.lemmas.List.Splits.{length-slice_split}
+use Rattle.std.proofs.lemmas.List.Sums.{count_by-le-length}
 use Rattle.ebpf_script.specs.declared.done.FaultCode.{FaultCode}
 use Rattle.ebpf_script.specs.declared.done.Stop.{Stop}
 use Rattle.ebpf_script.specs.declared.done.Stop.TheVariants as stops
+use Rattle.ebpf_script.specs.declared.reader.script.Dialect.{Dialect}
 use Rattle.ebpf_script.specs.LineFaults.{line_fault}
-use Rattle.ebpf_script.specs.ReadScripts.{IsScriptStop, stop_at}
+use Rattle.ebpf_script.specs.declared.reader.script.Script.{Script}
+use Rattle.ebpf_script.specs.ReadScripts.{IsScriptStop, Adds, parsed_script, stop_at}
 use Rattle.ebpf_script.specs.ParsedScript.{ParsedScript, empty_script, with_line}
 use Rattle.ebpf_script.specs.ScriptLines.{script_lines}
 use Rattle.ebpf_script.specs.Stops.{IsStop}
 use Rattle.ebpf_script.specs.Scripts.{parsed_lines, parsed_text, unless_fault}
-use Rattle.ebpf_script.specs.Shapes.{shape_of}
+use Rattle.ebpf_script.specs.Shapes.{Shape, Passed, Unknown, ProgramLine, StartLine, ExecLine, AnsweredLine, GrowLine, ReapLine, ArenaLine, JobLine, PassLine, shape_of}
 use Rattle.ebpf_script.specs.Words.{words}
 
 -- the line of this index, and those behind it
-lines_here : (n : ℕ) (parsed : ParsedScript) (line : List ℕ) (lines : List (List ℕ)) → n < length lines → line ≡ get_or lines n line
-    → parsed_lines (n + 1) parsed (drop n lines) ≡ unless_fault (n + 1) (line_fault parsed.programs line) (parsed_lines (n + 1 + 1) (with_line parsed (shape_of (words line))) (drop (n + 1) lines))
-lines_here n parsed line lines inside same =
-    at_drop_more (parsed_lines (n + 1) parsed) lines n line inside ∙ ap (λ (x : List ℕ). parsed_lines (n + 1) parsed (x ∷ drop (n + 1) lines)) (sym same)
+lines_here : (d : Dialect) (n : ℕ) (parsed : ParsedScript) (line : List ℕ) (lines : List (List ℕ)) → n < length lines → line ≡ get_or lines n line
+    → parsed_lines d (n + 1) parsed (drop n lines) ≡ unless_fault (n + 1) (line_fault d parsed line) (parsed_lines d (n + 1 + 1) (with_line parsed (shape_of d (words line))) (drop (n + 1) lines))
+lines_here d n parsed line lines inside same =
+    at_drop_more (parsed_lines d (n + 1) parsed) lines n line inside ∙ ap (λ (x : List ℕ). parsed_lines d (n + 1) parsed (x ∷ drop (n + 1) lines)) (sym same)
 
 -- it has no fault
-pub lines_fine : (n : ℕ) (parsed next : ParsedScript) (line : List ℕ) (lines : List (List ℕ)) → n < length lines → line ≡ get_or lines n line
-    → line_fault parsed.programs line ≡ None → next ≡ with_line parsed (shape_of (words line)) → parsed_lines (n + 1 + 1) next (drop (n + 1) lines) ≡ parsed_lines (n + 1) parsed (drop n lines)
-lines_fine n parsed next line lines inside same fine parses =
-    sym (lines_here n parsed line lines inside same ∙ (ap (λ (f : Option FaultCode). unless_fault (n + 1) f (parsed_lines (n + 1 + 1) (with_line parsed (shape_of (words line))) (drop (n + 1) lines))) fine
-    ∙ ap (λ (s : ParsedScript). parsed_lines (n + 1 + 1) s (drop (n + 1) lines)) (sym parses)))
+pub lines_fine : (d : Dialect) (n : ℕ) (parsed next : ParsedScript) (line : List ℕ) (lines : List (List ℕ)) → n < length lines → line ≡ get_or lines n line
+    → line_fault d parsed line ≡ None → next ≡ with_line parsed (shape_of d (words line)) → parsed_lines d (n + 1 + 1) next (drop (n + 1) lines) ≡ parsed_lines d (n + 1) parsed (drop n lines)
+lines_fine d n parsed next line lines inside same fine parses =
+    sym (lines_here d n parsed line lines inside same ∙ (ap (λ (f : Option FaultCode). unless_fault (n + 1) f (parsed_lines d (n + 1 + 1) (with_line parsed (shape_of d (words line))) (drop (n + 1) lines))) fine
+    ∙ ap (λ (s : ParsedScript). parsed_lines d (n + 1 + 1) s (drop (n + 1) lines)) (sym parses)))
 
 -- it has one
-pub lines_faulty : (n : ℕ) (parsed : ParsedScript) (line : List ℕ) (lines : List (List ℕ)) (code : FaultCode) → n < length lines → line ≡ get_or lines n line
-    → line_fault parsed.programs line ≡ Some code → parsed_lines (n + 1) parsed (drop n lines) ≡ Err (n + 1, code)
-lines_faulty n parsed line lines code inside same fault =
-    lines_here n parsed line lines inside same ∙ ap (λ (f : Option FaultCode). unless_fault (n + 1) f (parsed_lines (n + 1 + 1) (with_line parsed (shape_of (words line))) (drop (n + 1) lines))) fault
+pub lines_faulty : (d : Dialect) (n : ℕ) (parsed : ParsedScript) (line : List ℕ) (lines : List (List ℕ)) (code : FaultCode) → n < length lines → line ≡ get_or lines n line
+    → line_fault d parsed line ≡ Some code → parsed_lines d (n + 1) parsed (drop n lines) ≡ Err (n + 1, code)
+lines_faulty d n parsed line lines code inside same fault =
+    lines_here d n parsed line lines inside same ∙ ap (λ (f : Option FaultCode). unless_fault (n + 1) f (parsed_lines d (n + 1 + 1) (with_line parsed (shape_of d (words line))) (drop (n + 1) lines))) fault
 
 -- there are no more
-pub lines_end : (n : ℕ) (parsed : ParsedScript) (lines : List (List ℕ)) → length lines ≤ n → parsed_lines (n + 1) parsed (drop n lines) ≡ Ok parsed
-lines_end n parsed lines all = at_drop_all (parsed_lines (n + 1) parsed) lines n all
+pub lines_end : (d : Dialect) (n : ℕ) (parsed : ParsedScript) (lines : List (List ℕ)) → length lines ≤ n → parsed_lines d (n + 1) parsed (drop n lines) ≡ Ok parsed
+lines_end d n parsed lines all = at_drop_all (parsed_lines d (n + 1) parsed) lines n all
 
 -- where a line stops, and its fault is the script's, the script stops there
 pub stops_at : (read : Result ParsedScript (ℕ × FaultCode)) (fault : Option FaultCode) (stop : Stop) (number : ℕ) → IsStop fault stop → ((code : FaultCode) → fault ≡ Some code → read ≡ Err (number, code)) → IsScriptStop read (stop_at stop number)
 stops_at read fault stops.NoMemory number stop here = tt
 stops_at read fault (stops.Fault code) number stop here = here code stop
 
+-- a text that is not too long has few lines
+pub lines_few : (text : List ℕ) → length text ≤ 1048576 → length (script_lines text) ≤ 1048577
+lines_few text fits = omega (arith, fits, length-slice_split (λ (c : ℕ). c == 10) text, count_by-le-length (λ (c : ℕ). c == 10) text)
+
 -- a text that is not too long is parsed to what its lines are parsed to
-pub parsed_text-lines : (text : List ℕ) → length text ≤ 1048576 → parsed_text text ≡ parsed_lines 1 empty_script (script_lines text)
+pub parsed_text-lines : (dialect : Dialect) (text : List ℕ) → length text ≤ 1048576 → parsed_text dialect text ≡ parsed_lines dialect 1 empty_script (script_lines text)
 unfolding parsed_text
-parsed_text-lines text fits =
+parsed_text-lines dialect text fits =
     let short : nat_lt 1048576 (length text) ≡ false = grind (arith, nat_tests) in
     rw short refl
+
+passes_with : (parsed : ParsedScript) (shape : Shape) → (with_line parsed shape).passes ≤ parsed.passes + 1
+passes_with parsed Passed = omega arith
+passes_with parsed Unknown = omega arith
+passes_with parsed (ProgramLine name context held hex) = omega arith
+passes_with parsed (StartLine name hex) = omega arith
+passes_with parsed (ExecLine run) = omega arith
+passes_with parsed (AnsweredLine run answer) = omega arith
+passes_with parsed (GrowLine kind slot) = omega arith
+passes_with parsed (ReapLine kind slot) = omega arith
+passes_with parsed (ArenaLine pages) = omega arith
+passes_with parsed (JobLine name hex) = omega arith
+passes_with parsed PassLine = omega arith
+
+-- a line adds one pass at most
+pub one_pass : (shape : Shape) (old new : Script) → Adds shape old new → new.passes ≤ old.passes + 1
+one_pass shape old new adds = omega (arith, passes_with (parsed_script old) shape, ap (λ (s : ParsedScript). s.passes) adds.parsed)

@@ -1,5 +1,5 @@
 -- The programs of a script, by name.
-use Rattle.std.proofs.Common.{◌≡◌, ℕ, ◌+◌, Bool, false, cond, not, List, [], ◌∷◌, ◌++◌, length, map, Option, Some, None, is_some, position, String, string_bytes, refl, sym, ◌∙◌, ap, arith}
+use Rattle.std.proofs.Common.{◌≡◌, ℕ, ◌+◌, Bool, true, false, cond, not, List, [], ◌∷◌, ◌++◌, length, map, Option, Some, None, is_some, option_map, position, String, string_bytes, refl, sym, ◌∙◌, ap, arith}
 use Rattle.std.proofs.lemmas.List.{map-append}
 use Rattle.std.specs.declared.alloc.Global.{Global}
 use Rattle.std.specs.List.{prefix_len}
@@ -11,7 +11,7 @@ use Rattle.indexmap.proofs.MapLemmas.{some_index}
 use Rattle.indexmap.proofs.CallerLemmas.{insert_entry-new}
 use Rattle.ebpf_script.specs.declared.reader.script.ProgramText.{ProgramText}
 use Rattle.ebpf_script.specs.ReadScripts.{named}
-use Rattle.ebpf_script.specs.ParsedScript.{number_of}
+use Rattle.ebpf_script.specs.ParsedScript.{Named, number_of, declared_by}
 
 prefix_len-map : {X Y : Type 0} (p : Y → Bool) (f : X → Y) (xs : List X) → prefix_len p (map f xs) ≡ prefix_len (λ x. p (f x)) xs
 prefix_len-map p f [] = refl
@@ -40,6 +40,21 @@ is_defined-test es asked name test same found = sym (found ∙ (ap (λ (q : List
 -- what the map's index of a name says of the name
 pub number_of-index : (es : List (String Global × ProgramText)) (asked name : List ℕ) (index : Option ℕ) → asked ≡ name → index ≡ position (λ k. bytes_eq asked (string_bytes k)) (keys_of es) → number_of (map named es) name ≡ index
 number_of-index es asked name index same found = sym (found ∙ (ap (λ (q : List ℕ). position (λ k. bytes_eq q (string_bytes k)) (keys_of es)) same ∙ sym (number_of-entries es name)))
+
+found_or : {X Y Z : Type 0} (f : X → Z) (g : Y → Z) (b : Bool) (x : X) (y : Y) (u : Option X) (v : Option Y) → f x ≡ g y → option_map f u ≡ option_map g v → option_map f (cond b (Some x) u) ≡ option_map g (cond b (Some y) v)
+found_or f g true x y u v same rest = ap Some same
+found_or f g false x y u v same rest = rest
+
+-- the length that a name declares is that of its key's program
+declared_by-entries : (es : List (String Global × ProgramText)) (name : List ℕ) → declared_by (map named es) name ≡ option_map (λ (t : ProgramText). t.decl.context) (lookup (λ k. bytes_eq name (string_bytes k)) es)
+unfolding declared_by
+declared_by-entries [] name = refl
+declared_by-entries (e ∷ es) name = found_or (λ (p : Named). p.context) (λ (t : ProgramText). t.decl.context) (bytes_eq name (string_bytes e.0)) (named e) e.1 _ _ refl (declared_by-entries es name)
+
+-- what the map's program of a name says of the name
+pub declared_by-found : (es : List (String Global × ProgramText)) (asked name : List ℕ) (text : ProgramText) → asked ≡ name → Some text ≡ lookup (λ k. bytes_eq asked (string_bytes k)) es → declared_by (map named es) name ≡ Some text.decl.context
+declared_by-found es asked name text same found =
+    declared_by-entries es name ∙ (ap (λ (q : List ℕ). option_map (λ (t : ProgramText). t.decl.context) (lookup (λ k. bytes_eq q (string_bytes k)) es)) (sym same) ∙ ap (option_map (λ (t : ProgramText). t.decl.context)) (sym found))
 
 none_where : {X : Type 0} (o : Option X) → is_some o ≡ false → o ≡ None
 none_where None h = refl

@@ -17,4 +17,6 @@ pub mod ReadScripts
 pub mod Verdicts
 pub mod VerdictsKept
 pub mod WorldLines
+pub mod ScriptText
+pub mod CheckText
 pub mod ReplayText

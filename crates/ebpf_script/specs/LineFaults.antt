@@ -1,48 +1,64 @@
 -- Why a line can't be used: the first of its faults, in the order of their codes.
-use Rattle.std.specs.Prelude.{ℕ, not, if◌then◌else◌, List, [], ◌∷◌, Option, Some, None, is_none, is_some}
+use Rattle.std.specs.Prelude.{ℕ, Bool, not, ◌==◌, if◌then◌else◌, List, [], ◌∷◌, length, Option, Some, None, is_none, is_some, unwrap_or}
 use Rattle.ebpf_insn.specs.Faults.{first_of}
 use Rattle.ebpf_script.specs.declared.done.FaultCode.{FaultCode}
-use Rattle.ebpf_script.specs.declared.done.FaultCode.TheVariants.{S2, S3, S4, S5, S6, S7}
+use Rattle.ebpf_script.specs.declared.done.FaultCode.TheVariants.{S2, S3, S4, S5, S6, S7, S8, S9}
+use Rattle.ebpf_script.specs.declared.reader.script.Dialect.{Dialect}
 use Rattle.ebpf_script.specs.HexText.{hex_or_dash}
 use Rattle.ebpf_script.specs.Names.{is_name}
-use Rattle.ebpf_script.specs.Numbers.{context_of, held_of, run_of, kind_of, slot_of}
-use Rattle.ebpf_script.specs.ParsedScript.{Named, number_of, answer_of}
+use Rattle.ebpf_script.specs.Numbers.{context_of, held_of, run_of, kind_of, slot_of, pages_of}
+use Rattle.ebpf_script.specs.ParsedScript.{Named, ParsedScript, number_of, declared_by, answer_of}
 use Rattle.ebpf_script.specs.ScriptLines.{is_text}
-use Rattle.ebpf_script.specs.Shapes.{Shape, Passed, Unknown, ProgramLine, StartLine, ExecLine, AnsweredLine, GrowLine, ReapLine, shape_of}
+use Rattle.ebpf_script.specs.Shapes.{Shape, Passed, Unknown, ProgramLine, StartLine, ExecLine, AnsweredLine, GrowLine, ReapLine, ArenaLine, JobLine, PassLine, shape_of}
 use Rattle.ebpf_script.specs.Words.{words}
 
--- behind the programs of the lines before
-abbrev pub shape_fault : List Named → Shape → Option FaultCode
-shape_fault programs Passed = None
-shape_fault programs Unknown = Some S3
-shape_fault programs (ProgramLine name context held hex) = first_of (
+-- whether bytes are as many as the program of this name declares for its context
+abbrev pub is_as_declared : List Named → List ℕ → List ℕ → Bool
+is_as_declared programs name bytes = length bytes == unwrap_or (declared_by programs name) 0
+
+-- behind what the lines before say
+abbrev pub shape_fault : ParsedScript → Shape → Option FaultCode
+shape_fault parsed Passed = None
+shape_fault parsed Unknown = Some S3
+shape_fault parsed (ProgramLine name context held hex) = first_of (
     (is_none (context_of context), S4) ∷
     (is_none (held_of held), S4) ∷
     (is_none (hex_or_dash hex), S5) ∷
     (not (is_name name), S6) ∷
-    (is_some (number_of programs name), S6) ∷
+    (is_some (number_of parsed.programs name), S6) ∷
     [])
-shape_fault programs (StartLine name hex) = first_of (
+shape_fault parsed (StartLine name hex) = first_of (
     (is_none (hex_or_dash hex), S5) ∷
     (not (is_name name), S6) ∷
-    (is_none (number_of programs name), S7) ∷
+    (is_none (number_of parsed.programs name), S7) ∷
     [])
-shape_fault programs (ExecLine run) = first_of (
+shape_fault parsed (ExecLine run) = first_of (
     (is_none (run_of run), S4) ∷
     [])
-shape_fault programs (AnsweredLine run answer) = first_of (
+shape_fault parsed (AnsweredLine run answer) = first_of (
     (is_none (run_of run), S4) ∷
     (is_none (answer_of answer), S4) ∷
     [])
-shape_fault programs (GrowLine kind slot) = first_of (
+shape_fault parsed (GrowLine kind slot) = first_of (
     (is_none (kind_of kind), S4) ∷
     (is_none (slot_of slot), S4) ∷
     [])
-shape_fault programs (ReapLine kind slot) = first_of (
+shape_fault parsed (ReapLine kind slot) = first_of (
     (is_none (kind_of kind), S4) ∷
     (is_none (slot_of slot), S4) ∷
     [])
+shape_fault parsed (ArenaLine pages) = first_of (
+    (is_none (pages_of pages), S4) ∷
+    (is_some parsed.pages, S8) ∷
+    [])
+shape_fault parsed (JobLine name hex) = first_of (
+    (is_none (hex_or_dash hex), S5) ∷
+    (not (is_name name), S6) ∷
+    (is_none (number_of parsed.programs name), S7) ∷
+    (not (is_as_declared parsed.programs name (unwrap_or (hex_or_dash hex) [])), S9) ∷
+    [])
+shape_fault parsed PassLine = None
 
 -- a line that is passed over too has text bytes alone
-unfoldable pub line_fault : List Named → List ℕ → Option FaultCode
-line_fault programs line = if is_text line then shape_fault programs (shape_of (words line)) else Some S2
+unfoldable pub line_fault : Dialect → ParsedScript → List ℕ → Option FaultCode
+line_fault dialect parsed line = if is_text line then shape_fault parsed (shape_of dialect (words line)) else Some S2

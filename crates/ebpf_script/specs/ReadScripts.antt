@@ -1,5 +1,5 @@
 -- A script and the stops of its reader, as contracts see them.
-use Rattle.std.specs.Prelude.{◌≡◌, ℕ, map, None, Result, Err, String, string_bytes}
+use Rattle.std.specs.Prelude.{◌≡◌, ◌<◌, ℕ, ◌+◌, ◌^◌, map, None, Result, Err, String, string_bytes}
 use Rattle.std.specs.declared.alloc.Global.{Global}
 use Rattle.ebpf_script.specs.declared.done.FaultCode.{FaultCode}
 use Rattle.ebpf_script.specs.declared.reader.script.ProgramText.{ProgramText}
@@ -18,11 +18,15 @@ named p = record { name = string_bytes p.0; bytes = p.1.bytes.items; context = p
 
 -- a script, as the definition has it
 abbrev pub parsed_script : Script → ParsedScript
-parsed_script s = record { programs = map named s.programs.entries; events = s.events.items }
+parsed_script s = record { programs = map named s.programs.entries; events = s.events.items; pages = s.pages; jobs = s.jobs.items; passes = s.passes }
+
+-- a pass more can be counted
+abbrev pub HasRoom : Script → Type 0
+HasRoom s = s.passes + 1 < 2 ^ 32
 
 -- a line of this shape has no fault, and took the script from old to new
 pub record Adds (shape : Shape) (old new : Script) : Type 0 where
-  pub fine : shape_fault (parsed_script old).programs shape ≡ None
+  pub fine : shape_fault (parsed_script old) shape ≡ None
   pub parsed : parsed_script new ≡ with_line (parsed_script old) shape
 
 -- a line's stop is a script's, at the line of this number

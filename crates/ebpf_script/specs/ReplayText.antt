@@ -1,19 +1,17 @@
 -- The response of `replay` to a text: the fault of the script, or the verdict on each program and then, where none is refused,
 -- the world after the events.
-use Rattle.std.specs.Prelude.{◌≡◌, ℕ, ◌++◌, if◌then◌else◌, List, Result, Ok, Err, codes, decimal}
+use Rattle.std.specs.Prelude.{ℕ, ◌++◌, List, Result, Ok, Err, codes, decimal}
 use Rattle.ebpf_machine.specs.World.{World}
 use Rattle.ebpf_machine.specs.Events.{Illegal}
-use Rattle.ebpf_core.specs.declared.event.Event.{Event}
 use Rattle.ebpf_core.specs.Faults.{code_of}
 use Rattle.ebpf_core.specs.Replay.{world_after}
-use Rattle.ebpf_script.specs.declared.done.Done.TheVariants.{Clean}
-use Rattle.ebpf_script.specs.declared.done.FaultCode.{FaultCode}
+use Rattle.ebpf_script.specs.declared.reader.script.Dialect.TheVariants.{Events}
 use Rattle.ebpf_script.specs.Codes.{apply_name}
-use Rattle.ebpf_script.specs.Lines.{fault_line}
 use Rattle.ebpf_script.specs.ParsedScript.{ParsedScript}
 use Rattle.ebpf_script.specs.Scripts.{parsed_text}
-use Rattle.ebpf_script.specs.Response.{Response, refused_response}
-use Rattle.ebpf_script.specs.Verdicts.{Verdict, AreOn, verdict_lines, accepted_of, is_any_refused}
+use Rattle.ebpf_script.specs.ScriptText.{RespondsScript}
+use Rattle.ebpf_script.specs.Response.{Response, refused_response, clean_response}
+use Rattle.ebpf_script.specs.Verdicts.{Verdict, verdict_lines, accepted_of}
 use Rattle.ebpf_script.specs.WorldLines.{world_lines}
 
 -- an event is not legal, for this cause; events count from 0
@@ -22,16 +20,11 @@ stopped_line index why = codes "stopped " ++ (apply_name (code_of why) ++ (codes
 
 -- behind the verdicts, the world after the events, or where they stop
 abbrev pub world_response : List ℕ → Result World (ℕ × Illegal) → Response
-world_response verdicts (Ok w) = record { text = verdicts ++ world_lines w; done = Clean }
+world_response verdicts (Ok w) = clean_response (verdicts ++ world_lines w)
 world_response verdicts (Err stop) = refused_response (verdicts ++ stopped_line stop.0 stop.1)
 
-abbrev pub verdicts_response : List Verdict → List Event → Response
-verdicts_response verdicts events =
-    if is_any_refused verdicts then refused_response (verdict_lines verdicts) else world_response (verdict_lines verdicts) (world_after (accepted_of verdicts) events)
-
-abbrev pub RespondsParsed : Result ParsedScript (ℕ × FaultCode) → Response → Type 0
-RespondsParsed (Err fault) response = response ≡ refused_response (fault_line fault.1 fault.0)
-RespondsParsed (Ok parsed) response = (verdicts : List Verdict) × AreOn parsed.programs verdicts × (response ≡ verdicts_response verdicts parsed.events)
+abbrev pub replay_response : ParsedScript → List Verdict → Response
+replay_response parsed verdicts = world_response (verdict_lines verdicts) (world_after (accepted_of verdicts) parsed.events)
 
 abbrev pub RespondsReplay : List ℕ → Response → Type 0
-RespondsReplay text response = RespondsParsed (parsed_text text) response
+RespondsReplay text response = RespondsScript replay_response (parsed_text Events text) response

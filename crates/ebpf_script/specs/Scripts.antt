@@ -2,6 +2,7 @@
 use Rattle.std.specs.Prelude.{ℕ, ◌+◌, nat_lt, if◌then◌else◌, List, [], ◌∷◌, length, Option, Some, None, Result, Ok, Err}
 use Rattle.ebpf_script.specs.declared.done.FaultCode.{FaultCode}
 use Rattle.ebpf_script.specs.declared.done.FaultCode.TheVariants.{S1}
+use Rattle.ebpf_script.specs.declared.reader.script.Dialect.{Dialect}
 use Rattle.ebpf_script.specs.LineFaults.{line_fault}
 use Rattle.ebpf_script.specs.ParsedScript.{ParsedScript, empty_script, with_line}
 use Rattle.ebpf_script.specs.ScriptLines.{script_lines}
@@ -14,12 +15,12 @@ unless_fault number None behind = behind
 unless_fault number (Some code) behind = Err (number, code)
 
 -- the lines from this number on, behind the script of the lines before them
-abbrev pub parsed_lines : ℕ → ParsedScript → List (List ℕ) → Result ParsedScript (ℕ × FaultCode)
-parsed_lines number parsed [] = Ok parsed
-parsed_lines number parsed (line ∷ lines) =
-    unless_fault number (line_fault parsed.programs line) (parsed_lines (number + 1) (with_line parsed (shape_of (words line))) lines)
+abbrev pub parsed_lines : Dialect → ℕ → ParsedScript → List (List ℕ) → Result ParsedScript (ℕ × FaultCode)
+parsed_lines dialect number parsed [] = Ok parsed
+parsed_lines dialect number parsed (line ∷ lines) =
+    unless_fault number (line_fault dialect parsed line) (parsed_lines dialect (number + 1) (with_line parsed (shape_of dialect (words line))) lines)
 
 -- lines count from 1; a text that is too long is no line's fault
-unfoldable pub parsed_text : List ℕ → Result ParsedScript (ℕ × FaultCode)
-parsed_text text =
-    if nat_lt 1048576 (length text) then Err (0, S1) else parsed_lines 1 empty_script (script_lines text)
+unfoldable pub parsed_text : Dialect → List ℕ → Result ParsedScript (ℕ × FaultCode)
+parsed_text dialect text =
+    if nat_lt 1048576 (length text) then Err (0, S1) else parsed_lines dialect 1 empty_script (script_lines text)

@@ -5,11 +5,13 @@ ghost use Rattle.std.specs.Fn.{FnOnceReturnsAt};
 ghost use Rattle.std.specs.Io.KnownBytes.{Appends, Consumes};
 ghost use Rattle.ebpf_script.specs.declared.done.EngineFault.TheVariants.{Output};
 ghost use Rattle.ebpf_script.specs.Input.{read_of};
-ghost use Rattle.ebpf_script.specs.Response.{Response};
+ghost use Rattle.ebpf_script.specs.Lines.{fault_line};
+ghost use Rattle.ebpf_script.specs.Response.{Response, refused_response};
 
-use crate::done::{Done, EngineFault};
+use crate::done::{Done, EngineFault, FaultCode};
 use crate::input::read_input;
 use crate::output::write_text;
+use crate::text::fault_line;
 use std::alloc::{AllocError, Global};
 use std::io::{Read, Write};
 use std::marker::Model;
@@ -28,6 +30,20 @@ impl Model for Answer {
     ghost Value = { Response };
 
     ghost view = { λ a. record { text = string_bytes a.text; done = a.done } };
+}
+
+// The answer to a fault: its line alone.
+pub(crate) fn answer_fault(
+    alloc: Global,
+    code: FaultCode,
+    line: usize,
+) -> Result<Answer, AllocError>
+    ensures { IfOk result (λ answer. answer ≡ refused_response (fault_line code line)) }
+{
+    Ok(Answer {
+        text: fault_line(alloc, code, line)?,
+        done: Done::Refused,
+    })
 }
 
 /// Reads the whole input, has it answered, writes the answer's text, flushes the writer, and says how the command ends. Of

@@ -8,6 +8,7 @@
 #![tactic(auto)]
 
 pub mod answer;
+pub mod check;
 pub mod codes;
 pub mod done;
 pub mod hex_text;

@@ -1,8 +1,8 @@
-//! Reads a script: from the bytes of a text to its programs and events, or to its first fault.
+//! Reads a script: from the bytes of a text to its programs and its events or jobs, or to its first fault.
 //!
 //! To be read in this order: `words`, `numbers`, `names`, `script`, `statement`, `line`.
 
-ghost use Rattle.std.specs.Prelude.{◌≡◌, IfOk, IfErr};
+ghost use Rattle.std.specs.Prelude.{◌≡◌, ◌≤◌, IfOk, IfErr};
 ghost use Rattle.ebpf_script.specs.ReadScripts.{parsed_script, IsScriptStop};
 ghost use Rattle.ebpf_script.specs.Scripts.{parsed_text};
 
@@ -15,18 +15,20 @@ mod words;
 
 use crate::done::FaultCode;
 use crate::reader::line::read_line;
-use crate::reader::script::{Script, ScriptFault, ScriptStop};
+use crate::reader::script::{Dialect, Script, ScriptFault, ScriptStop};
 use indexmap::IndexMap;
 use std::alloc::Global;
 
-/// The script that a text is parsed to.
+/// The script that a text of this dialect is parsed to.
 ///
 /// # Errors
 /// `Fault` with the lowest line that has a fault, and its first code; `NoMemory` where an allocation failed.
 #[tactic(auto, unfolding(crate::specs::Scripts::parsed_text))]
-pub fn read_script(alloc: Global, text: &[u8]) -> Result<Script, ScriptStop>
-    ensures parsed { IfOk result (λ script. parsed_text text.now ≡ Ok (parsed_script script)) }
-    ensures refused { IfErr result (IsScriptStop (parsed_text text.now)) }
+pub fn read_script(alloc: Global, dialect: Dialect, text: &[u8]) -> Result<Script, ScriptStop>
+    ensures parsed { IfOk result (λ script. parsed_text dialect text.now ≡ Ok (parsed_script script)) }
+    // So a caller can count passes of its own beside them.
+    ensures few { IfOk result (λ script. script.passes ≤ 1048577) }
+    ensures refused { IfErr result (IsScriptStop (parsed_text dialect text.now)) }
 {
     if text.len() > 1_048_576 {
         return Err(ScriptStop::Fault(ScriptFault {
@@ -37,11 +39,14 @@ pub fn read_script(alloc: Global, text: &[u8]) -> Result<Script, ScriptStop>
     let mut script = Script {
         programs: IndexMap::new(alloc),
         events: Vec::new(alloc),
+        pages: None,
+        jobs: Vec::new(alloc),
+        passes: 0,
     };
     let mut number = 0;
     for line in text.split(|c| *c == b'\n') {
         number += 1;
-        if let Err(stop) = read_line(alloc, &mut script, line) {
+        if let Err(stop) = read_line(alloc, dialect, &mut script, line) {
             return Err(stop.at(number));
         }
     }

@@ -6,16 +6,16 @@ ghost use Rattle.ebpf_core.specs.Replay.{world_after};
 ghost use Rattle.ebpf_core.specs.Shown.{AreKnown};
 ghost use Rattle.ebpf_script.specs.declared.done.EngineFault.TheVariants.{Output};
 ghost use Rattle.ebpf_script.specs.ReadScripts.{parsed_script};
-ghost use Rattle.ebpf_script.specs.ReplayText.{RespondsReplay, RespondsParsed, world_response};
+ghost use Rattle.ebpf_script.specs.ReplayText.{RespondsReplay, replay_response, world_response};
+ghost use Rattle.ebpf_script.specs.ScriptText.{RespondsScript};
 ghost use Rattle.ebpf_script.specs.Input.{read_of};
 ghost use Rattle.ebpf_script.specs.Response.{Response};
 
-use crate::answer::{Answer, respond};
+use crate::answer::{Answer, answer_fault, respond};
 use crate::codes::apply_name;
 use crate::done::{Done, EngineFault};
 use crate::reader::read_script;
-use crate::reader::script::{Script, ScriptStop};
-use crate::text::fault_line;
+use crate::reader::script::{Dialect, Script, ScriptStop};
 use crate::verdicts::verdicts_on;
 use crate::world_text::write_world;
 use ebpf_core::event::Event;
@@ -49,22 +49,16 @@ pub fn replay<R: Read, W: Write>(
 fn answer_text(alloc: Global, text: &[u8]) -> Result<Answer, AllocError>
     ensures { IfOk result (RespondsReplay text.now) }
 {
-    match read_script(alloc, text) {
+    match read_script(alloc, Dialect::Events, text) {
         Ok(script) => answer_script(alloc, &script),
-        Err(ScriptStop::Fault(fault)) => {
-            let line = fault_line(alloc, fault.code, fault.line)?;
-            Ok(Answer {
-                text: line,
-                done: Done::Refused,
-            })
-        }
+        Err(ScriptStop::Fault(fault)) => answer_fault(alloc, fault.code, fault.line),
         Err(ScriptStop::NoMemory) => Err(AllocError),
     }
 }
 
 // The response to a script.
 fn answer_script(alloc: Global, script: &Script) -> Result<Answer, AllocError>
-    ensures { IfOk result (RespondsParsed (Ok (parsed_script script.now))) }
+    ensures { IfOk result (RespondsScript replay_response (Ok (parsed_script script.now))) }
 {
     let verdicts = verdicts_on(alloc, &script.programs)?;
     if verdicts.refused {

@@ -9,15 +9,15 @@ use crate::programs::holds;
 use ebpf_core::event::Event;
 use ebpf_script::judge::{Judged, judge};
 use ebpf_script::reader::read_script;
-use ebpf_script::reader::script::{ProgramText, Script};
+use ebpf_script::reader::script::{Dialect, ProgramText, Script};
 use ebpf_state::kinds::kinds;
 use ebpf_verify::verified::Verified;
 use std::alloc::Global;
 use std::process::Abort;
 
-// The script that a text is.
-pub(crate) fn script_of(rt: &impl Abort, alloc: Global, text: &str) -> Script {
-    match read_script(alloc, text.as_bytes()) {
+// The script that a text of this dialect is.
+pub(crate) fn script_of(rt: &impl Abort, alloc: Global, dialect: Dialect, text: &str) -> Script {
+    match read_script(alloc, dialect, text.as_bytes()) {
         Ok(script) => script,
         Err(_) => panic!(rt; "the text is no script"),
     }
@@ -33,11 +33,11 @@ fn accepted(rt: &impl Abort, alloc: Global, program: &ProgramText) -> Verified
     }
 }
 
-// The programs of a script, each accepted, and its events.
+// The programs of a script of events, each accepted, and its events.
 pub(crate) fn read(rt: &impl Abort, alloc: Global, text: &str) -> (Vec<Verified>, Vec<Event>)
     ensures { AreKnown result.0.items }
 {
-    let script = script_of(rt, alloc, text);
+    let script = script_of(rt, alloc, Dialect::Events, text);
     let mut programs = Vec::new(alloc);
     for (_, program) in script.programs.iter() {
         let is_pushed = programs.push(accepted(rt, alloc, program)).is_ok();

@@ -9,6 +9,8 @@
 #[cfg(test)]
 mod accepted;
 #[cfg(test)]
+mod check;
+#[cfg(test)]
 mod events;
 #[cfg(test)]
 mod faults;

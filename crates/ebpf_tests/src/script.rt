@@ -1,4 +1,4 @@
-//! A script with its programs and events, and the calls that commands share, with values from docs/SCRIPTS.md.
+//! Scripts with their programs, events and jobs, and the calls that commands share, with values from docs/SCRIPTS.md.
 
 use crate::accepted::script_of;
 use crate::events::tell_event;
@@ -9,7 +9,7 @@ use ebpf_script::answer::{Answer, respond};
 use ebpf_script::codes::RefusalCode;
 use ebpf_script::done::{Done, FaultCode};
 use ebpf_script::hex_text::{hex_bytes, hex_or_dash};
-use ebpf_script::reader::script::{ProgramText, Script};
+use ebpf_script::reader::script::{Dialect, Job, ProgramText, Script};
 use ebpf_script::text::fault_line;
 use ebpf_verify::fault::VerifyCode;
 use std::alloc::{AllocError, Global};
@@ -32,6 +32,20 @@ exec 1 null
 exec 4294967295 65535
 grow 0 7
 reap 255 65535
+pages None, passes 0
+";
+
+const JOBS: &str = "reap\nprogram add 4 2 b7000000\nrun add 00Ff0908\n\tarena 016\r\n# more\n\
+program Count-1_x 0 64 -\n reap\nrun Count-1_x -\nrun add 01020304";
+
+// Its programs, its jobs with the numbers of their programs and their contexts, and what they run with.
+const JOBS_SAID: &str = "\
+add 4 2 [183, 0, 0, 0]
+Count-1_x 0 64 []
+run 0 [0, 255, 9, 8]
+run 1 []
+run 0 [1, 2, 3, 4]
+pages Some(16), passes 2
 ";
 
 // A program in words, a line more.
@@ -39,6 +53,12 @@ fn tell_program(told: &mut String, name: &str, program: &ProgramText) -> Result<
     let bytes = program.bytes.as_slice();
     let (context, held) = (program.decl.context, program.decl.held);
     write!(told, "{name} {context} {held} {bytes:?}\n")
+}
+
+// A job in words, a line more.
+fn tell_job(told: &mut String, job: &Job) -> Result<(), AllocError> {
+    let (program, bytes) = (job.program, job.context.bytes.as_slice());
+    write!(told, "run {program} {bytes:?}\n")
 }
 
 // A script in words.
@@ -50,14 +70,22 @@ fn script_words(rt: &impl Abort, alloc: Global, script: &Script) -> String {
     for event in script.events.iter() {
         tell_event(&mut told, event).expect(rt, "out of memory");
     }
+    for job in script.jobs.iter() {
+        tell_job(&mut told, job).expect(rt, "out of memory");
+    }
+    let (pages, passes) = (script.pages, script.passes);
+    write!(told, "pages {pages:?}, passes {passes}\n").expect(rt, "out of memory");
     told
 }
 
 #[test]
-fn a_script_has_its_programs_and_events(rt: HostRuntime) {
-    let script = script_of(&rt, rt.alloc(), SCRIPT);
+fn a_script_has_its_programs_events_and_jobs(rt: HostRuntime) {
+    let script = script_of(&rt, rt.alloc(), Dialect::Events, SCRIPT);
     let told = script_words(&rt, rt.alloc(), &script);
-    is_told(&rt, "a script", told.as_str(), SAID);
+    is_told(&rt, "a script of events", told.as_str(), SAID);
+    let script = script_of(&rt, rt.alloc(), Dialect::Jobs, JOBS);
+    let told = script_words(&rt, rt.alloc(), &script);
+    is_told(&rt, "a script of jobs", told.as_str(), JOBS_SAID);
 }
 
 // A word, the bytes that it stands for as hex, and those that it stands for where a lone `-` is none.

@@ -3,6 +3,7 @@
 use crate::programs::holds;
 use ebpf_one::list::list;
 use ebpf_one::one::one;
+use ebpf_script::check::check;
 use ebpf_script::done::{Done, EngineFault};
 use ebpf_script::replay::replay;
 use std::alloc::Global;
@@ -112,7 +113,7 @@ fn ample(alloc: Global) -> Sink {
 }
 
 // Each command, with an input and the text that it tells of it.
-static COMMANDS: [(&str, &str, &str); 3] = [
+static COMMANDS: [(&str, &str, &str); 4] = [
     (
         "one",
         "b7000000070000009500000000000000",
@@ -122,6 +123,11 @@ static COMMANDS: [(&str, &str, &str); 3] = [
         "list",
         "b7000000070000009500000000000000",
         "0: mov64 r0, 7\n1: exit\n",
+    ),
+    (
+        "check",
+        "program a 0 0 b7000000070000009500000000000000\narena 16\nrun a -\nreap\n",
+        "a accepted 2\n",
     ),
     (
         "replay",
@@ -143,6 +149,7 @@ fn call(
     match command {
         "one" => one(alloc, reader, writer, "-", 0, false),
         "list" => list(alloc, reader, writer),
+        "check" => check(alloc, reader, writer),
         _ => replay(alloc, reader, writer),
     }
 }
@@ -307,7 +314,8 @@ fn is_told_off(rt: &impl Abort, alloc: Global, command: &str, byte: u8) {
     let mut reader = flood(byte, 64, None);
     let mut writer = ample(alloc);
     let done = call(alloc, command, &mut reader, &mut writer).expect(rt, "it is told");
-    let is_passed = command == "replay" && b"#\t\n\r ".contains(&byte);
+    let takes_scripts = matches!(command, "check" | "replay");
+    let is_passed = takes_scripts && b"#\t\n\r ".contains(&byte);
     assert!(rt;
         matches!(done, Done::Clean) == is_passed,
         "{command} of the byte {byte}"

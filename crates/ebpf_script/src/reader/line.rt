@@ -2,37 +2,50 @@
 
 ghost use Rattle.std.specs.Prelude.{◌≡◌, [], ◌∷◌, IfErr, OnOk, map};
 ghost use Rattle.ebpf_script.specs.LineFaults.{shape_fault, line_fault};
-ghost use Rattle.ebpf_script.specs.ReadScripts.{parsed_script, Adds};
+ghost use Rattle.ebpf_script.specs.ReadScripts.{parsed_script, Adds, HasRoom};
 ghost use Rattle.ebpf_script.specs.Stops.{IsStop};
-ghost use Rattle.ebpf_script.specs.Shapes.{is_comment, replay_shape, shape_of};
+ghost use Rattle.ebpf_script.specs.Shapes.{is_comment, event_shape, job_shape, program_shape, shape_of};
 ghost use Rattle.ebpf_script.specs.Words.{words};
 
 use crate::done::{FaultCode, Stop};
-use crate::reader::script::Script;
+use crate::reader::script::{Dialect, Script};
 use crate::reader::statement::{
-    read_answered, read_exec, read_grow, read_program, read_reap, read_start,
+    read_answered, read_arena, read_exec, read_grow, read_job, read_pass, read_program, read_reap,
+    read_start,
 };
 use crate::reader::words::{is_text, line_words};
 use std::alloc::Global;
 
 /// Reads a line behind those that the script has. Where it stops, nothing is promised of the script.
 #[tactic(auto, unfolding(crate::specs::LineFaults::line_fault))]
-pub(crate) fn read_line(alloc: Global, script: &mut Script, line: &[u8]) -> Result<(), Stop>
-    ensures fine { OnOk result (line_fault (parsed_script script.old).programs line.now ≡ None) }
-    ensures ok { OnOk result (Adds (shape_of (words line.now)) script.old script.new) }
-    ensures refused { IfErr result (IsStop (line_fault (parsed_script script.old).programs line.now)) }
+pub(crate) fn read_line(
+    alloc: Global,
+    dialect: Dialect,
+    script: &mut Script,
+    line: &[u8],
+) -> Result<(), Stop>
+    requires { HasRoom script.now }
+    ensures fine { OnOk result (line_fault dialect (parsed_script script.old) line.now ≡ None) }
+    ensures ok { OnOk result (Adds (shape_of dialect (words line.now)) script.old script.new) }
+    ensures refused { IfErr result (IsStop (line_fault dialect (parsed_script script.old) line.now)) }
 {
     if !is_text(line) {
         return Err(Stop::Fault(FaultCode::S2));
     }
     let words = line_words(alloc, line)?;
-    read_words(alloc, script, &words)
+    read_words(alloc, dialect, script, &words)
 }
 
 // Reads the words of a line.
-fn read_words(alloc: Global, script: &mut Script, words: &[&[u8]]) -> Result<(), Stop>
-    ensures ok { OnOk result (Adds (shape_of (map (λ w. w.now) words.now)) script.old script.new) }
-    ensures refused { IfErr result (IsStop (shape_fault (parsed_script script.old).programs (shape_of (map (λ w. w.now) words.now)))) }
+fn read_words(
+    alloc: Global,
+    dialect: Dialect,
+    script: &mut Script,
+    words: &[&[u8]],
+) -> Result<(), Stop>
+    requires { HasRoom script.now }
+    ensures ok { OnOk result (Adds (shape_of dialect (map (λ w. w.now) words.now)) script.old script.new) }
+    ensures refused { IfErr result (IsStop (shape_fault (parsed_script script.old) (shape_of dialect (map (λ w. w.now) words.now)))) }
 {
     let Some((first, rest)) = words.split_first() else {
         return Ok(());
@@ -40,11 +53,12 @@ fn read_words(alloc: Global, script: &mut Script, words: &[&[u8]]) -> Result<(),
     if is_comment(first) {
         return Ok(());
     }
-    match rest {
-        [a] => read_two(script, first, a),
-        [a, b] => read_three(alloc, script, first, a, b),
-        [a, b, c, d] => read_five(alloc, script, first, a, b, c, d),
-        _ => Err(Stop::Fault(FaultCode::S3)),
+    if *first == b"program".as_slice() {
+        return read_program_words(alloc, script, rest);
+    }
+    match dialect {
+        Dialect::Events => read_event_words(alloc, script, first, rest),
+        Dialect::Jobs => read_job_words(alloc, script, first, rest),
     }
 }
 
@@ -58,58 +72,55 @@ fn is_comment(word: &[u8]) -> bool
     }
 }
 
-// Reads a line of two words.
-fn read_two(script: &mut Script, first: &[u8], a: &[u8]) -> Result<(), Stop>
-    ensures ok { OnOk result (Adds (replay_shape first.now (a.now ∷ [])) script.old script.new) }
-    ensures refused { IfErr result (IsStop (shape_fault (parsed_script script.old).programs (replay_shape first.now (a.now ∷ [])))) }
+// Reads the words behind `program`.
+fn read_program_words(alloc: Global, script: &mut Script, rest: &[&[u8]]) -> Result<(), Stop>
+    ensures ok { OnOk result (Adds (program_shape (map (λ w. w.now) rest.now)) script.old script.new) }
+    ensures refused { IfErr result (IsStop (shape_fault (parsed_script script.old) (program_shape (map (λ w. w.now) rest.now)))) }
 {
-    if first == b"exec".as_slice() {
-        read_exec(script, a)
-    } else {
-        Err(Stop::Fault(FaultCode::S3))
+    match rest {
+        [name, context, held, hex] => read_program(alloc, script, name, context, held, hex),
+        _ => Err(Stop::Fault(FaultCode::S3)),
     }
 }
 
-// Reads a line of three words.
-fn read_three(
+// Reads a line of events: its first word and those behind it.
+fn read_event_words(
     alloc: Global,
     script: &mut Script,
     first: &[u8],
-    a: &[u8],
-    b: &[u8],
+    rest: &[&[u8]],
 ) -> Result<(), Stop>
-    ensures ok { OnOk result (Adds (replay_shape first.now (a.now ∷ b.now ∷ [])) script.old script.new) }
-    ensures refused { IfErr result (IsStop (shape_fault (parsed_script script.old).programs (replay_shape first.now (a.now ∷ b.now ∷ [])))) }
+    ensures ok { OnOk result (Adds (event_shape first.now (map (λ w. w.now) rest.now)) script.old script.new) }
+    ensures refused { IfErr result (IsStop (shape_fault (parsed_script script.old) (event_shape first.now (map (λ w. w.now) rest.now)))) }
 {
-    if first == b"start".as_slice() {
-        read_start(alloc, script, a, b)
-    } else if first == b"exec".as_slice() {
-        read_answered(script, a, b)
-    } else if first == b"grow".as_slice() {
-        read_grow(script, a, b)
-    } else if first == b"reap".as_slice() {
-        read_reap(script, a, b)
-    } else {
-        Err(Stop::Fault(FaultCode::S3))
+    match rest {
+        [run] if first == b"exec".as_slice() => read_exec(script, run),
+        [name, hex] if first == b"start".as_slice() => read_start(alloc, script, name, hex),
+        [run, answer] if first == b"exec".as_slice() => read_answered(script, run, answer),
+        [kind, slot] if first == b"grow".as_slice() => read_grow(script, kind, slot),
+        [kind, slot] if first == b"reap".as_slice() => read_reap(script, kind, slot),
+        _ => Err(Stop::Fault(FaultCode::S3)),
     }
 }
 
-// Reads a line of five words.
-fn read_five(
+// Reads a line of jobs: its first word and those behind it.
+fn read_job_words(
     alloc: Global,
     script: &mut Script,
     first: &[u8],
-    a: &[u8],
-    b: &[u8],
-    c: &[u8],
-    d: &[u8],
+    rest: &[&[u8]],
 ) -> Result<(), Stop>
-    ensures ok { OnOk result (Adds (replay_shape first.now (a.now ∷ b.now ∷ c.now ∷ d.now ∷ [])) script.old script.new) }
-    ensures refused { IfErr result (IsStop (shape_fault (parsed_script script.old).programs (replay_shape first.now (a.now ∷ b.now ∷ c.now ∷ d.now ∷ [])))) }
+    requires { HasRoom script.now }
+    ensures ok { OnOk result (Adds (job_shape first.now (map (λ w. w.now) rest.now)) script.old script.new) }
+    ensures refused { IfErr result (IsStop (shape_fault (parsed_script script.old) (job_shape first.now (map (λ w. w.now) rest.now)))) }
 {
-    if first == b"program".as_slice() {
-        read_program(alloc, script, a, b, c, d)
-    } else {
-        Err(Stop::Fault(FaultCode::S3))
+    match rest {
+        [] if first == b"reap".as_slice() => {
+            read_pass(script);
+            Ok(())
+        }
+        [pages] if first == b"arena".as_slice() => read_arena(script, pages),
+        [name, hex] if first == b"run".as_slice() => read_job(alloc, script, name, hex),
+        _ => Err(Stop::Fault(FaultCode::S3)),
     }
 }

@@ -1,7 +1,7 @@
 //! The numbers of a script, each with its range.
 
 ghost use Rattle.std.specs.Prelude.{◌≡◌, ◌≤◌, IfSome};
-ghost use Rattle.ebpf_script.specs.Numbers.{number_to, context_of, held_of, run_of, kind_of, slot_of};
+ghost use Rattle.ebpf_script.specs.Numbers.{number_to, context_of, held_of, run_of, kind_of, slot_of, pages_of};
 
 /// The length of a context, 0 to 4096.
 pub(crate) fn context_of(word: &[u8]) -> Option<u32>
@@ -41,6 +41,14 @@ pub(crate) fn slot_of(word: &[u8]) -> Option<u32>
     ensures { result ≡ slot_of word.now }
 {
     number_to(65_535, word)
+}
+
+/// The pages of an arena, 1 to 256.
+pub(crate) fn pages_of(word: &[u8]) -> Option<u32>
+    ensures { result ≡ pages_of word.now }
+{
+    let pages = number_to(256, word)?;
+    if pages == 0 { None } else { Some(pages) }
 }
 
 // The number that a word of decimal digits writes; `None` where it isn't one, or is more than `most`.

@@ -3,9 +3,18 @@
 ghost use Rattle.std.specs.Prelude.{◌≡◌};
 
 use crate::done::{FaultCode, Stop};
-use ebpf_core::event::Event;
+use ebpf_core::event::{Context, Event};
 use ebpf_verify::decl::Decl;
 use indexmap::IndexMap;
+
+/// Which lines a script may have beside its programs.
+#[derive(Clone, Copy)]
+pub enum Dialect {
+    /// Events: `start`, `exec`, `grow` and `reap` of a slot.
+    Events,
+    /// Jobs, and what they run with: `run`, `arena` and `reap` alone.
+    Jobs,
+}
 
 /// A program of a script: what its hex says, and what it declares.
 #[derive(Drop)]
@@ -14,11 +23,23 @@ pub struct ProgramText {
     pub decl: Decl,
 }
 
-/// The programs of a script by their names, in the order of their lines, and its events.
+/// A run that a worker is to make: of the program of this number, on this context.
+#[derive(Drop)]
+pub struct Job {
+    pub program: usize,
+    pub context: Context,
+}
+
+/// The programs of a script by their names, in the order of their lines, and what its dialect has beside them.
 #[derive(Drop)]
 pub struct Script {
     pub programs: IndexMap<String, ProgramText>,
     pub events: Vec<Event>,
+    /// The pages of the arena, where a line says how many.
+    pub pages: Option<u32>,
+    pub jobs: Vec<Job>,
+    /// How many passes the reaper is to make for the script's lines.
+    pub passes: u32,
 }
 
 /// Why a text is no script: the code, and the line, from 1; line 0 where the text is too long.

@@ -2,16 +2,16 @@
 
 ghost use Rattle.std.specs.Prelude.{◌≡◌, IfErr, OnOk};
 ghost use Rattle.ebpf_script.specs.LineFaults.{shape_fault};
-ghost use Rattle.ebpf_script.specs.ReadScripts.{parsed_script, Adds};
+ghost use Rattle.ebpf_script.specs.ReadScripts.{parsed_script, Adds, HasRoom};
 ghost use Rattle.ebpf_script.specs.Stops.{IsStop};
 ghost use Rattle.ebpf_script.specs.ParsedScript.{answer_of};
-ghost use Rattle.ebpf_script.specs.Shapes.{ProgramLine, StartLine, ExecLine, AnsweredLine, GrowLine, ReapLine};
+ghost use Rattle.ebpf_script.specs.Shapes.{ProgramLine, StartLine, ExecLine, AnsweredLine, GrowLine, ReapLine, ArenaLine, JobLine, PassLine};
 
 use crate::done::{FaultCode, Stop};
 use crate::hex_text::hex_or_dash;
 use crate::reader::names::name_of;
-use crate::reader::numbers::{context_of, held_of, kind_of, run_of, slot_of};
-use crate::reader::script::{ProgramText, Script};
+use crate::reader::numbers::{context_of, held_of, kind_of, pages_of, run_of, slot_of};
+use crate::reader::script::{Job, ProgramText, Script};
 use ebpf_core::event::{Answer, Context, Event};
 use ebpf_verify::decl::Decl;
 use std::alloc::Global;
@@ -26,7 +26,7 @@ pub(crate) fn read_program(
     hex: &[u8],
 ) -> Result<(), Stop>
     ensures ok { OnOk result (Adds (ProgramLine name.now context.now held.now hex.now) script.old script.new) }
-    ensures refused { IfErr result (IsStop (shape_fault (parsed_script script.old).programs (ProgramLine name.now context.now held.now hex.now))) }
+    ensures refused { IfErr result (IsStop (shape_fault (parsed_script script.old) (ProgramLine name.now context.now held.now hex.now))) }
 {
     let Some(context) = context_of(context) else {
         return Err(Stop::Fault(FaultCode::S4));
@@ -57,7 +57,7 @@ pub(crate) fn read_start(
     hex: &[u8],
 ) -> Result<(), Stop>
     ensures ok { OnOk result (Adds (StartLine name.now hex.now) script.old script.new) }
-    ensures refused { IfErr result (IsStop (shape_fault (parsed_script script.old).programs (StartLine name.now hex.now))) }
+    ensures refused { IfErr result (IsStop (shape_fault (parsed_script script.old) (StartLine name.now hex.now))) }
 {
     let Some(bytes) = hex_or_dash(alloc, hex)? else {
         return Err(Stop::Fault(FaultCode::S5));
@@ -76,7 +76,7 @@ pub(crate) fn read_start(
 /// Reads `exec RUN`.
 pub(crate) fn read_exec(script: &mut Script, run: &[u8]) -> Result<(), Stop>
     ensures ok { OnOk result (Adds (ExecLine run.now) script.old script.new) }
-    ensures refused { IfErr result (IsStop (shape_fault (parsed_script script.old).programs (ExecLine run.now))) }
+    ensures refused { IfErr result (IsStop (shape_fault (parsed_script script.old) (ExecLine run.now))) }
 {
     let Some(run) = run_of(run) else {
         return Err(Stop::Fault(FaultCode::S4));
@@ -91,7 +91,7 @@ pub(crate) fn read_exec(script: &mut Script, run: &[u8]) -> Result<(), Stop>
 /// Reads `exec RUN null` and `exec RUN SLOT`.
 pub(crate) fn read_answered(script: &mut Script, run: &[u8], answer: &[u8]) -> Result<(), Stop>
     ensures ok { OnOk result (Adds (AnsweredLine run.now answer.now) script.old script.new) }
-    ensures refused { IfErr result (IsStop (shape_fault (parsed_script script.old).programs (AnsweredLine run.now answer.now))) }
+    ensures refused { IfErr result (IsStop (shape_fault (parsed_script script.old) (AnsweredLine run.now answer.now))) }
 {
     let Some(run) = run_of(run) else {
         return Err(Stop::Fault(FaultCode::S4));
@@ -118,7 +118,7 @@ fn answer_of(word: &[u8]) -> Option<Answer>
 /// Reads `grow KIND SLOT`.
 pub(crate) fn read_grow(script: &mut Script, kind: &[u8], slot: &[u8]) -> Result<(), Stop>
     ensures ok { OnOk result (Adds (GrowLine kind.now slot.now) script.old script.new) }
-    ensures refused { IfErr result (IsStop (shape_fault (parsed_script script.old).programs (GrowLine kind.now slot.now))) }
+    ensures refused { IfErr result (IsStop (shape_fault (parsed_script script.old) (GrowLine kind.now slot.now))) }
 {
     let Some(kind) = kind_of(kind) else {
         return Err(Stop::Fault(FaultCode::S4));
@@ -133,7 +133,7 @@ pub(crate) fn read_grow(script: &mut Script, kind: &[u8], slot: &[u8]) -> Result
 /// Reads `reap KIND SLOT`.
 pub(crate) fn read_reap(script: &mut Script, kind: &[u8], slot: &[u8]) -> Result<(), Stop>
     ensures ok { OnOk result (Adds (ReapLine kind.now slot.now) script.old script.new) }
-    ensures refused { IfErr result (IsStop (shape_fault (parsed_script script.old).programs (ReapLine kind.now slot.now))) }
+    ensures refused { IfErr result (IsStop (shape_fault (parsed_script script.old) (ReapLine kind.now slot.now))) }
 {
     let Some(kind) = kind_of(kind) else {
         return Err(Stop::Fault(FaultCode::S4));
@@ -143,4 +143,54 @@ pub(crate) fn read_reap(script: &mut Script, kind: &[u8], slot: &[u8]) -> Result
     };
     script.events.push(Event::Reap { kind, slot })?;
     Ok(())
+}
+
+/// Reads `arena P`.
+pub(crate) fn read_arena(script: &mut Script, pages: &[u8]) -> Result<(), Stop>
+    ensures ok { OnOk result (Adds (ArenaLine pages.now) script.old script.new) }
+    ensures refused { IfErr result (IsStop (shape_fault (parsed_script script.old) (ArenaLine pages.now))) }
+{
+    let Some(pages) = pages_of(pages) else {
+        return Err(Stop::Fault(FaultCode::S4));
+    };
+    if script.pages.is_some() {
+        return Err(Stop::Fault(FaultCode::S8));
+    }
+    script.pages = Some(pages);
+    Ok(())
+}
+
+/// Reads `run NAME HEX`.
+pub(crate) fn read_job(
+    alloc: Global,
+    script: &mut Script,
+    name: &[u8],
+    hex: &[u8],
+) -> Result<(), Stop>
+    ensures ok { OnOk result (Adds (JobLine name.now hex.now) script.old script.new) }
+    ensures refused { IfErr result (IsStop (shape_fault (parsed_script script.old) (JobLine name.now hex.now))) }
+{
+    let Some(bytes) = hex_or_dash(alloc, hex)? else {
+        return Err(Stop::Fault(FaultCode::S5));
+    };
+    let Some(name) = name_of(name) else {
+        return Err(Stop::Fault(FaultCode::S6));
+    };
+    let Some((program, _, text)) = script.programs.get_full(name) else {
+        return Err(Stop::Fault(FaultCode::S7));
+    };
+    if bytes.len() != text.decl.context as usize {
+        return Err(Stop::Fault(FaultCode::S9));
+    }
+    let context = Context { bytes };
+    script.jobs.push(Job { program, context })?;
+    Ok(())
+}
+
+/// Reads `reap` alone.
+pub(crate) fn read_pass(script: &mut Script)
+    requires { HasRoom script.now }
+    ensures { Adds PassLine script.old script.new }
+{
+    script.passes += 1;
 }

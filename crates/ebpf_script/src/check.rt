@@ -1,0 +1,65 @@
+//! The command `check`: programs, and the jobs that they are meant for.
+
+ghost use Rattle.std.specs.Prelude.{◌≡◌, ◌≢◌, ◌≤◌, ℕ, Ok, length, take, IfOk, IfErr, IfSome};
+ghost use Rattle.std.specs.Io.KnownBytes.{Appends, Consumes};
+ghost use Rattle.ebpf_script.specs.declared.done.EngineFault.TheVariants.{Output};
+ghost use Rattle.ebpf_script.specs.CheckText.{RespondsCheck, check_response};
+ghost use Rattle.ebpf_script.specs.Input.{read_of};
+ghost use Rattle.ebpf_script.specs.ReadScripts.{parsed_script};
+ghost use Rattle.ebpf_script.specs.Response.{Response};
+ghost use Rattle.ebpf_script.specs.ScriptText.{RespondsScript};
+
+use crate::answer::{Answer, answer_fault, respond};
+use crate::done::{Done, EngineFault};
+use crate::reader::read_script;
+use crate::reader::script::{Dialect, Script, ScriptStop};
+use crate::verdicts::verdicts_on;
+use std::alloc::{AllocError, Global};
+use std::io::{Read, Write};
+
+/// Reads a script of jobs, judges its programs, and writes the verdict on each. No job is done.
+///
+/// # Errors
+/// `Input` where a read failed and `NoMemory` where an allocation failed: nothing was written then. `Output` where a write
+/// failed or took nothing.
+pub fn check<R: Read, W: Write>(
+    alloc: Global,
+    reader: &mut R,
+    writer: &mut W,
+) -> Result<Done, EngineFault>
+    // The text of the input is written, and nothing else.
+    ensures response { IfOk result (λ done. IfSome (R.remaining reader.old) (λ input. (response : Response) × RespondsCheck input response × (response.done ≡ done) × Appends (W.contents writer.old) (W.contents writer.new) response.text)) }
+    // What was read is gone from the reader, and nothing behind it.
+    ensures consumed { IfOk result (λ done. IfSome (R.remaining reader.old) (λ input. Consumes (R.remaining reader.old) (R.remaining reader.new) (read_of input))) }
+    ensures untouched { IfErr result (λ fault. fault ≢ Output → writer.new ≡ writer.old) }
+    ensures beginning { IfErr result (λ fault. IfSome (R.remaining reader.old) (λ input. fault ≡ Output → (response : Response) × RespondsCheck input response × ((n : ℕ) × (n ≤ length response.text) × Appends (W.contents writer.old) (W.contents writer.new) (take n response.text)))) }
+{
+    respond(alloc, reader, writer, |input| answer_text(alloc, input))
+}
+
+// The response to a text.
+fn answer_text(alloc: Global, text: &[u8]) -> Result<Answer, AllocError>
+    ensures { IfOk result (RespondsCheck text.now) }
+{
+    match read_script(alloc, Dialect::Jobs, text) {
+        Ok(script) => answer_script(alloc, &script),
+        Err(ScriptStop::Fault(fault)) => answer_fault(alloc, fault.code, fault.line),
+        Err(ScriptStop::NoMemory) => Err(AllocError),
+    }
+}
+
+// The response to a script.
+fn answer_script(alloc: Global, script: &Script) -> Result<Answer, AllocError>
+    ensures { IfOk result (RespondsScript check_response (Ok (parsed_script script.now))) }
+{
+    let verdicts = verdicts_on(alloc, &script.programs)?;
+    let done = if verdicts.refused {
+        Done::Refused
+    } else {
+        Done::Clean
+    };
+    Ok(Answer {
+        text: verdicts.text,
+        done,
+    })
+}

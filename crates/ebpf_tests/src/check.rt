@@ -1,0 +1,91 @@
+//! What `check` tells of scripts.
+
+use crate::programs::{column, holds, is_told};
+use ebpf_script::check::check;
+use ebpf_script::done::Done;
+use std::alloc::Global;
+use std::process::Abort;
+use std::test::*;
+
+// A script, whose lines `;` ends, and what is told of it.
+const SCRIPTS: &str = "\
+# the verdicts, in the order of the programs
+program a 0 1 b7000000070000009500000000000000; | a accepted 2;
+program a 0 0 95; | a refused I1 0;
+program b 0 0 9500000000000000;program a 0 0 b7000000070000009500000000000000; | b refused V1 0;a accepted 2;
+program f 0 0 b700000007000000;run f -; | f refused F4 0;
+# nothing is told of what is to be run, nor of what is passed over
+program a 2 1 b7000000070000009500000000000000;run a 00fF;arena 16;reap;run a 0908;reap; | a accepted 2;
+;# run a -;program a 0 1 b7000000070000009500000000000000;\t \r;  run a -;  # exec; | a accepted 2;
+arena 0256;program a 0 0 95; | a refused I1 0;
+# without a newline at the end
+program a 0 1 b7000000070000009500000000000000;run a - | a accepted 2;
+program a 0 1 b7000000070000009500000000000000;run a | fault S3 line 2;
+# a fault is told alone, that of the lowest line, whatever code a later line has, and there the lowest code
+program a 0 1 95;run b - | fault S7 line 2;
+\x01 reap 1; | fault S2 line 1;
+reap 1;#\x7f; | fault S3 line 1;
+arena 0;exec 0; | fault S4 line 1;
+program a 0 0 0;arena x; | fault S5 line 1;
+run a! -;program b 0 0 zz; | fault S6 line 1;
+run a -;program a! 0 0 -; | fault S7 line 1;
+arena 16;arena 16;run a -; | fault S8 line 2;
+program a 1 0 95;run a 0000;arena 1;arena 1; | fault S9 line 2;
+program b 0 0 9500000000000000;run b 00;reap; | fault S9 line 2;
+# the lines of events, and what is no line of jobs
+start a - | fault S3 line 1;
+exec 0 | fault S3 line 1;
+exec 0 null | fault S3 line 1;
+grow 0 0 | fault S3 line 1;
+reap 0 0 | fault S3 line 1;
+reap 1 | fault S3 line 1;
+arena | fault S3 line 1;
+arena 1 1 | fault S3 line 1;
+run a - - | fault S3 line 1;
+program a 0 0 | fault S3 line 1;
+ARENA 1 | fault S3 line 1;
+# an arena has 1 to 256 pages, and stands once
+arena 0 | fault S4 line 1;
+arena 257 | fault S4 line 1;
+arena x | fault S4 line 1;
+arena 16;arena 0 | fault S4 line 2;
+arena 16;arena 257 | fault S4 line 2;
+arena 16;reap;arena 256 | fault S8 line 3;
+# a job has a context as hex, a name that is allowed and defined, and as many bytes as are declared
+program a 1 0 95;run a! 0 | fault S5 line 2;
+program a 1 0 95;run b! - | fault S6 line 2;
+program a 1 0 95;run b - | fault S7 line 2;
+run a -;program a 0 0 95 | fault S7 line 1;
+program a 1 0 95;run a - | fault S9 line 2;
+program a 1 0 95;run a 00;run a 0000 | fault S9 line 3;
+program a 1 0 95;program b 2 0 95;run b 00 | fault S9 line 3;
+program a 1 0 95;program b 2 0 95;run b 0000;run a 00 | a refused I1 0;b refused I1 0;
+# programs are the same in each command
+program a! 4097 0 zz | fault S4 line 1;
+program a 0 65 - | fault S4 line 1;
+program a 0 0 -;program a 0 0 - | fault S6 line 2;";
+
+// Tries a row.
+fn is_checked(rt: &impl Abort, alloc: Global, row: &str) {
+    let (script, expected) = column(rt, row);
+    let script = script.replace(alloc, ';', "\n").expect(rt, "out of memory");
+    let expected = expected
+        .replace(alloc, ';', "\n")
+        .expect(rt, "out of memory");
+    let mut reader = script.as_bytes();
+    let mut written = Vec::new(alloc);
+    let done = check(alloc, &mut reader, &mut written).expect(rt, "it is told");
+    let told = str::from_utf8(&written).expect(rt, "it is a text");
+    is_told(rt, row, told, expected.as_str());
+    let is_refused = told.contains(" refused ") || told.starts_with("fault ");
+    holds(rt, row, matches!(done, Done::Refused) == is_refused);
+}
+
+#[test]
+fn the_programs_of_a_script_are_judged(rt: HostRuntime) {
+    for row in SCRIPTS.lines() {
+        if !row.starts_with('#') {
+            is_checked(&rt, rt.alloc(), row);
+        }
+    }
+}
