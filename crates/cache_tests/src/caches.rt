@@ -252,6 +252,31 @@ fn a_page_of_blocks_is_found_again_in_the_depot(rt: HostRuntime) {
     eight::<Brand, Brand, HostRuntime>(&rt, rt.alloc(), Blank::new(65), Blank::new(65));
 }
 
+// One hand takes the 8 blocks of the one page and gives them back: 4 lie in its layer, and 4 in its part of the depot, where
+// another hand finds them, and no more.
+fn others<A: Ledger, B: Ledger, R: Wait + Abort>(rt: &R, alloc: Global, outs: Blank, ins: Blank)
+    requires names { (outs.name ≡ A.name) × (ins.name ≡ B.name) }
+    requires parts { (outs.parts ≡ A.parts) × (ins.parts ≡ B.parts) }
+    requires all { (A.parts ≡ 65) × (B.parts ≡ 65) }
+{
+    let arena = arena_of(rt, alloc, 1);
+    let mut cache = cache_of::<BlockKind, A, B>(rt, alloc, outs, ins);
+    let mut hands = hands_of(rt, alloc, &mut cache, 2);
+    let mut held = Vec::new(alloc);
+    take_all(rt, &cache, &arena, &mut hands[0], &mut held, 8);
+    give_all(rt, &cache, &mut hands[0], &mut held);
+    take_all(rt, &cache, &arena, &mut hands[1], &mut held, 4);
+    holds(rt, is_refused(rt, &cache, &arena, &mut hands[1]));
+    give_all(rt, &cache, &mut hands[1], &mut held);
+    held.destroy_empty();
+    holds(rt, are(cache.close(rt, hands, &arena), 12, 12, 1));
+}
+
+#[test]
+fn blocks_that_another_hand_gave_are_found_in_its_part_of_the_depot(rt: HostRuntime) {
+    others::<Brand, Brand, HostRuntime>(&rt, rt.alloc(), Blank::new(65), Blank::new(65));
+}
+
 // An object of the first cache is given to the second one.
 fn strayed<A: Ledger, B: Ledger, C: Ledger, D: Ledger, R: Wait + Abort>(
     rt: &R,

@@ -26,10 +26,6 @@ use Rattle.ebpf_core.proofs.Runs.{run_shown, none_shown, get_past, get_last, sam
 first_seen : (w : World) (s : Subject) (context : List ℕ) (k : ℕ) → w.owners ≡ [] → view_of (started s context w) k (first_run s context) ≡ run_seen (first_state_of s context)
 first_seen w s context k none = rw none refl
 
--- the view of a run of a world that grew by one
-view_started : (w : World) (s : Subject) (context : List ℕ) (k : ℕ) → view_in (started s context w) k ≡ option_map (view_of w k) (slice_get (w.runs ++ first_run s context ∷ []) k)
-view_started w s context k = refl
-
 started_views : (w : World) (kept : WorldState) (s : Subject) (context : List ℕ) → Shows w kept → (k : ℕ) → view_in (started s context w) k ≡ option_map run_seen (slice_get (kept.runs ++ first_state_of s context ∷ []) k)
 started_views w kept s context h k = by_place (same_number k (length w.runs)) where
   by_place : (k ≡ length w.runs) ⊎ (k ≢ length w.runs) → view_in (started s context w) k ≡ option_map run_seen (slice_get (kept.runs ++ first_state_of s context ∷ []) k)

@@ -1,8 +1,8 @@
--- What is known of the first test that holds and of the lowest slot that has a code.
-use Rattle.std.proofs.Common.{◌≡◌, ◌⊎◌, ℕ, zero, suc, ◌+◌, ◌<◌, ◌≤◌, Bool, true, false, List, ◌∷◌, Option, Some, None, refl, sym, ◌∙◌, add-one, arith, inl, inr}
-use Rattle.std.proofs.lemmas.Option.{none-some, same_Some, some_pair_parts}
+-- What is known of the lowest slot that has a code.
+use Rattle.std.proofs.Common.{◌≡◌, ℕ, zero, suc, ◌+◌, ◌<◌, ◌≤◌, Option, Some, None, refl, sym, ◌∙◌, add-one, arith, inl, inr}
+use Rattle.std.proofs.lemmas.Option.{none-some, some_pair_parts}
 use Rattle.std.proofs.lemmas.Bool.{cases_lt}
-use Rattle.ebpf_insn.specs.Faults.{first_of, lowest, lowest_with}
+use Rattle.ebpf_insn.specs.Faults.{lowest, lowest_with}
 
 -- One slot more.
 lowest-suc : {C : Type 0} (f : ℕ → Option C) (n : ℕ) → lowest f (suc n) ≡ lowest_with (lowest f n) n (f n)
@@ -59,10 +59,6 @@ none_below f (suc n) none k lt =
       | inr above ↦ let e : k ≡ n = omega arith in rw e last.1
     ]
 
--- none was found among fewer
-pub none_among_fewer : {C : Type 0} (f : ℕ → Option C) (m n : ℕ) → lowest f n ≡ None → m ≤ n → lowest f m ≡ None
-none_among_fewer f m n none le = lowest_none f m (λ k lt. none_below f n none k (omega arith))
-
 -- what is found is a slot's code, and no lower slot has one
 pub record IsLowest {C : Type 0} (f : ℕ → Option C) (n slot : ℕ) (c : C) : Type 0 where
   pub inside : slot < n
@@ -89,15 +85,3 @@ pub lowest_agree : {C : Type 0} (f g : ℕ → Option C) (n : ℕ) → ((k : ℕ
 lowest_agree f g zero same = lowest-zero f ∙ sym (lowest-zero g)
 lowest_agree f g (suc n) same =
     rw (lowest-suc f n, lowest-suc g n, lowest_agree f g n (λ k lt. same k (omega arith)), same n (omega arith)) refl
-
--- ---- the first test that holds
-
--- no test holds
-pub first_of_none : {C : Type 0} (test : Bool) (c : C) (tests : List (Bool × C)) → first_of ((test, c) ∷ tests) ≡ None → (test ≡ false) × (first_of tests ≡ None)
-first_of_none true c tests e = absurd (none-some c (sym e))
-first_of_none false c tests e = (refl, e)
-
--- one holds: this one, or a later one
-pub first_of_some : {C : Type 0} (test : Bool) (c d : C) (tests : List (Bool × C)) → first_of ((test, c) ∷ tests) ≡ Some d → ((test ≡ true) × (c ≡ d)) ⊎ ((test ≡ false) × (first_of tests ≡ Some d))
-first_of_some true c d tests e = inl (refl, same_Some c d e)
-first_of_some false c d tests e = inr (refl, e)

@@ -43,9 +43,6 @@ by_wide P wide alone insn.Exit = alone _ (record { other = refl; later = refl; p
 alone_bytes : (i : Insn) → IsAlone i → encoding i ≡ bytes_of_slot (first_slot i)
 alone_bytes i alone = rw alone.later (append-nil (bytes_of_slot (first_slot i)))
 
-wide_bytes : (dst : Reg) (value : ℕ) → encoding (insn.Wide dst value) ≡ bytes_of_slot (first_slot (insn.Wide dst value)) ++ bytes_of_slot (second_half (value / 2 ^ 32))
-wide_bytes dst value = refl
-
 pub length-encoding : (i : Insn) → length (encoding i) ≡ 8 * slots_in i
 length-encoding = by_wide (λ i. length (encoding i) ≡ 8 * slots_in i) (λ dst value. refl)
     (λ i alone. ap length (alone_bytes i alone) ∙ sym (ap (λ (p : List (Option Insn)). 8 * length p) alone.placed))

@@ -1,176 +1,206 @@
--- Moves and sums that are accepted compute what their rules say.
-use Rattle.std.proofs.Common.{◌≡◌, ℕ, ◌+◌, ◌<◌, ◌^◌, ◌%◌, true, false, List, Option, Some, None, Result, refl, subst, arith}
-use Rattle.std.specs.Prelude.{◌||◌, ◌&&◌, is_none, unwrap_or}
-use Rattle.std.proofs.Math.Nat.{mod-lt}
+-- Sums and differences at 64 bits that are accepted compute what their rules say: numbers, and pointers that are moved.
+use Rattle.std.proofs.Common.{◌≡◌, ℕ, ℤ, pos, ◌+ℤ◌, ◌≤ℤ◌, true, false, List, Option, Some, None, Ok, refl, sym, ap, ◌∙◌, subst, arith}
+use Rattle.std.specs.Prelude.{◌-ℤ◌, ◌||◌, ◌&&◌, is_none, unwrap_or}
+use Rattle.std.proofs.Math.Nat.{lt_of_lt_of_le}
+use Rattle.std.proofs.lemmas.Int.{ints}
 use Rattle.ebpf_insn.specs.declared.register.Reg.{Reg}
 use Rattle.ebpf_insn.specs.declared.insn.AluOp.{AluOp}
 use Rattle.ebpf_insn.specs.declared.insn.AluOp.TheVariants as op
 use Rattle.ebpf_insn.specs.declared.insn.Width.{Width}
-use Rattle.ebpf_insn.specs.declared.insn.Width.TheVariants.{W32, W64}
-use Rattle.ebpf_insn.specs.Arithmetic.{sum_at, kept_at}
+use Rattle.ebpf_insn.specs.declared.insn.Width.TheVariants.{W64}
+use Rattle.ebpf_insn.specs.Arithmetic.{signed_of, result_at}
 use Rattle.ebpf_range.specs.declared.range.Range.{Range}
-use Rattle.ebpf_range.specs.Interval.{IsWithin, sum_range}
-use Rattle.ebpf_range.proofs.SumLemmas.{low-sound, sum_of-sound, low_sum-sound}
+use Rattle.ebpf_range.specs.Interval.{IsWithin}
+use Rattle.ebpf_range.specs.Results.{result_range}
+use Rattle.ebpf_range.proofs.OperationLemmas.{result-below}
+use Rattle.ebpf_range.proofs.ResultLemmas.{IsBounded, result-sound, modulus-at_most}
 use Rattle.ebpf_state.specs.declared.value.Abs.{Abs}
 use Rattle.ebpf_state.specs.declared.value.Abs.TheVariants.{Unset, Num, Stk, Ctx, Ob, May}
 use Rattle.ebpf_state.specs.Abstract.{is_unset, is_pointer, is_may}
-use Rattle.ebpf_verify.specs.Pointers.{signed_ends, moved}
-use Rattle.ebpf_verify.specs.Pointers as known
-use Rattle.ebpf_verify.specs.Rules.{makes_stack_offset_vary, is_frame_pointer, mov64_refusal, mov32_refusal, add64_refusal, add32_refusal, alu_refusal, result_of, mov32_value, add32_value}
+use Rattle.ebpf_verify.specs.Pointers.{signed_ends, opposite_ends, moved_by, sum_value, difference_value}
+use Rattle.ebpf_verify.specs.Operations.{makes_stack_offset_vary, is_frame_pointer, add64_refusal, sub64_refusal}
 use Rattle.ebpf_machine.specs.declared.value.Value.{Value}
 use Rattle.ebpf_machine.specs.declared.value.Value.TheVariants.{Number, Pointer}
-use Rattle.ebpf_machine.specs.Values.{Trap}
-use Rattle.ebpf_machine.specs.Effect.{moved_value, sum_of, sum_value, alu_value}
+use Rattle.ebpf_machine.specs.declared.value.Base.{Base}
+use Rattle.ebpf_machine.specs.Effect.{binary, computed}
 use Rattle.ebpf_machine.specs.Concretization.{IsOf}
-use Rattle.ebpf_machine.specs.Sound.{FitsRegister}
-use Rattle.ebpf_machine.proofs.Operations.{none_first, neither, set_value, number_value, IsFitting, moved_fits}
+use Rattle.ebpf_machine.proofs.Pointers.{signed_between}
+use Rattle.ebpf_machine.proofs.Bounded.{IsBoundedValue}
+use Rattle.ebpf_machine.proofs.Operations.{none_first, neither, set_value, IsFitting, shifted, moved_fits, constant_reading}
 
--- a sum of two numbers at 64 bits
-numbers_fit : (calls : List ℕ) (a b : Range) (m n : ℕ) → IsWithin m a × (m < 2 ^ 64) → IsWithin n b × (n < 2 ^ 64) → IsFitting calls (Num (sum_range W64 a b)) (sum_of W64 (Number m) (Number n))
-numbers_fit calls a b m n h k = record {
-  v = Number (sum_at W64 m n);
+-- an operation on two numbers
+pub numbers_fit : (calls : List ℕ) (o : AluOp) (width : Width) (a b : Range) (m n : ℕ) → IsBounded a → IsBounded b → IsWithin m a → IsWithin n b → IsFitting calls (Num (result_range o width a b)) (computed width o (Number m) (Number n))
+numbers_fit calls o width a b m n bound_a bound_b h k = record {
+  v = Number (result_at o width m n);
   is = refl;
   fits = tt;
-  of = (sum_of-sound (2 ^ 64) a b m n (omega arith) h.1 k.1 h.0 k.0, mod-lt (m + n) (omega arith));
+  of = (result-sound o width a b m n bound_a.1 bound_b.1 h k, lt_of_lt_of_le (result-below o width m n) (modulus-at_most width));
 }
 
 some_of : (o : Option Abs) → is_none o ≡ false → (q : Abs) × (o ≡ Some q)
 some_of None e = absurd (cc)
 some_of (Some q) e = (q, refl)
 
--- what is known of a sum that is accepted, and the sum
-abbrev IsSummed : List ℕ → Abs → Abs → Option (Value ℕ) → Option (Value ℕ) → Type 0
-IsSummed calls left right x y = IsFitting calls (unwrap_or (known.sum_value left right) Unset) (sum_value W64 x y)
-
--- a value that is known to be a number
-a_number : (calls : List ℕ) (r : Range) (v : Value ℕ) → IsOf calls (Num r) (Some v) → (n : ℕ) × (v ≡ Number n) × IsWithin n r × (n < 2 ^ 64)
-a_number calls r (Number n) h = (n, refl, h.0, h.1)
+-- a value that is known to be a number, or a pointer
+a_number : (calls : List ℕ) (r : Range) (v : Value ℕ) → IsOf calls (Num r) (Some v) → (n : ℕ) × (v ≡ Number n) × IsWithin n r
+a_number calls r (Number n) h = (n, refl, h.0)
 a_number calls r (Pointer base k) h = absurd h
 
--- a pointer and a number, in either order
-either_order : (calls : List ℕ) (p : Abs) (v : Value ℕ) (n : ℕ) → is_pointer p ≡ true → IsOf calls p (Some v) → sum_of W64 (Number n) v ≡ sum_of W64 v (Number n)
-either_order calls p (Pointer base k) n e h = refl
-either_order calls (Num a) (Number m) n e h = absurd (cc)
-either_order calls (May c) (Number m) n e h = absurd (cc)
-either_order calls Unset (Number m) n e h = absurd (cc)
-either_order calls (Stk k) (Number m) n e h = absurd h
-either_order calls (Ctx a b) (Number m) n e h = absurd h
-either_order calls (Ob c a b) (Number m) n e h = absurd h
+a_pointer : (calls : List ℕ) (p : Abs) (v : Value ℕ) → is_pointer p ≡ true → IsOf calls p (Some v) → (base : Base ℕ) × (k : ℤ) × (v ≡ Pointer base k)
+a_pointer calls p (Pointer base k) e h = (base, k, refl)
+a_pointer calls (Num a) (Number m) e h = absurd (cc)
+a_pointer calls (May c) (Number m) e h = absurd (cc)
+a_pointer calls Unset (Number m) e h = absurd (cc)
+a_pointer calls (Stk k) (Number m) e h = absurd h
+a_pointer calls (Ctx a b) (Number m) e h = absurd h
+a_pointer calls (Ob c a b) (Number m) e h = absurd h
 
-known_with_number : (p : Abs) (b : Range) → is_pointer p ≡ true → (known.sum_value p (Num b) ≡ moved p b) × (known.sum_value (Num b) p ≡ moved p b)
+-- ---- a pointer that is moved by a number
+
+no_ends : (p q : Abs) → moved_by p None ≡ Some q → ⊥
+no_ends Unset q e = cc
+no_ends (Num a) q e = cc
+no_ends (Stk k) q e = cc
+no_ends (Ctx a b) q e = cc
+no_ends (Ob c a b) q e = cc
+no_ends (May c) q e = cc
+
+-- where the signed number lies between the ends, and for the stack is the lower one
+pub record IsBetween (p : Abs) (z : ℤ) (ends : ℤ × ℤ) : Type 0 where
+  pub low : ends.0 ≤ℤ z
+  pub high : z ≤ℤ ends.1
+  pub exact : (k : ℤ) → p ≡ Stk k → z ≡ ends.0
+
+moved_by_number : (calls : List ℕ) (p : Abs) (v : Value ℕ) (z : ℤ) (ends : Option (ℤ × ℤ)) → is_pointer p ≡ true → IsOf calls p (Some v) → is_none (moved_by p ends) ≡ false → ((e : ℤ × ℤ) → ends ≡ Some e → IsBetween p z e) → IsFitting calls (unwrap_or (moved_by p ends) Unset) (shifted v z)
+moved_by_number calls p v z None is_p h there between = let some = some_of (moved_by p None) there in absurd (no_ends p some.0 some.1)
+moved_by_number calls p v z (Some e) is_p h there between =
+    let some = some_of (moved_by p (Some e)) there in
+    let at = between e refl in
+    rw some.1 (moved_fits calls p some.0 v z e is_p h at.low at.high at.exact some.1)
+
+by_sum : (p : Abs) (b : Range) (n : ℕ) → makes_stack_offset_vary p (Num b) ≡ false → IsWithin n b → (e : ℤ × ℤ) → signed_ends b ≡ Some e → IsBetween p (signed_of n) e
+by_sum p b n clear w e is =
+    let reading = signed_between b n e w is in
+    record { low = reading.0; high = reading.1; exact = λ k same. (constant_reading b n e (subst (λ (q : Abs). makes_stack_offset_vary q (Num b) ≡ false) same clear) w is).0 }
+
+-- the ends of a range of negations
+opposite_of : (o : Option (ℤ × ℤ)) (e : ℤ × ℤ) → opposite_ends o ≡ Some e → (f : ℤ × ℤ) × (o ≡ Some f) × (e.0 ≡ pos 0 -ℤ f.1) × (e.1 ≡ pos 0 -ℤ f.0)
+opposite_of None e h = absurd (cc)
+opposite_of (Some f) e h = (f, refl, sym (ap (λ (o : Option (ℤ × ℤ)). (unwrap_or o e).0) h), sym (ap (λ (o : Option (ℤ × ℤ)). (unwrap_or o e).1) h))
+
+negated_between : (low z high : ℤ) → low ≤ℤ z → z ≤ℤ high → ((pos 0 -ℤ high) ≤ℤ (pos 0 -ℤ z)) × ((pos 0 -ℤ z) ≤ℤ (pos 0 -ℤ low))
+negated_between low z high l h = (omega (arith, ints, l, h), omega (arith, ints, l, h))
+
+by_difference : (p : Abs) (b : Range) (n : ℕ) → makes_stack_offset_vary p (Num b) ≡ false → IsWithin n b → (e : ℤ × ℤ) → opposite_ends (signed_ends b) ≡ Some e → IsBetween p (pos 0 -ℤ signed_of n) e
+by_difference p b n clear w e is =
+    let from = opposite_of (signed_ends b) e is in
+    let reading = signed_between b n from.0 w from.1 in
+    let between = negated_between from.0.0 (signed_of n) from.0.1 reading.0 reading.1 in
+    record {
+      low = subst (λ (z : ℤ). z ≤ℤ (pos 0 -ℤ signed_of n)) (sym from.2) between.0;
+      high = subst (λ (z : ℤ). (pos 0 -ℤ signed_of n) ≤ℤ z) (sym from.3) between.1;
+      exact = λ k same. ap (λ (z : ℤ). pos 0 -ℤ z) (constant_reading b n from.0 (subst (λ (q : Abs). makes_stack_offset_vary q (Num b) ≡ false) same clear) w from.1).1 ∙ sym from.2;
+    }
+
+-- the difference is a sum with the negation
+minus : (k s : ℤ) → k -ℤ s ≡ k +ℤ (pos 0 -ℤ s)
+minus k s = omega (arith, ints)
+
+-- what moves a pointer is its signed reading, added or taken
+shifts : (base : Base ℕ) (k : ℤ) (n : ℕ) → (computed W64 op.Add (Pointer base k) (Number n) ≡ shifted (Pointer base k) (signed_of n)) × (computed W64 op.Add (Number n) (Pointer base k) ≡ shifted (Pointer base k) (signed_of n)) × (computed W64 op.Sub (Pointer base k) (Number n) ≡ shifted (Pointer base k) (pos 0 -ℤ signed_of n))
+shifts base k n = (refl, refl, ap (λ (z : ℤ). Ok (Pointer base z)) (minus k (signed_of n)))
+
+-- ---- sums
+
+-- what is known of a sum that is accepted, and the sum
+abbrev IsSummed : List ℕ → Abs → Abs → Option (Value ℕ) → Option (Value ℕ) → Type 0
+IsSummed calls left right x y = IsFitting calls (unwrap_or (sum_value left right) Unset) (binary W64 op.Add x y)
+
+known_with_number : (p : Abs) (b : Range) → is_pointer p ≡ true → (sum_value p (Num b) ≡ moved_by p (signed_ends b)) × (sum_value (Num b) p ≡ moved_by p (signed_ends b)) × (difference_value p (Num b) ≡ moved_by p (opposite_ends (signed_ends b)))
 known_with_number Unset b e = absurd (cc)
 known_with_number (Num a) b e = absurd (cc)
 known_with_number (May c) b e = absurd (cc)
-known_with_number (Stk k) b e = (refl, refl)
-known_with_number (Ctx a c) b e = (refl, refl)
-known_with_number (Ob c a d) b e = (refl, refl)
+known_with_number (Stk k) b e = (refl, refl, refl)
+known_with_number (Ctx a c) b e = (refl, refl, refl)
+known_with_number (Ob c a d) b e = (refl, refl, refl)
 
-moved_by_number : (calls : List ℕ) (p : Abs) (b : Range) (v : Value ℕ) (n : ℕ) (total : Option Abs) (sum : Result (Value ℕ) Trap) → is_pointer p ≡ true → makes_stack_offset_vary p (Num b) ≡ false → total ≡ moved p b → is_none total ≡ false → IsOf calls p (Some v) → IsWithin n b → sum ≡ sum_of W64 v (Number n) → IsFitting calls (unwrap_or total Unset) sum
-moved_by_number calls p b v n total sum is_p clear e there h k f =
-    let some = some_of (moved p b) (subst (λ (o : Option Abs). is_none o ≡ false) e there) in
-    rw (e, some.1, f) (moved_fits calls p some.0 b v n is_p h k clear (signed_ends b) refl some.1)
-
-on_left : (calls : List ℕ) (p : Abs) (b : Range) (v w : Value ℕ) → is_pointer p ≡ true → makes_stack_offset_vary p (Num b) ≡ false → is_none (known.sum_value p (Num b)) ≡ false → IsOf calls p (Some v) → IsOf calls (Num b) (Some w) → IsSummed calls p (Num b) (Some v) (Some w)
+on_left : (calls : List ℕ) (p : Abs) (b : Range) (v w : Value ℕ) → is_pointer p ≡ true → makes_stack_offset_vary p (Num b) ≡ false → is_none (sum_value p (Num b)) ≡ false → IsOf calls p (Some v) → IsOf calls (Num b) (Some w) → IsSummed calls p (Num b) (Some v) (Some w)
 on_left calls p b v w is_p clear there h k =
     let n = a_number calls b w k in
-    rw n.1 (moved_by_number calls p b v n.0 (known.sum_value p (Num b)) (sum_of W64 v (Number n.0)) is_p clear (known_with_number p b is_p).0 there h n.2 refl)
+    let at = a_pointer calls p v is_p h in
+    let known = (known_with_number p b is_p).0 in
+    let sum = ap (λ (u : Value ℕ). computed W64 op.Add u (Number n.0)) at.2 ∙ ((shifts at.0 at.1 n.0).0 ∙ ap (λ (u : Value ℕ). shifted u (signed_of n.0)) (sym at.2)) in
+    rw (n.1, known, sum) (moved_by_number calls p v (signed_of n.0) (signed_ends b) is_p h (subst (λ (o : Option Abs). is_none o ≡ false) known there) (by_sum p b n.0 clear n.2))
 
-on_right : (calls : List ℕ) (p : Abs) (b : Range) (v w : Value ℕ) → is_pointer p ≡ true → makes_stack_offset_vary p (Num b) ≡ false → is_none (known.sum_value (Num b) p) ≡ false → IsOf calls p (Some v) → IsOf calls (Num b) (Some w) → IsSummed calls (Num b) p (Some w) (Some v)
+on_right : (calls : List ℕ) (p : Abs) (b : Range) (v w : Value ℕ) → is_pointer p ≡ true → makes_stack_offset_vary p (Num b) ≡ false → is_none (sum_value (Num b) p) ≡ false → IsOf calls p (Some v) → IsOf calls (Num b) (Some w) → IsSummed calls (Num b) p (Some w) (Some v)
 on_right calls p b v w is_p clear there h k =
     let n = a_number calls b w k in
-    rw n.1 (moved_by_number calls p b v n.0 (known.sum_value (Num b) p) (sum_of W64 (Number n.0) v) is_p clear (known_with_number p b is_p).1 there h n.2 (either_order calls p v n.0 is_p h))
+    let at = a_pointer calls p v is_p h in
+    let known = (known_with_number p b is_p).1 in
+    let sum = ap (λ (u : Value ℕ). computed W64 op.Add (Number n.0) u) at.2 ∙ ((shifts at.0 at.1 n.0).1 ∙ ap (λ (u : Value ℕ). shifted u (signed_of n.0)) (sym at.2)) in
+    rw (n.1, known, sum) (moved_by_number calls p v (signed_of n.0) (signed_ends b) is_p h (subst (λ (o : Option Abs). is_none o ≡ false) known there) (by_sum p b n.0 clear n.2))
 
-both_numbers : (calls : List ℕ) (a b : Range) (v w : Value ℕ) → IsOf calls (Num a) (Some v) → IsOf calls (Num b) (Some w) → IsSummed calls (Num a) (Num b) (Some v) (Some w)
-both_numbers calls a b v w h k =
+both_numbers : (calls : List ℕ) (o : AluOp) (a b : Range) (v w : Value ℕ) → IsBounded a → IsBounded b → IsOf calls (Num a) (Some v) → IsOf calls (Num b) (Some w) → IsFitting calls (Num (result_range o W64 a b)) (computed W64 o v w)
+both_numbers calls o a b v w bound_a bound_b h k =
     let m = a_number calls a v h in
     let n = a_number calls b w k in
-    rw (m.1, n.1) (numbers_fit calls a b m.0 n.0 (m.2, m.3) (n.2, n.3))
+    rw (m.1, n.1) (numbers_fit calls o W64 a b m.0 n.0 bound_a bound_b m.2 n.2)
 
 -- the cases of what is known of the two values
-summed : (calls : List ℕ) (left right : Abs) (v w : Value ℕ) → (is_unset left || is_unset right) ≡ false → (is_may left || is_may right) ≡ false → (is_pointer left && is_pointer right) ≡ false → (makes_stack_offset_vary left right || makes_stack_offset_vary right left) ≡ false → is_none (known.sum_value left right) ≡ false → IsOf calls left (Some v) → IsOf calls right (Some w) → IsSummed calls left right (Some v) (Some w)
-summed calls (Num a) (Num b) v w u m p c t h k = both_numbers calls a b v w h k
-summed calls (Num a) (Stk j) v w u m p c t h k = on_right calls (Stk j) a w v refl (neither false (makes_stack_offset_vary (Stk j) (Num a)) c).1 t k h
-summed calls (Num a) (Ctx j l) v w u m p c t h k = on_right calls (Ctx j l) a w v refl refl t k h
-summed calls (Num a) (Ob r j l) v w u m p c t h k = on_right calls (Ob r j l) a w v refl refl t k h
-summed calls (Stk j) (Num b) v w u m p c t h k = on_left calls (Stk j) b v w refl (neither (makes_stack_offset_vary (Stk j) (Num b)) false c).0 t h k
-summed calls (Ctx j l) (Num b) v w u m p c t h k = on_left calls (Ctx j l) b v w refl refl t h k
-summed calls (Ob r j l) (Num b) v w u m p c t h k = on_left calls (Ob r j l) b v w refl refl t h k
-summed calls _ _ v w u m p c t h k = absurd (cc)
+summed : (calls : List ℕ) (left right : Abs) (v w : Value ℕ) → IsBoundedValue left → IsBoundedValue right → (is_unset left || is_unset right) ≡ false → (is_may left || is_may right) ≡ false → (is_pointer left && is_pointer right) ≡ false → (makes_stack_offset_vary left right || makes_stack_offset_vary right left) ≡ false → is_none (sum_value left right) ≡ false → IsOf calls left (Some v) → IsOf calls right (Some w) → IsSummed calls left right (Some v) (Some w)
+summed calls (Num a) (Num b) v w x y u m p c t h k = both_numbers calls op.Add a b v w x y h k
+summed calls (Num a) (Stk j) v w x y u m p c t h k = on_right calls (Stk j) a w v refl (neither false (makes_stack_offset_vary (Stk j) (Num a)) c).1 t k h
+summed calls (Num a) (Ctx j l) v w x y u m p c t h k = on_right calls (Ctx j l) a w v refl refl t k h
+summed calls (Num a) (Ob r j l) v w x y u m p c t h k = on_right calls (Ob r j l) a w v refl refl t k h
+summed calls (Stk j) (Num b) v w x y u m p c t h k = on_left calls (Stk j) b v w refl (neither (makes_stack_offset_vary (Stk j) (Num b)) false c).0 t h k
+summed calls (Ctx j l) (Num b) v w x y u m p c t h k = on_left calls (Ctx j l) b v w refl refl t h k
+summed calls (Ob r j l) (Num b) v w x y u m p c t h k = on_left calls (Ob r j l) b v w refl refl t h k
+summed calls _ _ v w x y u m p c t h k = absurd (cc)
 
 -- a sum at 64 bits that is not refused
-pub sum_sound : (calls : List ℕ) (left right : Abs) (x y : Option (Value ℕ)) (dst : Reg) → add64_refusal left right dst ≡ None → IsOf calls left x → IsOf calls right y → (is_frame_pointer dst ≡ false) × IsSummed calls left right x y
-sum_sound calls left right x y dst fine h k =
+pub sum_sound : (calls : List ℕ) (left right : Abs) (x y : Option (Value ℕ)) (dst : Reg) → add64_refusal left right dst ≡ None → IsBoundedValue left → IsBoundedValue right → IsOf calls left x → IsOf calls right y → (is_frame_pointer dst ≡ false) × IsSummed calls left right x y
+sum_sound calls left right x y dst fine bound_left bound_right h k =
     let a = none_first (is_unset left || is_unset right) _ _ fine in
     let b = none_first (is_frame_pointer dst) _ _ a.1 in
     let m = none_first (is_may left || is_may right) _ _ b.1 in
     let p = none_first (is_pointer left && is_pointer right) _ _ m.1 in
     let c = none_first (makes_stack_offset_vary left right || makes_stack_offset_vary right left) _ _ p.1 in
-    let t = none_first (is_none (known.sum_value left right)) _ _ c.1 in
+    let t = none_first (is_none (sum_value left right)) _ _ c.1 in
     let set = neither (is_unset left) (is_unset right) a.0 in
     let v = set_value calls left x set.0 h in
     let w = set_value calls right y set.1 k in
-    (b.0, at_values calls left right x y v.0 w.0 v.1 w.1 (summed calls left right v.0 w.0 a.0 m.0 p.0 c.0 t.0 v.2 w.2))
-  where
-    at_values : (calls : List ℕ) (left right : Abs) (x y : Option (Value ℕ)) (v w : Value ℕ) → x ≡ Some v → y ≡ Some w → IsSummed calls left right (Some v) (Some w) → IsSummed calls left right x y
-    at_values calls left right x y v w e f h = rw (e, f) h
+    (b.0, rw (v.1, w.1) (summed calls left right v.0 w.0 bound_left bound_right a.0 m.0 p.0 c.0 t.0 v.2 w.2))
 
-low_fits : (n : ℕ) → n % 2 ^ 32 < 2 ^ 64
-low_fits n = omega arith
+-- ---- differences
 
-low_numbers : (calls : List ℕ) (left right : Abs) (x y : Option (Value ℕ)) (m n : ℕ) (a b : Range) → x ≡ Some (Number m) → left ≡ Num a → y ≡ Some (Number n) → right ≡ Num b → IsWithin m a → IsWithin n b → IsFitting calls (add32_value left right) (sum_value W32 x y)
-low_numbers calls left right x y m n a b e f g i h k = rw (e, f, g, i) (record {
-  v = Number (sum_at W32 m n);
-  is = refl;
-  fits = tt;
-  of = (low_sum-sound a b m n h k, low_fits (m + n));
-})
+abbrev IsDifference : List ℕ → Abs → Abs → Option (Value ℕ) → Option (Value ℕ) → Type 0
+IsDifference calls left right x y = IsFitting calls (unwrap_or (difference_value left right) Unset) (binary W64 op.Sub x y)
 
-low_number : (calls : List ℕ) (right : Abs) (y : Option (Value ℕ)) (n : ℕ) (b : Range) → y ≡ Some (Number n) → right ≡ Num b → IsWithin n b → IsFitting calls (mov32_value right) (moved_value W32 y)
-low_number calls right y n b e f h = rw (e, f) (record { v = Number (kept_at W32 n); is = refl; fits = tt; of = (low-sound b n h, low_fits n) })
+moved_back : (calls : List ℕ) (p : Abs) (b : Range) (v w : Value ℕ) → is_pointer p ≡ true → makes_stack_offset_vary p (Num b) ≡ false → is_none (difference_value p (Num b)) ≡ false → IsOf calls p (Some v) → IsOf calls (Num b) (Some w) → IsDifference calls p (Num b) (Some v) (Some w)
+moved_back calls p b v w is_p clear there h k =
+    let n = a_number calls b w k in
+    let at = a_pointer calls p v is_p h in
+    let known = (known_with_number p b is_p).2 in
+    let difference = ap (λ (u : Value ℕ). computed W64 op.Sub u (Number n.0)) at.2 ∙ ((shifts at.0 at.1 n.0).2 ∙ ap (λ (u : Value ℕ). shifted u (pos 0 -ℤ signed_of n.0)) (sym at.2)) in
+    rw (n.1, known, difference) (moved_by_number calls p v (pos 0 -ℤ signed_of n.0) (opposite_ends (signed_ends b)) is_p h (subst (λ (o : Option Abs). is_none o ≡ false) known there) (by_difference p b n.0 clear n.2))
 
--- a sum at 32 bits
-pub low_sum_sound : (calls : List ℕ) (left right : Abs) (x y : Option (Value ℕ)) (dst : Reg) → add32_refusal left right dst ≡ None → IsOf calls left x → IsOf calls right y → (is_frame_pointer dst ≡ false) × IsFitting calls (add32_value left right) (sum_value W32 x y)
-low_sum_sound calls left right x y dst fine h k =
+taken_from : (calls : List ℕ) (left right : Abs) (v w : Value ℕ) → IsBoundedValue left → IsBoundedValue right → (is_unset left || is_unset right) ≡ false → (is_may left || is_may right) ≡ false → is_pointer right ≡ false → makes_stack_offset_vary left right ≡ false → is_none (difference_value left right) ≡ false → IsOf calls left (Some v) → IsOf calls right (Some w) → IsDifference calls left right (Some v) (Some w)
+taken_from calls (Num a) (Num b) v w x y u m p c t h k = both_numbers calls op.Sub a b v w x y h k
+taken_from calls (Stk j) (Num b) v w x y u m p c t h k = moved_back calls (Stk j) b v w refl c t h k
+taken_from calls (Ctx j l) (Num b) v w x y u m p c t h k = moved_back calls (Ctx j l) b v w refl refl t h k
+taken_from calls (Ob r j l) (Num b) v w x y u m p c t h k = moved_back calls (Ob r j l) b v w refl refl t h k
+taken_from calls _ _ v w x y u m p c t h k = absurd (cc)
+
+-- a difference at 64 bits that is not refused
+pub difference_sound : (calls : List ℕ) (left right : Abs) (x y : Option (Value ℕ)) (dst : Reg) → sub64_refusal left right dst ≡ None → IsBoundedValue left → IsBoundedValue right → IsOf calls left x → IsOf calls right y → (is_frame_pointer dst ≡ false) × IsDifference calls left right x y
+difference_sound calls left right x y dst fine bound_left bound_right h k =
     let a = none_first (is_unset left || is_unset right) _ _ fine in
     let b = none_first (is_frame_pointer dst) _ _ a.1 in
     let m = none_first (is_may left || is_may right) _ _ b.1 in
-    let p = none_first (is_pointer left || is_pointer right) _ _ m.1 in
-    let set = neither (is_unset left) (is_unset right) a.0 in
-    let may = neither (is_may left) (is_may right) m.0 in
-    let pointers = neither (is_pointer left) (is_pointer right) p.0 in
-    let v = number_value calls left x set.0 may.0 pointers.0 h in
-    let w = number_value calls right y set.1 may.1 pointers.1 k in
-    (b.0, low_numbers calls left right x y v.0 w.0 v.1 w.1 v.2 v.3 w.2 w.3 v.4 w.4)
-
--- a move at 64 bits
-pub copy_sound : (calls : List ℕ) (right : Abs) (y : Option (Value ℕ)) (dst : Reg) → mov64_refusal right dst ≡ None → IsOf calls right y → FitsRegister y → (is_frame_pointer dst ≡ false) × IsFitting calls right (moved_value W64 y)
-copy_sound calls right y dst fine k fits =
-    let a = none_first (is_unset right) _ _ fine in
-    let b = none_first (is_frame_pointer dst) _ _ a.1 in
-    let w = set_value calls right y a.0 k in
-    (b.0, copied calls right y w.0 w.1 w.2 fits)
-  where
-    copied : (calls : List ℕ) (right : Abs) (y : Option (Value ℕ)) (v : Value ℕ) → y ≡ Some v → IsOf calls right (Some v) → FitsRegister y → IsFitting calls right (moved_value W64 y)
-    copied calls right y v e h fits = rw e (record { v = v; is = refl; fits = subst FitsRegister e fits; of = h })
-
--- a move at 32 bits
-pub low_move_sound : (calls : List ℕ) (right : Abs) (y : Option (Value ℕ)) (dst : Reg) → mov32_refusal right dst ≡ None → IsOf calls right y → (is_frame_pointer dst ≡ false) × IsFitting calls (mov32_value right) (moved_value W32 y)
-low_move_sound calls right y dst fine k =
-    let a = none_first (is_unset right) _ _ fine in
-    let b = none_first (is_frame_pointer dst) _ _ a.1 in
-    let m = none_first (is_may right) _ _ b.1 in
     let p = none_first (is_pointer right) _ _ m.1 in
-    let w = number_value calls right y a.0 m.0 p.0 k in
-    (b.0, low_number calls right y w.0 w.1 w.2 w.3 w.4)
-
--- an operation that is not refused: it has a result that fits, and what is known of it speaks of it
-pub record IsComputed (calls : List ℕ) (width : Width) (o : AluOp) (left right : Abs) (x y : Option (Value ℕ)) (dst : Reg) : Type 0 where
-  pub low : is_frame_pointer dst ≡ false
-  pub result : IsFitting calls (result_of width o left right) (alu_value width o x y)
-
-pub alu_sound : (calls : List ℕ) (width : Width) (o : AluOp) (left right : Abs) (x y : Option (Value ℕ)) (dst : Reg) → alu_refusal width o left right dst ≡ None → IsOf calls left x → IsOf calls right y → FitsRegister y → IsComputed calls width o left right x y dst
-alu_sound calls W64 op.Mov left right x y dst fine h k fits = let it = copy_sound calls right y dst fine k fits in record { low = it.0; result = it.1 }
-alu_sound calls W32 op.Mov left right x y dst fine h k fits = let it = low_move_sound calls right y dst fine k in record { low = it.0; result = it.1 }
-alu_sound calls W64 op.Add left right x y dst fine h k fits = let it = sum_sound calls left right x y dst fine h k in record { low = it.0; result = it.1 }
-alu_sound calls W32 op.Add left right x y dst fine h k fits = let it = low_sum_sound calls left right x y dst fine h k in record { low = it.0; result = it.1 }
-alu_sound calls width _ left right x y dst fine h k fits = absurd (cc)
+    let c = none_first (makes_stack_offset_vary left right) _ _ p.1 in
+    let t = none_first (is_none (difference_value left right)) _ _ c.1 in
+    let set = neither (is_unset left) (is_unset right) a.0 in
+    let v = set_value calls left x set.0 h in
+    let w = set_value calls right y set.1 k in
+    (b.0, rw (v.1, w.1) (taken_from calls left right v.0 w.0 bound_left bound_right a.0 m.0 p.0 c.0 t.0 v.2 w.2))

@@ -22,6 +22,7 @@ use Rattle.ebpf_machine.specs.declared.value.Value.{Value}
 use Rattle.ebpf_machine.specs.declared.value.Value.TheVariants.{Number, Pointer}
 use Rattle.ebpf_machine.specs.declared.value.Base.TheVariants.{Stack, Context, Object}
 use Rattle.ebpf_machine.specs.View.{ObjectView}
+use Rattle.ebpf_machine.proofs.Bounded.{IsFull, joined_registers_bounded}
 use Rattle.ebpf_machine.specs.Concretization.{IsOf, AreOf, AreReferred, Arrives, calls_of}
 
 -- a value that either side keeps where a test says that both are alike
@@ -97,23 +98,23 @@ same_referred a b objects same h o there =
     let other = same_at a b at it.0 same it.1.1 in
     (get_or a at it.0, Contains-get_or a at it.0 other.0, other.1 ∙ (ap (λ (x : Held). x.call) here ∙ it.2), other.2 ∙ (ap (λ (x : Held). x.kind) here ∙ it.3))
 
--- a state has all registers
+-- what is known has all registers, with numbers of 64 bits
 abbrev pub IsWhole : EntryState → Type 0
-IsWhole (Known s) = length s.registers ≡ 11
+IsWhole (Known s) = IsFull s
 IsWhole _ = Unit {0}
 
 abbrev joined_registers : StateView → StateView → StateView
 joined_registers s t = record { registers = joined_list joined_value s.registers t.registers; words = joined_list joined_word s.words t.words; held = s.held }
 
-left_side : (s t : StateView) (regs : List (Option (Value ℕ))) (objects : List ObjectView) → length s.registers ≡ 11 → length t.registers ≡ 11 → AreOf s regs objects → AreOf (joined_registers s t) regs objects
+left_side : (s t : StateView) (regs : List (Option (Value ℕ))) (objects : List ObjectView) → IsFull s → IsFull t → AreOf s regs objects → AreOf (joined_registers s t) regs objects
 left_side s t regs objects v w h = record {
-  each = λ k lt. subst (λ (a : Abs). IsOf (calls_of objects) a (get_or regs k None)) (sym (joined_list-index joined_value Unset s.registers t.registers k (v ∙ sym w) (omega arith))) (IsOf-joined_left (calls_of objects) (get_or s.registers k Unset) (get_or t.registers k Unset) (get_or regs k None) (h.each k lt));
+  each = λ k lt. subst (λ (a : Abs). IsOf (calls_of objects) a (get_or regs k None)) (sym (joined_list-index joined_value Unset s.registers t.registers k (v.whole ∙ sym w.whole) (omega (arith, v.whole)))) (IsOf-joined_left (calls_of objects) (get_or s.registers k Unset) (get_or t.registers k Unset) (get_or regs k None) (h.each k lt));
   held = h.held;
 }
 
-right_side : (s t : StateView) (regs : List (Option (Value ℕ))) (objects : List ObjectView) → length s.registers ≡ 11 → length t.registers ≡ 11 → is_same_held s.held t.held ≡ true → AreOf t regs objects → AreOf (joined_registers s t) regs objects
+right_side : (s t : StateView) (regs : List (Option (Value ℕ))) (objects : List ObjectView) → IsFull s → IsFull t → is_same_held s.held t.held ≡ true → AreOf t regs objects → AreOf (joined_registers s t) regs objects
 right_side s t regs objects v w same h = record {
-  each = λ k lt. subst (λ (a : Abs). IsOf (calls_of objects) a (get_or regs k None)) (sym (joined_list-index joined_value Unset s.registers t.registers k (v ∙ sym w) (omega arith))) (IsOf-joined_right (calls_of objects) (get_or s.registers k Unset) (get_or t.registers k Unset) (get_or regs k None) (h.each k lt));
+  each = λ k lt. subst (λ (a : Abs). IsOf (calls_of objects) a (get_or regs k None)) (sym (joined_list-index joined_value Unset s.registers t.registers k (v.whole ∙ sym w.whole) (omega (arith, v.whole)))) (IsOf-joined_right (calls_of objects) (get_or s.registers k Unset) (get_or t.registers k Unset) (get_or regs k None) (h.each k lt));
   held = same_referred s.held t.held objects same h.held;
 }
 
@@ -124,23 +125,23 @@ by_test : (same : Bool) (s t : StateView) (regs : List (Option (Value ℕ))) (ob
 by_test true s t regs objects h = h refl
 by_test false s t regs objects h = tt
 
-whole_by_test : (same : Bool) (s t : StateView) → length s.registers ≡ 11 → length t.registers ≡ 11 → IsWhole (joined_by same s t)
-whole_by_test true s t v w = joined_list-length joined_value s.registers t.registers (v ∙ sym w) ∙ v
+whole_by_test : (same : Bool) (s t : StateView) → IsFull s → IsFull t → IsWhole (joined_by same s t)
+whole_by_test true s t v w = record { whole = joined_list-length joined_value s.registers t.registers (v.whole ∙ sym w.whole) ∙ v.whole; bounded = joined_registers_bounded s.registers t.registers v.bounded w.bounded }
 whole_by_test false s t v w = tt
 
-pub IsWhole-with_state : (a : EntryState) (t : StateView) → IsWhole a → length t.registers ≡ 11 → IsWhole (with_state a t)
+pub IsWhole-with_state : (a : EntryState) (t : StateView) → IsWhole a → IsFull t → IsWhole (with_state a t)
 IsWhole-with_state Unreached t v w = w
 IsWhole-with_state (Known s) t v w = whole_by_test (is_same_held s.held t.held) s t v w
 IsWhole-with_state Conflict t v w = tt
 
 -- what came before one more state still comes
-pub Arrives-with_state_old : (a : EntryState) (t : StateView) (regs : List (Option (Value ℕ))) (objects : List ObjectView) → IsWhole a → length t.registers ≡ 11 → Arrives a regs objects → Arrives (with_state a t) regs objects
+pub Arrives-with_state_old : (a : EntryState) (t : StateView) (regs : List (Option (Value ℕ))) (objects : List ObjectView) → IsWhole a → IsFull t → Arrives a regs objects → Arrives (with_state a t) regs objects
 Arrives-with_state_old Unreached t regs objects v w h = absurd h
 Arrives-with_state_old (Known s) t regs objects v w h = by_test (is_same_held s.held t.held) s t regs objects (λ same. left_side s t regs objects v w h)
 Arrives-with_state_old Conflict t regs objects v w h = tt
 
 -- and so does what one more state speaks of
-pub Arrives-with_state_new : (a : EntryState) (t : StateView) (regs : List (Option (Value ℕ))) (objects : List ObjectView) → IsWhole a → length t.registers ≡ 11 → AreOf t regs objects → Arrives (with_state a t) regs objects
+pub Arrives-with_state_new : (a : EntryState) (t : StateView) (regs : List (Option (Value ℕ))) (objects : List ObjectView) → IsWhole a → IsFull t → AreOf t regs objects → Arrives (with_state a t) regs objects
 Arrives-with_state_new Unreached t regs objects v w h = h
 Arrives-with_state_new (Known s) t regs objects v w h = by_test (is_same_held s.held t.held) s t regs objects (λ same. right_side s t regs objects v w same h)
 Arrives-with_state_new Conflict t regs objects v w h = tt

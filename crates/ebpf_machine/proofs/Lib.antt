@@ -1,10 +1,15 @@
+pub mod ListLemmas
+pub mod Bounded
 pub mod Joins
+pub mod RulesBounded
 pub mod Entries
 pub mod Pointers
 pub mod Operations
 pub mod Additions
+pub mod Results
+pub mod Leading
+pub mod Comparisons
 pub mod Soundness
-pub mod ListLemmas
 pub mod Owners
 pub mod ObjectsSeen
 pub mod Acts

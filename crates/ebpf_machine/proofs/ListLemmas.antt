@@ -44,7 +44,7 @@ get_push_cases (y ∷ xs) (suc k) x new at = get_push_cases xs k x new at
 
 -- ---- elements
 
-Contains-tail : {X : Type 0} (x y : X) (xs : List X) → Contains xs y → Contains (x ∷ xs) y
+pub Contains-tail : {X : Type 0} (x y : X) (xs : List X) → Contains xs y → Contains (x ∷ xs) y
 Contains-tail x y xs (k, lt, e) = (suc k, omega arith, e)
 
 Contains-head : {X : Type 0} (x : X) (xs : List X) → Contains (x ∷ xs) x

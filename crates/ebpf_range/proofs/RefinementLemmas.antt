@@ -259,3 +259,78 @@ pub refinement-ordered : (c : Cond) (w : Width) (a b : Range) (taken : Bool) →
 refinement-ordered c w a b taken o p =
     cond_both (not (fits w a b)) (Some (a, b)) (cond taken (after c w a b) (after_not c w a b)) AreOrdered (λ t. (o, p))
     (λ t. cond_both taken (after c w a b) (after_not c w a b) AreOrdered (λ e. after-ordered c w a b o p) (λ e. after_not-ordered c w a b o p))
+
+-- ---- the high ends
+
+abbrev pub AreBelow : ℕ → Option (Range × Range) → Type 0
+AreBelow m known = IfSome known (λ p. (p.0.hi < m) × (p.1.hi < m))
+
+without-below : (m : ℕ) (a : Range) (n : ℕ) → a.hi < m → (without n a).hi < m
+without-below m a n o =
+    cond_both (eqb a.lo n) (span (a.lo + 1) a.hi) (cond (eqb a.hi n) (span a.lo (a.hi - 1)) a) (λ (r : Range). r.hi < m)
+    (λ t. o)
+    (λ t. cond_both (eqb a.hi n) (span a.lo (a.hi - 1)) a (λ (r : Range). r.hi < m) (λ u. omega arith) (λ u. o))
+
+ne-below : (m : ℕ) (a b : Range) → a.hi < m → b.hi < m → AreBelow m (after_ne a b)
+ne-below m a b o p =
+    cond_both (is_constant a && is_constant b && (a.lo == b.lo)) None (cond (is_constant b) (Some (without b.lo a, b)) (cond (is_constant a) (Some (a, without a.lo b)) (Some (a, b)))) (AreBelow m)
+    (λ t. tt)
+    (λ t. cond_both (is_constant b) (Some (without b.lo a, b)) (cond (is_constant a) (Some (a, without a.lo b)) (Some (a, b))) (AreBelow m)
+    (λ e. (without-below m a b.lo o, p))
+    (λ e. cond_both (is_constant a) (Some (a, without a.lo b)) (Some (a, b)) (AreBelow m) (λ f. (o, without-below m b a.lo p)) (λ f. (o, p))))
+
+eq-below : (m : ℕ) (a b : Range) → a.hi < m → b.hi < m → AreBelow m (after_eq a b)
+eq-below m a b o p =
+    cond_both (nat_lt a.hi b.lo || nat_lt b.hi a.lo) None (Some (span (max a.lo b.lo) (min a.hi b.hi), span (max a.lo b.lo) (min a.hi b.hi))) (AreBelow m)
+    (λ t. tt) (λ t. (omega arith, omega arith))
+
+gt-below : (m : ℕ) (a b : Range) → a.hi < m → b.hi < m → AreBelow m (after_gt a b)
+gt-below m a b o p =
+    cond_both (nat_le a.hi b.lo) None (Some (span (max a.lo (b.lo + 1)) a.hi, span b.lo (min b.hi (a.hi - 1)))) (AreBelow m)
+    (λ t. tt) (λ t. (o, omega arith))
+
+ge-below : (m : ℕ) (a b : Range) → a.hi < m → b.hi < m → AreBelow m (after_ge a b)
+ge-below m a b o p =
+    cond_both (nat_lt a.hi b.lo) None (Some (span (max a.lo b.lo) a.hi, span b.lo (min b.hi a.hi))) (AreBelow m)
+    (λ t. tt) (λ t. (o, omega arith))
+
+exchange-below : (m : ℕ) (known : Option (Range × Range)) → AreBelow m known → AreBelow m (exchange known)
+exchange-below m None h = h
+exchange-below m (Some p) h = (h.1, h.0)
+
+unless-below : (m : ℕ) (holds : Bool) (a b : Range) → a.hi < m → b.hi < m → AreBelow m (unless_false holds a b)
+unless-below m holds a b o p = cond_both (is_constant a && is_constant b && not holds) None (Some (a, b)) (AreBelow m) (λ t. tt) (λ t. (o, p))
+
+signed-below : (m : ℕ) (w : Width) (a b : Range) (unsigned : Option (Range × Range)) (holds : Bool) → a.hi < m → b.hi < m → AreBelow m unsigned → AreBelow m (cond (have_no_sign w a b) unsigned (unless_false holds a b))
+signed-below m w a b unsigned holds o p h = cond_both (have_no_sign w a b) unsigned (unless_false holds a b) (AreBelow m) (λ t. h) (λ t. unless-below m holds a b o p)
+
+after-below : (m : ℕ) (c : Cond) (w : Width) (a b : Range) → a.hi < m → b.hi < m → AreBelow m (after c w a b)
+after-below m on.Eq w a b o p = eq-below m a b o p
+after-below m on.Ne w a b o p = ne-below m a b o p
+after-below m on.Gt w a b o p = gt-below m a b o p
+after-below m on.Ge w a b o p = ge-below m a b o p
+after-below m on.Lt w a b o p = exchange-below m (after_gt b a) (gt-below m b a p o)
+after-below m on.Le w a b o p = exchange-below m (after_ge b a) (ge-below m b a p o)
+after-below m on.Set w a b o p = unless-below m (is_met on.Set w a.lo b.lo) a b o p
+after-below m on.SGt w a b o p = signed-below m w a b (after_gt a b) (is_met on.SGt w a.lo b.lo) o p (gt-below m a b o p)
+after-below m on.SGe w a b o p = signed-below m w a b (after_ge a b) (is_met on.SGe w a.lo b.lo) o p (ge-below m a b o p)
+after-below m on.SLt w a b o p = signed-below m w a b (exchange (after_gt b a)) (is_met on.SLt w a.lo b.lo) o p (exchange-below m (after_gt b a) (gt-below m b a p o))
+after-below m on.SLe w a b o p = signed-below m w a b (exchange (after_ge b a)) (is_met on.SLe w a.lo b.lo) o p (exchange-below m (after_ge b a) (ge-below m b a p o))
+
+after_not-below : (m : ℕ) (c : Cond) (w : Width) (a b : Range) → a.hi < m → b.hi < m → AreBelow m (after_not c w a b)
+after_not-below m on.Eq w a b o p = after-below m on.Ne w a b o p
+after_not-below m on.Ne w a b o p = after-below m on.Eq w a b o p
+after_not-below m on.Gt w a b o p = after-below m on.Le w a b o p
+after_not-below m on.Ge w a b o p = after-below m on.Lt w a b o p
+after_not-below m on.Lt w a b o p = after-below m on.Ge w a b o p
+after_not-below m on.Le w a b o p = after-below m on.Gt w a b o p
+after_not-below m on.Set w a b o p = unless-below m (not (is_met on.Set w a.lo b.lo)) a b o p
+after_not-below m on.SGt w a b o p = after-below m on.SLe w a b o p
+after_not-below m on.SGe w a b o p = after-below m on.SLt w a b o p
+after_not-below m on.SLt w a b o p = after-below m on.SGe w a b o p
+after_not-below m on.SLe w a b o p = after-below m on.SGt w a b o p
+
+pub refinement-below : (m : ℕ) (c : Cond) (w : Width) (a b : Range) (taken : Bool) → a.hi < m → b.hi < m → AreBelow m (refinement c w a b taken)
+refinement-below m c w a b taken o p =
+    cond_both (not (fits w a b)) (Some (a, b)) (cond taken (after c w a b) (after_not c w a b)) (AreBelow m) (λ t. (o, p))
+    (λ t. cond_both taken (after c w a b) (after_not c w a b) (AreBelow m) (λ e. after-below m c w a b o p) (λ e. after_not-below m c w a b o p))

@@ -10,12 +10,12 @@ use Rattle.ebpf_insn.specs.declared.insn.Width.{Width}
 use Rattle.ebpf_insn.specs.declared.insn.Width.TheVariants.{W32, W64}
 use Rattle.ebpf_insn.specs.declared.insn.AluOp.{AluOp}
 use Rattle.ebpf_insn.specs.declared.insn.AluOp.TheVariants as op
-use Rattle.ebpf_insn.specs.Arithmetic.{modulus, kept_at, factor_at, operation, result_at, extension, extended_bits, extension_at, swapped_bits, reversal_of, swap, swap_of}
+use Rattle.ebpf_insn.specs.Arithmetic.{modulus, kept_at, factor_at, operation, result_at, extension, extended_bits, extension_at, swapped_bits, reversal_of, swap, swap_of, negation_at}
 use Rattle.ebpf_insn.specs.declared.insn.Order.{Order}
 use Rattle.ebpf_insn.specs.declared.insn.Order.TheVariants.{Little, Big, Flip}
 use Rattle.ebpf_range.specs.declared.range.Range.{Range}
 use Rattle.ebpf_range.specs.Interval.{IsWithin, constant, all_below, low, sum_of}
-use Rattle.ebpf_range.specs.Results.{span, up, is_constant, difference_of, product_of, quotient_of, remainder_of, left_shift_of, right_shift_of, signed_shift_of, row, low_at, row_or_constant, result_range, extension_range, swap_range}
+use Rattle.ebpf_range.specs.Results.{span, up, is_constant, difference_of, product_of, quotient_of, remainder_of, left_shift_of, right_shift_of, signed_shift_of, row, low_at, row_or_constant, result_range, extension_range, swap_range, negation_range}
 use Rattle.ebpf_range.proofs.SumLemmas.{low-sound}
 use Rattle.ebpf_range.proofs.OperationLemmas.{some_numbers, result-below}
 use Rattle.ebpf_range.proofs.RowLemmas.{within_all, small, up-least, row-sound}
@@ -154,7 +154,7 @@ in_order-below Little bits n low reversed = low
 in_order-below Big bits n low reversed = reversed
 in_order-below Flip bits n low reversed = reversed
 
-swap-below : (order : Order) (bits n : ℕ) → swap_of order bits n < 2 ^ swapped_bits bits
+pub swap-below : (order : Order) (bits n : ℕ) → swap_of order bits n < 2 ^ swapped_bits bits
 swap-below order bits n =
     cond_both (eqb bits 16) 16 (cond (eqb bits 32) 32 64) (λ (k : ℕ). swap order k (n % 2 ^ k) < 2 ^ k)
     (λ e. in_order-below order 16 (n % 2 ^ 16) (mod-lt n (pow_pos 16)) (reversal-below (n % 2 ^ 16)).0)
@@ -169,3 +169,62 @@ pub swap_range-below : (order : Order) (bits : ℕ) (a : Range) → (swap_range 
 swap_range-below order bits a =
     cond_both (is_constant a) (constant (swap_of order bits a.lo)) (all_below (2 ^ swapped_bits bits)) (λ (r : Range). r.hi < 2 ^ swapped_bits bits)
     (λ e. swap-below order bits a.lo) (λ e. all-below (2 ^ swapped_bits bits) (pow_pos (swapped_bits bits)))
+
+-- ---- results of numbers of 64 bits
+
+pub modulus-at_most : (w : Width) → modulus w ≤ 2 ^ 64
+modulus-at_most W32 = omega arith
+modulus-at_most W64 = omega arith
+
+-- what is known of a number has its ends in order, and below 2^64
+abbrev pub IsBounded : Range → Type 0
+IsBounded a = (a.lo ≤ a.hi) × (a.hi < 2 ^ 64)
+
+-- a range of results that holds one number, and whose high end is below a modulus
+bounded_by : (w : Width) (a : Range) (n : ℕ) → IsWithin n a → a.hi < modulus w → IsBounded a
+bounded_by w a n h below = let most = modulus-at_most w in (omega (arith, h.0, h.1), omega (arith, below, most))
+
+low_at-ordered : (w : Width) (a : Range) → IsBounded a → (low_at w a).lo ≤ (low_at w a).hi
+low_at-ordered w a h = let in_it = low_at-sound w a a.lo h.1 (omega arith, h.0) in omega (arith, in_it.0, in_it.1)
+
+pub result-bounded : (o : AluOp) (w : Width) (a b : Range) → IsBounded a → IsBounded b → IsBounded (result_range o w a b)
+result-bounded o w a b h k =
+    bounded_by w (result_range o w a b) (result_at o w a.lo b.lo) (result-sound o w a b a.lo b.lo h.1 k.1 (omega arith, h.0) (omega arith, k.0))
+    (row_or_constant-below o w (low_at w a) (low_at w b) (low_at-ordered w b k) (low_at-below w a h.1) (low_at-below w b k.1))
+
+pub low-bounded : (a : Range) → IsBounded a → IsBounded (low a)
+low-bounded a h = bounded_by W32 (low a) (kept_at W32 a.lo) (low_at-sound W32 a a.lo h.1 (omega arith, h.0)) (low_at-below W32 a h.1)
+
+one-below : (f : ℕ → ℕ) (m : ℕ) (a : Range) → ((n : ℕ) → f n < m) → 0 < m → (cond (is_constant a) (constant (f a.lo)) (all_below m)).hi < m
+one-below f m a below some = cond_both (is_constant a) (constant (f a.lo)) (all_below m) (λ (r : Range). r.hi < m) (λ e. below a.lo) (λ e. all-below m some)
+
+pub extension-bounded : (w : Width) (bits : ℕ) (a : Range) → IsBounded a → IsBounded (extension_range w bits a)
+extension-bounded w bits a h =
+    bounded_by w (extension_range w bits a) (extension_at w bits a.lo) (extension-sound w bits a a.lo h.1 (omega arith, h.0))
+    (one-below (extension_at w bits) (modulus w) (low_at w a) (extension-below w bits) (some_numbers w))
+
+kept-kept : (w : Width) (n : ℕ) → kept_at w (kept_at w n) ≡ kept_at w n
+kept-kept W32 n = omega arith
+kept-kept W64 n = omega arith
+
+pub negation-sound : (w : Width) (a : Range) (n : ℕ) → a.hi < 2 ^ 64 → IsWithin n a → IsWithin (negation_at w n) (negation_range w a)
+negation-sound w a n p h =
+    subst (λ (k : ℕ). IsWithin (operation op.Sub w (kept_at w 0) k) (negation_range w a)) (kept-kept w n)
+    (one-sound (negation_at w) (modulus w) (low_at w a) (kept_at w n) (result-below op.Sub w 0 (kept_at w n)) (low_at-sound w a n p h))
+
+pub negation-bounded : (w : Width) (a : Range) → IsBounded a → IsBounded (negation_range w a)
+negation-bounded w a h =
+    bounded_by w (negation_range w a) (negation_at w a.lo) (negation-sound w a a.lo h.1 (omega arith, h.0))
+    (one-below (negation_at w) (modulus w) (low_at w a) (result-below op.Sub w 0) (some_numbers w))
+
+pub swapped_bits-few : (bits : ℕ) → 2 ^ swapped_bits bits ≤ 2 ^ 64
+swapped_bits-few bits =
+    cond_both (eqb bits 16) 16 (cond (eqb bits 32) 32 64) (λ (k : ℕ). 2 ^ k ≤ 2 ^ 64) (λ e. omega arith)
+    (λ e. cond_both (eqb bits 32) 32 64 (λ (k : ℕ). 2 ^ k ≤ 2 ^ 64) (λ f. omega arith) (λ f. omega arith))
+
+pub swap-bounded : (order : Order) (bits : ℕ) (a : Range) → IsBounded a → IsBounded (swap_range order bits a)
+swap-bounded order bits a h =
+    let in_it = swap-sound order bits a a.lo (omega arith, h.0) in
+    let below = swap_range-below order bits a in
+    let few = swapped_bits-few bits in
+    (omega (arith, in_it.0, in_it.1), omega (arith, below, few))

@@ -3,7 +3,7 @@ use Rattle.std.specs.Prelude.{◌≡◌, ◌≤◌, ℕ, List, length, All, Opti
 use Rattle.ebpf_insn.specs.declared.insn.Insn.{Insn}
 use Rattle.ebpf_insn.specs.Program.{insn_at}
 use Rattle.ebpf_insn.specs.Encoding.{IsWellFormed}
-use Rattle.ebpf_flow.specs.Flow.{AreForward, or_else}
+use Rattle.ebpf_flow.specs.Flow.{AreForward, flow_fault, or_else}
 use Rattle.ebpf_insn.specs.Faults.{lowest}
 use Rattle.ebpf_state.specs.declared.kinds.KindRow.{KindRow}
 use Rattle.ebpf_verify.specs.declared.entry.EntryState.{EntryState}
@@ -55,9 +55,10 @@ pub record AreRows (rows : List KindRow) : Type 0 where
   pub few : length rows ≤ 8
   pub sizes : All (λ row. (1 ≤ row.size) × (row.size ≤ 4096)) rows
 
--- what is known of a program that was accepted: its flow is forward, no slot refuses, and there are few kinds
+-- what is known of a program that was accepted: its flow has no fault and is forward, no slot refuses, and there are few kinds
 pub record IsAccepted (s : Subject) : Type 0 where
   pub formed : IsWellFormed s.program
+  pub flow : flow_fault s.program ≡ None
   pub forward : AreForward s.program
   pub accepted : verdict s ≡ None
   pub rows : AreRows s.rows

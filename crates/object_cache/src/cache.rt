@@ -7,11 +7,13 @@
 //! *The reason.* No clause names what a lock holds between two calls, so each of these functions says what it does to the
 //! hand alone: to its rounds, and to its shares of the books. That is enough: what a share counts, a book counts too.
 
-ghost use Rattle.std.specs.Prelude.{◌≡◌, ◌+◌, ◌<◌, ◌≤◌, [], length, false, vec_len, sum_by, IsTrue, IfOk, OnOk, OnErr};
+ghost use Rattle.std.specs.Prelude.{◌≡◌, ◌+◌, ◌<◌, ◌≤◌, [], length, vec_len, sum_by, IfOk, OnOk, OnErr};
 ghost use Rattle.magazine.specs.LayerView.{rounds_of, IsEmpty, IsFull};
+ghost use Rattle.object_cache.specs.CacheView.{AreHomes};
 ghost use Rattle.object_cache.specs.HandView.{fresh};
 
 use crate::arena_lock::ArenaLock;
+use crate::asking::{refill_anywhere, relieve_anywhere};
 use crate::count::MOST;
 use crate::fault::TakeFault;
 use crate::hand::Hand;
@@ -101,9 +103,12 @@ impl<K: Kind, A: Ledger, B: Ledger> Cache<K, A, B> {
         })
     }
 
-    // How many parts of the depot are the homes of hands: those from the first one on. The others never had a magazine.
-    fn homes(&self) -> usize {
-        self.parts.len().min(self.hands as usize)
+    // The parts of the depot that are the homes of hands: those from the first one on. The others never had a magazine.
+    pub(crate) fn homes(&self) -> &[Mutex<Part<K, A, B>>]
+        ensures { AreHomes self.now.hands (length result.now) }
+    {
+        let count = self.parts.len().min(self.hands as usize);
+        &self.parts[..count]
     }
 
     // The part of the depot that a hand goes to first.
@@ -132,13 +137,14 @@ impl<K: Kind, A: Ledger, B: Ledger> Cache<K, A, B> {
         ensures even { OnOk result (outs.new.amount ≡ outs.old.amount + length (rounds_of layer.new)) }
         ensures fault { OnErr result ((layer.new ≡ layer.old) × (outs.new.amount ≡ outs.old.amount)) }
     {
-        if self.home(number).lock(rt).refill(layer, outs) {
+        if self.home(number).lock(rt).refill(layer, outs).is_ok() {
             return Ok(());
         }
         self.supply_inside(rt, arena, number, layer, outs)
     }
 
-    // The same where the hand's home has no full magazine. No other hand gets at the slabs until this one has its object.
+    // The same where the hand's home has no full magazine. No other hand gets at the slabs until this one has its object. Where
+    // another part has one, an empty one comes home from there.
     #[inline(never)]
     fn supply_inside<R: Wait>(
         &self,
@@ -157,40 +163,18 @@ impl<K: Kind, A: Ledger, B: Ledger> Cache<K, A, B> {
     {
         let object = {
             let mut inner = self.inner.lock(rt);
-            if self.refill_anywhere(rt, number, layer, outs) {
-                return Ok(());
+            match refill_anywhere(rt, self, layer, outs) {
+                Ok(other) => {
+                    self.bring_home(rt, other, number);
+                    return Ok(());
+                }
+                Err(refusals) => inner.supply(rt, arena, outs, refusals)?,
             }
-            inner.supply(rt, arena, outs)?
         };
         match layer.try_give(object.construct()) {
             Ok(()) => Ok(()),
             Err(_) => unreachable!(),
         }
-    }
-
-    // Gives a full magazine of any part to a layer that has no round, and brings an empty one from there to the hand's home.
-    fn refill_anywhere<R: Wait>(
-        &self,
-        rt: &R,
-        number: usize,
-        layer: &mut Layer<K>,
-        outs: &mut Share<A>,
-    ) -> bool
-        requires empty { IsEmpty layer.old }
-        requires part { 0 < outs.old.parts }
-        ensures parts { outs.new.parts ≡ outs.old.parts }
-        ensures loaded { IsTrue result → (length layer.new.loaded ≡ K.ROUNDS) × (layer.new.previous ≡ []) }
-        ensures amount { IsTrue result → outs.new.amount ≡ outs.old.amount + K.ROUNDS }
-        ensures unchanged { result ≡ false → (layer.new ≡ layer.old) × (outs.new.amount ≡ outs.old.amount) }
-    {
-        for other in 0..self.homes() {
-            let refilled = self.home(other).lock(rt).refill(layer, outs);
-            if refilled {
-                self.bring_home(rt, other, number);
-                return true;
-            }
-        }
-        false
     }
 
     // Moves an empty magazine from a part to another hand's home.
@@ -235,30 +219,12 @@ impl<K: Kind, A: Ledger, B: Ledger> Cache<K, A, B> {
         ensures even { outs.new.amount + length (rounds_of layer.old) ≡ outs.old.amount + length (rounds_of layer.new) }
     {
         let home = self.home(number);
-        let relieved = home.lock(rt).relieve(layer, outs);
-        if relieved || self.relieve_anywhere(rt, layer, outs) {
+        if home.lock(rt).relieve(layer, outs).is_ok() {
             return;
         }
-        home.lock(rt).make_room(layer, outs);
-    }
-
-    // Gives an empty magazine of any part to a layer that has no room.
-    fn relieve_anywhere<R: Wait>(&self, rt: &R, layer: &mut Layer<K>, outs: &mut Share<A>) -> bool
-        requires full { IsFull K.ROUNDS layer.old }
-        requires part { 0 < outs.old.parts }
-        requires amount { K.ROUNDS ≤ outs.old.amount }
-        ensures parts { outs.new.parts ≡ outs.old.parts }
-        ensures made { IsTrue result → layer.new ≡ record { loaded = []; previous = layer.old.loaded } }
-        ensures amount { IsTrue result → outs.new.amount + K.ROUNDS ≡ outs.old.amount }
-        ensures even { outs.new.amount + length (rounds_of layer.old) ≡ outs.old.amount + length (rounds_of layer.new) }
-        ensures unchanged { result ≡ false → (layer.new ≡ layer.old) × (outs.new.amount ≡ outs.old.amount) }
-    {
-        for number in 0..self.homes() {
-            if self.home(number).lock(rt).relieve(layer, outs) {
-                return true;
-            }
+        if let Err(refusals) = relieve_anywhere(rt, self, layer, outs) {
+            home.lock(rt).make_room(layer, outs, refusals);
         }
-        false
     }
 
     // Sends the rounds of a hand's layer home.
@@ -275,8 +241,8 @@ impl<K: Kind, A: Ledger, B: Ledger> Cache<K, A, B> {
     /// goes back to the arena. The answer is the number of pages that went back.
     pub fn reap_pass<R: Wait>(&self, rt: &R, arena: &ArenaLock) -> u32 {
         let mut inner = self.inner.lock(rt);
-        for number in 0..self.homes() {
-            self.home(number).lock(rt).drain(rt, &mut *inner);
+        for part in self.homes() {
+            part.lock(rt).drain(rt, &mut *inner);
         }
         inner.give_pages(rt, arena)
     }

@@ -20,6 +20,7 @@ ghost use Rattle.object_cache.specs.Growth.{GrowsBy, KeepsOut};
 ghost use Rattle.object_cache.specs.Homing.{TakesOut, SendsHome};
 
 use crate::arena_lock::ArenaLock;
+use crate::asking::Refusals;
 use crate::fault::TakeFault;
 use crate::homing::{give_pages, go_home, unload};
 use magazine::{Layer, Magazine};
@@ -102,13 +103,14 @@ impl<K: Kind, A: Ledger, B: Ledger> Inner<K, A, B> {
         }
     }
 
-    /// Takes an object off the slabs. These grow by a page where none is home; no other hand gets in between, since the
-    /// arena's lock is taken inside the cache's.
+    /// Takes an object off the slabs, where no part of the depot had a full magazine. These grow by a page where none is
+    /// home; no other hand gets in between, since the arena's lock is taken inside the cache's.
     pub fn supply<R: Wait>(
         &mut self,
         rt: &R,
         arena: &ArenaLock,
         share: &mut Share<A>,
+        _refusals: Refusals,
     ) -> Result<Obj<K, Home>, TakeFault>
         requires { 0 < share.old.parts }
         ensures parts { share.new.parts ≡ share.old.parts }

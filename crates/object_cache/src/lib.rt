@@ -22,10 +22,11 @@
 //!
 //! Hands and caches must be spent by `close`, and can't be dropped.
 //!
-//! To read the files: homing, inner, part, cache, hand.
+//! To read the files: homing, inner, part, asking, cache, hand.
 #![tactic(auto)]
 
 mod arena_lock;
+mod asking;
 mod cache;
 mod count;
 mod fault;

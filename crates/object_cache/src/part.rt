@@ -12,17 +12,25 @@
 //! *The reason.* A magazine that goes from a hand to a part, or back, stays among those that left the inside of the cache.
 //! So its rounds move from share to share, and neither the books nor the lock that they lie under are asked. A hand that
 //! only gives has nothing to move. So 2^56 stands in both shares from the start: it changes no sum, and no hand gives more.
+//!
+//! What a part held when it was asked can't be named once its lock is free. So a part that has nothing to give answers with
+//! a refusal, which nothing else makes.
 
-ghost use Rattle.std.specs.Prelude.{◌≡◌, ◌+◌, ◌^◌, ◌<◌, ◌≤◌, ◌↔◌, [], ◌++◌, length, false, vec_len, IsTrue, IfSome, IfNone, OnOk, IsPermutation};
+ghost use Rattle.std.specs.Prelude.{◌≡◌, ◌+◌, ◌^◌, ◌<◌, ◌≤◌, ◌↔◌, [], ◌++◌, length, false, vec_len, IsTrue, IsOk, IfSome, IfNone, OnOk, OnErr, IsPermutation};
 ghost use Rattle.magazine.specs.LayerView.{rounds_of, IsEmpty, IsFull};
 ghost use Rattle.object_cache.specs.Homing.{SendsHome};
 
+use crate::asking::Refusals;
 use crate::inner::Inner;
 use magazine::{Depot, Layer, Magazine};
 use slab_layer::Kind;
 use std::alloc::{AllocError, Global};
 use std::sync::ledger::{Ledger, Share};
 use std::sync::{Mutex, Wait};
+
+/// That a part had nothing to give when it was asked.
+#[derive(Drop)]
+pub struct Refusal(());
 
 /// Full magazines and empty ones, with a share of each book.
 pub struct Part<K: Kind, A: Ledger, B: Ledger> {
@@ -54,46 +62,46 @@ impl<K: Kind, A: Ledger, B: Ledger> Part<K, A, B> {
     }
 
     /// Gives a full magazine to a layer that has no round.
-    pub fn refill(&mut self, layer: &mut Layer<K>, share: &mut Share<A>) -> bool
+    pub fn refill(&mut self, layer: &mut Layer<K>, share: &mut Share<A>) -> Result<(), Refusal>
         requires empty { IsEmpty layer.old }
         requires part { 0 < share.old.parts }
         ensures parts { share.new.parts ≡ share.old.parts }
-        ensures done { IsTrue result ↔ (0 < length self.old.depot.rounds) }
-        ensures loaded { IsTrue result → length layer.new.loaded ≡ K.ROUNDS }
-        ensures previous { IsTrue result → layer.new.previous ≡ [] }
-        ensures amount { IsTrue result → share.new.amount ≡ share.old.amount + K.ROUNDS }
-        ensures rounds { IsTrue result → IsPermutation self.old.depot.rounds (layer.new.loaded ++ self.new.depot.rounds) }
-        ensures empties { IsTrue result → self.new.depot.empties ≡ self.old.depot.empties + 1 }
-        ensures unchanged { result ≡ false → (layer.new ≡ layer.old) × (share.new.amount ≡ share.old.amount) × (self.new.depot ≡ self.old.depot) }
+        ensures done { IsOk result ↔ (0 < length self.old.depot.rounds) }
+        ensures loaded { OnOk result (length layer.new.loaded ≡ K.ROUNDS) }
+        ensures previous { OnOk result (layer.new.previous ≡ []) }
+        ensures amount { OnOk result (share.new.amount ≡ share.old.amount + K.ROUNDS) }
+        ensures rounds { OnOk result (IsPermutation self.old.depot.rounds (layer.new.loaded ++ self.new.depot.rounds)) }
+        ensures empties { OnOk result (self.new.depot.empties ≡ self.old.depot.empties + 1) }
+        ensures unchanged { OnErr result ((layer.new ≡ layer.old) × (share.new.amount ≡ share.old.amount) × (self.new.depot ≡ self.old.depot)) }
     {
         let Part { depot, outs, .. } = self;
         if !layer.refill(depot) {
-            return false;
+            return Err(Refusal(()));
         }
         outs.transfer(share, K::ROUNDS as u64);
-        true
+        Ok(())
     }
 
     /// Gives an empty magazine to a layer that has no room.
-    pub fn relieve(&mut self, layer: &mut Layer<K>, share: &mut Share<A>) -> bool
+    pub fn relieve(&mut self, layer: &mut Layer<K>, share: &mut Share<A>) -> Result<(), Refusal>
         requires full { IsFull K.ROUNDS layer.old }
         requires part { 0 < share.old.parts }
         requires amount { K.ROUNDS ≤ share.old.amount }
         ensures parts { share.new.parts ≡ share.old.parts }
-        ensures done { IsTrue result ↔ (0 < self.old.depot.empties) }
-        ensures made { IsTrue result → layer.new ≡ record { loaded = []; previous = layer.old.loaded } }
-        ensures amount { IsTrue result → share.new.amount + K.ROUNDS ≡ share.old.amount }
+        ensures done { IsOk result ↔ (0 < self.old.depot.empties) }
+        ensures made { OnOk result (layer.new ≡ record { loaded = []; previous = layer.old.loaded }) }
+        ensures amount { OnOk result (share.new.amount + K.ROUNDS ≡ share.old.amount) }
         ensures even { share.new.amount + length (rounds_of layer.old) ≡ share.old.amount + length (rounds_of layer.new) }
-        ensures rounds { IsTrue result → IsPermutation (layer.old.previous ++ self.old.depot.rounds) self.new.depot.rounds }
-        ensures empties { IsTrue result → self.new.depot.empties + 1 ≡ self.old.depot.empties }
-        ensures unchanged { result ≡ false → (layer.new ≡ layer.old) × (share.new.amount ≡ share.old.amount) × (self.new.depot ≡ self.old.depot) }
+        ensures rounds { OnOk result (IsPermutation (layer.old.previous ++ self.old.depot.rounds) self.new.depot.rounds) }
+        ensures empties { OnOk result (self.new.depot.empties + 1 ≡ self.old.depot.empties) }
+        ensures unchanged { OnErr result ((layer.new ≡ layer.old) × (share.new.amount ≡ share.old.amount) × (self.new.depot ≡ self.old.depot)) }
     {
         let Part { depot, outs, .. } = self;
         if !layer.relieve(depot) {
-            return false;
+            return Err(Refusal(()));
         }
         share.transfer(outs, K::ROUNDS as u64);
-        true
+        Ok(())
     }
 
     // Makes an empty magazine. False only for want of memory.
@@ -133,9 +141,14 @@ impl<K: Kind, A: Ledger, B: Ledger> Part<K, A, B> {
         }
     }
 
-    /// Makes room in a layer that has none: by an empty magazine that is here, or by a new one. False only for want of
-    /// memory.
-    pub fn make_room(&mut self, layer: &mut Layer<K>, share: &mut Share<A>) -> bool
+    /// Makes room in a layer that has none, where no part had an empty magazine: by one that came here since, or by a new
+    /// one. False only for want of memory.
+    pub fn make_room(
+        &mut self,
+        layer: &mut Layer<K>,
+        share: &mut Share<A>,
+        _refusals: Refusals,
+    ) -> bool
         requires full { IsFull K.ROUNDS layer.old }
         requires part { 0 < share.old.parts }
         requires amount { K.ROUNDS ≤ share.old.amount }
@@ -147,10 +160,10 @@ impl<K: Kind, A: Ledger, B: Ledger> Part<K, A, B> {
         ensures rounds { IsTrue result → IsPermutation (layer.old.previous ++ self.old.depot.rounds) self.new.depot.rounds }
         ensures unchanged { result ≡ false → (layer.new ≡ layer.old) × (share.new.amount ≡ share.old.amount) × (self.new.depot ≡ self.old.depot) }
     {
-        if self.relieve(layer, share) {
+        if self.relieve(layer, share).is_ok() {
             return true;
         }
-        self.add_empty() && self.relieve(layer, share)
+        self.add_empty() && self.relieve(layer, share).is_ok()
     }
 
     /// Sends the rounds of all full magazines home, and ends these.

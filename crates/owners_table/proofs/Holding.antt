@@ -3,7 +3,7 @@ use Rattle.std.proofs.Common.{◌≡◌, ℕ, Bool, true, List, ◌∷◌, ap, a
 use Rattle.std.specs.Prelude.{if◌then◌else◌, ◌==◌}
 use Rattle.std.proofs.lemmas.Bool.Decides.{nat_tests}
 use Rattle.std.proofs.lemmas.List.Sums.{sum_by-cons}
-use Rattle.owners_table.specs.Owning.{Holds, without, word_at}
+use Rattle.owners_table.specs.Owning.{Holds, without}
 
 same : (slot : ℕ) → (slot == slot) ≡ true
 same slot = grind (arith, nat_tests)
@@ -19,6 +19,3 @@ holds_first slot word es =
 
 pub without_first : (slot word : ℕ) (es : List (ℕ × ℕ)) → without slot ((slot, word) ∷ es) ≡ es
 without_first slot word es = ap (λ (b : Bool). if b then es else (slot, word) ∷ without slot es) (same slot)
-
-pub word_at_first : (slot word : ℕ) (es : List (ℕ × ℕ)) → word_at slot ((slot, word) ∷ es) ≡ word
-word_at_first slot word es = ap (λ (b : Bool). if b then word else word_at slot es) (same slot)

@@ -1,6 +1,6 @@
 -- Lists of entries, and the words of slots, by what they weigh.
 use Rattle.std.proofs.Common.{◌≡◌, ◌≢◌, ℕ, zero, suc, ◌+◌, ◌<◌, ◌≤◌, Bool, true, false, List, [], ◌∷◌, length, get_or, set, sym, refl, ap, ◌∙◌, arith}
-use Rattle.std.specs.Prelude.{if◌then◌else◌, cond, ◌==◌, sum_by, count_by, flat_map}
+use Rattle.std.specs.Prelude.{if◌then◌else◌, cond, ◌==◌, sum_by, flat_map}
 use Rattle.std.proofs.lemmas.Bool.Decides.{nat_tests}
 use Rattle.std.proofs.lemmas.List.Sums.{sum_by-cons, sum_by-append}
 use mathlib.Core.Logic.{dite}
@@ -36,10 +36,6 @@ test-true a b e = grind (arith, nat_tests)
 
 test-false : (a b : ℕ) → (a == b) ≡ false → a ≢ b
 test-false a b e = grind (arith, nat_tests)
-
--- how many entries the slot has
-pub count-weighs : (slot : ℕ) (es : List (ℕ × ℕ)) → count_by (λ e. e.0 == slot) es ≡ weigh (only slot once) es
-count-weighs slot es = refl
 
 pub word-none : (h : ℕ → ℕ → ℕ) (k w : ℕ) → w < 4096 → weigh_word h k w ≡ 0
 word-none h k w l = grind (arith, nat_tests)

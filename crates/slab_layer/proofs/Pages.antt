@@ -15,6 +15,7 @@ use Rattle.slab_layer.specs.PartialStack.{IsPartialStack}
 use Rattle.slab_layer.specs.declared.kind.Kind.{Ghosts}
 use Rattle.slab_layer.specs.declared.slab.Slab.{Slab}
 use Rattle.slab_layer.specs.SlabTable.{places_of, page_of, pages_in, IsSlabTable, IsBusy}
+use Rattle.slab_layer.proofs.Selecting.{times-cons}
 use Rattle.slab_layer.proofs.Changes.{places_read, partial_after, stack-more, stack-less, number_is, outs_in-home, outs_in-homes, has_home-homes, added, removed}
 
 first_place : (pages : Pages) (p : ℕ) → place_of pages (p * 256) ≡ slice_get (get_or pages p []) 0
@@ -100,12 +101,12 @@ pub selected_times : {A : Type 0} (test : A → Bool) (xs : List A) (from i n : 
 selected_times test [] from i n d is within pass = absurd (omega arith)
 selected_times test (x ∷ xs) from zero n d is within pass = rw pass (counted (omega arith))
   where
-    counted : from ≡ n → 0 < (if from == n then 1 else 0) + times n (selected test (suc from) xs)
-    counted e = grind (arith, nat_tests)
+    counted : from ≡ n → 0 < times n (from ∷ selected test (suc from) xs)
+    counted e = let more = times-cons n from (selected test (suc from) xs) in grind (arith, nat_tests)
 selected_times test (x ∷ xs) from (suc i) n d is within pass = later (test x) (selected_times test xs (suc from) i n d (omega arith) (omega arith) pass)
   where
     later : (b : Bool) → 0 < times n (selected test (suc from) xs) → 0 < times n (cond b (from ∷ selected test (suc from) xs) (selected test (suc from) xs))
-    later true h = omega arith
+    later true h = omega (arith, times-cons n from (selected test (suc from) xs))
     later false h = h
 
 idle_home : (ps : List Place) → 0 < length ps → outs_in ps ≡ 0 → has_home ps ≡ true

@@ -2,6 +2,7 @@
 use Rattle.std.proofs.Common.{◌≡◌, ◌≢◌, ℕ, zero, suc, ◌+◌, ◌<◌, ◌≤◌, ◌==◌, if◌then◌else◌, Bool, true, false, cond, List, [], ◌∷◌, ◌++◌, length, get_or, set, refl, sym, ap, subst, ◌∙◌, arith, inl, inr}
 use Rattle.std.proofs.lemmas.Bool.{cases_eq}
 use Rattle.std.proofs.lemmas.Bool.Decides.{nat_tests}
+use Rattle.std.proofs.lemmas.List.Sums.{sum_by-cons, sum_by_push, sum_by-remove}
 use Rattle.std.specs.List.{remove}
 use Rattle.slab_layer.specs.Stacks.{times, selected}
 
@@ -12,17 +13,17 @@ hit b n x = cond b (if n == x then 1 else 0) 0
 abbrev pub one : Bool → ℕ
 one b = cond b 1 0
 
+-- one number more, at the front
+pub times-cons : (x n : ℕ) (ns : List ℕ) → times x (n ∷ ns) ≡ (if n == x then 1 else 0) + times x ns
+times-cons x n ns = sum_by-cons (λ y. if y == x then 1 else 0) n ns
+
 times-cond : (b : Bool) (n x : ℕ) (ns : List ℕ) → times x (cond b (n ∷ ns) ns) ≡ hit b n x + times x ns
-times-cond true n x ns = refl
+times-cond true n x ns = times-cons x n ns
 times-cond false n x ns = omega arith
 
 length-cond : (b : Bool) (n : ℕ) (ns : List ℕ) → length (cond b (n ∷ ns) ns) ≡ one b + length ns
 length-cond true n ns = omega arith
 length-cond false n ns = omega arith
-
-pub times-append : (x : ℕ) (xs ys : List ℕ) → times x (xs ++ ys) ≡ times x xs + times x ys
-times-append x [] ys = omega arith
-times-append x (z ∷ zs) ys = omega (arith, times-append x zs ys)
 
 module _ {A : Type 0} (test : A → Bool) where
   -- after a change of one mark
@@ -82,16 +83,10 @@ module _ {A : Type 0} (test : A → Bool) where
 
 -- a stack of the selected numbers, with its last one taken off
 pub popped_each : (rest : List ℕ) (last x : ℕ) → times x (rest ++ last ∷ []) ≡ times x rest + (if last == x then 1 else 0)
-popped_each rest last x = omega (arith, times-append x rest (last ∷ []))
+popped_each rest last x = sum_by_push (λ y. if y == x then 1 else 0) rest last
 
 pub popped_here : (rest : List ℕ) (last : ℕ) → 0 < times last (rest ++ last ∷ [])
 popped_here rest last = let e = popped_each rest last last in grind (arith, nat_tests)
-
--- a number taken out of a list
-pub times-remove : (xs : List ℕ) (i x d : ℕ) → i < length xs → times x (remove xs i) + (if get_or xs i d == x then 1 else 0) ≡ times x xs
-times-remove [] i x d within = absurd (omega arith)
-times-remove (y ∷ ys) zero x d within = omega arith
-times-remove (y ∷ ys) (suc i) x d within = omega (arith, times-remove ys i x d (omega arith))
 
 -- a number that stands at no place isn't in the list
 pub times-absent : (xs : List ℕ) (x : ℕ) → ((k : ℕ) → k < length xs → get_or xs k 0 ≢ x) → times x xs ≡ 0
@@ -99,10 +94,11 @@ times-absent [] x none = refl
 times-absent (y ∷ ys) x none =
     let here : y ≢ x = none 0 (omega arith) in
     let rest = times-absent ys x (λ k within. none (suc k) (omega arith)) in
+    let more = times-cons x y ys in
     grind (arith, nat_tests)
 
 -- the number that was read at a place, taken out
 pub taken_out : (xs : List ℕ) (i n m x : ℕ) → i < length xs → m ≡ get_or xs i m → m ≡ n → times x (remove xs i) + (if n == x then 1 else 0) ≡ times x xs
 taken_out xs i n m x within read same =
     let P : ℕ → Type 0 = λ k. times x (remove xs i) + (if k == x then 1 else 0) ≡ times x xs in
-    subst P (sym read ∙ same) (times-remove xs i x m within)
+    subst P (sym read ∙ same) (sum_by-remove (λ y. if y == x then 1 else 0) xs i m within)

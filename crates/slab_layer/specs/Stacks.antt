@@ -1,10 +1,9 @@
 -- A stack of the numbers at which a list has a mark, in any order.
-use Rattle.std.specs.Prelude.{◌≡◌, ℕ, suc, ◌+◌, ◌==◌, Bool, cond, if◌then◌else◌, List, [], ◌∷◌, length}
+use Rattle.std.specs.Prelude.{◌≡◌, ℕ, suc, ◌==◌, Bool, cond, if◌then◌else◌, List, [], ◌∷◌, length, sum_by}
 
 -- how often a number stands in a list
 abbrev pub times : ℕ → List ℕ → ℕ
-times x [] = 0
-times x (y ∷ ys) = (if y == x then 1 else 0) + times x ys
+times x xs = sum_by (λ y. if y == x then 1 else 0) xs
 
 -- the two have the same numbers, each as often
 pub record HasSame (xs ys : List ℕ) : Type 0 where
