@@ -7,7 +7,7 @@ use Rattle.ebpf_script.specs.ScriptText.{RespondsScript}
 use Rattle.ebpf_script.specs.Response.{Response, clean_response}
 use Rattle.ebpf_script.specs.Verdicts.{Verdict, verdict_lines}
 
--- nothing more
+-- nothing behind the verdicts
 abbrev pub check_response : ParsedScript → List Verdict → Response
 check_response parsed verdicts = clean_response (verdict_lines verdicts)
 

@@ -31,10 +31,11 @@ kind_of word = number_to 255 word
 abbrev pub slot_of : List ℕ → Option ℕ
 slot_of word = number_to 65535 word
 
--- the pages of an arena, at least one
+-- 0 is none
 abbrev pub unless_zero : Option ℕ → Option ℕ
 unless_zero None = None
 unless_zero (Some n) = if n == 0 then None else Some n
 
+-- the pages of an arena
 abbrev pub pages_of : List ℕ → Option ℕ
 pages_of word = unless_zero (number_to 256 word)
