@@ -150,3 +150,19 @@ fn a_state_is_copied_changed_and_joined(rt: HostRuntime) {
     let what_one_knows = state.reg(Reg::R2).is_unset();
     holds(&rt, "a join in place", is_joined && what_one_knows);
 }
+
+#[test]
+fn an_answer_turns_out_to_be_null_or_an_object(rt: HostRuntime) {
+    let mut state = State::start(rt.alloc()).expect(&rt, "out of memory");
+    state.set(Reg::R0, Abs::May(3));
+    state.set(Reg::R6, Abs::May(4));
+    let mut other = state.copy().expect(&rt, "out of memory");
+    state.settle(3, true);
+    let is_null = matches!(state.reg(Reg::R0), Abs::Num(Range { lo: 0, hi: 0 }));
+    holds(&rt, "null", is_null);
+    other.settle(3, false);
+    let is_object = matches!(other.reg(Reg::R0), Abs::Ob(3, 0, 0));
+    holds(&rt, "an object", is_object);
+    let stays = matches!(other.reg(Reg::R6), Abs::May(4));
+    holds(&rt, "another answer", stays);
+}
