@@ -51,6 +51,11 @@ joined_state a b = if is_same_held a.held b.held then Some (record {
   held = a.held;
 }) else None
 
+-- a third state joined to the join of two, where those have one
+abbrev pub then_joined : Option StateView → StateView → Option StateView
+then_joined (Some s) third = joined_state s third
+then_joined None third = None
+
 -- what a join answers
 abbrev pub Joins : Option StateView → Result StateView JoinFault → Type 0
 Joins joined (Ok s) = joined ≡ Some s

@@ -79,7 +79,8 @@ impl From<AllocError> for JoinFault {
 
 impl State {
     ghost use Rattle.ebpf_state.specs.References.{settled};
-    ghost use Rattle.ebpf_state.specs.States.{first_state, joined_state, register_of, with_register, Joins, JoinsInto};
+    ghost use Rattle.ebpf_state.specs.StateView.{StateView};
+    ghost use Rattle.ebpf_state.specs.States.{first_state, joined_state, then_joined, register_of, with_register, Joins, JoinsInto};
 
     /// The state before slot 0: `r1` points to the context, `r10` is the frame pointer, and nothing else is set or held.
     ///
@@ -158,8 +159,11 @@ impl State {
     ///
     /// # Errors
     /// `HeldDiffer` where the two don't hold the same references; `NoMemory` where an allocation failed.
+    #[tactic(auto, using(crate::proofs::JoinOrder::state_commutes, crate::proofs::JoinOrder::state_exchanges))]
     pub fn join(&self, other: &State) -> Result<State, JoinFault>
-        ensures { Joins (joined_state self.now other.now) result }
+        ensures joins { Joins (joined_state self.now other.now) result }
+        ensures commutes { joined_state other.now self.now ≡ joined_state self.now other.now }
+        ensures associates { (third : StateView) → then_joined (joined_state self.now other.now) third ≡ then_joined (joined_state self.now third) other.now }
     {
         if !is_same_held(&self.facts.held, &other.facts.held) {
             return Err(JoinFault::HeldDiffer);
