@@ -1,7 +1,7 @@
 //! The arena, under a lock.
 
 ghost use Rattle.std.specs.Prelude.{◌≡◌, ◌<◌, ◌↔◌, ◌⊎◌};
-ghost use Rattle.vmem_arena.specs.declared.arena.TheConstants.{MOST_PAGES};
+ghost use Rattle.vmem_arena.specs.declared.arena.TheConstants.{MAX_PAGES};
 
 use std::alloc::Global;
 use std::sync::Mutex;
@@ -14,9 +14,9 @@ pub struct ArenaLock {
 }
 
 impl ArenaLock {
-    /// An arena of this many pages, 1 to `MOST_PAGES` of vmem_arena, all of them free.
+    /// An arena of this many pages, 1 to `MAX_PAGES` of vmem_arena, all of them free.
     pub fn new(alloc: Global, pages: u32) -> Result<ArenaLock, ArenaFault>
-        ensures pages { (result ≡ Err ArenaFault.Pages) ↔ ((pages ≡ 0) ⊎ (MOST_PAGES < pages)) }
+        ensures pages { (result ≡ Err ArenaFault.Pages) ↔ ((pages ≡ 0) ⊎ (MAX_PAGES < pages)) }
     {
         match Arena::new(alloc, pages) {
             Ok(arena) => Ok(ArenaLock {

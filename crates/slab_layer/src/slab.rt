@@ -20,7 +20,7 @@ ghost use Rattle.slab_layer.specs.Stacks.{HasSame, selected};
 ghost use Rattle.slab_layer.specs.Slots.{is_home, has_home, outs_in};
 ghost use Rattle.slab_layer.specs.declared.place.Place.TheVariants.{Home as HomePlace, Out};
 ghost use Rattle.vmem_arena.specs.Spans.{pages_of};
-ghost use Rattle.vmem_arena.specs.declared.arena.TheConstants.{MOST_PAGES};
+ghost use Rattle.vmem_arena.specs.declared.arena.TheConstants.{MAX_PAGES};
 
 use crate::kind::{Kind, objects_of_a_page};
 use crate::object::{Home, Obj};
@@ -35,7 +35,7 @@ pub struct Slab<K: Kind> {
     span: Option<Span>,
     home: Vec<Obj<K, Home>>,
     places: Vec<Place>,
-    ghost low: { page < MOST_PAGES },
+    ghost low: { page < MAX_PAGES },
     ghost whole: { length places.items ≡ (if is_some span then 4096 / K.SIZE else 0) },
     ghost own: { ForSome span (λ s. ((pages_of s).first ≡ page) × ((pages_of s).len ≡ 1)) },
     ghost room: { length places.items ≤ vec_capacity home },
@@ -45,7 +45,7 @@ pub struct Slab<K: Kind> {
 impl<K: Kind> Slab<K> {
     /// The place of a page that isn't had.
     pub fn vacant(alloc: Global, page: u32) -> Slab<K>
-        requires { page < MOST_PAGES }
+        requires { page < MAX_PAGES }
         ensures page { result.page ≡ page }
         ensures places { result.places.items ≡ [] }
     {

@@ -18,7 +18,7 @@ ghost use Rattle.slab_layer.specs.SlabTable.{page_of, pages_in, IsSlabTable, IsB
 use crate::kind::Kind;
 use crate::slab::Slab;
 use std::alloc::{AllocError, Global};
-use vmem_arena::MOST_PAGES;
+use vmem_arena::MAX_PAGES;
 
 /// Makes room for all pages in both tables, where the first has none yet.
 pub fn reserve_tables<K: Kind>(
@@ -27,13 +27,13 @@ pub fn reserve_tables<K: Kind>(
 ) -> Result<(), AllocError>
     ensures slabs { slabs.new.items ≡ slabs.old.items }
     ensures partial { partial.new.items ≡ partial.old.items }
-    ensures room { OnOk result (vec_len slabs.old ≡ 0 → MOST_PAGES ≤ vec_capacity slabs.new) }
-    ensures room_open { OnOk result (vec_len slabs.old ≡ 0 → MOST_PAGES ≤ vec_capacity partial.new) }
+    ensures room { OnOk result (vec_len slabs.old ≡ 0 → MAX_PAGES ≤ vec_capacity slabs.new) }
+    ensures room_open { OnOk result (vec_len slabs.old ≡ 0 → MAX_PAGES ≤ vec_capacity partial.new) }
     ensures capacity { vec_capacity partial.old ≤ vec_capacity partial.new }
 {
     if slabs.is_empty() {
-        slabs.reserve(MOST_PAGES as usize)?;
-        partial.reserve(MOST_PAGES as usize)?;
+        slabs.reserve(MAX_PAGES as usize)?;
+        partial.reserve(MAX_PAGES as usize)?;
     }
     Ok(())
 }
@@ -41,23 +41,23 @@ pub fn reserve_tables<K: Kind>(
 /// Fills the table with the places of pages that aren't had.
 fn add_vacant<K: Kind>(slabs: &mut Vec<Slab<K>>, alloc: Global)
     requires none { vec_len slabs.old ≡ 0 }
-    requires room { MOST_PAGES ≤ vec_capacity slabs.old }
-    ensures all { length slabs.new.items ≡ MOST_PAGES }
+    requires room { MAX_PAGES ≤ vec_capacity slabs.old }
+    ensures all { length slabs.new.items ≡ MAX_PAGES }
     ensures vacant { (page : ℕ) → slice_index_or (pages_in slabs.new.items) page [] ≡ [] }
-    ensures numbered { (page : ℕ) → page < MOST_PAGES → slice_index (map page_of slabs.new.items) page ≡ page }
+    ensures numbered { (page : ℕ) → page < MAX_PAGES → slice_index (map page_of slabs.new.items) page ≡ page }
 {
-    for page in 0..MOST_PAGES {
+    for page in 0..MAX_PAGES {
         slabs.push_reserved(Slab::vacant(alloc, page));
     }
 }
 
 /// Fills the table with the places of pages that aren't had, where it has none yet.
 pub fn fill_table<K: Kind>(slabs: &mut Vec<Slab<K>>, alloc: Global)
-    requires { vec_len slabs.old ≡ 0 → MOST_PAGES ≤ vec_capacity slabs.old }
+    requires { vec_len slabs.old ≡ 0 → MAX_PAGES ≤ vec_capacity slabs.old }
     ensures stack { (partial : List ℕ) (out : ℕ)
         → IsSlabTable slabs.old.items partial out
         → IsSlabTable slabs.new.items partial out }
-    ensures all { (length slabs.old.items ≡ 0) ⊎ (length slabs.old.items ≡ MOST_PAGES) → length slabs.new.items ≡ MOST_PAGES }
+    ensures all { (length slabs.old.items ≡ 0) ⊎ (length slabs.old.items ≡ MAX_PAGES) → length slabs.new.items ≡ MAX_PAGES }
     ensures same { (page : ℕ) → slice_index_or (pages_in slabs.new.items) page []
         ≡ slice_index_or (pages_in slabs.old.items) page [] }
 {

@@ -28,7 +28,7 @@ use std::alloc::Global;
 use std::marker::Model;
 
 /// The most pages of an arena.
-pub const MOST_PAGES: u32 = 256;
+pub const MAX_PAGES: u32 = 256;
 
 /// Page numbers from 0 up, some of them in spans that are out.
 #[derive(Drop)]
@@ -39,7 +39,7 @@ pub struct Arena {
 
 impl Model for Arena {
     ghost use Rattle.std.specs.Prelude.{◌≤◌, vec_capacity};
-    ghost use Rattle.vmem_arena.specs.declared.arena.TheConstants.{MOST_PAGES};
+    ghost use Rattle.vmem_arena.specs.declared.arena.TheConstants.{MAX_PAGES};
     ghost use Rattle.vmem_arena.specs.Spans.{Spans};
 
     ghost Value = { Spans };
@@ -48,16 +48,16 @@ impl Model for Arena {
 
     ghost view = { λ a. record { pages = a.pages; out = outs a.segments.items } };
 
-    ghost invariant = { λ a. (IsTable a.segments.items a.pages) × (a.pages ≤ MOST_PAGES) × (a.pages ≤ vec_capacity a.segments) };
+    ghost invariant = { λ a. (IsTable a.segments.items a.pages) × (a.pages ≤ MAX_PAGES) × (a.pages ≤ vec_capacity a.segments) };
 }
 
 impl Arena {
-    /// An arena of this many pages, 1 to [`MOST_PAGES`], all of them free. It is the one call that takes memory.
+    /// An arena of this many pages, 1 to [`MAX_PAGES`], all of them free. It is the one call that takes memory.
     pub fn new(alloc: Global, pages: u32) -> Result<Arena, ArenaFault>
         ensures all_free { IfOk result (λ arena. (arena.pages ≡ pages) × (arena.out ≡ [])) }
-        ensures pages { (result ≡ Err ArenaFault.Pages) ↔ ((pages ≡ 0) ⊎ (MOST_PAGES < pages)) }
+        ensures pages { (result ≡ Err ArenaFault.Pages) ↔ ((pages ≡ 0) ⊎ (MAX_PAGES < pages)) }
     {
-        if pages == 0 || pages > MOST_PAGES {
+        if pages == 0 || pages > MAX_PAGES {
             return Err(ArenaFault::Pages);
         }
         let Ok(mut segments) = Vec::with_capacity(alloc, pages as usize) else {

@@ -13,6 +13,6 @@ mod fault;
 mod segment;
 mod span;
 
-pub use arena::{Arena, MOST_PAGES};
+pub use arena::{Arena, MAX_PAGES};
 pub use fault::{ArenaFault, NoSpan};
 pub use span::Span;

@@ -11,7 +11,7 @@
 //! one. A span that is dropped leaves its pages out for good.
 
 ghost use Rattle.std.specs.Prelude.{◌≡◌, ◌+◌, ◌<◌, ◌≤◌};
-ghost use Rattle.vmem_arena.specs.declared.arena.TheConstants.{MOST_PAGES};
+ghost use Rattle.vmem_arena.specs.declared.arena.TheConstants.{MAX_PAGES};
 
 /// Neighbouring pages that are out of an arena (Bonwick and Adams 2001, section 4).
 #[derive(Drop)]
@@ -19,7 +19,7 @@ pub struct Span {
     pub(crate) first: u32,
     pub(crate) len: u32,
     ghost some: { 0 < len },
-    ghost within: { first + len ≤ MOST_PAGES },
+    ghost within: { first + len ≤ MAX_PAGES },
 }
 
 impl Span {
