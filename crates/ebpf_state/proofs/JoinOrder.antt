@@ -1,7 +1,9 @@
--- The order in which states are joined doesn't matter.
+-- The order in which states are joined doesn't matter: the two of a join may change places (`commutes`), and so may the second
+-- and the third that come (`exchanges`), which together give every order.
 use Rattle.std.proofs.Common.{◌≡◌, ℕ, min, max, ℤ, Bool, true, false, cond, eqb, List, [], ◌∷◌, Some, None, refl, sym, ap, ◌∙◌, subst, arith, rules}
 use Rattle.std.specs.Prelude.{bit_and}
 use Rattle.std.specs.Ordering.{int_eq}
+use Rattle.std.specs.Cmp.{both_ways}
 use Rattle.std.specs.Int.{int_min, int_max}
 use Rattle.std.specs.Int.Bits.{and_zero_l}
 use Rattle.std.proofs.lemmas.Nat.{and_assoc, and_comm}
@@ -19,9 +21,8 @@ use Rattle.ebpf_state.specs.declared.held.Held.{Held}
 use Rattle.ebpf_state.specs.Abstract.{joined_value}
 use Rattle.ebpf_state.specs.Words.{joined_word, spill_or_nothing}
 use Rattle.ebpf_state.specs.StateView.{StateView}
-use Rattle.ebpf_state.proofs.Stacks.{joined_nothing}
-use Rattle.std.specs.Cmp.{both_ways}
 use Rattle.ebpf_state.specs.States.{joined_list, is_same_held, is_same_reference, joined_state, then_joined}
+use Rattle.ebpf_state.proofs.Stacks.{joined_nothing}
 
 -- the ends of ranges, in any order
 hull_commutes : (a b : Range) → hull a b ≡ hull b a
@@ -74,6 +75,7 @@ joined_kept : (s : Bool) (x c : Abs) → joined_value (cond s x Unset) c ≡ con
 joined_kept true x c = refl
 joined_kept false x c = refl
 
+-- two tests, in either order
 kept_twice : (s t : Bool) (x y : Abs) → x ≡ y → cond s (cond t x Unset) Unset ≡ cond t (cond s y Unset) Unset
 kept_twice true true x y e = e
 kept_twice true false x y e = refl
@@ -88,11 +90,11 @@ value_exchanges (Ob r a l) (Ob q b m) (Ob s c n) = joined_kept (eqb r q) (Ob r (
 value_exchanges (May r) (May q) (May s) = joined_kept (eqb r q) (May r) (May s) ∙ kept_twice (eqb r q) (eqb r s) (May r) (May r) refl ∙ sym (joined_kept (eqb r s) (May r) (May q))
 value_exchanges _ _ _ = search rules
 
--- with a mask, a word is a mask: the same one where a number was spilled
 abbrev is_number : Abs → Bool
 is_number (Num a) = true
 is_number _ = false
 
+-- the join of a spill and a mask is a mask: the same one where a number was spilled, whose bytes are all set
 abbrev masked : Abs → ℕ → ℕ
 masked x m = cond (is_number x) m 0
 
@@ -142,6 +144,7 @@ mask_and : (s : Bool) (m n : ℕ) → bit_and (cond s m 0) n ≡ cond s (bit_and
 mask_and true m n = refl
 mask_and false m n = and_zero_l n
 
+-- three words, of which some are spills
 spill_two_masks : (x : Abs) (m n : ℕ) → joined_word (joined_word (Spill x) (Bytes m)) (Bytes n) ≡ Bytes (masked x (bit_and m n))
 spill_two_masks x m n = ap (λ w. joined_word w (Bytes n)) (spill_mask x m) ∙ ap Bytes (mask_and (is_number x) m n)
 
@@ -206,6 +209,7 @@ same_held_commutes a b = both_ways (is_same_held a b) (is_same_held b a) (one_wa
     one_way : (a b : List Held) → is_same_held a b ≡ true → is_same_held b a ≡ true
     one_way a b e = subst (λ (h : List Held). is_same_held h a ≡ true) (same_held-equal a b e) (same_held-self a)
 
+-- what is known where two states hold the same references
 abbrev joined_facts : StateView → StateView → StateView
 joined_facts a b = record { registers = joined_list joined_value a.registers b.registers; words = joined_list joined_word a.words b.words; held = a.held }
 
@@ -215,10 +219,10 @@ facts_commute a b e = rw (list_commutes joined_value value_commutes a.registers 
 pub state_commutes : (a b : StateView) → joined_state a b ≡ joined_state b a
 state_commutes a b = kept_alike (is_same_held a.held b.held) (is_same_held b.held a.held) (Some (joined_facts a b)) (Some (joined_facts b a)) None (same_held_commutes a.held b.held) (λ e. ap Some (facts_commute a b e))
 
--- that references are the same is told of the first state's alone, which the join keeps
 facts_exchange : (a b c : StateView) → joined_facts (joined_facts a b) c ≡ joined_facts (joined_facts a c) b
 facts_exchange a b c = rw (list_exchanges joined_value value_exchanges a.registers b.registers c.registers, list_exchanges joined_word word_exchanges a.words b.words c.words) refl
 
+-- the join holds the first state's references: so two tests on those decide, in either order
 then_twice : (s t : Bool) (a b c : StateView) → s ≡ is_same_held a.held b.held → t ≡ is_same_held a.held c.held → then_joined (cond s (Some (joined_facts a b)) None) c ≡ then_joined (cond t (Some (joined_facts a c)) None) b
 then_twice true true a b c es et = rw (sym es, sym et, facts_exchange a b c) refl
 then_twice true false a b c es et = rw (sym et) refl
