@@ -1,6 +1,7 @@
 //! The check of a program's flow.
 
 ghost use Rattle.std.specs.Prelude.{◌≡◌, ◌≤◌, ◌<◌, ◌+◌, ◌||◌, ◌&&◌, ◌==◌, ℕ, ℤ, pos, ◌+ℤ◌, Option, Some, None, length, slice_index_or, IfOk, IfErr, IfSome, OnOk, false, true};
+ghost use Rattle.ebpf_insn.specs.declared.program.TheConstants.{MAX_SLOTS};
 ghost use Rattle.ebpf_insn.specs.Program.{insn_at, slots_in};
 ghost use Rattle.ebpf_flow.specs.declared.fault.FlowCode.{FlowCode};
 ghost use Rattle.ebpf_flow.specs.Edges.{falls, displacement_of, fall_of, jump_of, edges_at, edges_of, has_edge_to, leads_to, reached_by, is_reached};
@@ -48,7 +49,7 @@ fn first_reached(alloc: Global, slots: usize) -> Result<Vec<bool>, AllocError>
 // The edges that leave a slot, or the first code that refuses it. The slots that they lead to are marked as reached.
 fn check_slot(program: &Program, slot: usize, reached: &mut Vec<bool>) -> Result<Edges, FlowFault>
     requires inside { slot < length program.now }
-    requires few { length program.now ≤ 4096 }
+    requires few { length program.now ≤ MAX_SLOTS }
     requires len { length reached.old.items ≡ length program.now }
     requires here { slice_index_or reached.old.items slot false ≡ is_reached program.now slot }
     ensures len { length reached.new.items ≡ length reached.old.items }

@@ -15,7 +15,7 @@ use crate::fields::{
 };
 use crate::insn::Insn;
 use crate::opcode::{Form, form_of, is_left_out};
-use crate::program::Program;
+use crate::program::{MAX_SLOTS, Program};
 use crate::register::Reg;
 use crate::slot::{Slot, read_slot};
 use std::alloc::Global;
@@ -41,13 +41,13 @@ pub fn decode(alloc: Global, bytes: &[u8]) -> Result<Program, DecodeFault>
         });
     }
     let count = bytes.len() / 8;
-    let mut slots = Vec::with_capacity(alloc, count.min(4096))?;
+    let mut slots = Vec::with_capacity(alloc, count.min(MAX_SLOTS))?;
     let mut len = 0;
     let mut is_second_half = false;
     for slot in 0..count {
-        if slot == 4096 {
+        if slot == MAX_SLOTS {
             return Err(DecodeFault::Bad {
-                slot: 4096,
+                slot: MAX_SLOTS as u16,
                 code: DecodeCode::I9,
             });
         }

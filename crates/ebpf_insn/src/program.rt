@@ -4,11 +4,15 @@ ghost use Rattle.std.specs.Prelude.{◌≡◌, ◌≤◌, length};
 ghost use Rattle.std.specs.Option.{option_copied};
 ghost use Rattle.ebpf_insn.specs.Program.{instructions, insn_at};
 ghost use Rattle.ebpf_insn.specs.Encoding.{IsWellFormed};
+ghost use Rattle.ebpf_insn.specs.declared.program.TheConstants.{MAX_SLOTS};
 
 use crate::insn::Insn;
 use std::marker::Model;
 
-/// A program: 1 to 4096 slots, each with the instruction that begins there or, in the second half of a wide
+/// The most slots of a program.
+pub const MAX_SLOTS: usize = 4096;
+
+/// A program: 1 to [`MAX_SLOTS`] slots, each with the instruction that begins there or, in the second half of a wide
 /// instruction, with none.
 ///
 /// Contracts see it as the list of its slots. Only [`crate::decode::decode`] makes one.
@@ -44,15 +48,15 @@ impl Program {
     /// How many instructions the program has: a wide one counts once.
     pub fn len(&self) -> usize
         ensures value { result ≡ length (instructions self.now) }
-        ensures bound { result ≤ 4096 }
+        ensures bound { result ≤ MAX_SLOTS }
     {
         self.len
     }
 
-    /// How many slots the program has, 1 to 4096.
+    /// How many slots the program has, 1 to [`MAX_SLOTS`].
     pub fn slots(&self) -> usize
         ensures value { result ≡ length self.now }
-        ensures bound { result ≤ 4096 }
+        ensures bound { result ≤ MAX_SLOTS }
         ensures some { 1 ≤ result }
         ensures formed { IsWellFormed self.now }
     {

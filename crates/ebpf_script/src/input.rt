@@ -1,28 +1,32 @@
 //! Reading the input.
 
-ghost use Rattle.std.specs.Prelude.{◌≡◌, ◌≢◌, ◌≤◌, ◌<◌, IfOk, IfErr, IfSome, length};
+ghost use Rattle.std.specs.Prelude.{◌≡◌, ◌≢◌, ◌≤◌, ◌<◌, ◌+◌, IfOk, IfErr, IfSome, length};
 ghost use Rattle.std.specs.Io.KnownBytes.{Consumes, IsAtEnd};
 ghost use Rattle.ebpf_script.specs.Input.{read_of};
+ghost use Rattle.ebpf_script.specs.declared.input.TheConstants.{MAX_INPUT};
 ghost use Rattle.ebpf_script.specs.declared.done.EngineFault.TheVariants.{Output};
 
 use crate::done::EngineFault;
 use std::alloc::Global;
 use std::io::Read;
 
+/// The most bytes of an input.
+pub const MAX_INPUT: usize = 1_048_576;
+
 // How many bytes are read at most: one more than an input may have.
-const LIMIT: usize = 1_048_577;
+const LIMIT: usize = MAX_INPUT + 1;
 
 // How many bytes one read asks for.
 const CHUNK: usize = 4096;
 
-/// The whole input, or the first 1,048,577 bytes of a longer one. It makes as many reads at most, each of a byte at
+/// The whole input, or one byte more than [`MAX_INPUT`] of a longer one. It makes as many reads at most, each of a byte at
 /// least, so it ends for every reader whose reads end.
 ///
 /// # Errors
 /// `Input` where a read failed, an interrupted one too; `NoMemory` where an allocation failed.
 pub(crate) fn read_input<R: Read>(alloc: Global, reader: &mut R) -> Result<Vec<u8>, EngineFault>
     ensures read { IfOk result (λ bytes. IfSome (R.remaining reader.old) (λ input. bytes.items ≡ read_of input)) }
-    ensures few { IfOk result (λ bytes. length bytes.items ≤ 1048577) }
+    ensures few { IfOk result (λ bytes. length bytes.items ≤ MAX_INPUT + 1) }
     // What was read is gone from the reader, and nothing behind it.
     ensures consumed { IfOk result (λ bytes. Consumes (R.remaining reader.old) (R.remaining reader.new) bytes.items) }
     ensures err { IfErr result (λ e. e ≢ Output) }

@@ -12,7 +12,7 @@ pub mod check;
 pub mod codes;
 pub mod done;
 pub mod hex_text;
-mod input;
+pub mod input;
 pub mod judge;
 mod output;
 pub mod reader;

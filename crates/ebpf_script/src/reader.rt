@@ -2,7 +2,8 @@
 //!
 //! To be read in this order: `words`, `numbers`, `names`, `script`, `statement`, `line`.
 
-ghost use Rattle.std.specs.Prelude.{◌≡◌, ◌≤◌, IfOk, IfErr};
+ghost use Rattle.std.specs.Prelude.{◌≡◌, ◌≤◌, ◌+◌, IfOk, IfErr};
+ghost use Rattle.ebpf_script.specs.declared.input.TheConstants.{MAX_INPUT};
 ghost use Rattle.ebpf_script.specs.ReadScripts.{parsed_script, IsScriptStop};
 ghost use Rattle.ebpf_script.specs.Scripts.{parsed_text};
 
@@ -14,6 +15,7 @@ mod statement;
 mod words;
 
 use crate::done::FaultCode;
+use crate::input::MAX_INPUT;
 use crate::reader::line::read_line;
 use crate::reader::script::{Dialect, Script, ScriptFault, ScriptStop};
 use indexmap::IndexMap;
@@ -27,10 +29,10 @@ use std::alloc::Global;
 pub fn read_script(alloc: Global, dialect: Dialect, text: &[u8]) -> Result<Script, ScriptStop>
     ensures parsed { IfOk result (λ script. parsed_text dialect text.now ≡ Ok (parsed_script script)) }
     // So a caller can count passes of its own beside them.
-    ensures few { IfOk result (λ script. script.passes ≤ 1048577) }
+    ensures few { IfOk result (λ script. script.passes ≤ MAX_INPUT + 1) }
     ensures refused { IfErr result (IsScriptStop (parsed_text dialect text.now)) }
 {
-    if text.len() > 1_048_576 {
+    if text.len() > MAX_INPUT {
         return Err(ScriptStop::Fault(ScriptFault {
             code: FaultCode::S1,
             line: 0,

@@ -15,6 +15,7 @@
 
 ghost use Rattle.std.specs.Prelude.{◌≡◌, ◌≤◌, ◌<◌, ◌==◌, if◌then◌else◌, ℕ, IfErr, IfOk, IfSome, OnOk, None, Some, Option, length, slice_index_or, slice_set, All};
 ghost use Rattle.ebpf_insn.specs.declared.insn.Insn.{Insn};
+ghost use Rattle.ebpf_insn.specs.declared.program.TheConstants.{MAX_SLOTS};
 ghost use Rattle.ebpf_insn.specs.Program.{insn_at};
 ghost use Rattle.ebpf_flow.specs.Edges.{edges_at, leads_to};
 ghost use Rattle.ebpf_flow.specs.Flow.{LeadsForward};
@@ -126,7 +127,7 @@ fn visit(flowed: &Flowed, slot: usize, entries: &mut Vec<EntryState>) -> Result<
 }
 
 fn refused_at(slot: usize, code: VerifyCode) -> VerifyFault
-    requires { slot < 4096 }
+    requires { slot < MAX_SLOTS }
     ensures { IsSlotFault slot (Some code) result }
 {
     VerifyFault::Refused {

@@ -1,22 +1,25 @@
 //! The numbers of a script, each with its range.
 
 ghost use Rattle.std.specs.Prelude.{◌≡◌, ◌≤◌, IfSome};
+ghost use Rattle.ebpf_verify.specs.declared.decl.TheConstants.{MAX_CONTEXT, MAX_HELD};
 ghost use Rattle.ebpf_script.specs.Numbers.{number_to, context_of, held_of, run_of, kind_of, slot_of, pages_of};
 
-/// The length of a context, 0 to 4096.
+use ebpf_verify::decl::{MAX_CONTEXT, MAX_HELD};
+
+/// The length of a context, 0 to [`MAX_CONTEXT`].
 pub(crate) fn context_of(word: &[u8]) -> Option<u32>
     ensures value { result ≡ context_of word.now }
-    ensures small { IfSome result (λ n. n ≤ 4096) }
+    ensures small { IfSome result (λ n. n ≤ MAX_CONTEXT) }
 {
-    number_to(4096, word)
+    number_to(MAX_CONTEXT, word)
 }
 
-/// The most objects to hold, 0 to 64.
+/// The most objects to hold, 0 to [`MAX_HELD`].
 pub(crate) fn held_of(word: &[u8]) -> Option<u8>
     ensures value { result ≡ held_of word.now }
-    ensures small { IfSome result (λ n. n ≤ 64) }
+    ensures small { IfSome result (λ n. n ≤ MAX_HELD) }
 {
-    let held = number_to(64, word)?;
+    let held = number_to(MAX_HELD as u32, word)?;
     Some(held as u8)
 }
 

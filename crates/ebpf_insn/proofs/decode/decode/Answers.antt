@@ -26,27 +26,27 @@ loop-slot-init c = record {
   len = rw c.in_ok-slots.ensures.items refl;
 }
 
-pub returns-then-slot-eq4096-clause-refused : goal.returns-then-slot-eq4096-clause-refused
-returns-then-slot-eq4096-clause-refused c =
+pub returns-then-slot-eq-MAX_SLOTS-clause-refused : goal.returns-then-slot-eq-MAX_SLOTS-clause-refused
+returns-then-slot-eq-MAX_SLOTS-clause-refused c =
     let refused : decode_fault c.args.bytes.now ≡ Some (c.loop-slot.slot, I9) =
-    refused_at c.args.bytes.now c.loop-slot.slot I9 c.loop-slot.invariant.even c.loop-slot.invariant.fine (omega arith) (limit_fault c.args.bytes.now c.loop-slot.slot c.if-slot-eq4096.true) in
-    refused ∙ ap (λ (k : ℕ). Some (k, I9)) c.if-slot-eq4096.true
+    refused_at c.args.bytes.now c.loop-slot.slot I9 c.loop-slot.invariant.even c.loop-slot.invariant.fine (omega arith) (limit_fault c.args.bytes.now c.loop-slot.slot c.if-slot-eq-MAX_SLOTS.true) in
+    refused ∙ ap (λ (k : ℕ). Some (k, I9)) c.if-slot-eq-MAX_SLOTS.true
 
-pub returns-then-slot-eq4096-clause-only : goal.returns-then-slot-eq4096-clause-only
-returns-then-slot-eq4096-clause-only c p h =
+pub returns-then-slot-eq-MAX_SLOTS-clause-only : goal.returns-then-slot-eq-MAX_SLOTS-clause-only
+returns-then-slot-eq-MAX_SLOTS-clause-only c p h =
     let refused : decode_fault c.args.bytes.now ≡ Some (c.loop-slot.slot, I9) =
-    refused_at c.args.bytes.now c.loop-slot.slot I9 c.loop-slot.invariant.even c.loop-slot.invariant.fine (omega arith) (limit_fault c.args.bytes.now c.loop-slot.slot c.if-slot-eq4096.true) in
-    refusal_is c.args.bytes.now p (Bad 4096 I9) h (refused ∙ ap (λ (k : ℕ). Some (k, I9)) c.if-slot-eq4096.true)
+    refused_at c.args.bytes.now c.loop-slot.slot I9 c.loop-slot.invariant.even c.loop-slot.invariant.fine (omega arith) (limit_fault c.args.bytes.now c.loop-slot.slot c.if-slot-eq-MAX_SLOTS.true) in
+    refusal_is c.args.bytes.now p (Bad 4096 I9) h (refused ∙ ap (λ (k : ℕ). Some (k, I9)) c.if-slot-eq-MAX_SLOTS.true)
 
 pub loop-slot-preserved-then-is_second_half : goal.loop-slot-preserved-then-is_second_half
 loop-slot-preserved-then-is_second_half c =
     let half : c.loop-slot.is_second_half ≡ true = c.if-is_second_half.true in
     let read : IsReadSoFar c.args.bytes.now c.loop-slot.slot c.loop-slot.slots.items true = rw half at c.loop-slot.invariant.read in
     let parts : instructions (c.loop-slot.slots.items ++ None ∷ []) ≡ instructions c.loop-slot.slots.items = instructions-append c.loop-slot.slots.items (None ∷ []) ∙ append-nil (instructions c.loop-slot.slots.items) in
-    let fine : fault_at c.args.bytes.now c.loop-slot.slot ≡ None = fault_at_is c.args.bytes.now c.loop-slot.slot None c.if-slot-eq4096.false (half_fault c.args.bytes.now c.loop-slot.slot read.here) in
+    let fine : fault_at c.args.bytes.now c.loop-slot.slot ≡ None = fault_at_is c.args.bytes.now c.loop-slot.slot None c.if-slot-eq-MAX_SLOTS.false (half_fault c.args.bytes.now c.loop-slot.slot read.here) in
     record {
       even = c.loop-slot.invariant.even;
-      few = let few : c.loop-slot.slot ≤ 4096 = c.loop-slot.invariant.few in let below : c.loop-slot.slot ≢ 4096 = c.if-slot-eq4096.false in omega arith;
+      few = let few : c.loop-slot.slot ≤ 4096 = c.loop-slot.invariant.few in let below : c.loop-slot.slot ≢ 4096 = c.if-slot-eq-MAX_SLOTS.false in omega arith;
       room = c.push_reserved.ensures.capacity ∙ c.loop-slot.invariant.room;
       fine = lowest-more_none (fault_at c.args.bytes.now) c.loop-slot.slot c.loop-slot.invariant.fine fine;
       read = rw c.push_reserved.ensures.items (read_half c.args.bytes.now c.loop-slot.slot c.loop-slot.slots.items read);
@@ -59,12 +59,12 @@ decode_at-requires-clause-first c = c.loop-slot.invariant.read.here ∙ c.if-is_
 
 pub returns-in-Err-clause-refused : goal.returns-in-Err-clause-refused
 returns-in-Err-clause-refused c =
-    refused_at c.args.bytes.now c.loop-slot.slot c.in-Err.code c.loop-slot.invariant.even c.loop-slot.invariant.fine (omega arith) (fault_at_is c.args.bytes.now c.loop-slot.slot _ c.if-slot-eq4096.false c.in-Err.ensures.fault)
+    refused_at c.args.bytes.now c.loop-slot.slot c.in-Err.code c.loop-slot.invariant.even c.loop-slot.invariant.fine (omega arith) (fault_at_is c.args.bytes.now c.loop-slot.slot _ c.if-slot-eq-MAX_SLOTS.false c.in-Err.ensures.fault)
 
 pub returns-in-Err-clause-only : goal.returns-in-Err-clause-only
 returns-in-Err-clause-only c p h =
     refusal_is c.args.bytes.now p (Bad c.loop-slot.slot c.in-Err.code) h
-    (refused_at c.args.bytes.now c.loop-slot.slot c.in-Err.code c.loop-slot.invariant.even c.loop-slot.invariant.fine (omega arith) (fault_at_is c.args.bytes.now c.loop-slot.slot _ c.if-slot-eq4096.false c.in-Err.ensures.fault))
+    (refused_at c.args.bytes.now c.loop-slot.slot c.in-Err.code c.loop-slot.invariant.even c.loop-slot.invariant.fine (omega arith) (fault_at_is c.args.bytes.now c.loop-slot.slot _ c.if-slot-eq-MAX_SLOTS.false c.in-Err.ensures.fault))
 
 pub overflow_cast-result : goal.overflow_cast-result
 overflow_cast-result c = let few : c.loop-slot.slot ≤ 4096 = c.loop-slot.invariant.few in search rules
@@ -80,9 +80,9 @@ loop-slot-preserved c =
     let parts : instructions (c.loop-slot.slots.items ++ Some c.in-Ok.insn ∷ []) ≡ instructions c.loop-slot.slots.items ++ c.in-Ok.insn ∷ [] = instructions-append c.loop-slot.slots.items (Some c.in-Ok.insn ∷ []) in
     record {
       even = c.loop-slot.invariant.even;
-      few = let few : c.loop-slot.slot ≤ 4096 = c.loop-slot.invariant.few in let below : c.loop-slot.slot ≢ 4096 = c.if-slot-eq4096.false in omega arith;
+      few = let few : c.loop-slot.slot ≤ 4096 = c.loop-slot.invariant.few in let below : c.loop-slot.slot ≢ 4096 = c.if-slot-eq-MAX_SLOTS.false in omega arith;
       room = c.push_reserved-in-Ok.ensures.capacity ∙ c.loop-slot.invariant.room;
-      fine = lowest-more_none (fault_at c.args.bytes.now) c.loop-slot.slot c.loop-slot.invariant.fine (fault_at_is c.args.bytes.now c.loop-slot.slot _ c.if-slot-eq4096.false c.in-Ok.ensures.fault);
+      fine = lowest-more_none (fault_at c.args.bytes.now) c.loop-slot.slot c.loop-slot.invariant.fine (fault_at_is c.args.bytes.now c.loop-slot.slot _ c.if-slot-eq-MAX_SLOTS.false c.in-Ok.ensures.fault);
       read = rw (c.push_reserved-in-Ok.ensures.items, c.slots-is_second_half.ensures.value) (read_more c.args.bytes.now c.loop-slot.slot c.loop-slot.slots.items c.in-Ok.insn read here.0 here.1);
       short = let short : c.loop-slot.len ≤ c.loop-slot.slot = c.loop-slot.invariant.short in omega arith;
       len = rw (c.push_reserved-in-Ok.ensures.items, parts) (omega (arith, length_push (instructions c.loop-slot.slots.items) c.in-Ok.insn, c.loop-slot.invariant.len));
