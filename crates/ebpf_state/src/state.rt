@@ -250,7 +250,7 @@ fn join_words(left: &mut [Word], right: &[Word])
 }
 
 // What is known of a word of the stack, by its topmost words.
-fn word_at(words: &[Word], number: usize) -> Word
+pub(crate) fn word_at(words: &[Word], number: usize) -> Word
     requires few { length words.now ≤ 64 }
     requires inside { number < 64 }
     requires proper { All IsProperWord words.now }
