@@ -1,10 +1,10 @@
 //! Loads from the stack and stores to it.
 
-ghost use Rattle.std.specs.Prelude.{◌≡◌, ◌≤◌, ◌<◌, length, All, IfOk};
+ghost use Rattle.std.specs.Prelude.{◌≡◌, ◌≤◌, ◌<◌, ◌^◌, length, All, IfOk, Some};
 ghost use Rattle.ebpf_state.specs.declared.word.Word.{Word};
 ghost use Rattle.ebpf_state.specs.Abstract.{IsProper};
 ghost use Rattle.ebpf_state.specs.Words.{all_words, IsProperWord};
-ghost use Rattle.ebpf_state.specs.Stack.{bytes_in, place_of, is_whole_word, covered, word_of, may_point, is_unset_in, is_split_in, read_fault, loaded_range, loaded_number, loaded_at};
+ghost use Rattle.ebpf_state.specs.Stack.{bytes_in, place_of, is_whole_word, covered, word_of, may_point, is_unset_in, is_split_in, read_fault, loaded_range, loaded_number, loaded_word, loaded_at};
 
 use crate::state::word_at;
 use crate::value::Abs;
@@ -60,4 +60,122 @@ pub(crate) fn may_point(value: Abs) -> bool
     ensures { result ≡ may_point value }
 {
     value.is_pointer() || value.is_may()
+}
+
+// The bits of a word that stand for those of the bytes that lie in it.
+pub(crate) fn covered(place: usize, bytes: usize, word: usize) -> u8
+    requires place { place < 512 }
+    requires bytes { bytes ≤ 8 }
+    requires word { word ≤ 64 }
+    ensures { result ≡ covered place bytes word }
+{
+    let end = (place + bytes).saturating_sub(8 * word).min(8);
+    let start = place.saturating_sub(8 * word).min(8);
+    (power_of_two(end) - power_of_two(start)) as u8
+}
+
+// 2 to a power.
+fn power_of_two(exponent: usize) -> u128
+    requires { exponent ≤ 64 }
+    ensures value { result ≡ 2 ^ exponent }
+    ensures some { 0 < result }
+    ensures few { result ≤ 2 ^ 64 }
+{
+    1 << exponent
+}
+
+// What is known of a word of the stack; nothing is of the one behind the last.
+pub(crate) fn known_word(words: &[Word], number: usize) -> Word
+    requires few { length words.now ≤ 64 }
+    requires proper { All IsProperWord words.now }
+    ensures value { result ≡ word_of (all_words words.now) number }
+    ensures proper { IsProperWord result }
+{
+    if number < 64 {
+        word_at(words, number)
+    } else {
+        Word::Bytes(0)
+    }
+}
+
+// A byte that is read may be unset.
+fn is_unset_in(bits: u8, word: Word) -> bool
+    ensures { result ≡ is_unset_in bits word }
+{
+    let set = match word {
+        Word::Spill(_) => 255,
+        Word::Bytes(mask) => mask,
+    };
+    !(bits & set == bits)
+}
+
+// A pointer, or an answer that may be one, is read in part.
+fn is_split_in(bits: u8, word: Word) -> bool
+    ensures { result ≡ is_split_in bits word }
+{
+    match word {
+        Word::Spill(value) => bits != 0 && may_point(value),
+        Word::Bytes(_) => false,
+    }
+}
+
+// Why bytes of the stack can't be read as a number.
+fn read_fault(place: usize, bytes: usize, words: &[Word]) -> Option<StackFault>
+    requires place { place < 512 }
+    requires bytes { bytes ≤ 8 }
+    requires few { length words.now ≤ 64 }
+    requires proper { All IsProperWord words.now }
+    ensures { result ≡ read_fault place bytes (all_words words.now) }
+{
+    let first = place / 8;
+    let low = known_word(words, first);
+    let high = known_word(words, first + 1);
+    let low_bits = covered(place, bytes, first);
+    let high_bits = covered(place, bytes, first + 1);
+    if is_unset_in(low_bits, low) || is_unset_in(high_bits, high) {
+        Some(StackFault::UnsetByte)
+    } else if is_split_in(low_bits, low) || is_split_in(high_bits, high) {
+        Some(StackFault::SplitPointer)
+    } else {
+        None
+    }
+}
+
+// What is known of a number of so many bytes.
+fn loaded_range(bytes: usize, signed: bool) -> Range
+    requires { bytes ≤ 8 }
+    ensures value { result ≡ loaded_range bytes signed }
+    ensures ordered { result.lo ≤ result.hi }
+{
+    let bits = if signed { 64 } else { 8 * bytes };
+    Range {
+        lo: 0,
+        hi: (power_of_two(bits) - 1) as u64,
+    }
+}
+
+fn loaded_number(fault: Option<StackFault>, bytes: usize, signed: bool) -> Result<Abs, StackFault>
+    requires { bytes ≤ 8 }
+    ensures value { result ≡ loaded_number fault bytes signed }
+    ensures proper { IfOk result IsProper }
+{
+    match fault {
+        Some(fault) => Err(fault),
+        None => Ok(Abs::Num(loaded_range(bytes, signed))),
+    }
+}
+
+// What is known of the value of bytes of the stack, or why they can't be loaded.
+pub(crate) fn load_at(words: &[Word], place: usize, bytes: usize, signed: bool) -> Result<Abs, StackFault>
+    requires place { place < 512 }
+    requires bytes { bytes ≤ 8 }
+    requires few { length words.now ≤ 64 }
+    requires proper { All IsProperWord words.now }
+    ensures value { result ≡ loaded_at (Some place) bytes signed (all_words words.now) }
+    ensures proper { IfOk result IsProper }
+{
+    if is_whole_word(place, bytes) && let Word::Spill(value) = known_word(words, place / 8) {
+        return Ok(value);
+    }
+    loaded_number(read_fault(place, bytes, words), bytes, signed)
 }
