@@ -1,16 +1,17 @@
 //! Loads from the stack and stores to it.
 
-ghost use Rattle.std.specs.Prelude.{◌≡◌, ◌≤◌, ◌<◌, ◌^◌, length, All, IfOk, Some};
+ghost use Rattle.std.specs.Prelude.{◌≡◌, ◌≤◌, ◌<◌, ◌^◌, length, All, IfOk, IfSome, OnOk, Some, slice_set, ◌-◌};
 ghost use Rattle.ebpf_state.specs.declared.word.Word.{Word};
 ghost use Rattle.ebpf_state.specs.Abstract.{IsProper};
 ghost use Rattle.ebpf_state.specs.Words.{all_words, IsProperWord};
-ghost use Rattle.ebpf_state.specs.Stack.{bytes_in, place_of, is_whole_word, covered, word_of, may_point, is_unset_in, is_split_in, read_fault, loaded_range, loaded_number, loaded_word, loaded_at};
+ghost use Rattle.ebpf_state.specs.Stack.{bytes_in, place_of, is_whole_word, covered, word_of, may_point, is_unset_in, is_split_in, read_fault, loaded_range, loaded_number, loaded_word, loaded_at, overwritten, written};
 
 use crate::state::word_at;
 use crate::value::Abs;
 use crate::word::Word;
 use ebpf_insn::insn::Size;
 use ebpf_range::range::Range;
+use std::alloc::AllocError;
 
 /// Why bytes of the stack can't be loaded or stored.
 #[derive(Clone, Copy)]
@@ -26,6 +27,7 @@ pub enum StackFault {
 // How many bytes a load or a store moves.
 pub(crate) fn bytes_in(size: Size) -> usize
     ensures value { result ≡ bytes_in size }
+    ensures some { 0 < result }
     ensures few { result ≤ 8 }
 {
     match size {
@@ -38,8 +40,10 @@ pub(crate) fn bytes_in(size: Size) -> usize
 
 // Where the bytes begin, among the 512 of the stack.
 pub(crate) fn place_of(offset: i64, bytes: usize) -> Option<usize>
-    requires { bytes ≤ 8 }
+    requires some { 0 < bytes }
+    requires few { bytes ≤ 8 }
     ensures value { result ≡ place_of offset bytes }
+    ensures inside { IfSome result (λ place. place < 512) }
 {
     if offset >= -512 && offset <= 0 && offset + bytes as i64 <= 0 {
         Some((offset + 512) as usize)
@@ -178,4 +182,69 @@ pub(crate) fn load_at(words: &[Word], place: usize, bytes: usize, signed: bool) 
         return Ok(value);
     }
     loaded_number(read_fault(place, bytes, words), bytes, signed)
+}
+
+// Some bytes of a word are written.
+fn overwritten(bits: u8, word: Word) -> Word
+    ensures value { result ≡ overwritten bits word }
+    ensures proper { IsProperWord result }
+{
+    match word {
+        Word::Bytes(mask) => Word::Bytes(mask | bits),
+        Word::Spill(Abs::Num(_)) => Word::Bytes(255),
+        Word::Spill(_) => Word::Bytes(bits),
+    }
+}
+
+fn written(bits: u8, word: Word) -> Word
+    requires { IsProperWord word }
+    ensures value { result ≡ written bits word }
+    ensures proper { IsProperWord result }
+{
+    if bits == 0 { word } else { overwritten(bits, word) }
+}
+
+// Writes a word among those that are kept.
+fn put_word(words: &mut [Word], number: usize, value: Word)
+    requires few { length words.old ≤ 64 }
+    requires kept { 64 - length words.old ≤ number }
+    requires inside { number < 64 }
+    requires proper_words { All IsProperWord words.old }
+    requires proper { IsProperWord value }
+    ensures value { all_words words.new ≡ slice_set (all_words words.old) number value }
+    ensures len { length words.new ≡ length words.old }
+    ensures proper { All IsProperWord words.new }
+{
+    let below = 64 - words.len();
+    words[number - below] = value;
+}
+
+// Keeps the words from this one on.
+fn keep_from(words: &mut Vec<Word>, number: usize) -> Result<(), AllocError>
+    requires few { length words.old.items ≤ 64 }
+    requires proper { All IsProperWord words.old.items }
+    ensures value { all_words words.new.items ≡ all_words words.old.items }
+    ensures few { length words.new.items ≤ 64 }
+    ensures kept { OnOk result (64 - length words.new.items ≤ number) }
+    ensures proper { All IsProperWord words.new.items }
+{
+    if number < 64 - words.len() {
+        *words = kept_from(words, number)?;
+    }
+    Ok(())
+}
+
+// The words from this one on, which is below those that are kept.
+fn kept_from(words: &Vec<Word>, number: usize) -> Result<Vec<Word>, AllocError>
+    requires few { length words.now.items ≤ 64 }
+    requires below { number < 64 - length words.now.items }
+    requires proper { All IsProperWord words.now.items }
+    ensures value { IfOk result (λ v. all_words v.items ≡ all_words words.now.items) }
+    ensures len { IfOk result (λ v. length v.items ≡ 64 - number) }
+    ensures proper { IfOk result (λ v. All IsProperWord v.items) }
+{
+    let alloc = *words.allocator();
+    let mut kept = Vec::from_elem(alloc, Word::Bytes(0), 64 - words.len() - number)?;
+    kept.extend_from_slice(words)?;
+    Ok(kept)
 }

@@ -20,8 +20,10 @@ ghost use Rattle.ebpf_state.specs.States.{joined_list, is_same_held};
 ghost use Rattle.ebpf_state.specs.References.{settled_value, settled_word};
 
 use crate::held::{Held, settle_held};
+use crate::stack::{StackFault, bytes_in, load_at, place_of};
 use crate::value::Abs;
 use crate::word::Word;
+use ebpf_insn::insn::Size;
 use ebpf_insn::register::Reg;
 use std::alloc::{AllocError, Global};
 use std::marker::Model;
@@ -79,6 +81,7 @@ impl From<AllocError> for JoinFault {
 
 impl State {
     ghost use Rattle.ebpf_state.specs.References.{settled};
+    ghost use Rattle.ebpf_state.specs.Stack.{loaded};
     ghost use Rattle.ebpf_state.specs.States.{first_state, joined_state, register_of, with_register, Joins, JoinsInto};
 
     /// The state before slot 0: `r1` points to the context, `r10` is the frame pointer, and nothing else is set or held.
@@ -152,6 +155,23 @@ impl State {
         settle_registers(&mut facts.registers, call, null);
         settle_words(&mut facts.words, call, null);
         settle_held(&mut facts.held, call, null);
+    }
+
+    /// What is known of the value that is loaded from an offset from the frame pointer, or why it can't be. A number that
+    /// is narrower than a register may be extended by its sign.
+    ///
+    /// # Errors
+    /// `Bounds` where the bytes are not all of the stack, else `UnsetByte` where one of them may be unset, else
+    /// `SplitPointer` where one is part of a pointer, or of an answer not compared yet.
+    pub fn load(&self, size: Size, signed: bool, offset: i64) -> Result<Abs, StackFault>
+        ensures value { result ≡ loaded self.now size signed offset }
+        ensures proper { IfOk result IsProper }
+    {
+        let bytes = bytes_in(size);
+        match place_of(offset, bytes) {
+            Some(place) => load_at(&self.facts.words, place, bytes, signed),
+            None => Err(StackFault::Bounds),
+        }
     }
 
     /// What is known where two paths meet, one of which knows each.
