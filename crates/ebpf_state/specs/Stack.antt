@@ -1,5 +1,5 @@
 -- What a load from the stack reads and what a store to it leaves, by what is known of its words.
-use Rattle.std.specs.Prelude.{ℕ, ◌+◌, ◌-◌, ◌*◌, ◌/◌, ◌%◌, ◌^◌, min, ℤ, pos, negsuc, ◌+ℤ◌, int_le, nat_abs, Bool, true, false, not, ◌&&◌, ◌||◌, ◌==◌, if◌then◌else◌, bit_and, bit_or, List, [], ◌∷◌, slice_index_or, slice_set, Option, Some, None, Result, Ok, Err}
+use Rattle.std.specs.Prelude.{◌≡◌, is_ok, ℕ, ◌+◌, ◌-◌, ◌*◌, ◌/◌, ◌%◌, ◌^◌, min, ℤ, pos, negsuc, ◌+ℤ◌, int_le, nat_abs, Bool, true, false, not, ◌&&◌, ◌||◌, ◌==◌, if◌then◌else◌, bit_and, bit_or, List, [], ◌∷◌, slice_index_or, slice_set, Option, Some, None, Result, Ok, Err}
 use Rattle.ebpf_insn.specs.declared.insn.Size.{Size}
 use Rattle.ebpf_insn.specs.declared.insn.Size.TheVariants as size
 use Rattle.ebpf_insn.specs.Faults.{first_of}
@@ -11,6 +11,8 @@ use Rattle.ebpf_state.specs.declared.word.Word.{Word}
 use Rattle.ebpf_state.specs.declared.word.Word.TheVariants.{Spill, Bytes}
 use Rattle.ebpf_state.specs.declared.stack.StackFault.{StackFault}
 use Rattle.ebpf_state.specs.declared.stack.StackFault.TheVariants.{Bounds, UnsetByte, SplitPointer}
+use Rattle.ebpf_state.specs.declared.stack.StoreFault.{StoreFault}
+use Rattle.ebpf_state.specs.declared.stack.StoreFault.TheVariants.{Refused, NoMemory}
 use Rattle.ebpf_state.specs.Abstract.{is_pointer, is_may}
 use Rattle.ebpf_state.specs.Words.{spill_or_nothing}
 use Rattle.ebpf_state.specs.StateView.{StateView}
@@ -117,3 +119,9 @@ stored_at (Some place) bytes value s =
 -- the state after a value was stored at an offset, or why it can't be
 abbrev pub stored : StateView → Size → ℤ → Abs → Result StateView StackFault
 stored s size offset value = stored_at (place_of offset (bytes_in size)) (bytes_in size) value s
+
+-- what a store answers, and leaves there
+abbrev pub Stores : {A : Type 0} → Result StateView StackFault → StateView → StateView → Result A StoreFault → Type 0
+Stores stored old new (Ok done) = stored ≡ Ok new
+Stores stored old new (Err (Refused fault)) = (stored ≡ Err fault) × (new ≡ old)
+Stores stored old new (Err NoMemory) = (is_ok stored ≡ true) × (new ≡ old)

@@ -1,14 +1,14 @@
 //! Loads from the stack and stores to it.
 
-ghost use Rattle.std.specs.Prelude.{◌≡◌, ◌≤◌, ◌<◌, ◌^◌, length, All, IfOk, IfSome, OnOk, Some, slice_set, ◌-◌};
+ghost use Rattle.std.specs.Prelude.{◌≡◌, ◌≤◌, ◌<◌, ◌^◌, length, All, IfOk, IfErr, IfSome, ◌+◌, OnOk, Some, slice_set, ◌-◌};
 ghost use Rattle.ebpf_state.specs.declared.word.Word.{Word};
 ghost use Rattle.ebpf_state.specs.Abstract.{IsProper};
 ghost use Rattle.ebpf_state.specs.Words.{all_words, IsProperWord};
-ghost use Rattle.ebpf_state.specs.Stack.{bytes_in, place_of, is_whole_word, covered, word_of, may_point, is_unset_in, is_split_in, read_fault, loaded_range, loaded_number, loaded_word, loaded_at, overwritten, written};
+ghost use Rattle.ebpf_state.specs.Stack.{bytes_in, place_of, is_whole_word, covered, word_of, may_point, is_unset_in, is_split_in, read_fault, loaded_range, loaded_number, loaded_word, loaded_at, overwritten, written, written_at, stored_words};
 
 use crate::state::word_at;
 use crate::value::Abs;
-use crate::word::Word;
+use crate::word::{Word, spill_or_nothing};
 use ebpf_insn::insn::Size;
 use ebpf_range::range::Range;
 use std::alloc::AllocError;
@@ -22,6 +22,25 @@ pub enum StackFault {
     UnsetByte,
     /// A pointer, or an answer not compared yet, would be split.
     SplitPointer,
+}
+
+/// Why a store to the stack was not done.
+#[derive(Clone, Copy)]
+pub enum StoreFault {
+    /// The bytes can't be stored.
+    Refused(StackFault),
+    /// An allocation failed.
+    NoMemory,
+}
+
+impl From<AllocError> for StoreFault {
+    ghost use Rattle.ebpf_state.specs.declared.stack.StoreFault.TheVariants.{NoMemory};
+
+    ghost from_gives = { λ _ e. e ≡ NoMemory };
+
+    fn from(_e: AllocError) -> StoreFault {
+        StoreFault::NoMemory
+    }
 }
 
 // How many bytes a load or a store moves.
@@ -43,7 +62,7 @@ pub(crate) fn place_of(offset: i64, bytes: usize) -> Option<usize>
     requires some { 0 < bytes }
     requires few { bytes ≤ 8 }
     ensures value { result ≡ place_of offset bytes }
-    ensures inside { IfSome result (λ place. place < 512) }
+    ensures inside { IfSome result (λ place. place + bytes ≤ 512) }
 {
     if offset >= -512 && offset <= 0 && offset + bytes as i64 <= 0 {
         Some((offset + 512) as usize)
@@ -247,4 +266,46 @@ fn kept_from(words: &Vec<Word>, number: usize) -> Result<Vec<Word>, AllocError>
     let mut kept = Vec::from_elem(alloc, Word::Bytes(0), 64 - words.len() - number)?;
     kept.extend_from_slice(words)?;
     Ok(kept)
+}
+
+// Writes those of the bytes that lie in a word, which is kept or behind the last.
+fn write_at(words: &mut [Word], place: usize, bytes: usize, number: usize)
+    requires place { place < 512 }
+    requires bytes { bytes ≤ 8 }
+    requires few { length words.old ≤ 64 }
+    requires kept { 64 - length words.old ≤ number }
+    requires inside { number < 64 }
+    requires proper_words { All IsProperWord words.old }
+    ensures value { all_words words.new ≡ written_at place bytes number (all_words words.old) }
+    ensures len { length words.new ≡ length words.old }
+    ensures proper { All IsProperWord words.new }
+{
+    let word = written(covered(place, bytes, number), known_word(words, number));
+    put_word(words, number, word);
+}
+
+// Writes bytes of a value to the stack.
+pub(crate) fn store_at(words: &mut Vec<Word>, place: usize, bytes: usize, value: Abs) -> Result<(), AllocError>
+    requires place { place + bytes ≤ 512 }
+    requires some { 0 < bytes }
+    requires bytes { bytes ≤ 8 }
+    requires few { length words.old.items ≤ 64 }
+    requires proper_words { All IsProperWord words.old.items }
+    requires proper { IsProper value }
+    ensures value { IfOk result (λ _. all_words words.new.items ≡ stored_words place bytes value (all_words words.old.items)) }
+    ensures same { IfErr result (λ _. all_words words.new.items ≡ all_words words.old.items) }
+    ensures few { length words.new.items ≤ 64 }
+    ensures proper { All IsProperWord words.new.items }
+{
+    let first = place / 8;
+    keep_from(words, first)?;
+    if is_whole_word(place, bytes) {
+        put_word(words, first, spill_or_nothing(value));
+    } else {
+        write_at(words, place, bytes, first);
+        if first < 63 {
+            write_at(words, place, bytes, first + 1);
+        }
+    }
+    Ok(())
 }

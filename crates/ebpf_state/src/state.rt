@@ -20,7 +20,7 @@ ghost use Rattle.ebpf_state.specs.States.{joined_list, is_same_held};
 ghost use Rattle.ebpf_state.specs.References.{settled_value, settled_word};
 
 use crate::held::{Held, settle_held};
-use crate::stack::{StackFault, bytes_in, load_at, place_of};
+use crate::stack::{StackFault, StoreFault, bytes_in, is_whole_word, load_at, may_point, place_of, store_at};
 use crate::value::Abs;
 use crate::word::Word;
 use ebpf_insn::insn::Size;
@@ -81,7 +81,7 @@ impl From<AllocError> for JoinFault {
 
 impl State {
     ghost use Rattle.ebpf_state.specs.References.{settled};
-    ghost use Rattle.ebpf_state.specs.Stack.{loaded};
+    ghost use Rattle.ebpf_state.specs.Stack.{loaded, stored, Stores};
     ghost use Rattle.ebpf_state.specs.States.{first_state, joined_state, register_of, with_register, Joins, JoinsInto};
 
     /// The state before slot 0: `r1` points to the context, `r10` is the frame pointer, and nothing else is set or held.
@@ -172,6 +172,27 @@ impl State {
             Some(place) => load_at(&self.facts.words, place, bytes, signed),
             None => Err(StackFault::Bounds),
         }
+    }
+
+    /// Says that a value is stored at an offset from the frame pointer.
+    ///
+    /// # Errors
+    /// `Bounds` where the bytes are not all of the stack, else `SplitPointer` where a pointer, or an answer not compared
+    /// yet, would not be an aligned word; `NoMemory` where an allocation failed. The state stays as it is.
+    pub fn store(&mut self, size: Size, offset: i64, value: Abs) -> Result<(), StoreFault>
+        requires proper { IsProper value }
+        ensures { Stores (stored self.old size offset value) self.old self.new result }
+    {
+        let bytes = bytes_in(size);
+        let Some(place) = place_of(offset, bytes) else {
+            return Err(StoreFault::Refused(StackFault::Bounds));
+        };
+        if may_point(value) && !is_whole_word(place, bytes) {
+            return Err(StoreFault::Refused(StackFault::SplitPointer));
+        }
+        let facts = &mut *self.facts;
+        store_at(&mut facts.words, place, bytes, value)?;
+        Ok(())
     }
 
     /// What is known where two paths meet, one of which knows each.
