@@ -189,7 +189,12 @@ fn loaded_number(fault: Option<StackFault>, bytes: usize, signed: bool) -> Resul
 }
 
 // What is known of the value of bytes of the stack, or why they can't be loaded.
-pub(crate) fn load_at(words: &[Word], place: usize, bytes: usize, signed: bool) -> Result<Abs, StackFault>
+pub(crate) fn load_at(
+    words: &[Word],
+    place: usize,
+    bytes: usize,
+    signed: bool,
+) -> Result<Abs, StackFault>
     requires place { place < 512 }
     requires bytes { bytes ≤ 8 }
     requires few { length words.now ≤ 64 }
@@ -197,7 +202,9 @@ pub(crate) fn load_at(words: &[Word], place: usize, bytes: usize, signed: bool) 
     ensures value { result ≡ loaded_at (Some place) bytes signed (all_words words.now) }
     ensures proper { IfOk result IsProper }
 {
-    if is_whole_word(place, bytes) && let Word::Spill(value) = known_word(words, place / 8) {
+    if is_whole_word(place, bytes)
+        && let Word::Spill(value) = known_word(words, place / 8)
+    {
         return Ok(value);
     }
     loaded_number(read_fault(place, bytes, words), bytes, signed)
@@ -220,7 +227,11 @@ fn written(bits: u8, word: Word) -> Word
     ensures value { result ≡ written bits word }
     ensures proper { IsProperWord result }
 {
-    if bits == 0 { word } else { overwritten(bits, word) }
+    if bits == 0 {
+        word
+    } else {
+        overwritten(bits, word)
+    }
 }
 
 // Writes a word among those that are kept.
@@ -285,7 +296,12 @@ fn write_at(words: &mut [Word], place: usize, bytes: usize, number: usize)
 }
 
 // Writes bytes of a value to the stack.
-pub(crate) fn store_at(words: &mut Vec<Word>, place: usize, bytes: usize, value: Abs) -> Result<(), AllocError>
+pub(crate) fn store_at(
+    words: &mut Vec<Word>,
+    place: usize,
+    bytes: usize,
+    value: Abs,
+) -> Result<(), AllocError>
     requires place { place + bytes ≤ 512 }
     requires some { 0 < bytes }
     requires bytes { bytes ≤ 8 }

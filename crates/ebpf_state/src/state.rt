@@ -20,7 +20,9 @@ ghost use Rattle.ebpf_state.specs.States.{joined_list, is_same_held};
 ghost use Rattle.ebpf_state.specs.References.{settled_value, settled_word};
 
 use crate::held::{Held, settle_held};
-use crate::stack::{StackFault, StoreFault, bytes_in, is_whole_word, load_at, may_point, place_of, store_at};
+use crate::stack::{
+    StackFault, StoreFault, bytes_in, is_whole_word, load_at, may_point, place_of, store_at,
+};
 use crate::value::Abs;
 use crate::word::Word;
 use ebpf_insn::insn::Size;

@@ -1,4 +1,4 @@
-use Rattle.std.proofs.Common.{◌∙◌, ◌-◌, ◌++◌, List, ap, arith, length}
+use Rattle.std.proofs.Common.{◌∙◌, ◌-◌, ◌++◌, List, ap, arith}
 use Rattle.std.specs.Prelude.{replicate}
 use Rattle.ebpf_state.specs.declared.word.Word.{Word}
 use Rattle.ebpf_state.specs.declared.word.Word.TheVariants.{Bytes}
