@@ -1,8 +1,8 @@
 -- The topmost words of the stack, and the words below them of which nothing is known.
-use Rattle.std.proofs.Common.{◌≡◌, ℕ, zero, suc, ◌-◌, ◌<◌, ◌≤◌, List, [], ◌∷◌, ◌++◌, length, get_or, drop, refl, sym, ap, ◌∙◌, arith, length-append}
+use Rattle.std.proofs.Common.{◌≡◌, ℕ, zero, suc, ◌+◌, ◌-◌, ◌<◌, ◌≤◌, List, [], ◌∷◌, ◌++◌, length, get_or, drop, refl, sym, ap, ◌∙◌, arith, length-append, set, length-set}
 use Rattle.std.specs.Prelude.{replicate, map}
 use Rattle.std.specs.Int.Bits.{and_zero_l}
-use Rattle.std.proofs.lemmas.List.{length-map, length-replicate, get_or-replicate, get_or_append_left, get_or-append_right}
+use Rattle.std.proofs.lemmas.List.{length-map, length-replicate, get_or-replicate, get_or_append_left, get_or-append_right, set-append_right, replicate-append-replicate, append_assoc}
 use Rattle.ebpf_state.specs.declared.value.Abs.TheVariants.{Unset, Num, Stk, Ctx, Ob, May}
 use Rattle.ebpf_state.specs.declared.word.Word.{Word}
 use Rattle.ebpf_state.specs.declared.word.Word.TheVariants.{Spill, Bytes}
@@ -55,3 +55,19 @@ all_words-map f words same =
     behind : (n : ℕ) → replicate n (Bytes 0) ++ map f words ≡ map f (replicate n (Bytes 0) ++ words)
     behind zero = refl
     behind (suc n) = ap (λ (w : Word). w ∷ (replicate n (Bytes 0) ++ map f words)) (sym same) ∙ ap (λ (ws : List Word). f (Bytes 0) ∷ ws) (behind n)
+
+-- more of the words that nothing is known of are kept
+pub all_words-kept : (words : List Word) (j : ℕ) → j + length words ≤ 64 → all_words (replicate j (Bytes 0) ++ words) ≡ all_words words
+all_words-kept words j le =
+    let long : length (replicate j (Bytes 0) ++ words) ≡ j + length words = length-append (replicate j (Bytes 0)) words ∙ ap (λ (n : ℕ). n + length words) (length-replicate j (Bytes 0)) in
+    let count : (64 - (j + length words)) + j ≡ 64 - length words = omega (arith, le) in
+    ap (λ (n : ℕ). replicate (64 - n) (Bytes 0) ++ (replicate j (Bytes 0) ++ words)) long
+    ∙ (sym (append_assoc (replicate (64 - (j + length words)) (Bytes 0)) (replicate j (Bytes 0)) words)
+    ∙ (ap (λ (ws : List Word). ws ++ words) (replicate-append-replicate (64 - (j + length words)) j (Bytes 0))
+    ∙ ap (λ (n : ℕ). replicate n (Bytes 0) ++ words) count))
+
+-- a word among those that are kept is written
+pub all_words-set : (words : List Word) (w : ℕ) (v : Word) → 64 - length words ≤ w → all_words (set words (w - (64 - length words)) v) ≡ set (all_words words) w v
+all_words-set words w v le =
+    ap (λ (n : ℕ). replicate (64 - n) (Bytes 0) ++ set words (w - (64 - length words)) v) (length-set words (w - (64 - length words)) v)
+    ∙ sym (set-append_right (replicate (64 - length words) (Bytes 0)) words (64 - length words) w v (length-replicate (64 - length words) (Bytes 0)) le)

@@ -5,3 +5,4 @@ pub mod Words
 pub mod StateView
 pub mod States
 pub mod References
+pub mod Stack

@@ -20,8 +20,12 @@ ghost use Rattle.ebpf_state.specs.States.{joined_list, is_same_held};
 ghost use Rattle.ebpf_state.specs.References.{settled_value, settled_word};
 
 use crate::held::{Held, settle_held};
+use crate::stack::{
+    StackFault, StoreFault, bytes_in, is_whole_word, load_at, may_point, place_of, store_at,
+};
 use crate::value::Abs;
 use crate::word::Word;
+use ebpf_insn::insn::Size;
 use ebpf_insn::register::Reg;
 use std::alloc::{AllocError, Global};
 use std::marker::Model;
@@ -79,6 +83,7 @@ impl From<AllocError> for JoinFault {
 
 impl State {
     ghost use Rattle.ebpf_state.specs.References.{settled};
+    ghost use Rattle.ebpf_state.specs.Stack.{loaded, stored, Stores};
     ghost use Rattle.ebpf_state.specs.StateView.{StateView};
     ghost use Rattle.ebpf_state.specs.States.{first_state, joined_state, then_joined, register_of, with_register, Joins, JoinsInto};
 
@@ -153,6 +158,44 @@ impl State {
         settle_registers(&mut facts.registers, call, null);
         settle_words(&mut facts.words, call, null);
         settle_held(&mut facts.held, call, null);
+    }
+
+    /// What is known of the value that is loaded from an offset from the frame pointer, or why it can't be. A number that
+    /// is narrower than a register may be extended by its sign.
+    ///
+    /// # Errors
+    /// `Bounds` where the bytes are not all of the stack, else `UnsetByte` where one of them may be unset, else
+    /// `SplitPointer` where one is part of a pointer, or of an answer not compared yet.
+    pub fn load(&self, size: Size, signed: bool, offset: i64) -> Result<Abs, StackFault>
+        ensures value { result ≡ loaded self.now size signed offset }
+        ensures proper { IfOk result IsProper }
+    {
+        let bytes = bytes_in(size);
+        match place_of(offset, bytes) {
+            Some(place) => load_at(&self.facts.words, place, bytes, signed),
+            None => Err(StackFault::Bounds),
+        }
+    }
+
+    /// Says that a value is stored at an offset from the frame pointer.
+    ///
+    /// # Errors
+    /// `Bounds` where the bytes are not all of the stack, else `SplitPointer` where a pointer, or an answer not compared
+    /// yet, would not be an aligned word; `NoMemory` where an allocation failed. The state stays as it is.
+    pub fn store(&mut self, size: Size, offset: i64, value: Abs) -> Result<(), StoreFault>
+        requires proper { IsProper value }
+        ensures { Stores (stored self.old size offset value) self.old self.new result }
+    {
+        let bytes = bytes_in(size);
+        let Some(place) = place_of(offset, bytes) else {
+            return Err(StoreFault::Refused(StackFault::Bounds));
+        };
+        if may_point(value) && !is_whole_word(place, bytes) {
+            return Err(StoreFault::Refused(StackFault::SplitPointer));
+        }
+        let facts = &mut *self.facts;
+        store_at(&mut facts.words, place, bytes, value)?;
+        Ok(())
     }
 
     /// What is known where two paths meet, one of which knows each.
@@ -254,7 +297,7 @@ fn join_words(left: &mut [Word], right: &[Word])
 }
 
 // What is known of a word of the stack, by its topmost words.
-fn word_at(words: &[Word], number: usize) -> Word
+pub(crate) fn word_at(words: &[Word], number: usize) -> Word
     requires few { length words.now ≤ 64 }
     requires inside { number < 64 }
     requires proper { All IsProperWord words.now }

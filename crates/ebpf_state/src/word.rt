@@ -48,7 +48,7 @@ impl Word {
 }
 
 // A spill of a value, or a word of which nothing is known.
-fn spill_or_nothing(value: Abs) -> Word
+pub(crate) fn spill_or_nothing(value: Abs) -> Word
     requires { IsProper value }
     ensures value { result ≡ spill_or_nothing value }
     ensures proper { IsProperWord result }
