@@ -279,7 +279,7 @@ fn kept_from(words: &Vec<Word>, number: usize) -> Result<Vec<Word>, AllocError>
     Ok(kept)
 }
 
-// Writes those of the bytes that lie in a word, which is kept or behind the last.
+// Writes those of the bytes that lie in a word, which is kept.
 fn write_at(words: &mut [Word], place: usize, bytes: usize, number: usize)
     requires place { place < 512 }
     requires bytes { bytes ≤ 8 }
