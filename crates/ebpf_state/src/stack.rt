@@ -1,4 +1,7 @@
 //! Loads from the stack and stores to it.
+//!
+//! At most eight bytes are moved, so they lie in the word where they begin and in the next one. A store has all words kept
+//! from the first of them on before it writes, so that where an allocation fails nothing was written.
 
 ghost use Rattle.std.specs.Prelude.{◌≡◌, ◌≤◌, ◌<◌, ◌^◌, length, All, IfOk, IfErr, IfSome, ◌+◌, OnOk, Some, slice_set, ◌-◌};
 ghost use Rattle.ebpf_state.specs.declared.word.Word.{Word};
@@ -279,7 +282,7 @@ fn kept_from(words: &Vec<Word>, number: usize) -> Result<Vec<Word>, AllocError>
     Ok(kept)
 }
 
-// Writes those of the bytes that lie in a word, which is kept or behind the last.
+// Writes those of the bytes that lie in a word, which is kept.
 fn write_at(words: &mut [Word], place: usize, bytes: usize, number: usize)
     requires place { place < 512 }
     requires bytes { bytes ≤ 8 }
