@@ -4,9 +4,11 @@ ghost use Rattle.ebpf_state.specs.Abstract.{IsProper};
 ghost use Rattle.ebpf_state.specs.Words.{IsProperWord};
 
 use crate::programs::holds;
+use ebpf_insn::insn::Size;
 use ebpf_insn::register::Reg;
 use ebpf_range::range::Range;
 use ebpf_state::kinds::kinds;
+use ebpf_state::stack::{StackFault, StoreFault};
 use ebpf_state::state::State;
 use ebpf_state::value::Abs;
 use ebpf_state::word::Word;
@@ -165,4 +167,26 @@ fn an_answer_turns_out_to_be_null_or_an_object(rt: HostRuntime) {
     holds(&rt, "an object", is_object);
     let stays = matches!(other.reg(Reg::R6), Abs::May(4));
     holds(&rt, "another answer", stays);
+}
+
+#[test]
+fn the_stack_is_stored_to_and_loaded_from(rt: HostRuntime) {
+    let mut state = State::start(rt.alloc()).expect(&rt, "out of memory");
+    let unset = state.load(Size::B, false, -8);
+    let is_unset = matches!(unset, Err(StackFault::UnsetByte));
+    holds(&rt, "nothing was stored", is_unset);
+    let stored = state.store(Size::D, -8, number(5));
+    let loaded = state.load(Size::D, false, -8);
+    let is_five = matches!(loaded, Ok(Abs::Num(Range { lo: 5, hi: 5 })));
+    holds(&rt, "a number", stored.is_ok() && is_five);
+    let byte = state.load(Size::B, false, -1);
+    let is_byte = matches!(byte, Ok(Abs::Num(Range { lo: 0, hi: 255 })));
+    holds(&rt, "a byte of it", is_byte);
+    let stored = state.store(Size::D, -512, Abs::Stk(0));
+    let split = state.load(Size::W, false, -512);
+    let is_split = matches!(split, Err(StackFault::SplitPointer));
+    holds(&rt, "half a pointer", stored.is_ok() && is_split);
+    let below = state.store(Size::B, -513, number(0));
+    let is_outside = matches!(below, Err(StoreFault::Refused(StackFault::Bounds)));
+    holds(&rt, "below the stack", is_outside);
 }
