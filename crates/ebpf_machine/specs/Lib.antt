@@ -1,5 +1,4 @@
 pub mod Values
-pub mod Cells
 pub mod Effect
 pub mod Bytes
 pub mod World
