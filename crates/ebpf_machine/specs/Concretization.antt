@@ -1,15 +1,23 @@
 -- Which runs an abstract state speaks of.
-use Rattle.std.specs.Prelude.{◌≡◌, ◌<◌, ◌^◌, ℕ, pos, ◌≤ℤ◌, List, map, Contains, Option, Some, None, slice_index_or}
+use Rattle.std.specs.Prelude.{◌≡◌, ◌<◌, ◌+◌, ◌*◌, ◌^◌, ℕ, pos, ◌≤ℤ◌, List, map, Contains, Option, Some, None, slice_index_or}
+use Rattle.std.specs.Int.{bit_at}
 use Rattle.ebpf_range.specs.Interval.{IsWithin}
 use Rattle.ebpf_state.specs.declared.value.Abs.{Abs}
 use Rattle.ebpf_state.specs.declared.value.Abs.TheVariants.{Unset, Num, Stk, Ctx, Ob, May}
+use Rattle.ebpf_state.specs.declared.word.Word.{Word}
+use Rattle.ebpf_state.specs.declared.word.Word.TheVariants.{Spill, Bytes}
 use Rattle.ebpf_state.specs.declared.held.Held.{Held}
+use Rattle.ebpf_state.specs.Stack.{word_of}
 use Rattle.ebpf_state.specs.StateView.{StateView}
 use Rattle.ebpf_verify.specs.declared.entry.EntryState.{EntryState}
 use Rattle.ebpf_verify.specs.declared.entry.EntryState.TheVariants.{Unreached, Known, Conflict}
 use Rattle.ebpf_machine.specs.declared.value.Value.{Value}
 use Rattle.ebpf_machine.specs.declared.value.Value.TheVariants.{Number, Pointer}
 use Rattle.ebpf_machine.specs.declared.value.Base.TheVariants.{Stack, Context, Object}
+use Rattle.ebpf_machine.specs.declared.value.Cell.{Cell}
+use Rattle.ebpf_machine.specs.declared.value.Cell.TheVariants.{Byte}
+use Rattle.ebpf_machine.specs.Values.{Frame}
+use Rattle.ebpf_machine.specs.Cells.{cell_at, cell_of}
 use Rattle.ebpf_machine.specs.View.{ObjectView}
 
 -- an abstract value speaks of a value, where the run holds the objects of these calls: a 64-bit number of the range, a pointer at
@@ -32,13 +40,25 @@ calls_of objects = map (λ o. o.call) objects
 abbrev pub AreReferred : List Held → List ObjectView → Type 0
 AreReferred held objects = (o : ObjectView) → Contains objects o → (h : Held) × Contains held h × (h.call ≡ o.call) × (h.kind ≡ o.kind)
 
--- a state speaks of a run with these registers and objects
-pub record AreOf (s : StateView) (registers : List (Option (Value ℕ))) (objects : List ObjectView) : Type 0 where
-  pub each : (k : ℕ) → k < 11 → IsOf (calls_of objects) (slice_index_or s.registers k Unset) (slice_index_or registers k None)
+-- a cell holds a byte
+abbrev pub IsByte : Cell ℕ → Type 0
+IsByte (Byte b) = Unit {0}
+IsByte _ = ⊥
+
+-- what is known of a word of the stack speaks of these eight cells: a spill is in all of them, and a mask says which are bytes;
+-- of the others anything may be so
+abbrev pub IsOfCells : List ℕ → Word → (ℕ → Cell ℕ) → Type 0
+IsOfCells calls (Spill a) cells = (v : Value ℕ) × IsOf calls a (Some v) × ((j : ℕ) → j < 8 → cells j ≡ cell_of v j)
+IsOfCells calls (Bytes mask) cells = (j : ℕ) → j < 8 → bit_at mask j ≡ 1 → IsByte (cells j)
+
+-- a state speaks of a run with this frame and these objects
+pub record AreOf (s : StateView) (frame : Frame ℕ) (objects : List ObjectView) : Type 0 where
+  pub each : (k : ℕ) → k < 11 → IsOf (calls_of objects) (slice_index_or s.registers k Unset) (slice_index_or frame.registers k None)
+  pub words : (w : ℕ) → w < 64 → IsOfCells (calls_of objects) (word_of s.words w) (λ j. cell_at frame.stack (8 * w + j))
   pub held : AreReferred s.held objects
 
 -- what comes to a slot speaks of a run there
-abbrev pub Arrives : EntryState → List (Option (Value ℕ)) → List ObjectView → Type 0
-Arrives Unreached registers objects = ⊥
-Arrives (Known s) registers objects = AreOf s registers objects
-Arrives Conflict registers objects = Unit {0}
+abbrev pub Arrives : EntryState → Frame ℕ → List ObjectView → Type 0
+Arrives Unreached frame objects = ⊥
+Arrives (Known s) frame objects = AreOf s frame objects
+Arrives Conflict frame objects = Unit {0}

@@ -1,4 +1,5 @@
 pub mod Values
+pub mod Cells
 pub mod Effect
 pub mod Bytes
 pub mod World

@@ -30,9 +30,17 @@ abbrev pub FitsRegister : Option (Value ℕ) → Type 0
 FitsRegister None = Unit {0}
 FitsRegister (Some v) = FitsValue v
 
--- it does not trap, and what it leaves in the registers fits
+abbrev pub FitsCell : Cell ℕ → Type 0
+FitsCell (Part v j) = FitsValue v
+FitsCell _ = Unit {0}
+
+pub record FitsFrame (frame : Frame ℕ) : Type 0 where
+  pub registers : All FitsRegister frame.registers
+  pub stack : All FitsCell frame.stack
+
+-- it does not trap, and what it leaves in the frame fits
 abbrev pub IsFine : Effect ℕ → Type 0
-IsFine (Goes act to frame) = All FitsRegister frame.registers
+IsFine (Goes act to frame) = FitsFrame frame
 IsFine (Ends n) = Unit {0}
 IsFine (Traps trap) = ⊥
 
@@ -42,7 +50,7 @@ IsFine (Traps trap) = ⊥
 pub record IsGoing (v : RunView) : Type 0 where
   pub inside : is_none (insn_at v.subject.program v.pc) ≡ false
   pub few : v.executed ≤ count_below v.subject.program v.pc
-  pub state : Arrives (entry_of v.subject.program v.pc) v.frame.registers v.objects
+  pub state : Arrives (entry_of v.subject.program v.pc) v.frame v.objects
   pub behind : All (λ o. o.call < v.pc) v.objects
   pub declared : length v.objects ≤ v.subject.decl.held
 
@@ -58,7 +66,9 @@ IsWellStated (Trapped trap) v = ⊥
 pub record IsSound (v : RunView) : Type 0 where
   pub accepted : IsAccepted v.subject
   pub registers : length v.frame.registers ≡ 11
-  pub fit : All FitsRegister v.frame.registers
+  pub stack : length v.frame.stack ≡ 512
+  pub context : length v.context ≡ v.subject.decl.context
+  pub fit : FitsFrame v.frame
   pub stated : IsWellStated v.status v
 
 -- it is what the run alone is after as many instructions, with its own replies
@@ -114,3 +124,4 @@ pub record IsOwned (w : World) : Type 0 where
   pub one_a_call : (o p : Owner) → Contains w.owners o → Contains w.owners p → o.holder ≡ p.holder → o ≡ p
   pub asked : (o : Owner) → Contains w.owners o → IsOfKind w o.holder (kind_in w o.slot)
   pub pointers : (run : ℕ) (r : Running) → slice_get w.runs run ≡ Some r → (n : Name) → HasPointer r.frame n → IsTrue w run r n
+  pub one_slot : (run : ℕ) (r : Running) → slice_get w.runs run ≡ Some r → (n m : Name) → HasPointer r.frame n → HasPointer r.frame m → n.1 ≡ m.1 → n.0 ≡ m.0

@@ -4,6 +4,7 @@ use Rattle.std.specs.Prelude.{ℕ, [], ◌∷◌, Bool, true, false, ◌||◌, n
 use Rattle.ebpf_insn.specs.declared.register.Reg.TheVariants.{R0}
 use Rattle.ebpf_insn.specs.declared.insn.Insn.{Insn}
 use Rattle.ebpf_insn.specs.declared.insn.Insn.TheVariants as insn
+use Rattle.ebpf_insn.specs.declared.insn.Width.TheVariants.{W64}
 use Rattle.ebpf_insn.specs.Faults.{first_of}
 use Rattle.ebpf_range.specs.Interval.{constant}
 use Rattle.ebpf_range.specs.Results.{extension_range, negation_range, swap_range}
@@ -12,15 +13,15 @@ use Rattle.ebpf_state.specs.declared.value.Abs.TheVariants.{Num}
 use Rattle.ebpf_state.specs.Abstract.{is_unset, is_pointer, is_may}
 use Rattle.ebpf_state.specs.StateView.{StateView}
 use Rattle.ebpf_state.specs.States.{register_of, with_register}
+use Rattle.ebpf_verify.specs.declared.decl.Decl.{Decl}
 use Rattle.ebpf_verify.specs.declared.fault.VerifyCode.{VerifyCode}
 use Rattle.ebpf_verify.specs.declared.fault.VerifyCode.TheVariants.{V0, V1, V17, V18}
 use Rattle.ebpf_verify.specs.Operations.{constant_refusal, unary_refusal, alu_refusal, unary_value, result_of}
 use Rattle.ebpf_verify.specs.Branches.{operand, null_test, branch_refusal, after_branch}
+use Rattle.ebpf_verify.specs.Memory.{load_refusal, loaded_value, store_refusal, after_store}
 
--- loads, stores and calls have no rule yet
+-- calls have no rule yet
 abbrev pub has_rule : Insn → Bool
-has_rule (insn.Load size signed dst base offset) = false
-has_rule (insn.Store size base offset src) = false
 has_rule (insn.Call number) = false
 has_rule _ = true
 
@@ -32,31 +33,35 @@ exit_refusal result held = first_of (
     (is_pointer result || is_may result, V18) ∷
     [])
 
--- the first code that refuses an instruction, where this is known before it
-abbrev pub refusal : Insn → StateView → Option VerifyCode
-refusal (insn.Alu width o dst src) s = alu_refusal width o (register_of s dst) (operand s width src) dst
-refusal (insn.Sext width bits dst src) s = unary_refusal (register_of s src) dst
-refusal (insn.Neg width dst) s = unary_refusal (register_of s dst) dst
-refusal (insn.Swap order bits dst) s = unary_refusal (register_of s dst) dst
-refusal (insn.Wide dst value) s = constant_refusal dst
-refusal (insn.Jump offset) s = None
-refusal (insn.JumpFar offset) s = None
-refusal (insn.Branch width condition left right offset) s = branch_refusal (null_test width condition (register_of s left) right) (register_of s left) (operand s width right)
-refusal insn.Exit s = exit_refusal (register_of s R0) (length s.held)
-refusal _ s = Some V0
+-- the first code that refuses an instruction of a program that declares this, where this is known before it
+abbrev pub refusal : Decl → Insn → StateView → Option VerifyCode
+refusal decl (insn.Alu width o dst src) s = alu_refusal width o (register_of s dst) (operand s width src) dst
+refusal decl (insn.Sext width bits dst src) s = unary_refusal (register_of s src) dst
+refusal decl (insn.Neg width dst) s = unary_refusal (register_of s dst) dst
+refusal decl (insn.Swap order bits dst) s = unary_refusal (register_of s dst) dst
+refusal decl (insn.Wide dst value) s = constant_refusal dst
+refusal decl (insn.Jump offset) s = None
+refusal decl (insn.JumpFar offset) s = None
+refusal decl (insn.Branch width condition left right offset) s = branch_refusal (null_test width condition (register_of s left) right) (register_of s left) (operand s width right)
+refusal decl insn.Exit s = exit_refusal (register_of s R0) (length s.held)
+refusal decl (insn.Load size signed dst base offset) s = load_refusal decl.context size signed dst offset (register_of s base) s
+refusal decl (insn.Store size base offset src) s = store_refusal size offset (register_of s base) (operand s W64 src) s
+refusal decl (insn.Call number) s = Some V0
 
--- what is known after arithmetic that is not refused
+-- what is known after arithmetic, or a load, that is not refused
 abbrev pub after_operation : Insn → StateView → Option StateView
 after_operation (insn.Alu width o dst src) s = Some (with_register s dst (result_of width o (register_of s dst) (operand s width src)))
 after_operation (insn.Sext width bits dst src) s = Some (with_register s dst (unary_value (extension_range width bits) (register_of s src)))
 after_operation (insn.Neg width dst) s = Some (with_register s dst (unary_value (negation_range width) (register_of s dst)))
 after_operation (insn.Swap order bits dst) s = Some (with_register s dst (unary_value (swap_range order bits) (register_of s dst)))
 after_operation (insn.Wide dst value) s = Some (with_register s dst (Num (constant value)))
+after_operation (insn.Load size signed dst base offset) s = Some (with_register s dst (loaded_value size signed offset (register_of s base) s))
 after_operation _ s = None
 
 -- what is known after an instruction that is not refused, on the edge to the slot after it
 abbrev pub after_fall : Insn → StateView → Option StateView
 after_fall (insn.Branch width condition left right offset) s = after_branch condition width left right false s
+after_fall (insn.Store size base offset src) s = after_store size offset (register_of s base) (operand s W64 src) s
 after_fall i s = after_operation i s
 
 -- the same on the edge to the target of its jump

@@ -6,6 +6,7 @@ use Rattle.ebpf_insn.specs.Encoding.{IsWellFormed}
 use Rattle.ebpf_flow.specs.Flow.{AreForward, flow_fault, or_else}
 use Rattle.ebpf_insn.specs.Faults.{lowest}
 use Rattle.ebpf_state.specs.declared.kinds.KindRow.{KindRow}
+use Rattle.ebpf_verify.specs.declared.decl.Decl.{Decl}
 use Rattle.ebpf_verify.specs.declared.entry.EntryState.{EntryState}
 use Rattle.ebpf_verify.specs.declared.entry.EntryState.TheVariants.{Known, Conflict}
 use Rattle.ebpf_verify.specs.declared.fault.VerifyCode.{VerifyCode}
@@ -17,14 +18,14 @@ use Rattle.ebpf_verify.specs.Rules.{has_rule, refusal}
 use Rattle.ebpf_verify.specs.Entry.{entry_of}
 
 -- a slot that is never entered refuses nothing
-abbrev pub refusal_in : Option Insn → EntryState → Option VerifyCode
-refusal_in i Conflict = Some V19
-refusal_in (Some i) (Known s) = refusal i s
-refusal_in i _ = None
+abbrev pub refusal_in : Decl → Option Insn → EntryState → Option VerifyCode
+refusal_in decl i Conflict = Some V19
+refusal_in decl (Some i) (Known s) = refusal decl i s
+refusal_in decl i _ = None
 
 -- the first code that refuses a slot
 abbrev pub refusal_at : Subject → ℕ → Option VerifyCode
-refusal_at s slot = refusal_in (insn_at s.program slot) (entry_of s.program slot)
+refusal_at s slot = refusal_in s.decl (insn_at s.program slot) (entry_of s.program slot)
 
 -- the code of an instruction that has no rule yet
 abbrev pub unruled_in : Option Insn → Option VerifyCode
