@@ -46,8 +46,8 @@ impl From<AllocError> for StoreFault {
     }
 }
 
-// How many bytes a load or a store moves.
-pub(crate) fn bytes_in(size: Size) -> usize
+/// How many bytes a load or a store moves: 1, 2, 4 or 8.
+pub fn bytes_in(size: Size) -> usize
     ensures value { result ≡ bytes_in size }
     ensures some { 0 < result }
     ensures few { result ≤ 8 }
@@ -60,8 +60,9 @@ pub(crate) fn bytes_in(size: Size) -> usize
     }
 }
 
-// Where the bytes begin, among the 512 of the stack.
-pub(crate) fn place_of(offset: i64, bytes: usize) -> Option<usize>
+/// Where so many bytes at an offset from the frame pointer begin, among the 512 of the stack; `None` where one of them is
+/// outside.
+pub fn place_of(offset: i64, bytes: usize) -> Option<usize>
     requires some { 0 < bytes }
     requires few { bytes ≤ 8 }
     ensures value { result ≡ place_of offset bytes }
@@ -74,8 +75,8 @@ pub(crate) fn place_of(offset: i64, bytes: usize) -> Option<usize>
     }
 }
 
-// The bytes are an aligned word.
-pub(crate) fn is_whole_word(place: usize, bytes: usize) -> bool
+/// The bytes at a place of the stack are an aligned word, which alone may hold a pointer.
+pub fn is_whole_word(place: usize, bytes: usize) -> bool
     ensures { result ≡ is_whole_word place bytes }
 {
     bytes == 8 && place % 8 == 0
@@ -167,8 +168,8 @@ fn read_fault(place: usize, bytes: usize, words: &[Word]) -> Option<StackFault>
     }
 }
 
-// What is known of a number of so many bytes.
-fn loaded_range(bytes: usize, signed: bool) -> Range
+/// What is known of a loaded number of so many bytes, at most 8: with its sign above them it may be any of 64 bits.
+pub fn loaded_range(bytes: usize, signed: bool) -> Range
     requires { bytes ≤ 8 }
     ensures value { result ≡ loaded_range bytes signed }
     ensures ordered { result.lo ≤ result.hi }

@@ -137,8 +137,8 @@ fn sub64_refusal(left: Abs, right: Abs, dst: Reg) -> Option<VerifyCode>
     }
 }
 
-// The register is the read-only frame pointer.
-fn is_frame_pointer(register: Reg) -> bool
+/// The register is the read-only frame pointer.
+pub(crate) fn is_frame_pointer(register: Reg) -> bool
     ensures { result ≡ is_frame_pointer register }
 {
     matches!(register, Reg::R10)

@@ -1,0 +1,172 @@
+//! The rules of loads and stores: what refuses one, and what is known after it (RFC 9669, sections 5.1 and 5.2).
+
+ghost use Rattle.std.specs.Prelude.{◌≡◌, ◌≤◌, ◌+ℤ◌, IfOk, IfErr, OnOk, Some, None, Ok, Err};
+ghost use Rattle.ebpf_state.specs.Abstract.{IsProper};
+ghost use Rattle.ebpf_state.specs.Stack.{bytes_in, place_of, loaded};
+ghost use Rattle.ebpf_verify.specs.declared.decl.TheConstants.{MAX_CONTEXT};
+ghost use Rattle.ebpf_verify.specs.Memory.{is_number, stack_code, refused_access, is_in_context, load_refusal, loaded_value, reading_refusal, store_refusal, after_store, IsAccessFault};
+
+use crate::fault::VerifyCode;
+use crate::operations::is_frame_pointer;
+use ebpf_insn::insn::Size;
+use ebpf_insn::register::Reg;
+use ebpf_state::stack::{StackFault, StoreFault, bytes_in, loaded_range};
+use ebpf_state::state::State;
+use ebpf_state::value::Abs;
+
+/// Why a store is refused, or was not done.
+#[derive(Clone, Copy)]
+pub(crate) enum AccessFault {
+    Refused(VerifyCode),
+    /// An allocation failed.
+    NoMemory,
+}
+
+impl From<StoreFault> for AccessFault {
+    ghost use Rattle.ebpf_verify.specs.Memory.{fault_of};
+
+    ghost from_gives = { λ fault e. e ≡ fault_of fault };
+
+    fn from(fault: StoreFault) -> AccessFault {
+        match fault {
+            StoreFault::Refused(fault) => AccessFault::Refused(stack_code(fault)),
+            StoreFault::NoMemory => AccessFault::NoMemory,
+        }
+    }
+}
+
+/// A load: how wide it is, and from where to where.
+#[derive(Clone, Copy)]
+pub(crate) struct Load {
+    pub(crate) size: Size,
+    pub(crate) signed: bool,
+    pub(crate) dst: Reg,
+    pub(crate) offset: i16,
+}
+
+/// What is known of the value that is loaded through a base, or the first code that refuses the load.
+pub(crate) fn load(context: u32, load: Load, base: Abs, state: &State) -> Result<Abs, VerifyCode>
+    requires { context ≤ MAX_CONTEXT }
+    ensures refused { IfErr result (λ code. load_refusal context load.size load.signed load.dst load.offset base state.now ≡ Some code) }
+    ensures fine { OnOk result (load_refusal context load.size load.signed load.dst load.offset base state.now ≡ None) }
+    ensures value { IfOk result (λ value. value ≡ loaded_value load.size load.signed load.offset base state.now) }
+    ensures proper { IfOk result IsProper }
+{
+    if base.is_unset() {
+        Err(VerifyCode::V1)
+    } else if is_frame_pointer(load.dst) {
+        Err(VerifyCode::V2)
+    } else if is_number(base) {
+        Err(VerifyCode::V13)
+    } else if base.is_may() {
+        Err(VerifyCode::V11)
+    } else {
+        read(context, load, base, state)
+    }
+}
+
+// What is known of the bytes behind a pointer, or the code that refuses the load of them. Of an object nothing is known yet.
+fn read(context: u32, load: Load, base: Abs, state: &State) -> Result<Abs, VerifyCode>
+    requires { context ≤ MAX_CONTEXT }
+    ensures refused { IfErr result (λ code. reading_refusal context load.size load.signed load.offset base state.now ≡ Some code) }
+    ensures fine { OnOk result (reading_refusal context load.size load.signed load.offset base state.now ≡ None) }
+    ensures value { IfOk result (λ value. value ≡ loaded_value load.size load.signed load.offset base state.now) }
+    ensures proper { IfOk result IsProper }
+{
+    match base {
+        Abs::Stk(k) => read_stack(load, k, state),
+        Abs::Ctx(low, high) => {
+            let bytes = bytes_in(load.size);
+            if is_in_context(context, low, high, load.offset, bytes) {
+                Ok(Abs::Num(loaded_range(bytes, load.signed)))
+            } else {
+                Err(VerifyCode::V8)
+            }
+        }
+        Abs::Ob(_, _, _) => Err(VerifyCode::V10),
+        _ => Ok(Abs::Unset),
+    }
+}
+
+// What is known of bytes of the stack, or the code that refuses the load of them.
+fn read_stack(load: Load, k: i64, state: &State) -> Result<Abs, VerifyCode>
+    ensures refused { IfErr result (λ code. refused_access (loaded state.now load.size load.signed (k +ℤ load.offset)) ≡ Some code) }
+    ensures value { IfOk result (λ value. loaded state.now load.size load.signed (k +ℤ load.offset) ≡ Ok value) }
+    ensures proper { IfOk result IsProper }
+{
+    let at = stack_offset(k, load.offset, load.size);
+    match state.load(load.size, load.signed, at) {
+        Ok(value) => Ok(value),
+        Err(fault) => Err(stack_code(fault)),
+    }
+}
+
+// The offset from the frame pointer that an instruction adds to a pointer's own. One that is too far for 64 bits is told as
+// another that is outside the stack, too.
+fn stack_offset(k: i64, offset: i16, size: Size) -> i64
+    ensures { place_of result (bytes_in size) ≡ place_of (k +ℤ offset) (bytes_in size) }
+{
+    k.saturating_add(offset as i64)
+}
+
+// The bytes at an offset from an address lie in the context, wherever between its ends the address is.
+fn is_in_context(context: u32, low: i64, high: i64, offset: i16, bytes: usize) -> bool
+    requires context { context ≤ MAX_CONTEXT }
+    requires bytes { bytes ≤ 8 }
+    ensures { result ≡ is_in_context context low high offset bytes }
+{
+    let offset = offset as i64;
+    low >= -offset && high <= context as i64 - bytes as i64 - offset
+}
+
+// The value is a number.
+fn is_number(value: Abs) -> bool
+    ensures { result ≡ is_number value }
+{
+    matches!(value, Abs::Num(_))
+}
+
+fn stack_code(fault: StackFault) -> VerifyCode
+    ensures { result ≡ stack_code fault }
+{
+    match fault {
+        StackFault::Bounds => VerifyCode::V6,
+        StackFault::UnsetByte => VerifyCode::V7,
+        StackFault::SplitPointer => VerifyCode::V12,
+    }
+}
+
+/// A store: how wide it is, and to where.
+#[derive(Clone, Copy)]
+pub(crate) struct Store {
+    pub(crate) size: Size,
+    pub(crate) offset: i16,
+}
+
+/// Says in the state that a value is stored through a base, or says why that can't be.
+pub(crate) fn store(
+    store: Store,
+    base: Abs,
+    value: Abs,
+    state: &mut State,
+) -> Result<(), AccessFault>
+    requires { IsProper value }
+    ensures done { OnOk result ((store_refusal store.size store.offset base value state.old ≡ None) × (after_store store.size store.offset base value state.old ≡ Some state.new)) }
+    ensures refused { IfErr result (IsAccessFault (store_refusal store.size store.offset base value state.old)) }
+{
+    if base.is_unset() || value.is_unset() {
+        return Err(AccessFault::Refused(VerifyCode::V1));
+    }
+    match base {
+        Abs::Stk(k) => {
+            let at = stack_offset(k, store.offset, store.size);
+            state.store(store.size, at, value)?;
+            Ok(())
+        }
+        Abs::Ctx(_, _) => Err(AccessFault::Refused(VerifyCode::V9)),
+        Abs::Ob(_, _, _) => Err(AccessFault::Refused(VerifyCode::V10)),
+        Abs::May(_) => Err(AccessFault::Refused(VerifyCode::V11)),
+        Abs::Num(_) => Err(AccessFault::Refused(VerifyCode::V13)),
+        Abs::Unset => Err(AccessFault::Refused(VerifyCode::V1)),
+    }
+}
