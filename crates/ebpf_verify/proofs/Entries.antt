@@ -4,7 +4,7 @@ use Rattle.std.specs.Prelude.{if◌then◌else◌, ◌==◌}
 use Rattle.ebpf_insn.specs.declared.insn.Insn.{Insn}
 use Rattle.ebpf_insn.specs.Program.{insn_at}
 use Rattle.ebpf_insn.specs.Faults.{lowest}
-use Rattle.ebpf_insn.proofs.FaultLemmas.{lowest_at}
+use Rattle.ebpf_insn.proofs.FaultLemmas.{lowest_at, none_below}
 use Rattle.ebpf_flow.specs.Edges.{edges_at}
 use Rattle.ebpf_state.specs.States.{first_state}
 use Rattle.ebpf_verify.specs.declared.entry.EntryState.{EntryState}
@@ -33,6 +33,10 @@ arrived-more p slot t here there e f =
 pub refusal_here : (s : Subject) (slot : ℕ) (here : EntryState) (code : Option VerifyCode) → here ≡ arrived s.program slot slot → refusal_in (insn_at s.program slot) here ≡ code → refusal_at s slot ≡ code
 refusal_here s slot here code e h = ap (refusal_in (insn_at s.program slot)) (sym e) ∙ h
 
-pub refused_here : (s : Subject) (slot : ℕ) (here : EntryState) (fault : VerifyFault) → slot < length s.program → lowest (unruled_at s.program) (length s.program) ≡ None → lowest (refusal_at s) slot ≡ None → here ≡ arrived s.program slot slot → IsSlotFault slot (refusal_in (insn_at s.program slot) here) fault → IsVerifyFault s fault
-refused_here s slot here NoMemory inside done before e h = tt
-refused_here s slot here (Refused at code) inside done before e h = rw (h.0, done) (lowest_at (refusal_at s) slot (length s.program) code before (refusal_here s slot here (Some code) e h.1) inside)
+refused_slot : (s : Subject) (slot : ℕ) (here : EntryState) (fault : VerifyFault) → slot < length s.program → lowest (unruled_at s.program) (length s.program) ≡ None → lowest (refusal_at s) slot ≡ None → here ≡ arrived s.program slot slot → IsSlotFault slot (refusal_in (insn_at s.program slot) here) fault → IsVerifyFault s fault
+refused_slot s slot here NoMemory inside done before e h = tt
+refused_slot s slot here (Refused at code) inside done before e h = rw (h.0, done) (lowest_at (refusal_at s) slot (length s.program) code before (refusal_here s slot here (Some code) e h.1) inside)
+
+-- where each instruction has a rule, the first slot that is refused decides
+pub refused_here : (s : Subject) (slot : ℕ) (here : EntryState) (fault : VerifyFault) → slot < length s.program → lowest (unruled_at s.program) (length s.program) ≡ None → lowest (refusal_at s) slot ≡ None → here ≡ arrived s.program slot slot → (unruled_at s.program slot ≡ None → IsSlotFault slot (refusal_in (insn_at s.program slot) here) fault) → IsVerifyFault s fault
+refused_here s slot here fault inside done before e h = refused_slot s slot here fault inside done before e (h (none_below (unruled_at s.program) (length s.program) done slot inside))

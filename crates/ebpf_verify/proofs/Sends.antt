@@ -1,5 +1,7 @@
 -- States that are sent along the edges of an instruction.
-use Rattle.std.proofs.Common.{◌≡◌, ℕ, zero, suc, Bool, List, [], ◌∷◌, set, Option, Some, refl, ap, ◌∙◌}
+use Rattle.std.proofs.Common.{◌≡◌, ℕ, zero, suc, Bool, true, false, List, [], ◌∷◌, set, Option, Some, None, IfSome, refl, sym, ap, ◌∙◌}
+use Rattle.std.proofs.lemmas.Bool.{eqb-true}
+use Rattle.ebpf_flow.specs.Edges.{leads_to}
 use Rattle.std.proofs.lemmas.List.{set-set}
 use Rattle.ebpf_insn.specs.declared.register.Reg.{Reg}
 use Rattle.ebpf_insn.specs.declared.insn.Source.{Source}
@@ -38,3 +40,18 @@ set_again left (Imm z) old new s t e =
 set_again left (Register r) old new s t e =
     let is : with_register (with_register s left (Num old.0)) r (Num old.1) ≡ t = cc in
     rw (← is) (ap (with_registers s) (set_both s.registers (number_of left) (number_of r) (Num old.0) (Num old.1) (Num new.0) (Num new.1)))
+
+-- a slot to which one edge leads alone gets the same in either order
+pub either_first : (fall jump : Bool) (a b : Option StateView) (e : EntryState) → (fall ≡ true → jump ≡ true → ⊥) → with_edge b jump (with_edge a fall e) ≡ with_edge a fall (with_edge b jump e)
+either_first fall jump None b e apart = refl
+either_first fall jump (Some a) None e apart = refl
+either_first true true (Some a) (Some b) e apart = absurd (apart refl refl)
+either_first true false (Some a) (Some b) e apart = refl
+either_first false true (Some a) (Some b) e apart = refl
+either_first false false (Some a) (Some b) e apart = refl
+
+-- edges to two slots don't both lead to one
+pub two_targets : (fall jump : Option ℕ) (t : ℕ) → IfSome fall (λ to. IfSome jump (λ target. (to ≡ target) → ⊥)) → leads_to fall t ≡ true → leads_to jump t ≡ true → ⊥
+two_targets None jump t apart falls jumps = let never : ⊥ = cc in absurd never
+two_targets (Some to) None t apart falls jumps = let never : ⊥ = cc in absurd never
+two_targets (Some to) (Some target) t apart falls jumps = apart (sym (eqb-true t to falls) ∙ eqb-true t target jumps)

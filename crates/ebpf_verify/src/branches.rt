@@ -1,13 +1,13 @@
 //! The rules of branches: what refuses one, and what is known on each of its edges (RFC 9669, section 4.3).
 
-ghost use Rattle.std.specs.Prelude.{◌≡◌, ◌≤◌, IfSome, Some};
+ghost use Rattle.std.specs.Prelude.{◌≡◌, ◌≤◌, OnOk, IfOk, IfErr, Some, None};
+ghost use Rattle.ebpf_state.specs.declared.value.Abs.{Abs};
 ghost use Rattle.ebpf_state.specs.Abstract.{IsProper};
-ghost use Rattle.ebpf_verify.specs.Branches.{operand, compares_with_null, answering_call, null_test, comparison_refusal, branch_refusal, refined_values, with_operand, with_operands, is_null_where, after_branch};
+ghost use Rattle.ebpf_verify.specs.Branches.{operand, null_test, comparison_refusal, with_operands, is_null_where};
 
 use crate::fault::VerifyCode;
 use ebpf_insn::insn::{Cond, Source, Width};
 use ebpf_insn::register::Reg;
-use ebpf_range::branches::refine;
 use ebpf_range::range::Range;
 use ebpf_state::state::State;
 use ebpf_state::value::Abs;
@@ -42,37 +42,20 @@ pub(crate) fn null_test(width: Width, cond: Cond, left: Abs, right: Source) -> O
     }
 }
 
-/// The first code that refuses a branch. A comparison that is no null test is of two numbers.
-pub(crate) fn branch_refusal(null_test: Option<u16>, left: Abs, right: Abs) -> Option<VerifyCode>
-    ensures { result ≡ branch_refusal null_test left right }
-{
-    if null_test.is_some() {
-        None
-    } else if left.is_unset() || right.is_unset() {
-        Some(VerifyCode::V1)
-    } else if left.is_pointer() || left.is_may() || right.is_pointer() || right.is_may() {
-        Some(VerifyCode::V5)
-    } else {
-        None
-    }
-}
-
-/// What is known of both operands where a branch is taken, or where it is not. `None` says that it never goes that way.
-pub(crate) fn refined_values(
-    cond: Cond,
-    width: Width,
-    left: Abs,
-    right: Abs,
-    taken: bool,
-) -> Option<(Range, Range)>
+/// The operands of a comparison that is no null test, which are two numbers, or the first code that refuses it.
+pub(crate) fn compared(left: Abs, right: Abs) -> Result<(Range, Range), VerifyCode>
     requires left { IsProper left }
     requires right { IsProper right }
-    ensures value { result ≡ refined_values cond width left right taken }
-    ensures ordered { IfSome result (λ p. (p.0.lo ≤ p.0.hi) × (p.1.lo ≤ p.1.hi)) }
+    ensures fine { OnOk result (comparison_refusal left right ≡ None) }
+    ensures left { IfOk result (λ p. left ≡ Abs.Num p.0) }
+    ensures right { IfOk result (λ p. right ≡ Abs.Num p.1) }
+    ensures ordered { IfOk result (λ p. (p.0.lo ≤ p.0.hi) × (p.1.lo ≤ p.1.hi)) }
+    ensures refused { IfErr result (λ code. comparison_refusal left right ≡ Some code) }
 {
     match (left, right) {
-        (Abs::Num(a), Abs::Num(b)) => refine(cond, width, a, b, taken),
-        _ => None,
+        (Abs::Num(a), Abs::Num(b)) => Ok((a, b)),
+        (Abs::Unset, _) | (_, Abs::Unset) => Err(VerifyCode::V1),
+        _ => Err(VerifyCode::V5),
     }
 }
 

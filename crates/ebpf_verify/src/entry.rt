@@ -1,6 +1,6 @@
 //! What is known before a slot, of all runs that come there.
 
-ghost use Rattle.std.specs.Prelude.{◌≡◌, OnOk};
+ghost use Rattle.std.specs.Prelude.{◌≡◌, OnOk, false};
 
 use ebpf_state::state::State;
 use std::alloc::AllocError;
@@ -17,24 +17,36 @@ pub enum EntryState {
 }
 
 impl EntryState {
+    ghost use Rattle.ebpf_verify.specs.declared.entry.EntryState.TheVariants.{Unreached};
     ghost use Rattle.ebpf_verify.specs.Entry.{with_state};
 
-    /// What is known where one more state comes, which takes no memory.
-    pub(crate) fn with(self, state: State) -> EntryState
-        ensures { result ≡ with_state self state }
+    /// Some run comes.
+    pub(crate) fn is_reached(&self) -> bool
+        ensures { result ≡ false → self.now ≡ Unreached }
     {
         match self {
-            EntryState::Unreached => EntryState::Known(state),
-            EntryState::Known(mut known) => {
-                if known.join_with(&state) {
-                    EntryState::Known(known)
-                } else {
-                    EntryState::Conflict
-                }
-            }
-            EntryState::Conflict => EntryState::Conflict,
+            EntryState::Unreached => false,
+            _ => true,
         }
     }
+
+    /// Adds one more state to what comes, which takes no memory.
+    pub(crate) fn take(&mut self, state: State)
+        ensures { self.new ≡ with_state self.old state }
+    {
+        let differs = match self {
+            EntryState::Unreached => {
+                *self = EntryState::Known(state);
+                return;
+            }
+            EntryState::Known(known) => !known.join_with(&state),
+            EntryState::Conflict => false,
+        };
+        if differs {
+            *self = EntryState::Conflict;
+        }
+    }
+
     /// Adds one more state to what comes. It is copied only where none came before.
     ///
     /// # Errors

@@ -1,139 +1,190 @@
-//! The rules of arithmetic: what refuses an operation, and what is known of its result (RFC 9669, sections 4.1 and 4.2).
+//! The rules of arithmetic: what refuses an operation, or else what is known of its result (RFC 9669, sections 4.1 and 4.2).
 
-ghost use Rattle.std.specs.Prelude.{◌≡◌};
-ghost use Rattle.ebpf_range.specs.Interval.{low};
-ghost use Rattle.ebpf_range.specs.Results.{extension_range, negation_range, swap_range};
+ghost use Rattle.std.specs.Prelude.{◌≡◌, ◌≤◌, OnOk, IfOk, IfErr, Some, None, unwrap_or};
+ghost use Rattle.ebpf_range.specs.Interval.{constant};
+ghost use Rattle.ebpf_state.specs.declared.value.Abs.{Abs};
 ghost use Rattle.ebpf_state.specs.Abstract.{IsProper};
-ghost use Rattle.ebpf_verify.specs.Operations.{is_frame_pointer, constant_refusal, mov64_refusal, unary_refusal, binary_refusal, makes_stack_offset_vary, add64_refusal, sub64_refusal, alu_refusal, unary_value, binary_value, result_of};
+ghost use Rattle.ebpf_verify.specs.Operations.{is_frame_pointer, constant_refusal, mov64_refusal, unary_refusal, binary_refusal, makes_stack_offset_vary, add64_refusal, sub64_refusal, alu_refusal, result_of};
+ghost use Rattle.ebpf_verify.specs.Pointers.{sum_value, difference_value};
 
 use crate::fault::VerifyCode;
 use crate::pointer::{difference_value, sum_value};
-use ebpf_insn::insn::{AluOp, Order, Width};
+use ebpf_insn::insn::{AluOp, Width};
 use ebpf_insn::register::Reg;
-use ebpf_range::results::{alu, neg, sext, swap};
+use ebpf_range::range::Range;
+use ebpf_range::results::alu;
 use ebpf_range::sums::low;
 use ebpf_state::value::Abs;
 
-/// The first code that refuses an operation.
-pub(crate) fn alu_refusal(
+/// What is known of the result of an operation, or the first code that refuses it.
+pub(crate) fn alu_value(
     width: Width,
     op: AluOp,
     left: Abs,
     right: Abs,
     dst: Reg,
-) -> Option<VerifyCode>
+) -> Result<Abs, VerifyCode>
     requires left { IsProper left }
     requires right { IsProper right }
-    ensures { result ≡ alu_refusal width op left right dst }
+    ensures fine { OnOk result (alu_refusal width op left right dst ≡ None) }
+    ensures value { IfOk result (λ value. value ≡ result_of width op left right) }
+    ensures proper { IfOk result IsProper }
+    ensures refused { IfErr result (λ code. alu_refusal width op left right dst ≡ Some code) }
 {
     match (width, op) {
-        (Width::W64, AluOp::Mov) => mov64_refusal(right, dst),
-        (Width::W32, AluOp::Mov) => unary_refusal(right, dst),
-        (Width::W64, AluOp::Add) => add64_refusal(left, right, dst),
-        (Width::W64, AluOp::Sub) => sub64_refusal(left, right, dst),
-        _ => binary_refusal(left, right, dst),
+        (Width::W64, AluOp::Mov) => mov64(right, dst),
+        (Width::W32, AluOp::Mov) => Ok(Abs::Num(low(one_number(right, dst)?))),
+        (Width::W64, AluOp::Add) => add64(left, right, dst),
+        (Width::W64, AluOp::Sub) => sub64(left, right, dst),
+        _ => {
+            let (a, b) = two_numbers(left, right, dst)?;
+            Ok(Abs::Num(alu(op, width, a, b)))
+        }
     }
 }
 
-/// The first code that refuses an instruction which gives a number that it has in itself.
-pub(crate) fn constant_refusal(dst: Reg) -> Option<VerifyCode>
-    ensures { result ≡ constant_refusal dst }
+/// A number that an instruction has in itself, or the code that refuses the instruction.
+pub(crate) fn constant_value(value: u64, dst: Reg) -> Result<Abs, VerifyCode>
+    ensures fine { OnOk result (constant_refusal dst ≡ None) }
+    ensures value { IfOk result (λ known. known ≡ Abs.Num (constant value)) }
+    ensures proper { IfOk result IsProper }
+    ensures refused { IfErr result (λ code. constant_refusal dst ≡ Some code) }
 {
     if is_frame_pointer(dst) {
-        Some(VerifyCode::V2)
+        Err(VerifyCode::V2)
     } else {
-        None
+        Ok(Abs::Num(Range::constant(value)))
     }
 }
 
 // `mov` at 64 bits copies any value, pointers too.
-fn mov64_refusal(src: Abs, dst: Reg) -> Option<VerifyCode>
-    ensures { result ≡ mov64_refusal src dst }
+fn mov64(src: Abs, dst: Reg) -> Result<Abs, VerifyCode>
+    ensures fine { OnOk result (mov64_refusal src dst ≡ None) }
+    ensures value { IfOk result (λ value. value ≡ src) }
+    ensures refused { IfErr result (λ code. mov64_refusal src dst ≡ Some code) }
 {
     if src.is_unset() {
-        Some(VerifyCode::V1)
+        Err(VerifyCode::V1)
     } else if is_frame_pointer(dst) {
-        Some(VerifyCode::V2)
+        Err(VerifyCode::V2)
     } else {
-        None
+        Ok(src)
     }
 }
 
-/// The first code that refuses an operation on one number: `mov` at 32 bits, `movsx`, `neg` and `end`.
-pub(crate) fn unary_refusal(src: Abs, dst: Reg) -> Option<VerifyCode>
-    ensures { result ≡ unary_refusal src dst }
+/// The operand of an operation on one number, `mov` at 32 bits, `movsx`, `neg` and `end`, or the first code that refuses it.
+pub(crate) fn one_number(src: Abs, dst: Reg) -> Result<Range, VerifyCode>
+    requires { IsProper src }
+    ensures fine { OnOk result (unary_refusal src dst ≡ None) }
+    ensures value { IfOk result (λ a. src ≡ Abs.Num a) }
+    ensures ordered { IfOk result (λ a. a.lo ≤ a.hi) }
+    ensures refused { IfErr result (λ code. unary_refusal src dst ≡ Some code) }
 {
-    if src.is_unset() {
-        Some(VerifyCode::V1)
-    } else if is_frame_pointer(dst) {
-        Some(VerifyCode::V2)
-    } else if src.is_may() {
-        Some(VerifyCode::V11)
-    } else if src.is_pointer() {
-        Some(VerifyCode::V3)
-    } else {
-        None
+    match src {
+        Abs::Unset => Err(VerifyCode::V1),
+        _ if is_frame_pointer(dst) => Err(VerifyCode::V2),
+        Abs::Num(a) => Ok(a),
+        Abs::May(_) => Err(VerifyCode::V11),
+        _ => Err(VerifyCode::V3),
     }
 }
 
-// An operation on two numbers.
-fn binary_refusal(left: Abs, right: Abs, dst: Reg) -> Option<VerifyCode>
-    ensures { result ≡ binary_refusal left right dst }
-{
-    if left.is_unset() || right.is_unset() {
-        Some(VerifyCode::V1)
-    } else if is_frame_pointer(dst) {
-        Some(VerifyCode::V2)
-    } else if left.is_may() || right.is_may() {
-        Some(VerifyCode::V11)
-    } else if left.is_pointer() || right.is_pointer() {
-        Some(VerifyCode::V3)
-    } else {
-        None
-    }
-}
-
-// `add` at 64 bits adds two numbers, or moves a pointer by a number.
-fn add64_refusal(left: Abs, right: Abs, dst: Reg) -> Option<VerifyCode>
+// The operands of an operation on two numbers, or the first code that refuses it.
+fn two_numbers(left: Abs, right: Abs, dst: Reg) -> Result<(Range, Range), VerifyCode>
     requires left { IsProper left }
     requires right { IsProper right }
-    ensures { result ≡ add64_refusal left right dst }
+    ensures fine { OnOk result (binary_refusal left right dst ≡ None) }
+    ensures left { IfOk result (λ p. left ≡ Abs.Num p.0) }
+    ensures right { IfOk result (λ p. right ≡ Abs.Num p.1) }
+    ensures ordered { IfOk result (λ p. (p.0.lo ≤ p.0.hi) × (p.1.lo ≤ p.1.hi)) }
+    ensures refused { IfErr result (λ code. binary_refusal left right dst ≡ Some code) }
+{
+    match (left, right) {
+        (Abs::Unset, _) | (_, Abs::Unset) => Err(VerifyCode::V1),
+        _ if is_frame_pointer(dst) => Err(VerifyCode::V2),
+        (Abs::Num(a), Abs::Num(b)) => Ok((a, b)),
+        (Abs::May(_), _) | (_, Abs::May(_)) => Err(VerifyCode::V11),
+        _ => Err(VerifyCode::V3),
+    }
+}
+
+// `add` at 64 bits adds two numbers, or moves a pointer by a number. Two numbers come first, since they are most of what is added.
+fn add64(left: Abs, right: Abs, dst: Reg) -> Result<Abs, VerifyCode>
+    requires left { IsProper left }
+    requires right { IsProper right }
+    ensures fine { OnOk result (add64_refusal left right dst ≡ None) }
+    ensures value { IfOk result (λ value. value ≡ unwrap_or (sum_value left right) Abs.Unset) }
+    ensures proper { IfOk result IsProper }
+    ensures refused { IfErr result (λ code. add64_refusal left right dst ≡ Some code) }
+{
+    match (left, right) {
+        (Abs::Num(a), Abs::Num(b)) if !is_frame_pointer(dst) => {
+            Ok(Abs::Num(alu(AluOp::Add, Width::W64, a, b)))
+        }
+        _ => add64_any(left, right, dst),
+    }
+}
+
+// The sum of any two values.
+fn add64_any(left: Abs, right: Abs, dst: Reg) -> Result<Abs, VerifyCode>
+    requires left { IsProper left }
+    requires right { IsProper right }
+    ensures fine { OnOk result (add64_refusal left right dst ≡ None) }
+    ensures value { IfOk result (λ value. value ≡ unwrap_or (sum_value left right) Abs.Unset) }
+    ensures proper { IfOk result IsProper }
+    ensures refused { IfErr result (λ code. add64_refusal left right dst ≡ Some code) }
 {
     if left.is_unset() || right.is_unset() {
-        Some(VerifyCode::V1)
+        Err(VerifyCode::V1)
     } else if is_frame_pointer(dst) {
-        Some(VerifyCode::V2)
+        Err(VerifyCode::V2)
     } else if left.is_may() || right.is_may() {
-        Some(VerifyCode::V11)
+        Err(VerifyCode::V11)
     } else if left.is_pointer() && right.is_pointer() {
-        Some(VerifyCode::V3)
+        Err(VerifyCode::V3)
     } else if makes_stack_offset_vary(left, right) || makes_stack_offset_vary(right, left) {
-        Some(VerifyCode::V3)
-    } else if sum_value(left, right).is_none() {
-        Some(VerifyCode::V4)
+        Err(VerifyCode::V3)
     } else {
-        None
+        sum_value(left, right).ok_or(VerifyCode::V4)
     }
 }
 
-// `sub` at 64 bits takes a number from a number, or moves a pointer back by a number.
-fn sub64_refusal(left: Abs, right: Abs, dst: Reg) -> Option<VerifyCode>
+// `sub` at 64 bits takes a number from a number, or moves a pointer back by a number. Two numbers come first here too.
+fn sub64(left: Abs, right: Abs, dst: Reg) -> Result<Abs, VerifyCode>
     requires left { IsProper left }
     requires right { IsProper right }
-    ensures { result ≡ sub64_refusal left right dst }
+    ensures fine { OnOk result (sub64_refusal left right dst ≡ None) }
+    ensures value { IfOk result (λ value. value ≡ unwrap_or (difference_value left right) Abs.Unset) }
+    ensures proper { IfOk result IsProper }
+    ensures refused { IfErr result (λ code. sub64_refusal left right dst ≡ Some code) }
+{
+    match (left, right) {
+        (Abs::Num(a), Abs::Num(b)) if !is_frame_pointer(dst) => {
+            Ok(Abs::Num(alu(AluOp::Sub, Width::W64, a, b)))
+        }
+        _ => sub64_any(left, right, dst),
+    }
+}
+
+// The difference of any two values.
+fn sub64_any(left: Abs, right: Abs, dst: Reg) -> Result<Abs, VerifyCode>
+    requires left { IsProper left }
+    requires right { IsProper right }
+    ensures fine { OnOk result (sub64_refusal left right dst ≡ None) }
+    ensures value { IfOk result (λ value. value ≡ unwrap_or (difference_value left right) Abs.Unset) }
+    ensures proper { IfOk result IsProper }
+    ensures refused { IfErr result (λ code. sub64_refusal left right dst ≡ Some code) }
 {
     if left.is_unset() || right.is_unset() {
-        Some(VerifyCode::V1)
+        Err(VerifyCode::V1)
     } else if is_frame_pointer(dst) {
-        Some(VerifyCode::V2)
+        Err(VerifyCode::V2)
     } else if left.is_may() || right.is_may() {
-        Some(VerifyCode::V11)
+        Err(VerifyCode::V11)
     } else if right.is_pointer() || makes_stack_offset_vary(left, right) {
-        Some(VerifyCode::V3)
-    } else if difference_value(left, right).is_none() {
-        Some(VerifyCode::V4)
+        Err(VerifyCode::V3)
     } else {
-        None
+        difference_value(left, right).ok_or(VerifyCode::V4)
     }
 }
 
@@ -151,82 +202,5 @@ fn makes_stack_offset_vary(pointer: Abs, by: Abs) -> bool
     match (pointer, by) {
         (Abs::Stk(_), Abs::Num(by)) => by.lo != by.hi,
         _ => false,
-    }
-}
-
-/// What is known of the result of an operation that is not refused.
-pub(crate) fn result_of(width: Width, op: AluOp, left: Abs, right: Abs) -> Abs
-    requires left { IsProper left }
-    requires right { IsProper right }
-    ensures value { result ≡ result_of width op left right }
-    ensures proper { IsProper result }
-{
-    match (width, op) {
-        (Width::W64, AluOp::Mov) => right,
-        (Width::W32, AluOp::Mov) => low_value(right),
-        (Width::W64, AluOp::Add) => sum_value(left, right).unwrap_or(Abs::Unset),
-        (Width::W64, AluOp::Sub) => difference_value(left, right).unwrap_or(Abs::Unset),
-        _ => binary_value(op, width, left, right),
-    }
-}
-
-// The low half of a number.
-fn low_value(value: Abs) -> Abs
-    requires { IsProper value }
-    ensures value { result ≡ unary_value low value }
-    ensures proper { IsProper result }
-{
-    match value {
-        Abs::Num(a) => Abs::Num(low(a)),
-        _ => Abs::Unset,
-    }
-}
-
-// What an operation gives on two numbers.
-fn binary_value(op: AluOp, width: Width, left: Abs, right: Abs) -> Abs
-    requires left { IsProper left }
-    requires right { IsProper right }
-    ensures value { result ≡ binary_value op width left right }
-    ensures proper { IsProper result }
-{
-    match (left, right) {
-        (Abs::Num(a), Abs::Num(b)) => Abs::Num(alu(op, width, a, b)),
-        _ => Abs::Unset,
-    }
-}
-
-/// What is known of a number whose low bits are extended with their sign.
-pub(crate) fn extended_value(width: Width, bits: u8, value: Abs) -> Abs
-    requires { IsProper value }
-    ensures value { result ≡ unary_value (extension_range width bits) value }
-    ensures proper { IsProper result }
-{
-    match value {
-        Abs::Num(a) => Abs::Num(sext(width, bits, a)),
-        _ => Abs::Unset,
-    }
-}
-
-/// What is known of zero less a number.
-pub(crate) fn negated_value(width: Width, value: Abs) -> Abs
-    requires { IsProper value }
-    ensures value { result ≡ unary_value (negation_range width) value }
-    ensures proper { IsProper result }
-{
-    match value {
-        Abs::Num(a) => Abs::Num(neg(width, a)),
-        _ => Abs::Unset,
-    }
-}
-
-/// What is known of the low bits of a number with their bytes in another order.
-pub(crate) fn swapped_value(order: Order, bits: u8, value: Abs) -> Abs
-    requires { IsProper value }
-    ensures value { result ≡ unary_value (swap_range order bits) value }
-    ensures proper { IsProper result }
-{
-    match value {
-        Abs::Num(a) => Abs::Num(swap(order, bits, a)),
-        _ => Abs::Unset,
     }
 }

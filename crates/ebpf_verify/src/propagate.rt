@@ -1,38 +1,50 @@
 //! What is known after an instruction, sent along its edges.
 
-ghost use Rattle.std.specs.Prelude.{◌≡◌, ◌<◌, true, false, ℕ, IfSome, OnOk, Option, Some, length, slice_index_or};
+ghost use Rattle.std.specs.Prelude.{◌≡◌, ◌<◌, ◌≤◌, true, false, ℕ, IfSome, IfErr, OnOk, IsSome, Option, Some, None, length, slice_index_or};
 ghost use Rattle.ebpf_flow.specs.Edges.{leads_to};
+ghost use Rattle.ebpf_insn.specs.declared.program.TheConstants.{MAX_SLOTS};
+ghost use Rattle.ebpf_range.specs.Refinements.{refinement};
 ghost use Rattle.ebpf_state.specs.StateView.{StateView};
 ghost use Rattle.ebpf_state.specs.References.{settled};
 ghost use Rattle.ebpf_state.specs.States.{register_of};
-ghost use Rattle.ebpf_verify.specs.Branches.{operand, refined_values, with_operands, is_null_where, after_branch};
+ghost use Rattle.ebpf_verify.specs.Branches.{operand, null_test, branch_refusal, with_operands, is_null_where, after_branch};
+ghost use Rattle.ebpf_verify.specs.Rules.{refusal, after_operation};
+ghost use Rattle.ebpf_verify.specs.Verdict.{IsSlotFault};
 ghost use Rattle.ebpf_verify.specs.Entry.{with_edge, with_sent};
 
-use crate::branches::{Branch, is_null_where, null_test, operand, refined_values, set_operands};
+use crate::branches::{Branch, compared, is_null_where, null_test, operand, set_operands};
 use crate::entry::EntryState;
-use crate::rules::after_operation;
+use crate::fault::{VerifyCode, VerifyFault};
+use crate::rules::{exit_refusal, operation};
 use ebpf_flow::edges::Edges;
 use ebpf_insn::insn::{Cond, Insn};
+use ebpf_insn::register::Reg;
+use ebpf_range::branches::refine;
+use ebpf_range::range::Range;
 use ebpf_state::state::State;
 use std::alloc::AllocError;
-use std::mem;
 
-/// Sends what is known after an instruction that is not refused along its edges.
+/// Asks the rule of an instruction. It refuses what is known before the instruction, or sends what is known after it along
+/// its edges.
 ///
 /// # Errors
-/// It fails only where an allocation fails.
+/// `Refused` with the first code that refuses the slot; `NoMemory` where an allocation fails.
 pub(crate) fn pass_on(
-    insn: Insn,
+    insn: &Insn,
+    slot: usize,
     state: State,
     edges: Edges,
     entries: &mut Vec<EntryState>,
-) -> Result<(), AllocError>
+) -> Result<(), VerifyFault>
+    requires inside { slot < MAX_SLOTS }
     requires fall { IfSome edges.fall (λ to. to < length entries.old.items) }
     requires jump { IfSome edges.jump (λ to. to < length entries.old.items) }
     ensures len { length entries.new.items ≡ length entries.old.items }
-    ensures sent { OnOk result ((t : ℕ) → t < length entries.old.items → slice_index_or entries.new.items t EntryState.Unreached ≡ with_sent (Some insn) edges t (EntryState.Known state) (slice_index_or entries.old.items t EntryState.Unreached)) }
+    ensures fine { OnOk result (refusal insn.now state ≡ None) }
+    ensures sent { OnOk result ((t : ℕ) → t < length entries.old.items → slice_index_or entries.new.items t EntryState.Unreached ≡ with_sent (Some insn.now) edges t (EntryState.Known state) (slice_index_or entries.old.items t EntryState.Unreached)) }
+    ensures refused { IfErr result (IsSlotFault slot (refusal insn.now state)) }
 {
-    match insn {
+    match *insn {
         Insn::Jump { .. } | Insn::JumpFar { .. } => {
             send(entries, edges.jump, state);
             Ok(())
@@ -50,37 +62,84 @@ pub(crate) fn pass_on(
                 left,
                 right,
             };
-            branch_on(branch, state, edges, entries)
+            branch_on(branch, slot, state, edges, entries)
         }
-        _ => {
-            if let Some(after) = after_operation(insn, state) {
-                send(entries, edges.fall, after);
-            }
+        Insn::Exit => match exit_refusal(state.reg(Reg::R0), state.held()) {
+            Some(code) => Err(refused_at(slot, code)),
+            None => Ok(()),
+        },
+        Insn::Load { .. } | Insn::Store { .. } | Insn::Call { .. } => {
+            Err(refused_at(slot, VerifyCode::V0))
+        }
+        _ => operate_on(insn, slot, state, edges, entries),
+    }
+}
+
+/// The refusal of a slot.
+pub(crate) fn refused_at(slot: usize, code: VerifyCode) -> VerifyFault
+    requires { slot < MAX_SLOTS }
+    ensures { IsSlotFault slot (Some code) result }
+{
+    VerifyFault::Refused {
+        slot: slot as u16,
+        code,
+    }
+}
+
+// Sends what is known after an arithmetic instruction to the slot after it.
+fn operate_on(
+    insn: &Insn,
+    slot: usize,
+    mut state: State,
+    edges: Edges,
+    entries: &mut Vec<EntryState>,
+) -> Result<(), VerifyFault>
+    requires inside { slot < MAX_SLOTS }
+    requires fall { IfSome edges.fall (λ to. to < length entries.old.items) }
+    requires writes { IsSome (after_operation insn.now state) }
+    ensures len { length entries.new.items ≡ length entries.old.items }
+    ensures fine { OnOk result (refusal insn.now state ≡ None) }
+    ensures sent { OnOk result ((t : ℕ) → t < length entries.old.items → slice_index_or entries.new.items t EntryState.Unreached ≡ with_edge (after_operation insn.now state) (leads_to edges.fall t) (slice_index_or entries.old.items t EntryState.Unreached)) }
+    ensures refused { IfErr result (IsSlotFault slot (refusal insn.now state)) }
+{
+    match operation(insn, &state) {
+        Ok((dst, value)) => {
+            state.set(dst, value);
+            send(entries, edges.fall, state);
             Ok(())
         }
+        Err(code) => Err(refused_at(slot, code)),
     }
 }
 
 // Sends what is known along both edges of a branch.
 fn branch_on(
     branch: Branch,
+    slot: usize,
     state: State,
     edges: Edges,
     entries: &mut Vec<EntryState>,
-) -> Result<(), AllocError>
+) -> Result<(), VerifyFault>
+    requires inside { slot < MAX_SLOTS }
     requires fall { IfSome edges.fall (λ to. to < length entries.old.items) }
     requires jump { IfSome edges.jump (λ to. to < length entries.old.items) }
     ensures len { length entries.new.items ≡ length entries.old.items }
+    ensures fine { OnOk result (branch_refusal (null_test branch.width branch.cond (register_of state branch.left) branch.right) (register_of state branch.left) (operand state branch.width branch.right) ≡ None) }
     ensures sent { OnOk result ((t : ℕ) → t < length entries.old.items → slice_index_or entries.new.items t EntryState.Unreached ≡ with_edge (after_branch branch.cond branch.width branch.left branch.right false state) (leads_to edges.fall t) (with_edge (after_branch branch.cond branch.width branch.left branch.right true state) (leads_to edges.jump t) (slice_index_or entries.old.items t EntryState.Unreached))) }
+    ensures refused { IfErr result (IsSlotFault slot (branch_refusal (null_test branch.width branch.cond (register_of state branch.left) branch.right) (register_of state branch.left) (operand state branch.width branch.right))) }
 {
-    match null_test(
-        branch.width,
-        branch.cond,
-        state.reg(branch.left),
-        branch.right,
-    ) {
-        Some(call) => settle_on(call, branch.cond, state, edges, entries),
-        None => refine_on(branch, state, edges, entries),
+    let left = state.reg(branch.left);
+    if let Some(call) = null_test(branch.width, branch.cond, left, branch.right) {
+        settle_on(call, branch.cond, state, edges, entries)?;
+        return Ok(());
+    }
+    let right = operand(&state, branch.width, branch.right);
+    match compared(left, right) {
+        Ok((a, b)) => {
+            refine_on(branch, a, b, state, edges, entries)?;
+            Ok(())
+        }
+        Err(code) => Err(refused_at(slot, code)),
     }
 }
 
@@ -105,36 +164,81 @@ fn settle_on(
     Ok(())
 }
 
-// Sends along each edge of a comparison what is known of both operands there. The state is copied only where both edges carry
-// one and nothing came to the target before.
+// Sends along each edge of a comparison of two numbers what is known of both there.
 fn refine_on(
     branch: Branch,
+    a: Range,
+    b: Range,
     mut state: State,
     edges: Edges,
     entries: &mut Vec<EntryState>,
 ) -> Result<(), AllocError>
+    requires left { a.lo ≤ a.hi }
+    requires right { b.lo ≤ b.hi }
     requires fall { IfSome edges.fall (λ to. to < length entries.old.items) }
     requires jump { IfSome edges.jump (λ to. to < length entries.old.items) }
     ensures len { length entries.new.items ≡ length entries.old.items }
-    ensures sent { OnOk result ((t : ℕ) → t < length entries.old.items → slice_index_or entries.new.items t EntryState.Unreached ≡ with_edge (with_operands branch.left branch.right (refined_values branch.cond branch.width (register_of state branch.left) (operand state branch.width branch.right) false) state) (leads_to edges.fall t) (with_edge (with_operands branch.left branch.right (refined_values branch.cond branch.width (register_of state branch.left) (operand state branch.width branch.right) true) state) (leads_to edges.jump t) (slice_index_or entries.old.items t EntryState.Unreached))) }
+    ensures sent { OnOk result ((t : ℕ) → t < length entries.old.items → slice_index_or entries.new.items t EntryState.Unreached ≡ with_edge (with_operands branch.left branch.right (refinement branch.cond branch.width a b false) state) (leads_to edges.fall t) (with_edge (with_operands branch.left branch.right (refinement branch.cond branch.width a b true) state) (leads_to edges.jump t) (slice_index_or entries.old.items t EntryState.Unreached))) }
 {
-    let left = state.reg(branch.left);
-    let right = operand(&state, branch.width, branch.right);
-    let taken = refined_values(branch.cond, branch.width, left, right, true);
-    let passed = refined_values(branch.cond, branch.width, left, right, false);
-    if let Some(known) = taken {
-        set_operands(&mut state, branch.left, branch.right, known);
-        if passed.is_none() {
+    let taken = refine(branch.cond, branch.width, a, b, true);
+    let passed = refine(branch.cond, branch.width, a, b, false);
+    match (taken, passed) {
+        (Some(taken), Some(passed)) => send_both(branch, taken, passed, state, edges, entries)?,
+        (Some(known), None) => {
+            set_operands(&mut state, branch.left, branch.right, known);
             send(entries, edges.jump, state);
-            return Ok(());
         }
-        add(entries, edges.jump, &state)?;
+        (None, Some(known)) => {
+            set_operands(&mut state, branch.left, branch.right, known);
+            send(entries, edges.fall, state);
+        }
+        (None, None) => {}
     }
-    if let Some(known) = passed {
-        set_operands(&mut state, branch.left, branch.right, known);
+    Ok(())
+}
+
+// Sends a state along both edges of a comparison. It is copied only where nothing came to either of two targets before: what
+// goes first is copied to a target that nothing came to, and what goes last never is.
+fn send_both(
+    branch: Branch,
+    taken: (Range, Range),
+    passed: (Range, Range),
+    mut state: State,
+    edges: Edges,
+    entries: &mut Vec<EntryState>,
+) -> Result<(), AllocError>
+    requires taken_left { taken.0.lo ≤ taken.0.hi }
+    requires taken_right { taken.1.lo ≤ taken.1.hi }
+    requires passed_left { passed.0.lo ≤ passed.0.hi }
+    requires passed_right { passed.1.lo ≤ passed.1.hi }
+    requires fall { IfSome edges.fall (λ to. to < length entries.old.items) }
+    requires jump { IfSome edges.jump (λ to. to < length entries.old.items) }
+    ensures len { length entries.new.items ≡ length entries.old.items }
+    ensures sent { OnOk result ((t : ℕ) → t < length entries.old.items → slice_index_or entries.new.items t EntryState.Unreached ≡ with_edge (with_operands branch.left branch.right (Some passed) state) (leads_to edges.fall t) (with_edge (with_operands branch.left branch.right (Some taken) state) (leads_to edges.jump t) (slice_index_or entries.old.items t EntryState.Unreached))) }
+{
+    if fall_goes_first(edges, entries) {
+        set_operands(&mut state, branch.left, branch.right, passed);
+        add(entries, edges.fall, &state)?;
+        set_operands(&mut state, branch.left, branch.right, taken);
+        send(entries, edges.jump, state);
+    } else {
+        set_operands(&mut state, branch.left, branch.right, taken);
+        add(entries, edges.jump, &state)?;
+        set_operands(&mut state, branch.left, branch.right, passed);
         send(entries, edges.fall, state);
     }
     Ok(())
+}
+
+// Whether something came to the slot after a branch before, and that is not its target.
+fn fall_goes_first(edges: Edges, entries: &[EntryState]) -> bool
+    requires { IfSome edges.fall (λ to. to < length entries.now) }
+    ensures { result ≡ true → IfSome edges.fall (λ to. IfSome edges.jump (λ target. (to ≡ target) → ⊥)) }
+{
+    match (edges.fall, edges.jump) {
+        (Some(fall), Some(jump)) => fall != jump && entries[fall as usize].is_reached(),
+        _ => false,
+    }
 }
 
 // Sends a state along an edge.
@@ -143,12 +247,9 @@ fn send(entries: &mut Vec<EntryState>, edge: Option<u16>, state: State)
     ensures len { length entries.new.items ≡ length entries.old.items }
     ensures sent { (t : ℕ) → t < length entries.old.items → slice_index_or entries.new.items t EntryState.Unreached ≡ with_edge (Some state) (leads_to edge t) (slice_index_or entries.old.items t EntryState.Unreached) }
 {
-    let Some(to) = edge else {
-        return;
-    };
-    let to = to as usize;
-    let old = mem::replace(&mut entries[to], EntryState::Unreached);
-    entries[to] = old.with(state);
+    if let Some(to) = edge {
+        entries[to as usize].take(state);
+    }
 }
 
 // Sends what a state says along an edge, and keeps the state.

@@ -1,63 +1,73 @@
-//! The rules of the instructions: what refuses one, and what is known after it.
+//! The rules of the instructions: what refuses one, or else what it writes.
 
-ghost use Rattle.std.specs.Prelude.{◌≡◌};
+ghost use Rattle.std.specs.Prelude.{◌≡◌, OnOk, IfOk, IfErr, IsSome, Some, None};
+ghost use Rattle.ebpf_state.specs.Abstract.{IsProper};
+ghost use Rattle.ebpf_state.specs.States.{with_register};
 ghost use Rattle.ebpf_verify.specs.Rules.{has_rule, exit_refusal, refusal, after_operation};
 
-use crate::branches::{branch_refusal, null_test, operand};
+use crate::branches::operand;
 use crate::fault::VerifyCode;
-use crate::operations::{
-    alu_refusal, constant_refusal, extended_value, negated_value, result_of, swapped_value,
-    unary_refusal,
-};
+use crate::operations::{alu_value, constant_value, one_number};
 use ebpf_insn::insn::Insn;
 use ebpf_insn::register::Reg;
-use ebpf_range::range::Range;
+use ebpf_range::results::{neg, sext, swap};
 use ebpf_state::state::State;
 use ebpf_state::value::Abs;
 
 /// Loads, stores and calls have no rule yet.
-pub(crate) fn has_rule(insn: Insn) -> bool
-    ensures { result ≡ has_rule insn }
+pub(crate) fn has_rule(insn: &Insn) -> bool
+    ensures { result ≡ has_rule insn.now }
 {
-    match insn {
+    match *insn {
         Insn::Load { .. } | Insn::Store { .. } | Insn::Call { .. } => false,
         _ => true,
     }
 }
 
-/// The first code that refuses an instruction, where the state is known before it.
-pub(crate) fn refusal(insn: Insn, state: &State) -> Option<VerifyCode>
-    ensures { result ≡ refusal insn state.now }
+/// The register that an arithmetic instruction writes and what is known of it afterwards, or the first code that refuses
+/// the instruction. Its operands are read once for both.
+pub(crate) fn operation(insn: &Insn, state: &State) -> Result<(Reg, Abs), VerifyCode>
+    requires { IsSome (after_operation insn.now state.now) }
+    ensures fine { OnOk result (refusal insn.now state.now ≡ None) }
+    ensures value { IfOk result (λ written. after_operation insn.now state.now ≡ Some (with_register state.now written.0 written.1)) }
+    ensures proper { IfOk result (λ written. IsProper written.1) }
+    ensures refused { IfErr result (λ code. refusal insn.now state.now ≡ Some code) }
 {
-    match insn {
+    match *insn {
         Insn::Alu {
             width,
             op,
             dst,
             src,
-        } => alu_refusal(width, op, state.reg(dst), operand(state, width, src), dst),
-        Insn::Sext { dst, src, .. } => unary_refusal(state.reg(src), dst),
-        Insn::Neg { dst, .. } | Insn::Swap { dst, .. } => unary_refusal(state.reg(dst), dst),
-        Insn::Wide { dst, .. } => constant_refusal(dst),
-        Insn::Jump { .. } | Insn::JumpFar { .. } => None,
-        Insn::Branch {
-            width,
-            cond,
-            left,
-            right,
-            ..
         } => {
-            let value = state.reg(left);
-            let test = null_test(width, cond, value, right);
-            branch_refusal(test, value, operand(state, width, right))
+            let right = operand(state, width, src);
+            let value = alu_value(width, op, state.reg(dst), right, dst)?;
+            Ok((dst, value))
         }
-        Insn::Exit => exit_refusal(state.reg(Reg::R0), state.held()),
-        _ => Some(VerifyCode::V0),
+        Insn::Sext {
+            width,
+            bits,
+            dst,
+            src,
+        } => {
+            let a = one_number(state.reg(src), dst)?;
+            Ok((dst, Abs::Num(sext(width, bits, a))))
+        }
+        Insn::Neg { width, dst } => {
+            let a = one_number(state.reg(dst), dst)?;
+            Ok((dst, Abs::Num(neg(width, a))))
+        }
+        Insn::Swap { order, bits, dst } => {
+            let a = one_number(state.reg(dst), dst)?;
+            Ok((dst, Abs::Num(swap(order, bits, a))))
+        }
+        Insn::Wide { dst, value } => Ok((dst, constant_value(value, dst)?)),
+        _ => Err(VerifyCode::V0),
     }
 }
 
-// `exit` returns a number, with no object held (RFC 9669, section 4.3).
-fn exit_refusal(result_value: Abs, held: usize) -> Option<VerifyCode>
+/// `exit` returns a number, with no object held (RFC 9669, section 4.3).
+pub(crate) fn exit_refusal(result_value: Abs, held: usize) -> Option<VerifyCode>
     ensures { result ≡ exit_refusal result_value held }
 {
     if result_value.is_unset() {
@@ -69,34 +79,4 @@ fn exit_refusal(result_value: Abs, held: usize) -> Option<VerifyCode>
     } else {
         None
     }
-}
-
-/// Says in the state what is known after an arithmetic instruction that is not refused; `None` for any other.
-pub(crate) fn after_operation(insn: Insn, mut state: State) -> Option<State>
-    ensures { result ≡ after_operation insn state }
-{
-    let (dst, value) = match insn {
-        Insn::Alu {
-            width,
-            op,
-            dst,
-            src,
-        } => {
-            let right = operand(&state, width, src);
-            let left = state.reg(dst);
-            (dst, result_of(width, op, left, right))
-        }
-        Insn::Sext {
-            width,
-            bits,
-            dst,
-            src,
-        } => (dst, extended_value(width, bits, state.reg(src))),
-        Insn::Neg { width, dst } => (dst, negated_value(width, state.reg(dst))),
-        Insn::Swap { order, bits, dst } => (dst, swapped_value(order, bits, state.reg(dst))),
-        Insn::Wide { dst, value } => (dst, Abs::Num(Range::constant(value))),
-        _ => return None,
-    };
-    state.set(dst, value);
-    Some(state)
 }

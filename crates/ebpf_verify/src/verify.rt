@@ -29,8 +29,8 @@ ghost use Rattle.ebpf_verify.specs.Verdict.{unruled_at, refusal_in, verdict, IsV
 use crate::decl::Decl;
 use crate::entry::EntryState;
 use crate::fault::{VerifyCode, VerifyFault};
-use crate::propagate::pass_on;
-use crate::rules::{has_rule, refusal};
+use crate::propagate::{pass_on, refused_at};
+use crate::rules::has_rule;
 use crate::verified::Verified;
 use ebpf_flow::edges::Edges;
 use ebpf_flow::flowed::Flowed;
@@ -57,11 +57,14 @@ pub fn verify(
     ensures refused { IfErr result (IsVerifyFault (record { program = flowed; decl = decl; rows = rows.now })) }
 {
     let rows = Vec::from_slice(alloc, rows)?;
-    refuse_unruled(flowed.program())?;
     let slots = flowed.program().slots();
     let mut entries = first_entries(alloc, slots)?;
     for slot in 0..slots {
-        visit(&flowed, slot, &mut entries)?;
+        if let Err(fault) = visit(&flowed, slot, &mut entries) {
+            // An instruction that has no rule is told before all else.
+            refuse_unruled(flowed.program())?;
+            return Err(fault);
+        }
     }
     Ok(Verified { flowed, decl, rows })
 }
@@ -75,7 +78,7 @@ fn refuse_unruled(program: &Program) -> Result<(), VerifyFault>
         let Some(insn) = program.at(slot) else {
             continue;
         };
-        if !has_rule(*insn) {
+        if !has_rule(insn) {
             return Err(VerifyFault::Refused {
                 slot: slot as u16,
                 code: VerifyCode::V0,
@@ -102,36 +105,30 @@ fn first_entries(alloc: Global, slots: usize) -> Result<Vec<EntryState>, AllocEr
     Ok(entries)
 }
 
-// Takes what came to a slot, and sends it on, or says why it is refused.
+// Takes what came to a slot, and sends it on, or says why it is refused. What has no rule is refused also where nothing came.
 fn visit(flowed: &Flowed, slot: usize, entries: &mut Vec<EntryState>) -> Result<(), VerifyFault>
     requires inside { slot < length flowed.now }
     requires len { length entries.old.items ≡ length flowed.now }
     ensures len { length entries.new.items ≡ length entries.old.items }
+    ensures ruled { OnOk result (unruled_at flowed.now slot ≡ None) }
     ensures fine { OnOk result (refusal_in (insn_at flowed.now slot) (slice_index_or entries.old.items slot EntryState.Unreached) ≡ None) }
     ensures sent { OnOk result ((t : ℕ) → slot < t → t < length flowed.now → slice_index_or entries.new.items t EntryState.Unreached ≡ with_sent (insn_at flowed.now slot) (edges_at flowed.now slot) t (slice_index_or entries.old.items slot EntryState.Unreached) (slice_index_or entries.old.items t EntryState.Unreached)) }
-    ensures refused { IfErr result (IsSlotFault slot (refusal_in (insn_at flowed.now slot) (slice_index_or entries.old.items slot EntryState.Unreached))) }
+    ensures refused { IfErr result (λ fault. unruled_at flowed.now slot ≡ None → IsSlotFault slot (refusal_in (insn_at flowed.now slot) (slice_index_or entries.old.items slot EntryState.Unreached)) fault) }
 {
-    let entry = mem::replace(&mut entries[slot], EntryState::Unreached);
     let edges = flowed.successors(slot);
-    match (flowed.program().at(slot), entry) {
-        (_, EntryState::Conflict) => Err(refused_at(slot, VerifyCode::V19)),
-        (Some(insn), EntryState::Known(state)) => {
-            if let Some(code) = refusal(*insn, &state) {
-                return Err(refused_at(slot, code));
-            }
-            pass_on(*insn, state, edges, entries)?;
+    let Some(insn) = flowed.program().at(slot) else {
+        return match entries[slot] {
+            EntryState::Conflict => Err(refused_at(slot, VerifyCode::V19)),
+            _ => Ok(()),
+        };
+    };
+    match mem::replace(&mut entries[slot], EntryState::Unreached) {
+        EntryState::Known(state) => pass_on(insn, slot, state, edges, entries),
+        EntryState::Conflict => Err(refused_at(slot, VerifyCode::V19)),
+        EntryState::Unreached => if has_rule(insn) {
             Ok(())
-        }
-        _ => Ok(()),
-    }
-}
-
-fn refused_at(slot: usize, code: VerifyCode) -> VerifyFault
-    requires { slot < MAX_SLOTS }
-    ensures { IsSlotFault slot (Some code) result }
-{
-    VerifyFault::Refused {
-        slot: slot as u16,
-        code,
+        } else {
+            Err(refused_at(slot, VerifyCode::V0))
+        },
     }
 }

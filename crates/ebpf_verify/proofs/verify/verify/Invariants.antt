@@ -10,6 +10,6 @@ invariant-loop-slot l = record {
   all : l.slots ≡ length l.fn.flowed;
   len : length l.entries.items ≡ l.slots;
   came : (t : ℕ) → l.slot ≤ t → t < l.slots → slice_index_or l.entries.items t Unreached ≡ arrived l.fn.flowed l.slot t;
-  done : lowest (unruled_at l.fn.flowed) (length l.fn.flowed) ≡ None;
+  done : lowest (unruled_at l.fn.flowed) l.slot ≡ None;
   fine : lowest (refusal_at (record { program = l.fn.flowed; decl = l.fn.decl; rows = l.rows.items })) l.slot ≡ None;
 }
