@@ -106,27 +106,29 @@ IsWhole _ = Unit {0}
 abbrev joined_registers : StateView → StateView → StateView
 joined_registers s t = record { registers = joined_list joined_value s.registers t.registers; words = joined_list joined_word s.words t.words; held = s.held }
 
-left_side : (s t : StateView) (regs : List (Option (Value ℕ))) (objects : List ObjectView) → IsFull s → IsFull t → AreOf s regs objects → AreOf (joined_registers s t) regs objects
-left_side s t regs objects v w h = record {
-  each = λ k lt. subst (λ (a : Abs). IsOf (calls_of objects) a (get_or regs k None)) (sym (joined_list-index joined_value Unset s.registers t.registers k (v.whole ∙ sym w.whole) (omega (arith, v.whole)))) (IsOf-joined_left (calls_of objects) (get_or s.registers k Unset) (get_or t.registers k Unset) (get_or regs k None) (h.each k lt));
+left_side : (s t : StateView) (frame : Frame ℕ) (objects : List ObjectView) → IsFull s → IsFull t → AreOf s frame objects → AreOf (joined_registers s t) frame objects
+left_side s t frame objects v u h = record {
+  each = λ k lt. subst (λ (a : Abs). IsOf (calls_of objects) a (get_or frame.registers k None)) (sym (joined_list-index joined_value Unset s.registers t.registers k (v.whole ∙ sym u.whole) (omega (arith, v.whole)))) (IsOf-joined_left (calls_of objects) (get_or s.registers k Unset) (get_or t.registers k Unset) (get_or frame.registers k None) (h.each k lt));
+  words = λ w lt. subst (λ (x : Word). IsOfCells (calls_of objects) x (λ j. cell_at frame.stack (8 * w + j))) (sym (joined_list-index joined_word (Bytes 0) s.words t.words w (v.deep ∙ sym u.deep) (omega (arith, v.deep)))) (joined_cells_left (calls_of objects) (word_of s.words w) (word_of t.words w) (λ j. cell_at frame.stack (8 * w + j)) (h.words w lt));
   held = h.held;
 }
 
-right_side : (s t : StateView) (regs : List (Option (Value ℕ))) (objects : List ObjectView) → IsFull s → IsFull t → is_same_held s.held t.held ≡ true → AreOf t regs objects → AreOf (joined_registers s t) regs objects
-right_side s t regs objects v w same h = record {
-  each = λ k lt. subst (λ (a : Abs). IsOf (calls_of objects) a (get_or regs k None)) (sym (joined_list-index joined_value Unset s.registers t.registers k (v.whole ∙ sym w.whole) (omega (arith, v.whole)))) (IsOf-joined_right (calls_of objects) (get_or s.registers k Unset) (get_or t.registers k Unset) (get_or regs k None) (h.each k lt));
+right_side : (s t : StateView) (frame : Frame ℕ) (objects : List ObjectView) → IsFull s → IsFull t → is_same_held s.held t.held ≡ true → AreOf t frame objects → AreOf (joined_registers s t) frame objects
+right_side s t frame objects v u same h = record {
+  each = λ k lt. subst (λ (a : Abs). IsOf (calls_of objects) a (get_or frame.registers k None)) (sym (joined_list-index joined_value Unset s.registers t.registers k (v.whole ∙ sym u.whole) (omega (arith, v.whole)))) (IsOf-joined_right (calls_of objects) (get_or s.registers k Unset) (get_or t.registers k Unset) (get_or frame.registers k None) (h.each k lt));
+  words = λ w lt. subst (λ (x : Word). IsOfCells (calls_of objects) x (λ j. cell_at frame.stack (8 * w + j))) (sym (joined_list-index joined_word (Bytes 0) s.words t.words w (v.deep ∙ sym u.deep) (omega (arith, v.deep)))) (joined_cells_right (calls_of objects) (word_of s.words w) (word_of t.words w) (λ j. cell_at frame.stack (8 * w + j)) (h.words w lt));
   held = same_referred s.held t.held objects same h.held;
 }
 
 abbrev joined_by : Bool → StateView → StateView → EntryState
 joined_by same s t = known_or_conflict (cond same (Some (joined_registers s t)) None)
 
-by_test : (same : Bool) (s t : StateView) (regs : List (Option (Value ℕ))) (objects : List ObjectView) → (same ≡ true → AreOf (joined_registers s t) regs objects) → Arrives (joined_by same s t) regs objects
-by_test true s t regs objects h = h refl
-by_test false s t regs objects h = tt
+by_test : (same : Bool) (s t : StateView) (frame : Frame ℕ) (objects : List ObjectView) → (same ≡ true → AreOf (joined_registers s t) frame objects) → Arrives (joined_by same s t) frame objects
+by_test true s t frame objects h = h refl
+by_test false s t frame objects h = tt
 
 whole_by_test : (same : Bool) (s t : StateView) → IsFull s → IsFull t → IsWhole (joined_by same s t)
-whole_by_test true s t v w = record { whole = joined_list-length joined_value s.registers t.registers (v.whole ∙ sym w.whole) ∙ v.whole; bounded = joined_registers_bounded s.registers t.registers v.bounded w.bounded }
+whole_by_test true s t v w = record { whole = joined_list-length joined_value s.registers t.registers (v.whole ∙ sym w.whole) ∙ v.whole; bounded = joined_registers_bounded s.registers t.registers v.bounded w.bounded; deep = joined_list-length joined_word s.words t.words (v.deep ∙ sym w.deep) ∙ v.deep; bounded_words = joined_words_bounded s.words t.words v.bounded_words w.bounded_words }
 whole_by_test false s t v w = tt
 
 pub IsWhole-with_state : (a : EntryState) (t : StateView) → IsWhole a → IsFull t → IsWhole (with_state a t)
@@ -135,13 +137,13 @@ IsWhole-with_state (Known s) t v w = whole_by_test (is_same_held s.held t.held) 
 IsWhole-with_state Conflict t v w = tt
 
 -- what came before one more state still comes
-pub Arrives-with_state_old : (a : EntryState) (t : StateView) (regs : List (Option (Value ℕ))) (objects : List ObjectView) → IsWhole a → IsFull t → Arrives a regs objects → Arrives (with_state a t) regs objects
-Arrives-with_state_old Unreached t regs objects v w h = absurd h
-Arrives-with_state_old (Known s) t regs objects v w h = by_test (is_same_held s.held t.held) s t regs objects (λ same. left_side s t regs objects v w h)
-Arrives-with_state_old Conflict t regs objects v w h = tt
+pub Arrives-with_state_old : (a : EntryState) (t : StateView) (frame : Frame ℕ) (objects : List ObjectView) → IsWhole a → IsFull t → Arrives a frame objects → Arrives (with_state a t) frame objects
+Arrives-with_state_old Unreached t frame objects v w h = absurd h
+Arrives-with_state_old (Known s) t frame objects v w h = by_test (is_same_held s.held t.held) s t frame objects (λ same. left_side s t frame objects v w h)
+Arrives-with_state_old Conflict t frame objects v w h = tt
 
 -- and so does what one more state speaks of
-pub Arrives-with_state_new : (a : EntryState) (t : StateView) (regs : List (Option (Value ℕ))) (objects : List ObjectView) → IsWhole a → IsFull t → AreOf t regs objects → Arrives (with_state a t) regs objects
-Arrives-with_state_new Unreached t regs objects v w h = h
-Arrives-with_state_new (Known s) t regs objects v w h = by_test (is_same_held s.held t.held) s t regs objects (λ same. right_side s t regs objects v w same h)
-Arrives-with_state_new Conflict t regs objects v w h = tt
+pub Arrives-with_state_new : (a : EntryState) (t : StateView) (frame : Frame ℕ) (objects : List ObjectView) → IsWhole a → IsFull t → AreOf t frame objects → Arrives (with_state a t) frame objects
+Arrives-with_state_new Unreached t frame objects v w h = h
+Arrives-with_state_new (Known s) t frame objects v w h = by_test (is_same_held s.held t.held) s t frame objects (λ same. right_side s t frame objects v w same h)
+Arrives-with_state_new Conflict t frame objects v w h = tt
