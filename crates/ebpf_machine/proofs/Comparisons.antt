@@ -1,5 +1,5 @@
 -- What is known on the edge that a branch takes speaks of the run: of a comparison of two numbers, and of a null test.
-use Rattle.std.proofs.Common.{◌≡◌, ◌≢◌, ℕ, zero, suc, pos, ◌<◌, ◌≤◌, ◌^◌, Bool, true, false, cond, not, List, [], ◌∷◌, length, get_or, set, Option, Some, None, Ok, refl, sym, ap, ◌∙◌, subst, arith, inl, inr, ◌⊎◌, length-set}
+use Rattle.std.proofs.Common.{◌≡◌, ◌≢◌, ℕ, zero, suc, pos, ◌<◌, ◌≤◌, ◌^◌, Bool, true, false, cond, not, List, [], ◌∷◌, length, get_or, set, Option, Some, None, Ok, refl, sym, ap, ◌∙◌, subst, arith, inl, inr, ◌⊎◌, length-set, ◌+◌, ◌*◌}
 use Rattle.std.specs.Prelude.{Contains, ◌==◌, ◌||◌, map, filter}
 use Rattle.std.proofs.lemmas.Bool.Decides.{nat_tests}
 use Rattle.std.proofs.lemmas.Bool.{cond_both, cases_lt}
@@ -25,12 +25,18 @@ use Rattle.ebpf_state.specs.declared.held.Held.{Held}
 use Rattle.ebpf_state.specs.Abstract.{is_unset, is_pointer, is_may}
 use Rattle.ebpf_state.specs.StateView.{StateView}
 use Rattle.ebpf_state.specs.States.{with_register}
-use Rattle.ebpf_state.specs.References.{answer_known, settled_value, settled_held, tested_reference, settled}
+use Rattle.ebpf_state.specs.References.{answer_known, settled_value, settled_word, settled_held, tested_reference, settled}
 use Rattle.ebpf_verify.specs.Branches.{compares_with_null, answering_call, null_test, comparison_refusal, refined_values, with_operand, is_null_where}
 use Rattle.ebpf_machine.specs.declared.value.Value.{Value}
 use Rattle.ebpf_machine.specs.declared.value.Value.TheVariants.{Number, Pointer}
 use Rattle.ebpf_machine.specs.declared.value.Base.TheVariants.{Stack, Context, Object}
 use Rattle.ebpf_machine.specs.Effect.{is_taken}
+use Rattle.ebpf_state.specs.declared.word.Word.{Word}
+use Rattle.ebpf_state.specs.declared.word.Word.TheVariants.{Spill, Bytes}
+use Rattle.ebpf_state.specs.Stack.{word_of}
+use Rattle.ebpf_machine.specs.declared.value.Cell.{Cell}
+use Rattle.ebpf_machine.specs.Values.{Frame}
+use Rattle.ebpf_machine.specs.Cells.{cell_at}
 use Rattle.ebpf_machine.specs.View.{ObjectView}
 use Rattle.ebpf_machine.specs.Concretization.{IsOf, IsOfCells, AreOf, AreReferred, calls_of}
 use Rattle.ebpf_machine.proofs.Bounded.{IsBoundedValue, IsFull, number_of-lt}

@@ -1,5 +1,5 @@
 -- What the rules send has all registers, and its numbers' ranges in order and below 2^64.
-use Rattle.std.proofs.Common.{ℕ, ◌<◌, ◌≤◌, ◌^◌, ℤ, Bool, true, false, Option, Some, None, arith}
+use Rattle.std.proofs.Common.{ℕ, ◌<◌, ◌≤◌, ◌^◌, ℤ, ◌+ℤ◌, Bool, true, false, Option, Some, None, arith, Result, Ok, Err}
 use Rattle.std.specs.Prelude.{FitsSigned, unwrap_or, IfSome}
 use Rattle.std.specs.Int.{w32}
 use Rattle.std.proofs.lemmas.Int.{ints}
@@ -28,6 +28,9 @@ use Rattle.ebpf_state.specs.States.{register_of, with_register}
 use Rattle.ebpf_verify.specs.Pointers.{signed_ends, opposite_ends, moved_end, with_end, with_ends, moved_by, sum_value, difference_value}
 use Rattle.ebpf_verify.specs.Operations.{unary_value, binary_value, result_of}
 use Rattle.ebpf_verify.specs.Branches.{operand, null_test, refined_values, with_operand, with_operands, is_null_where, after_comparison}
+use Rattle.ebpf_insn.specs.declared.insn.Size.{Size}
+use Rattle.ebpf_state.specs.declared.stack.StackFault.{StackFault}
+use Rattle.ebpf_state.specs.Stack.{loaded, stored}
 use Rattle.ebpf_verify.specs.Memory.{value_or_unset, loaded_value, state_after, after_store}
 use Rattle.ebpf_verify.specs.Rules.{after_operation, after_fall, after_jump}
 use Rattle.ebpf_machine.proofs.Bounded.{IsBoundedValue, IsFull, IsBoundedLoad, IsFullStore, register_bounded, with_register-full, settled-full, loaded-bounded, context_bounded, stored-full}
