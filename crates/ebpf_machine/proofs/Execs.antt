@@ -1,6 +1,7 @@
 -- The next instruction of a sound run in its world: it is legal without an answer, and the run goes on as it sees itself.
-use Rattle.std.proofs.Common.{◌≡◌, ◌≢◌, ℕ, List, length, Option, Some, None, Result, Ok, refl, sym, ap, ◌∙◌, subst, inl, inr, ◌⊎◌, length-set}
-use Rattle.std.specs.Prelude.{slice_get}
+use Rattle.std.proofs.Common.{◌≡◌, ◌≢◌, ℕ, Bool, true, false, arith, List, length, Option, Some, None, Result, Ok, refl, sym, ap, ◌∙◌, subst, inl, inr, ◌⊎◌, length-set}
+use Rattle.std.specs.Prelude.{slice_get, ◌==◌, ◌&&◌}
+use Rattle.std.proofs.lemmas.Bool.Decides.{nat_tests}
 use Rattle.std.proofs.lemmas.List.{length-map}
 use Rattle.ebpf_insn.specs.declared.insn.Insn.{Insn}
 use Rattle.ebpf_insn.specs.Program.{insn_at}
@@ -15,9 +16,9 @@ use Rattle.ebpf_machine.specs.Step.{IsEvent}
 use Rattle.ebpf_machine.specs.Sound.{IsOwned, IsSound}
 use Rattle.ebpf_machine.proofs.Acts.{effect_seen, IsOwnEffect, own_view, others_view, others_slots}
 use Rattle.ebpf_machine.proofs.Owned.{IsForward, owned_done}
-use Rattle.ebpf_machine.proofs.Projection.{effect-seen}
+use Rattle.ebpf_machine.proofs.Projection.{IsSeenAs, effect-seen}
 use Rattle.ebpf_machine.proofs.Pointing.{plain_goes}
-use Rattle.ebpf_machine.proofs.Steps.{next_of, goes_forward}
+use Rattle.ebpf_machine.proofs.Steps.{next_of, goes_forward, is_around}
 use Rattle.ebpf_machine.proofs.Soundness.{GoesOn, EndsRun}
 
 -- the world that the next instruction of a run leads to
@@ -75,11 +76,28 @@ next_by w run r e owned there going h = record {
 
 -- ---- the effect in the world and the effect that is seen
 
-seen_effect : (w : World) (run : ℕ) (r : Running) (i : Insn) → insn_at r.subject.program r.pc ≡ Some i → effect_seen (effect i r.pc (around w run r) r.frame) ≡ effect_of_view (view_of w run r)
-seen_effect w run r i at =
+and_false : (t : Bool) → (t && false) ≡ false
+and_false true = refl
+and_false false = refl
+
+-- what a run meets in the world is seen by it
+met : (w : World) (run : ℕ) (r : Running) → IsOwned w → slice_get w.runs run ≡ Some r → IsSeenAs (around w run r) (around_view (view_of w run r)) r.frame
+met w run r owned there = record { holds = length-map (held_by w run) (object_in w); context = refl; names = λ n m has too. same n m (n.1 == m.1) refl (λ e. owned.one_slot run r there n m has too e) } where
+  same : (n m : Name) (t : Bool) → (n.1 == m.1) ≡ t → (n.1 ≡ m.1 → n.0 ≡ m.0) → (n.1 == m.1) ≡ ((n.0 == m.0) && (n.1 == m.1))
+  same n m false e one = rw e (sym (and_false (n.0 == m.0)))
+  same n m true e one = let slots = equal n.0 m.0 (one (calls n.1 m.1 e)) in rw (e, slots) refl
+    where
+      calls : (a b : ℕ) → (a == b) ≡ true → a ≡ b
+      calls a b e = grind (arith, nat_tests)
+
+      equal : (a b : ℕ) → a ≡ b → (a == b) ≡ true
+      equal a b e = grind (arith, nat_tests)
+
+seen_effect : (w : World) (run : ℕ) (r : Running) (i : Insn) → IsOwned w → slice_get w.runs run ≡ Some r → insn_at r.subject.program r.pc ≡ Some i → effect_seen (effect i r.pc (around w run r) r.frame) ≡ effect_of_view (view_of w run r)
+seen_effect w run r i owned there at =
     let v = view_of w run r in
     sym (ap (λ (o : Option Insn). effect_at o r.pc (around_view v) (frame_seen r.frame)) at
-    ∙ effect-seen i r.pc (around w run r) (around_view v) r.frame (length-map (held_by w run) (object_in w)))
+    ∙ effect-seen i r.pc (around w run r) (around_view v) r.frame (met w run r owned there))
 
 -- an effect that is seen to go on, asking for nothing
 record GoesSeen (e : Effect Name) (to : ℕ) (after : Frame ℕ) : Type 0 where
@@ -100,12 +118,12 @@ seen_ends (Traps trap) n h = absurd (cc)
 
 -- ---- the two ways in which an instruction goes
 
-quiet_goes_on : (w : World) (run : ℕ) (r : Running) (i : Insn) (after : List (Option (Value ℕ))) → IsSound (view_of w run r) → insn_at r.subject.program r.pc ≡ Some i → asking_of w r ≡ Unasked → GoesOn r.subject.program (view_of w run r).objects r.pc i (frame_seen r.frame) after → (e : Effect Name) × IsQuietNext w run r e
-quiet_goes_on w run r i after sound at unasked g =
+quiet_goes_on : (w : World) (run : ℕ) (r : Running) (i : Insn) (after : Frame ℕ) → IsOwned w → slice_get w.runs run ≡ Some r → IsSound (view_of w run r) → insn_at r.subject.program r.pc ≡ Some i → asking_of w r ≡ Unasked → GoesOn r.subject.program (view_of w run r).objects r.pc i r.context (frame_seen r.frame) after → (e : Effect Name) × IsQuietNext w run r e
+quiet_goes_on w run r i after owned there sound at unasked g =
     let v = view_of w run r in
     let e = effect i r.pc (around w run r) r.frame in
-    let seen = seen_effect w run r i at in
-    let effect_is : effect_of_view v ≡ Goes Nothing g.to (record (frame_seen r.frame) { registers = after }) = ap (λ (o : Option Insn). effect_at o r.pc (around_view v) (frame_seen r.frame)) at ∙ g.does (around_view v) in
+    let seen = seen_effect w run r i owned there at in
+    let effect_is : effect_of_view v ≡ Goes Nothing g.to after = ap (λ (o : Option Insn). effect_at o r.pc (around_view v) (frame_seen r.frame)) at ∙ g.does (around_view v) (is_around v) in
     let goes = seen_goes e g.to _ (seen ∙ effect_is) in
     let plain = plain_goes i r.pc (around w run r) r.frame goes.act g.to goes.frame goes.is in
     let is : e ≡ Goes Nothing g.to goes.frame = goes.is ∙ ap (λ (a : Act Name). Goes a g.to goes.frame) plain.asks in (
@@ -120,11 +138,11 @@ quiet_goes_on w run r i after sound at unasked g =
       },
     )
 
-quiet_ends_run : (w : World) (run : ℕ) (r : Running) (i : Insn) (n : ℕ) → insn_at r.subject.program r.pc ≡ Some i → asking_of w r ≡ Unasked → EndsRun (view_of w run r).objects r.pc i (frame_seen r.frame) n → (e : Effect Name) × IsQuietNext w run r e
-quiet_ends_run w run r i n at unasked g =
+quiet_ends_run : (w : World) (run : ℕ) (r : Running) (i : Insn) (n : ℕ) → IsOwned w → slice_get w.runs run ≡ Some r → insn_at r.subject.program r.pc ≡ Some i → asking_of w r ≡ Unasked → EndsRun (view_of w run r).objects r.pc i (frame_seen r.frame) n → (e : Effect Name) × IsQuietNext w run r e
+quiet_ends_run w run r i n owned there at unasked g =
     let v = view_of w run r in
     let e = effect i r.pc (around w run r) r.frame in
-    let seen = seen_effect w run r i at in
+    let seen = seen_effect w run r i owned there at in
     let effect_is : effect_of_view v ≡ Ends n = ap (λ (o : Option Insn). effect_at o r.pc (around_view v) (frame_seen r.frame)) at ∙ g.does (around_view v) (ap (λ (os : List ObjectView). length os) g.none) in
     let is = seen_ends e n (seen ∙ effect_is) in (
       Ends n,
@@ -142,20 +160,20 @@ quiet_ends_run w run r i n at unasked g =
 pub unasked_next : (w : World) (run : ℕ) (r : Running) → IsSound (view_of w run r) → r.status ≡ Going → asking_of w r ≡ Unasked
 unasked_next w run r sound going = let n = next_of (view_of w run r) sound going in rw (n.1.at) (n.1.does.unasked (length w.kinds) r.frame)
 
-quiet_next : (w : World) (run : ℕ) (r : Running) → IsSound (view_of w run r) → r.status ≡ Going → (e : Effect Name) × IsQuietNext w run r e
-quiet_next w run r sound going =
+quiet_next : (w : World) (run : ℕ) (r : Running) → IsOwned w → slice_get w.runs run ≡ Some r → IsSound (view_of w run r) → r.status ≡ Going → (e : Effect Name) × IsQuietNext w run r e
+quiet_next w run r owned there sound going =
     let n = next_of (view_of w run r) sound going in
     by_end n.0 n.1.at n.1.does.next
   where
     v : RunView
     v = view_of w run r
 
-    by_end : (i : Insn) → insn_at r.subject.program r.pc ≡ Some i → ((after : List (Option (Value ℕ))) × GoesOn r.subject.program v.objects r.pc i (frame_seen r.frame) after) ⊎ ((n : ℕ) × EndsRun v.objects r.pc i (frame_seen r.frame) n) → (e : Effect Name) × IsQuietNext w run r e
-    by_end i at (inl goes) = quiet_goes_on w run r i goes.0 sound at (unasked_next w run r sound going) goes.1
-    by_end i at (inr ends) = quiet_ends_run w run r i ends.0 at (unasked_next w run r sound going) ends.1
+    by_end : (i : Insn) → insn_at r.subject.program r.pc ≡ Some i → ((after : Frame ℕ) × GoesOn r.subject.program v.objects r.pc i r.context (frame_seen r.frame) after) ⊎ ((n : ℕ) × EndsRun v.objects r.pc i (frame_seen r.frame) n) → (e : Effect Name) × IsQuietNext w run r e
+    by_end i at (inl goes) = quiet_goes_on w run r i goes.0 owned there sound at (unasked_next w run r sound going) goes.1
+    by_end i at (inr ends) = quiet_ends_run w run r i ends.0 owned there at (unasked_next w run r sound going) ends.1
 
 pub next_world : (w : World) (run : ℕ) (r : Running) → IsOwned w → slice_get w.runs run ≡ Some r → IsSound (view_of w run r) → r.status ≡ Going → (after : World) × IsNextWorld w run r after
-next_world w run r owned there sound going = let e = quiet_next w run r sound going in (done_by e.0 Absent w run r, next_by w run r e.0 owned there going e.1)
+next_world w run r owned there sound going = let e = quiet_next w run r owned there sound going in (done_by e.0 Absent w run r, next_by w run r e.0 owned there going e.1)
 
 -- ---- one step is one event
 

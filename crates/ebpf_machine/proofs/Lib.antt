@@ -20,6 +20,7 @@ pub mod Acts
 pub mod ObjectPointers
 pub mod OwnedParts
 pub mod Owned
+pub mod CellsSeen
 pub mod Projection
 pub mod Pointing
 pub mod Steps

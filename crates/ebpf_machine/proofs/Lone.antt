@@ -11,6 +11,7 @@ use Rattle.ebpf_machine.specs.declared.report.Reply.{Reply}
 use Rattle.ebpf_machine.specs.declared.report.Reply.TheVariants.{Null, Granted}
 use Rattle.ebpf_machine.specs.World.{Name, Answer, Absent, World, Running, Status, Going, Exited, Trapped, held_by, holds_of, first_run}
 use Rattle.ebpf_machine.specs.Events.{Asking, Unasked, OfNoKind, OfKind, asking_of, exec}
+use Rattle.ebpf_machine.specs.Values.{Frame}
 use Rattle.ebpf_machine.specs.Alone.{Alone, fed, fed_to, advanced, alone_first, alone_next, alone_after, outcome_of, outcome_alone}
 use Rattle.ebpf_machine.specs.View.{RunView, object_in, view_of, view_in, slots_in, stepped}
 use Rattle.ebpf_machine.specs.Sound.{IsOwned, IsSound, IsAlone, IsWellStated}
@@ -30,7 +31,7 @@ pub record IsOneOn (v t : RunView) : Type 0 where
 
 pub one_on : (v : RunView) (reply : Reply) → IsSound v → v.status ≡ Going → IsOneOn v (stepped reply v)
 one_on v reply sound going = let n = next_of v sound going in by_end n.0 n.1.at n.1.does.next where
-  by_end : (i : Insn) → insn_at v.subject.program v.pc ≡ Some i → ((after : List (Option (Value ℕ))) × GoesOn v.subject.program v.objects v.pc i v.frame after) ⊎ ((n : ℕ) × EndsRun v.objects v.pc i v.frame n) → IsOneOn v (stepped reply v)
+  by_end : (i : Insn) → insn_at v.subject.program v.pc ≡ Some i → ((after : Frame ℕ) × GoesOn v.subject.program v.objects v.pc i v.context v.frame after) ⊎ ((n : ℕ) × EndsRun v.objects v.pc i v.frame n) → IsOneOn v (stepped reply v)
   by_end i at (inl goes) = subst (IsOneOn v) (sym (stepped_goes v reply i goes.0 going at goes.1)) (record { subject = refl; context = refl; objects = refl; replies = refl; executed = refl })
   by_end i at (inr ends) = subst (IsOneOn v) (sym (stepped_ends v reply i ends.0 going at ends.1)) (record { subject = refl; context = refl; objects = refl; replies = refl; executed = refl })
 
@@ -97,18 +98,18 @@ lone_next a replies h = by_status h.run.status refl where
   by_status (Exited n) e = subst IsLone (sym (ended_next a replies h n e)) h
   by_status (Trapped trap) e = absurd (subst (λ (s : Status). IsWellStated s (view_of a.world 0 h.run)) e h.sound.stated)
 
-lone_first : (subject : Subject) (context : List ℕ) → IsAccepted subject → IsLone (alone_first subject context)
-lone_first subject context accepted = record {
+lone_first : (subject : Subject) (context : List ℕ) → IsAccepted subject → length context ≡ subject.decl.context → IsLone (alone_first subject context)
+lone_first subject context accepted long = record {
   run = first_run subject context;
   only = refl;
   owned = owned_first subject context;
-  sound = first_sound {H = ℕ} (λ h. []) subject context accepted;
+  sound = first_sound {H = ℕ} (λ h. []) subject context accepted long;
 }
 
-pub lone_after : (n : ℕ) (subject : Subject) (context : List ℕ) (replies : List Reply) → IsAccepted subject → IsLone (alone_after n subject context replies)
+pub lone_after : (n : ℕ) (subject : Subject) (context : List ℕ) (replies : List Reply) → IsAccepted subject → length context ≡ subject.decl.context → IsLone (alone_after n subject context replies)
 unfolding alone_after
-lone_after zero subject context replies accepted = lone_first subject context accepted
-lone_after (suc n) subject context replies accepted = lone_next (alone_after n subject context replies) replies (lone_after n subject context replies accepted)
+lone_after zero subject context replies accepted long = lone_first subject context accepted long
+lone_after (suc n) subject context replies accepted long = lone_next (alone_after n subject context replies) replies (lone_after n subject context replies accepted long)
 
 after_more : (n : ℕ) (subject : Subject) (context : List ℕ) (replies : List Reply) → alone_after (n + 1) subject context replies ≡ alone_next replies (alone_after n subject context replies)
 unfolding alone_after
@@ -127,7 +128,7 @@ pub record IsSeenAlone (v : RunView) : Type 0 where
 
 pub seen_alone : (v : RunView) → IsSound v → IsAlone v → IsSeenAlone v
 seen_alone v sound alone =
-    let lone = lone_after v.executed v.subject v.context v.replies sound.accepted in
+    let lone = lone_after v.executed v.subject v.context v.replies sound.accepted sound.context in
     let a = alone_after v.executed v.subject v.context v.replies in
     let there : view_in a.world 0 ≡ Some (view_of a.world 0 lone.run) = rw (there_is a lone) refl in
     record { lone = lone; seen = same _ _ _ there alone }
@@ -209,13 +210,13 @@ next_unused a these others h = by_status h.run.status refl where
   by_status (Exited n) e = ended_next a these h n e ∙ sym (ended_next a others h n e)
   by_status (Trapped trap) e = absurd (subst (λ (s : Status). IsWellStated s (view_of a.world 0 h.run)) e h.sound.stated)
 
-after_unused : (n : ℕ) (subject : Subject) (context : List ℕ) (these others : List Reply) → IsAccepted subject → alone_after n subject context these ≡ alone_after n subject context others
+after_unused : (n : ℕ) (subject : Subject) (context : List ℕ) (these others : List Reply) → IsAccepted subject → length context ≡ subject.decl.context → alone_after n subject context these ≡ alone_after n subject context others
 unfolding alone_after
-after_unused zero subject context these others accepted = refl
-after_unused (suc n) subject context these others accepted =
-    ap (alone_next these) (after_unused n subject context these others accepted)
-    ∙ next_unused (alone_after n subject context others) these others (lone_after n subject context others accepted)
+after_unused zero subject context these others accepted long = refl
+after_unused (suc n) subject context these others accepted long =
+    ap (alone_next these) (after_unused n subject context these others accepted long)
+    ∙ next_unused (alone_after n subject context others) these others (lone_after n subject context others accepted long)
 
 -- so the outcome is the same with other replies
-pub outcome_any_replies : (subject : Subject) (context : List ℕ) (these others : List Reply) → IsAccepted subject → outcome_alone subject context these ≡ outcome_alone subject context others
-outcome_any_replies subject context these others accepted = ap outcome_of (after_unused (length (instructions subject.program)) subject context these others accepted)
+pub outcome_any_replies : (subject : Subject) (context : List ℕ) (these others : List Reply) → IsAccepted subject → length context ≡ subject.decl.context → outcome_alone subject context these ≡ outcome_alone subject context others
+outcome_any_replies subject context these others accepted long = ap outcome_of (after_unused (length (instructions subject.program)) subject context these others accepted long)

@@ -20,7 +20,7 @@ use Rattle.ebpf_machine.specs.Sound.{IsOwned, IsOfKind, AskedFor, Names, HasPoin
 use Rattle.ebpf_machine.proofs.ListLemmas.{get_set_same, get_push, get_push_cases}
 use Rattle.ebpf_machine.proofs.Owners.{owner_of}
 use Rattle.ebpf_machine.proofs.ObjectPointers.{pointer_written, no_first_pointer}
-use Rattle.ebpf_machine.proofs.OwnedParts.{IsLater, same_run, true_same, owned_running, owned_bytes, owned_given, owned_granted}
+use Rattle.ebpf_machine.proofs.OwnedParts.{IsLater, HasOneSlot, same_run, true_same, owned_running, owned_bytes, owned_given, owned_granted}
 use Rattle.ebpf_machine.proofs.Acts.{IsOwnEffect}
 
 -- an instruction leads forward, and makes no pointer to an object that its run had none to
@@ -39,23 +39,28 @@ true_later w run r now n later h = record { behind = omega (arith, h.behind); sl
 owned_stays : (w : World) (run : ℕ) (r now : Running) → IsOwned w → slice_get w.runs run ≡ Some r → now.subject ≡ r.subject → now.pc ≡ r.pc → now.told ≡ r.told → now.frame ≡ r.frame → IsOwned (with_run w run now)
 owned_stays w run r now owned there subject pc told frame =
     let later : IsLater r now = record { subject = subject; pc = omega (arith, pc); told = λ t among. subst (λ (ts : List Told). Contains ts t) (sym told) among } in
-    owned_running w run r now owned there later (λ n has. true_later w run r now n (omega (arith, pc)) (owned.pointers run r there n (subst (λ (f : Frame Name). HasPointer f n) frame has)))
+    owned_running w run r now owned there later (λ n has. true_later w run r now n (omega (arith, pc)) (owned.pointers run r there n (subst (λ (f : Frame Name). HasPointer f n) frame has))) (subst HasOneSlot (sym frame) (owned.one_slot run r there))
 
 owned_gone : (w : World) (run : ℕ) (r : Running) (to : ℕ) (frame : Frame Name) → IsOwned w → slice_get w.runs run ≡ Some r → r.pc < to → ((n : Name) → HasPointer frame n → HasPointer r.frame n) → IsOwned (with_run w run (gone to frame r))
 owned_gone w run r to frame owned there forward fewer =
-    owned_running w run r (gone to frame r) owned there (record { subject = refl; pc = omega arith; told = λ t among. among }) (λ n has. true_later w run r (gone to frame r) n (omega arith) (owned.pointers run r there n (fewer n has)))
+    owned_running w run r (gone to frame r) owned there (record { subject = refl; pc = omega arith; told = λ t among. among }) (λ n has. true_later w run r (gone to frame r) n (omega arith) (owned.pointers run r there n (fewer n has))) (λ n m has too e. owned.one_slot run r there n m (fewer n has) (fewer m too) e)
 
 later_replied : (r : Running) (kind to : ℕ) (told : Reply) (v : Value Name) (frame : Frame Name) → r.pc < to → IsLater r (replied kind told v to frame r)
 later_replied r kind to told v frame forward = record { subject = refl; pc = omega arith; told = λ t among. Contains-append_left r.told (record { at = r.pc; kind = kind; reply = told } ∷ []) t among }
 
 owned_null : (w : World) (run : ℕ) (r : Running) (kind to : ℕ) (frame : Frame Name) → IsOwned w → slice_get w.runs run ≡ Some r → r.pc < to → ((n : Name) → HasPointer frame n → HasPointer r.frame n) → IsOwned (with_run w run (replied kind reply.Null (Number 0) to frame r))
-owned_null w run r kind to frame owned there forward fewer = owned_running w run r now owned there (later_replied r kind to reply.Null (Number 0) frame forward) (λ n has. by n (pointer_written frame (Number 0) n has)) where
+owned_null w run r kind to frame owned there forward fewer = owned_running w run r now owned there (later_replied r kind to reply.Null (Number 0) frame forward) (λ n has. by n (pointer_written frame (Number 0) n has)) (λ n m has too e. alike n m (pointer_written frame (Number 0) n has) (pointer_written frame (Number 0) m too) e) where
   now : Running
   now = replied kind reply.Null (Number 0) to frame r
 
   by : (n : Name) → HasPointer frame n ⊎ Names (Some (Number 0)) n → IsTrue w run now n
   by n (inl has) = true_later w run r now n (omega arith) (owned.pointers run r there n (fewer n has))
   by n (inr named) = absurd named
+
+  alike : (n m : Name) → HasPointer frame n ⊎ Names (Some (Number 0)) n → HasPointer frame m ⊎ Names (Some (Number 0)) m → n.1 ≡ m.1 → n.0 ≡ m.0
+  alike n m (inl has) (inl too) e = owned.one_slot run r there n m (fewer n has) (fewer m too) e
+  alike n m (inl has) (inr named) e = absurd named
+  alike n m (inr named) too e = absurd named
 
 -- ---- an object is granted
 
@@ -88,6 +93,12 @@ owned_taken w run r slot kind to frame owned there home of_kind forward fewer = 
       let call : r.pc ≡ n.1 = ap (λ (m : Name). m.1) new in
       record { behind = omega arith; slot = λ o among e. absurd (nothing_yet w run r o owned there among (e ∙ ap (λ (k : ℕ). Run run k) (sym call))) }
 
+  alike : (n m : Name) → (HasPointer r.frame n) ⊎ ((slot, r.pc) ≡ n) → (HasPointer r.frame m) ⊎ ((slot, r.pc) ≡ m) → n.1 ≡ m.1 → n.0 ≡ m.0
+  alike n m (inl old) (inl older) e = owned.one_slot run r there n m old older e
+  alike n m (inl old) (inr new) e = let behind = (owned.pointers run r there n old).behind in let call : r.pc ≡ m.1 = ap (λ (x : Name). x.1) new in absurd (omega arith)
+  alike n m (inr new) (inl old) e = let behind = (owned.pointers run r there m old).behind in let call : r.pc ≡ n.1 = ap (λ (x : Name). x.1) new in absurd (omega arith)
+  alike n m (inr new) (inr newer) e = ap (λ (x : Name). x.0) (sym new ∙ newer)
+
   points : (n : Name) → (HasPointer r.frame n) ⊎ ((slot, r.pc) ≡ n) → n.1 ≡ r.pc → n.0 ≡ slot
   points n (inl old) e = let behind = (owned.pointers run r there n old).behind in absurd (omega (arith, e))
   points n (inr new) e = ap (λ (m : Name). m.0) (sym new)
@@ -101,7 +112,7 @@ owned_taken w run r slot kind to frame owned there home of_kind forward fewer = 
   asked = record { asker = now; there = get_set_same w.runs run r now there; behind = forward; told = Contains-push r.told (record { at = r.pc; kind = kind; reply = reply.Granted }) }
 
   owned_next : IsOwned next
-  owned_next = owned_running w run r now owned there (later_replied r kind to reply.Granted (Pointer (Object (slot, r.pc)) (pos 0)) frame forward) (λ n has. true_now n (cases n has))
+  owned_next = owned_running w run r now owned there (later_replied r kind to reply.Granted (Pointer (Object (slot, r.pc)) (pos 0)) frame forward) (λ n has. true_now n (cases n has)) (λ n m has too e. alike n m (cases n has) (cases m too) e)
 
   by : (t : Bool) → IsOwned (cond t (with_run w run (trapped TooManyObjects r)) (with_owner slot (Run run r.pc) (with_bytes slot (image_at w.kinds kind) (with_run w run now))))
   by true = owned_stays w run r (trapped TooManyObjects r) owned there refl refl refl refl
@@ -141,8 +152,13 @@ owned_started w subject context owned kinds = record {
   one_a_call = owned.one_a_call;
   asked = λ o among. of_kind_started w (started subject context w) subject context o (kind_in w o.slot) refl (owned.asked o among);
   pointers = λ k x at n has. true_in k x n has (get_push_cases w.runs k x (first_run subject context) at);
+  one_slot = λ k x at. alike_in k x (get_push_cases w.runs k x (first_run subject context) at);
 }
   where
+    alike_in : (k : ℕ) (x : Running) → (slice_get w.runs k ≡ Some x) ⊎ (first_run subject context ≡ x) → HasOneSlot x.frame
+    alike_in k x (inl at) = owned.one_slot k x at
+    alike_in k x (inr same) = λ n m has too e. absurd (no_first_pointer n (subst (λ (y : Running). HasPointer y.frame n) (sym same) has))
+
     kinds_in : (k : ℕ) (x : Running) → (slice_get w.runs k ≡ Some x) ⊎ (first_run subject context ≡ x) → kinds_of x.subject.rows ≡ w.kinds
     kinds_in k x (inl at) = owned.kinds_are k x at
     kinds_in k x (inr same) = ap (λ (y : Running). kinds_of y.subject.rows) (sym same) ∙ kinds
@@ -169,6 +185,7 @@ owned_empty xs kinds as_many = record {
   one_a_call = λ o p there. let inside = there.1 in absurd (omega arith);
   asked = λ o there. let inside = there.1 in absurd (omega arith);
   pointers = λ run r there. absurd (cc);
+  one_slot = λ run r there. absurd (cc);
 }
   where
     not_home : (slot : ℕ) → list_any (is_in slot) (map (λ x. []) xs) ≡ false → (list_any (is_in slot) (map (λ x. []) xs) && true) ≡ true → ⊥

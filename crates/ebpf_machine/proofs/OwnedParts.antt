@@ -10,6 +10,7 @@ use Rattle.ebpf_verify.specs.Subject.{Subject}
 use Rattle.ebpf_machine.specs.World.{Name, World, Running, Told, Owner, Holder, Run, is_in, is_in_ledger, is_owned, is_home, is_call, ledger_of, kinds_of, image_at, kind_in}
 use Rattle.ebpf_machine.specs.Events.{with_run, with_bytes, with_owner, without_owner}
 use Rattle.ebpf_machine.specs.View.{call_of}
+use Rattle.ebpf_machine.specs.Values.{Frame}
 use Rattle.ebpf_machine.specs.Sound.{IsOwned, IsOfKind, AskedFor, HasPointer, IsTrue}
 use Rattle.ebpf_machine.proofs.ListLemmas.{get_set_same, get_set_other, get_set_cases, Contains-filter, count_by-filter-le, list_any-filter, none_counted}
 use Rattle.ebpf_machine.proofs.Owners.{owner_of, run_of, not_home, holder_of_slot, kind_in-ledger, in_one_ledger}
@@ -46,8 +47,12 @@ of_kind_later w run r now (Run asker at) kind there later h = by (cases_eq asker
       }
   by (inr ne) = record { asker = h.asker; there = get_set_other w.runs run asker now ne ∙ h.there; behind = h.behind; told = h.told }
 
-pub owned_running : (w : World) (run : ℕ) (r now : Running) → IsOwned w → slice_get w.runs run ≡ Some r → IsLater r now → ((n : Name) → HasPointer now.frame n → IsTrue w run now n) → IsOwned (with_run w run now)
-owned_running w run r now owned there later true_now = record {
+-- pointers of a run that stem from one call are to one slot
+abbrev pub HasOneSlot : Frame Name → Type 0
+HasOneSlot frame = (n m : Name) → HasPointer frame n → HasPointer frame m → n.1 ≡ m.1 → n.0 ≡ m.0
+
+pub owned_running : (w : World) (run : ℕ) (r now : Running) → IsOwned w → slice_get w.runs run ≡ Some r → IsLater r now → ((n : Name) → HasPointer now.frame n → IsTrue w run now n) → HasOneSlot now.frame → IsOwned (with_run w run now)
+owned_running w run r now owned there later true_now alike = record {
   once = owned.once;
   in_ledger = owned.in_ledger;
   apart = owned.apart;
@@ -58,8 +63,13 @@ owned_running w run r now owned there later true_now = record {
   one_a_call = owned.one_a_call;
   asked = λ o among. of_kind_later w run r now o.holder (kind_in w o.slot) there later (owned.asked o among);
   pointers = λ k x at n has. true_in k x n has (get_set_cases w.runs run k r now x there at);
+  one_slot = λ k x at. alike_in k x (get_set_cases w.runs run k r now x there at);
 }
   where
+    alike_in : (k : ℕ) (x : Running) → ((k ≡ run) × (now ≡ x)) ⊎ ((k ≢ run) × (slice_get w.runs k ≡ Some x)) → HasOneSlot x.frame
+    alike_in k x (inl e) = subst (λ (y : Running). HasOneSlot y.frame) e.1 alike
+    alike_in k x (inr at) = owned.one_slot k x at.1
+
     kinds : (k : ℕ) (x : Running) → ((k ≡ run) × (now ≡ x)) ⊎ ((k ≢ run) × (slice_get w.runs k ≡ Some x)) → kinds_of x.subject.rows ≡ w.kinds
     kinds k x (inl e) = ap (λ (y : Running). kinds_of y.subject.rows) (sym e.1) ∙ ap (λ (s : Subject). kinds_of s.rows) later.subject ∙ owned.kinds_are run r there
     kinds k x (inr at) = owned.kinds_are k x at.1
@@ -84,6 +94,7 @@ owned_bytes w slot bytes p owned own is as_long = record {
   one_a_call = owned.one_a_call;
   asked = λ o among. of_kind_same w (with_bytes slot bytes w) o.holder (kind_in w o.slot) refl (owned.asked o among);
   pointers = λ k x at n has. true_same w (with_bytes slot bytes w) k x n (λ o among. among) (owned.pointers k x at n has);
+  one_slot = owned.one_slot;
 }
   where
     elsewhere : (s : ℕ) → is_home w s ≡ true → cond (s == slot) bytes (w.bytes s) ≡ image_at w.kinds (kind_in w s)
@@ -107,6 +118,7 @@ owned_given w run name owned own = record {
   one_a_call = λ o p among here e. owned.one_a_call o p (was o among) (was p here) e;
   asked = λ o among. of_kind_same w after o.holder (kind_in w o.slot) refl (owned.asked o (was o among));
   pointers = λ k x at n has. true_same w after k x n was (owned.pointers k x at n has);
+  one_slot = owned.one_slot;
 }
   where
     stays : Owner → Bool
@@ -190,6 +202,7 @@ owned_granted w run at slot kind owned home there asked nothing points = record 
   one_a_call = λ o p among here e. one o p (added w run at slot o among) (added w run at slot p here) e;
   asked = λ o among. of_kind o (added w run at slot o among);
   pointers = λ k x seen n has. true_in k x n seen has (owned.pointers k x seen n has);
+  one_slot = owned.one_slot;
 }
   where
     after : World

@@ -1,6 +1,6 @@
 -- An instruction makes no pointer to an object that its run had none to, and asks for nothing.
-use Rattle.std.proofs.Common.{◌≡◌, ℕ, zero, suc, ◌<◌, ℤ, Bool, true, false, cond, List, [], ◌∷◌, length, get_or, set, Option, Some, None, Result, Ok, Err, refl, sym, subst, arith, inl, inr, ◌⊎◌}
-use Rattle.std.specs.Prelude.{Contains, nat_lt}
+use Rattle.std.proofs.Common.{◌≡◌, ℕ, zero, suc, ◌<◌, ℤ, Bool, true, false, cond, List, [], ◌∷◌, length, get_or, set, Option, Some, None, Result, Ok, Err, refl, sym, subst, arith, inl, inr, ◌⊎◌, ◌+◌, ◌-◌, ◌/◌, ◌+ℤ◌, not}
+use Rattle.std.specs.Prelude.{Contains, nat_lt, map, ◌&&◌}
 use Rattle.ebpf_insn.specs.declared.register.Reg.{Reg}
 use Rattle.ebpf_insn.specs.declared.register.Reg.TheVariants.{R0}
 use Rattle.ebpf_insn.specs.declared.insn.Insn.{Insn}
@@ -22,7 +22,17 @@ use Rattle.ebpf_machine.specs.declared.value.Base.TheVariants.{Stack, Context, O
 use Rattle.ebpf_machine.specs.Values.{Trap, FramePointerWritten, Leak, Frame, read, source_value}
 use Rattle.ebpf_machine.specs.Effect.{Around, Act, Nothing, Effect, Goes, Traps, effect, unary, copied, moved_on_left, moved_on_right, pointer_to, computed, binary, alu_value, with_value, written, is_taken, jumps, branches, exits, result_number}
 use Rattle.ebpf_machine.specs.World.{Name}
-use Rattle.ebpf_machine.specs.Sound.{Names, HasPointer, InRegister, InCell}
+use Rattle.std.specs.List.{enumerate_from}
+use Rattle.std.proofs.lemmas.Bool.{cond_both}
+use Rattle.ebpf_insn.specs.declared.insn.Size.{Size}
+use Rattle.ebpf_state.specs.Stack.{bytes_in, place_of, is_whole_word}
+use Rattle.ebpf_machine.specs.declared.value.Cell.{Cell}
+use Rattle.ebpf_machine.specs.declared.value.Cell.TheVariants.{Unset, Byte, Part}
+use Rattle.ebpf_machine.specs.Values.{PointerMisuse}
+use Rattle.ebpf_machine.specs.Cells.{cell_at, are_parts, pointer_from, number_from, loaded_number, loaded_word, loaded_at, context_place, read_at, cell_of, left_over, touches, is_among, stored_cell, stored_cells, is_pointer, stored_at}
+use Rattle.ebpf_machine.specs.Effect.{loaded, stored_through, stored, rewritten}
+use Rattle.ebpf_machine.specs.Sound.{Names, NamesPart, HasPointer, InRegister, InCell}
+use Rattle.ebpf_machine.proofs.CellsSeen.{HasPart, cell_points}
 
 -- an element of a list of which one place was written is the one that was written, or was there
 in_set : {X : Type 0} → (xs : List X) (k : ℕ) (a x : X) (i : ℕ) → i < length (set xs k a) → get_or (set xs k a) i x ≡ x → (a ≡ x) ⊎ Contains xs x
@@ -124,6 +134,109 @@ written_plain to frame dst x y (Ok v) left right points = chosen (is_frame_point
   chosen true = tt
   chosen false = value_plain frame dst v from
 
+-- ---- loads and stores
+
+-- a value that is loaded points where a cell does
+abbrev PointsIn : List (Cell Name) → Result (Value Name) Trap → Type 0
+PointsIn stack (Err trap) = Unit {0}
+PointsIn stack (Ok v) = (n : Name) → Names (Some v) n → HasPart stack n
+
+number_points : (stack : List (Cell Name)) (n : Option ℕ) (bytes : ℕ) (signed : Bool) → PointsIn stack (loaded_number n bytes signed)
+number_points stack None bytes signed = tt
+number_points stack (Some m) bytes signed = λ n h. absurd h
+
+word_points : (one : Name → Name → Bool) (c : Cell Name) (stack : List (Cell Name)) (place : ℕ) (number : Option ℕ) (bytes : ℕ) (signed : Bool) → ((n : Name) → NamesPart c n → HasPart stack n) → PointsIn stack (loaded_word (pointer_from one c stack place) number bytes signed)
+word_points one Unset stack place number bytes signed among = number_points stack number bytes signed
+word_points one (Byte b) stack place number bytes signed among = number_points stack number bytes signed
+word_points one (Part v j) stack place number bytes signed among = found (are_parts one v stack place 8) where
+  found : (t : Bool) → PointsIn stack (loaded_word (cond t (Some v) None) number bytes signed)
+  found true = among
+  found false = number_points stack number bytes signed
+
+loaded_points : (one : Name → Name → Bool) (place : Option ℕ) (bytes : ℕ) (signed : Bool) (stack : List (Cell Name)) → PointsIn stack (loaded_at one place bytes signed stack)
+loaded_points one None bytes signed stack = tt
+loaded_points one (Some place) bytes signed stack =
+    cond_both (is_whole_word place bytes) (loaded_word (pointer_from one (cell_at stack place) stack place) (number_from stack place bytes) bytes signed) (loaded_number (number_from stack place bytes) bytes signed) (PointsIn stack)
+    (λ e. word_points one (cell_at stack place) stack place (number_from stack place bytes) bytes signed (λ n part. (place, part))) (λ e. number_points stack (number_from stack place bytes) bytes signed)
+
+load_plain : (to : ℕ) (frame : Frame Name) (dst : Reg) (r : Result (Value Name) Trap) → PointsIn frame.stack r → IsPlainEffect frame (written to frame dst r)
+load_plain to frame dst (Err trap) points = tt
+load_plain to frame dst (Ok v) points = chosen (is_frame_pointer dst) where
+  chosen : (t : Bool) → IsPlainEffect frame (cond t (Traps FramePointerWritten) (Goes Nothing to (with_value frame dst v)))
+  chosen true = tt
+  chosen false = value_plain frame dst v (λ n h. cell_points frame n (points n h))
+
+read_points_nowhere : (stack : List (Cell Name)) (place : Option ℕ) (bytes : ℕ) (signed : Bool) (context : List ℕ) → PointsIn stack (read_at place bytes signed context)
+read_points_nowhere stack None bytes signed context = tt
+read_points_nowhere stack (Some place) bytes signed context = λ n h. absurd h
+
+through_points : (a : Around Name) (stack : List (Cell Name)) (size : Size) (signed : Bool) (offset : ℤ) (x : Option (Value Name)) → PointsIn stack (loaded a stack size signed offset x)
+through_points a stack size signed offset None = tt
+through_points a stack size signed offset (Some (Number n)) = tt
+through_points a stack size signed offset (Some (Pointer Stack k)) = loaded_points a.is_same (place_of (k +ℤ offset) (bytes_in size)) (bytes_in size) signed stack
+through_points a stack size signed offset (Some (Pointer Context k)) = read_points_nowhere stack (context_place (length a.context) (k +ℤ offset) (bytes_in size)) (bytes_in size) signed a.context
+through_points a stack size signed offset (Some (Pointer (Object name) k)) = tt
+
+-- a cell after a store is of the value, or was there
+stored_from : (place bytes : ℕ) (v : Value Name) (i : ℕ) (old c : Cell Name) (n : Name) → stored_cell place bytes v i old ≡ c → NamesPart c n → Names (Some v) n ⊎ NamesPart old n
+stored_from place bytes v i old c n e h = of_cell (subst (λ (x : Cell Name). NamesPart x n) (sym e) h) where
+  of_value : (v : Value Name) (j : ℕ) → NamesPart (cell_of v j) n → Names (Some v) n
+  of_value (Number m) j part = absurd part
+  of_value (Pointer base k) j part = part
+
+  of_rest : (old : Cell Name) → NamesPart (left_over old) n → NamesPart old n
+  of_rest Unset part = absurd part
+  of_rest (Byte b) part = absurd part
+  of_rest (Part u j) part = absurd part
+
+  by : (t u : Bool) → NamesPart (cond t (cell_of v (i - place)) (cond u (left_over old) old)) n → Names (Some v) n ⊎ NamesPart old n
+  by true u part = inl (of_value v (i - place) part)
+  by false true part = inr (of_rest old part)
+  by false false part = inr part
+
+  of_cell : NamesPart (stored_cell place bytes v i old) n → Names (Some v) n ⊎ NamesPart old n
+  of_cell part = by (is_among place bytes i) (touches place bytes (i / 8)) part
+
+-- an element of a list that was changed place by place
+in_changed : {X Y : Type 0} (f : ℕ × X → Y) (xs : List X) (from : ℕ) (y : Y) (i : ℕ) → i < length (map f (enumerate_from from xs)) → get_or (map f (enumerate_from from xs)) i y ≡ y → (k : ℕ) × (x : X) × Contains xs x × (f (k, x) ≡ y)
+in_changed f [] from y i lt e = absurd (omega (arith, lt))
+in_changed f (x ∷ xs) from y zero lt e = (from, x, (0, omega arith, refl), e)
+in_changed f (x ∷ xs) from y (suc i) lt e =
+    let there = in_changed f xs (from + 1) y i (omega (arith, lt)) e in
+    let among = there.2 in
+    let inside = among.1 in
+    (there.0, there.1, (suc among.0, omega arith, among.2), there.3)
+
+stack_plain : (to : ℕ) (frame : Frame Name) (place bytes : ℕ) (v : Value Name) → ((n : Name) → Names (Some v) n → HasPointer frame n) → IsPlain frame Nothing (record frame { stack = stored_cells place bytes v frame.stack })
+stack_plain to frame place bytes v from = record { asks = refl; pointers = pointed } where
+  old_or_new : (n : Name) (old : Cell Name) → Contains frame.stack old → Names (Some v) n ⊎ NamesPart old n → HasPointer frame n
+  old_or_new n old among (inl named) = from n named
+  old_or_new n old among (inr part) = InCell old among part
+
+  pointed : (n : Name) → HasPointer (record frame { stack = stored_cells place bytes v frame.stack }) n → HasPointer frame n
+  pointed n (InRegister x there h) = InRegister x there h
+  pointed n (InCell c there h) =
+      let it = in_changed (λ p. stored_cell place bytes v p.0 p.1) frame.stack 0 c there.0 there.1 there.2 in
+      old_or_new n it.1 it.2 (stored_from place bytes v it.0 it.1 c n it.3 h)
+
+stored_at_plain : (to : ℕ) (frame : Frame Name) (place : Option ℕ) (bytes : ℕ) (v : Value Name) → ((n : Name) → Names (Some v) n → HasPointer frame n) → IsPlainEffect frame (rewritten to frame (stored_at place bytes v frame.stack))
+stored_at_plain to frame None bytes v from = tt
+stored_at_plain to frame (Some place) bytes v from = chosen (is_pointer v && not (is_whole_word place bytes)) where
+  chosen : (t : Bool) → IsPlainEffect frame (rewritten to frame (cond t (Err PointerMisuse) (Ok (stored_cells place bytes v frame.stack))))
+  chosen true = tt
+  chosen false = stack_plain to frame place bytes v from
+
+through_plain : (to : ℕ) (frame : Frame Name) (size : Size) (offset : ℤ) (base v : Value Name) → ((n : Name) → Names (Some v) n → HasPointer frame n) → IsPlainEffect frame (rewritten to frame (stored_through frame.stack size offset base v))
+through_plain to frame size offset (Number m) v from = tt
+through_plain to frame size offset (Pointer Stack k) v from = stored_at_plain to frame (place_of (k +ℤ offset) (bytes_in size)) (bytes_in size) v from
+through_plain to frame size offset (Pointer Context k) v from = tt
+through_plain to frame size offset (Pointer (Object name) k) v from = tt
+
+store_plain : (to : ℕ) (frame : Frame Name) (size : Size) (offset : ℤ) (x y : Option (Value Name)) → ((n : Name) → Names y n → HasPointer frame n) → IsPlainEffect frame (rewritten to frame (stored frame.stack size offset x y))
+store_plain to frame size offset None y from = tt
+store_plain to frame size offset (Some base) None from = tt
+store_plain to frame size offset (Some base) (Some v) from = through_plain to frame size offset base v from
+
 -- an operation on one number
 number_plain : (to : ℕ) (frame : Frame Name) (dst : Reg) (f : ℕ → ℕ) (src : Reg) → IsPlainEffect frame (written to frame dst (unary f (read frame src)))
 number_plain to frame dst f src = written_plain to frame dst (read frame src) (read frame src) (unary f (read frame src)) (read_points frame src) (read_points frame src) (unary_points f (read frame src) (read frame src))
@@ -159,7 +272,9 @@ effect_plain (insn.Jump offset) pc a frame = jumps_plain (jump_of (insn.Jump off
 effect_plain (insn.JumpFar offset) pc a frame = jumps_plain (jump_of (insn.JumpFar offset) pc) frame
 effect_plain (insn.Branch width condition left right offset) pc a frame = branches_plain _ (jump_of (insn.Branch width condition left right offset) pc) frame (is_taken width condition right (read frame left) (source_value frame width right))
 effect_plain insn.Exit pc a frame = exits_plain frame a.holds (read frame R0)
-effect_plain _ pc a frame = tt
+effect_plain (insn.Load size signed dst base offset) pc a frame = load_plain _ frame dst (loaded a frame.stack size signed offset (read frame base)) (through_points a frame.stack size signed offset (read frame base))
+effect_plain (insn.Store size base offset src) pc a frame = store_plain _ frame size offset (read frame base) (source_value frame W64 src) (source_points frame W64 src)
+effect_plain (insn.Call number) pc a frame = tt
 
 pub plain_goes : (i : Insn) (pc : ℕ) (a : Around Name) (frame : Frame Name) (act : Act Name) (to : ℕ) (after : Frame Name) → effect i pc a frame ≡ Goes act to after → IsPlain frame act after
 plain_goes i pc a frame act to after e = subst (IsPlainEffect frame) e (effect_plain i pc a frame)

@@ -1,5 +1,5 @@
 -- An instruction does to what a run sees what it does to the run in the world.
-use Rattle.std.proofs.Common.{◌≡◌, ℕ, zero, suc, ◌+◌, ℤ, Bool, true, false, cond, List, [], ◌∷◌, get_or, set, Option, Some, None, Result, Ok, Err, refl, sym, ap}
+use Rattle.std.proofs.Common.{◌≡◌, ℕ, zero, suc, ◌+◌, ℤ, ◌+ℤ◌, Bool, true, false, cond, List, [], ◌∷◌, length, get_or, set, Option, Some, None, Result, Ok, Err, refl, sym, ap}
 use Rattle.std.specs.Prelude.{map, nat_lt}
 use Rattle.ebpf_insn.specs.declared.register.Reg.{Reg}
 use Rattle.ebpf_insn.specs.declared.register.Reg.TheVariants.{R0}
@@ -24,11 +24,15 @@ use Rattle.ebpf_machine.specs.Values.{Trap, FramePointerWritten, Leak, Frame, re
 use Rattle.ebpf_machine.specs.Effect.{Around, Nothing, Effect, Goes, Traps, effect, unary, copied, moved_on_left, moved_on_right, pointer_to, computed, binary, alu_value, with_value, written, compared, is_taken, jumps, branches, exits, result_number}
 use Rattle.ebpf_machine.specs.World.{Name}
 use Rattle.ebpf_machine.specs.View.{base_seen, value_seen, register_seen, frame_seen}
+use Rattle.ebpf_insn.specs.declared.insn.Size.{Size}
+use Rattle.ebpf_state.specs.Stack.{bytes_in, place_of}
+use Rattle.ebpf_machine.specs.declared.value.Cell.{Cell}
+use Rattle.ebpf_machine.specs.Cells.{loaded_at, context_place, read_at}
+use Rattle.ebpf_machine.specs.Effect.{loaded, stored_through, stored, rewritten}
+use Rattle.ebpf_machine.specs.View.{cell_seen}
+use Rattle.ebpf_machine.specs.Sound.{HasPointer}
 use Rattle.ebpf_machine.proofs.Acts.{effect_seen}
-
-abbrev pub result_seen : Result (Value Name) Trap → Result (Value ℕ) Trap
-result_seen (Ok v) = Ok (value_seen v)
-result_seen (Err trap) = Err trap
+use Rattle.ebpf_machine.proofs.CellsSeen.{result_seen, stack_seen, loaded_at-seen, read_at-seen, stored_at-seen, cell_points, HasPart}
 
 get_or-seen : (xs : List (Option (Value Name))) (k : ℕ) → get_or (map register_seen xs) k None ≡ register_seen (get_or xs k None)
 get_or-seen [] k = refl
@@ -122,8 +126,43 @@ exits-seen : (holds : ℕ) (x : Option (Value Name)) → exits holds (register_s
 exits-seen holds None = refl
 exits-seen holds (Some v) = rw (number-seen v) (leaks-seen (nat_lt 0 holds) Leak (result_number v))
 
--- an effect of the run is the effect as it sees itself, where it holds as many objects on both sides
-pub effect-seen : (i : Insn) (pc : ℕ) (a : Around Name) (b : Around ℕ) (frame : Frame Name) → b.holds ≡ a.holds → effect i pc b (frame_seen frame) ≡ effect_seen (effect i pc a frame)
+-- what an instruction meets beside the frame is seen so: as many objects, the same context, and names of which it has pointers
+-- are one on one side where they are on the other
+pub record IsSeenAs (a : Around Name) (b : Around ℕ) (frame : Frame Name) : Type 0 where
+  pub holds : b.holds ≡ a.holds
+  pub context : b.context ≡ a.context
+  pub names : (n m : Name) → HasPointer frame n → HasPointer frame m → b.is_same n.1 m.1 ≡ a.is_same n m
+
+stack_load-seen : (a : Around Name) (b : Around ℕ) (frame : Frame Name) (size : Size) (signed : Bool) (at : ℤ) → IsSeenAs a b frame → loaded_at b.is_same (place_of at (bytes_in size)) (bytes_in size) signed (map cell_seen frame.stack) ≡ result_seen (loaded_at a.is_same (place_of at (bytes_in size)) (bytes_in size) signed frame.stack)
+stack_load-seen a b frame size signed at same = loaded_at-seen a.is_same b.is_same (place_of at (bytes_in size)) (bytes_in size) signed frame.stack (λ n m u v. same.names n m (cell_points frame n u) (cell_points frame m v))
+
+context_load-seen : (len : List ℕ) (other : List ℕ) (at : ℤ) (bytes : ℕ) (signed : Bool) → other ≡ len → read_at (context_place (length other) at bytes) bytes signed other ≡ result_seen (read_at (context_place (length len) at bytes) bytes signed len)
+context_load-seen len other at bytes signed same = rw same (read_at-seen (context_place (length len) at bytes) bytes signed len)
+
+loaded-seen : (a : Around Name) (b : Around ℕ) (frame : Frame Name) (size : Size) (signed : Bool) (offset : ℤ) (x : Option (Value Name)) → IsSeenAs a b frame → loaded b (map cell_seen frame.stack) size signed offset (register_seen x) ≡ result_seen (loaded a frame.stack size signed offset x)
+loaded-seen a b frame size signed offset None same = refl
+loaded-seen a b frame size signed offset (Some (Number n)) same = refl
+loaded-seen a b frame size signed offset (Some (Pointer Stack k)) same = stack_load-seen a b frame size signed (k +ℤ offset) same
+loaded-seen a b frame size signed offset (Some (Pointer Context k)) same = context_load-seen a.context b.context (k +ℤ offset) (bytes_in size) signed same.context
+loaded-seen a b frame size signed offset (Some (Pointer (Object name) k)) same = refl
+
+stored_through-seen : (stack : List (Cell Name)) (size : Size) (offset : ℤ) (base v : Value Name) → stored_through (map cell_seen stack) size offset (value_seen base) (value_seen v) ≡ stack_seen (stored_through stack size offset base v)
+stored_through-seen stack size offset (Number n) v = refl
+stored_through-seen stack size offset (Pointer Stack k) v = stored_at-seen (place_of (k +ℤ offset) (bytes_in size)) (bytes_in size) v stack
+stored_through-seen stack size offset (Pointer Context k) v = refl
+stored_through-seen stack size offset (Pointer (Object name) k) v = refl
+
+stored-seen : (stack : List (Cell Name)) (size : Size) (offset : ℤ) (x y : Option (Value Name)) → stored (map cell_seen stack) size offset (register_seen x) (register_seen y) ≡ stack_seen (stored stack size offset x y)
+stored-seen stack size offset None y = refl
+stored-seen stack size offset (Some base) None = refl
+stored-seen stack size offset (Some base) (Some v) = stored_through-seen stack size offset base v
+
+rewritten-seen : (to : ℕ) (frame : Frame Name) (r : Result (List (Cell Name)) Trap) → rewritten to (frame_seen frame) (stack_seen r) ≡ effect_seen (rewritten to frame r)
+rewritten-seen to frame (Err trap) = refl
+rewritten-seen to frame (Ok stack) = refl
+
+-- an effect of the run is the effect as it sees itself
+pub effect-seen : (i : Insn) (pc : ℕ) (a : Around Name) (b : Around ℕ) (frame : Frame Name) → IsSeenAs a b frame → effect i pc b (frame_seen frame) ≡ effect_seen (effect i pc a frame)
 effect-seen (insn.Alu width o dst src) pc a b frame same =
     rw (read-seen frame dst, source-seen frame width src, alu-seen width o (read frame dst) (source_value frame width src)) (written-seen (pc + 1) frame dst (alu_value width o (read frame dst) (source_value frame width src)))
 effect-seen (insn.Sext width bits dst src) pc a b frame same =
@@ -137,5 +176,9 @@ effect-seen (insn.Jump offset) pc a b frame same = jumps-seen (jump_of (insn.Jum
 effect-seen (insn.JumpFar offset) pc a b frame same = jumps-seen (jump_of (insn.JumpFar offset) pc) frame
 effect-seen (insn.Branch width condition left right offset) pc a b frame same =
     rw (read-seen frame left, source-seen frame width right, taken-seen width condition right (read frame left) (source_value frame width right)) (branches-seen (pc + 1) (jump_of (insn.Branch width condition left right offset) pc) frame (is_taken width condition right (read frame left) (source_value frame width right)))
-effect-seen insn.Exit pc a b frame same = rw (read-seen frame R0, same) (exits-seen a.holds (read frame R0))
-effect-seen _ pc a b frame same = refl
+effect-seen insn.Exit pc a b frame same = rw (read-seen frame R0, same.holds) (exits-seen a.holds (read frame R0))
+effect-seen (insn.Load size signed dst base offset) pc a b frame same =
+    rw (read-seen frame base, loaded-seen a b frame size signed offset (read frame base) same) (written-seen (pc + 1) frame dst (loaded a frame.stack size signed offset (read frame base)))
+effect-seen (insn.Store size base offset src) pc a b frame same =
+    rw (read-seen frame base, source-seen frame W64 src, stored-seen frame.stack size offset (read frame base) (source_value frame W64 src)) (rewritten-seen (pc + 1) frame (stored frame.stack size offset (read frame base) (source_value frame W64 src)))
+effect-seen (insn.Call number) pc a b frame same = refl
