@@ -1,4 +1,5 @@
 pub mod ListLemmas
+pub mod Words
 pub mod Bounded
 pub mod Joins
 pub mod RulesBounded
