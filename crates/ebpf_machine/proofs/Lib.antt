@@ -1,5 +1,6 @@
 pub mod ListLemmas
 pub mod Words
+pub mod Loads
 pub mod Bounded
 pub mod Joins
 pub mod RulesBounded
