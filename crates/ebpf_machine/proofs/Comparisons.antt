@@ -1,5 +1,5 @@
 -- What is known on the edge that a branch takes speaks of the run: of a comparison of two numbers, and of a null test.
-use Rattle.std.proofs.Common.{◌≡◌, ◌≢◌, ℕ, zero, suc, pos, ◌<◌, ◌≤◌, ◌^◌, Bool, true, false, cond, not, List, [], ◌∷◌, length, get_or, set, Option, Some, None, Ok, refl, sym, ap, ◌∙◌, subst, arith, inl, inr, ◌⊎◌, length-set}
+use Rattle.std.proofs.Common.{◌≡◌, ◌≢◌, ℕ, zero, suc, pos, ◌<◌, ◌≤◌, ◌^◌, Bool, true, false, cond, not, List, [], ◌∷◌, length, get_or, set, Option, Some, None, Ok, refl, sym, ap, ◌∙◌, subst, arith, inl, inr, ◌⊎◌, length-set, ◌+◌, ◌*◌}
 use Rattle.std.specs.Prelude.{Contains, ◌==◌, ◌||◌, map, filter}
 use Rattle.std.proofs.lemmas.Bool.Decides.{nat_tests}
 use Rattle.std.proofs.lemmas.Bool.{cond_both, cases_lt}
@@ -25,15 +25,21 @@ use Rattle.ebpf_state.specs.declared.held.Held.{Held}
 use Rattle.ebpf_state.specs.Abstract.{is_unset, is_pointer, is_may}
 use Rattle.ebpf_state.specs.StateView.{StateView}
 use Rattle.ebpf_state.specs.States.{with_register}
-use Rattle.ebpf_state.specs.References.{answer_known, settled_value, settled_held, tested_reference, settled}
+use Rattle.ebpf_state.specs.References.{answer_known, settled_value, settled_word, settled_held, tested_reference, settled}
 use Rattle.ebpf_verify.specs.Branches.{compares_with_null, answering_call, null_test, comparison_refusal, refined_values, with_operand, is_null_where}
 use Rattle.ebpf_machine.specs.declared.value.Value.{Value}
 use Rattle.ebpf_machine.specs.declared.value.Value.TheVariants.{Number, Pointer}
 use Rattle.ebpf_machine.specs.declared.value.Base.TheVariants.{Stack, Context, Object}
 use Rattle.ebpf_machine.specs.Effect.{is_taken}
+use Rattle.ebpf_state.specs.declared.word.Word.{Word}
+use Rattle.ebpf_state.specs.declared.word.Word.TheVariants.{Spill, Bytes}
+use Rattle.ebpf_state.specs.Stack.{word_of}
+use Rattle.ebpf_machine.specs.declared.value.Cell.{Cell}
+use Rattle.ebpf_machine.specs.Values.{Frame}
+use Rattle.ebpf_machine.specs.Cells.{cell_at}
 use Rattle.ebpf_machine.specs.View.{ObjectView}
-use Rattle.ebpf_machine.specs.Concretization.{IsOf, AreOf, AreReferred, calls_of}
-use Rattle.ebpf_machine.proofs.Bounded.{IsBoundedValue, number_of-lt}
+use Rattle.ebpf_machine.specs.Concretization.{IsOf, IsOfCells, AreOf, AreReferred, calls_of}
+use Rattle.ebpf_machine.proofs.Bounded.{IsBoundedValue, IsFull, number_of-lt}
 use Rattle.ebpf_machine.proofs.ListLemmas.{Contains-tail}
 use Rattle.ebpf_machine.proofs.Operations.{none_first, neither, number_value}
 
@@ -72,12 +78,12 @@ comparison_sound calls condition width left right src x y fine bound_left bound_
     refined_numbers calls condition width left right src x y v.0 w.0 v.1 w.1 v.2 v.3 w.2 w.3 (subst IsBoundedValue v.3 bound_left).1 (subst IsBoundedValue w.3 bound_right).1 (v.4, v.5) (w.4, w.5)
 
 -- a register of which something else is known, which speaks of its value too
-with_known : (s : StateView) (regs : List (Option (Value ℕ))) (objects : List ObjectView) (r : Reg) (a : Abs) → length s.registers ≡ 11 → AreOf s regs objects → IsOf (calls_of objects) a (get_or regs (number_of r) None) → AreOf (with_register s r a) regs objects
-with_known s regs objects r a whole h e = record { each = λ k lt. known_at k lt (cases_lt k (number_of r)); held = h.held } where
-  other_at : (k : ℕ) → k < 11 → k ≢ number_of r → IsOf (calls_of objects) (get_or (set s.registers (number_of r) a) k Unset) (get_or regs k None)
+with_known : (s : StateView) (frame : Frame ℕ) (objects : List ObjectView) (r : Reg) (a : Abs) → length s.registers ≡ 11 → AreOf s frame objects → IsOf (calls_of objects) a (get_or frame.registers (number_of r) None) → AreOf (with_register s r a) frame objects
+with_known s frame objects r a whole h e = record { each = λ k lt. known_at k lt (cases_lt k (number_of r)); words = h.words; held = h.held } where
+  other_at : (k : ℕ) → k < 11 → k ≢ number_of r → IsOf (calls_of objects) (get_or (set s.registers (number_of r) a) k Unset) (get_or frame.registers k None)
   other_at k lt other = rw (get_or-set_other s.registers (number_of r) k a Unset other) (h.each k lt)
 
-  known_at : (k : ℕ) → k < 11 → (k < number_of r) ⊎ (number_of r ≤ k) → IsOf (calls_of objects) (get_or (set s.registers (number_of r) a) k Unset) (get_or regs k None)
+  known_at : (k : ℕ) → k < 11 → (k < number_of r) ⊎ (number_of r ≤ k) → IsOf (calls_of objects) (get_or (set s.registers (number_of r) a) k Unset) (get_or frame.registers k None)
   known_at k lt (inl below) = other_at k lt (λ same. omega arith)
   known_at k lt (inr above) = elim (cases_lt (number_of r) k) [
     | inl more ↦ other_at k lt (λ same. omega arith)
@@ -88,10 +94,10 @@ with_known s regs objects r a whole h e = record { each = λ k lt. known_at k lt
   ]
 
 -- what is known of both operands is written
-pub refined_state : (s : StateView) (regs : List (Option (Value ℕ))) (objects : List ObjectView) (left : Reg) (right : Source) (known : Range × Range) (y : Option (Value ℕ)) → length s.registers ≡ 11 → AreOf s regs objects → IsOf (calls_of objects) (Num known.0) (get_or regs (number_of left) None) → ((r : Reg) → right ≡ Register r → IsOf (calls_of objects) (Num known.1) (get_or regs (number_of r) None)) → AreOf (with_operand (with_register s left (Num known.0)) right known.1) regs objects
-refined_state s regs objects left (Imm z) known y whole h of_left of_right = with_known s regs objects left (Num known.0) whole h of_left
-refined_state s regs objects left (Register r) known y whole h of_left of_right =
-    with_known (with_register s left (Num known.0)) regs objects r (Num known.1) (length-set s.registers (number_of left) (Num known.0) ∙ whole) (with_known s regs objects left (Num known.0) whole h of_left) (of_right r refl)
+pub refined_state : (s : StateView) (frame : Frame ℕ) (objects : List ObjectView) (left : Reg) (right : Source) (known : Range × Range) (y : Option (Value ℕ)) → length s.registers ≡ 11 → AreOf s frame objects → IsOf (calls_of objects) (Num known.0) (get_or frame.registers (number_of left) None) → ((r : Reg) → right ≡ Register r → IsOf (calls_of objects) (Num known.1) (get_or frame.registers (number_of r) None)) → AreOf (with_operand (with_register s left (Num known.0)) right known.1) frame objects
+refined_state s frame objects left (Imm z) known y whole h of_left of_right = with_known s frame objects left (Num known.0) whole h of_left
+refined_state s frame objects left (Register r) known y whole h of_left of_right =
+    with_known (with_register s left (Num known.0)) frame objects r (Num known.1) (length-set s.registers (number_of left) (Num known.0) ∙ whole) (with_known s frame objects left (Num known.0) whole h of_left) (of_right r refl)
 
 -- ---- null tests
 
@@ -194,8 +200,16 @@ settled_references call false held objects answer h o there =
     alike : (r : Held) → ((tested_reference call r).call ≡ r.call) × ((tested_reference call r).kind ≡ r.kind)
     alike r = cond_both (r.call == call) (record r { tested = true }) r (λ (q : Held). (q.call ≡ r.call) × (q.kind ≡ r.kind)) (λ e. (refl, refl)) (λ e. (refl, refl))
 
-pub settled_state : (s : StateView) (regs : List (Option (Value ℕ))) (objects : List ObjectView) (call : ℕ) (null : Bool) → length s.registers ≡ 11 → IsAnswered (calls_of objects) call null → AreOf s regs objects → AreOf (settled call null s) regs objects
-settled_state s regs objects call null whole answer h = record {
-  each = λ k lt. subst (λ (a : Abs). IsOf (calls_of objects) a (get_or regs k None)) (sym (get_or-map (settled_value call null) s.registers k Unset Unset (omega (arith, whole, lt)))) (settled_sound (calls_of objects) call null (get_or s.registers k Unset) (get_or regs k None) answer (h.each k lt));
+settled_cells : (calls : List ℕ) (call : ℕ) (null : Bool) (w : Word) (cells : ℕ → Cell ℕ) → IsAnswered calls call null → IsOfCells calls w cells → IsOfCells calls (settled_word call null w) cells
+settled_cells calls call null (Spill a) cells answer h = (h.0, settled_sound calls call null a (Some h.0) answer h.1, h.2)
+settled_cells calls call null (Bytes mask) cells answer h = h
+
+word_settled : (call : ℕ) (null : Bool) (words : List Word) (w : ℕ) → w < length words → word_of (map (settled_word call null) words) w ≡ settled_word call null (word_of words w)
+word_settled call null words w lt = get_or-map (settled_word call null) words w (Bytes 0) (Bytes 0) lt
+
+pub settled_state : (s : StateView) (frame : Frame ℕ) (objects : List ObjectView) (call : ℕ) (null : Bool) → IsFull s → IsAnswered (calls_of objects) call null → AreOf s frame objects → AreOf (settled call null s) frame objects
+settled_state s frame objects call null full answer h = record {
+  each = λ k lt. subst (λ (a : Abs). IsOf (calls_of objects) a (get_or frame.registers k None)) (sym (get_or-map (settled_value call null) s.registers k Unset Unset (omega (arith, full.whole, lt)))) (settled_sound (calls_of objects) call null (get_or s.registers k Unset) (get_or frame.registers k None) answer (h.each k lt));
+  words = λ w lt. subst (λ (x : Word). IsOfCells (calls_of objects) x (λ j. cell_at frame.stack (8 * w + j))) (sym (word_settled call null s.words w (omega (arith, full.deep, lt)))) (settled_cells (calls_of objects) call null (word_of s.words w) (λ j. cell_at frame.stack (8 * w + j)) answer (h.words w lt));
   held = settled_references call null s.held objects answer h.held;
 }

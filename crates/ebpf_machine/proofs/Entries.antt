@@ -14,6 +14,7 @@ use Rattle.ebpf_verify.specs.declared.entry.EntryState.TheVariants.{Unreached, K
 use Rattle.ebpf_verify.specs.Rules.{after_fall, after_jump}
 use Rattle.ebpf_verify.specs.Entry.{with_edge, with_sent, arrived, entry_of}
 use Rattle.ebpf_machine.specs.declared.value.Value.{Value}
+use Rattle.ebpf_machine.specs.Values.{Frame}
 use Rattle.ebpf_machine.specs.View.{ObjectView}
 use Rattle.ebpf_machine.specs.Concretization.{AreOf, Arrives}
 use Rattle.ebpf_machine.proofs.Bounded.{IsFull, first-full}
@@ -29,13 +30,13 @@ IsWhole-with_edge None leads a w v = v
 IsWhole-with_edge (Some s) true a w v = IsWhole-with_state a s v w
 IsWhole-with_edge (Some s) false a w v = v
 
-old_by_edge : (o : Option StateView) (leads : Bool) (a : EntryState) (regs : List (Option (Value ℕ))) (objects : List ObjectView) → IsFullState o → IsWhole a → Arrives a regs objects → Arrives (with_edge o leads a) regs objects
-old_by_edge None leads a regs objects w v h = h
-old_by_edge (Some s) true a regs objects w v h = Arrives-with_state_old a s regs objects v w h
-old_by_edge (Some s) false a regs objects w v h = h
+old_by_edge : (o : Option StateView) (leads : Bool) (a : EntryState) (frame : Frame ℕ) (objects : List ObjectView) → IsFullState o → IsWhole a → Arrives a frame objects → Arrives (with_edge o leads a) frame objects
+old_by_edge None leads a frame objects w v h = h
+old_by_edge (Some s) true a frame objects w v h = Arrives-with_state_old a s frame objects v w h
+old_by_edge (Some s) false a frame objects w v h = h
 
-new_by_edge : (o : Option StateView) (s : StateView) (leads : Bool) (a : EntryState) (regs : List (Option (Value ℕ))) (objects : List ObjectView) → o ≡ Some s → leads ≡ true → IsFull s → IsWhole a → AreOf s regs objects → Arrives (with_edge o leads a) regs objects
-new_by_edge o s leads a regs objects carries e w v h = rw (carries, e) (Arrives-with_state_new a s regs objects v w h)
+new_by_edge : (o : Option StateView) (s : StateView) (leads : Bool) (a : EntryState) (frame : Frame ℕ) (objects : List ObjectView) → o ≡ Some s → leads ≡ true → IsFull s → IsWhole a → AreOf s frame objects → Arrives (with_edge o leads a) frame objects
+new_by_edge o s leads a frame objects carries e w v h = rw (carries, e) (Arrives-with_state_new a s frame objects v w h)
 
 -- what a lower slot sends, and what came before it
 IsWhole-sent : (i : Insn) (e : Edges) (to : ℕ) (s : StateView) (old : EntryState) → IsDefined i → IsFull s → IsWhole old → IsWhole (with_edge (after_jump i s) (leads_to e.jump to) old)
@@ -47,13 +48,13 @@ IsWhole-with_sent (Some i) e to Unreached old d w v = v
 IsWhole-with_sent (Some i) e to Conflict old d w v = v
 IsWhole-with_sent (Some i) e to (Known s) old d w v = IsWhole-with_edge (after_fall i s) (leads_to e.fall to) (with_edge (after_jump i s) (leads_to e.jump to) old) (fall-full i s (d i refl) w) (IsWhole-sent i e to s old (d i refl) w v)
 
-old_by_sent : (o : Option Insn) (e : Edges) (to : ℕ) (a old : EntryState) (regs : List (Option (Value ℕ))) (objects : List ObjectView) → ((i : Insn) → o ≡ Some i → IsDefined i) → IsWhole a → IsWhole old → Arrives old regs objects → Arrives (with_sent o e to a old) regs objects
-old_by_sent None e to a old regs objects d w v h = h
-old_by_sent (Some i) e to Unreached old regs objects d w v h = h
-old_by_sent (Some i) e to Conflict old regs objects d w v h = h
-old_by_sent (Some i) e to (Known s) old regs objects d w v h =
-    old_by_edge (after_fall i s) (leads_to e.fall to) (with_edge (after_jump i s) (leads_to e.jump to) old) regs objects (fall-full i s (d i refl) w) (IsWhole-sent i e to s old (d i refl) w v)
-    (old_by_edge (after_jump i s) (leads_to e.jump to) old regs objects (jump-full i s (d i refl) w) v h)
+old_by_sent : (o : Option Insn) (e : Edges) (to : ℕ) (a old : EntryState) (frame : Frame ℕ) (objects : List ObjectView) → ((i : Insn) → o ≡ Some i → IsDefined i) → IsWhole a → IsWhole old → Arrives old frame objects → Arrives (with_sent o e to a old) frame objects
+old_by_sent None e to a old frame objects d w v h = h
+old_by_sent (Some i) e to Unreached old frame objects d w v h = h
+old_by_sent (Some i) e to Conflict old frame objects d w v h = h
+old_by_sent (Some i) e to (Known s) old frame objects d w v h =
+    old_by_edge (after_fall i s) (leads_to e.fall to) (with_edge (after_jump i s) (leads_to e.jump to) old) frame objects (fall-full i s (d i refl) w) (IsWhole-sent i e to s old (d i refl) w v)
+    (old_by_edge (after_jump i s) (leads_to e.jump to) old frame objects (jump-full i s (d i refl) w) v h)
 
 IsWhole-first : (b : Bool) → IsWhole (cond b (Known first_state) Unreached)
 IsWhole-first true = first-full
@@ -65,36 +66,36 @@ IsWhole-arrived p zero to d = IsWhole-first (eqb to 0)
 IsWhole-arrived p (suc m) to d = IsWhole-with_sent (insn_at p m) (edges_at p m) to (arrived p m m) (arrived p m to) (d m) (IsWhole-arrived p m m d) (IsWhole-arrived p m to d)
 
 -- what a lower slot sends comes in
-sent_arrives : (p : List (Option Insn)) (m j to : ℕ) (regs : List (Option (Value ℕ))) (objects : List ObjectView) → AreDefined p → j < m → Arrives (with_sent (insn_at p j) (edges_at p j) to (entry_of p j) (arrived p j to)) regs objects → Arrives (arrived p m to) regs objects
+sent_arrives : (p : List (Option Insn)) (m j to : ℕ) (frame : Frame ℕ) (objects : List ObjectView) → AreDefined p → j < m → Arrives (with_sent (insn_at p j) (edges_at p j) to (entry_of p j) (arrived p j to)) frame objects → Arrives (arrived p m to) frame objects
 unfolding arrived
-sent_arrives p zero j to regs objects d lt h = absurd (omega arith)
-sent_arrives p (suc m) j to regs objects d lt h =
+sent_arrives p zero j to frame objects d lt h = absurd (omega arith)
+sent_arrives p (suc m) j to frame objects d lt h =
     elim (cases_lt j m) [
-      | inl less ↦ old_by_sent (insn_at p m) (edges_at p m) to (arrived p m m) (arrived p m to) regs objects (d m) (IsWhole-arrived p m m d) (IsWhole-arrived p m to d) (sent_arrives p m j to regs objects d less h)
-      | inr more ↦ let same : j ≡ m = omega arith in subst (λ (n : ℕ). Arrives (with_sent (insn_at p n) (edges_at p n) to (arrived p n n) (arrived p n to)) regs objects) same h
+      | inl less ↦ old_by_sent (insn_at p m) (edges_at p m) to (arrived p m m) (arrived p m to) frame objects (d m) (IsWhole-arrived p m m d) (IsWhole-arrived p m to d) (sent_arrives p m j to frame objects d less h)
+      | inr more ↦ let same : j ≡ m = omega arith in subst (λ (n : ℕ). Arrives (with_sent (insn_at p n) (edges_at p n) to (arrived p n n) (arrived p n to)) frame objects) same h
     ]
 
 eqb_same : (n : ℕ) → eqb n n ≡ true
 eqb_same n = grind (arith, nat_tests)
 
 -- the state that an instruction sends to the slot after it speaks of a run that goes there
-pub fall_arrives : (p : List (Option Insn)) (from to : ℕ) (i : Insn) (s after : StateView) (regs : List (Option (Value ℕ))) (objects : List ObjectView) → AreDefined p → insn_at p from ≡ Some i → entry_of p from ≡ Known s → IsFull s → after_fall i s ≡ Some after → fall_of i from ≡ Some to → from < to → AreOf after regs objects → Arrives (entry_of p to) regs objects
-fall_arrives p from to i s after regs objects d at entered whole makes edge lt h =
+pub fall_arrives : (p : List (Option Insn)) (from to : ℕ) (i : Insn) (s after : StateView) (frame : Frame ℕ) (objects : List ObjectView) → AreDefined p → insn_at p from ≡ Some i → entry_of p from ≡ Known s → IsFull s → after_fall i s ≡ Some after → fall_of i from ≡ Some to → from < to → AreOf after frame objects → Arrives (entry_of p to) frame objects
+fall_arrives p from to i s after frame objects d at entered whole makes edge lt h =
     let leads : leads_to (fall_of i from) to ≡ true = rw edge (eqb_same to) in
     let full = subst IsFullState makes (fall-full i s (d from i at) whole) in
-    sent_arrives p to from to regs objects d lt
-    (rw (at, entered) (new_by_edge (after_fall i s) after (leads_to (fall_of i from) to) (with_edge (after_jump i s) (leads_to (jump_of i from) to) (arrived p from to)) regs objects makes leads full (IsWhole-sent i (edges_of (Some i) from) to s (arrived p from to) (d from i at) whole (IsWhole-arrived p from to d)) h))
+    sent_arrives p to from to frame objects d lt
+    (rw (at, entered) (new_by_edge (after_fall i s) after (leads_to (fall_of i from) to) (with_edge (after_jump i s) (leads_to (jump_of i from) to) (arrived p from to)) frame objects makes leads full (IsWhole-sent i (edges_of (Some i) from) to s (arrived p from to) (d from i at) whole (IsWhole-arrived p from to d)) h))
 
 -- and the one that it sends to the target of its jump, of a run that jumps
-pub jump_arrives : (p : List (Option Insn)) (from to : ℕ) (i : Insn) (s after : StateView) (regs : List (Option (Value ℕ))) (objects : List ObjectView) → AreDefined p → insn_at p from ≡ Some i → entry_of p from ≡ Known s → IsFull s → after_jump i s ≡ Some after → jump_of i from ≡ Some to → from < to → AreOf after regs objects → Arrives (entry_of p to) regs objects
-jump_arrives p from to i s after regs objects d at entered whole makes edge lt h =
+pub jump_arrives : (p : List (Option Insn)) (from to : ℕ) (i : Insn) (s after : StateView) (frame : Frame ℕ) (objects : List ObjectView) → AreDefined p → insn_at p from ≡ Some i → entry_of p from ≡ Known s → IsFull s → after_jump i s ≡ Some after → jump_of i from ≡ Some to → from < to → AreOf after frame objects → Arrives (entry_of p to) frame objects
+jump_arrives p from to i s after frame objects d at entered whole makes edge lt h =
     let leads : leads_to (jump_of i from) to ≡ true = rw edge (eqb_same to) in
     let full = subst IsFullState makes (jump-full i s (d from i at) whole) in
-    let came = new_by_edge (after_jump i s) after (leads_to (jump_of i from) to) (arrived p from to) regs objects makes leads full (IsWhole-arrived p from to d) h in
-    sent_arrives p to from to regs objects d lt
-    (rw (at, entered) (old_by_edge (after_fall i s) (leads_to (fall_of i from) to) (with_edge (after_jump i s) (leads_to (jump_of i from) to) (arrived p from to)) regs objects (fall-full i s (d from i at) whole) (IsWhole-sent i (edges_of (Some i) from) to s (arrived p from to) (d from i at) whole (IsWhole-arrived p from to d)) came))
+    let came = new_by_edge (after_jump i s) after (leads_to (jump_of i from) to) (arrived p from to) frame objects makes leads full (IsWhole-arrived p from to d) h in
+    sent_arrives p to from to frame objects d lt
+    (rw (at, entered) (old_by_edge (after_fall i s) (leads_to (fall_of i from) to) (with_edge (after_jump i s) (leads_to (jump_of i from) to) (arrived p from to)) frame objects (fall-full i s (d from i at) whole) (IsWhole-sent i (edges_of (Some i) from) to s (arrived p from to) (d from i at) whole (IsWhole-arrived p from to d)) came))
 
 -- the first state comes to slot 0
-pub first_arrives : (p : List (Option Insn)) (regs : List (Option (Value ℕ))) (objects : List ObjectView) → AreOf first_state regs objects → Arrives (entry_of p 0) regs objects
+pub first_arrives : (p : List (Option Insn)) (frame : Frame ℕ) (objects : List ObjectView) → AreOf first_state frame objects → Arrives (entry_of p 0) frame objects
 unfolding arrived
-first_arrives p regs objects h = h
+first_arrives p frame objects h = h

@@ -1,5 +1,5 @@
--- A join speaks of what either side speaks of.
-use Rattle.std.proofs.Common.{◌≡◌, ℕ, zero, suc, ◌<◌, ◌≤◌, min, max, ℤ, ◌≤ℤ◌, Bool, true, false, cond, eqb, List, [], ◌∷◌, length, get_or, Option, Some, None, refl, sym, ap, ◌∙◌, subst, arith, rules}
+-- A join of two states speaks of what either side speaks of.
+use Rattle.std.proofs.Common.{◌≡◌, ℕ, zero, suc, ◌+◌, ◌*◌, ◌<◌, ◌≤◌, min, max, ℤ, ◌≤ℤ◌, Bool, true, false, cond, eqb, List, [], ◌∷◌, length, get_or, Option, Some, None, refl, sym, ap, ◌∙◌, subst, arith, rules}
 use Rattle.std.specs.Prelude.{Contains, ◌&&◌}
 use Rattle.std.specs.Ordering.{int_eq}
 use Rattle.std.specs.Int.{int_min, int_max}
@@ -9,6 +9,9 @@ use Rattle.std.proofs.lemmas.Int.{ints}
 use Rattle.ebpf_range.specs.declared.range.Range.{Range}
 use Rattle.ebpf_state.specs.declared.value.Abs.{Abs}
 use Rattle.ebpf_state.specs.declared.value.Abs.TheVariants.{Unset, Num, Stk, Ctx, Ob, May}
+use Rattle.ebpf_state.specs.declared.word.Word.{Word}
+use Rattle.ebpf_state.specs.declared.word.Word.TheVariants.{Bytes}
+use Rattle.ebpf_state.specs.Stack.{word_of}
 use Rattle.ebpf_state.specs.declared.held.Held.{Held}
 use Rattle.ebpf_state.specs.Abstract.{joined_value}
 use Rattle.ebpf_state.specs.Words.{joined_word}
@@ -22,55 +25,13 @@ use Rattle.ebpf_machine.specs.declared.value.Value.{Value}
 use Rattle.ebpf_machine.specs.declared.value.Value.TheVariants.{Number, Pointer}
 use Rattle.ebpf_machine.specs.declared.value.Base.TheVariants.{Stack, Context, Object}
 use Rattle.ebpf_machine.specs.View.{ObjectView}
-use Rattle.ebpf_machine.proofs.Bounded.{IsFull, joined_registers_bounded}
-use Rattle.ebpf_machine.specs.Concretization.{IsOf, AreOf, AreReferred, Arrives, calls_of}
-
--- a value that either side keeps where a test says that both are alike
-chosen : (calls : List ℕ) (t : Bool) (a : Abs) (v : Option (Value ℕ)) → (t ≡ true → IsOf calls a v) → IsOf calls (cond t a Unset) v
-chosen calls true a v h = h refl
-chosen calls false a v h = tt
-
-int_eq-true : (a b : ℤ) → int_eq a b ≡ true → a ≡ b
-int_eq-true a b e = grind (arith, ints)
-
-eqb-same : (a b : ℕ) → eqb a b ≡ true → a ≡ b
-eqb-same a b e = grind (arith, nat_tests)
-
-left_number : (a b : Range) (n : ℕ) → (a.lo ≤ n) × (n ≤ a.hi) → (min a.lo b.lo ≤ n) × (n ≤ max a.hi b.hi)
-left_number a b n h = (omega arith, omega arith)
-
-right_number : (a b : Range) (n : ℕ) → (b.lo ≤ n) × (n ≤ b.hi) → (min a.lo b.lo ≤ n) × (n ≤ max a.hi b.hi)
-right_number a b n h = (omega arith, omega arith)
-
-left_low : (a c w : ℤ) → a ≤ℤ w → int_min a c ≤ℤ w
-left_low a c w h = grind (arith, ints)
-
-right_low : (a c w : ℤ) → c ≤ℤ w → int_min a c ≤ℤ w
-right_low a c w h = grind (arith, ints)
-
-left_high : (b d w : ℤ) → w ≤ℤ b → w ≤ℤ int_max b d
-left_high b d w h = grind (arith, ints)
-
-right_high : (b d w : ℤ) → w ≤ℤ d → w ≤ℤ int_max b d
-right_high b d w h = grind (arith, ints)
-
-pub IsOf-joined_left : (calls : List ℕ) (a b : Abs) (v : Option (Value ℕ)) → IsOf calls a v → IsOf calls (joined_value a b) v
-IsOf-joined_left calls (Num a) (Num b) (Some (Number n)) h = (left_number a b n h.0, h.1)
-IsOf-joined_left calls (Stk a) (Stk b) (Some (Pointer Stack w)) h = chosen calls (int_eq a b) (Stk a) (Some (Pointer Stack w)) (λ e. h)
-IsOf-joined_left calls (Ctx a b) (Ctx c d) (Some (Pointer Context w)) h = (left_low a c w h.0, left_high b d w h.1)
-IsOf-joined_left calls (Ob r a b) (Ob q c d) (Some (Pointer (Object at) w)) h = chosen calls (eqb r q) (Ob r (int_min a c) (int_max b d)) (Some (Pointer (Object at) w)) (λ e. (h.0, left_low a c w h.1, left_high b d w h.2, h.3))
-IsOf-joined_left calls (May r) (May q) (Some (Pointer (Object at) w)) h = chosen calls (eqb r q) (May r) (Some (Pointer (Object at) w)) (λ e. h)
-IsOf-joined_left calls (May r) (May q) (Some (Number n)) h = chosen calls (eqb r q) (May r) (Some (Number n)) (λ e. h)
-IsOf-joined_left calls _ _ _ h = search rules
-
-pub IsOf-joined_right : (calls : List ℕ) (a b : Abs) (v : Option (Value ℕ)) → IsOf calls b v → IsOf calls (joined_value a b) v
-IsOf-joined_right calls (Num a) (Num b) (Some (Number n)) h = (right_number a b n h.0, h.1)
-IsOf-joined_right calls (Stk a) (Stk b) (Some (Pointer Stack w)) h = chosen calls (int_eq a b) (Stk a) (Some (Pointer Stack w)) (λ e. h ∙ sym (int_eq-true a b e))
-IsOf-joined_right calls (Ctx a b) (Ctx c d) (Some (Pointer Context w)) h = (right_low a c w h.0, right_high b d w h.1)
-IsOf-joined_right calls (Ob r a b) (Ob q c d) (Some (Pointer (Object at) w)) h = chosen calls (eqb r q) (Ob r (int_min a c) (int_max b d)) (Some (Pointer (Object at) w)) (λ e. let same = sym (eqb-same r q e) in (h.0 ∙ same, right_low a c w h.1, right_high b d w h.2, subst (Contains calls) same h.3))
-IsOf-joined_right calls (May r) (May q) (Some (Pointer (Object at) w)) h = chosen calls (eqb r q) (May r) (Some (Pointer (Object at) w)) (λ e. let same = sym (eqb-same r q e) in (h.0 ∙ same, h.1, subst (Contains calls) same h.2))
-IsOf-joined_right calls (May r) (May q) (Some (Number n)) h = chosen calls (eqb r q) (May r) (Some (Number n)) (λ e. (h.0, λ held. h.1 (subst (Contains calls) (eqb-same r q e) held)))
-IsOf-joined_right calls _ _ _ h = search rules
+use Rattle.ebpf_machine.proofs.Bounded.{IsFull, joined_registers_bounded, joined_words_bounded}
+use Rattle.ebpf_machine.specs.declared.value.Cell.{Cell}
+use Rattle.ebpf_machine.specs.Values.{Frame}
+use Rattle.ebpf_machine.specs.Cells.{cell_at}
+use Rattle.ebpf_machine.specs.Concretization.{IsOf, IsOfCells, AreOf, AreReferred, Arrives, calls_of}
+use Rattle.ebpf_machine.proofs.ValueJoins.{IsOf-joined_left, IsOf-joined_right, eqb-same}
+use Rattle.ebpf_machine.proofs.Words.{joined_cells_left, joined_cells_right}
 
 both_true : (a b : Bool) → (a && b) ≡ true → (a ≡ true) × (b ≡ true)
 both_true true true e = (refl, refl)
@@ -106,27 +67,29 @@ IsWhole _ = Unit {0}
 abbrev joined_registers : StateView → StateView → StateView
 joined_registers s t = record { registers = joined_list joined_value s.registers t.registers; words = joined_list joined_word s.words t.words; held = s.held }
 
-left_side : (s t : StateView) (regs : List (Option (Value ℕ))) (objects : List ObjectView) → IsFull s → IsFull t → AreOf s regs objects → AreOf (joined_registers s t) regs objects
-left_side s t regs objects v w h = record {
-  each = λ k lt. subst (λ (a : Abs). IsOf (calls_of objects) a (get_or regs k None)) (sym (joined_list-index joined_value Unset s.registers t.registers k (v.whole ∙ sym w.whole) (omega (arith, v.whole)))) (IsOf-joined_left (calls_of objects) (get_or s.registers k Unset) (get_or t.registers k Unset) (get_or regs k None) (h.each k lt));
+left_side : (s t : StateView) (frame : Frame ℕ) (objects : List ObjectView) → IsFull s → IsFull t → AreOf s frame objects → AreOf (joined_registers s t) frame objects
+left_side s t frame objects v u h = record {
+  each = λ k lt. subst (λ (a : Abs). IsOf (calls_of objects) a (get_or frame.registers k None)) (sym (joined_list-index joined_value Unset s.registers t.registers k (v.whole ∙ sym u.whole) (omega (arith, v.whole)))) (IsOf-joined_left (calls_of objects) (get_or s.registers k Unset) (get_or t.registers k Unset) (get_or frame.registers k None) (h.each k lt));
+  words = λ w lt. subst (λ (x : Word). IsOfCells (calls_of objects) x (λ j. cell_at frame.stack (8 * w + j))) (sym (joined_list-index joined_word (Bytes 0) s.words t.words w (v.deep ∙ sym u.deep) (omega (arith, v.deep)))) (joined_cells_left (calls_of objects) (word_of s.words w) (word_of t.words w) (λ j. cell_at frame.stack (8 * w + j)) (h.words w lt));
   held = h.held;
 }
 
-right_side : (s t : StateView) (regs : List (Option (Value ℕ))) (objects : List ObjectView) → IsFull s → IsFull t → is_same_held s.held t.held ≡ true → AreOf t regs objects → AreOf (joined_registers s t) regs objects
-right_side s t regs objects v w same h = record {
-  each = λ k lt. subst (λ (a : Abs). IsOf (calls_of objects) a (get_or regs k None)) (sym (joined_list-index joined_value Unset s.registers t.registers k (v.whole ∙ sym w.whole) (omega (arith, v.whole)))) (IsOf-joined_right (calls_of objects) (get_or s.registers k Unset) (get_or t.registers k Unset) (get_or regs k None) (h.each k lt));
+right_side : (s t : StateView) (frame : Frame ℕ) (objects : List ObjectView) → IsFull s → IsFull t → is_same_held s.held t.held ≡ true → AreOf t frame objects → AreOf (joined_registers s t) frame objects
+right_side s t frame objects v u same h = record {
+  each = λ k lt. subst (λ (a : Abs). IsOf (calls_of objects) a (get_or frame.registers k None)) (sym (joined_list-index joined_value Unset s.registers t.registers k (v.whole ∙ sym u.whole) (omega (arith, v.whole)))) (IsOf-joined_right (calls_of objects) (get_or s.registers k Unset) (get_or t.registers k Unset) (get_or frame.registers k None) (h.each k lt));
+  words = λ w lt. subst (λ (x : Word). IsOfCells (calls_of objects) x (λ j. cell_at frame.stack (8 * w + j))) (sym (joined_list-index joined_word (Bytes 0) s.words t.words w (v.deep ∙ sym u.deep) (omega (arith, v.deep)))) (joined_cells_right (calls_of objects) (word_of s.words w) (word_of t.words w) (λ j. cell_at frame.stack (8 * w + j)) (h.words w lt));
   held = same_referred s.held t.held objects same h.held;
 }
 
 abbrev joined_by : Bool → StateView → StateView → EntryState
 joined_by same s t = known_or_conflict (cond same (Some (joined_registers s t)) None)
 
-by_test : (same : Bool) (s t : StateView) (regs : List (Option (Value ℕ))) (objects : List ObjectView) → (same ≡ true → AreOf (joined_registers s t) regs objects) → Arrives (joined_by same s t) regs objects
-by_test true s t regs objects h = h refl
-by_test false s t regs objects h = tt
+by_test : (same : Bool) (s t : StateView) (frame : Frame ℕ) (objects : List ObjectView) → (same ≡ true → AreOf (joined_registers s t) frame objects) → Arrives (joined_by same s t) frame objects
+by_test true s t frame objects h = h refl
+by_test false s t frame objects h = tt
 
 whole_by_test : (same : Bool) (s t : StateView) → IsFull s → IsFull t → IsWhole (joined_by same s t)
-whole_by_test true s t v w = record { whole = joined_list-length joined_value s.registers t.registers (v.whole ∙ sym w.whole) ∙ v.whole; bounded = joined_registers_bounded s.registers t.registers v.bounded w.bounded }
+whole_by_test true s t v w = record { whole = joined_list-length joined_value s.registers t.registers (v.whole ∙ sym w.whole) ∙ v.whole; bounded = joined_registers_bounded s.registers t.registers v.bounded w.bounded; deep = joined_list-length joined_word s.words t.words (v.deep ∙ sym w.deep) ∙ v.deep; bounded_words = joined_words_bounded s.words t.words v.bounded_words w.bounded_words }
 whole_by_test false s t v w = tt
 
 pub IsWhole-with_state : (a : EntryState) (t : StateView) → IsWhole a → IsFull t → IsWhole (with_state a t)
@@ -135,13 +98,13 @@ IsWhole-with_state (Known s) t v w = whole_by_test (is_same_held s.held t.held) 
 IsWhole-with_state Conflict t v w = tt
 
 -- what came before one more state still comes
-pub Arrives-with_state_old : (a : EntryState) (t : StateView) (regs : List (Option (Value ℕ))) (objects : List ObjectView) → IsWhole a → IsFull t → Arrives a regs objects → Arrives (with_state a t) regs objects
-Arrives-with_state_old Unreached t regs objects v w h = absurd h
-Arrives-with_state_old (Known s) t regs objects v w h = by_test (is_same_held s.held t.held) s t regs objects (λ same. left_side s t regs objects v w h)
-Arrives-with_state_old Conflict t regs objects v w h = tt
+pub Arrives-with_state_old : (a : EntryState) (t : StateView) (frame : Frame ℕ) (objects : List ObjectView) → IsWhole a → IsFull t → Arrives a frame objects → Arrives (with_state a t) frame objects
+Arrives-with_state_old Unreached t frame objects v w h = absurd h
+Arrives-with_state_old (Known s) t frame objects v w h = by_test (is_same_held s.held t.held) s t frame objects (λ same. left_side s t frame objects v w h)
+Arrives-with_state_old Conflict t frame objects v w h = tt
 
 -- and so does what one more state speaks of
-pub Arrives-with_state_new : (a : EntryState) (t : StateView) (regs : List (Option (Value ℕ))) (objects : List ObjectView) → IsWhole a → IsFull t → AreOf t regs objects → Arrives (with_state a t) regs objects
-Arrives-with_state_new Unreached t regs objects v w h = h
-Arrives-with_state_new (Known s) t regs objects v w h = by_test (is_same_held s.held t.held) s t regs objects (λ same. right_side s t regs objects v w same h)
-Arrives-with_state_new Conflict t regs objects v w h = tt
+pub Arrives-with_state_new : (a : EntryState) (t : StateView) (frame : Frame ℕ) (objects : List ObjectView) → IsWhole a → IsFull t → AreOf t frame objects → Arrives (with_state a t) frame objects
+Arrives-with_state_new Unreached t frame objects v w h = h
+Arrives-with_state_new (Known s) t frame objects v w h = by_test (is_same_held s.held t.held) s t frame objects (λ same. right_side s t frame objects v w same h)
+Arrives-with_state_new Conflict t frame objects v w h = tt

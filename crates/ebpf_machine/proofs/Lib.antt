@@ -2,6 +2,10 @@ pub mod ListLemmas
 pub mod Words
 pub mod Loads
 pub mod Bounded
+pub mod ValueJoins
+pub mod Words
+pub mod Loads
+pub mod Stores
 pub mod Joins
 pub mod RulesBounded
 pub mod Entries

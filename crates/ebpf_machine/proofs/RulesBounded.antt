@@ -1,5 +1,5 @@
 -- What the rules send has all registers, and its numbers' ranges in order and below 2^64.
-use Rattle.std.proofs.Common.{ℕ, ◌<◌, ◌≤◌, ◌^◌, ℤ, Bool, true, false, Option, Some, None, arith}
+use Rattle.std.proofs.Common.{ℕ, ◌<◌, ◌≤◌, ◌^◌, ℤ, ◌+ℤ◌, Bool, true, false, Option, Some, None, arith, Result, Ok, Err}
 use Rattle.std.specs.Prelude.{FitsSigned, unwrap_or, IfSome}
 use Rattle.std.specs.Int.{w32}
 use Rattle.std.proofs.lemmas.Int.{ints}
@@ -28,8 +28,12 @@ use Rattle.ebpf_state.specs.States.{register_of, with_register}
 use Rattle.ebpf_verify.specs.Pointers.{signed_ends, opposite_ends, moved_end, with_end, with_ends, moved_by, sum_value, difference_value}
 use Rattle.ebpf_verify.specs.Operations.{unary_value, binary_value, result_of}
 use Rattle.ebpf_verify.specs.Branches.{operand, null_test, refined_values, with_operand, with_operands, is_null_where, after_comparison}
+use Rattle.ebpf_insn.specs.declared.insn.Size.{Size}
+use Rattle.ebpf_state.specs.declared.stack.StackFault.{StackFault}
+use Rattle.ebpf_state.specs.Stack.{loaded, stored}
+use Rattle.ebpf_verify.specs.Memory.{value_or_unset, loaded_value, state_after, after_store}
 use Rattle.ebpf_verify.specs.Rules.{after_operation, after_fall, after_jump}
-use Rattle.ebpf_machine.proofs.Bounded.{IsBoundedValue, IsFull, register_bounded, with_register-full, settled-full}
+use Rattle.ebpf_machine.proofs.Bounded.{IsBoundedValue, IsFull, IsBoundedLoad, IsFullStore, register_bounded, with_register-full, settled-full, loaded-bounded, context_bounded, stored-full}
 
 -- a state that is sent, if any, has all registers
 abbrev pub IsFullState : Option StateView → Type 0
@@ -117,6 +121,25 @@ comparison-full None c width left right taken s fits h =
     with_operands-full left right (refined_values c width (register_of s left) (operand s width right) taken) s h
     (refined_bounded c width (register_of s left) (operand s width right) taken (register_bounded s left h) (operand_bounded s width right fits h))
 
+-- ---- memory
+
+load_or_unset : (r : Result Abs StackFault) → IsBoundedLoad r → IsBoundedValue (value_or_unset r)
+load_or_unset (Ok a) h = h
+load_or_unset (Err fault) h = tt
+
+load_bounded : (size : Size) (signed : Bool) (offset : ℤ) (base : Abs) (s : StateView) → IsFull s → IsBoundedValue (loaded_value size signed offset base s)
+load_bounded size signed offset (Stk k) s h = load_or_unset (loaded s size signed (k +ℤ offset)) (loaded-bounded s size signed (k +ℤ offset) h)
+load_bounded size signed offset (Ctx a b) s h = context_bounded size signed
+load_bounded size signed offset _ s h = tt
+
+store_or_none : (r : Result StateView StackFault) → IsFullStore r → IsFullState (state_after r)
+store_or_none (Ok s) h = h
+store_or_none (Err fault) h = tt
+
+store_full : (size : Size) (offset : ℤ) (base value : Abs) (s : StateView) → IsFull s → IsBoundedValue value → IsFullState (after_store size offset base value s)
+store_full size offset (Stk k) value s h b = store_or_none (stored s size (k +ℤ offset) value) (stored-full s size (k +ℤ offset) value h b)
+store_full size offset _ value s h b = tt
+
 -- ---- the table
 
 operation-full : (i : Insn) (s : StateView) → IsDefined i → IsFull s → IsFullState (after_operation i s)
@@ -125,10 +148,12 @@ operation-full (insn.Sext width bits dst src) s defined h = with_register-full s
 operation-full (insn.Neg width dst) s defined h = with_register-full s dst (unary_value (negation_range width) (register_of s dst)) h (unary_bounded (negation_range width) (register_of s dst) (negation-bounded width) (register_bounded s dst h))
 operation-full (insn.Swap order bits dst) s defined h = with_register-full s dst (unary_value (swap_range order bits) (register_of s dst)) h (unary_bounded (swap_range order bits) (register_of s dst) (swap-bounded order bits) (register_bounded s dst h))
 operation-full (insn.Wide dst value) s defined h = with_register-full s dst (Num (constant value)) h (constant_bounded value defined)
+operation-full (insn.Load size signed dst base offset) s defined h = with_register-full s dst (loaded_value size signed offset (register_of s base) s) h (load_bounded size signed offset (register_of s base) s h)
 operation-full _ s defined h = tt
 
 pub fall-full : (i : Insn) (s : StateView) → IsDefined i → IsFull s → IsFullState (after_fall i s)
 fall-full (insn.Branch width c left right offset) s defined h = comparison-full (null_test width c (register_of s left) right) c width left right false s defined.0 h
+fall-full (insn.Store size base offset src) s defined h = store_full size offset (register_of s base) (operand s W64 src) s h (operand_bounded s W64 src defined.0 h)
 fall-full i s defined h = operation-full i s defined h
 
 pub jump-full : (i : Insn) (s : StateView) → IsDefined i → IsFull s → IsFullState (after_jump i s)

@@ -30,13 +30,13 @@ arrived-more p slot t here there e f =
     ∙ ap (λ (n : ℕ). arrived p n t) (sym (add-one slot))
 
 -- the verdict on a slot, from what came to it
-pub refusal_here : (s : Subject) (slot : ℕ) (here : EntryState) (code : Option VerifyCode) → here ≡ arrived s.program slot slot → refusal_in (insn_at s.program slot) here ≡ code → refusal_at s slot ≡ code
-refusal_here s slot here code e h = ap (refusal_in (insn_at s.program slot)) (sym e) ∙ h
+pub refusal_here : (s : Subject) (slot : ℕ) (here : EntryState) (code : Option VerifyCode) → here ≡ arrived s.program slot slot → refusal_in s.decl (insn_at s.program slot) here ≡ code → refusal_at s slot ≡ code
+refusal_here s slot here code e h = ap (refusal_in s.decl (insn_at s.program slot)) (sym e) ∙ h
 
-refused_slot : (s : Subject) (slot : ℕ) (here : EntryState) (fault : VerifyFault) → slot < length s.program → lowest (unruled_at s.program) (length s.program) ≡ None → lowest (refusal_at s) slot ≡ None → here ≡ arrived s.program slot slot → IsSlotFault slot (refusal_in (insn_at s.program slot) here) fault → IsVerifyFault s fault
+refused_slot : (s : Subject) (slot : ℕ) (here : EntryState) (fault : VerifyFault) → slot < length s.program → lowest (unruled_at s.program) (length s.program) ≡ None → lowest (refusal_at s) slot ≡ None → here ≡ arrived s.program slot slot → IsSlotFault slot (refusal_in s.decl (insn_at s.program slot) here) fault → IsVerifyFault s fault
 refused_slot s slot here NoMemory inside done before e h = tt
 refused_slot s slot here (Refused at code) inside done before e h = rw (h.0, done) (lowest_at (refusal_at s) slot (length s.program) code before (refusal_here s slot here (Some code) e h.1) inside)
 
 -- where each instruction has a rule, the first slot that is refused decides
-pub refused_here : (s : Subject) (slot : ℕ) (here : EntryState) (fault : VerifyFault) → slot < length s.program → lowest (unruled_at s.program) (length s.program) ≡ None → lowest (refusal_at s) slot ≡ None → here ≡ arrived s.program slot slot → (unruled_at s.program slot ≡ None → IsSlotFault slot (refusal_in (insn_at s.program slot) here) fault) → IsVerifyFault s fault
+pub refused_here : (s : Subject) (slot : ℕ) (here : EntryState) (fault : VerifyFault) → slot < length s.program → lowest (unruled_at s.program) (length s.program) ≡ None → lowest (refusal_at s) slot ≡ None → here ≡ arrived s.program slot slot → (unruled_at s.program slot ≡ None → IsSlotFault slot (refusal_in s.decl (insn_at s.program slot) here) fault) → IsVerifyFault s fault
 refused_here s slot here fault inside done before e h = refused_slot s slot here fault inside done before e (h (none_below (unruled_at s.program) (length s.program) done slot inside))

@@ -1,6 +1,6 @@
 //! The rules of loads and stores: what refuses one, and what is known after it (RFC 9669, sections 5.1 and 5.2).
 
-ghost use Rattle.std.specs.Prelude.{◌≡◌, ◌≤◌, ◌+ℤ◌, IfOk, IfErr, OnOk, Some, None, Ok, Err};
+ghost use Rattle.std.specs.Prelude.{◌≡◌, ◌≤◌, ◌^◌, ◌+ℤ◌, ◌≤ℤ◌, pos, negsuc, IfOk, IfErr, OnOk, Some, None, Ok, Err};
 ghost use Rattle.ebpf_state.specs.Abstract.{IsProper};
 ghost use Rattle.ebpf_state.specs.Stack.{bytes_in, place_of, loaded};
 ghost use Rattle.ebpf_verify.specs.declared.decl.TheConstants.{MAX_CONTEXT};
@@ -45,7 +45,12 @@ pub(crate) struct Load {
 }
 
 /// What is known of the value that is loaded through a base, or the first code that refuses the load.
-pub(crate) fn load(context: u32, load: Load, base: Abs, state: &State) -> Result<Abs, VerifyCode>
+pub(crate) fn load_value(
+    context: u32,
+    load: Load,
+    base: Abs,
+    state: &State,
+) -> Result<Abs, VerifyCode>
     requires { context ≤ MAX_CONTEXT }
     ensures refused { IfErr result (λ code. load_refusal context load.size load.signed load.dst load.offset base state.now ≡ Some code) }
     ensures fine { OnOk result (load_refusal context load.size load.signed load.dst load.offset base state.now ≡ None) }
@@ -101,22 +106,37 @@ fn read_stack(load: Load, k: i64, state: &State) -> Result<Abs, VerifyCode>
     }
 }
 
-// The offset from the frame pointer that an instruction adds to a pointer's own. One that is too far for 64 bits is told as
-// another that is outside the stack, too.
+// The offset from the frame pointer that an instruction goes to. One that is outside the stack is told as the one behind it.
 fn stack_offset(k: i64, offset: i16, size: Size) -> i64
     ensures { place_of result (bytes_in size) ≡ place_of (k +ℤ offset) (bytes_in size) }
 {
-    k.saturating_add(offset as i64)
+    let at = address(k, offset);
+    if at < -512 || at > 0 { 1 } else { at as i64 }
+}
+
+// Where an instruction goes from a pointer.
+fn address(at: i64, offset: i16) -> i128
+    ensures value { result ≡ at +ℤ offset }
+    ensures low { negsuc (2 ^ 64) ≤ℤ result }
+    ensures high { result ≤ℤ pos (2 ^ 64) }
+{
+    at as i128 + offset as i128
+}
+
+// The end of so many bytes at an address.
+fn end(address: i128, bytes: usize) -> i128
+    requires low { negsuc (2 ^ 64) ≤ℤ address }
+    requires high { address ≤ℤ pos (2 ^ 64) }
+    ensures { result ≡ address +ℤ pos bytes }
+{
+    address + bytes as i128
 }
 
 // The bytes at an offset from an address lie in the context, wherever between its ends the address is.
 fn is_in_context(context: u32, low: i64, high: i64, offset: i16, bytes: usize) -> bool
-    requires context { context ≤ MAX_CONTEXT }
-    requires bytes { bytes ≤ 8 }
     ensures { result ≡ is_in_context context low high offset bytes }
 {
-    let offset = offset as i64;
-    low >= -offset && high <= context as i64 - bytes as i64 - offset
+    address(low, offset) >= 0 && end(address(high, offset), bytes) <= context as i128
 }
 
 // The value is a number.
@@ -144,7 +164,7 @@ pub(crate) struct Store {
 }
 
 /// Says in the state that a value is stored through a base, or says why that can't be.
-pub(crate) fn store(
+pub(crate) fn store_value(
     store: Store,
     base: Abs,
     value: Abs,

@@ -8,16 +8,19 @@ ghost use Rattle.ebpf_state.specs.StateView.{StateView};
 ghost use Rattle.ebpf_state.specs.References.{settled};
 ghost use Rattle.ebpf_state.specs.States.{register_of};
 ghost use Rattle.ebpf_verify.specs.Branches.{operand, null_test, branch_refusal, with_operands, is_null_where, after_branch};
+ghost use Rattle.ebpf_verify.specs.Memory.{store_refusal, after_store};
 ghost use Rattle.ebpf_verify.specs.Rules.{refusal, after_operation};
 ghost use Rattle.ebpf_verify.specs.Verdict.{IsSlotFault};
 ghost use Rattle.ebpf_verify.specs.Entry.{with_edge, with_sent};
 
 use crate::branches::{Branch, compared, is_null_where, null_test, operand, set_operands};
+use crate::decl::Decl;
 use crate::entry::EntryState;
 use crate::fault::{VerifyCode, VerifyFault};
+use crate::memory::{AccessFault, Store, store_value};
 use crate::rules::{exit_refusal, operation};
 use ebpf_flow::edges::Edges;
-use ebpf_insn::insn::{Cond, Insn};
+use ebpf_insn::insn::{Cond, Insn, Source, Width};
 use ebpf_insn::register::Reg;
 use ebpf_range::branches::refine;
 use ebpf_range::range::Range;
@@ -30,6 +33,7 @@ use std::alloc::AllocError;
 /// # Errors
 /// `Refused` with the first code that refuses the slot; `NoMemory` where an allocation fails.
 pub(crate) fn pass_on(
+    decl: Decl,
     insn: &Insn,
     slot: usize,
     state: State,
@@ -40,9 +44,9 @@ pub(crate) fn pass_on(
     requires fall { IfSome edges.fall (λ to. to < length entries.old.items) }
     requires jump { IfSome edges.jump (λ to. to < length entries.old.items) }
     ensures len { length entries.new.items ≡ length entries.old.items }
-    ensures fine { OnOk result (refusal insn.now state ≡ None) }
+    ensures fine { OnOk result (refusal decl insn.now state ≡ None) }
     ensures sent { OnOk result ((t : ℕ) → t < length entries.old.items → slice_index_or entries.new.items t EntryState.Unreached ≡ with_sent (Some insn.now) edges t (EntryState.Known state) (slice_index_or entries.old.items t EntryState.Unreached)) }
-    ensures refused { IfErr result (IsSlotFault slot (refusal insn.now state)) }
+    ensures refused { IfErr result (IsSlotFault slot (refusal decl insn.now state)) }
 {
     match *insn {
         Insn::Jump { .. } | Insn::JumpFar { .. } => {
@@ -68,10 +72,14 @@ pub(crate) fn pass_on(
             Some(code) => Err(refused_at(slot, code)),
             None => Ok(()),
         },
-        Insn::Load { .. } | Insn::Store { .. } | Insn::Call { .. } => {
-            Err(refused_at(slot, VerifyCode::V0))
-        }
-        _ => operate_on(insn, slot, state, edges, entries),
+        Insn::Store {
+            size,
+            base,
+            offset,
+            src,
+        } => store_on(Store { size, offset }, base, src, slot, state, edges, entries),
+        Insn::Call { .. } => Err(refused_at(slot, VerifyCode::V0)),
+        _ => operate_on(decl, insn, slot, state, edges, entries),
     }
 }
 
@@ -86,8 +94,9 @@ pub(crate) fn refused_at(slot: usize, code: VerifyCode) -> VerifyFault
     }
 }
 
-// Sends what is known after an arithmetic instruction to the slot after it.
+// Sends what is known after an arithmetic instruction or a load to the slot after it.
 fn operate_on(
+    decl: Decl,
     insn: &Insn,
     slot: usize,
     mut state: State,
@@ -98,17 +107,45 @@ fn operate_on(
     requires fall { IfSome edges.fall (λ to. to < length entries.old.items) }
     requires writes { IsSome (after_operation insn.now state) }
     ensures len { length entries.new.items ≡ length entries.old.items }
-    ensures fine { OnOk result (refusal insn.now state ≡ None) }
+    ensures fine { OnOk result (refusal decl insn.now state ≡ None) }
     ensures sent { OnOk result ((t : ℕ) → t < length entries.old.items → slice_index_or entries.new.items t EntryState.Unreached ≡ with_edge (after_operation insn.now state) (leads_to edges.fall t) (slice_index_or entries.old.items t EntryState.Unreached)) }
-    ensures refused { IfErr result (IsSlotFault slot (refusal insn.now state)) }
+    ensures refused { IfErr result (IsSlotFault slot (refusal decl insn.now state)) }
 {
-    match operation(insn, &state) {
+    match operation(decl, insn, &state) {
         Ok((dst, value)) => {
             state.set(dst, value);
             send(entries, edges.fall, state);
             Ok(())
         }
         Err(code) => Err(refused_at(slot, code)),
+    }
+}
+
+// Sends what is known after a store to the slot after it.
+fn store_on(
+    store: Store,
+    base: Reg,
+    src: Source,
+    slot: usize,
+    mut state: State,
+    edges: Edges,
+    entries: &mut Vec<EntryState>,
+) -> Result<(), VerifyFault>
+    requires inside { slot < MAX_SLOTS }
+    requires fall { IfSome edges.fall (λ to. to < length entries.old.items) }
+    ensures len { length entries.new.items ≡ length entries.old.items }
+    ensures fine { OnOk result (store_refusal store.size store.offset (register_of state base) (operand state Width.W64 src) state ≡ None) }
+    ensures sent { OnOk result ((t : ℕ) → t < length entries.old.items → slice_index_or entries.new.items t EntryState.Unreached ≡ with_edge (after_store store.size store.offset (register_of state base) (operand state Width.W64 src) state) (leads_to edges.fall t) (slice_index_or entries.old.items t EntryState.Unreached)) }
+    ensures refused { IfErr result (IsSlotFault slot (store_refusal store.size store.offset (register_of state base) (operand state Width.W64 src) state)) }
+{
+    let value = operand(&state, Width::W64, src);
+    match store_value(store, state.reg(base), value, &mut state) {
+        Ok(()) => {
+            send(entries, edges.fall, state);
+            Ok(())
+        }
+        Err(AccessFault::Refused(code)) => Err(refused_at(slot, code)),
+        Err(AccessFault::NoMemory) => Err(VerifyFault::NoMemory),
     }
 }
 

@@ -6,7 +6,9 @@ ghost use Rattle.ebpf_state.specs.States.{with_register};
 ghost use Rattle.ebpf_verify.specs.Rules.{has_rule, exit_refusal, refusal, after_operation};
 
 use crate::branches::operand;
+use crate::decl::Decl;
 use crate::fault::VerifyCode;
+use crate::memory::{Load, load_value};
 use crate::operations::{alu_value, constant_value, one_number};
 use ebpf_insn::insn::Insn;
 use ebpf_insn::register::Reg;
@@ -14,24 +16,24 @@ use ebpf_range::results::{neg, sext, swap};
 use ebpf_state::state::State;
 use ebpf_state::value::Abs;
 
-/// Loads, stores and calls have no rule yet.
+/// Calls have no rule yet.
 pub(crate) fn has_rule(insn: &Insn) -> bool
     ensures { result ≡ has_rule insn.now }
 {
     match *insn {
-        Insn::Load { .. } | Insn::Store { .. } | Insn::Call { .. } => false,
+        Insn::Call { .. } => false,
         _ => true,
     }
 }
 
-/// The register that an arithmetic instruction writes and what is known of it afterwards, or the first code that refuses
+/// The register that an arithmetic instruction or a load writes and what is known of it afterwards, or the first code that refuses
 /// the instruction. Its operands are read once for both.
-pub(crate) fn operation(insn: &Insn, state: &State) -> Result<(Reg, Abs), VerifyCode>
+pub(crate) fn operation(decl: Decl, insn: &Insn, state: &State) -> Result<(Reg, Abs), VerifyCode>
     requires { IsSome (after_operation insn.now state.now) }
-    ensures fine { OnOk result (refusal insn.now state.now ≡ None) }
+    ensures fine { OnOk result (refusal decl insn.now state.now ≡ None) }
     ensures value { IfOk result (λ written. after_operation insn.now state.now ≡ Some (with_register state.now written.0 written.1)) }
     ensures proper { IfOk result (λ written. IsProper written.1) }
-    ensures refused { IfErr result (λ code. refusal insn.now state.now ≡ Some code) }
+    ensures refused { IfErr result (λ code. refusal decl insn.now state.now ≡ Some code) }
 {
     match *insn {
         Insn::Alu {
@@ -62,6 +64,21 @@ pub(crate) fn operation(insn: &Insn, state: &State) -> Result<(Reg, Abs), Verify
             Ok((dst, Abs::Num(swap(order, bits, a))))
         }
         Insn::Wide { dst, value } => Ok((dst, constant_value(value, dst)?)),
+        Insn::Load {
+            size,
+            signed,
+            dst,
+            base,
+            offset,
+        } => {
+            let load = Load {
+                size,
+                signed,
+                dst,
+                offset,
+            };
+            Ok((dst, load_value(decl.context, load, state.reg(base), state)?))
+        }
         _ => Err(VerifyCode::V0),
     }
 }

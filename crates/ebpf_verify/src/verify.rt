@@ -60,7 +60,7 @@ pub fn verify(
     let slots = flowed.program().slots();
     let mut entries = first_entries(alloc, slots)?;
     for slot in 0..slots {
-        if let Err(fault) = visit(&flowed, slot, &mut entries) {
+        if let Err(fault) = visit(&flowed, decl, slot, &mut entries) {
             // An instruction that has no rule is told before all else.
             refuse_unruled(flowed.program())?;
             return Err(fault);
@@ -106,14 +106,19 @@ fn first_entries(alloc: Global, slots: usize) -> Result<Vec<EntryState>, AllocEr
 }
 
 // Takes what came to a slot, and sends it on, or says why it is refused. What has no rule is refused also where nothing came.
-fn visit(flowed: &Flowed, slot: usize, entries: &mut Vec<EntryState>) -> Result<(), VerifyFault>
+fn visit(
+    flowed: &Flowed,
+    decl: Decl,
+    slot: usize,
+    entries: &mut Vec<EntryState>,
+) -> Result<(), VerifyFault>
     requires inside { slot < length flowed.now }
     requires len { length entries.old.items ≡ length flowed.now }
     ensures len { length entries.new.items ≡ length entries.old.items }
     ensures ruled { OnOk result (unruled_at flowed.now slot ≡ None) }
-    ensures fine { OnOk result (refusal_in (insn_at flowed.now slot) (slice_index_or entries.old.items slot EntryState.Unreached) ≡ None) }
+    ensures fine { OnOk result (refusal_in decl (insn_at flowed.now slot) (slice_index_or entries.old.items slot EntryState.Unreached) ≡ None) }
     ensures sent { OnOk result ((t : ℕ) → slot < t → t < length flowed.now → slice_index_or entries.new.items t EntryState.Unreached ≡ with_sent (insn_at flowed.now slot) (edges_at flowed.now slot) t (slice_index_or entries.old.items slot EntryState.Unreached) (slice_index_or entries.old.items t EntryState.Unreached)) }
-    ensures refused { IfErr result (λ fault. unruled_at flowed.now slot ≡ None → IsSlotFault slot (refusal_in (insn_at flowed.now slot) (slice_index_or entries.old.items slot EntryState.Unreached)) fault) }
+    ensures refused { IfErr result (λ fault. unruled_at flowed.now slot ≡ None → IsSlotFault slot (refusal_in decl (insn_at flowed.now slot) (slice_index_or entries.old.items slot EntryState.Unreached)) fault) }
 {
     let edges = flowed.successors(slot);
     let Some(insn) = flowed.program().at(slot) else {
@@ -123,7 +128,7 @@ fn visit(flowed: &Flowed, slot: usize, entries: &mut Vec<EntryState>) -> Result<
         };
     };
     match mem::replace(&mut entries[slot], EntryState::Unreached) {
-        EntryState::Known(state) => pass_on(insn, slot, state, edges, entries),
+        EntryState::Known(state) => pass_on(decl, insn, slot, state, edges, entries),
         EntryState::Conflict => Err(refused_at(slot, VerifyCode::V19)),
         EntryState::Unreached => if has_rule(insn) {
             Ok(())
