@@ -1,4 +1,6 @@
 pub mod ListLemmas
+pub mod Words
+pub mod Loads
 pub mod Bounded
 pub mod ValueJoins
 pub mod Words

@@ -1,5 +1,5 @@
 -- Which runs an abstract state speaks of.
-use Rattle.std.specs.Prelude.{◌≡◌, ◌<◌, ◌+◌, ◌*◌, ◌^◌, ℕ, pos, ◌≤ℤ◌, List, map, Contains, Option, Some, None, slice_index_or}
+use Rattle.std.specs.Prelude.{◌≡◌, ◌<◌, ◌+◌, ◌*◌, ◌^◌, ℕ, pos, ◌≤ℤ◌, false, List, map, Contains, Option, Some, None, slice_index_or}
 use Rattle.std.specs.Int.{bit_at}
 use Rattle.ebpf_range.specs.Interval.{IsWithin}
 use Rattle.ebpf_state.specs.declared.value.Abs.{Abs}
@@ -7,6 +7,7 @@ use Rattle.ebpf_state.specs.declared.value.Abs.TheVariants.{Unset, Num, Stk, Ctx
 use Rattle.ebpf_state.specs.declared.word.Word.{Word}
 use Rattle.ebpf_state.specs.declared.word.Word.TheVariants.{Spill, Bytes}
 use Rattle.ebpf_state.specs.declared.held.Held.{Held}
+use Rattle.ebpf_state.specs.Abstract.{is_unset}
 use Rattle.ebpf_state.specs.Stack.{word_of}
 use Rattle.ebpf_state.specs.StateView.{StateView}
 use Rattle.ebpf_verify.specs.declared.entry.EntryState.{EntryState}
@@ -45,10 +46,10 @@ abbrev pub IsByte : Cell ℕ → Type 0
 IsByte (Byte b) = Unit {0}
 IsByte _ = ⊥
 
--- what is known of a word of the stack speaks of these eight cells: a spill is in all of them, and a mask says which are bytes;
--- of the others anything may be so
+-- what is known of a word of the stack speaks of these eight cells: a spill, of which something is known, is in all of them, and a
+-- mask says which are bytes; of the others anything may be so
 abbrev pub IsOfCells : List ℕ → Word → (ℕ → Cell ℕ) → Type 0
-IsOfCells calls (Spill a) cells = (v : Value ℕ) × IsOf calls a (Some v) × ((j : ℕ) → j < 8 → cells j ≡ cell_of v j)
+IsOfCells calls (Spill a) cells = (v : Value ℕ) × IsOf calls a (Some v) × ((j : ℕ) → j < 8 → cells j ≡ cell_of v j) × (is_unset a ≡ false)
 IsOfCells calls (Bytes mask) cells = (j : ℕ) → j < 8 → bit_at mask j ≡ 1 → IsByte (cells j)
 
 -- a state speaks of a run with this frame and these objects
