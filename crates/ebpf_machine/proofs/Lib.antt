@@ -32,3 +32,5 @@ pub mod Runs
 pub mod Giving
 pub mod Doable
 pub mod KindLemmas
+pub mod StackWords
+pub mod Accesses

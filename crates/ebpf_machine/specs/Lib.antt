@@ -1,5 +1,6 @@
 pub mod Values
 pub mod Cells
+pub mod StackWords
 pub mod Effect
 pub mod Bytes
 pub mod World

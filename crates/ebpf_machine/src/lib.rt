@@ -4,13 +4,17 @@
 //! traps and none is tested at run time. What it computes is defined in specs/ by a machine that tests every access: the
 //! world of many runs, one event of it, and a run alone in a world of its own.
 //!
-//! To be read in this order: `value`, `kinds`, `objects`, `holding`, `execute`, `report`, `run`.
+//! To be read in this order: `value`, `kinds`, `objects`, `holding`, `number`, `stack`, `memory`, `execute`,
+//! `report`, `run`.
 #![tactic(auto)]
 
 mod execute;
 pub mod holding;
 pub mod kinds;
+mod memory;
+mod number;
 pub mod objects;
 pub mod report;
 pub mod run;
+mod stack;
 pub mod value;

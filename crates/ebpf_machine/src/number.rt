@@ -1,0 +1,51 @@
+//! The number of some bytes, the lowest first.
+
+ghost use Rattle.std.specs.Prelude.{◌≡◌, ◌≤◌, ◌<◌, ◌+◌, ◌*◌, ◌^◌, length, drop};
+ghost use Rattle.byteorder.specs.Endian.{little_number};
+ghost use Rattle.ebpf_insn.specs.declared.insn.Width.{Width};
+ghost use Rattle.ebpf_insn.specs.Arithmetic.{extension_at};
+ghost use Rattle.ebpf_state.specs.Stack.{bytes_in};
+ghost use Rattle.ebpf_machine.specs.Cells.{extended};
+
+use byteorder::{ByteOrder, LittleEndian};
+use ebpf_insn::insn::Size;
+
+/// The number of the bytes at a place, with zeros or with its sign above them.
+pub(crate) fn number_at(bytes: &[u8], place: usize, size: Size, signed: bool) -> u64
+    requires { place + bytes_in size ≤ length bytes.now }
+    ensures { result ≡ extended (bytes_in size) signed (little_number (bytes_in size) (drop place bytes.now)) }
+{
+    let low = low_number(bytes, place, size);
+    if signed { with_sign(low, size) } else { low }
+}
+
+fn low_number(bytes: &[u8], place: usize, size: Size) -> u64
+    requires { place + bytes_in size ≤ length bytes.now }
+    ensures value { result ≡ little_number (bytes_in size) (drop place bytes.now) }
+    ensures fits { result < 2 ^ (8 * bytes_in size) }
+{
+    match size {
+        Size::B => bytes[place] as u64,
+        Size::H => LittleEndian::read_u16(&bytes[place..]) as u64,
+        Size::W => LittleEndian::read_u32(&bytes[place..]) as u64,
+        Size::D => LittleEndian::read_u64(&bytes[place..]),
+    }
+}
+
+// A number of so many bytes, with copies of the highest bit of it above them.
+fn with_sign(n: u64, size: Size) -> u64
+    requires { n < 2 ^ (8 * bytes_in size) }
+    ensures { result ≡ extension_at Width.W64 (8 * bytes_in size) n }
+{
+    let half = match size {
+        Size::B => 1 << 7,
+        Size::H => 1 << 15,
+        Size::W => 1 << 31,
+        Size::D => return n,
+    };
+    if n < half {
+        n
+    } else {
+        n + (u64::MAX - (2 * half - 1))
+    }
+}
