@@ -143,7 +143,8 @@ fn branch_on(
     }
 }
 
-// Sends along each edge of a null test whether the answer of the call is null there.
+// Sends along each edge of a null test whether the answer of the call is null there. It stands apart from what most slots do.
+#[inline(never)]
 fn settle_on(
     call: u16,
     cond: Cond,
@@ -241,7 +242,8 @@ fn fall_goes_first(edges: Edges, entries: &[EntryState]) -> bool
     }
 }
 
-// Sends a state along an edge.
+// Sends a state along an edge. Where nothing came to its target that is two stores, so it stands in each caller.
+#[inline(always)]
 fn send(entries: &mut Vec<EntryState>, edge: Option<u16>, state: State)
     requires { IfSome edge (λ to. to < length entries.old.items) }
     ensures len { length entries.new.items ≡ length entries.old.items }
@@ -253,6 +255,7 @@ fn send(entries: &mut Vec<EntryState>, edge: Option<u16>, state: State)
 }
 
 // Sends what a state says along an edge, and keeps the state.
+#[inline(always)]
 fn add(entries: &mut Vec<EntryState>, edge: Option<u16>, state: &State) -> Result<(), AllocError>
     requires { IfSome edge (λ to. to < length entries.old.items) }
     ensures len { length entries.new.items ≡ length entries.old.items }

@@ -1,4 +1,4 @@
-use Rattle.std.proofs.Common.{◌≡◌, ◌<◌, ◌∙◌, Some, length, sym, arith, get_or}
+use Rattle.std.proofs.Common.{◌<◌, ◌∙◌, Some, length, sym, arith, get_or}
 use Rattle.ebpf_flow.specs.Edges.{leads_to}
 use Rattle.ebpf_verify.specs.declared.entry.EntryState.TheVariants.{Unreached}
 use Rattle.ebpf_verify.specs.Branches.{with_operands}
