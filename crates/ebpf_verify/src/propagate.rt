@@ -198,8 +198,8 @@ fn refine_on(
     Ok(())
 }
 
-// Sends a state along both edges of a comparison. It is copied only where nothing came to either of two targets before: what
-// goes first is copied to a target that nothing came to, and what goes last never is.
+// Sends a state along both edges of a comparison. What goes first is copied where nothing came to its slot before, and what goes
+// last never is; so the edge to a slot that was reached goes first.
 fn send_both(
     branch: Branch,
     taken: (Range, Range),
