@@ -39,7 +39,7 @@ use Rattle.ebpf_machine.specs.Values.{Trap}
 use Rattle.ebpf_machine.specs.Cells.{cell_at, cell_of, is_same_pointer, is_part, are_parts, pointer_from, with_byte, number_from, extended, loaded_number, loaded_word, loaded_at, context_place, read_at}
 use Rattle.ebpf_machine.specs.Concretization.{IsOf, IsByte, IsOfCells}
 use Rattle.ebpf_machine.specs.Sound.{FitsValue, FitsCell}
-use Rattle.ebpf_machine.proofs.Words.{AreOfCells, number_byte, bytes_few, placed_inside, covered_inside}
+use Rattle.ebpf_machine.proofs.Words.{AreOfCells, plain_byte, bytes_few, placed_inside, covered_inside}
 
 -- a load gives a value of which this is known, whatever names are one
 pub record IsLoaded (calls : List ℕ) (known : Abs) (load : (ℕ → ℕ → Bool) → Result (Value ℕ) Trap) : Type 0 where
@@ -79,15 +79,6 @@ bytes_number stack place (suc n) h =
     with_one (cell_at stack place) (number_from stack (suc place) n) rest.0 (h place (omega arith) (omega arith)) rest.1
 
 -- ---- the bytes that are read
-
--- a value that is neither a pointer nor may be one is a number
-plain_byte : (calls : List ℕ) (a : Abs) (v : Value ℕ) (j : ℕ) → is_unset a ≡ false → may_point a ≡ false → IsOf calls a (Some v) → IsByte (cell_of v j)
-plain_byte calls (Num a) v j set plain h = number_byte calls a v j h
-plain_byte calls Unset v j set plain h = absurd (cc)
-plain_byte calls (Stk k) v j set plain h = absurd (cc)
-plain_byte calls (Ctx a b) v j set plain h = absurd (cc)
-plain_byte calls (Ob r a b) v j set plain h = absurd (cc)
-plain_byte calls (May r) v j set plain h = absurd (cc)
 
 not_split : (none point : Bool) → none ≡ false → (not none && point) ≡ false → point ≡ false
 not_split false point e h = h
