@@ -70,14 +70,14 @@ joined_registers s t = record { registers = joined_list joined_value s.registers
 left_side : (s t : StateView) (frame : Frame ℕ) (objects : List ObjectView) → IsFull s → IsFull t → AreOf s frame objects → AreOf (joined_registers s t) frame objects
 left_side s t frame objects v u h = record {
   each = λ k lt. subst (λ (a : Abs). IsOf (calls_of objects) a (get_or frame.registers k None)) (sym (joined_list-index joined_value Unset s.registers t.registers k (v.whole ∙ sym u.whole) (omega (arith, v.whole)))) (IsOf-joined_left (calls_of objects) (get_or s.registers k Unset) (get_or t.registers k Unset) (get_or frame.registers k None) (h.each k lt));
-  words = λ w lt. subst (λ (x : Word). IsOfCells (calls_of objects) x (λ j. cell_at frame.stack (8 * w + j))) (sym (joined_list-index joined_word (Bytes 0) s.words t.words w (v.deep ∙ sym u.deep) (omega (arith, v.deep)))) (joined_cells_left (calls_of objects) (word_of s.words w) (word_of t.words w) (λ j. cell_at frame.stack (8 * w + j)) (IsOf-joined_left (calls_of objects)) (h.words w lt));
+  words = λ w lt. subst (λ (x : Word). IsOfCells (calls_of objects) x (λ j. cell_at frame.stack (8 * w + j))) (sym (joined_list-index joined_word (Bytes 0) s.words t.words w (v.deep ∙ sym u.deep) (omega (arith, v.deep)))) (joined_cells_left (calls_of objects) (word_of s.words w) (word_of t.words w) (λ j. cell_at frame.stack (8 * w + j)) (h.words w lt));
   held = h.held;
 }
 
 right_side : (s t : StateView) (frame : Frame ℕ) (objects : List ObjectView) → IsFull s → IsFull t → is_same_held s.held t.held ≡ true → AreOf t frame objects → AreOf (joined_registers s t) frame objects
 right_side s t frame objects v u same h = record {
   each = λ k lt. subst (λ (a : Abs). IsOf (calls_of objects) a (get_or frame.registers k None)) (sym (joined_list-index joined_value Unset s.registers t.registers k (v.whole ∙ sym u.whole) (omega (arith, v.whole)))) (IsOf-joined_right (calls_of objects) (get_or s.registers k Unset) (get_or t.registers k Unset) (get_or frame.registers k None) (h.each k lt));
-  words = λ w lt. subst (λ (x : Word). IsOfCells (calls_of objects) x (λ j. cell_at frame.stack (8 * w + j))) (sym (joined_list-index joined_word (Bytes 0) s.words t.words w (v.deep ∙ sym u.deep) (omega (arith, v.deep)))) (joined_cells_right (calls_of objects) (word_of s.words w) (word_of t.words w) (λ j. cell_at frame.stack (8 * w + j)) (IsOf-joined_right (calls_of objects)) (h.words w lt));
+  words = λ w lt. subst (λ (x : Word). IsOfCells (calls_of objects) x (λ j. cell_at frame.stack (8 * w + j))) (sym (joined_list-index joined_word (Bytes 0) s.words t.words w (v.deep ∙ sym u.deep) (omega (arith, v.deep)))) (joined_cells_right (calls_of objects) (word_of s.words w) (word_of t.words w) (λ j. cell_at frame.stack (8 * w + j)) (h.words w lt));
   held = same_referred s.held t.held objects same h.held;
 }
 
