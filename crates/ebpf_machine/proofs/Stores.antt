@@ -1,6 +1,6 @@
--- A store that is not refused leaves a stack of which that is known which its rule says.
-use Rattle.std.proofs.Common.{◌≡◌, ◌≢◌, ℕ, ◌+◌, ◌-◌, ◌*◌, ◌/◌, ◌%◌, ◌<◌, ◌≤◌, max, ℤ, Bool, true, false, cond, not, ◌&&◌, ◌||◌, List, length, length-set, get_or, set, All, Option, Some, None, Result, Ok, Err, inl, inr, ◌⊎◌, refl, sym, ap, ◌∙◌, subst, arith}
-use Rattle.std.specs.Prelude.{◌==◌, bit_or, map, nat_le, nat_lt}
+-- What is known after a store to the stack that is not refused speaks of the stack that it leaves.
+use Rattle.std.proofs.Common.{◌≡◌, ◌≢◌, ℕ, ◌+◌, ◌-◌, ◌*◌, ◌/◌, ◌%◌, ◌<◌, ◌≤◌, ℤ, Bool, true, false, cond, not, ◌&&◌, List, length, length-set, set, All, Option, Some, None, Result, Ok, Err, inl, inr, ◌⊎◌, refl, sym, ap, ◌∙◌, subst, arith}
+use Rattle.std.specs.Prelude.{◌==◌, bit_or, nat_le, nat_lt}
 use Rattle.std.specs.List.{enumerate_from}
 use Rattle.std.specs.Int.{bit_at}
 use Rattle.std.proofs.lemmas.Bool.{cases_eq, and_parts, and_from, or_from, ne_eqb, eqb-true, leb-true, ltb-true, le-leb, lt-ltb, false_from_ne_true, cond-true, cond-false, cond_both}
@@ -11,7 +11,6 @@ use Rattle.std.proofs.lemmas.Nat.Bits.{bit_at_or, bit_at-lt, bit_at-zero}
 use Rattle.ebpf_insn.specs.declared.insn.Size.{Size}
 use Rattle.ebpf_state.specs.declared.value.Abs.{Abs}
 use Rattle.ebpf_state.specs.declared.value.Abs.TheVariants.{Unset, Num, Stk, Ctx, Ob, May}
-use Rattle.ebpf_state.specs.declared.held.Held.{Held}
 use Rattle.ebpf_state.specs.declared.word.Word.{Word}
 use Rattle.ebpf_state.specs.declared.word.Word.TheVariants.{Spill, Bytes}
 use Rattle.ebpf_state.specs.declared.stack.StackFault.{StackFault}
@@ -30,7 +29,7 @@ use Rattle.ebpf_machine.specs.Values.{Trap, PointerMisuse}
 use Rattle.ebpf_machine.specs.Cells.{cell_at, cell_of, left_over, touches, is_among, stored_cell, stored_cells, is_pointer, stored_at}
 use Rattle.ebpf_machine.specs.Concretization.{IsOf, IsByte, IsOfCells}
 use Rattle.ebpf_machine.specs.Sound.{FitsValue, FitsCell}
-use Rattle.ebpf_machine.proofs.Words.{AreOfCells, same_cells, number_byte, plain_byte, bytes_some, bytes_few, placed_inside, covered_inside, covered_only}
+use Rattle.ebpf_machine.proofs.Words.{AreOfCells, word_cells, same_cells, number_byte, plain_byte, bytes_some, bytes_few, placed_inside, covered_inside, covered_only}
 
 -- a store is done, and what is known after it speaks of the stack that it leaves
 pub record IsStored (calls : List ℕ) (s after : StateView) (store : Result (List (Cell ℕ)) Trap) : Type 0 where
@@ -112,10 +111,10 @@ whole_word calls words stack place known v aligned fits h many deep known_set of
   spilled (Ob r a b) e = refl
   spilled (May r) e = refl
 
-  by : (w ≡ place / 8) ⊎ (w ≡ place / 8 → ⊥) → IsOfCells calls (word_of (set words (place / 8) (spill_or_nothing known)) w) (λ (j : ℕ). cell_at (stored_cells place 8 v stack) (8 * w + j))
+  by : (w ≡ place / 8) ⊎ (w ≡ place / 8 → ⊥) → IsOfCells calls (word_of (set words (place / 8) (spill_or_nothing known)) w) (word_cells (stored_cells place 8 v stack) w)
   by (inl here) =
       let word : word_of (set words (place / 8) (spill_or_nothing known)) w ≡ Spill known = ap (word_of (set words (place / 8) (spill_or_nothing known))) here ∙ get_or-set_same words (place / 8) (spill_or_nothing known) (Bytes 0) (omega (arith, many, fits)) ∙ spilled known known_set in
-      subst (λ (x : Word). IsOfCells calls x (λ (j : ℕ). cell_at (stored_cells place 8 v stack) (8 * w + j))) (sym word) (v, of, written_cell, known_set)
+      subst (λ (x : Word). IsOfCells calls x (word_cells (stored_cells place 8 v stack) w)) (sym word) (v, of, written_cell, known_set)
     where
       written_cell : (j : ℕ) → j < 8 → cell_at (stored_cells place 8 v stack) (8 * w + j) ≡ cell_of v j
       written_cell j less =
@@ -125,13 +124,13 @@ whole_word calls words stack place known v aligned fits h many deep known_set of
           ∙ ap (cell_of v) back
   by (inr other) =
       let word : word_of (set words (place / 8) (spill_or_nothing known)) w ≡ word_of words w = get_or-set_other words (place / 8) w (spill_or_nothing known) (Bytes 0) other in
-      subst (λ (x : Word). IsOfCells calls x (λ (j : ℕ). cell_at (stored_cells place 8 v stack) (8 * w + j))) (sym word) (same_cells calls (word_of words w) (λ (j : ℕ). cell_at stack (8 * w + j)) (λ (j : ℕ). cell_at (stored_cells place 8 v stack) (8 * w + j)) kept_cell (h w lt))
+      subst (λ (x : Word). IsOfCells calls x (word_cells (stored_cells place 8 v stack) w)) (sym word) (same_cells calls (word_of words w) (word_cells stack w) (word_cells (stored_cells place 8 v stack) w) kept_cell (h w lt))
     where
       kept_cell : (j : ℕ) → j < 8 → cell_at stack (8 * w + j) ≡ cell_at (stored_cells place 8 v stack) (8 * w + j)
       kept_cell j less = sym (
           cell_stored place 8 v stack (8 * w + j) (omega (arith, deep, lt, less))
           ∙ cell_outside place 8 v (8 * w + j) (cell_at stack (8 * w + j)) (λ low high. other (omega (arith, aligned))) (λ e. other (omega (arith, less))) (λ e. other (omega (arith, less, aligned)))
-      )
+          )
 
 -- ---- words that are written in part
 
@@ -156,7 +155,7 @@ written_cells calls word bits old new h inside kept same =
     over (Spill (May r)) was = inside
 
 -- the cells of a word where bytes of a number are stored
-module _ (place bytes : ℕ) (v : Value ℕ) (stack : List (Cell ℕ)) (w : ℕ) (lt : w < 64) (deep : length stack ≡ 512) (some : 0 < bytes) (few : bytes ≤ 8) where
+module _ (place bytes : ℕ) (v : Value ℕ) (stack : List (Cell ℕ)) (w : ℕ) (lt : w < 64) (deep : length stack ≡ 512) (some : 0 < bytes) where
   cell_now : (j : ℕ) → j < 8 → cell_at (stored_cells place bytes v stack) (8 * w + j) ≡ stored_cell place bytes v (8 * w + j) (cell_at stack (8 * w + j))
   cell_now j less = cell_stored place bytes v stack (8 * w + j) (omega (arith, deep, lt, less))
 
@@ -174,8 +173,8 @@ module _ (place bytes : ℕ) (v : Value ℕ) (stack : List (Cell ℕ)) (w : ℕ)
       apart : (k : ℕ) → k < 8 → place ≤ 8 * w + k → 8 * w + k < place + bytes → ⊥
       apart k small low high = omega (arith, covered_inside place bytes w k small low high, ap (λ (n : ℕ). bit_at n k) none, bit_at-zero k)
 
-  word_written : (calls : List ℕ) (word : Word) → ((j : ℕ) → IsByte (cell_of v j)) → IsOfCells calls word (λ j. cell_at stack (8 * w + j)) → IsOfCells calls (written (covered place bytes w) word) (λ j. cell_at (stored_cells place bytes v stack) (8 * w + j))
-  word_written calls word byte h = written_cells calls word (covered place bytes w) (λ (j : ℕ). cell_at stack (8 * w + j)) (λ (j : ℕ). cell_at (stored_cells place bytes v stack) (8 * w + j)) h inside kept none_written where
+  word_written : (calls : List ℕ) (word : Word) → ((j : ℕ) → IsByte (cell_of v j)) → IsOfCells calls word (word_cells stack w) → IsOfCells calls (written (covered place bytes w) word) (word_cells (stored_cells place bytes v stack) w)
+  word_written calls word byte h = written_cells calls word (covered place bytes w) (word_cells stack w) (word_cells (stored_cells place bytes v stack) w) h inside kept none_written where
     inside : (j : ℕ) → j < 8 → bit_at (covered place bytes w) j ≡ 1 → IsByte (cell_at (stored_cells place bytes v stack) (8 * w + j))
     inside j less bit =
         let both = covered_only place bytes w j less bit in
@@ -207,22 +206,22 @@ far_word place bytes words w first second =
 
 part_word : (calls : List ℕ) (words : List Word) (stack : List (Cell ℕ)) (place bytes : ℕ) (v : Value ℕ) → 0 < bytes → bytes ≤ 8 → AreOfCells calls words stack → length words ≡ 64 → length stack ≡ 512 → ((j : ℕ) → IsByte (cell_of v j)) → AreOfCells calls (both_written place bytes words) (stored_cells place bytes v stack)
 part_word calls words stack place bytes v some few h many deep byte w lt = by (cases_eq w (place / 8)) (cases_eq w (place / 8 + 1)) where
-  near : (w ≡ place / 8) ⊎ (w ≡ place / 8 + 1) → IsOfCells calls (word_of (both_written place bytes words) w) (λ (j : ℕ). cell_at (stored_cells place bytes v stack) (8 * w + j))
+  near : (w ≡ place / 8) ⊎ (w ≡ place / 8 + 1) → IsOfCells calls (word_of (both_written place bytes words) w) (word_cells (stored_cells place bytes v stack) w)
   near which =
-      subst (λ (x : Word). IsOfCells calls x (λ (j : ℕ). cell_at (stored_cells place bytes v stack) (8 * w + j))) (sym (near_word place bytes words w (omega (arith, many, lt)) which))
-      (word_written place bytes v stack w lt deep some few calls (word_of words w) byte (h w lt))
+      subst (λ (x : Word). IsOfCells calls x (word_cells (stored_cells place bytes v stack) w)) (sym (near_word place bytes words w (omega (arith, many, lt)) which))
+      (word_written place bytes v stack w lt deep some calls (word_of words w) byte (h w lt))
 
-  far : w ≢ place / 8 → w ≢ place / 8 + 1 → IsOfCells calls (word_of (both_written place bytes words) w) (λ (j : ℕ). cell_at (stored_cells place bytes v stack) (8 * w + j))
+  far : w ≢ place / 8 → w ≢ place / 8 + 1 → IsOfCells calls (word_of (both_written place bytes words) w) (word_cells (stored_cells place bytes v stack) w)
   far first second =
-      subst (λ (x : Word). IsOfCells calls x (λ (j : ℕ). cell_at (stored_cells place bytes v stack) (8 * w + j))) (sym (far_word place bytes words w first second))
-      (same_cells calls (word_of words w) (λ (j : ℕ). cell_at stack (8 * w + j)) (λ (j : ℕ). cell_at (stored_cells place bytes v stack) (8 * w + j)) left (h w lt))
+      subst (λ (x : Word). IsOfCells calls x (word_cells (stored_cells place bytes v stack) w)) (sym (far_word place bytes words w first second))
+      (same_cells calls (word_of words w) (word_cells stack w) (word_cells (stored_cells place bytes v stack) w) left (h w lt))
     where
       left : (j : ℕ) → j < 8 → cell_at stack (8 * w + j) ≡ cell_at (stored_cells place bytes v stack) (8 * w + j)
-      left j less = cell_left place bytes v stack w lt deep some few j less (λ low high. beyond (omega arith) (omega arith)) first (λ e. beyond (omega arith) (omega arith)) where
+      left j less = cell_left place bytes v stack w lt deep some j less (λ low high. beyond (omega arith) (omega arith)) first (λ e. beyond (omega arith) (omega arith)) where
         beyond : place / 8 ≤ w → w ≤ place / 8 + 1 → ⊥
         beyond low high = omega (arith, first, second)
 
-  by : (w ≡ place / 8) ⊎ (w ≡ place / 8 → ⊥) → (w ≡ place / 8 + 1) ⊎ (w ≡ place / 8 + 1 → ⊥) → IsOfCells calls (word_of (both_written place bytes words) w) (λ (j : ℕ). cell_at (stored_cells place bytes v stack) (8 * w + j))
+  by : (w ≡ place / 8) ⊎ (w ≡ place / 8 → ⊥) → (w ≡ place / 8 + 1) ⊎ (w ≡ place / 8 + 1 → ⊥) → IsOfCells calls (word_of (both_written place bytes words) w) (word_cells (stored_cells place bytes v stack) w)
   by (inl first) other = near (inl first)
   by (inr first) (inl second) = near (inr second)
   by (inr first) (inr second) = far first second

@@ -32,6 +32,10 @@ use Rattle.ebpf_machine.proofs.ValueJoins.{IsOf-joined_left, IsOf-joined_right}
 abbrev pub AreOfCells : List ℕ → List Word → List (Cell ℕ) → Type 0
 AreOfCells calls words stack = (w : ℕ) → w < 64 → IsOfCells calls (word_of words w) (λ j. cell_at stack (8 * w + j))
 
+-- the cells of a word
+abbrev pub word_cells : List (Cell ℕ) → ℕ → ℕ → Cell ℕ
+word_cells stack w j = cell_at stack (8 * w + j)
+
 -- what is known of a word speaks of the same cells under another name
 pub same_cells : (calls : List ℕ) (word : Word) (old new : ℕ → Cell ℕ) → ((j : ℕ) → j < 8 → old j ≡ new j) → IsOfCells calls word old → IsOfCells calls word new
 same_cells calls (Spill a) old new same h = (h.0, h.1, λ j lt. sym (same j lt) ∙ h.2 j lt, h.3)
@@ -108,7 +112,7 @@ settled_cells calls call null (Bytes mask) cells values h = h
 -- ---- the first state
 
 pub first_cells : AreOfCells [] first_state.words empty_stack
-first_cells w lt = subst (λ (word : Word). IsOfCells [] word (λ j. cell_at empty_stack (8 * w + j))) (sym (get_or-replicate 64 w (Bytes 0) (Bytes 0) lt)) (nothing_known [] (λ j. cell_at empty_stack (8 * w + j)))
+first_cells w lt = subst (λ (word : Word). IsOfCells [] word (word_cells empty_stack w)) (sym (get_or-replicate 64 w (Bytes 0) (Bytes 0) lt)) (nothing_known [] (word_cells empty_stack w))
 
 -- ---- the bytes of a load or a store
 
