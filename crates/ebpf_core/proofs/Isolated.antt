@@ -3,6 +3,7 @@ use Rattle.std.proofs.Common.{◌≡◌, ◌≢◌, ◌⊎◌, inl, inr, ℕ, �
 use Rattle.std.specs.Prelude.{slice_get, map, Contains}
 use Rattle.std.proofs.lemmas.Grind.{common_steps}
 use Rattle.std.proofs.lemmas.List.{length-map}
+use Rattle.std.proofs.lemmas.Bool.Decides.{nat_tests}
 use Rattle.ebpf_verify.specs.Subject.{Subject}
 use Rattle.ebpf_verify.specs.Verdict.{IsAccepted}
 use Rattle.ebpf_machine.specs.declared.report.Reply.{Reply}
@@ -63,14 +64,14 @@ same_either_way false xs = refl
 
 -- ---- a run starts
 
-own_first : (w : World) (s : Subject) (context : List ℕ) (k : ℕ) → IsAccepted s → w.owners ≡ [] → IsOwn (view_of w k (first_run s context))
-own_first w s context k accepted none =
+own_first : (w : World) (s : Subject) (context : List ℕ) (k : ℕ) → IsAccepted s → length context ≡ s.decl.context → w.owners ≡ [] → IsOwn (view_of w k (first_run s context))
+own_first w s context k accepted long none =
     let v : RunView = run_seen (first_state_of s context) in
     let same : v ≡ view_of w k (first_run s context) = rw none refl in
-    subst IsOwn same (record { sound = first_sound {H = Object} (λ o. o.bytes.items) s context accepted; alone = first_alone s context; untold = refl })
+    subst IsOwn same (record { sound = first_sound {H = Object} (λ o. o.bytes.items) s context accepted long; alone = first_alone s context; untold = refl })
 
-kept_started : (s : Subject) (context : List ℕ) (w : World) (program : ℕ) (bytes : List ℕ) (events : List Event) → IsAccepted s → kinds_of s.rows ≡ known_kinds → IsKept w events → IsKept (started s context w) (events ++ Start program bytes ∷ [])
-kept_started s context w program bytes events accepted known h = record {
+kept_started : (s : Subject) (context : List ℕ) (w : World) (program : ℕ) (bytes : List ℕ) (events : List Event) → IsAccepted s → length context ≡ s.decl.context → kinds_of s.rows ≡ known_kinds → IsKept w events → IsKept (started s context w) (events ++ Start program bytes ∷ [])
+kept_started s context w program bytes events accepted long known h = record {
   owned = owned_started w s context h.owned (known ∙ sym h.kinds);
   kinds = h.kinds;
   ledgers = h.ledgers;
@@ -81,16 +82,19 @@ kept_started s context w program bytes events accepted known h = record {
   where
     own_at : (k : ℕ) (run : Running) → (slice_get w.runs k ≡ Some run) ⊎ (first_run s context ≡ run) → IsOwn (view_of w k run)
     own_at k run (inl there) = h.runs k run there
-    own_at k run (inr same) = subst (λ (r : Running). IsOwn (view_of w k r)) same (own_first w s context k accepted h.owners)
+    own_at k run (inr same) = subst (λ (r : Running). IsOwn (view_of w k r)) same (own_first w s context k accepted long h.owners)
+
+equal_lengths : (a b : ℕ) → eqb a b ≡ true → a ≡ b
+equal_lengths a b e = grind (arith, nat_tests)
 
 kept_start : (programs : List Subject) (program : ℕ) (context : List ℕ) (o : Option Subject) (w v : World) (events : List Event) → All IsAccepted programs → AreKnown programs → IsKept w events → slice_get programs program ≡ o → starting o context w ≡ Ok v → IsKept v (events ++ Start program context ∷ [])
 kept_start programs program context None w v events all known h at e = absurd (cc)
-kept_start programs program context (Some s) w v events all known h at e = fits (eqb (length context) s.decl.context) e where
-  fits : (t : Bool) → cond t (Ok (started s context w)) (Err WrongContext) ≡ Ok v → IsKept v (events ++ Start program context ∷ [])
-  fits true e =
+kept_start programs program context (Some s) w v events all known h at e = fits (eqb (length context) s.decl.context) refl e where
+  fits : (t : Bool) → eqb (length context) s.decl.context ≡ t → cond t (Ok (started s context w)) (Err WrongContext) ≡ Ok v → IsKept v (events ++ Start program context ∷ [])
+  fits true long e =
       let same : started s context w ≡ v = cc in
-      subst (λ (u : World). IsKept u (events ++ Start program context ∷ [])) same (kept_started s context w program context events (at_number IsAccepted programs program s all at) (at_number (λ (x : Subject). kinds_of x.rows ≡ known_kinds) programs program s known at) h)
-  fits false e = absurd (cc)
+      subst (λ (u : World). IsKept u (events ++ Start program context ∷ [])) same (kept_started s context w program context events (at_number IsAccepted programs program s all at) (equal_lengths (length context) s.decl.context long) (at_number (λ (x : Subject). kinds_of x.rows ≡ known_kinds) programs program s known at) h)
+  fits false long e = absurd (cc)
 
 -- ---- a run does an instruction
 

@@ -41,6 +41,7 @@ use Rattle.ebpf_machine.specs.View.{ObjectView}
 use Rattle.ebpf_machine.specs.Concretization.{IsOf, IsOfCells, AreOf, AreReferred, calls_of}
 use Rattle.ebpf_machine.proofs.Bounded.{IsBoundedValue, IsFull, number_of-lt}
 use Rattle.ebpf_machine.proofs.ListLemmas.{Contains-tail}
+use Rattle.ebpf_machine.proofs.Words.{settled_cells}
 use Rattle.ebpf_machine.proofs.Operations.{none_first, neither, number_value}
 
 -- ---- two numbers
@@ -200,16 +201,12 @@ settled_references call false held objects answer h o there =
     alike : (r : Held) → ((tested_reference call r).call ≡ r.call) × ((tested_reference call r).kind ≡ r.kind)
     alike r = cond_both (r.call == call) (record r { tested = true }) r (λ (q : Held). (q.call ≡ r.call) × (q.kind ≡ r.kind)) (λ e. (refl, refl)) (λ e. (refl, refl))
 
-settled_cells : (calls : List ℕ) (call : ℕ) (null : Bool) (w : Word) (cells : ℕ → Cell ℕ) → IsAnswered calls call null → IsOfCells calls w cells → IsOfCells calls (settled_word call null w) cells
-settled_cells calls call null (Spill a) cells answer h = (h.0, settled_sound calls call null a (Some h.0) answer h.1, h.2)
-settled_cells calls call null (Bytes mask) cells answer h = h
-
 word_settled : (call : ℕ) (null : Bool) (words : List Word) (w : ℕ) → w < length words → word_of (map (settled_word call null) words) w ≡ settled_word call null (word_of words w)
 word_settled call null words w lt = get_or-map (settled_word call null) words w (Bytes 0) (Bytes 0) lt
 
 pub settled_state : (s : StateView) (frame : Frame ℕ) (objects : List ObjectView) (call : ℕ) (null : Bool) → IsFull s → IsAnswered (calls_of objects) call null → AreOf s frame objects → AreOf (settled call null s) frame objects
 settled_state s frame objects call null full answer h = record {
   each = λ k lt. subst (λ (a : Abs). IsOf (calls_of objects) a (get_or frame.registers k None)) (sym (get_or-map (settled_value call null) s.registers k Unset Unset (omega (arith, full.whole, lt)))) (settled_sound (calls_of objects) call null (get_or s.registers k Unset) (get_or frame.registers k None) answer (h.each k lt));
-  words = λ w lt. subst (λ (x : Word). IsOfCells (calls_of objects) x (λ j. cell_at frame.stack (8 * w + j))) (sym (word_settled call null s.words w (omega (arith, full.deep, lt)))) (settled_cells (calls_of objects) call null (word_of s.words w) (λ j. cell_at frame.stack (8 * w + j)) answer (h.words w lt));
+  words = λ w lt. subst (λ (x : Word). IsOfCells (calls_of objects) x (λ j. cell_at frame.stack (8 * w + j))) (sym (word_settled call null s.words w (omega (arith, full.deep, lt)))) (settled_cells (calls_of objects) call null (word_of s.words w) (λ j. cell_at frame.stack (8 * w + j)) (λ a v. settled_sound (calls_of objects) call null a v answer) (h.words w lt));
   held = settled_references call null s.held objects answer h.held;
 }

@@ -1,6 +1,4 @@
 pub mod ListLemmas
-pub mod Words
-pub mod Loads
 pub mod Bounded
 pub mod ValueJoins
 pub mod Words

@@ -1,5 +1,5 @@
--- A load gives a value of which that is known which its rule says.
-use Rattle.std.proofs.Common.{◌≡◌, ℕ, zero, suc, ◌+◌, ◌-◌, ◌*◌, ◌/◌, ◌%◌, ◌^◌, ◌<◌, ◌≤◌, ℤ, pos, ◌+ℤ◌, ◌≤ℤ◌, Bool, true, false, cond, not, ◌&&◌, ◌||◌, List, [], ◌∷◌, length, get_or, drop, All, Option, Some, None, Result, Ok, Err, inl, inr, ◌⊎◌, refl, sym, ap, ◌∙◌, subst, arith}
+-- What is known of what is loaded speaks of it: of a load from the stack that is not refused, and of one from the context.
+use Rattle.std.proofs.Common.{◌≡◌, ℕ, zero, suc, ◌+◌, ◌-◌, ◌*◌, ◌/◌, ◌%◌, ◌^◌, ◌<◌, ◌≤◌, ℤ, pos, ◌+ℤ◌, ◌≤ℤ◌, Bool, true, false, cond, not, ◌&&◌, ◌||◌, List, [], ◌∷◌, length, get_or, drop, All, Option, Some, None, Result, Ok, inl, inr, ◌⊎◌, refl, sym, ap, ◌∙◌, subst, arith}
 use Rattle.std.specs.Prelude.{◌==◌, bit_and, int_le, nat_lt, nat_abs, slice_index}
 use Rattle.std.specs.Ordering.{int_eq}
 use Rattle.std.specs.Int.{bit_at, byte_at, bytes_low_first}
@@ -39,7 +39,7 @@ use Rattle.ebpf_machine.specs.Values.{Trap}
 use Rattle.ebpf_machine.specs.Cells.{cell_at, cell_of, is_same_pointer, is_part, are_parts, pointer_from, with_byte, number_from, extended, loaded_number, loaded_word, loaded_at, context_place, read_at}
 use Rattle.ebpf_machine.specs.Concretization.{IsOf, IsByte, IsOfCells}
 use Rattle.ebpf_machine.specs.Sound.{FitsValue, FitsCell}
-use Rattle.ebpf_machine.proofs.Words.{AreOfCells, number_byte, bytes_few, placed_inside, covered_inside}
+use Rattle.ebpf_machine.proofs.Words.{AreOfCells, word_cells, plain_byte, bytes_few, placed_inside, covered_inside}
 
 -- a load gives a value of which this is known, whatever names are one
 pub record IsLoaded (calls : List ℕ) (known : Abs) (load : (ℕ → ℕ → Bool) → Result (Value ℕ) Trap) : Type 0 where
@@ -80,15 +80,6 @@ bytes_number stack place (suc n) h =
 
 -- ---- the bytes that are read
 
--- a value that is neither a pointer nor may be one is a number
-plain_byte : (calls : List ℕ) (a : Abs) (v : Value ℕ) (j : ℕ) → is_unset a ≡ false → may_point a ≡ false → IsOf calls a (Some v) → IsByte (cell_of v j)
-plain_byte calls (Num a) v j set plain h = number_byte calls a v j h
-plain_byte calls Unset v j set plain h = absurd (cc)
-plain_byte calls (Stk k) v j set plain h = absurd (cc)
-plain_byte calls (Ctx a b) v j set plain h = absurd (cc)
-plain_byte calls (Ob r a b) v j set plain h = absurd (cc)
-plain_byte calls (May r) v j set plain h = absurd (cc)
-
 not_split : (none point : Bool) → none ≡ false → (not none && point) ≡ false → point ≡ false
 not_split false point e h = h
 not_split true point e h = absurd (cc)
@@ -110,6 +101,7 @@ no_fault : (a b c d : Bool) → first_of ((a || b, UnsetByte) ∷ (c || d, Split
 no_fault false false false false e = (refl, refl, refl, refl)
 no_fault _ _ _ _ e = absurd (cc)
 
+-- what is tested of a word that they lie in
 abbrev unset_at : ℕ → ℕ → List Word → ℕ → Bool
 unset_at place bytes words w = is_unset_in (covered place bytes w) (word_of words w)
 
@@ -124,7 +116,7 @@ read_bytes calls words stack place bytes h few fits e i low high = by (cases_lt 
       let same : 8 * w + i % 8 ≡ i = omega arith in
       let lt : i % 8 < 8 = omega arith in
       subst (λ (k : ℕ). IsByte (cell_at stack k)) same
-      (readable calls (word_of words w) (λ (j : ℕ). cell_at stack (8 * w + j)) (covered place bytes w) (i % 8) (h w (omega arith)) set whole lt
+      (readable calls (word_of words w) (word_cells stack w) (covered place bytes w) (i % 8) (h w (omega arith)) set whole lt
       (covered_inside place bytes w (i % 8) lt (omega arith) (omega arith)))
 
   by : (i / 8 < place / 8 + 1) ⊎ (place / 8 + 1 ≤ i / 8) → IsByte (cell_at stack i)
@@ -237,9 +229,9 @@ spill_loaded calls a (Number n) stack place signed fit set of h =
       fits = tt;
       of = of;
       is = λ is_same one.
-      ap (λ (p : Option (Value ℕ)). loaded_word p (number_from stack place 8) 8 signed) (no_pointer is_same (cell_at stack place) stack place first)
-      ∙ ap (λ (o : Option ℕ). loaded_number {N = ℕ} o 8 signed) (number_again stack place n fits h)
-      ∙ ap (λ (m : ℕ). Ok (Number m)) (number_same signed n fits);
+          ap (λ (p : Option (Value ℕ)). loaded_word p (number_from stack place 8) 8 signed) (no_pointer is_same (cell_at stack place) stack place first)
+          ∙ ap (λ (o : Option ℕ). loaded_number {N = ℕ} o 8 signed) (number_again stack place n fits h)
+          ∙ ap (λ (m : ℕ). Ok (Number m)) (number_same signed n fits);
     }
 spill_loaded calls a (Pointer base k) stack place signed fit set of h =
     let start : place ≡ place + 0 = omega arith in
@@ -248,7 +240,7 @@ spill_loaded calls a (Pointer base k) stack place signed fit set of h =
       fits = subst FitsCell (ap (cell_at stack) start ∙ h 0 (omega arith)) (fits_at stack place fit);
       of = of;
       is = λ is_same one.
-      ap (λ (p : Option (Value ℕ)). loaded_word p (number_from stack place 8) 8 signed) (pointer_again is_same (Pointer base k) stack place (pointer_same is_same (Pointer base k) (λ n e. absurd (cc)) one) h);
+          ap (λ (p : Option (Value ℕ)). loaded_word p (number_from stack place 8) 8 signed) (pointer_again is_same (Pointer base k) stack place (pointer_same is_same (Pointer base k) (λ n e. absurd (cc)) one) h);
     }
 
 word_loaded : (calls : List ℕ) (known : Abs) (word : Word) (fault : Option StackFault) (stack : List (Cell ℕ)) (place : ℕ) (signed : Bool) → All FitsCell stack → IsOfCells calls word (λ j. cell_at stack (place + j)) → (fault ≡ None → (i : ℕ) → place ≤ i → i < place + 8 → IsByte (cell_at stack i)) → state.loaded_word word fault 8 signed ≡ Ok known → IsLoaded calls known (word_at stack place signed)

@@ -19,17 +19,22 @@ use Rattle.ebpf_state.specs.Abstract.{is_unset, joined_value}
 use Rattle.ebpf_state.specs.Words.{joined_word, spill_or_nothing}
 use Rattle.ebpf_state.specs.References.{answer_known, settled_value, settled_word}
 use Rattle.ebpf_state.specs.States.{first_state}
-use Rattle.ebpf_state.specs.Stack.{bytes_in, place_of, covered, word_of}
+use Rattle.ebpf_state.specs.Stack.{may_point, bytes_in, place_of, covered, word_of}
 use Rattle.ebpf_machine.specs.declared.value.Value.{Value}
 use Rattle.ebpf_machine.specs.declared.value.Value.TheVariants.{Number, Pointer}
 use Rattle.ebpf_machine.specs.declared.value.Cell.{Cell}
 use Rattle.ebpf_machine.specs.Values.{empty_stack}
 use Rattle.ebpf_machine.specs.Cells.{cell_at, cell_of}
 use Rattle.ebpf_machine.specs.Concretization.{IsOf, IsByte, IsOfCells}
+use Rattle.ebpf_machine.proofs.ValueJoins.{IsOf-joined_left, IsOf-joined_right}
 
 -- the words of a stack are known so
 abbrev pub AreOfCells : List ℕ → List Word → List (Cell ℕ) → Type 0
 AreOfCells calls words stack = (w : ℕ) → w < 64 → IsOfCells calls (word_of words w) (λ j. cell_at stack (8 * w + j))
+
+-- the cells of a word
+abbrev pub word_cells : List (Cell ℕ) → ℕ → ℕ → Cell ℕ
+word_cells stack w j = cell_at stack (8 * w + j)
 
 -- what is known of a word speaks of the same cells under another name
 pub same_cells : (calls : List ℕ) (word : Word) (old new : ℕ → Cell ℕ) → ((j : ℕ) → j < 8 → old j ≡ new j) → IsOfCells calls word old → IsOfCells calls word new
@@ -44,6 +49,15 @@ nothing_known calls cells j lt e = absurd (omega (arith, bit_at-zero j))
 pub number_byte : (calls : List ℕ) (a : Range) (v : Value ℕ) (j : ℕ) → IsOf calls (Num a) (Some v) → IsByte (cell_of v j)
 number_byte calls a (Number n) j h = tt
 number_byte calls a (Pointer base k) j h = absurd h
+
+-- a value that is neither a pointer nor may be one is a number
+pub plain_byte : (calls : List ℕ) (a : Abs) (v : Value ℕ) (j : ℕ) → is_unset a ≡ false → may_point a ≡ false → IsOf calls a (Some v) → IsByte (cell_of v j)
+plain_byte calls (Num a) v j set plain h = number_byte calls a v j h
+plain_byte calls Unset v j set plain h = absurd (cc)
+plain_byte calls (Stk k) v j set plain h = absurd (cc)
+plain_byte calls (Ctx a b) v j set plain h = absurd (cc)
+plain_byte calls (Ob r a b) v j set plain h = absurd (cc)
+plain_byte calls (May r) v j set plain h = absurd (cc)
 
 -- ---- joins
 
@@ -60,21 +74,20 @@ left_spilled calls (May r) v cells of same = (v, of, same, refl)
 spilled_bytes : (calls : List ℕ) (a : Range) (mask : ℕ) (cells : ℕ → Cell ℕ) → IsOfCells calls (Spill (Num a)) cells → IsOfCells calls (Bytes mask) cells
 spilled_bytes calls a mask cells h = λ j lt e. subst IsByte (sym (h.2 j lt)) (number_byte calls a h.0 j h.1)
 
--- A join of words speaks of the cells that either side speaks of, where one of values does: the lemma on values is an argument, since
--- the file that has it stands above this one.
-pub joined_cells_left : (calls : List ℕ) (a b : Word) (cells : ℕ → Cell ℕ) → ((x y : Abs) (v : Option (Value ℕ)) → IsOf calls x v → IsOf calls (joined_value x y) v) → IsOfCells calls a cells → IsOfCells calls (joined_word a b) cells
-joined_cells_left calls (Bytes a) (Bytes b) cells values h = λ j lt e. h j lt (omega (arith, bit_at_and a b j, bit_at-lt a j))
-joined_cells_left calls (Spill (Num a)) (Bytes b) cells values h = spilled_bytes calls a b cells h
-joined_cells_left calls (Bytes a) (Spill (Num b)) cells values h = h
-joined_cells_left calls (Spill a) (Spill b) cells values h = left_spilled calls (joined_value a b) h.0 cells (values a b (Some h.0) h.1) h.2
-joined_cells_left calls _ _ cells values h = nothing_known calls cells
+-- a join of words speaks of the cells that either side speaks of
+pub joined_cells_left : (calls : List ℕ) (a b : Word) (cells : ℕ → Cell ℕ) → IsOfCells calls a cells → IsOfCells calls (joined_word a b) cells
+joined_cells_left calls (Bytes a) (Bytes b) cells h = λ j lt e. h j lt (omega (arith, bit_at_and a b j, bit_at-lt a j))
+joined_cells_left calls (Spill (Num a)) (Bytes b) cells h = spilled_bytes calls a b cells h
+joined_cells_left calls (Bytes a) (Spill (Num b)) cells h = h
+joined_cells_left calls (Spill a) (Spill b) cells h = left_spilled calls (joined_value a b) h.0 cells (IsOf-joined_left calls a b (Some h.0) h.1) h.2
+joined_cells_left calls _ _ cells h = nothing_known calls cells
 
-pub joined_cells_right : (calls : List ℕ) (a b : Word) (cells : ℕ → Cell ℕ) → ((x y : Abs) (v : Option (Value ℕ)) → IsOf calls y v → IsOf calls (joined_value x y) v) → IsOfCells calls b cells → IsOfCells calls (joined_word a b) cells
-joined_cells_right calls (Bytes a) (Bytes b) cells values h = λ j lt e. h j lt (omega (arith, bit_at_and a b j, bit_at-lt b j))
-joined_cells_right calls (Spill (Num a)) (Bytes b) cells values h = h
-joined_cells_right calls (Bytes a) (Spill (Num b)) cells values h = spilled_bytes calls b a cells h
-joined_cells_right calls (Spill a) (Spill b) cells values h = left_spilled calls (joined_value a b) h.0 cells (values a b (Some h.0) h.1) h.2
-joined_cells_right calls _ _ cells values h = nothing_known calls cells
+pub joined_cells_right : (calls : List ℕ) (a b : Word) (cells : ℕ → Cell ℕ) → IsOfCells calls b cells → IsOfCells calls (joined_word a b) cells
+joined_cells_right calls (Bytes a) (Bytes b) cells h = λ j lt e. h j lt (omega (arith, bit_at_and a b j, bit_at-lt b j))
+joined_cells_right calls (Spill (Num a)) (Bytes b) cells h = h
+joined_cells_right calls (Bytes a) (Spill (Num b)) cells h = spilled_bytes calls b a cells h
+joined_cells_right calls (Spill a) (Spill b) cells h = left_spilled calls (joined_value a b) h.0 cells (IsOf-joined_right calls a b (Some h.0) h.1) h.2
+joined_cells_right calls _ _ cells h = nothing_known calls cells
 
 -- ---- null tests
 
@@ -90,7 +103,8 @@ settled_set call null (Stk k) set = refl
 settled_set call null (Ctx a b) set = refl
 settled_set call null (Ob r a b) set = refl
 
--- a word that is known once an answer is, where this is so of each value
+-- A word, once it is known whether an answer is null: what holds of each value is an argument, since the file that has it stands on
+-- this one.
 pub settled_cells : (calls : List ℕ) (call : ℕ) (null : Bool) (word : Word) (cells : ℕ → Cell ℕ) → ((a : Abs) (v : Option (Value ℕ)) → IsOf calls a v → IsOf calls (settled_value call null a) v) → IsOfCells calls word cells → IsOfCells calls (settled_word call null word) cells
 settled_cells calls call null (Spill a) cells values h = (h.0, values a (Some h.0) h.1, h.2, settled_set call null a h.3)
 settled_cells calls call null (Bytes mask) cells values h = h
@@ -98,7 +112,7 @@ settled_cells calls call null (Bytes mask) cells values h = h
 -- ---- the first state
 
 pub first_cells : AreOfCells [] first_state.words empty_stack
-first_cells w lt = subst (λ (word : Word). IsOfCells [] word (λ j. cell_at empty_stack (8 * w + j))) (sym (get_or-replicate 64 w (Bytes 0) (Bytes 0) lt)) (nothing_known [] (λ j. cell_at empty_stack (8 * w + j)))
+first_cells w lt = subst (λ (word : Word). IsOfCells [] word (word_cells empty_stack w)) (sym (get_or-replicate 64 w (Bytes 0) (Bytes 0) lt)) (nothing_known [] (word_cells empty_stack w))
 
 -- ---- the bytes of a load or a store
 

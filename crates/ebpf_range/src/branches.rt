@@ -11,6 +11,8 @@ use ebpf_insn::insn::{Cond, Width};
 
 /// What is known of both operands where a branch is taken, or where it is not: the row of the condition, or of its
 /// opposite. `None` says that the branch never goes that way.
+// Callers ask for both ways, one after the other: in line, what each way tests alike is tested once.
+#[inline(always)]
 pub fn refine(cond: Cond, width: Width, a: Range, b: Range, taken: bool) -> Option<(Range, Range)>
     requires left { a.lo ≤ a.hi }
     requires right { b.lo ≤ b.hi }
@@ -22,6 +24,7 @@ pub fn refine(cond: Cond, width: Width, a: Range, b: Range, taken: bool) -> Opti
 }
 
 // What the table says of a branch.
+#[inline(always)]
 fn refinement(cond: Cond, width: Width, a: Range, b: Range, taken: bool) -> Option<(Range, Range)>
     requires left { a.lo ≤ a.hi }
     requires right { b.lo ≤ b.hi }

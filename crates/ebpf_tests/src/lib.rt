@@ -23,6 +23,8 @@ mod library;
 #[cfg(test)]
 mod machine;
 #[cfg(test)]
+mod memory;
+#[cfg(test)]
 mod one;
 #[cfg(test)]
 mod programs;

@@ -8,7 +8,7 @@ use ebpf_insn::insn::Size;
 use ebpf_insn::register::Reg;
 use ebpf_range::range::Range;
 use ebpf_state::kinds::kinds;
-use ebpf_state::stack::{StackFault, StoreFault};
+use ebpf_state::stack::{StackFault, StoreFault, bytes_in, is_whole_word, loaded_range, place_of};
 use ebpf_state::state::State;
 use ebpf_state::value::Abs;
 use ebpf_state::word::Word;
@@ -189,4 +189,16 @@ fn the_stack_is_stored_to_and_loaded_from(rt: HostRuntime) {
     let below = state.store(Size::B, -513, number(0));
     let is_outside = matches!(below, Err(StoreFault::Refused(StackFault::Bounds)));
     holds(&rt, "below the stack", is_outside);
+}
+
+#[test]
+fn bytes_of_the_stack_have_their_place(rt: HostRuntime) {
+    holds(&rt, "two bytes", bytes_in(Size::H) == 2);
+    holds(&rt, "the lowest word", place_of(-512, 8) == Some(0));
+    holds(&rt, "a byte behind it", place_of(-7, 8).is_none());
+    let only_words = is_whole_word(8, 8) && !is_whole_word(4, 8) && !is_whole_word(8, 4);
+    holds(&rt, "aligned words", only_words);
+    let pair = loaded_range(2, false);
+    holds(&rt, "two bytes", pair.lo == 0 && pair.hi == 65_535);
+    holds(&rt, "with their sign", loaded_range(2, true).hi == u64::MAX);
 }

@@ -31,19 +31,13 @@ impl EntryState {
     }
 
     /// Adds one more state to what comes, which takes no memory.
+    #[inline]
     pub(crate) fn take(&mut self, state: State)
         ensures { self.new ≡ with_state self.old state }
     {
-        let differs = match self {
-            EntryState::Unreached => {
-                *self = EntryState::Known(state);
-                return;
-            }
-            EntryState::Known(known) => !known.join_with(&state),
-            EntryState::Conflict => false,
-        };
-        if differs {
-            *self = EntryState::Conflict;
+        match self {
+            EntryState::Unreached => *self = EntryState::Known(state),
+            _ => self.join(&state),
         }
     }
 
@@ -54,17 +48,26 @@ impl EntryState {
     pub(crate) fn add(&mut self, state: &State) -> Result<(), AllocError>
         ensures { OnOk result (self.new ≡ with_state self.old state.now) }
     {
+        match self {
+            EntryState::Unreached => *self = EntryState::Known(state.copy()?),
+            _ => self.join(state),
+        }
+        Ok(())
+    }
+
+    // Adds one more state to what comes where some came before. It stands apart, so that callers are short for the slots to
+    // which one state comes, as most are.
+    #[inline(never)]
+    fn join(&mut self, state: &State)
+        requires { self.old ≡ Unreached → ⊥ }
+        ensures { self.new ≡ with_state self.old state.now }
+    {
         let differs = match self {
-            EntryState::Unreached => {
-                *self = EntryState::Known(state.copy()?);
-                false
-            }
             EntryState::Known(known) => !known.join_with(state),
-            EntryState::Conflict => false,
+            _ => false,
         };
         if differs {
             *self = EntryState::Conflict;
         }
-        Ok(())
     }
 }

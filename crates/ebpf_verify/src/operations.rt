@@ -4,7 +4,8 @@ ghost use Rattle.std.specs.Prelude.{◌≡◌, ◌≤◌, OnOk, IfOk, IfErr, Som
 ghost use Rattle.ebpf_range.specs.Interval.{constant};
 ghost use Rattle.ebpf_state.specs.declared.value.Abs.{Abs};
 ghost use Rattle.ebpf_state.specs.Abstract.{IsProper};
-ghost use Rattle.ebpf_verify.specs.Operations.{is_frame_pointer, constant_refusal, mov64_refusal, unary_refusal, binary_refusal, makes_stack_offset_vary, add64_refusal, sub64_refusal, alu_refusal, result_of};
+ghost use Rattle.ebpf_state.specs.States.{register_of};
+ghost use Rattle.ebpf_verify.specs.Operations.{is_frame_pointer, constant_refusal, mov64_refusal, unary_refusal, binary_refusal, makes_stack_offset_vary, add64_refusal, sub64_refusal, alu_refusal, binary_value, result_of};
 ghost use Rattle.ebpf_verify.specs.Pointers.{sum_value, difference_value};
 
 use crate::fault::VerifyCode;
@@ -14,32 +15,30 @@ use ebpf_insn::register::Reg;
 use ebpf_range::range::Range;
 use ebpf_range::results::alu;
 use ebpf_range::sums::low;
+use ebpf_state::state::State;
 use ebpf_state::value::Abs;
 
-/// What is known of the result of an operation, or the first code that refuses it.
+/// What is known of the result of an operation on a register and another operand, or the first code that refuses it. `mov`
+/// doesn't read the register.
 pub(crate) fn alu_value(
     width: Width,
     op: AluOp,
-    left: Abs,
-    right: Abs,
     dst: Reg,
+    right: Abs,
+    state: &State,
 ) -> Result<Abs, VerifyCode>
-    requires left { IsProper left }
-    requires right { IsProper right }
-    ensures fine { OnOk result (alu_refusal width op left right dst ≡ None) }
-    ensures value { IfOk result (λ value. value ≡ result_of width op left right) }
+    requires { IsProper right }
+    ensures fine { OnOk result (alu_refusal width op (register_of state.now dst) right dst ≡ None) }
+    ensures value { IfOk result (λ value. value ≡ result_of width op (register_of state.now dst) right) }
     ensures proper { IfOk result IsProper }
-    ensures refused { IfErr result (λ code. alu_refusal width op left right dst ≡ Some code) }
+    ensures refused { IfErr result (λ code. alu_refusal width op (register_of state.now dst) right dst ≡ Some code) }
 {
     match (width, op) {
         (Width::W64, AluOp::Mov) => mov64(right, dst),
         (Width::W32, AluOp::Mov) => Ok(Abs::Num(low(one_number(right, dst)?))),
-        (Width::W64, AluOp::Add) => add64(left, right, dst),
-        (Width::W64, AluOp::Sub) => sub64(left, right, dst),
-        _ => {
-            let (a, b) = two_numbers(left, right, dst)?;
-            Ok(Abs::Num(alu(op, width, a, b)))
-        }
+        (Width::W64, AluOp::Add) => add64(state.reg(dst), right, dst),
+        (Width::W64, AluOp::Sub) => sub64(state.reg(dst), right, dst),
+        _ => binary(op, width, state.reg(dst), right, dst),
     }
 }
 
@@ -89,20 +88,19 @@ pub(crate) fn one_number(src: Abs, dst: Reg) -> Result<Range, VerifyCode>
     }
 }
 
-// The operands of an operation on two numbers, or the first code that refuses it.
-fn two_numbers(left: Abs, right: Abs, dst: Reg) -> Result<(Range, Range), VerifyCode>
+// An operation on two numbers.
+fn binary(op: AluOp, width: Width, left: Abs, right: Abs, dst: Reg) -> Result<Abs, VerifyCode>
     requires left { IsProper left }
     requires right { IsProper right }
     ensures fine { OnOk result (binary_refusal left right dst ≡ None) }
-    ensures left { IfOk result (λ p. left ≡ Abs.Num p.0) }
-    ensures right { IfOk result (λ p. right ≡ Abs.Num p.1) }
-    ensures ordered { IfOk result (λ p. (p.0.lo ≤ p.0.hi) × (p.1.lo ≤ p.1.hi)) }
+    ensures value { IfOk result (λ value. value ≡ binary_value op width left right) }
+    ensures proper { IfOk result IsProper }
     ensures refused { IfErr result (λ code. binary_refusal left right dst ≡ Some code) }
 {
     match (left, right) {
         (Abs::Unset, _) | (_, Abs::Unset) => Err(VerifyCode::V1),
         _ if is_frame_pointer(dst) => Err(VerifyCode::V2),
-        (Abs::Num(a), Abs::Num(b)) => Ok((a, b)),
+        (Abs::Num(a), Abs::Num(b)) => Ok(Abs::Num(alu(op, width, a, b))),
         (Abs::May(_), _) | (_, Abs::May(_)) => Err(VerifyCode::V11),
         _ => Err(VerifyCode::V3),
     }

@@ -180,7 +180,8 @@ fn branch_on(
     }
 }
 
-// Sends along each edge of a null test whether the answer of the call is null there.
+// Sends along each edge of a null test whether the answer of the call is null there. It stands apart from what most slots do.
+#[inline(never)]
 fn settle_on(
     call: u16,
     cond: Cond,
@@ -234,8 +235,8 @@ fn refine_on(
     Ok(())
 }
 
-// Sends a state along both edges of a comparison. It is copied only where nothing came to either of two targets before: what
-// goes first is copied to a target that nothing came to, and what goes last never is.
+// Sends a state along both edges of a comparison. What goes first is copied where nothing came to its slot before, and what goes
+// last never is; so the edge to a slot that was reached goes first.
 fn send_both(
     branch: Branch,
     taken: (Range, Range),
@@ -278,7 +279,8 @@ fn fall_goes_first(edges: Edges, entries: &[EntryState]) -> bool
     }
 }
 
-// Sends a state along an edge.
+// Sends a state along an edge. Where nothing came to its target that is two stores, so it stands in each caller.
+#[inline(always)]
 fn send(entries: &mut Vec<EntryState>, edge: Option<u16>, state: State)
     requires { IfSome edge (λ to. to < length entries.old.items) }
     ensures len { length entries.new.items ≡ length entries.old.items }
@@ -290,6 +292,7 @@ fn send(entries: &mut Vec<EntryState>, edge: Option<u16>, state: State)
 }
 
 // Sends what a state says along an edge, and keeps the state.
+#[inline(always)]
 fn add(entries: &mut Vec<EntryState>, edge: Option<u16>, state: &State) -> Result<(), AllocError>
     requires { IfSome edge (λ to. to < length entries.old.items) }
     ensures len { length entries.new.items ≡ length entries.old.items }

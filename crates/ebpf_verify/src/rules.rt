@@ -43,7 +43,7 @@ pub(crate) fn operation(decl: Decl, insn: &Insn, state: &State) -> Result<(Reg, 
             src,
         } => {
             let right = operand(state, width, src);
-            let value = alu_value(width, op, state.reg(dst), right, dst)?;
+            let value = alu_value(width, op, dst, right, state)?;
             Ok((dst, value))
         }
         Insn::Sext {

@@ -10,8 +10,7 @@
 //!
 //! *The reason.* All edges lead forward, since the flow was checked. So when a slot is visited, all that will ever come there
 //! has come: one visit a slot is enough, there is nothing to iterate to, and the verdict takes time linear in the slots. A
-//! state goes on along the fall as it is; it is copied only where a branch sends it two ways and nothing has come to its
-//! target before.
+//! state goes on as it is; it is copied only where a branch sends it to two slots and nothing has come to either before.
 
 ghost use Rattle.std.specs.Prelude.{◌≡◌, ◌≤◌, ◌<◌, ◌==◌, if◌then◌else◌, ℕ, IfErr, IfOk, IfSome, OnOk, None, Some, Option, length, slice_index_or, slice_set, All};
 ghost use Rattle.ebpf_insn.specs.declared.insn.Insn.{Insn};
