@@ -46,7 +46,12 @@ fn load_from(
 {
     match base {
         Base::Stack => stack.load(stack_place(from, offset), size, signed),
-        Base::Context => Value::Number(number_at(context, context_place(from, offset), size, signed)),
+        Base::Context => Value::Number(number_at(
+            context,
+            context_place(from, offset),
+            size,
+            signed,
+        )),
         Base::Object(_) => unreachable!(),
     }
 }

@@ -73,11 +73,7 @@ impl Stack {
 }
 
 // The pointer that the bytes hold, where they are an aligned word.
-fn pointer_at(
-    pointers: &[Option<Value<u16>>; 64],
-    place: usize,
-    bytes: usize,
-) -> Option<Value<u16>>
+fn pointer_at(pointers: &[Option<Value<u16>>; 64], place: usize, bytes: usize) -> Option<Value<u16>>
     requires { place + bytes ≤ 512 }
     ensures { result ≡ (if is_whole_word place bytes then slice_index_or pointers.now (place / 8) None else None) }
 {

@@ -15,4 +15,4 @@ load-value-requires c =
 pub returns-in-Load-clause-effect : goal.returns-in-Load-clause-effect
 returns-in-Load-clause-effect c = λ pc a output around fine.
     load_does c.args.insn.now c.in-Load.size c.in-Load.signed c.in-Load.dst c.in-Load.base c.in-Load.offset _ pc a c.args.registers.now c.args.stack.now output c.load-value.result c.read.result c.number.result
-        c.in-Load.is (to_z-of_z w16 c.in-Load.offset (search rules)) c.read.ensures c.number.ensures.value (c.load-value.ensures a around) fine
+    c.in-Load.is (to_z-of_z w16 c.in-Load.offset (search rules)) c.read.ensures c.number.ensures.value (c.load-value.ensures a around) fine

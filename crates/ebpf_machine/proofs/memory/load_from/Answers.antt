@@ -6,8 +6,8 @@ use Rattle.ebpf_state.specs.Stack.{bytes_in}
 use Rattle.ebpf_machine.specs.declared.value.Base.{Base}
 use Rattle.ebpf_machine.specs.declared.value.Base.TheVariants as base
 use Rattle.ebpf_machine.specs.declared.value.Value.TheVariants.{Pointer}
-use Rattle.ebpf_machine.specs.Effect.{Around, loaded}
-use Rattle.ebpf_machine.specs.Flows.{IsAround, IsResult}
+use Rattle.ebpf_machine.specs.Effect.{loaded}
+use Rattle.ebpf_machine.specs.Flows.{IsResult}
 use Rattle.ebpf_machine.proofs.Accesses.{IsPlaced, load_placed, load_fine, load_is}
 use Rattle.ebpf_machine.proofs.memory.load_from.Goals.{After-stack_place}
 use Rattle.ebpf_machine.proofs.memory.load_from.Goals as goal
