@@ -32,9 +32,8 @@ use Rattle.ebpf_machine.specs.declared.value.Value.TheVariants.{Number, Pointer}
 use Rattle.ebpf_machine.specs.declared.value.Base.TheVariants.{Stack, Context, Object}
 use Rattle.ebpf_machine.specs.Effect.{is_taken}
 use Rattle.ebpf_state.specs.declared.word.Word.{Word}
-use Rattle.ebpf_state.specs.declared.word.Word.TheVariants.{Spill, Bytes}
+use Rattle.ebpf_state.specs.declared.word.Word.TheVariants.{Bytes}
 use Rattle.ebpf_state.specs.Stack.{word_of}
-use Rattle.ebpf_machine.specs.declared.value.Cell.{Cell}
 use Rattle.ebpf_machine.specs.Values.{Frame}
 use Rattle.ebpf_machine.specs.Cells.{cell_at}
 use Rattle.ebpf_machine.specs.View.{ObjectView}

@@ -13,7 +13,6 @@ use Rattle.ebpf_verify.specs.declared.entry.EntryState.{EntryState}
 use Rattle.ebpf_verify.specs.declared.entry.EntryState.TheVariants.{Unreached, Known, Conflict}
 use Rattle.ebpf_verify.specs.Rules.{after_fall, after_jump}
 use Rattle.ebpf_verify.specs.Entry.{with_edge, with_sent, arrived, entry_of}
-use Rattle.ebpf_machine.specs.declared.value.Value.{Value}
 use Rattle.ebpf_machine.specs.Values.{Frame}
 use Rattle.ebpf_machine.specs.View.{ObjectView}
 use Rattle.ebpf_machine.specs.Concretization.{AreOf, Arrives}

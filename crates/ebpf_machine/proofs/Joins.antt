@@ -1,14 +1,9 @@
 -- A join of two states speaks of what either side speaks of.
-use Rattle.std.proofs.Common.{◌≡◌, ℕ, zero, suc, ◌+◌, ◌*◌, ◌<◌, ◌≤◌, min, max, ℤ, ◌≤ℤ◌, Bool, true, false, cond, eqb, List, [], ◌∷◌, length, get_or, Option, Some, None, refl, sym, ap, ◌∙◌, subst, arith, rules}
-use Rattle.std.specs.Prelude.{Contains, ◌&&◌}
-use Rattle.std.specs.Ordering.{int_eq}
-use Rattle.std.specs.Int.{int_min, int_max}
-use Rattle.std.proofs.lemmas.Bool.Decides.{nat_tests}
+use Rattle.std.proofs.Common.{◌≡◌, ℕ, zero, suc, ◌+◌, ◌*◌, ◌<◌, Bool, true, false, cond, eqb, List, [], ◌∷◌, length, get_or, Some, None, refl, sym, ap, ◌∙◌, subst, arith}
+use Rattle.std.specs.Prelude.{◌&&◌}
 use Rattle.std.proofs.lemmas.List.Elements.{Contains-get_or}
-use Rattle.std.proofs.lemmas.Int.{ints}
-use Rattle.ebpf_range.specs.declared.range.Range.{Range}
 use Rattle.ebpf_state.specs.declared.value.Abs.{Abs}
-use Rattle.ebpf_state.specs.declared.value.Abs.TheVariants.{Unset, Num, Stk, Ctx, Ob, May}
+use Rattle.ebpf_state.specs.declared.value.Abs.TheVariants.{Unset}
 use Rattle.ebpf_state.specs.declared.word.Word.{Word}
 use Rattle.ebpf_state.specs.declared.word.Word.TheVariants.{Bytes}
 use Rattle.ebpf_state.specs.Stack.{word_of}
@@ -21,12 +16,8 @@ use Rattle.ebpf_state.proofs.JoinLists.{joined_list-index, joined_list-length}
 use Rattle.ebpf_verify.specs.declared.entry.EntryState.{EntryState}
 use Rattle.ebpf_verify.specs.declared.entry.EntryState.TheVariants.{Unreached, Known, Conflict}
 use Rattle.ebpf_verify.specs.Entry.{with_state, known_or_conflict}
-use Rattle.ebpf_machine.specs.declared.value.Value.{Value}
-use Rattle.ebpf_machine.specs.declared.value.Value.TheVariants.{Number, Pointer}
-use Rattle.ebpf_machine.specs.declared.value.Base.TheVariants.{Stack, Context, Object}
 use Rattle.ebpf_machine.specs.View.{ObjectView}
 use Rattle.ebpf_machine.proofs.Bounded.{IsFull, joined_registers_bounded, joined_words_bounded}
-use Rattle.ebpf_machine.specs.declared.value.Cell.{Cell}
 use Rattle.ebpf_machine.specs.Values.{Frame}
 use Rattle.ebpf_machine.specs.Cells.{cell_at}
 use Rattle.ebpf_machine.specs.Concretization.{IsOf, IsOfCells, AreOf, AreReferred, Arrives, calls_of}

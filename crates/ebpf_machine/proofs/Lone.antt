@@ -6,7 +6,6 @@ use Rattle.ebpf_insn.specs.declared.insn.Insn.{Insn}
 use Rattle.ebpf_insn.specs.Program.{insn_at, instructions}
 use Rattle.ebpf_verify.specs.Subject.{Subject}
 use Rattle.ebpf_verify.specs.Verdict.{IsAccepted}
-use Rattle.ebpf_machine.specs.declared.value.Value.{Value}
 use Rattle.ebpf_machine.specs.declared.report.Reply.{Reply}
 use Rattle.ebpf_machine.specs.declared.report.Reply.TheVariants.{Null, Granted}
 use Rattle.ebpf_machine.specs.World.{Name, Answer, Absent, World, Running, Status, Going, Exited, Trapped, held_by, holds_of, first_run}

@@ -32,7 +32,7 @@ use Rattle.ebpf_machine.specs.Effect.{loaded, stored_through, stored, rewritten}
 use Rattle.ebpf_machine.specs.View.{cell_seen}
 use Rattle.ebpf_machine.specs.Sound.{HasPointer}
 use Rattle.ebpf_machine.proofs.Acts.{effect_seen}
-use Rattle.ebpf_machine.proofs.CellsSeen.{result_seen, stack_seen, loaded_at-seen, read_at-seen, stored_at-seen, cell_points, HasPart}
+use Rattle.ebpf_machine.proofs.CellsSeen.{result_seen, stack_seen, loaded_at-seen, read_at-seen, stored_at-seen, cell_points}
 
 get_or-seen : (xs : List (Option (Value Name))) (k : ℕ) → get_or (map register_seen xs) k None ≡ register_seen (get_or xs k None)
 get_or-seen [] k = refl

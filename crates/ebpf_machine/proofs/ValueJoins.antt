@@ -1,29 +1,18 @@
 -- A join of two values speaks of what either side speaks of.
-use Rattle.std.proofs.Common.{◌≡◌, ℕ, zero, suc, ◌<◌, ◌≤◌, min, max, ℤ, ◌≤ℤ◌, Bool, true, false, cond, eqb, List, [], ◌∷◌, length, get_or, Option, Some, None, refl, sym, ap, ◌∙◌, subst, arith, rules}
-use Rattle.std.specs.Prelude.{Contains, ◌&&◌}
+use Rattle.std.proofs.Common.{◌≡◌, ℕ, ◌≤◌, min, max, ℤ, ◌≤ℤ◌, Bool, true, false, cond, eqb, List, Option, Some, refl, sym, ◌∙◌, subst, arith, rules}
+use Rattle.std.specs.Prelude.{Contains}
 use Rattle.std.specs.Ordering.{int_eq}
 use Rattle.std.specs.Int.{int_min, int_max}
 use Rattle.std.proofs.lemmas.Bool.Decides.{nat_tests}
-use Rattle.std.proofs.lemmas.List.Elements.{Contains-get_or}
 use Rattle.std.proofs.lemmas.Int.{ints}
 use Rattle.ebpf_range.specs.declared.range.Range.{Range}
 use Rattle.ebpf_state.specs.declared.value.Abs.{Abs}
 use Rattle.ebpf_state.specs.declared.value.Abs.TheVariants.{Unset, Num, Stk, Ctx, Ob, May}
-use Rattle.ebpf_state.specs.declared.held.Held.{Held}
 use Rattle.ebpf_state.specs.Abstract.{joined_value}
-use Rattle.ebpf_state.specs.Words.{joined_word}
-use Rattle.ebpf_state.specs.StateView.{StateView}
-use Rattle.ebpf_state.specs.States.{joined_list, is_same_held, is_same_reference}
-use Rattle.ebpf_state.proofs.JoinLists.{joined_list-index, joined_list-length}
-use Rattle.ebpf_verify.specs.declared.entry.EntryState.{EntryState}
-use Rattle.ebpf_verify.specs.declared.entry.EntryState.TheVariants.{Unreached, Known, Conflict}
-use Rattle.ebpf_verify.specs.Entry.{with_state, known_or_conflict}
 use Rattle.ebpf_machine.specs.declared.value.Value.{Value}
 use Rattle.ebpf_machine.specs.declared.value.Value.TheVariants.{Number, Pointer}
 use Rattle.ebpf_machine.specs.declared.value.Base.TheVariants.{Stack, Context, Object}
-use Rattle.ebpf_machine.specs.View.{ObjectView}
-use Rattle.ebpf_machine.proofs.Bounded.{IsFull, joined_registers_bounded}
-use Rattle.ebpf_machine.specs.Concretization.{IsOf, AreOf, AreReferred, Arrives, calls_of}
+use Rattle.ebpf_machine.specs.Concretization.{IsOf}
 
 -- a value that either side keeps where a test says that both are alike
 chosen : (calls : List ℕ) (t : Bool) (a : Abs) (v : Option (Value ℕ)) → (t ≡ true → IsOf calls a v) → IsOf calls (cond t a Unset) v

@@ -3,13 +3,14 @@
 ghost use Rattle.std.specs.Prelude.{◌≡◌, ◌<◌, ◌≤◌, true, false, ℕ, IfSome, IfErr, OnOk, IsSome, Option, Some, None, length, slice_index_or};
 ghost use Rattle.ebpf_flow.specs.Edges.{leads_to};
 ghost use Rattle.ebpf_insn.specs.declared.program.TheConstants.{MAX_SLOTS};
+ghost use Rattle.ebpf_insn.specs.declared.register.Reg.{Reg};
 ghost use Rattle.ebpf_range.specs.Refinements.{refinement};
 ghost use Rattle.ebpf_state.specs.StateView.{StateView};
 ghost use Rattle.ebpf_state.specs.References.{settled};
 ghost use Rattle.ebpf_state.specs.States.{register_of};
 ghost use Rattle.ebpf_verify.specs.Branches.{operand, null_test, branch_refusal, with_operands, is_null_where, after_branch};
 ghost use Rattle.ebpf_verify.specs.Memory.{store_refusal, after_store};
-ghost use Rattle.ebpf_verify.specs.Rules.{refusal, after_operation};
+ghost use Rattle.ebpf_verify.specs.Rules.{exit_refusal, refusal, after_operation};
 ghost use Rattle.ebpf_verify.specs.Verdict.{IsSlotFault};
 ghost use Rattle.ebpf_verify.specs.Entry.{with_edge, with_sent};
 
@@ -68,10 +69,7 @@ pub(crate) fn pass_on(
             };
             branch_on(branch, slot, state, edges, entries)
         }
-        Insn::Exit => match exit_refusal(state.reg(Reg::R0), state.held()) {
-            Some(code) => Err(refused_at(slot, code)),
-            None => Ok(()),
-        },
+        Insn::Exit => exit_at(slot, &state),
         Insn::Store {
             size,
             base,
@@ -91,6 +89,18 @@ pub(crate) fn refused_at(slot: usize, code: VerifyCode) -> VerifyFault
     VerifyFault::Refused {
         slot: slot as u16,
         code,
+    }
+}
+
+// Nothing goes on from an exit.
+fn exit_at(slot: usize, state: &State) -> Result<(), VerifyFault>
+    requires { slot < MAX_SLOTS }
+    ensures fine { OnOk result (exit_refusal (register_of state.now Reg.R0) (length state.now.held) ≡ None) }
+    ensures refused { IfErr result (IsSlotFault slot (exit_refusal (register_of state.now Reg.R0) (length state.now.held))) }
+{
+    match exit_refusal(state.reg(Reg::R0), state.held()) {
+        Some(code) => Err(refused_at(slot, code)),
+        None => Ok(()),
     }
 }
 
