@@ -1,4 +1,8 @@
 //! The stack of a run.
+//!
+//! Its bytes are kept as they are, so that a number is read and written as a whole wherever it lies. A pointer is kept beside
+//! them, by the aligned word that holds it; the word's bytes count again once one of them is written. Which bytes were written
+//! no load asks, since the verdict has ruled out that others are read: contracts alone see it.
 
 ghost use Rattle.std.specs.Prelude.{◌≡◌, ℕ, ◌≤◌, ◌<◌, ◌+◌, ◌-◌, ◌/◌, ◌*◌, true, false, ◌==◌, ◌&&◌, if◌then◌else◌, is_ok, is_some, None, Some, Ok, slice_index_or, slice_set, Bool, List, length};
 ghost use Rattle.std.specs.Int.{byte_at};
@@ -17,7 +21,9 @@ use std::marker::Model;
 #[derive(Drop)]
 pub(crate) struct Stack {
     bytes: [u8; 512],
+    /// Which of them were written.
     set: [bool; 512],
+    /// The pointers that words hold.
     pointers: [Option<Value<u16>>; 64],
 }
 
@@ -32,6 +38,7 @@ impl Model for Stack {
 }
 
 impl Stack {
+    /// A stack to which nothing was stored.
     pub(crate) fn new() -> Stack
         ensures { result ≡ empty_stack }
     {
@@ -42,7 +49,7 @@ impl Stack {
         }
     }
 
-    /// The value of the bytes at a place, which are set, and no part of a pointer.
+    /// The value of the bytes at a place: a pointer, where they are a word that holds one, else a number.
     pub(crate) fn load(&self, place: usize, size: Size, signed: bool) -> Value<u16>
         requires inside { place + bytes_in size ≤ 512 }
         requires loads { (is_same : ℕ → ℕ → Bool) × IsReflexive is_same × (is_ok (loaded_at is_same (Some place) (bytes_in size) signed self.now) ≡ true) }
