@@ -65,10 +65,10 @@ pointer-seen one seen (Number x) u alike = refl
 pointer-seen one seen (Pointer a k) (Number x) alike = refl
 pointer-seen one seen (Pointer a k) (Pointer b j) alike =
     ap (λ (t : Bool). t && int_eq k j) (base-seen one seen a b (λ n m e f. named n m e f)) where
-  named : (n m : Name) → a ≡ Object n → b ≡ Object m → seen n.1 m.1 ≡ one n m
-  named n m e f = alike n m (of_object a k n e) (of_object b j m f) where
-    of_object : (base : Base Name) (k : ℤ) (n : Name) → base ≡ Object n → Names (Some (Pointer base k)) n
-    of_object base k n e = rw e refl
+      named : (n m : Name) → a ≡ Object n → b ≡ Object m → seen n.1 m.1 ≡ one n m
+      named n m e f = alike n m (of_object a k n e) (of_object b j m f) where
+        of_object : (base : Base Name) (k : ℤ) (n : Name) → base ≡ Object n → Names (Some (Pointer base k)) n
+        of_object base k n e = rw e refl
 
 part-seen : (one : Name → Name → Bool) (seen : ℕ → ℕ → Bool) (v : Value Name) (j : ℕ) (c : Cell Name) → ((n m : Name) → Names (Some v) n → NamesPart c m → seen n.1 m.1 ≡ one n m) → is_part seen (value_seen v) j (cell_seen c) ≡ is_part one v j c
 part-seen one seen v j Unset alike = refl

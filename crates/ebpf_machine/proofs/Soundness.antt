@@ -428,11 +428,11 @@ store_stepped p objects decl context k size base offset src s frame here =
           deep = it.stored.deep;
           fit = record { registers = here.fit.registers; stack = it.stored.fit };
           state = fall_arrives p k (k + 1) i s it.then after objects here.defined here.at here.entered here.full it.sends refl (omega arith)
-          (record {
-            each = λ j lt. rw it.stored.registers (here.state.each j lt);
-            words = it.stored.words;
-            held = rw it.stored.held here.state.held;
-          });
+              (record {
+                each = λ j lt. rw it.stored.registers (here.state.each j lt);
+                words = it.stored.words;
+                held = rw it.stored.held here.state.held;
+              });
         },
       );
     }

@@ -1,4 +1,8 @@
 //! The stack of a run.
+//!
+//! Its bytes are kept as they are, so that a number is read and written as a whole wherever it lies. A pointer is kept beside
+//! them, by the aligned word that holds it; the word's bytes count again once one of them is written. Which bytes were written
+//! no load asks, since the verdict has ruled out that others are read: contracts alone see it.
 
 ghost use Rattle.std.specs.Prelude.{◌≡◌, ℕ, ◌≤◌, ◌<◌, ◌+◌, ◌-◌, ◌/◌, ◌*◌, true, false, ◌==◌, ◌&&◌, if◌then◌else◌, is_ok, is_some, None, Some, Ok, slice_index_or, slice_set, Bool, List, length};
 ghost use Rattle.std.specs.Int.{byte_at};
@@ -17,7 +21,9 @@ use std::marker::Model;
 #[derive(Drop)]
 pub(crate) struct Stack {
     bytes: [u8; 512],
+    /// Which of them were written.
     set: [bool; 512],
+    /// The pointers that words hold.
     pointers: [Option<Value<u16>>; 64],
 }
 
@@ -32,6 +38,7 @@ impl Model for Stack {
 }
 
 impl Stack {
+    /// A stack to which nothing was stored.
     pub(crate) fn new() -> Stack
         ensures { result ≡ empty_stack }
     {
@@ -42,7 +49,7 @@ impl Stack {
         }
     }
 
-    /// The value of the bytes at a place, which are set, and no part of a pointer.
+    /// The value of the bytes at a place: a pointer, where they are a word that holds one, else a number.
     pub(crate) fn load(&self, place: usize, size: Size, signed: bool) -> Value<u16>
         requires inside { place + bytes_in size ≤ 512 }
         requires loads { (is_same : ℕ → ℕ → Bool) × IsReflexive is_same × (is_ok (loaded_at is_same (Some place) (bytes_in size) signed self.now) ≡ true) }
@@ -60,13 +67,11 @@ impl Stack {
         requires whole { is_pointer value ≡ true → is_whole_word place (bytes_in size) ≡ true }
         ensures { self.new ≡ stored_cells place (bytes_in size) value self.old }
     {
-        let bytes = bytes_in(size);
         match value {
             Value::Pointer { .. } => keep(&mut self.pointers, place / 8, value),
             Value::Number(n) => {
-                forget(&mut self.pointers, &mut self.set, place, bytes);
-                write_bytes(&mut self.bytes, place, bytes, n);
-                mark(&mut self.set, place, bytes);
+                forget(&mut self.pointers, &mut self.set, place, size);
+                write(&mut self.bytes, &mut self.set, place, size, n);
             }
         }
     }
@@ -93,19 +98,13 @@ fn keep(pointers: &mut [Option<Value<u16>>; 64], word: usize, pointer: Value<u16
 }
 
 // Some bytes of these words are overwritten, so what is left of a pointer in them is unset.
-fn forget(
-    pointers: &mut [Option<Value<u16>>; 64],
-    set: &mut [bool; 512],
-    place: usize,
-    bytes: usize,
-)
-    requires inside { place + bytes ≤ 512 }
-    requires some { 0 < bytes }
-    ensures pointers { (word : ℕ) → slice_index_or pointers.new word None ≡ (if touches place bytes word then None else slice_index_or pointers.old word None) }
-    ensures set { (i : ℕ) → i < 512 → slice_index_or set.new i false ≡ (if touches place bytes (i / 8) && is_some (slice_index_or pointers.old (i / 8) None) then false else slice_index_or set.old i false) }
+fn forget(pointers: &mut [Option<Value<u16>>; 64], set: &mut [bool; 512], place: usize, size: Size)
+    requires { place + bytes_in size ≤ 512 }
+    ensures pointers { (word : ℕ) → slice_index_or pointers.new word None ≡ (if touches place (bytes_in size) word then None else slice_index_or pointers.old word None) }
+    ensures set { (i : ℕ) → i < 512 → slice_index_or set.new i false ≡ (if touches place (bytes_in size) (i / 8) && is_some (slice_index_or pointers.old (i / 8) None) then false else slice_index_or set.old i false) }
 {
     forget_word(pointers, set, place / 8);
-    forget_word(pointers, set, (place + bytes - 1) / 8);
+    forget_word(pointers, set, (place + bytes_in(size) - 1) / 8);
 }
 
 // A word holds no pointer any more; of one that did no byte is set.
@@ -120,20 +119,29 @@ fn forget_word(pointers: &mut [Option<Value<u16>>; 64], set: &mut [bool; 512], w
     }
 }
 
-// Writes the low bytes of a number.
-fn write_bytes(bytes: &mut [u8; 512], place: usize, count: usize, n: u64)
-    requires inside { place + count ≤ 512 }
-    requires few { count ≤ 8 }
-    ensures { (i : ℕ) → i < 512 → slice_index_or bytes.new i 0 ≡ (if is_among place count i then byte_at (i - place) n else slice_index_or bytes.old i 0) }
+// Writes the low bytes of a number, as many as one of the sizes has.
+fn write(bytes: &mut [u8; 512], set: &mut [bool; 512], place: usize, size: Size, n: u64)
+    requires { place + bytes_in size ≤ 512 }
+    ensures long { length bytes.new ≡ 512 }
+    ensures bytes { (i : ℕ) → i < 512 → slice_index_or bytes.new i 0 ≡ (if is_among place (bytes_in size) i then byte_at (i - place) n else slice_index_or bytes.old i 0) }
+    ensures set { (i : ℕ) → i < 512 → slice_index_or set.new i false ≡ (if is_among place (bytes_in size) i then true else slice_index_or set.old i false) }
 {
-    bytes[place..place + count].copy_from_slice(&n.to_le_bytes()[..count]);
+    match size {
+        Size::B => put(bytes, set, place, 1, n),
+        Size::H => put(bytes, set, place, 2, n),
+        Size::W => put(bytes, set, place, 4, n),
+        Size::D => put(bytes, set, place, 8, n),
+    }
 }
 
-// These bytes are set.
-fn mark(set: &mut [bool; 512], place: usize, count: usize)
+// Writes so many low bytes of a number, which are set then.
+fn put(bytes: &mut [u8; 512], set: &mut [bool; 512], place: usize, count: usize, n: u64)
     requires inside { place + count ≤ 512 }
     requires few { count ≤ 8 }
-    ensures { (i : ℕ) → i < 512 → slice_index_or set.new i false ≡ (if is_among place count i then true else slice_index_or set.old i false) }
+    ensures long { length bytes.new ≡ 512 }
+    ensures bytes { (i : ℕ) → i < 512 → slice_index_or bytes.new i 0 ≡ (if is_among place count i then byte_at (i - place) n else slice_index_or bytes.old i 0) }
+    ensures set { (i : ℕ) → i < 512 → slice_index_or set.new i false ≡ (if is_among place count i then true else slice_index_or set.old i false) }
 {
+    bytes[place..place + count].copy_from_slice(&n.to_le_bytes()[..count]);
     set[place..place + count].copy_from_slice(&[true; 8][..count]);
 }

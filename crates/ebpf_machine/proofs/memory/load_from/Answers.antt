@@ -2,13 +2,13 @@ use Rattle.std.proofs.Common.{◌≡◌, ℕ, pos, ◌+ℤ◌, Some, ap, sym, �
 use Rattle.std.specs.Prelude.{nat_abs}
 use Rattle.std.specs.Int.{w16, w64}
 use Rattle.std.proofs.lemmas.Int.{to_z-of_z}
-use Rattle.ebpf_state.specs.Stack.{bytes_in}
+use Rattle.ebpf_state.specs.Stack.{bytes_in, place_of}
 use Rattle.ebpf_machine.specs.declared.value.Base.{Base}
 use Rattle.ebpf_machine.specs.declared.value.Base.TheVariants as base
 use Rattle.ebpf_machine.specs.declared.value.Value.TheVariants.{Pointer}
 use Rattle.ebpf_machine.specs.Effect.{loaded}
 use Rattle.ebpf_machine.specs.Flows.{IsResult}
-use Rattle.ebpf_machine.proofs.Accesses.{IsPlaced, load_placed, load_fine, load_is}
+use Rattle.ebpf_machine.proofs.Accesses.{load_placed, load_fine, load_is}
 use Rattle.ebpf_machine.proofs.memory.load_from.Goals.{After-stack_place}
 use Rattle.ebpf_machine.proofs.memory.load_from.Goals as goal
 
@@ -23,8 +23,8 @@ place_is c =
 fine : (c : After-stack_place) → IsResult (loaded c.requires.0 c.args.stack.now c.args.size c.args.signed c.args.offset (Some (Pointer base.Stack c.args.from)))
 fine c = subst (λ (b : Base ℕ). IsResult (loaded c.requires.0 c.args.stack.now c.args.size c.args.signed c.args.offset (Some (Pointer b c.args.from)))) c.in-Stack.is c.requires.2
 
-there : (c : After-stack_place) → IsPlaced (c.args.from +ℤ c.args.offset) (bytes_in c.args.size) c.stack_place.result
-there c = subst (IsPlaced (c.args.from +ℤ c.args.offset) (bytes_in c.args.size)) (sym (place_is c)) (load_placed c.requires.0 c.args.stack.now c.args.size c.args.signed c.args.offset c.args.from (fine c))
+there : (c : After-stack_place) → place_of (c.args.from +ℤ c.args.offset) (bytes_in c.args.size) ≡ Some c.stack_place.result
+there c = load_placed c.requires.0 c.args.stack.now c.args.size c.args.signed c.args.offset c.args.from (fine c) ∙ ap (λ (n : ℕ). Some n) (sym (place_is c))
 
 pub load-requires-clause-loads : goal.load-requires-clause-loads
 load-requires-clause-loads c = load_fine c.requires.0 c.args.context.now c.args.stack.now c.args.size c.args.signed c.args.offset c.args.from c.stack_place.result c.requires.1 (there c) (fine c)

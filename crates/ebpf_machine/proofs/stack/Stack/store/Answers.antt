@@ -1,8 +1,8 @@
-use Rattle.std.proofs.Common.{ap, ◌∙◌}
+use Rattle.std.proofs.Common.{ap, sym, ◌∙◌}
 use Rattle.ebpf_state.specs.Stack.{bytes_in}
-use Rattle.ebpf_machine.specs.declared.value.Value.TheVariants.{Number}
+use Rattle.ebpf_machine.specs.declared.value.Value.{Value}
 use Rattle.ebpf_machine.specs.Cells.{stored_cells, is_pointer}
-use Rattle.ebpf_machine.proofs.StackWords.{stores_number, stores_value, marked_after, same_store}
+use Rattle.ebpf_machine.proofs.StackWords.{stores_number, stores_value, marked_after, size_some, size_few}
 use Rattle.ebpf_machine.proofs.stack.Stack.store.Goals as goal
 
 pub returns-in-Pointer : goal.returns-in-Pointer
@@ -13,6 +13,6 @@ returns-in-Pointer c =
 
 pub returns-in-Number : goal.returns-in-Number
 returns-in-Number c =
-    stores_number c.self.inside.bytes c.write_bytes.new.bytes c.self.inside.set c.mark.new.set c.self.inside.pointers c.forget.new.pointers c.args.place c.bytes_in-bytes.result c.in-Number.n c.self.told.0 c.write_bytes.array_long.0 c.bytes_in-bytes.ensures.some c.bytes_in-bytes.ensures.few
-    c.forget.ensures.pointers (marked_after c.self.inside.set c.forget.new.set c.mark.new.set c.self.inside.pointers c.args.place c.bytes_in-bytes.result c.forget.ensures.set c.mark.ensures) c.write_bytes.ensures
-    ∙ same_store c.args.place c.bytes_in-bytes.result (bytes_in c.args.size) (Number c.in-Number.n) c.args.value _ c.args.self.now c.bytes_in-bytes.ensures.value c.in-Number.is c.self.view_is
+    stores_number c.self.inside.bytes c.write.new.bytes c.self.inside.set c.write.new.set c.self.inside.pointers c.forget.new.pointers c.args.place (bytes_in c.args.size) c.args.value c.in-Number.n c.self.told.0 c.write.ensures.long (size_some c.args.size) (size_few c.args.size) c.in-Number.is
+    c.forget.ensures.pointers (marked_after c.self.inside.set c.forget.new.set c.write.new.set c.self.inside.pointers c.args.place (bytes_in c.args.size) c.forget.ensures.set c.write.ensures.set) c.write.ensures.bytes
+    ∙ ap (stored_cells c.args.place (bytes_in c.args.size) c.args.value) c.self.view_is
