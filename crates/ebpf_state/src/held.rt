@@ -1,8 +1,8 @@
 //! The references that are held.
 
-ghost use Rattle.std.specs.Prelude.{◌≡◌, ◌==◌, not, filter, map};
+ghost use Rattle.std.specs.Prelude.{◌≡◌, map};
 ghost use Rattle.ebpf_state.specs.Ascending.{IsAscending};
-ghost use Rattle.ebpf_state.specs.References.{tested_reference, settled_held};
+ghost use Rattle.ebpf_state.specs.References.{tested_reference, settled_held, held_without};
 
 /// A reference that a call of `new` gave and that was not freed yet.
 #[derive(Clone, Copy, PartialEq, Eq)]
@@ -39,15 +39,17 @@ pub(crate) fn settle_held(held: &mut Vec<Held>, call: u16, null: bool)
     ensures ascending { IsAscending (map (λ h. h.call) held.new.items) }
 {
     if null {
-        forget_null(held, call);
+        forget_held(held, call);
     } else {
         mark_tested(held, call);
     }
 }
 
-// Holds the reference of a call no more, whose answer was null.
-fn forget_null(held: &mut Vec<Held>, call: u16)
-    ensures { held.new.items ≡ filter (λ h. not (h.call == call)) held.old.items }
+/// Holds the reference of a call no more: its answer was null, or its object was given back.
+pub(crate) fn forget_held(held: &mut Vec<Held>, call: u16)
+    requires { IsAscending (map (λ h. h.call) held.old.items) }
+    ensures value { held.new.items ≡ held_without call held.old.items }
+    ensures ascending { IsAscending (map (λ h. h.call) held.new.items) }
 {
     held.retain(|reference| reference.call != call);
 }

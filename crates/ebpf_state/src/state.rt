@@ -17,9 +17,9 @@ ghost use Rattle.ebpf_state.specs.declared.word.Word.{Word};
 ghost use Rattle.ebpf_state.specs.Abstract.{joined_value, IsProper};
 ghost use Rattle.ebpf_state.specs.Words.{joined_word, all_words, IsProperWord};
 ghost use Rattle.ebpf_state.specs.States.{joined_list, is_same_held};
-ghost use Rattle.ebpf_state.specs.References.{settled_value, settled_word};
+ghost use Rattle.ebpf_state.specs.References.{settled_value, settled_word, forgotten_value, forgotten_word};
 
-use crate::held::{Held, settle_held};
+use crate::held::{Held, forget_held, settle_held};
 use crate::stack::{
     StackFault, StoreFault, bytes_in, is_whole_word, load_at, may_point, place_of, store_at,
 };
@@ -82,7 +82,7 @@ impl From<AllocError> for JoinFault {
 }
 
 impl State {
-    ghost use Rattle.ebpf_state.specs.References.{settled};
+    ghost use Rattle.ebpf_state.specs.References.{settled, forgotten};
     ghost use Rattle.ebpf_state.specs.Stack.{loaded, stored, Stores};
     ghost use Rattle.ebpf_state.specs.StateView.{StateView};
     ghost use Rattle.ebpf_state.specs.States.{first_state, joined_state, then_joined, register_of, with_register, Joins, JoinsInto};
@@ -158,6 +158,17 @@ impl State {
         settle_registers(&mut facts.registers, call, null);
         settle_words(&mut facts.words, call, null);
         settle_held(&mut facts.held, call, null);
+    }
+
+    /// Says that the object of a call was given back: from now on nothing is known of what points to it, or may, and it is
+    /// held no more.
+    pub fn forget(&mut self, call: u16)
+        ensures { self.new ≡ forgotten call self.old }
+    {
+        let facts = &mut *self.facts;
+        forget_registers(&mut facts.registers, call);
+        forget_words(&mut facts.words, call);
+        forget_held(&mut facts.held, call);
     }
 
     /// What is known of the value that is loaded from an offset from the frame pointer, or why it can't be. A number that
@@ -277,6 +288,28 @@ fn settle_words(words: &mut Vec<Word>, call: u16, null: bool)
 {
     for i in 0..words.len() {
         words[i] = words[i].settle(call, null);
+    }
+}
+
+// Forgets in each register what points to the object of a call, or may.
+fn forget_registers(registers: &mut [Abs; 11], call: u16)
+    requires { All IsProper registers.old }
+    ensures value { registers.new ≡ map (forgotten_value call) registers.old }
+    ensures proper { All IsProper registers.new }
+{
+    for i in 0..11 {
+        registers[i] = registers[i].forget(call);
+    }
+}
+
+// Forgets in each word what points to the object of a call, or may.
+fn forget_words(words: &mut Vec<Word>, call: u16)
+    requires { All IsProperWord words.old.items }
+    ensures value { words.new.items ≡ map (forgotten_word call) words.old.items }
+    ensures proper { All IsProperWord words.new.items }
+{
+    for i in 0..words.len() {
+        words[i] = words[i].forget(call);
     }
 }
 
