@@ -11,7 +11,7 @@
 //! refuses more. Most programs use few words of the stack, so only the topmost ones are kept, down to the lowest of which
 //! something is known. References ascend so that two states hold the same ones exactly where the lists are equal.
 
-ghost use Rattle.std.specs.Prelude.{◌≡◌, ◌≤◌, ◌<◌, true, All, length, map, slice_index_or, IfOk, Some};
+ghost use Rattle.std.specs.Prelude.{◌≡◌, ◌≤◌, ◌<◌, true, All, length, map, slice_index_or, IfOk, OnOk, OnErr, Some};
 ghost use Rattle.ebpf_state.specs.declared.value.Abs.{Abs};
 ghost use Rattle.ebpf_state.specs.declared.word.Word.{Word};
 ghost use Rattle.ebpf_state.specs.Abstract.{joined_value, IsProper};
@@ -19,7 +19,7 @@ ghost use Rattle.ebpf_state.specs.Words.{joined_word, all_words, IsProperWord};
 ghost use Rattle.ebpf_state.specs.States.{joined_list, is_same_held};
 ghost use Rattle.ebpf_state.specs.References.{settled_value, settled_word, forgotten_value, forgotten_word};
 
-use crate::held::{Held, forget_held, settle_held};
+use crate::held::{Held, forget_held, hold_reference, settle_held};
 use crate::stack::{
     StackFault, StoreFault, bytes_in, is_whole_word, load_at, may_point, place_of, store_at,
 };
@@ -82,7 +82,7 @@ impl From<AllocError> for JoinFault {
 }
 
 impl State {
-    ghost use Rattle.ebpf_state.specs.References.{settled, forgotten};
+    ghost use Rattle.ebpf_state.specs.References.{holding, kind_held, settled, forgotten};
     ghost use Rattle.ebpf_state.specs.Stack.{loaded, stored, Stores};
     ghost use Rattle.ebpf_state.specs.StateView.{StateView};
     ghost use Rattle.ebpf_state.specs.States.{first_state, joined_state, then_joined, register_of, with_register, Joins, JoinsInto};
@@ -132,6 +132,16 @@ impl State {
         self.facts.held.len()
     }
 
+    /// The kind of the object that a call holds, whether its answer was compared with null or not; `None` where it holds none.
+    pub fn kind(&self, call: u16) -> Option<u8>
+        ensures { result ≡ kind_held call self.now }
+    {
+        let held = self.facts.held.as_slice();
+        held.iter()
+            .find(|reference| reference.call == call)
+            .map(|reference| reference.kind)
+    }
+
     /// What is known of a register.
     pub fn reg(&self, register: Reg) -> Abs
         ensures value { result ≡ register_of self.now register }
@@ -147,6 +157,23 @@ impl State {
     {
         let number = register.number();
         self.facts.registers[number] = value;
+    }
+
+    /// Says that a call asked for an object of a kind: from now on it may hold one, which is not tested yet. Where it holds
+    /// one already, the new one takes its place.
+    ///
+    /// # Errors
+    /// It fails only where an allocation fails, and the state stays as it is.
+    pub fn hold(&mut self, call: u16, kind: u8) -> Result<(), AllocError>
+        ensures ok { OnOk result (self.new ≡ holding call kind self.old) }
+        ensures err { OnErr result (self.new ≡ self.old) }
+    {
+        let new = Held {
+            call,
+            kind,
+            tested: false,
+        };
+        hold_reference(&mut self.facts.held, new)
     }
 
     /// Says that the answer of a call is null, or is not: from now on it is 0 and nothing is held by it, or it is the object
