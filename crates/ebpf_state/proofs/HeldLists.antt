@@ -5,7 +5,7 @@ use Rattle.ebpf_state.specs.declared.held.Held.{Held}
 use Rattle.ebpf_state.specs.Ascending.{IsAscending}
 use Rattle.ebpf_state.specs.References.{tested_reference}
 
-abbrev calls_of : List Held → List ℕ
+abbrev pub calls_of : List Held → List ℕ
 calls_of held = map (λ (h : Held). h.call) held
 
 same_call : (call : ℕ) (h : Held) → (tested_reference call h).call ≡ h.call
@@ -20,23 +20,23 @@ calls-tested call [] = refl
 calls-tested call (h ∷ held) = rw (same_call call h, calls-tested call held) refl
 
 -- a number before an ascending list, which it is below
-abbrev IsBelowFirst : ℕ → List ℕ → Type 0
+abbrev pub IsBelowFirst : ℕ → List ℕ → Type 0
 IsBelowFirst n [] = Unit {0}
 IsBelowFirst n (m ∷ ms) = n < m
 
-ascending-cons : (n : ℕ) (ms : List ℕ) → IsBelowFirst n ms → IsAscending ms → IsAscending (n ∷ ms)
+pub ascending-cons : (n : ℕ) (ms : List ℕ) → IsBelowFirst n ms → IsAscending ms → IsAscending (n ∷ ms)
 ascending-cons n [] below h = tt
 ascending-cons n (m ∷ ms) below h = (below, h)
 
-tail_ascends : (n : ℕ) (ms : List ℕ) → IsAscending (n ∷ ms) → IsAscending ms
+pub tail_ascends : (n : ℕ) (ms : List ℕ) → IsAscending (n ∷ ms) → IsAscending ms
 tail_ascends n [] h = tt
 tail_ascends n (m ∷ ms) h = h.1
 
-first_below : (n : ℕ) (ms : List ℕ) → IsAscending (n ∷ ms) → IsBelowFirst n ms
+pub first_below : (n : ℕ) (ms : List ℕ) → IsAscending (n ∷ ms) → IsBelowFirst n ms
 first_below n [] h = tt
 first_below n (m ∷ ms) h = h.0
 
-lower_first : (n m : ℕ) (ms : List ℕ) → n < m → IsBelowFirst m ms → IsBelowFirst n ms
+pub lower_first : (n m : ℕ) (ms : List ℕ) → n < m → IsBelowFirst m ms → IsBelowFirst n ms
 lower_first n m [] lt below = tt
 lower_first n m (k ∷ ms) lt below = omega (arith, lt, below)
 

@@ -45,7 +45,21 @@ joining_all join P d left right joined i e h =
     let long = joined_list-length join left right h.same in
     ext_get_or d joined (joined_list join left right) (omega (arith, h.whole)) (λ k lt. h.done k (omega (arith, h.whole)) ∙ sym (joined_list-index join d left right k h.same (omega (arith, h.whole))))
 
--- a list that is changed in place, element by element, is joined with itself
-pub joined_alone : {X : Type 0} (f : X → X) (s : List X) → joined_list (λ x y. f x) s s ≡ map f s
+-- ---- a list that is changed in place, element by element, is joined with itself
+
+joined_alone : {X : Type 0} (f : X → X) (s : List X) → joined_list (λ x y. f x) s s ≡ map f s
 joined_alone f [] = refl
 joined_alone f (x ∷ s) = ap (λ (t : List _). f x ∷ t) (joined_alone f s)
+
+-- a list whose first i elements are changed, and whose others are those of the old one
+abbrev pub IsChanging : {X : Type 0} → (X → X) → (X → Type 0) → X → List X → List X → ℕ → Type 0
+IsChanging f P d old changed i = IsJoining (λ x y. f x) P d old old changed i
+
+pub changing_none : {X : Type 0} (f : X → X) (P : X → Type 0) (d : X) (old : List X) → All P old → IsChanging f P d old old 0
+changing_none f P d old proper = joining_none (λ x y. f x) P d old old refl proper
+
+pub changing_more : {X : Type 0} (f : X → X) (P : X → Type 0) (d : X) (old changed : List X) (i : ℕ) (x : X) → i < length changed → IsChanging f P d old changed i → x ≡ f (get_or changed i d) → P x → IsChanging f P d old (set changed i x) (i + 1)
+changing_more f P d old changed i x lt h e p = joining_more (λ x y. f x) P d old old changed i x (omega (arith, lt, h.whole)) h e p
+
+pub changing_all : {X : Type 0} (f : X → X) (P : X → Type 0) (d : X) (old changed : List X) (i : ℕ) → length changed ≡ i → IsChanging f P d old changed i → changed ≡ map f old
+changing_all f P d old changed i e h = joining_all (λ x y. f x) P d old old changed i (omega (arith, e, h.whole)) h ∙ joined_alone f old

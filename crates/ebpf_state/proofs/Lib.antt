@@ -1,4 +1,5 @@
 pub mod HeldLists
+pub mod HeldPlaces
 pub mod JoinLists
 pub mod JoinOrder
 pub mod SameHeld

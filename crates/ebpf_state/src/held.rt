@@ -1,8 +1,10 @@
 //! The references that are held.
 
-ghost use Rattle.std.specs.Prelude.{◌≡◌, ◌==◌, not, filter, map};
+ghost use Rattle.std.specs.Prelude.{◌≡◌, map, OnOk, OnErr};
 ghost use Rattle.ebpf_state.specs.Ascending.{IsAscending};
-ghost use Rattle.ebpf_state.specs.References.{tested_reference, settled_held};
+ghost use Rattle.ebpf_state.specs.References.{held_with, held_without, tested_reference, settled_held};
+
+use std::alloc::AllocError;
 
 /// A reference that a call of `new` gave and that was not freed yet.
 #[derive(Clone, Copy, PartialEq, Eq)]
@@ -32,6 +34,20 @@ impl Held {
     }
 }
 
+/// Holds a new reference, in the place of its call; where that call holds one already, the new one takes its place.
+pub(crate) fn hold_reference(held: &mut Vec<Held>, new: Held) -> Result<(), AllocError>
+    requires { IsAscending (map (λ h. h.call) held.old.items) }
+    ensures ok { OnOk result (held.new.items ≡ held_with new held.old.items) }
+    ensures err { OnErr result (held.new.items ≡ held.old.items) }
+    ensures ascending { IsAscending (map (λ h. h.call) held.new.items) }
+{
+    match held.binary_search_by_key(&new.call, |reference| reference.call) {
+        Ok(place) => held[place] = new,
+        Err(place) => held.insert(place, new)?,
+    }
+    Ok(())
+}
+
 /// Says of the reference of a call whether it is null: then it is held no more, else it was tested.
 pub(crate) fn settle_held(held: &mut Vec<Held>, call: u16, null: bool)
     requires { IsAscending (map (λ h. h.call) held.old.items) }
@@ -39,15 +55,17 @@ pub(crate) fn settle_held(held: &mut Vec<Held>, call: u16, null: bool)
     ensures ascending { IsAscending (map (λ h. h.call) held.new.items) }
 {
     if null {
-        forget_null(held, call);
+        forget_held(held, call);
     } else {
         mark_tested(held, call);
     }
 }
 
-// Holds the reference of a call no more, whose answer was null.
-fn forget_null(held: &mut Vec<Held>, call: u16)
-    ensures { held.new.items ≡ filter (λ h. not (h.call == call)) held.old.items }
+/// Holds the reference of a call no more: its answer was null, or its object was given back.
+pub(crate) fn forget_held(held: &mut Vec<Held>, call: u16)
+    requires { IsAscending (map (λ h. h.call) held.old.items) }
+    ensures value { held.new.items ≡ held_without call held.old.items }
+    ensures ascending { IsAscending (map (λ h. h.call) held.new.items) }
 {
     held.retain(|reference| reference.call != call);
 }

@@ -11,15 +11,15 @@
 //! refuses more. Most programs use few words of the stack, so only the topmost ones are kept, down to the lowest of which
 //! something is known. References ascend so that two states hold the same ones exactly where the lists are equal.
 
-ghost use Rattle.std.specs.Prelude.{◌≡◌, ◌≤◌, ◌<◌, true, All, length, map, slice_index_or, IfOk, Some};
+ghost use Rattle.std.specs.Prelude.{◌≡◌, ◌≤◌, ◌<◌, true, All, length, map, slice_index_or, IfOk, OnOk, OnErr, Some};
 ghost use Rattle.ebpf_state.specs.declared.value.Abs.{Abs};
 ghost use Rattle.ebpf_state.specs.declared.word.Word.{Word};
 ghost use Rattle.ebpf_state.specs.Abstract.{joined_value, IsProper};
 ghost use Rattle.ebpf_state.specs.Words.{joined_word, all_words, IsProperWord};
 ghost use Rattle.ebpf_state.specs.States.{joined_list, is_same_held};
-ghost use Rattle.ebpf_state.specs.References.{settled_value, settled_word};
+ghost use Rattle.ebpf_state.specs.References.{settled_value, settled_word, forgotten_value, forgotten_word};
 
-use crate::held::{Held, settle_held};
+use crate::held::{Held, forget_held, hold_reference, settle_held};
 use crate::stack::{
     StackFault, StoreFault, bytes_in, is_whole_word, load_at, may_point, place_of, store_at,
 };
@@ -82,7 +82,7 @@ impl From<AllocError> for JoinFault {
 }
 
 impl State {
-    ghost use Rattle.ebpf_state.specs.References.{settled};
+    ghost use Rattle.ebpf_state.specs.References.{holding, kind_held, settled, forgotten};
     ghost use Rattle.ebpf_state.specs.Stack.{loaded, stored, Stores};
     ghost use Rattle.ebpf_state.specs.StateView.{StateView};
     ghost use Rattle.ebpf_state.specs.States.{first_state, joined_state, then_joined, register_of, with_register, Joins, JoinsInto};
@@ -132,6 +132,16 @@ impl State {
         self.facts.held.len()
     }
 
+    /// The kind of the object that a call holds, whether its answer was compared with null or not; `None` where it holds none.
+    pub fn kind(&self, call: u16) -> Option<u8>
+        ensures { result ≡ kind_held call self.now }
+    {
+        let held = self.facts.held.as_slice();
+        held.iter()
+            .find(|reference| reference.call == call)
+            .map(|reference| reference.kind)
+    }
+
     /// What is known of a register.
     pub fn reg(&self, register: Reg) -> Abs
         ensures value { result ≡ register_of self.now register }
@@ -149,6 +159,23 @@ impl State {
         self.facts.registers[number] = value;
     }
 
+    /// Says that a call asked for an object of a kind: from now on it may hold one, which is not tested yet. Where it holds
+    /// one already, the new one takes its place.
+    ///
+    /// # Errors
+    /// It fails only where an allocation fails, and the state stays as it is.
+    pub fn hold(&mut self, call: u16, kind: u8) -> Result<(), AllocError>
+        ensures ok { OnOk result (self.new ≡ holding call kind self.old) }
+        ensures err { OnErr result (self.new ≡ self.old) }
+    {
+        let new = Held {
+            call,
+            kind,
+            tested: false,
+        };
+        hold_reference(&mut self.facts.held, new)
+    }
+
     /// Says that the answer of a call is null, or is not: from now on it is 0 and nothing is held by it, or it is the object
     /// that the call was granted, which is held as one that was tested.
     pub fn settle(&mut self, call: u16, null: bool)
@@ -158,6 +185,17 @@ impl State {
         settle_registers(&mut facts.registers, call, null);
         settle_words(&mut facts.words, call, null);
         settle_held(&mut facts.held, call, null);
+    }
+
+    /// Says that the object of a call was given back: from now on nothing is known of what points to it, or may, and it is
+    /// held no more.
+    pub fn forget(&mut self, call: u16)
+        ensures { self.new ≡ forgotten call self.old }
+    {
+        let facts = &mut *self.facts;
+        forget_registers(&mut facts.registers, call);
+        forget_words(&mut facts.words, call);
+        forget_held(&mut facts.held, call);
     }
 
     /// What is known of the value that is loaded from an offset from the frame pointer, or why it can't be. A number that
@@ -277,6 +315,28 @@ fn settle_words(words: &mut Vec<Word>, call: u16, null: bool)
 {
     for i in 0..words.len() {
         words[i] = words[i].settle(call, null);
+    }
+}
+
+// Forgets in each register what points to the object of a call, or may.
+fn forget_registers(registers: &mut [Abs; 11], call: u16)
+    requires { All IsProper registers.old }
+    ensures value { registers.new ≡ map (forgotten_value call) registers.old }
+    ensures proper { All IsProper registers.new }
+{
+    for i in 0..11 {
+        registers[i] = registers[i].forget(call);
+    }
+}
+
+// Forgets in each word what points to the object of a call, or may.
+fn forget_words(words: &mut Vec<Word>, call: u16)
+    requires { All IsProperWord words.old.items }
+    ensures value { words.new.items ≡ map (forgotten_word call) words.old.items }
+    ensures proper { All IsProperWord words.new.items }
+{
+    for i in 0..words.len() {
+        words[i] = words[i].forget(call);
     }
 }
 

@@ -2,7 +2,7 @@
 
 ghost use Rattle.std.specs.Prelude.{◌≡◌};
 ghost use Rattle.ebpf_state.specs.Abstract.{joined_value, is_unset, is_pointer, is_may, IsProper};
-ghost use Rattle.ebpf_state.specs.References.{settled_value};
+ghost use Rattle.ebpf_state.specs.References.{settled_value, forgotten_value};
 
 use ebpf_range::range::{Range, hull};
 
@@ -83,6 +83,19 @@ impl Abs {
             } else {
                 Abs::Ob(call, 0, 0)
             },
+            value => value,
+        }
+    }
+
+    /// What is known once the object of a call was given back.
+    pub(crate) fn forget(self, call: u16) -> Abs
+        requires { IsProper self }
+        ensures value { result ≡ forgotten_value call self }
+        ensures proper { IsProper result }
+    {
+        match self {
+            Abs::Ob(r, _, _) if r == call => Abs::Unset,
+            Abs::May(r) if r == call => Abs::Unset,
             value => value,
         }
     }

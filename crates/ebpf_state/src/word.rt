@@ -2,7 +2,7 @@
 
 ghost use Rattle.std.specs.Prelude.{◌≡◌};
 ghost use Rattle.ebpf_state.specs.Abstract.{IsProper};
-ghost use Rattle.ebpf_state.specs.References.{settled_word};
+ghost use Rattle.ebpf_state.specs.References.{settled_word, forgotten_word};
 ghost use Rattle.ebpf_state.specs.Words.{joined_word, spill_or_nothing, IsProperWord};
 
 use crate::value::Abs;
@@ -42,6 +42,18 @@ impl Word {
     {
         match self {
             Word::Spill(value) => Word::Spill(value.settle(call, null)),
+            Word::Bytes(mask) => Word::Bytes(mask),
+        }
+    }
+
+    /// What is known once the object of a call was given back.
+    pub(crate) fn forget(self, call: u16) -> Word
+        requires { IsProperWord self }
+        ensures value { result ≡ forgotten_word call self }
+        ensures proper { IsProperWord result }
+    {
+        match self {
+            Word::Spill(value) => spill_or_nothing(value.forget(call)),
             Word::Bytes(mask) => Word::Bytes(mask),
         }
     }

@@ -169,6 +169,63 @@ fn an_answer_turns_out_to_be_null_or_an_object(rt: HostRuntime) {
     holds(&rt, "another answer", stays);
 }
 
+// A state in which two calls hold objects, of different kinds, and the earlier one did so first or last.
+fn holding_two(rt: &impl Abort, alloc: Global, is_in_order: bool) -> State {
+    let mut state = State::start(alloc).expect(rt, "out of memory");
+    let (first, second) = if is_in_order {
+        ((3, 1), (7, 2))
+    } else {
+        ((7, 2), (3, 1))
+    };
+    state.hold(first.0, first.1).expect(rt, "out of memory");
+    state.hold(second.0, second.1).expect(rt, "out of memory");
+    state
+}
+
+#[test]
+fn each_call_holds_the_object_that_it_asked_for(rt: HostRuntime) {
+    let mut state = holding_two(&rt, rt.alloc(), true);
+    let both = state.kind(3) == Some(1) && state.kind(7) == Some(2);
+    holds(&rt, "two calls", state.held() == 2 && both);
+    holds(&rt, "a call that holds none", state.kind(4).is_none());
+    let other = holding_two(&rt, rt.alloc(), false);
+    let both = other.kind(3) == Some(1) && other.kind(7) == Some(2);
+    holds(&rt, "in the other order", other.held() == 2 && both);
+    holds(&rt, "the same references", state.join_with(&other));
+    state.settle(3, false);
+    holds(&rt, "one that was tested", !state.join_with(&other));
+    holds(&rt, "its kind", state.kind(3) == Some(1));
+    state.hold(3, 0).expect(&rt, "out of memory");
+    let is_replaced = state.held() == 2 && state.kind(3) == Some(0);
+    holds(&rt, "the same call again", is_replaced);
+}
+
+#[test]
+fn an_object_that_was_given_back_is_forgotten(rt: HostRuntime) {
+    let mut state = holding_two(&rt, rt.alloc(), true);
+    state.set(Reg::R0, Abs::May(3));
+    state.set(Reg::R6, Abs::Ob(3, 0, 8));
+    state.set(Reg::R7, Abs::Ob(7, 0, 0));
+    let spilled = state.store(Size::D, -8, Abs::Ob(3, 0, 0));
+    let kept = state.store(Size::D, -16, Abs::May(7));
+    holds(&rt, "two spills", spilled.is_ok() && kept.is_ok());
+    state.forget(3);
+    holds(&rt, "an answer", state.reg(Reg::R0).is_unset());
+    holds(&rt, "a pointer", state.reg(Reg::R6).is_unset());
+    let copy = state.load(Size::D, false, -8);
+    let is_unset = matches!(copy, Err(StackFault::UnsetByte));
+    holds(&rt, "a spilled copy", is_unset);
+    holds(&rt, "its reference", state.kind(3).is_none());
+    state.forget(4);
+    let stays = matches!(state.reg(Reg::R7), Abs::Ob(7, 0, 0));
+    holds(&rt, "a pointer to the other object", stays);
+    let spill = state.load(Size::D, false, -16);
+    let stays = matches!(spill, Ok(Abs::May(7)));
+    holds(&rt, "a spill of the other answer", stays);
+    let stays = state.held() == 1 && state.kind(7) == Some(2);
+    holds(&rt, "the other reference", stays);
+}
+
 #[test]
 fn the_stack_is_stored_to_and_loaded_from(rt: HostRuntime) {
     let mut state = State::start(rt.alloc()).expect(&rt, "out of memory");

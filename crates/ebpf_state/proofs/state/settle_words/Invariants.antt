@@ -2,8 +2,8 @@ use Rattle.ebpf_state.specs.References.{settled_word}
 use Rattle.ebpf_state.specs.Words.{IsProperWord}
 use Rattle.ebpf_state.specs.declared.word.Word.TheVariants.{Spill}
 use Rattle.ebpf_state.specs.declared.value.Abs.TheVariants.{Unset}
-use Rattle.ebpf_state.proofs.JoinLists.{IsJoining}
+use Rattle.ebpf_state.proofs.JoinLists.{IsChanging}
 use Rattle.ebpf_state.proofs.state.settle_words.Given as goal
 
 abbrev pub invariant-loop-i : goal.invariant-loop-i
-invariant-loop-i l = IsJoining (λ x y. settled_word l.fn.call l.fn.null x) IsProperWord (Spill Unset) l.fn.words.items l.fn.words.items l.words.items l.i
+invariant-loop-i l = IsChanging (settled_word l.fn.call l.fn.null) IsProperWord (Spill Unset) l.fn.words.items l.words.items l.i
