@@ -4,7 +4,7 @@
 //! them, by the aligned word that holds it; the word's bytes count again once one of them is written. Which bytes were written
 //! no load asks, since the verdict has ruled out that others are read: contracts alone see it.
 
-ghost use Rattle.std.specs.Prelude.{◌≡◌, ℕ, ◌≤◌, ◌<◌, ◌+◌, ◌-◌, ◌/◌, ◌*◌, true, false, ◌==◌, ◌&&◌, if◌then◌else◌, is_ok, is_some, None, Some, Ok, slice_index_or, slice_set, Bool, List, length};
+ghost use Rattle.std.specs.Prelude.{◌≡◌, ℕ, ◌≤◌, ◌<◌, ◌+◌, ◌-◌, ◌/◌, true, false, ◌==◌, ◌&&◌, if◌then◌else◌, is_ok, is_some, None, Some, Ok, slice_index_or, Bool, length};
 ghost use Rattle.std.specs.Int.{byte_at};
 ghost use Rattle.ebpf_state.specs.Stack.{bytes_in, is_whole_word};
 ghost use Rattle.ebpf_machine.specs.Values.{empty_stack};
