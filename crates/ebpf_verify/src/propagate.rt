@@ -75,7 +75,15 @@ pub(crate) fn pass_on(
             base,
             offset,
             src,
-        } => store_on(Store { size, offset }, base, src, slot, state, edges, entries),
+        } => store_on(
+            Store { size, offset },
+            base,
+            src,
+            slot,
+            state,
+            edges,
+            entries,
+        ),
         Insn::Call { .. } => Err(refused_at(slot, VerifyCode::V0)),
         _ => operate_on(decl, insn, slot, state, edges, entries),
     }
