@@ -1,7 +1,7 @@
 -- The topmost words of the stack, and the words below them of which nothing is known.
 use Rattle.std.proofs.Common.{◌≡◌, ℕ, zero, suc, ◌+◌, ◌-◌, ◌<◌, ◌≤◌, List, [], ◌∷◌, ◌++◌, length, get_or, drop, refl, sym, ap, ◌∙◌, arith, length-append, set, length-set}
 use Rattle.std.specs.Prelude.{replicate, map}
-use Rattle.std.specs.Int.Bits.{and_zero_l}
+use Rattle.std.specs.Int.Bits.{and_zero_l, and_zero_r}
 use Rattle.std.proofs.lemmas.List.{length-map, length-replicate, get_or-replicate, get_or_append_left, get_or-append_right, set-append_right, replicate-append-replicate, append_assoc}
 use Rattle.ebpf_state.specs.declared.value.Abs.TheVariants.{Unset, Num, Stk, Ctx, Ob, May}
 use Rattle.ebpf_state.specs.declared.word.Word.{Word}
@@ -38,12 +38,61 @@ joined_below (suc n) left (r ∷ rs) le =
     ap (λ (ws : List Word). Bytes 0 ∷ ws) (joined_below n left rs (omega arith))
     ∙ ap (λ (w : Word). w ∷ joined_list joined_word (replicate n (Bytes 0) ++ left) rs) (sym (joined_nothing r))
 
-pub all_words-joined : (left right joined : List Word) → length left ≤ 64 → length right ≤ 64 → length joined ≡ length left → joined ≡ joined_list joined_word left (drop (64 - length left) (all_words right)) → all_words joined ≡ joined_list joined_word (all_words left) (all_words right)
-all_words-joined left right joined few_left few_right same e =
+nothing_joined : (w : Word) → joined_word w (Bytes 0) ≡ Bytes 0
+nothing_joined (Bytes a) = ap Bytes (and_zero_r a)
+nothing_joined (Spill Unset) = refl
+nothing_joined (Spill (Num a)) = refl
+nothing_joined (Spill (Stk k)) = refl
+nothing_joined (Spill (Ctx a b)) = refl
+nothing_joined (Spill (Ob r a b)) = refl
+nothing_joined (Spill (May r)) = refl
+
+-- the same, from the last words of the other
+joined_above : (n : ℕ) (left right : List Word) → n ≤ length left → replicate n (Bytes 0) ++ joined_list joined_word (drop n left) right ≡ joined_list joined_word left (replicate n (Bytes 0) ++ right)
+joined_above zero left right le = refl
+joined_above (suc n) [] right le = absurd (omega arith)
+joined_above (suc n) (l ∷ ls) right le =
+    ap (λ (ws : List Word). Bytes 0 ∷ ws) (joined_above n ls right (omega arith))
+    ∙ ap (λ (w : Word). w ∷ joined_list joined_word ls (replicate n (Bytes 0) ++ right)) (sym (nothing_joined l))
+
+dropped : (m n : ℕ) (words : List Word) → drop m (replicate n (Bytes 0) ++ words) ≡ replicate (n - m) (Bytes 0) ++ drop (m - n) words
+dropped zero n words = rw (none, all) refl
+  where
+    none : 0 - n ≡ 0
+    none = omega arith
+
+    all : n - 0 ≡ n
+    all = omega arith
+dropped (suc m) zero words = rw (none, all) refl
+  where
+    none : 0 - suc m ≡ 0
+    none = omega arith
+
+    all : suc m - 0 ≡ suc m
+    all = omega arith
+dropped (suc m) (suc n) words = rw (low, high) (dropped m n words)
+  where
+    low : suc n - suc m ≡ n - m
+    low = omega arith
+
+    high : suc m - suc n ≡ m - n
+    high = omega arith
+
+-- the join of two stacks, from that of the words that both keep
+pub all_words-joined : (left right joined : List Word) (below beyond : ℕ) → length left ≤ 64 → length right ≤ 64 → below ≡ length left - length right → beyond ≡ length right - length left → length joined ≡ length left → joined ≡ replicate below (Bytes 0) ++ joined_list joined_word (drop below left) (drop beyond right) → all_words joined ≡ joined_list joined_word (all_words left) (all_words right)
+all_words-joined left right joined below beyond few_left few_right is_below is_beyond same e =
     let all : length (all_words right) ≡ 64 = length-all_words right few_right in
     let fits : 64 - length left ≤ length (all_words right) = omega (arith, all) in
+    let low : (64 - length right) - (64 - length left) ≡ below = omega (arith, is_below, few_left, few_right) in
+    let high : (64 - length left) - (64 - length right) ≡ beyond = omega (arith, is_beyond, few_left, few_right) in
+    let lies : drop (64 - length left) (all_words right) ≡ replicate below (Bytes 0) ++ drop beyond right =
+    dropped (64 - length left) (64 - length right) right
+    ∙ (ap (λ (n : ℕ). replicate n (Bytes 0) ++ drop ((64 - length left) - (64 - length right)) right) low
+    ∙ ap (λ (n : ℕ). replicate below (Bytes 0) ++ drop n right) high) in
+    let top : joined ≡ joined_list joined_word left (drop (64 - length left) (all_words right)) =
+    e ∙ (joined_above below left (drop beyond right) (omega (arith, is_below)) ∙ ap (joined_list joined_word left) (sym lies)) in
     ap (λ (n : ℕ). replicate (64 - n) (Bytes 0) ++ joined) same
-    ∙ (ap (λ (ws : List Word). replicate (64 - length left) (Bytes 0) ++ ws) e
+    ∙ (ap (λ (ws : List Word). replicate (64 - length left) (Bytes 0) ++ ws) top
     ∙ joined_below (64 - length left) left (all_words right) fits)
 
 -- a change that leaves a word of which nothing is known as it is

@@ -3,13 +3,12 @@
 //! At most eight bytes are moved, so they lie in the word where they begin and in the next one. A store has all words kept
 //! from the first of them on before it writes, so that where an allocation fails nothing was written.
 
-ghost use Rattle.std.specs.Prelude.{◌≡◌, ◌≤◌, ◌<◌, ◌^◌, length, All, IfOk, IfErr, IfSome, ◌+◌, OnOk, Some, slice_set, ◌-◌};
+ghost use Rattle.std.specs.Prelude.{◌≡◌, ◌≤◌, ◌<◌, ◌^◌, length, All, IfOk, IfErr, IfSome, ◌+◌, OnOk, Some, slice_set, slice_index_or, ◌-◌};
 ghost use Rattle.ebpf_state.specs.declared.word.Word.{Word};
 ghost use Rattle.ebpf_state.specs.Abstract.{IsProper};
 ghost use Rattle.ebpf_state.specs.Words.{all_words, IsProperWord};
 ghost use Rattle.ebpf_state.specs.Stack.{bytes_in, place_of, is_whole_word, covered, word_of, may_point, is_unset_in, is_split_in, read_fault, loaded_range, loaded_number, loaded_word, loaded_at, overwritten, written, written_at, stored_words};
 
-use crate::state::word_at;
 use crate::value::Abs;
 use crate::word::{Word, spill_or_nothing};
 use ebpf_insn::insn::Size;
@@ -109,6 +108,22 @@ fn power_of_two(exponent: usize) -> u128
     ensures few { result ≤ 2 ^ 64 }
 {
     1 << exponent
+}
+
+// What is known of a word of the stack, by its topmost words.
+fn word_at(words: &[Word], number: usize) -> Word
+    requires few { length words.now ≤ 64 }
+    requires inside { number < 64 }
+    requires proper { All IsProperWord words.now }
+    ensures value { result ≡ slice_index_or (all_words words.now) number (Word.Spill Abs.Unset) }
+    ensures proper { IsProperWord result }
+{
+    let below = 64 - words.len();
+    if number < below {
+        Word::Bytes(0)
+    } else {
+        words[number - below]
+    }
 }
 
 // What is known of a word of the stack; nothing is of the one behind the last.

@@ -11,7 +11,7 @@
 //! refuses more. Most programs use few words of the stack, so only the topmost ones are kept, down to the lowest of which
 //! something is known. References ascend so that two states hold the same ones exactly where the lists are equal.
 
-ghost use Rattle.std.specs.Prelude.{◌≡◌, ◌≤◌, ◌<◌, true, All, length, map, slice_index_or, IfOk, OnOk, OnErr, Some};
+ghost use Rattle.std.specs.Prelude.{◌≡◌, ◌≤◌, ◌<◌, true, All, length, map, IfOk, OnOk, OnErr, Some};
 ghost use Rattle.ebpf_state.specs.declared.value.Abs.{Abs};
 ghost use Rattle.ebpf_state.specs.declared.word.Word.{Word};
 ghost use Rattle.ebpf_state.specs.Abstract.{joined_value, IsProper};
@@ -292,7 +292,7 @@ fn join_registers(left: &mut [Abs; 11], right: &[Abs; 11])
     ensures proper { All IsProper left.new }
 {
     for i in 0..11 {
-        left[i] = left[i].join(right[i]);
+        left[i].join_with(&right[i]);
     }
 }
 
@@ -340,7 +340,7 @@ fn forget_words(words: &mut Vec<Word>, call: u16)
     }
 }
 
-// Joins the topmost words of two stacks. Where nothing is known of a word of the left one, nothing is afterwards.
+// Joins the topmost words of two stacks. Where nothing is known of a word of one of them, nothing is afterwards.
 fn join_words(left: &mut [Word], right: &[Word])
     requires few_left { length left.old ≤ 64 }
     requires few_right { length right.now ≤ 64 }
@@ -350,24 +350,24 @@ fn join_words(left: &mut [Word], right: &[Word])
     ensures len { length left.new ≡ length left.old }
     ensures proper { All IsProperWord left.new }
 {
-    let below = 64 - left.len();
-    for i in 0..left.len() {
-        left[i] = left[i].join(word_at(right, below + i));
-    }
+    let below = left.len().saturating_sub(right.len());
+    let beyond = right.len().saturating_sub(left.len());
+    let (low, high) = left.split_at_mut(below);
+    low.fill(Word::Bytes(0));
+    let (_, both) = right.split_at(beyond);
+    join_each(high, both);
 }
 
-// What is known of a word of the stack, by its topmost words.
-pub(crate) fn word_at(words: &[Word], number: usize) -> Word
-    requires few { length words.now ≤ 64 }
-    requires inside { number < 64 }
-    requires proper { All IsProperWord words.now }
-    ensures value { result ≡ slice_index_or (all_words words.now) number (Word.Spill Abs.Unset) }
-    ensures proper { IsProperWord result }
+// Joins words that lie side by side.
+fn join_each(here: &mut [Word], there: &[Word])
+    requires same { length here.old ≡ length there.now }
+    requires here { All IsProperWord here.old }
+    requires there { All IsProperWord there.now }
+    ensures value { here.new ≡ joined_list joined_word here.old there.now }
+    ensures len { length here.new ≡ length here.old }
+    ensures proper { All IsProperWord here.new }
 {
-    let below = 64 - words.len();
-    if number < below {
-        Word::Bytes(0)
-    } else {
-        words[number - below]
+    for i in 0..here.len() {
+        here[i].join_with(&there[i]);
     }
 }

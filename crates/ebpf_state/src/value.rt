@@ -71,6 +71,20 @@ impl Abs {
         }
     }
 
+    /// Joins another value into this one. Where both are numbers only the ends change; where nothing is known, nothing does.
+    pub(crate) fn join_with(&mut self, other: &Abs)
+        requires left { IsProper self.old }
+        requires right { IsProper other.now }
+        ensures value { self.new ≡ joined_value self.old other.now }
+        ensures proper { IsProper self.new }
+    {
+        match (&mut *self, other) {
+            (Abs::Unset, _) => {}
+            (Abs::Num(here), Abs::Num(there)) => *here = hull(*here, *there),
+            _ => *self = self.join(*other),
+        }
+    }
+
     /// What is known once the answer of a call is known to be null, or not to be.
     pub(crate) fn settle(self, call: u16, null: bool) -> Abs
         requires { IsProper self }

@@ -6,6 +6,7 @@ ghost use Rattle.ebpf_state.specs.References.{settled_word, forgotten_word};
 ghost use Rattle.ebpf_state.specs.Words.{joined_word, spill_or_nothing, IsProperWord};
 
 use crate::value::Abs;
+use ebpf_range::range::hull;
 
 /// What is known of one of the 64 aligned words of the stack. Word `w` covers the offsets `8w - 512` to `8w - 505` from
 /// the frame pointer.
@@ -31,6 +32,21 @@ impl Word {
             (Word::Bytes(a), Word::Spill(Abs::Num(_))) => Word::Bytes(a),
             (Word::Spill(a), Word::Spill(b)) => spill_or_nothing(a.join(b)),
             _ => Word::Bytes(0),
+        }
+    }
+
+    /// Joins another word into this one. Most are two numbers, of which only the ends change.
+    pub(crate) fn join_with(&mut self, other: &Word)
+        requires left { IsProperWord self.old }
+        requires right { IsProperWord other.now }
+        ensures value { self.new ≡ joined_word self.old other.now }
+        ensures proper { IsProperWord self.new }
+    {
+        match (&mut *self, other) {
+            (Word::Spill(Abs::Num(here)), Word::Spill(Abs::Num(there))) => *here = hull(
+                *here, *there,
+            ),
+            _ => *self = self.join(*other),
         }
     }
 

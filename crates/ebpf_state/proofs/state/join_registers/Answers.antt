@@ -9,7 +9,7 @@ loop-i-init c = joining_none joined_value IsProper Unset c.args.left.now c.args.
 
 pub loop-i-preserved : goal.loop-i-preserved
 loop-i-preserved c =
-    joining_more joined_value IsProper Unset c.args.left.now c.args.right.now c.loop-i.left c.loop-i.i c.join.result (omega arith) c.loop-i.invariant c.join.ensures.value c.join.ensures.proper
+    joining_more joined_value IsProper Unset c.args.left.now c.args.right.now c.loop-i.left c.loop-i.i c.join_with.new.self (omega arith) c.loop-i.invariant c.join_with.ensures.value c.join_with.ensures.proper
 
 pub returns-clause-value : goal.returns-clause-value
 returns-clause-value c = joining_all joined_value IsProper Unset c.args.left.now c.args.right.now c.loop-i.left c.loop-i.i (omega arith) c.loop-i.invariant

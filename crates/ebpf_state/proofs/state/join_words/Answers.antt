@@ -1,22 +1,20 @@
-use Rattle.std.proofs.Common.{◌-◌, ◌∙◌, length, drop, arith, sym, ap}
-use Rattle.std.proofs.lemmas.List.{get_or-drop}
-use Rattle.ebpf_state.specs.Words.{joined_word, all_words, IsProperWord}
-use Rattle.ebpf_state.specs.declared.word.Word.TheVariants.{Spill}
-use Rattle.ebpf_state.specs.declared.value.Abs.TheVariants.{Unset}
-use Rattle.std.proofs.Common.{get_or}
-use Rattle.ebpf_state.proofs.JoinLists.{joining_more, joining_all}
+use Rattle.std.proofs.Common.{◌≡◌, ◌∙◌, ◌++◌, ℕ, List, length, drop, refl, arith, ap, length-append}
+use Rattle.std.specs.Prelude.{replicate}
+use Rattle.ebpf_state.specs.Words.{joined_word}
+use Rattle.ebpf_state.specs.declared.word.Word.{Word}
+use Rattle.ebpf_state.specs.declared.word.Word.TheVariants.{Bytes}
+use Rattle.ebpf_state.specs.States.{joined_list}
 use Rattle.ebpf_state.proofs.Stacks.{all_words-joined}
 use Rattle.ebpf_state.proofs.state.join_words.Goals as goal
 
-pub loop-i-preserved : goal.loop-i-preserved
-loop-i-preserved c =
-    let below = 64 - length c.args.left.now in
-    let other = c.word_at.ensures.value ∙ sym (get_or-drop below (all_words c.args.right.now) c.loop-i.i (Spill Unset)) in
-    joining_more joined_word IsProperWord (Spill Unset) c.args.left.now (drop below (all_words c.args.right.now)) c.loop-i.left c.loop-i.i c.join.result (omega (arith, c.loop-i.invariant.whole)) c.loop-i.invariant
-    (c.join.ensures.value ∙ ap (joined_word (get_or c.loop-i.left c.loop-i.i (Spill Unset))) other)
-    c.join.ensures.proper
-
 pub returns-clause-value : goal.returns-clause-value
 returns-clause-value c =
-    let all = joining_all joined_word IsProperWord (Spill Unset) c.args.left.now (drop (64 - length c.args.left.now) (all_words c.args.right.now)) c.loop-i.left c.loop-i.i (omega (arith, c.loop-i.invariant.whole)) c.loop-i.invariant in
-    all_words-joined c.args.left.now c.args.right.now c.loop-i.left c.requires.few_left c.requires.few_right c.loop-i.invariant.whole all
+    let below = c.saturating_sub-below.result in
+    let beyond = c.saturating_sub-beyond.result in
+    let low : c.fill.new.self ≡ replicate below (Bytes 0) = c.fill.ensures.after (λ y e. e) ∙ ap (λ (n : ℕ). replicate n (Bytes 0)) c.split_at_mut-low.ensures.front_len in
+    let high : c.join_each.new.here ≡ joined_list joined_word (drop below c.args.left.now) (drop beyond c.args.right.now) =
+    c.join_each.ensures.value ∙ rw (c.split_at_mut-low.ensures.back, c.split_at.ensures.back) refl in
+    let whole : length (c.fill.new.self ++ c.join_each.new.here) ≡ length c.args.left.now =
+    length-append c.fill.new.self c.join_each.new.here ∙ omega (arith, c.fill.ensures.len, c.join_each.ensures.len, c.split_at_mut-low.ensures.front_len, c.split_at_mut-low.ensures.back_len) in
+    all_words-joined c.args.left.now c.args.right.now (c.fill.new.self ++ c.join_each.new.here) below beyond c.requires.few_left c.requires.few_right c.saturating_sub-below.ensures c.saturating_sub-beyond.ensures whole
+    (ap (λ (ws : List Word). ws ++ c.join_each.new.here) low ∙ ap (λ (ws : List Word). replicate below (Bytes 0) ++ ws) high)
