@@ -1,4 +1,5 @@
 pub mod Runs
+pub mod Nulls
 pub mod OneEvent
 pub mod Reading
 pub mod Isolated

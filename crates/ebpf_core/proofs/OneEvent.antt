@@ -1,23 +1,30 @@
 -- One event of the world that is kept is the event of the world that it shows.
-use Rattle.std.proofs.Common.{◌≡◌, ◌≢◌, ⊎_elim, ℕ, ◌+◌, true, false, eqb, length, List, [], ◌∷◌, ◌++◌, Some, None, Ok, Err, refl, sym, ap, ◌∙◌, subst, inl, inr, ◌⊎◌, length-set}
-use Rattle.std.specs.Prelude.{slice_get, slice_set, option_map, map}
+use Rattle.std.proofs.Common.{◌≡◌, ◌≢◌, ⊎_elim, ℕ, ◌+◌, true, false, eqb, length, List, [], ◌∷◌, ◌++◌, Option, Some, None, Ok, Err, refl, sym, ap, ◌∙◌, subst, inl, inr, ◌⊎◌, length-set}
+use Rattle.std.specs.Prelude.{slice_get, slice_set, option_map}
 use Rattle.std.proofs.lemmas.List.{length_push}
 use Rattle.std.proofs.lemmas.Bool.{eq-eqb}
 use Rattle.std.proofs.lemmas.Bool.Decides.{eqb_tells}
 use Rattle.ebpf_verify.specs.Subject.{Subject}
+use Rattle.ebpf_machine.specs.declared.report.Reply.{Reply}
 use Rattle.ebpf_machine.specs.declared.report.Reply.TheVariants as reply
 use Rattle.ebpf_machine.specs.World.{World, Running, Going, Exited, kinds_of, first_run}
 use Rattle.ebpf_machine.specs.World as world
-use Rattle.ebpf_machine.specs.Events.{NoSuchRun, RunEnded, NoSuchProgramOrKind, WrongContext, AnswerUnasked, SlotNotHome, started, starting, exec}
+use Rattle.ebpf_machine.specs.Events.{Illegal, NoSuchRun, RunEnded, NoSuchProgramOrKind, WrongContext, answer_fault, asking_of, started, starting, exec}
 use Rattle.ebpf_machine.specs.Kinds.{known_kinds}
 use Rattle.ebpf_machine.specs.View.{RunView, view_of, view_in, stepped}
 use Rattle.ebpf_machine.specs.RunState.{RunState, first_state_of, status_of}
+use Rattle.ebpf_machine.specs.Step.{reply_of, asking_in, wanted}
 use Rattle.ebpf_machine.specs.Sound.{IsSound}
 use Rattle.ebpf_machine.proofs.ListLemmas.{get_set_same, get_set_other}
 use Rattle.ebpf_machine.proofs.Owned.{owned_started}
-use Rattle.ebpf_machine.proofs.Execs.{IsNextWorld, next_world, unasked_next}
+use Rattle.ebpf_machine.proofs.Execs.{IsNextWorld, next_world}
 use Rattle.ebpf_core.specs.declared.passing.Object.{Object}
+use Rattle.ebpf_core.specs.declared.event.Answer.{Answer}
+use Rattle.ebpf_core.specs.declared.fault.ApplyCode.{ApplyCode}
+use Rattle.ebpf_core.specs.Events.{answer_of}
+use Rattle.ebpf_core.specs.Faults.{code_of}
 use Rattle.ebpf_core.specs.Shown.{WorldState, Shows, run_seen}
+use Rattle.ebpf_core.proofs.Nulls.{code_by, code_none, code_at}
 use Rattle.ebpf_core.proofs.Runs.{run_shown, none_shown, get_past, get_last, same_number}
 
 -- ---- a run starts
@@ -50,30 +57,57 @@ started_shows w kept s context kinds h = record {
 
 -- ---- a run does the instruction at its pc
 
-pub executed_shows : (w : World) (kept : WorldState) (k : ℕ) (r t : RunState Object) → Shows w kept → slice_get kept.runs k ≡ Some r → IsSound (run_seen r) → r.exit ≡ None → run_seen t ≡ stepped reply.Null (run_seen r)
-    → (after : World) × (exec w k world.Absent ≡ Ok after) × Shows after (record kept { runs = slice_set kept.runs k t })
-executed_shows w kept k r t h at sound going step =
+-- a run that goes on, in the world that shows it, and why an answer to it is not legal there
+record IsAt (w : World) (k : ℕ) (r : RunState Object) : Type 0 where
+  run : Running
+  there : slice_get w.runs k ≡ Some run
+  seen : view_of w k run ≡ run_seen r
+  goes : run.status ≡ Going
+  sound : IsSound (view_of w k run)
+  code : (answer : Answer) → option_map code_of (answer_fault w (asking_of w run) (answer_of answer)) ≡ code_by answer (wanted (asking_in (run_seen r)))
+
+going_at : (w : World) (kept : WorldState) (k : ℕ) (r : RunState Object) → Shows w kept → slice_get kept.runs k ≡ Some r → IsSound (run_seen r) → r.exit ≡ None → IsAt w k r
+going_at w kept k r h at sound going =
     let run = run_shown w kept k r h at in
     let goes : run.0.status ≡ Going = ap (λ (v : RunView). v.status) run.2 ∙ ap status_of going in
-    let next = next_world w k run.0 h.owned run.1 (subst IsSound (sym run.2) sound) goes in (
+    let here = subst IsSound (sym run.2) sound in
+    record {
+      run = run.0;
+      there = run.1;
+      seen = run.2;
+      goes = goes;
+      sound = here;
+      code = λ answer. code_at w k run.0 answer h.owned h.ledgers run.1 here goes ∙ ap (λ (v : RunView). code_by answer (wanted (asking_in v))) run.2;
+    }
+
+pub executed_shows : (w : World) (kept : WorldState) (k : ℕ) (answer : Answer) (r t : RunState Object) → Shows w kept → slice_get kept.runs k ≡ Some r → IsSound (run_seen r) → r.exit ≡ None → code_by answer (wanted (asking_in (run_seen r))) ≡ None → run_seen t ≡ stepped reply.Null (run_seen r)
+    → (after : World) × (exec w k (answer_of answer) ≡ Ok after) × Shows after (record kept { runs = slice_set kept.runs k t })
+executed_shows w kept k answer r t h at sound going fine step =
+    let here = going_at w kept k r h at sound going in
+    let null = code_none answer (wanted (asking_in (run_seen r))) fine in
+    let next = next_world w k here.run (answer_of answer) h.owned here.there here.sound here.goes (no_fault (answer_fault w (asking_of w here.run) (answer_of answer)) (here.code answer ∙ fine)) in (
       next.0,
       next.1.legal,
       record {
-        views = λ j. view_at next.0 run next.1 j (same_number j k);
+        views = λ j. view_at here null next.0 next.1 j (same_number j k);
         as_many = next.1.as_many ∙ (h.as_many ∙ sym (length-set kept.runs k t));
         kinds = next.1.kinds ∙ h.kinds;
         ledgers = next.1.ledgers ∙ h.ledgers;
-        owners = next.1.owners ∙ h.owners;
+        owners = next.1.unowned h.owners null;
         owned = next.1.owned;
       },
     )
   where
-    view_at : (after : World) (run : (m : Running) × (slice_get w.runs k ≡ Some m) × (view_of w k m ≡ run_seen r)) → IsNextWorld w k run.0 after → (j : ℕ) → (j ≡ k) ⊎ (j ≢ k) → view_in after j ≡ option_map run_seen (slice_get (slice_set kept.runs k t) j)
-    view_at after run n j (inl same) =
-        let seen : view_in after k ≡ Some (run_seen t) = n.seen ∙ ap Some (ap (stepped reply.Null) run.2 ∙ sym step) in
-        let here = ap (option_map run_seen) (get_set_same kept.runs k r t at) in
-        subst (λ (i : ℕ). view_in after i ≡ option_map run_seen (slice_get (slice_set kept.runs k t) i)) (sym same) (seen ∙ sym here)
-    view_at after run n j (inr ne) = n.others j ne ∙ (h.views j ∙ sym (ap (option_map run_seen) (get_set_other kept.runs k j t ne)))
+    no_fault : (o : Option Illegal) → option_map code_of o ≡ None → o ≡ None
+    no_fault None e = refl
+    no_fault (Some why) e = absurd (cc)
+
+    view_at : (here : IsAt w k r) → reply_of (answer_of answer) ≡ reply.Null → (after : World) → IsNextWorld w k here.run (answer_of answer) after → (j : ℕ) → (j ≡ k) ⊎ (j ≢ k) → view_in after j ≡ option_map run_seen (slice_get (slice_set kept.runs k t) j)
+    view_at here null after n j (inl same) =
+        let seen : view_in after k ≡ Some (run_seen t) = n.seen ∙ ap Some (ap (λ (told : Reply). stepped told (view_of w k here.run)) null ∙ ap (stepped reply.Null) here.seen ∙ sym step) in
+        let now = ap (option_map run_seen) (get_set_same kept.runs k r t at) in
+        subst (λ (i : ℕ). view_in after i ≡ option_map run_seen (slice_get (slice_set kept.runs k t) i)) (sym same) (seen ∙ sym now)
+    view_at here null after n j (inr ne) = n.others j ne ∙ (h.views j ∙ sym (ap (option_map run_seen) (get_set_other kept.runs k j t ne)))
 
 -- there is no such run
 pub executed_none : (w : World) (kept : WorldState) (k : ℕ) (answer : world.Answer) → Shows w kept → slice_get kept.runs k ≡ None → exec w k answer ≡ Err NoSuchRun
@@ -86,23 +120,16 @@ executed_ended w kept k n answer r h at ended =
     let exited : run.0.status ≡ Exited n = ap (λ (v : RunView). v.status) run.2 ∙ ap status_of ended in
     rw (run.1, exited) refl
 
--- an answer that was not asked for
-pub executed_null : (w : World) (kept : WorldState) (k : ℕ) (r : RunState Object) → Shows w kept → slice_get kept.runs k ≡ Some r → IsSound (run_seen r) → r.exit ≡ None → exec w k world.Null ≡ Err AnswerUnasked
-executed_null w kept k r h at sound going =
-    let run = run_shown w kept k r h at in
-    let goes : run.0.status ≡ Going = ap (λ (v : RunView). v.status) run.2 ∙ ap status_of going in
-    let unasked = unasked_next w k run.0 (subst IsSound (sym run.2) sound) goes in
-    rw (run.1, goes, unasked) refl
+-- the answer is not one that the run may get
+pub executed_bad : (w : World) (kept : WorldState) (k : ℕ) (answer : Answer) (code : ApplyCode) (r : RunState Object) → Shows w kept → slice_get kept.runs k ≡ Some r → IsSound (run_seen r) → r.exit ≡ None → code_by answer (wanted (asking_in (run_seen r))) ≡ Some code
+    → (why : Illegal) × (exec w k (answer_of answer) ≡ Err why) × (code ≡ code_of why)
+executed_bad w kept k answer code r h at sound going bad = by (answer_fault w (asking_of w here.run) (answer_of answer)) refl where
+  here : IsAt w k r
+  here = going_at w kept k r h at sound going
 
--- a slot of no ledger is not home
-away : (w : World) (k slot : ℕ) (run : Running) → w.ledgers ≡ map (λ kind. []) known_kinds → slice_get w.runs k ≡ Some run → run.status ≡ Going → exec w k (world.Slot slot) ≡ Err SlotNotHome
-away w k slot run none there goes = rw (there, goes, none) refl
-
-pub executed_slot : (w : World) (kept : WorldState) (k slot : ℕ) (r : RunState Object) → Shows w kept → slice_get kept.runs k ≡ Some r → r.exit ≡ None → exec w k (world.Slot slot) ≡ Err SlotNotHome
-executed_slot w kept k slot r h at going =
-    let run = run_shown w kept k r h at in
-    let goes : run.0.status ≡ Going = ap (λ (v : RunView). v.status) run.2 ∙ ap status_of going in
-    away w k slot run.0 h.ledgers run.1 goes
+  by : (o : Option Illegal) → answer_fault w (asking_of w here.run) (answer_of answer) ≡ o → (why : Illegal) × (exec w k (answer_of answer) ≡ Err why) × (code ≡ code_of why)
+  by None fault = let none = ap (option_map code_of) (sym fault) ∙ here.code answer ∙ bad in absurd (cc)
+  by (Some why) fault = let same = ap (option_map code_of) (sym fault) ∙ here.code answer ∙ bad in (why, rw (here.there, here.goes, fault) refl, cc)
 
 -- a run starts, or why it doesn't
 pub starting_none : (programs : List Subject) (program : ℕ) (context : List ℕ) (w : World) → slice_get programs program ≡ None → starting (slice_get programs program) context w ≡ Err NoSuchProgramOrKind

@@ -148,10 +148,14 @@ impl<'v> World<'v> {
         if run.exit().is_some() {
             return Err(ApplyFault::Bad(ApplyCode::E2));
         }
-        match answer {
-            Answer::Absent => {}
-            Answer::Null => return Err(ApplyFault::Bad(ApplyCode::E5)),
-            Answer::Slot(_) => return Err(ApplyFault::Bad(ApplyCode::E3)),
+        let fault = match (answer, run.wants()) {
+            (Answer::Slot(_), _) => Some(ApplyCode::E3), // none is home yet
+            (Answer::Null, None) => Some(ApplyCode::E5),
+            (Answer::Absent, Some(_)) => Some(ApplyCode::E6),
+            _ => None,
+        };
+        if let Some(code) = fault {
+            return Err(ApplyFault::Bad(code));
         }
         step_in::<Brand, Brand>(run, Blank::new(1), Blank::new(1));
         Ok(())

@@ -1,5 +1,5 @@
 -- What an event leaves of the views of the runs of a world, by cases of what its instruction asks.
-use Rattle.std.proofs.Common.{◌≡◌, ◌≢◌, ℕ, ◌+◌, ◌<◌, ◌≤◌, pos, Bool, true, false, cond, if◌then◌else◌, not, List, [], ◌∷◌, ◌++◌, length, map, filter, Option, Some, option_map, refl, sym, ap, ◌∙◌}
+use Rattle.std.proofs.Common.{◌≡◌, ◌≢◌, ℕ, ◌+◌, ◌<◌, ◌≤◌, pos, Bool, true, false, cond, not, List, [], ◌∷◌, ◌++◌, length, map, Option, Some, option_map, refl, sym, ap, ◌∙◌}
 use Rattle.std.specs.Prelude.{Contains, slice_get, slice_set, ◌==◌, nat_le}
 use Rattle.std.proofs.lemmas.List.{length-map, map_push, map-set}
 use Rattle.ebpf_insn.specs.declared.register.Reg.TheVariants.{R0}
@@ -16,10 +16,12 @@ use Rattle.ebpf_machine.specs.Events.{with_run, with_bytes, with_owner, gone, en
 use Rattle.ebpf_machine.specs.View.{RunView, ObjectView, value_seen, register_seen, frame_seen, call_of, object_in, view_of, view_in, slots_in, patched_at, new_object}
 use Rattle.ebpf_machine.specs.View as view
 use Rattle.ebpf_machine.specs.Step.{reply_of}
+use Rattle.ebpf_machine.specs.Advance.{slots_acted, slots_after}
 use Rattle.ebpf_machine.specs.Sound.{IsOwned}
 use Rattle.ebpf_machine.proofs.ListLemmas.{get_set_same, get_set_other, filter-map}
 use Rattle.ebpf_machine.proofs.Owners.{held_given, held_granted, others_given, others_granted}
 use Rattle.ebpf_machine.proofs.ObjectsSeen.{objects_of, objects_written, others_written, objects_given, others_given_back, objects_granted, others_unchanged}
+use Rattle.ebpf_machine.proofs.TrapsSeen.{trap_seen}
 pub use Rattle.ebpf_machine.proofs.Owners.{owner_of}
 
 -- what a run sees of what its instruction asks, and of an effect
@@ -32,7 +34,7 @@ act_seen (Give name) = Give name.1
 abbrev pub effect_seen : Effect Name → Effect ℕ
 effect_seen (Goes act to frame) = Goes (act_seen act) to (frame_seen frame)
 effect_seen (Ends n) = Ends n
-effect_seen (Traps trap) = Traps trap
+effect_seen (Traps trap) = Traps (trap_seen trap)
 
 -- the slot that is answered is home, and of the kind
 abbrev pub IsGrantable : World → ℕ → Answer → Type 0
@@ -46,10 +48,11 @@ IsOwnAct w run answer (Write name at bytes) = Contains w.owners (owner_of run na
 IsOwnAct w run answer (Take kind) = (kind < length w.kinds) × IsGrantable w kind answer
 IsOwnAct w run answer (Give name) = Contains w.owners (owner_of run name)
 
+-- and it does not trap
 abbrev pub IsOwnEffect : World → ℕ → Answer → Effect Name → Type 0
 IsOwnEffect w run answer (Goes act to frame) = IsOwnAct w run answer act
 IsOwnEffect w run answer (Ends n) = Unit {0}
-IsOwnEffect w run answer (Traps trap) = Unit {0}
+IsOwnEffect w run answer (Traps trap) = ⊥
 
 -- ---- a world in which one run was written
 
@@ -115,7 +118,7 @@ with_objects w run r to frame objects now same = ap (λ (os : List ObjectView). 
 pub own_view : (w : World) (run : ℕ) (r : Running) (e : Effect Name) (answer : Answer) → IsOwned w → slice_get w.runs run ≡ Some r → IsOwnEffect w run answer e
     → view_in (done_by e answer w run r) run ≡ Some (view.done_by (effect_seen e) (reply_of answer) (view_of w run r))
 own_view w run r (Ends n) answer owned there own = own_seen (with_run w run (ended n r)) run w.runs r (ended n r) there refl
-own_view w run r (Traps trap) answer owned there own = own_seen (with_run w run (trapped trap r)) run w.runs r (trapped trap r) there refl
+own_view w run r (Traps trap) answer owned there own = absurd own
 own_view w run r (Goes Nothing to frame) answer owned there own = own_seen (with_run w run (gone to frame r)) run w.runs r (gone to frame r) there refl
 own_view w run r (Goes (Write name at bytes) to frame) answer owned there own =
     own_seen (done_by (Goes (Write name at bytes) to frame) answer w run r) run w.runs r (gone to frame r) there refl
@@ -145,7 +148,7 @@ others_taken w run other r slot to kind frame home ne = by (nat_le r.subject.dec
 pub others_view : (w : World) (run other : ℕ) (r : Running) (e : Effect Name) (answer : Answer) → IsOwned w → IsOwnEffect w run answer e → other ≢ run
     → view_in (done_by e answer w run r) other ≡ view_in w other
 others_view w run other r (Ends n) answer owned own ne = other_seen (with_run w run (ended n r)) w run other (ended n r) ne refl refl
-others_view w run other r (Traps trap) answer owned own ne = other_seen (with_run w run (trapped trap r)) w run other (trapped trap r) ne refl refl
+others_view w run other r (Traps trap) answer owned own ne = absurd own
 others_view w run other r (Goes Nothing to frame) answer owned own ne = other_seen (with_run w run (gone to frame r)) w run other (gone to frame r) ne refl refl
 others_view w run other r (Goes (Write name at bytes) to frame) answer owned own ne =
     other_seen (done_by (Goes (Write name at bytes) to frame) answer w run r) w run other (gone to frame r) ne refl (others_written w run other name (patched (w.bytes name.0) at bytes) owned own.0 ne)
@@ -173,23 +176,13 @@ others_held w run other r slot to kind frame ne = by (nat_le r.subject.decl.held
 pub others_slots : (w : World) (run other : ℕ) (r : Running) (e : Effect Name) (answer : Answer) → IsOwned w → IsOwnEffect w run answer e → other ≢ run
     → slots_in (done_by e answer w run r) other ≡ slots_in w other
 others_slots w run other r (Ends n) answer owned own ne = refl
-others_slots w run other r (Traps trap) answer owned own ne = refl
+others_slots w run other r (Traps trap) answer owned own ne = absurd own
 others_slots w run other r (Goes Nothing to frame) answer owned own ne = refl
 others_slots w run other r (Goes (Write name at bytes) to frame) answer owned own ne = refl
 others_slots w run other r (Goes (Give name) to frame) answer owned own ne = ap (map slot_held) (others_given w run other name ne)
 others_slots w run other r (Goes (Take kind) to frame) Absent owned own ne = refl
 others_slots w run other r (Goes (Take kind) to frame) Null owned own ne = refl
 others_slots w run other r (Goes (Take kind) to frame) (Slot slot) owned own ne = ap (map slot_held) (others_held w run other r slot to kind frame ne)
-
--- and which the run itself holds, where it declared as many and is at this slot of its program
-abbrev pub slots_acted : Act Name → Answer → ℕ → ℕ → List Name → List Name
-slots_acted (Take kind) (Slot slot) declared pc held = if nat_le declared (length held) then held else held ++ (slot, pc) ∷ []
-slots_acted (Give name) answer declared pc held = filter (λ (n : Name). not (n.1 == name.1)) held
-slots_acted _ answer declared pc held = held
-
-abbrev pub slots_after : Effect Name → Answer → ℕ → ℕ → List Name → List Name
-slots_after (Goes act to frame) answer declared pc held = slots_acted act answer declared pc held
-slots_after _ answer declared pc held = held
 
 slots_granted : (w : World) (run : ℕ) (r : Running) (slot to kind : ℕ) (frame : Frame Name) → slots_in (granted slot w run r to frame kind) run ≡ slots_acted (Take kind) (Slot slot) r.subject.decl.held r.pc (slots_in w run)
 slots_granted w run r slot to kind frame = by (nat_le r.subject.decl.held (holds_of w run)) ∙ ap (λ (n : ℕ). slots_by (nat_le r.subject.decl.held n)) (sym (length-map (held_by w run) slot_held)) where
@@ -204,9 +197,9 @@ slots_granted w run r slot to kind frame = by (nat_le r.subject.decl.held (holds
   by false = ap (map slot_held) (held_granted w run r.pc slot) ∙ map_push slot_held (held_by w run) (owner_of run (slot, r.pc))
 
 pub own_slots : (w : World) (run : ℕ) (r : Running) (e : Effect Name) (answer : Answer) → IsOwned w → IsOwnEffect w run answer e
-    → slots_in (done_by e answer w run r) run ≡ slots_after e answer r.subject.decl.held r.pc (slots_in w run)
+    → slots_in (done_by e answer w run r) run ≡ slots_after (effect_seen e) answer r.subject.decl.held r.pc (slots_in w run)
 own_slots w run r (Ends n) answer owned own = refl
-own_slots w run r (Traps trap) answer owned own = refl
+own_slots w run r (Traps trap) answer owned own = absurd own
 own_slots w run r (Goes Nothing to frame) answer owned own = refl
 own_slots w run r (Goes (Write name at bytes) to frame) answer owned own = refl
 own_slots w run r (Goes (Give name) to frame) answer owned own =

@@ -147,19 +147,19 @@ both_numbers calls o a b v w bound_a bound_b h k =
     rw (m.1, n.1) (numbers_fit calls o W64 a b m.0 n.0 bound_a bound_b m.2 n.2)
 
 -- the cases of what is known of the two values
-summed : (calls : List ℕ) (left right : Abs) (v w : Value ℕ) → IsBoundedValue left → IsBoundedValue right → (is_unset left || is_unset right) ≡ false → (is_may left || is_may right) ≡ false → (is_pointer left && is_pointer right) ≡ false → (makes_stack_offset_vary left right || makes_stack_offset_vary right left) ≡ false → is_none (sum_value left right) ≡ false → IsOf calls left (Some v) → IsOf calls right (Some w) → IsSummed calls left right (Some v) (Some w)
-summed calls (Num a) (Num b) v w x y u m p c t h k = both_numbers calls op.Add a b v w x y h k
-summed calls (Num a) (Stk j) v w x y u m p c t h k = on_right calls (Stk j) a w v refl (neither false (makes_stack_offset_vary (Stk j) (Num a)) c).1 t k h
-summed calls (Num a) (Ctx j l) v w x y u m p c t h k = on_right calls (Ctx j l) a w v refl refl t k h
-summed calls (Num a) (Ob r j l) v w x y u m p c t h k = on_right calls (Ob r j l) a w v refl refl t k h
-summed calls (Stk j) (Num b) v w x y u m p c t h k = on_left calls (Stk j) b v w refl (neither (makes_stack_offset_vary (Stk j) (Num b)) false c).0 t h k
-summed calls (Ctx j l) (Num b) v w x y u m p c t h k = on_left calls (Ctx j l) b v w refl refl t h k
-summed calls (Ob r j l) (Num b) v w x y u m p c t h k = on_left calls (Ob r j l) b v w refl refl t h k
-summed calls _ _ v w x y u m p c t h k = absurd (cc)
+summed : (calls : List ℕ) (slot : ℕ) (left right : Abs) (v w : Value ℕ) → IsBoundedValue slot left → IsBoundedValue slot right → (is_unset left || is_unset right) ≡ false → (is_may left || is_may right) ≡ false → (is_pointer left && is_pointer right) ≡ false → (makes_stack_offset_vary left right || makes_stack_offset_vary right left) ≡ false → is_none (sum_value left right) ≡ false → IsOf calls left (Some v) → IsOf calls right (Some w) → IsSummed calls left right (Some v) (Some w)
+summed calls slot (Num a) (Num b) v w x y u m p c t h k = both_numbers calls op.Add a b v w x y h k
+summed calls slot (Num a) (Stk j) v w x y u m p c t h k = on_right calls (Stk j) a w v refl (neither false (makes_stack_offset_vary (Stk j) (Num a)) c).1 t k h
+summed calls slot (Num a) (Ctx j l) v w x y u m p c t h k = on_right calls (Ctx j l) a w v refl refl t k h
+summed calls slot (Num a) (Ob r j l) v w x y u m p c t h k = on_right calls (Ob r j l) a w v refl refl t k h
+summed calls slot (Stk j) (Num b) v w x y u m p c t h k = on_left calls (Stk j) b v w refl (neither (makes_stack_offset_vary (Stk j) (Num b)) false c).0 t h k
+summed calls slot (Ctx j l) (Num b) v w x y u m p c t h k = on_left calls (Ctx j l) b v w refl refl t h k
+summed calls slot (Ob r j l) (Num b) v w x y u m p c t h k = on_left calls (Ob r j l) b v w refl refl t h k
+summed calls slot _ _ v w x y u m p c t h k = absurd (cc)
 
 -- a sum at 64 bits that is not refused
-pub sum_sound : (calls : List ℕ) (left right : Abs) (x y : Option (Value ℕ)) (dst : Reg) → add64_refusal left right dst ≡ None → IsBoundedValue left → IsBoundedValue right → IsOf calls left x → IsOf calls right y → (is_frame_pointer dst ≡ false) × IsSummed calls left right x y
-sum_sound calls left right x y dst fine bound_left bound_right h k =
+pub sum_sound : (calls : List ℕ) (slot : ℕ) (left right : Abs) (x y : Option (Value ℕ)) (dst : Reg) → add64_refusal left right dst ≡ None → IsBoundedValue slot left → IsBoundedValue slot right → IsOf calls left x → IsOf calls right y → (is_frame_pointer dst ≡ false) × IsSummed calls left right x y
+sum_sound calls slot left right x y dst fine bound_left bound_right h k =
     let a = none_first (is_unset left || is_unset right) _ _ fine in
     let b = none_first (is_frame_pointer dst) _ _ a.1 in
     let m = none_first (is_may left || is_may right) _ _ b.1 in
@@ -169,7 +169,7 @@ sum_sound calls left right x y dst fine bound_left bound_right h k =
     let set = neither (is_unset left) (is_unset right) a.0 in
     let v = set_value calls left x set.0 h in
     let w = set_value calls right y set.1 k in
-    (b.0, rw (v.1, w.1) (summed calls left right v.0 w.0 bound_left bound_right a.0 m.0 p.0 c.0 t.0 v.2 w.2))
+    (b.0, rw (v.1, w.1) (summed calls slot left right v.0 w.0 bound_left bound_right a.0 m.0 p.0 c.0 t.0 v.2 w.2))
 
 -- ---- differences
 
@@ -184,16 +184,16 @@ moved_back calls p b v w is_p clear there h k =
     let difference = ap (λ (u : Value ℕ). computed W64 op.Sub u (Number n.0)) at.2 ∙ ((shifts at.0 at.1 n.0).2 ∙ ap (λ (u : Value ℕ). shifted u (pos 0 -ℤ signed_of n.0)) (sym at.2)) in
     rw (n.1, known, difference) (moved_by_number calls p v (pos 0 -ℤ signed_of n.0) (opposite_ends (signed_ends b)) is_p h (subst (λ (o : Option Abs). is_none o ≡ false) known there) (by_difference p b n.0 clear n.2))
 
-taken_from : (calls : List ℕ) (left right : Abs) (v w : Value ℕ) → IsBoundedValue left → IsBoundedValue right → (is_unset left || is_unset right) ≡ false → (is_may left || is_may right) ≡ false → is_pointer right ≡ false → makes_stack_offset_vary left right ≡ false → is_none (difference_value left right) ≡ false → IsOf calls left (Some v) → IsOf calls right (Some w) → IsDifference calls left right (Some v) (Some w)
-taken_from calls (Num a) (Num b) v w x y u m p c t h k = both_numbers calls op.Sub a b v w x y h k
-taken_from calls (Stk j) (Num b) v w x y u m p c t h k = moved_back calls (Stk j) b v w refl c t h k
-taken_from calls (Ctx j l) (Num b) v w x y u m p c t h k = moved_back calls (Ctx j l) b v w refl refl t h k
-taken_from calls (Ob r j l) (Num b) v w x y u m p c t h k = moved_back calls (Ob r j l) b v w refl refl t h k
-taken_from calls _ _ v w x y u m p c t h k = absurd (cc)
+taken_from : (calls : List ℕ) (slot : ℕ) (left right : Abs) (v w : Value ℕ) → IsBoundedValue slot left → IsBoundedValue slot right → (is_unset left || is_unset right) ≡ false → (is_may left || is_may right) ≡ false → is_pointer right ≡ false → makes_stack_offset_vary left right ≡ false → is_none (difference_value left right) ≡ false → IsOf calls left (Some v) → IsOf calls right (Some w) → IsDifference calls left right (Some v) (Some w)
+taken_from calls slot (Num a) (Num b) v w x y u m p c t h k = both_numbers calls op.Sub a b v w x y h k
+taken_from calls slot (Stk j) (Num b) v w x y u m p c t h k = moved_back calls (Stk j) b v w refl c t h k
+taken_from calls slot (Ctx j l) (Num b) v w x y u m p c t h k = moved_back calls (Ctx j l) b v w refl refl t h k
+taken_from calls slot (Ob r j l) (Num b) v w x y u m p c t h k = moved_back calls (Ob r j l) b v w refl refl t h k
+taken_from calls slot _ _ v w x y u m p c t h k = absurd (cc)
 
 -- a difference at 64 bits that is not refused
-pub difference_sound : (calls : List ℕ) (left right : Abs) (x y : Option (Value ℕ)) (dst : Reg) → sub64_refusal left right dst ≡ None → IsBoundedValue left → IsBoundedValue right → IsOf calls left x → IsOf calls right y → (is_frame_pointer dst ≡ false) × IsDifference calls left right x y
-difference_sound calls left right x y dst fine bound_left bound_right h k =
+pub difference_sound : (calls : List ℕ) (slot : ℕ) (left right : Abs) (x y : Option (Value ℕ)) (dst : Reg) → sub64_refusal left right dst ≡ None → IsBoundedValue slot left → IsBoundedValue slot right → IsOf calls left x → IsOf calls right y → (is_frame_pointer dst ≡ false) × IsDifference calls left right x y
+difference_sound calls slot left right x y dst fine bound_left bound_right h k =
     let a = none_first (is_unset left || is_unset right) _ _ fine in
     let b = none_first (is_frame_pointer dst) _ _ a.1 in
     let m = none_first (is_may left || is_may right) _ _ b.1 in
@@ -203,4 +203,4 @@ difference_sound calls left right x y dst fine bound_left bound_right h k =
     let set = neither (is_unset left) (is_unset right) a.0 in
     let v = set_value calls left x set.0 h in
     let w = set_value calls right y set.1 k in
-    (b.0, rw (v.1, w.1) (taken_from calls left right v.0 w.0 bound_left bound_right a.0 m.0 p.0 c.0 t.0 v.2 w.2))
+    (b.0, rw (v.1, w.1) (taken_from calls slot left right v.0 w.0 bound_left bound_right a.0 m.0 p.0 c.0 t.0 v.2 w.2))

@@ -1,5 +1,5 @@
 -- What is loaded from the stack and stored to it is, as a run sees it, what is loaded and stored in the world.
-use Rattle.std.proofs.Common.{◌≡◌, ℕ, zero, suc, ◌+◌, ◌-◌, ◌/◌, ℤ, Bool, true, false, cond, not, List, [], ◌∷◌, Option, Some, None, Result, Ok, Err, refl, ap, arith}
+use Rattle.std.proofs.Common.{◌≡◌, ℕ, zero, suc, ◌+◌, ◌-◌, ◌/◌, ℤ, Bool, true, false, cond, not, List, [], ◌∷◌, Option, Some, None, Result, Ok, Err, refl, sym, ap, arith}
 use Rattle.std.specs.Prelude.{map, Contains, ◌&&◌, ◌==◌}
 use Rattle.std.specs.List.{enumerate_from}
 use Rattle.std.specs.Ordering.{int_eq}
@@ -15,14 +15,15 @@ use Rattle.ebpf_machine.specs.Cells.{cell_at, is_same_base, is_same_pointer, is_
 use Rattle.ebpf_machine.specs.World.{Name}
 use Rattle.ebpf_machine.specs.View.{base_seen, value_seen, cell_seen}
 use Rattle.ebpf_machine.specs.Sound.{Names, NamesPart, HasPointer, InCell}
+use Rattle.ebpf_machine.proofs.TrapsSeen.{trap_seen}
 
 abbrev pub result_seen : Result (Value Name) Trap → Result (Value ℕ) Trap
 result_seen (Ok v) = Ok (value_seen v)
-result_seen (Err trap) = Err trap
+result_seen (Err trap) = Err (trap_seen trap)
 
 abbrev pub stack_seen : Result (List (Cell Name)) Trap → Result (List (Cell ℕ)) Trap
 stack_seen (Ok stack) = Ok (map cell_seen stack)
-stack_seen (Err trap) = Err trap
+stack_seen (Err trap) = Err (trap_seen trap)
 
 cell_at-seen : (xs : List (Cell Name)) (k : ℕ) → cell_at (map cell_seen xs) k ≡ cell_seen (cell_at xs k)
 cell_at-seen [] k = refl
@@ -127,9 +128,9 @@ loaded_at-seen one seen (Some place) bytes signed stack alike =
     rw (cell_at-seen stack place, pointer, number-seen stack place bytes, loaded_word-seen (pointer_from one (cell_at stack place) stack place) n bytes signed, loaded_number-seen n bytes signed)
     (chosen-seen (is_whole_word place bytes) (loaded_word (pointer_from one (cell_at stack place) stack place) n bytes signed) (loaded_number n bytes signed))
 
-pub read_at-seen : (place : Option ℕ) (bytes : ℕ) (signed : Bool) (context : List ℕ) → read_at place bytes signed context ≡ result_seen (read_at place bytes signed context)
-read_at-seen None bytes signed context = refl
-read_at-seen (Some place) bytes signed context = refl
+pub read_at-seen : (outside : Trap) (place : Option ℕ) (bytes : ℕ) (signed : Bool) (source : List ℕ) → trap_seen outside ≡ outside → read_at outside place bytes signed source ≡ result_seen (read_at outside place bytes signed source)
+read_at-seen outside None bytes signed source same = ap Err (sym same)
+read_at-seen outside (Some place) bytes signed source same = refl
 
 -- ---- stores
 
@@ -159,11 +160,11 @@ is_pointer-seen : (v : Value Name) → is_pointer (value_seen v) ≡ is_pointer 
 is_pointer-seen (Number n) = refl
 is_pointer-seen (Pointer base k) = refl
 
-either-seen : (t : Bool) (trap : Trap) (stack : List (Cell Name)) → cond t (Err trap) (Ok (map cell_seen stack)) ≡ stack_seen (cond t (Err trap) (Ok stack))
-either-seen true trap stack = refl
-either-seen false trap stack = refl
+either-seen : (t : Bool) (stack : List (Cell Name)) → cond t (Err PointerMisuse) (Ok (map cell_seen stack)) ≡ stack_seen (cond t (Err PointerMisuse) (Ok stack))
+either-seen true stack = refl
+either-seen false stack = refl
 
 pub stored_at-seen : (place : Option ℕ) (bytes : ℕ) (v : Value Name) (stack : List (Cell Name)) → stored_at place bytes (value_seen v) (map cell_seen stack) ≡ stack_seen (stored_at place bytes v stack)
 stored_at-seen None bytes v stack = refl
 stored_at-seen (Some place) bytes v stack =
-    rw (is_pointer-seen v, stored_from-seen place bytes v 0 stack) (either-seen (is_pointer v && not (is_whole_word place bytes)) PointerMisuse (stored_cells place bytes v stack))
+    rw (is_pointer-seen v, stored_from-seen place bytes v 0 stack) (either-seen (is_pointer v && not (is_whole_word place bytes)) (stored_cells place bytes v stack))

@@ -1,11 +1,10 @@
 -- What is known on the edge that a branch takes speaks of the run: of a comparison of two numbers, and of a null test.
-use Rattle.std.proofs.Common.{◌≡◌, ◌≢◌, ℕ, zero, suc, pos, ◌<◌, ◌≤◌, ◌^◌, Bool, true, false, cond, not, List, [], ◌∷◌, length, get_or, set, Option, Some, None, Ok, refl, sym, ap, ◌∙◌, subst, arith, inl, inr, ◌⊎◌, length-set, ◌+◌, ◌*◌}
-use Rattle.std.specs.Prelude.{Contains, ◌==◌, ◌||◌, map, filter}
+use Rattle.std.proofs.Common.{◌≡◌, ◌≢◌, ℕ, zero, pos, ◌<◌, ◌≤◌, ◌^◌, Bool, true, false, cond, List, length, get_or, set, Option, Some, None, Ok, refl, sym, ap, ◌∙◌, subst, arith, inl, inr, ◌⊎◌, length-set, ◌+◌, ◌*◌}
+use Rattle.std.specs.Prelude.{Contains, ◌==◌, ◌||◌, map}
 use Rattle.std.proofs.lemmas.Bool.Decides.{nat_tests}
 use Rattle.std.proofs.lemmas.Bool.{cond_both, cases_lt}
 use Rattle.std.proofs.lemmas.Int.{ints}
-use Rattle.std.proofs.Math.ListN as lists
-use Rattle.std.proofs.lemmas.List.{get_or-map, length-map, get_or-set_same, get_or-set_other}
+use Rattle.std.proofs.lemmas.List.{get_or-map, get_or-set_same, get_or-set_other}
 use Rattle.ebpf_insn.specs.declared.register.Reg.{Reg}
 use Rattle.ebpf_insn.specs.declared.insn.Cond.{Cond}
 use Rattle.ebpf_insn.specs.declared.insn.Cond.TheVariants as on
@@ -21,11 +20,10 @@ use Rattle.ebpf_range.specs.Refinements.{refinement}
 use Rattle.ebpf_range.proofs.RefinementLemmas.{Keeps, refinement-keeps}
 use Rattle.ebpf_state.specs.declared.value.Abs.{Abs}
 use Rattle.ebpf_state.specs.declared.value.Abs.TheVariants.{Unset, Num, Stk, Ctx, Ob, May}
-use Rattle.ebpf_state.specs.declared.held.Held.{Held}
 use Rattle.ebpf_state.specs.Abstract.{is_unset, is_pointer, is_may}
 use Rattle.ebpf_state.specs.StateView.{StateView}
 use Rattle.ebpf_state.specs.States.{with_register}
-use Rattle.ebpf_state.specs.References.{answer_known, settled_value, settled_word, settled_held, tested_reference, settled}
+use Rattle.ebpf_state.specs.References.{answer_known, settled_value, settled_word, settled}
 use Rattle.ebpf_verify.specs.Branches.{compares_with_null, answering_call, null_test, comparison_refusal, refined_values, with_operand, is_null_where}
 use Rattle.ebpf_machine.specs.declared.value.Value.{Value}
 use Rattle.ebpf_machine.specs.declared.value.Value.TheVariants.{Number, Pointer}
@@ -39,7 +37,8 @@ use Rattle.ebpf_machine.specs.Cells.{cell_at}
 use Rattle.ebpf_machine.specs.View.{ObjectView}
 use Rattle.ebpf_machine.specs.Concretization.{IsOf, IsOfCells, AreOf, AreReferred, calls_of}
 use Rattle.ebpf_machine.proofs.Bounded.{IsBoundedValue, IsFull, number_of-lt}
-use Rattle.ebpf_machine.proofs.ListLemmas.{Contains-tail}
+use Rattle.ebpf_machine.proofs.Mapped.{Contains-mapped}
+use Rattle.ebpf_machine.proofs.Referred.{kinds_without, tested_kinds}
 use Rattle.ebpf_machine.proofs.Words.{settled_cells}
 use Rattle.ebpf_machine.proofs.Operations.{none_first, neither, number_value}
 
@@ -65,8 +64,8 @@ refined_numbers calls condition width left right src x y m n a b e f g i below_a
     rw (e, f, g, i) (record { taken = taken; goes = refl; known = kept.0; refined = kept.1; of_left = (kept.2, h.1); of_right = (kept.3, k.1) })
 
 -- a comparison that is not refused is of two numbers
-pub comparison_sound : (calls : List ℕ) (condition : Cond) (width : Width) (left right : Abs) (src : Source) (x y : Option (Value ℕ)) → comparison_refusal left right ≡ None → IsBoundedValue left → IsBoundedValue right → IsOf calls left x → IsOf calls right y → IsRefined calls condition width left right src x y
-comparison_sound calls condition width left right src x y fine bound_left bound_right h k =
+pub comparison_sound : (calls : List ℕ) (slot : ℕ) (condition : Cond) (width : Width) (left right : Abs) (src : Source) (x y : Option (Value ℕ)) → comparison_refusal left right ≡ None → IsBoundedValue slot left → IsBoundedValue slot right → IsOf calls left x → IsOf calls right y → IsRefined calls condition width left right src x y
+comparison_sound calls slot condition width left right src x y fine bound_left bound_right h k =
     let a = none_first (is_unset left || is_unset right) _ _ fine in
     let b = none_first (is_pointer left || is_may left || is_pointer right || is_may right) _ _ a.1 in
     let set = neither (is_unset left) (is_unset right) a.0 in
@@ -75,7 +74,7 @@ comparison_sound calls condition width left right src x y fine bound_left bound_
     let first = neither (is_pointer left) (is_may left) more.0 in
     let v = number_value calls left x set.0 first.1 first.0 h in
     let w = number_value calls right y set.1 rest.1 more.1 k in
-    refined_numbers calls condition width left right src x y v.0 w.0 v.1 w.1 v.2 v.3 w.2 w.3 (subst IsBoundedValue v.3 bound_left).1 (subst IsBoundedValue w.3 bound_right).1 (v.4, v.5) (w.4, w.5)
+    refined_numbers calls condition width left right src x y v.0 w.0 v.1 w.1 v.2 v.3 w.2 w.3 (subst (IsBoundedValue slot) v.3 bound_left).1 (subst (IsBoundedValue slot) w.3 bound_right).1 (v.4, v.5) (w.4, w.5)
 
 -- a register of which something else is known, which speaks of its value too
 with_known : (s : StateView) (frame : Frame ℕ) (objects : List ObjectView) (r : Reg) (a : Abs) → length s.registers ≡ 11 → AreOf s frame objects → IsOf (calls_of objects) a (get_or frame.registers (number_of r) None) → AreOf (with_register s r a) frame objects
@@ -172,40 +171,18 @@ settled_sound calls call null (Ctx a b) v answer h = h
 settled_sound calls call null (Ob r a b) v answer h = h
 
 -- the references that are left, or tested, are those of the objects
-Contains-kept : (p : Held → Bool) (xs : List Held) (x : Held) (i : ℕ) → i < length xs → get_or xs i x ≡ x → p x ≡ true → Contains (filter p xs) x
-Contains-kept p [] x i lt here e = absurd (omega (arith, lt))
-Contains-kept p (y ∷ ys) x zero lt here e = rw (subst (λ (z : Held). p z ≡ true) (sym here) e) (0, omega arith, here)
-Contains-kept p (y ∷ ys) x (suc i) lt here e =
-    let rest = Contains-kept p ys x i (omega (arith, lt)) here e in
-    cond_both (p y) (y ∷ filter p ys) (filter p ys) (λ (zs : List Held). Contains zs x) (λ t. Contains-tail y x (filter p ys) rest) (λ t. rest)
-
-Contains-mapped : {X Y : Type 0} (f : X → Y) (xs : List X) (x : X) → Contains xs x → Contains (map f xs) (f x)
-Contains-mapped f xs x h = let long = length-map xs f in (h.0, omega (arith, h.1, long), lists.get_or-map f xs h.0 x ∙ ap f h.2)
-
--- an object of another call than one that holds none
-another_call : (calls : List ℕ) (call a : ℕ) (t : Bool) → (a == call) ≡ t → (Contains calls call → ⊥) → Contains calls a → (a == call) ≡ false
-another_call calls call a false e apart among = e
-another_call calls call a true e apart among = absurd (apart (subst (Contains calls) (same_number a call e) among))
-
-settled_references : (call : ℕ) (null : Bool) (held : List Held) (objects : List ObjectView) → IsAnswered (calls_of objects) call null → AreReferred held objects → AreReferred (settled_held call null held) objects
-settled_references call true held objects answer h o there =
-    let it = h o there in
-    let among = subst (Contains (calls_of objects)) (sym it.2) (Contains-mapped (λ (p : ObjectView). p.call) objects o there) in
-    let other = another_call (calls_of objects) call it.0.call (it.0.call == call) refl (answer.none refl) among in
-    (it.0, Contains-kept (λ (r : Held). not (r.call == call)) held it.0 it.1.0 it.1.1 it.1.2 (ap not other), it.2, it.3)
-settled_references call false held objects answer h o there =
-    let it = h o there in
-    (tested_reference call it.0, Contains-mapped (tested_reference call) held it.0 it.1, (alike it.0).0 ∙ it.2, (alike it.0).1 ∙ it.3)
-  where
-    alike : (r : Held) → ((tested_reference call r).call ≡ r.call) × ((tested_reference call r).kind ≡ r.kind)
-    alike r = cond_both (r.call == call) (record r { tested = true }) r (λ (q : Held). (q.call ≡ r.call) × (q.kind ≡ r.kind)) (λ e. (refl, refl)) (λ e. (refl, refl))
+settled_references : (call : ℕ) (null : Bool) (s : StateView) (objects : List ObjectView) → IsAnswered (calls_of objects) call null → AreReferred s objects → AreReferred (settled call null s) objects
+settled_references call true s objects answer h o there =
+    let among = Contains-mapped (λ (p : ObjectView). p.call) objects o there in
+    kinds_without o.call call s.held (λ same. answer.none refl (subst (Contains (calls_of objects)) same among)) ∙ h o there
+settled_references call false s objects answer h o there = tested_kinds o.call call s.held ∙ h o there
 
 word_settled : (call : ℕ) (null : Bool) (words : List Word) (w : ℕ) → w < length words → word_of (map (settled_word call null) words) w ≡ settled_word call null (word_of words w)
 word_settled call null words w lt = get_or-map (settled_word call null) words w (Bytes 0) (Bytes 0) lt
 
-pub settled_state : (s : StateView) (frame : Frame ℕ) (objects : List ObjectView) (call : ℕ) (null : Bool) → IsFull s → IsAnswered (calls_of objects) call null → AreOf s frame objects → AreOf (settled call null s) frame objects
-settled_state s frame objects call null full answer h = record {
+pub settled_state : (slot : ℕ) (s : StateView) (frame : Frame ℕ) (objects : List ObjectView) (call : ℕ) (null : Bool) → IsFull slot s → IsAnswered (calls_of objects) call null → AreOf s frame objects → AreOf (settled call null s) frame objects
+settled_state slot s frame objects call null full answer h = record {
   each = λ k lt. subst (λ (a : Abs). IsOf (calls_of objects) a (get_or frame.registers k None)) (sym (get_or-map (settled_value call null) s.registers k Unset Unset (omega (arith, full.whole, lt)))) (settled_sound (calls_of objects) call null (get_or s.registers k Unset) (get_or frame.registers k None) answer (h.each k lt));
   words = λ w lt. subst (λ (x : Word). IsOfCells (calls_of objects) x (λ j. cell_at frame.stack (8 * w + j))) (sym (word_settled call null s.words w (omega (arith, full.deep, lt)))) (settled_cells (calls_of objects) call null (word_of s.words w) (λ j. cell_at frame.stack (8 * w + j)) (λ a v. settled_sound (calls_of objects) call null a v answer) (h.words w lt));
-  held = settled_references call null s.held objects answer h.held;
+  held = settled_references call null s objects answer h.held;
 }

@@ -1,79 +1,82 @@
--- The next instruction of a sound run in its world: it is legal without an answer, and the run goes on as it sees itself.
-use Rattle.std.proofs.Common.{◌≡◌, ◌≢◌, ℕ, Bool, true, false, arith, List, length, Option, Some, None, Result, Ok, refl, sym, ap, ◌∙◌, subst, inl, inr, ◌⊎◌, length-set}
-use Rattle.std.specs.Prelude.{slice_get, ◌==◌, ◌&&◌}
+-- The next instruction of a sound run in its world: with an answer that fits what it asks it is legal, and the run goes on as it
+-- sees itself.
+use Rattle.std.proofs.Common.{◌≡◌, ◌≢◌, ℕ, ◌+◌, ◌<◌, ◌≤◌, Bool, true, false, arith, List, [], ◌∷◌, length, filter, Option, Some, None, Result, Ok, Err, refl, sym, ap, ◌∙◌, subst, inl, inr, length-set}
+use Rattle.std.specs.Prelude.{Contains, slice_get, ◌==◌, ◌&&◌, not, nat_le}
+use Rattle.std.proofs.lemmas.Bool.{cond_both}
 use Rattle.std.proofs.lemmas.Bool.Decides.{nat_tests}
 use Rattle.std.proofs.lemmas.List.{length-map}
-use Rattle.ebpf_insn.specs.declared.insn.Insn.{Insn}
+use Rattle.std.proofs.lemmas.List.Elements.{All-map}
 use Rattle.ebpf_insn.specs.Program.{insn_at}
+use Rattle.ebpf_insn.specs.Faults.{first_of}
 use Rattle.ebpf_machine.specs.declared.report.Reply.TheVariants.{Null}
 use Rattle.ebpf_machine.specs.Values.{Frame}
-use Rattle.ebpf_machine.specs.Effect.{Act, Nothing, Effect, Goes, Ends, Traps, effect, effect_at}
-use Rattle.ebpf_machine.specs.World.{Name, World, Running, Going, Absent, around, held_by}
-use Rattle.ebpf_machine.specs.Events.{Illegal, Unasked, done_by, effect_of_run, asking_of, exec}
-use Rattle.ebpf_machine.specs.View.{ObjectView, RunView, frame_seen, object_in, view_of, view_in, slots_in, around_view, effect_of_view, stepped}
-use Rattle.ebpf_machine.specs.Step.{IsEvent}
-use Rattle.ebpf_machine.specs.Sound.{IsOwned, IsSound}
-use Rattle.ebpf_machine.proofs.Acts.{effect_seen, IsOwnEffect, own_view, others_view, others_slots}
+use Rattle.ebpf_machine.specs.Effect.{Act, Nothing, Write, Take, Give, Effect, Goes, Ends, Traps}
+use Rattle.ebpf_machine.specs.World.{Name, Kind, World, Running, Owner, Going, Answer, Absent, Slot, around, holds_of, held_by, is_home, is_in, kind_in, kinds_of, image_at, ledger_of}
+use Rattle.ebpf_machine.specs.World as world
+use Rattle.ebpf_machine.specs.Events.{Illegal, SlotNotHome, SlotOfAnotherKind, Asking, OfKind, granted, done_by, effect_of_run, asking_of, answer_fault, exec}
+use Rattle.ebpf_machine.specs.View.{ObjectView, RunView, object_in, view_of, view_in, slots_in, around_view, effect_of_view, stepped}
+use Rattle.ebpf_machine.specs.Step.{IsEvent, reply_of}
+use Rattle.ebpf_machine.specs.Advance.{slots_after}
+use Rattle.ebpf_machine.specs.Sound.{IsOwned, IsSound, AreSized}
+use Rattle.ebpf_machine.proofs.ListLemmas.{All-by_contains}
+use Rattle.ebpf_machine.proofs.Owners.{held_owner}
+use Rattle.ebpf_machine.proofs.ObjectsFound.{own_found, objects_found}
+use Rattle.ebpf_machine.proofs.Acts.{effect_seen, IsGrantable, IsOwnAct, IsOwnEffect, own_view, own_slots, others_view, others_slots}
 use Rattle.ebpf_machine.proofs.Owned.{IsForward, owned_done}
-use Rattle.ebpf_machine.proofs.Projection.{IsSeenAs, effect-seen}
+use Rattle.ebpf_machine.proofs.Projection.{IsSeenAs, effect_at-seen}
 use Rattle.ebpf_machine.proofs.Pointing.{plain_goes}
-use Rattle.ebpf_machine.proofs.Steps.{next_of, goes_forward, is_around}
-use Rattle.ebpf_machine.proofs.Soundness.{GoesOn, EndsRun}
+use Rattle.ebpf_machine.proofs.Asking.{IsThere, asked_by, asked_goes, there_goes}
+use Rattle.ebpf_machine.proofs.Steps.{IsNext, next_of}
 
--- the world that the next instruction of a run leads to
-pub record IsNextWorld (w : World) (run : ℕ) (r : Running) (after : World) : Type 0 where
-  pub legal : exec w run Absent ≡ Ok after
+-- the world that the next instruction of a run leads to, with this answer
+pub record IsNextWorld (w : World) (run : ℕ) (r : Running) (answer : Answer) (after : World) : Type 0 where
+  pub legal : exec w run answer ≡ Ok after
   pub owned : IsOwned after
   pub as_many : length after.runs ≡ length w.runs
-  pub seen : view_in after run ≡ Some (stepped Null (view_of w run r))
-  pub slots : slots_in after run ≡ slots_in w run
+  pub seen : view_in after run ≡ Some (stepped (reply_of answer) (view_of w run r))
+  pub slots : slots_in after run ≡ slots_after (effect_of_view (view_of w run r)) answer r.subject.decl.held r.pc (slots_in w run)
   pub others : (other : ℕ) → other ≢ run → view_in after other ≡ view_in w other
   pub others_slots : (other : ℕ) → other ≢ run → slots_in after other ≡ slots_in w other
   pub kinds : after.kinds ≡ w.kinds
   pub ledgers : after.ledgers ≡ w.ledgers
-  pub owners : after.owners ≡ w.owners
-  pub bytes : after.bytes ≡ w.bytes
+  pub unowned : w.owners ≡ [] → reply_of answer ≡ Null → after.owners ≡ []
 
--- what an effect that asks for nothing leaves as it was
-record IsQuiet (w : World) (run : ℕ) (r : Running) (e : Effect Name) : Type 0 where
-  as_many : length (done_by e Absent w run r).runs ≡ length w.runs
-  kinds : (done_by e Absent w run r).kinds ≡ w.kinds
-  ledgers : (done_by e Absent w run r).ledgers ≡ w.ledgers
-  owners : (done_by e Absent w run r).owners ≡ w.owners
-  bytes : (done_by e Absent w run r).bytes ≡ w.bytes
-  slots : slots_in (done_by e Absent w run r) run ≡ slots_in w run
+-- ---- what an effect leaves as it was
 
-quiet_goes : (w : World) (run : ℕ) (r : Running) (to : ℕ) (frame : Frame Name) → IsQuiet w run r (Goes Nothing to frame)
-quiet_goes w run r to frame = record { as_many = length-set w.runs run _; kinds = refl; ledgers = refl; owners = refl; bytes = refl; slots = refl }
+record IsSteady (w after : World) : Type 0 where
+  as_many : length after.runs ≡ length w.runs
+  kinds : after.kinds ≡ w.kinds
+  ledgers : after.ledgers ≡ w.ledgers
 
-quiet_ends : (w : World) (run : ℕ) (r : Running) (n : ℕ) → IsQuiet w run r (Ends n)
-quiet_ends w run r n = record { as_many = length-set w.runs run _; kinds = refl; ledgers = refl; owners = refl; bytes = refl; slots = refl }
+steady_granted : (w : World) (run : ℕ) (r : Running) (slot to kind : ℕ) (frame : Frame Name) → IsSteady w (granted slot w run r to frame kind)
+steady_granted w run r slot to kind frame =
+    cond_both (nat_le r.subject.decl.held (holds_of w run)) _ _ (IsSteady w) (λ e. record { as_many = length-set w.runs run _; kinds = refl; ledgers = refl }) (λ e. record { as_many = length-set w.runs run _; kinds = refl; ledgers = refl })
 
--- the effect of a run's next instruction in the world is that which it sees, and asks for nothing
-record IsQuietNext (w : World) (run : ℕ) (r : Running) (e : Effect Name) : Type 0 where
-  unasked : asking_of w r ≡ Unasked
-  does : effect_of_run w run r ≡ e
-  seen : effect_seen e ≡ effect_of_view (view_of w run r)
-  own : IsOwnEffect w run Absent e
-  forward : IsForward r.frame r.pc e
-  quiet : IsQuiet w run r e
+steady_done : (w : World) (run : ℕ) (r : Running) (e : Effect Name) (answer : Answer) → IsSteady w (done_by e answer w run r)
+steady_done w run r (Ends n) answer = record { as_many = length-set w.runs run _; kinds = refl; ledgers = refl }
+steady_done w run r (Traps trap) answer = record { as_many = length-set w.runs run _; kinds = refl; ledgers = refl }
+steady_done w run r (Goes Nothing to frame) answer = record { as_many = length-set w.runs run _; kinds = refl; ledgers = refl }
+steady_done w run r (Goes (Write name at bytes) to frame) answer = record { as_many = length-set w.runs run _; kinds = refl; ledgers = refl }
+steady_done w run r (Goes (Give name) to frame) answer = record { as_many = length-set w.runs run _; kinds = refl; ledgers = refl }
+steady_done w run r (Goes (Take kind) to frame) Absent = record { as_many = length-set w.runs run _; kinds = refl; ledgers = refl }
+steady_done w run r (Goes (Take kind) to frame) world.Null = record { as_many = length-set w.runs run _; kinds = refl; ledgers = refl }
+steady_done w run r (Goes (Take kind) to frame) (Slot slot) = steady_granted w run r slot to kind frame
 
-next_by : (w : World) (run : ℕ) (r : Running) (e : Effect Name) → IsOwned w → slice_get w.runs run ≡ Some r → r.status ≡ Going → IsQuietNext w run r e → IsNextWorld w run r (done_by e Absent w run r)
-next_by w run r e owned there going h = record {
-  legal = rw (there, going, h.unasked, h.does) refl;
-  owned = owned_done w run r e Absent owned there h.own h.forward;
-  as_many = h.quiet.as_many;
-  seen = own_view w run r e Absent owned there h.own ∙ rw (h.seen, going) refl;
-  slots = h.quiet.slots;
-  others = λ other ne. others_view w run other r e Absent owned h.own ne;
-  others_slots = λ other ne. others_slots w run other r e Absent owned h.own ne;
-  kinds = h.quiet.kinds;
-  ledgers = h.quiet.ledgers;
-  owners = h.quiet.owners;
-  bytes = h.quiet.bytes;
-}
+-- nobody has a slot then either, where none was granted
+unowned_done : (w : World) (run : ℕ) (r : Running) (e : Effect Name) (answer : Answer) → w.owners ≡ [] → reply_of answer ≡ Null → (done_by e answer w run r).owners ≡ []
+unowned_done w run r (Ends n) answer none null = none
+unowned_done w run r (Traps trap) answer none null = none
+unowned_done w run r (Goes Nothing to frame) answer none null = none
+unowned_done w run r (Goes (Write name at bytes) to frame) answer none null = none
+unowned_done w run r (Goes (Give name) to frame) answer none null = ap (filter _) none
+unowned_done w run r (Goes (Take kind) to frame) Absent none null = none
+unowned_done w run r (Goes (Take kind) to frame) world.Null none null = none
+unowned_done w run r (Goes (Take kind) to frame) (Slot slot) none null = absurd (cc)
 
 -- ---- the effect in the world and the effect that is seen
+
+pub kinds_alike : (w : World) (run : ℕ) (r : Running) → IsOwned w → slice_get w.runs run ≡ Some r → length r.subject.rows ≡ length w.kinds
+kinds_alike w run r owned there = sym (length-map r.subject.rows _) ∙ ap (λ (kinds : List Kind). length kinds) (owned.kinds_are run r there)
 
 and_false : (t : Bool) → (t && false) ≡ false
 and_false true = refl
@@ -81,98 +84,97 @@ and_false false = refl
 
 -- what a run meets in the world is seen by it
 met : (w : World) (run : ℕ) (r : Running) → IsOwned w → slice_get w.runs run ≡ Some r → IsSeenAs (around w run r) (around_view (view_of w run r)) r.frame
-met w run r owned there = record { holds = length-map (held_by w run) (object_in w); context = refl; names = λ n m has too. same n m (n.1 == m.1) refl (λ e. owned.one_slot run r there n m has too e) } where
-  same : (n m : Name) (t : Bool) → (n.1 == m.1) ≡ t → (n.1 ≡ m.1 → n.0 ≡ m.0) → (n.1 == m.1) ≡ ((n.0 == m.0) && (n.1 == m.1))
-  same n m false e one = rw e (sym (and_false (n.0 == m.0)))
-  same n m true e one = let slots = equal n.0 m.0 (one (calls n.1 m.1 e)) in rw (e, slots) refl
-    where
-      calls : (a b : ℕ) → (a == b) ≡ true → a ≡ b
-      calls a b e = grind (arith, nat_tests)
-
-      equal : (a b : ℕ) → a ≡ b → (a == b) ≡ true
-      equal a b e = grind (arith, nat_tests)
-
-seen_effect : (w : World) (run : ℕ) (r : Running) (i : Insn) → IsOwned w → slice_get w.runs run ≡ Some r → insn_at r.subject.program r.pc ≡ Some i → effect_seen (effect i r.pc (around w run r) r.frame) ≡ effect_of_view (view_of w run r)
-seen_effect w run r i owned there at =
-    let v = view_of w run r in
-    sym (ap (λ (o : Option Insn). effect_at o r.pc (around_view v) (frame_seen r.frame)) at
-    ∙ effect-seen i r.pc (around w run r) (around_view v) r.frame (met w run r owned there))
-
--- an effect that is seen to go on, asking for nothing
-record GoesSeen (e : Effect Name) (to : ℕ) (after : Frame ℕ) : Type 0 where
-  act : Act Name
-  frame : Frame Name
-  is : e ≡ Goes act to frame
-  same : frame_seen frame ≡ after
-
-seen_goes : (e : Effect Name) (to : ℕ) (after : Frame ℕ) → effect_seen e ≡ Goes Nothing to after → GoesSeen e to after
-seen_goes (Goes act n frame) to after h = let there : n ≡ to = cc in record { act = act; frame = frame; is = ap (λ (m : ℕ). Goes act m frame) there; same = cc }
-seen_goes (Ends n) to after h = absurd (cc)
-seen_goes (Traps trap) to after h = absurd (cc)
-
-seen_ends : (e : Effect Name) (n : ℕ) → effect_seen e ≡ Ends n → e ≡ Ends n
-seen_ends (Goes act to frame) n h = absurd (cc)
-seen_ends (Ends m) n h = let same : m ≡ n = cc in ap (λ (j : ℕ). Ends j) same
-seen_ends (Traps trap) n h = absurd (cc)
-
--- ---- the two ways in which an instruction goes
-
-quiet_goes_on : (w : World) (run : ℕ) (r : Running) (i : Insn) (after : Frame ℕ) → IsOwned w → slice_get w.runs run ≡ Some r → IsSound (view_of w run r) → insn_at r.subject.program r.pc ≡ Some i → asking_of w r ≡ Unasked → GoesOn r.subject.program (view_of w run r).objects r.pc i r.context (frame_seen r.frame) after → (e : Effect Name) × IsQuietNext w run r e
-quiet_goes_on w run r i after owned there sound at unasked g =
-    let v = view_of w run r in
-    let e = effect i r.pc (around w run r) r.frame in
-    let seen = seen_effect w run r i owned there at in
-    let effect_is : effect_of_view v ≡ Goes Nothing g.to after = ap (λ (o : Option Insn). effect_at o r.pc (around_view v) (frame_seen r.frame)) at ∙ g.does (around_view v) (is_around v) in
-    let goes = seen_goes e g.to _ (seen ∙ effect_is) in
-    let plain = plain_goes i r.pc (around w run r) r.frame goes.act g.to goes.frame goes.is in
-    let is : e ≡ Goes Nothing g.to goes.frame = goes.is ∙ ap (λ (a : Act Name). Goes a g.to goes.frame) plain.asks in (
-      Goes Nothing g.to goes.frame,
-      record {
-        unasked = unasked;
-        does = ap (λ (o : Option Insn). effect_at o r.pc (around w run r) r.frame) at ∙ is;
-        seen = sym (ap effect_seen is) ∙ seen;
-        own = tt;
-        forward = ((goes_forward v i after sound at g).0, plain.pointers);
-        quiet = quiet_goes w run r _ goes.frame;
-      },
-    )
-
-quiet_ends_run : (w : World) (run : ℕ) (r : Running) (i : Insn) (n : ℕ) → IsOwned w → slice_get w.runs run ≡ Some r → insn_at r.subject.program r.pc ≡ Some i → asking_of w r ≡ Unasked → EndsRun (view_of w run r).objects r.pc i (frame_seen r.frame) n → (e : Effect Name) × IsQuietNext w run r e
-quiet_ends_run w run r i n owned there at unasked g =
-    let v = view_of w run r in
-    let e = effect i r.pc (around w run r) r.frame in
-    let seen = seen_effect w run r i owned there at in
-    let effect_is : effect_of_view v ≡ Ends n = ap (λ (o : Option Insn). effect_at o r.pc (around_view v) (frame_seen r.frame)) at ∙ g.does (around_view v) (ap (λ (os : List ObjectView). length os) g.none) in
-    let is = seen_ends e n (seen ∙ effect_is) in (
-      Ends n,
-      record {
-        unasked = unasked;
-        does = ap (λ (o : Option Insn). effect_at o r.pc (around w run r) r.frame) at ∙ is;
-        seen = sym (ap effect_seen is) ∙ seen;
-        own = tt;
-        forward = tt;
-        quiet = quiet_ends w run r n;
-      },
-    )
-
--- the next instruction of a sound run asks for nothing
-pub unasked_next : (w : World) (run : ℕ) (r : Running) → IsSound (view_of w run r) → r.status ≡ Going → asking_of w r ≡ Unasked
-unasked_next w run r sound going = let n = next_of (view_of w run r) sound going in rw (n.1.at) (n.1.does.unasked (length w.kinds) r.frame)
-
-quiet_next : (w : World) (run : ℕ) (r : Running) → IsOwned w → slice_get w.runs run ≡ Some r → IsSound (view_of w run r) → r.status ≡ Going → (e : Effect Name) × IsQuietNext w run r e
-quiet_next w run r owned there sound going =
-    let n = next_of (view_of w run r) sound going in
-    by_end n.0 n.1.at n.1.does.next
+met w run r owned there = record {
+  context = refl;
+  kinds = kinds_alike w run r owned there;
+  holds = length-map (held_by w run) (object_in w);
+  objects = λ n has. objects_found w run r n owned there has;
+  names = λ n m has too. same n m (n.1 == m.1) refl (λ e. owned.one_slot run r there n m has too e);
+}
   where
-    v : RunView
-    v = view_of w run r
+    same : (n m : Name) (t : Bool) → (n.1 == m.1) ≡ t → (n.1 ≡ m.1 → n.0 ≡ m.0) → (n.1 == m.1) ≡ ((n.0 == m.0) && (n.1 == m.1))
+    same n m false e one = rw e (sym (and_false (n.0 == m.0)))
+    same n m true e one = let slots = equal n.0 m.0 (one (calls n.1 m.1 e)) in rw (e, slots) refl
+      where
+        calls : (a b : ℕ) → (a == b) ≡ true → a ≡ b
+        calls a b e = grind (arith, nat_tests)
 
-    by_end : (i : Insn) → insn_at r.subject.program r.pc ≡ Some i → ((after : Frame ℕ) × GoesOn r.subject.program v.objects r.pc i r.context (frame_seen r.frame) after) ⊎ ((n : ℕ) × EndsRun v.objects r.pc i (frame_seen r.frame) n) → (e : Effect Name) × IsQuietNext w run r e
-    by_end i at (inl goes) = quiet_goes_on w run r i goes.0 owned there sound at (unasked_next w run r sound going) goes.1
-    by_end i at (inr ends) = quiet_ends_run w run r i ends.0 owned there at (unasked_next w run r sound going) ends.1
+        equal : (a b : ℕ) → a ≡ b → (a == b) ≡ true
+        equal a b e = grind (arith, nat_tests)
 
-pub next_world : (w : World) (run : ℕ) (r : Running) → IsOwned w → slice_get w.runs run ≡ Some r → IsSound (view_of w run r) → r.status ≡ Going → (after : World) × IsNextWorld w run r after
-next_world w run r owned there sound going = let e = quiet_next w run r owned there sound going in (done_by e.0 Absent w run r, next_by w run r e.0 owned there going e.1)
+seen_effect : (w : World) (run : ℕ) (r : Running) → IsOwned w → slice_get w.runs run ≡ Some r → effect_seen (effect_of_run w run r) ≡ effect_of_view (view_of w run r)
+seen_effect w run r owned there = sym (effect_at-seen (insn_at r.subject.program r.pc) r.pc (around w run r) (around_view (view_of w run r)) r.frame (met w run r owned there))
+
+-- each object of a run has as many bytes as its kind says
+pub sized_in : (w : World) (run : ℕ) (r : Running) → IsOwned w → slice_get w.runs run ≡ Some r → AreSized (view_of w run r)
+sized_in w run r owned there = All-map IsSized (object_in w) (held_by w run) (All-by_contains (λ o. IsSized (object_in w o)) (held_by w run) (λ o among. sized o (held_owner w run o among).0)) where
+  IsSized : ObjectView → Type 0
+  IsSized o = length o.bytes ≡ length (image_at (kinds_of r.subject.rows) o.kind)
+
+  sized : (o : Owner) → Contains w.owners o → IsSized (object_in w o)
+  sized o among = owned.sized o among ∙ ap (λ (kinds : List Kind). length (image_at kinds (kind_in w o.slot))) (sym (owned.kinds_are run r there))
+
+-- ---- the effect is the run's own, and leads forward
+
+-- a slot that is answered is one that may be granted
+grantable : (w : World) (kind : ℕ) (answer : Answer) → answer_fault w (OfKind kind) answer ≡ None → IsGrantable w kind answer
+grantable w kind Absent fine = tt
+grantable w kind world.Null fine = tt
+grantable w kind (Slot slot) fine = by (is_home w slot) (is_in slot (ledger_of w kind)) refl refl fine where
+  by : (t u : Bool) → is_home w slot ≡ t → is_in slot (ledger_of w kind) ≡ u → first_of ((not t, SlotNotHome) ∷ (not u, SlotOfAnotherKind) ∷ []) ≡ None → (is_home w slot ≡ true) × (is_in slot (ledger_of w kind) ≡ true)
+  by true true home its fine = (home, its)
+  by true false home its fine = absurd (cc)
+  by false u home its fine = absurd (cc)
+
+own_act : (w : World) (run : ℕ) (r : Running) (answer : Answer) (act : Act Name) → IsThere (around w run r) act → answer_fault w (asked_by act) answer ≡ None → IsOwnAct w run answer act
+own_act w run r answer Nothing there fine = tt
+own_act w run r answer (Write name at bytes) there fine =
+    let own = own_found w run name there.0 there.1 in
+    (own.0, subst (λ (old : List ℕ). at + length bytes ≤ length old) own.1 there.2)
+own_act w run r answer (Take kind) there fine = (there, grantable w kind answer fine)
+own_act w run r answer (Give name) there fine = (own_found w run name there.0 there.1).0
+
+abbrev IsOwnNext : World → ℕ → Running → Answer → Effect Name → Type 0
+IsOwnNext w run r answer e = IsOwnEffect w run answer e × IsForward r.frame r.pc e
+
+own_next : (w : World) (run : ℕ) (r : Running) (answer : Answer) (e : Effect Name) → answer_fault w (asking_of w r) answer ≡ None → effect_of_run w run r ≡ e → effect_seen e ≡ effect_of_view (view_of w run r) → IsNext (view_of w run r) → IsOwnNext w run r answer e
+own_next w run r answer (Ends n) fine is seen next = (tt, tt)
+own_next w run r answer (Traps trap) fine is seen (inl (act, to, after, g)) = let does = g.does in absurd (cc)
+own_next w run r answer (Traps trap) fine is seen (inr (n, ends)) = let does = ends.does in absurd (cc)
+own_next w run r answer (Goes act to frame) fine is seen (inr (n, ends)) = let does = ends.does in absurd (cc)
+own_next w run r answer (Goes act to frame) fine is seen (inl (same, where_to, after, g)) =
+    let o = insn_at r.subject.program r.pc in
+    let a = around w run r in
+    let does = g.does in
+    let there : where_to ≡ to = cc in
+    let asked = asked_goes o r.pc a r.frame act to frame is in (
+      own_act w run r answer act (there_goes o r.pc a r.frame act to frame is) (subst (λ (asking : Asking). answer_fault w asking answer ≡ None) asked fine),
+      (subst (λ (k : ℕ). r.pc < k) there g.forward, plain_goes o r.pc a r.frame act to frame is),
+    )
+
+-- ---- the next world
+
+pub next_world : (w : World) (run : ℕ) (r : Running) (answer : Answer) → IsOwned w → slice_get w.runs run ≡ Some r → IsSound (view_of w run r) → r.status ≡ Going → answer_fault w (asking_of w r) answer ≡ None → (after : World) × IsNextWorld w run r answer after
+next_world w run r answer owned there sound going fine =
+    let v = view_of w run r in
+    let e = effect_of_run w run r in
+    let seen = seen_effect w run r owned there in
+    let own = own_next w run r answer e fine refl seen (next_of v sound (sized_in w run r owned there) going) in
+    let steady = steady_done w run r e answer in (
+      done_by e answer w run r,
+      record {
+        legal = rw (there, going, fine) refl;
+        owned = owned_done w run r e answer owned there own.0 own.1;
+        as_many = steady.as_many;
+        seen = own_view w run r e answer owned there own.0 ∙ rw (seen, going) refl;
+        slots = own_slots w run r e answer owned own.0 ∙ ap (λ (x : Effect ℕ). slots_after x answer r.subject.decl.held r.pc (slots_in w run)) seen;
+        others = λ other ne. others_view w run other r e answer owned own.0 ne;
+        others_slots = λ other ne. others_slots w run other r e answer owned own.0 ne;
+        kinds = steady.kinds;
+        ledgers = steady.ledgers;
+        unowned = λ none null. unowned_done w run r e answer none null;
+      },
+    )
 
 -- ---- one step is one event
 
@@ -187,9 +189,19 @@ shown_run w run v e = of_run (slice_get w.runs run) refl where
   of_run None there = let none : view_in w run ≡ None = rw there refl in absurd (cc)
   of_run (Some r) there = let some : view_in w run ≡ Some (view_of w run r) = rw there refl in (r, there, cc)
 
-pub step_event : (v : RunView) (held : List Name) → IsSound v → v.status ≡ Going → IsEvent Absent v (stepped Null v) held held
-step_event v held sound going w after run owned shows slots does =
+-- the answer to a legal event has no fault
+legal_answer : (w after : World) (run : ℕ) (r : Running) (answer : Answer) → slice_get w.runs run ≡ Some r → r.status ≡ Going → exec w run answer ≡ Ok after → answer_fault w (asking_of w r) answer ≡ None
+legal_answer w after run r answer there going does = by (answer_fault w (asking_of w r) answer) refl where
+  by : (o : Option Illegal) → answer_fault w (asking_of w r) answer ≡ o → o ≡ None
+  by None fault = refl
+  by (Some why) fault = let illegal : exec w run answer ≡ Err why = rw (there, going, fault) refl in absurd (cc)
+
+pub step_event : (v : RunView) (answer : Answer) (held : List Name) → IsSound v → v.status ≡ Going → IsEvent answer v (stepped (reply_of answer) v) held (slots_after (effect_of_view v) answer v.subject.decl.held v.pc held)
+step_event v answer held sound going w after run owned shows slots does =
     let r = shown_run w run v shows in
-    let next = next_world w run r.0 owned r.1 (subst IsSound (sym r.2) sound) (ap (λ (u : RunView). u.status) r.2 ∙ going) in
-    let same : next.0 ≡ after = ok_same next.0 after (exec w run Absent) next.1.legal does in
-    subst (λ (u : World). (view_in u run ≡ Some (stepped Null v)) × (slots_in u run ≡ held)) same (next.1.seen ∙ ap (λ (u : RunView). Some (stepped Null u)) r.2, next.1.slots ∙ slots)
+    let goes : r.0.status ≡ Going = ap (λ (u : RunView). u.status) r.2 ∙ going in
+    let next = next_world w run r.0 answer owned r.1 (subst IsSound (sym r.2) sound) goes (legal_answer w after run r.0 answer r.1 goes does) in
+    let same : next.0 ≡ after = ok_same next.0 after (exec w run answer) next.1.legal does in
+    let now = ap (λ (u : RunView). slots_after (effect_of_view u) answer u.subject.decl.held u.pc (slots_in w run)) r.2 ∙ ap (slots_after (effect_of_view v) answer v.subject.decl.held v.pc) slots in
+    subst (λ (u : World). (view_in u run ≡ Some (stepped (reply_of answer) v)) × (slots_in u run ≡ slots_after (effect_of_view v) answer v.subject.decl.held v.pc held)) same
+    (next.1.seen ∙ ap (λ (u : RunView). Some (stepped (reply_of answer) u)) r.2, next.1.slots ∙ now)

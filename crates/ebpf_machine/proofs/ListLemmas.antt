@@ -1,9 +1,11 @@
--- Lists: an element by its place after a write, two lists that agree at each element, what a filter keeps, and what a count tells.
-use Rattle.std.proofs.Common.{◌≡◌, ◌≢◌, ◌⊎◌, inl, inr, ℕ, zero, suc, ◌+◌, ◌<◌, ◌≤◌, Bool, true, false, cond, not, ◌&&◌, ◌||◌, List, [], ◌∷◌, ◌++◌, length, map, filter, count_by, get_or, Some, All, refl, sym, ap, ◌∙◌, subst, arith}
+-- Lists: an element by its place after a write, two lists that agree at each element, what a filter keeps, what a count tells, and what
+-- a search finds.
+use Rattle.std.proofs.Common.{◌≡◌, ◌≢◌, ◌⊎◌, inl, inr, ℕ, zero, suc, ◌+◌, ◌<◌, ◌≤◌, Bool, true, false, cond, not, ◌&&◌, ◌||◌, List, [], ◌∷◌, ◌++◌, length, map, filter, count_by, get_or, Option, Some, None, option_map, All, refl, sym, ap, ◌∙◌, subst, arith}
 use Rattle.std.specs.Prelude.{Contains, slice_get, slice_set}
-use Rattle.std.specs.List.{list_any}
+use Rattle.std.specs.List.{find, list_any}
 use Rattle.std.proofs.lemmas.Bool.{cases_eq, or_parts}
 use Rattle.std.proofs.lemmas.List.Elements.{All-contains, All-contains_itself, All-filter, All-set, Contains-get_or, filter_passes}
+use Rattle.std.proofs.lemmas.List.Folds.{list_any_at}
 use Rattle.std.proofs.lemmas.List.Filters.{sum_by-filter_both}
 use Rattle.std.proofs.lemmas.List.Sums.{sum_by-cons}
 
@@ -47,7 +49,7 @@ get_push_cases (y ∷ xs) (suc k) x new at = get_push_cases xs k x new at
 pub Contains-tail : {X : Type 0} (x y : X) (xs : List X) → Contains xs y → Contains (x ∷ xs) y
 Contains-tail x y xs (k, lt, e) = (suc k, omega arith, e)
 
-Contains-head : {X : Type 0} (x : X) (xs : List X) → Contains (x ∷ xs) x
+pub Contains-head : {X : Type 0} (x : X) (xs : List X) → Contains (x ∷ xs) x
 Contains-head x xs = (zero, omega arith, refl)
 
 pub All-by_contains : {X : Type 0} (P : X → Type 0) (xs : List X) → ((x : X) → Contains xs x → P x) → All P xs
@@ -139,3 +141,51 @@ none_counted p [] none = refl
 none_counted p (x ∷ xs) none =
     let parts = or_parts (p x) (list_any p xs) none in
     sum_by-cons (λ y. cond (p y) 1 0) x xs ∙ ap (λ b. cond b 1 0 + count_by p xs) parts.0 ∙ omega (arith, none_counted p xs parts.1)
+
+-- ---- what is found
+
+-- an element that passes a test is kept
+pub Contains-kept : {X : Type 0} (p : X → Bool) (xs : List X) (x : X) → Contains xs x → p x ≡ true → Contains (filter p xs) x
+Contains-kept p [] x (k, lt, e) passes = absurd (omega arith)
+Contains-kept {X} p (y ∷ ys) x (zero, lt, e) passes = by (p y) (ap p e ∙ passes) where
+  by : (t : Bool) → t ≡ true → Contains (cond t (y ∷ filter p ys) (filter p ys)) x
+  by true h = (zero, omega arith, e)
+  by false h = absurd (cc)
+Contains-kept {X} p (y ∷ ys) x (suc k, lt, e) passes = by (p y) (Contains-kept p ys x (k, omega (arith, lt), e) passes) where
+  by : (t : Bool) → Contains (filter p ys) x → Contains (cond t (y ∷ filter p ys) (filter p ys)) x
+  by true rest = Contains-tail y x (filter p ys) rest
+  by false rest = rest
+
+pub any_from : {X : Type 0} (p : X → Bool) (xs : List X) (x : X) → Contains xs x → p x ≡ true → list_any p xs ≡ true
+any_from p xs x (k, lt, e) passes = list_any_at p xs k x lt (ap p e ∙ passes)
+
+pub any_one : {X : Type 0} (p : X → Bool) (xs : List X) → list_any p xs ≡ true → (x : X) × Contains xs x × (p x ≡ true)
+any_one p [] any = absurd (cc)
+any_one {X} p (x ∷ xs) any = by (p x) refl any (λ h. any_one p xs h) where
+  by : (t : Bool) → p x ≡ t → (t || list_any p xs) ≡ true → (list_any p xs ≡ true → (y : X) × Contains xs y × (p y ≡ true)) → (y : X) × Contains (x ∷ xs) y × (p y ≡ true)
+  by true e h later = (x, Contains-head x xs, e)
+  by false e h later = let rest = later h in (rest.0, Contains-tail x rest.0 xs rest.1, rest.2)
+
+-- what a search finds: an element that passes, or that none does
+abbrev pub IsFound : {X : Type 0} → (X → Bool) → List X → Option X → Type 0
+IsFound p xs (Some x) = Contains xs x × (p x ≡ true)
+IsFound p xs None = (x : _) → Contains xs x → p x ≡ false
+
+pub find_is : {X : Type 0} (p : X → Bool) (xs : List X) → IsFound p xs (find p xs)
+find_is p [] = λ x (k, lt, e). absurd (omega (arith, lt))
+find_is {X} p (x ∷ xs) = by (p x) (find p xs) refl (find_is p xs) where
+  later : (y : X) → p x ≡ false → ((z : X) → Contains xs z → p z ≡ false) → Contains (x ∷ xs) y → p y ≡ false
+  later y e rest (zero, lt, same) = ap p (sym same) ∙ e
+  later y e rest (suc k, lt, same) = rest y (k, omega (arith, lt), same)
+
+  by : (t : Bool) (o : Option X) → p x ≡ t → IsFound p xs o → IsFound p (x ∷ xs) (cond t (Some x) o)
+  by true o e rest = (Contains-head x xs, e)
+  by false (Some y) e rest = (Contains-tail x y xs rest.0, rest.1)
+  by false None e rest = λ y among. later y e rest among
+
+pub find-map : {X Y : Type 0} (p : Y → Bool) (f : X → Y) (xs : List X) → find p (map f xs) ≡ option_map f (find (λ x. p (f x)) xs)
+find-map p f [] = refl
+find-map {X} {Y} p f (x ∷ xs) = by (p (f x)) (find-map p f xs) where
+  by : (t : Bool) → find p (map f xs) ≡ option_map f (find (λ y. p (f y)) xs) → cond t (Some (f x)) (find p (map f xs)) ≡ option_map f (cond t (Some x) (find (λ y. p (f y)) xs))
+  by true rest = refl
+  by false rest = rest

@@ -1,4 +1,5 @@
--- What is known of what is loaded speaks of it: of a load from the stack that is not refused, and of one from the context.
+-- What is known of what is loaded speaks of it: of a load from the stack that is not refused, and of one from the context or an
+-- object.
 use Rattle.std.proofs.Common.{◌≡◌, ℕ, zero, suc, ◌+◌, ◌-◌, ◌*◌, ◌/◌, ◌%◌, ◌^◌, ◌<◌, ◌≤◌, ℤ, pos, ◌+ℤ◌, ◌≤ℤ◌, Bool, true, false, cond, not, ◌&&◌, ◌||◌, List, [], ◌∷◌, length, get_or, drop, All, Option, Some, None, Result, Ok, inl, inr, ◌⊎◌, refl, sym, ap, ◌∙◌, subst, arith}
 use Rattle.std.specs.Prelude.{◌==◌, bit_and, int_le, nat_lt, nat_abs, slice_index}
 use Rattle.std.specs.Ordering.{int_eq}
@@ -29,24 +30,18 @@ use Rattle.ebpf_state.specs.Abstract.{is_unset}
 use Rattle.ebpf_state.specs.Stack.{bytes_in, place_of, covered, word_of, may_point, is_unset_in, is_split_in, read_fault, loaded_range, loaded}
 use Rattle.ebpf_state.specs.Stack as state
 use Rattle.ebpf_state.specs.StateView.{StateView}
-use Rattle.ebpf_verify.specs.Memory.{is_in_context}
+use Rattle.ebpf_verify.specs.Memory.{is_in_bounds}
 use Rattle.ebpf_machine.specs.declared.value.Value.{Value}
 use Rattle.ebpf_machine.specs.declared.value.Value.TheVariants.{Number, Pointer}
 use Rattle.ebpf_machine.specs.declared.value.Base.TheVariants.{Stack, Context, Object}
 use Rattle.ebpf_machine.specs.declared.value.Cell.{Cell}
 use Rattle.ebpf_machine.specs.declared.value.Cell.TheVariants as cell
 use Rattle.ebpf_machine.specs.Values.{Trap}
-use Rattle.ebpf_machine.specs.Cells.{cell_at, cell_of, is_same_pointer, is_part, are_parts, pointer_from, with_byte, number_from, extended, loaded_number, loaded_word, loaded_at, context_place, read_at}
+use Rattle.ebpf_machine.specs.Cells.{cell_at, cell_of, is_same_pointer, is_part, are_parts, pointer_from, with_byte, number_from, extended, loaded_number, loaded_word, loaded_at, place_in, read_at}
 use Rattle.ebpf_machine.specs.Concretization.{IsOf, IsByte, IsOfCells}
-use Rattle.ebpf_machine.specs.Sound.{FitsValue, FitsCell}
+use Rattle.ebpf_machine.specs.Sound.{FitsCell}
+use Rattle.ebpf_machine.proofs.Operations.{IsFitting}
 use Rattle.ebpf_machine.proofs.Words.{AreOfCells, word_cells, plain_byte, bytes_few, placed_inside, covered_inside}
-
--- a load gives a value of which this is known, whatever names are one
-pub record IsLoaded (calls : List ℕ) (known : Abs) (load : (ℕ → ℕ → Bool) → Result (Value ℕ) Trap) : Type 0 where
-  pub v : Value ℕ
-  pub fits : FitsValue v
-  pub of : IsOf calls known (Some v)
-  pub is : (is_same : ℕ → ℕ → Bool) → ((name : ℕ) → is_same name name ≡ true) → load is_same ≡ Ok v
 
 -- ---- the number that is loaded
 
@@ -129,7 +124,7 @@ read_bytes calls words stack place bytes h few fits e i low high = by (cases_lt 
 
 -- ---- numbers
 
-number_loaded : (calls : List ℕ) (known : Abs) (size : Size) (signed : Bool) (fault : Option StackFault) (n : Option ℕ) → (fault ≡ None → (m : ℕ) × (n ≡ Some m)) → state.loaded_number fault (bytes_in size) signed ≡ Ok known → IsLoaded calls known (λ is_same. loaded_number n (bytes_in size) signed)
+number_loaded : (calls : List ℕ) (known : Abs) (size : Size) (signed : Bool) (fault : Option StackFault) (n : Option ℕ) → (fault ≡ None → (m : ℕ) × (n ≡ Some m)) → state.loaded_number fault (bytes_in size) signed ≡ Ok known → IsFitting calls known (loaded_number n (bytes_in size) signed)
 number_loaded calls known size signed (Some fault) n h e = absurd (cc)
 number_loaded calls known size signed None n h e =
     let found = h refl in
@@ -138,7 +133,7 @@ number_loaded calls known size signed None n h e =
       v = Number (extended (bytes_in size) signed found.0);
       fits = tt;
       of = subst (λ (a : Abs). IsOf calls a (Some (Number (extended (bytes_in size) signed found.0)))) same (extended_within size signed found.0);
-      is = λ is_same one. ap (λ (o : Option ℕ). loaded_number {N = ℕ} o (bytes_in size) signed) found.1;
+      is = ap (λ (o : Option ℕ). loaded_number {N = ℕ} o (bytes_in size) signed) found.1;
     }
 
 -- ---- whole words
@@ -171,34 +166,34 @@ number_same : (signed : Bool) (n : ℕ) → n < 2 ^ 64 → extended 8 signed n �
 number_same false n fits = omega (arith, fits)
 number_same true n fits = cond_both (nat_lt (n % 2 ^ 64 * 2) (2 ^ 64)) (n % 2 ^ 64) (n % 2 ^ 64 + (2 ^ 64 - 2 ^ 64)) (λ (m : ℕ). m ≡ n) (λ e. omega (arith, fits)) (λ e. omega (arith, fits))
 
-no_pointer : (is_same : ℕ → ℕ → Bool) (c : Cell ℕ) (stack : List (Cell ℕ)) (place : ℕ) → IsByte c → pointer_from is_same c stack place ≡ None
-no_pointer is_same cell.Unset stack place h = refl
-no_pointer is_same (cell.Byte b) stack place h = refl
-no_pointer is_same (cell.Part v j) stack place h = absurd h
+no_pointer : (c : Cell ℕ) (stack : List (Cell ℕ)) (place : ℕ) → IsByte c → pointer_from ◌==◌ c stack place ≡ None
+no_pointer cell.Unset stack place h = refl
+no_pointer (cell.Byte b) stack place h = refl
+no_pointer (cell.Part v j) stack place h = absurd h
 
 int_same : (k : ℤ) → int_eq k k ≡ true
 int_same k = (Decides-int_eq k k).1 refl
 
-pointer_same : (is_same : ℕ → ℕ → Bool) (v : Value ℕ) → ((n : ℕ) → v ≡ Number n → ⊥) → ((name : ℕ) → is_same name name ≡ true) → is_same_pointer is_same v v ≡ true
-pointer_same is_same (Number n) h one = absurd (h n refl)
-pointer_same is_same (Pointer Stack k) h one = int_same k
-pointer_same is_same (Pointer Context k) h one = int_same k
-pointer_same is_same (Pointer (Object name) k) h one = and_from (is_same name name) (int_eq k k) (one name) (int_same k)
+pointer_same : (v : Value ℕ) → ((n : ℕ) → v ≡ Number n → ⊥) → is_same_pointer ◌==◌ v v ≡ true
+pointer_same (Number n) h = absurd (h n refl)
+pointer_same (Pointer Stack k) h = int_same k
+pointer_same (Pointer Context k) h = int_same k
+pointer_same (Pointer (Object name) k) h = and_from (name == name) (int_eq k k) (eq-eqb name name refl) (int_same k)
 
-parts_there : (is_same : ℕ → ℕ → Bool) (v : Value ℕ) (stack : List (Cell ℕ)) (place n : ℕ) → is_same_pointer is_same v v ≡ true → n ≤ 8 → ((j : ℕ) → j < 8 → cell_at stack (place + j) ≡ cell.Part v j) → are_parts is_same v stack place n ≡ true
+parts_there : (v : Value ℕ) (stack : List (Cell ℕ)) (place n : ℕ) → is_same_pointer ◌==◌ v v ≡ true → n ≤ 8 → ((j : ℕ) → j < 8 → cell_at stack (place + j) ≡ cell.Part v j) → are_parts ◌==◌ v stack place n ≡ true
 unfolding are_parts
-parts_there is_same v stack place zero same le h = refl
-parts_there is_same v stack place (suc n) same le h =
-    and_from (are_parts is_same v stack place n) (is_part is_same v n (cell_at stack (place + n)))
-    (parts_there is_same v stack place n same (omega (arith, le)) h)
-    (ap (is_part is_same v n) (h n (omega (arith, le))) ∙ and_from (is_same_pointer is_same v v) (n == n) same (eq-eqb n n refl))
+parts_there v stack place zero same le h = refl
+parts_there v stack place (suc n) same le h =
+    and_from (are_parts ◌==◌ v stack place n) (is_part ◌==◌ v n (cell_at stack (place + n)))
+    (parts_there v stack place n same (omega (arith, le)) h)
+    (ap (is_part ◌==◌ v n) (h n (omega (arith, le))) ∙ and_from (is_same_pointer ◌==◌ v v) (n == n) same (eq-eqb n n refl))
 
 -- a pointer that was stored as a word is that pointer again
-pointer_again : (is_same : ℕ → ℕ → Bool) (v : Value ℕ) (stack : List (Cell ℕ)) (place : ℕ) → is_same_pointer is_same v v ≡ true → ((j : ℕ) → j < 8 → cell_at stack (place + j) ≡ cell.Part v j) → pointer_from is_same (cell_at stack place) stack place ≡ Some v
-pointer_again is_same v stack place same h =
+pointer_again : (v : Value ℕ) (stack : List (Cell ℕ)) (place : ℕ) → is_same_pointer ◌==◌ v v ≡ true → ((j : ℕ) → j < 8 → cell_at stack (place + j) ≡ cell.Part v j) → pointer_from ◌==◌ (cell_at stack place) stack place ≡ Some v
+pointer_again v stack place same h =
     let start : place ≡ place + 0 = omega arith in
-    ap (λ (c : Cell ℕ). pointer_from is_same c stack place) (ap (cell_at stack) start ∙ h 0 (omega arith))
-    ∙ cond-true (are_parts is_same v stack place 8) (Some v) None (parts_there is_same v stack place 8 same (omega arith) h)
+    ap (λ (c : Cell ℕ). pointer_from ◌==◌ c stack place) (ap (cell_at stack) start ∙ h 0 (omega arith))
+    ∙ cond-true (are_parts ◌==◌ v stack place 8) (Some v) None (parts_there v stack place 8 same (omega arith) h)
 
 fits_at : (stack : List (Cell ℕ)) (i : ℕ) → All FitsCell stack → FitsCell (cell_at stack i)
 fits_at stack i h = elim (cases_lt i (length stack)) [
@@ -216,10 +211,10 @@ number_fits calls (Ctx a b) n set h = absurd h
 number_fits calls (Ob r a b) n set h = absurd h
 
 -- the word at a place, loaded
-abbrev word_at : List (Cell ℕ) → ℕ → Bool → (ℕ → ℕ → Bool) → Result (Value ℕ) Trap
-word_at stack place signed is_same = loaded_word (pointer_from is_same (cell_at stack place) stack place) (number_from stack place 8) 8 signed
+abbrev word_at : List (Cell ℕ) → ℕ → Bool → Result (Value ℕ) Trap
+word_at stack place signed = loaded_word (pointer_from ◌==◌ (cell_at stack place) stack place) (number_from stack place 8) 8 signed
 
-spill_loaded : (calls : List ℕ) (a : Abs) (v : Value ℕ) (stack : List (Cell ℕ)) (place : ℕ) (signed : Bool) → All FitsCell stack → is_unset a ≡ false → IsOf calls a (Some v) → ((j : ℕ) → j < 8 → cell_at stack (place + j) ≡ cell_of v j) → IsLoaded calls a (word_at stack place signed)
+spill_loaded : (calls : List ℕ) (a : Abs) (v : Value ℕ) (stack : List (Cell ℕ)) (place : ℕ) (signed : Bool) → All FitsCell stack → is_unset a ≡ false → IsOf calls a (Some v) → ((j : ℕ) → j < 8 → cell_at stack (place + j) ≡ cell_of v j) → IsFitting calls a (word_at stack place signed)
 spill_loaded calls a (Number n) stack place signed fit set of h =
     let fits = number_fits calls a n set of in
     let start : place ≡ place + 0 = omega arith in
@@ -228,8 +223,8 @@ spill_loaded calls a (Number n) stack place signed fit set of h =
       v = Number n;
       fits = tt;
       of = of;
-      is = λ is_same one.
-          ap (λ (p : Option (Value ℕ)). loaded_word p (number_from stack place 8) 8 signed) (no_pointer is_same (cell_at stack place) stack place first)
+      is =
+          ap (λ (p : Option (Value ℕ)). loaded_word p (number_from stack place 8) 8 signed) (no_pointer (cell_at stack place) stack place first)
           ∙ ap (λ (o : Option ℕ). loaded_number {N = ℕ} o 8 signed) (number_again stack place n fits h)
           ∙ ap (λ (m : ℕ). Ok (Number m)) (number_same signed n fits);
     }
@@ -239,14 +234,14 @@ spill_loaded calls a (Pointer base k) stack place signed fit set of h =
       v = Pointer base k;
       fits = subst FitsCell (ap (cell_at stack) start ∙ h 0 (omega arith)) (fits_at stack place fit);
       of = of;
-      is = λ is_same one.
-          ap (λ (p : Option (Value ℕ)). loaded_word p (number_from stack place 8) 8 signed) (pointer_again is_same (Pointer base k) stack place (pointer_same is_same (Pointer base k) (λ n e. absurd (cc)) one) h);
+      is =
+          ap (λ (p : Option (Value ℕ)). loaded_word p (number_from stack place 8) 8 signed) (pointer_again (Pointer base k) stack place (pointer_same (Pointer base k) (λ n e. absurd (cc))) h);
     }
 
-word_loaded : (calls : List ℕ) (known : Abs) (word : Word) (fault : Option StackFault) (stack : List (Cell ℕ)) (place : ℕ) (signed : Bool) → All FitsCell stack → IsOfCells calls word (λ j. cell_at stack (place + j)) → (fault ≡ None → (i : ℕ) → place ≤ i → i < place + 8 → IsByte (cell_at stack i)) → state.loaded_word word fault 8 signed ≡ Ok known → IsLoaded calls known (word_at stack place signed)
+word_loaded : (calls : List ℕ) (known : Abs) (word : Word) (fault : Option StackFault) (stack : List (Cell ℕ)) (place : ℕ) (signed : Bool) → All FitsCell stack → IsOfCells calls word (λ j. cell_at stack (place + j)) → (fault ≡ None → (i : ℕ) → place ≤ i → i < place + 8 → IsByte (cell_at stack i)) → state.loaded_word word fault 8 signed ≡ Ok known → IsFitting calls known (word_at stack place signed)
 word_loaded calls known (Spill a) fault stack place signed fit h bytes e =
     let same : a ≡ known = cc in
-    subst (λ (b : Abs). IsLoaded calls b (word_at stack place signed)) same (spill_loaded calls a h.0 stack place signed fit h.3 h.1 h.2)
+    subst (λ (b : Abs). IsFitting calls b (word_at stack place signed)) same (spill_loaded calls a h.0 stack place signed fit h.3 h.1 h.2)
 word_loaded calls known (Bytes mask) (Some fault) stack place signed fit h bytes e = absurd (cc)
 word_loaded calls known (Bytes mask) None stack place signed fit h bytes e =
     let number = number_loaded calls known D signed None (number_from stack place 8) (λ none. bytes_number stack place 8 (bytes refl)) e in
@@ -254,18 +249,18 @@ word_loaded calls known (Bytes mask) None stack place signed fit h bytes e =
       v = number.v;
       fits = number.fits;
       of = number.of;
-      is = λ is_same one. ap (λ (p : Option (Value ℕ)). loaded_word p (number_from stack place 8) 8 signed) (no_pointer is_same (cell_at stack place) stack place (bytes refl place (omega arith) (omega arith))) ∙ number.is is_same one;
+      is = ap (λ (p : Option (Value ℕ)). loaded_word p (number_from stack place 8) 8 signed) (no_pointer (cell_at stack place) stack place (bytes refl place (omega arith) (omega arith))) ∙ number.is;
     }
 
 -- ---- the stack
 
-part_loaded : (calls : List ℕ) (words : List Word) (stack : List (Cell ℕ)) (size : Size) (signed : Bool) (place : ℕ) (known : Abs) → AreOfCells calls words stack → place + bytes_in size ≤ 512 → state.loaded_number (read_fault place (bytes_in size) words) (bytes_in size) signed ≡ Ok known → IsLoaded calls known (λ is_same. loaded_number (number_from stack place (bytes_in size)) (bytes_in size) signed)
+part_loaded : (calls : List ℕ) (words : List Word) (stack : List (Cell ℕ)) (size : Size) (signed : Bool) (place : ℕ) (known : Abs) → AreOfCells calls words stack → place + bytes_in size ≤ 512 → state.loaded_number (read_fault place (bytes_in size) words) (bytes_in size) signed ≡ Ok known → IsFitting calls known (loaded_number (number_from stack place (bytes_in size)) (bytes_in size) signed)
 part_loaded calls words stack size signed place known h fits e =
     number_loaded calls known size signed (read_fault place (bytes_in size) words) (number_from stack place (bytes_in size))
     (λ none. bytes_number stack place (bytes_in size) (read_bytes calls words stack place (bytes_in size) h (bytes_few size) fits none)) e
 
 -- eight bytes, which are a word or are not
-eight_loaded : (calls : List ℕ) (words : List Word) (stack : List (Cell ℕ)) (signed : Bool) (place : ℕ) (known : Abs) (t : Bool) → (place % 8 == 0) ≡ t → AreOfCells calls words stack → All FitsCell stack → place + 8 ≤ 512 → cond t (state.loaded_word (word_of words (place / 8)) (read_fault place 8 words) 8 signed) (state.loaded_number (read_fault place 8 words) 8 signed) ≡ Ok known → IsLoaded calls known (λ is_same. cond t (word_at stack place signed is_same) (loaded_number (number_from stack place 8) 8 signed))
+eight_loaded : (calls : List ℕ) (words : List Word) (stack : List (Cell ℕ)) (signed : Bool) (place : ℕ) (known : Abs) (t : Bool) → (place % 8 == 0) ≡ t → AreOfCells calls words stack → All FitsCell stack → place + 8 ≤ 512 → cond t (state.loaded_word (word_of words (place / 8)) (read_fault place 8 words) 8 signed) (state.loaded_number (read_fault place 8 words) 8 signed) ≡ Ok known → IsFitting calls known (cond t (word_at stack place signed) (loaded_number (number_from stack place 8) 8 signed))
 eight_loaded calls words stack signed place known false whole h fit fits e = part_loaded calls words stack D signed place known h fits e
 eight_loaded calls words stack signed place known true whole h fit fits e =
     let aligned = eqb-true (place % 8) 0 whole in
@@ -274,28 +269,28 @@ eight_loaded calls words stack signed place known true whole h fit fits e =
     (subst (λ (p : ℕ). IsOfCells calls (word_of words (place / 8)) (λ (j : ℕ). cell_at stack (p + j))) same (h (place / 8) (omega arith)))
     (λ none. read_bytes calls words stack place 8 h (omega arith) fits none) e
 
-placed_loaded : (calls : List ℕ) (words : List Word) (stack : List (Cell ℕ)) (size : Size) (signed : Bool) (place : ℕ) (known : Abs) → AreOfCells calls words stack → All FitsCell stack → place + bytes_in size ≤ 512 → state.loaded_at (Some place) (bytes_in size) signed words ≡ Ok known → IsLoaded calls known (λ is_same. loaded_at is_same (Some place) (bytes_in size) signed stack)
+placed_loaded : (calls : List ℕ) (words : List Word) (stack : List (Cell ℕ)) (size : Size) (signed : Bool) (place : ℕ) (known : Abs) → AreOfCells calls words stack → All FitsCell stack → place + bytes_in size ≤ 512 → state.loaded_at (Some place) (bytes_in size) signed words ≡ Ok known → IsFitting calls known (loaded_at ◌==◌ (Some place) (bytes_in size) signed stack)
 placed_loaded calls words stack B signed place known h fit fits e = part_loaded calls words stack B signed place known h fits e
 placed_loaded calls words stack H signed place known h fit fits e = part_loaded calls words stack H signed place known h fits e
 placed_loaded calls words stack W signed place known h fit fits e = part_loaded calls words stack W signed place known h fits e
 placed_loaded calls words stack D signed place known h fit fits e = eight_loaded calls words stack signed place known (place % 8 == 0) refl h fit fits e
 
-found_loaded : (calls : List ℕ) (words : List Word) (stack : List (Cell ℕ)) (size : Size) (signed : Bool) (o : Option ℕ) (known : Abs) → AreOfCells calls words stack → All FitsCell stack → ((place : ℕ) → o ≡ Some place → place + bytes_in size ≤ 512) → state.loaded_at o (bytes_in size) signed words ≡ Ok known → IsLoaded calls known (λ is_same. loaded_at is_same o (bytes_in size) signed stack)
+found_loaded : (calls : List ℕ) (words : List Word) (stack : List (Cell ℕ)) (size : Size) (signed : Bool) (o : Option ℕ) (known : Abs) → AreOfCells calls words stack → All FitsCell stack → ((place : ℕ) → o ≡ Some place → place + bytes_in size ≤ 512) → state.loaded_at o (bytes_in size) signed words ≡ Ok known → IsFitting calls known (loaded_at ◌==◌ o (bytes_in size) signed stack)
 found_loaded calls words stack size signed None known h fit fits e = absurd (cc)
 found_loaded calls words stack size signed (Some place) known h fit fits e = placed_loaded calls words stack size signed place known h fit (fits place refl) e
 
 -- a load from the stack that is not refused
-pub stack_load_sound : (calls : List ℕ) (s : StateView) (stack : List (Cell ℕ)) (size : Size) (signed : Bool) (offset : ℤ) (known : Abs) → AreOfCells calls s.words stack → All FitsCell stack → loaded s size signed offset ≡ Ok known → IsLoaded calls known (λ is_same. loaded_at is_same (place_of offset (bytes_in size)) (bytes_in size) signed stack)
+pub stack_load_sound : (calls : List ℕ) (s : StateView) (stack : List (Cell ℕ)) (size : Size) (signed : Bool) (offset : ℤ) (known : Abs) → AreOfCells calls s.words stack → All FitsCell stack → loaded s size signed offset ≡ Ok known → IsFitting calls known (loaded_at ◌==◌ (place_of offset (bytes_in size)) (bytes_in size) signed stack)
 stack_load_sound calls s stack size signed offset known h fit e =
     found_loaded calls s.words stack size signed (place_of offset (bytes_in size)) known h fit (λ place at. placed_inside offset (bytes_in size) place at) e
 
--- ---- the context
+-- ---- the context, and objects
 
 abbrev is_placed : ℕ → ℤ → ℕ → Bool
 is_placed len z bytes = int_le (pos 0) z && int_le (z +ℤ pos bytes) (pos len)
 
 -- between the ends of an address
-placed_between : (len bytes : ℕ) (low high at offset : ℤ) → low ≤ℤ at → at ≤ℤ high → is_in_context len low high offset bytes ≡ true → is_placed len (at +ℤ offset) bytes ≡ true
+placed_between : (len bytes : ℕ) (low high at offset : ℤ) → low ≤ℤ at → at ≤ℤ high → is_in_bounds len low high offset bytes ≡ true → is_placed len (at +ℤ offset) bytes ≡ true
 placed_between len bytes low high at offset below above e =
     let both = and_parts (int_le (pos 0) (low +ℤ offset)) (int_le ((high +ℤ offset) +ℤ pos bytes) (pos len)) e in
     and_from (int_le (pos 0) (at +ℤ offset)) (int_le ((at +ℤ offset) +ℤ pos bytes) (pos len)) (first both.0) (last both.1)
@@ -306,15 +301,18 @@ placed_between len bytes low high at offset below above e =
     last : int_le ((high +ℤ offset) +ℤ pos bytes) (pos len) ≡ true → int_le ((at +ℤ offset) +ℤ pos bytes) (pos len) ≡ true
     last h = grind (arith, ints)
 
--- a load from the context that is not refused
-pub context_load_sound : (calls : List ℕ) (context : List ℕ) (declared : ℕ) (size : Size) (signed : Bool) (low high at offset : ℤ) → length context ≡ declared → low ≤ℤ at → at ≤ℤ high → is_in_context declared low high offset (bytes_in size) ≡ true → IsLoaded calls (Num (loaded_range (bytes_in size) signed)) (λ is_same. read_at (context_place (length context) (at +ℤ offset) (bytes_in size)) (bytes_in size) signed context)
-context_load_sound calls context declared size signed low high at offset long below above e =
-    let inside = placed_between declared (bytes_in size) low high at offset below above e in
-    let here = subst (λ (len : ℕ). is_placed len (at +ℤ offset) (bytes_in size) ≡ true) (sym long) inside in
-    let number = little_number (bytes_in size) (drop (nat_abs (at +ℤ offset)) context) in
+-- where the bytes begin that an access in bounds moves
+pub place_between : (len bytes : ℕ) (low high at offset : ℤ) → low ≤ℤ at → at ≤ℤ high → is_in_bounds len low high offset bytes ≡ true → place_in len (at +ℤ offset) bytes ≡ Some (nat_abs (at +ℤ offset))
+place_between len bytes low high at offset below above e = cond-true (is_placed len (at +ℤ offset) bytes) (Some (nat_abs (at +ℤ offset))) None (placed_between len bytes low high at offset below above e)
+
+-- a load in bounds, from bytes that are as many as declared
+pub read_sound : (calls : List ℕ) (outside : Trap) (source : List ℕ) (declared : ℕ) (size : Size) (signed : Bool) (low high at offset : ℤ) → length source ≡ declared → low ≤ℤ at → at ≤ℤ high → is_in_bounds declared low high offset (bytes_in size) ≡ true → IsFitting calls (Num (loaded_range (bytes_in size) signed)) (read_at outside (place_in (length source) (at +ℤ offset) (bytes_in size)) (bytes_in size) signed source)
+read_sound calls outside source declared size signed low high at offset long below above e =
+    let inside = subst (λ (len : ℕ). is_in_bounds len low high offset (bytes_in size) ≡ true) (sym long) e in
+    let number = little_number (bytes_in size) (drop (nat_abs (at +ℤ offset)) source) in
     record {
       v = Number (extended (bytes_in size) signed number);
+      is = ap (λ (o : Option ℕ). read_at {N = ℕ} outside o (bytes_in size) signed source) (place_between (length source) (bytes_in size) low high at offset below above inside);
       fits = tt;
       of = extended_within size signed number;
-      is = λ is_same one. ap (λ (o : Option ℕ). read_at {N = ℕ} o (bytes_in size) signed context) (cond-true (is_placed (length context) (at +ℤ offset) (bytes_in size)) (Some (nat_abs (at +ℤ offset))) None here);
     }

@@ -16,11 +16,11 @@ use Rattle.ebpf_machine.specs.Effect.{Effect, Goes, Ends, Traps, Nothing, Write,
 use Rattle.ebpf_machine.specs.World.{Name, Kind, World, Running, Told, Owner, Run, Answer, Absent, Null, Slot, is_in, is_home, holds_of, ledger_of, kind_in, kinds_of, image_at, first_run}
 use Rattle.ebpf_machine.specs.Events.{with_run, with_bytes, with_owner, gone, ended, trapped, replied, granted, done_by, started}
 use Rattle.ebpf_machine.specs.Alone.{alone_first}
-use Rattle.ebpf_machine.specs.Sound.{IsOwned, IsOfKind, AskedFor, Names, HasPointer, IsTrue}
+use Rattle.ebpf_machine.specs.Sound.{IsOwned, IsOfKind, AskedFor, Names, HasPointer, HasOneSlot, IsTrue}
 use Rattle.ebpf_machine.proofs.ListLemmas.{get_set_same, get_push, get_push_cases}
 use Rattle.ebpf_machine.proofs.Owners.{owner_of}
 use Rattle.ebpf_machine.proofs.ObjectPointers.{pointer_written, no_first_pointer}
-use Rattle.ebpf_machine.proofs.OwnedParts.{IsLater, HasOneSlot, same_run, true_same, owned_running, owned_bytes, owned_given, owned_granted}
+use Rattle.ebpf_machine.proofs.OwnedParts.{IsLater, same_run, true_same, owned_running, owned_bytes, owned_given, owned_granted}
 use Rattle.ebpf_machine.proofs.Acts.{IsOwnEffect}
 
 -- an instruction leads forward, and makes no pointer to an object that its run had none to
@@ -126,7 +126,7 @@ patched_long old bytes at fits = rw (length-append, length-append, length-take, 
 
 pub owned_done : (w : World) (run : ℕ) (r : Running) (e : Effect Name) (answer : Answer) → IsOwned w → slice_get w.runs run ≡ Some r → IsOwnEffect w run answer e → IsForward r.frame r.pc e → IsOwned (done_by e answer w run r)
 owned_done w run r (Ends n) answer owned there own forward = owned_stays w run r (ended n r) owned there refl refl refl refl
-owned_done w run r (Traps trap) answer owned there own forward = owned_stays w run r (trapped trap r) owned there refl refl refl refl
+owned_done w run r (Traps trap) answer owned there own forward = absurd own
 owned_done w run r (Goes Nothing to frame) answer owned there own forward = owned_gone w run r to frame owned there forward.0 forward.1
 owned_done w run r (Goes (Write name at bytes) to frame) answer owned there own forward =
     owned_bytes (with_run w run (gone to frame r)) name.0 (patched (w.bytes name.0) at bytes) (owner_of run name) (owned_gone w run r to frame owned there forward.0 forward.1) own.0 refl (patched_long (w.bytes name.0) bytes at own.1)

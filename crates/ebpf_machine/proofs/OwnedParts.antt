@@ -10,8 +10,7 @@ use Rattle.ebpf_verify.specs.Subject.{Subject}
 use Rattle.ebpf_machine.specs.World.{Name, World, Running, Told, Owner, Holder, Run, is_in, is_in_ledger, is_owned, is_home, is_call, ledger_of, kinds_of, image_at, kind_in}
 use Rattle.ebpf_machine.specs.Events.{with_run, with_bytes, with_owner, without_owner}
 use Rattle.ebpf_machine.specs.View.{call_of}
-use Rattle.ebpf_machine.specs.Values.{Frame}
-use Rattle.ebpf_machine.specs.Sound.{IsOwned, IsOfKind, AskedFor, HasPointer, IsTrue}
+use Rattle.ebpf_machine.specs.Sound.{IsOwned, IsOfKind, AskedFor, HasPointer, HasOneSlot, IsTrue}
 use Rattle.ebpf_machine.proofs.ListLemmas.{get_set_same, get_set_other, get_set_cases, Contains-filter, count_by-filter-le, list_any-filter, none_counted}
 use Rattle.ebpf_machine.proofs.Owners.{owner_of, run_of, not_home, holder_of_slot, kind_in-ledger, in_one_ledger}
 
@@ -46,10 +45,6 @@ of_kind_later w run r now (Run asker at) kind there later h = by (cases_eq asker
         told = later.told _ (subst (λ (x : Running). Contains x.told _) same h.told);
       }
   by (inr ne) = record { asker = h.asker; there = get_set_other w.runs run asker now ne ∙ h.there; behind = h.behind; told = h.told }
-
--- pointers of a run that stem from one call are to one slot
-abbrev pub HasOneSlot : Frame Name → Type 0
-HasOneSlot frame = (n m : Name) → HasPointer frame n → HasPointer frame m → n.1 ≡ m.1 → n.0 ≡ m.0
 
 pub owned_running : (w : World) (run : ℕ) (r now : Running) → IsOwned w → slice_get w.runs run ≡ Some r → IsLater r now → ((n : Name) → HasPointer now.frame n → IsTrue w run now n) → HasOneSlot now.frame → IsOwned (with_run w run now)
 owned_running w run r now owned there later true_now alike = record {

@@ -122,7 +122,7 @@ others_granted w run other at slot ne =
 -- ---- the kind of a slot
 
 -- a slot of one ledger, in no other, is of that ledger's kind
-kind_from-ledger : (base : ℕ) (ledgers : List (List ℕ)) (kind slot : ℕ) → is_in slot (get_or ledgers kind []) ≡ true → count_by (is_in slot) ledgers ≤ 1 → kind_from base ledgers slot ≡ base + kind
+pub kind_from-ledger : (base : ℕ) (ledgers : List (List ℕ)) (kind slot : ℕ) → is_in slot (get_or ledgers kind []) ≡ true → count_by (is_in slot) ledgers ≤ 1 → kind_from base ledgers slot ≡ base + kind
 unfolding kind_from
 kind_from-ledger base [] kind slot there most = absurd (cc)
 kind_from-ledger base (slots ∷ ledgers) zero slot there most = rw there (omega arith)

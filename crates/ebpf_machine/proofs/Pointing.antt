@@ -1,8 +1,9 @@
--- An instruction makes no pointer to an object that its run had none to, and asks for nothing.
-use Rattle.std.proofs.Common.{◌≡◌, ℕ, zero, suc, ◌<◌, ℤ, Bool, true, false, cond, List, [], ◌∷◌, length, get_or, set, Option, Some, None, Result, Ok, Err, refl, sym, subst, arith, inl, inr, ◌⊎◌, ◌+◌, ◌-◌, ◌/◌, ◌+ℤ◌, not}
+-- An instruction makes no pointer to an object that its run had none to.
+use Rattle.std.proofs.Common.{◌≡◌, ℕ, zero, suc, ◌<◌, ℤ, pos, Bool, true, false, cond, List, [], ◌∷◌, length, get_or, set, Option, Some, None, Result, Ok, Err, refl, sym, subst, arith, inl, inr, ◌⊎◌, ◌+◌, ◌-◌, ◌/◌, ◌+ℤ◌, not}
 use Rattle.std.specs.Prelude.{Contains, nat_lt, map, ◌&&◌}
+use Rattle.std.specs.Ordering.{int_eq}
 use Rattle.ebpf_insn.specs.declared.register.Reg.{Reg}
-use Rattle.ebpf_insn.specs.declared.register.Reg.TheVariants.{R0}
+use Rattle.ebpf_insn.specs.declared.register.Reg.TheVariants.{R0, R1, R2, R3, R4, R5}
 use Rattle.ebpf_insn.specs.declared.insn.Insn.{Insn}
 use Rattle.ebpf_insn.specs.declared.insn.Insn.TheVariants as insn
 use Rattle.ebpf_insn.specs.declared.insn.Source.{Source}
@@ -15,12 +16,15 @@ use Rattle.ebpf_insn.specs.Registers.{number_of}
 use Rattle.ebpf_insn.specs.Arithmetic.{kept_at, extension_at, negation_at, swap_of}
 use Rattle.ebpf_flow.specs.Edges.{jump_of}
 use Rattle.ebpf_verify.specs.Operations.{is_frame_pointer}
+use Rattle.ebpf_verify.specs.declared.helper.Helper.{Helper}
+use Rattle.ebpf_verify.specs.declared.helper.Helper.TheVariants.{New, Free, Emit}
+use Rattle.ebpf_verify.specs.Calls.{helper_of}
 use Rattle.ebpf_machine.specs.declared.value.Value.{Value}
 use Rattle.ebpf_machine.specs.declared.value.Value.TheVariants.{Number, Pointer}
 use Rattle.ebpf_machine.specs.declared.value.Base.{Base}
 use Rattle.ebpf_machine.specs.declared.value.Base.TheVariants.{Stack, Context, Object}
-use Rattle.ebpf_machine.specs.Values.{Trap, FramePointerWritten, Leak, Frame, read, source_value}
-use Rattle.ebpf_machine.specs.Effect.{Around, Act, Nothing, Effect, Goes, Traps, effect, unary, copied, moved_on_left, moved_on_right, pointer_to, computed, binary, alu_value, with_value, written, is_taken, jumps, branches, exits, result_number}
+use Rattle.ebpf_machine.specs.Values.{Trap, ContextAccess, ObjectBounds, PointerMisuse, BadCall, FramePointerWritten, Leak, Frame, read, source_value}
+use Rattle.ebpf_machine.specs.Effect.{Found, Around, Act, Nothing, Take, Give, Effect, Goes, Traps, effect_at, effect, unary, copied, moved_on_left, moved_on_right, pointer_to, computed, binary, alu_value, with_value, written, is_taken, read_object, loaded, rewritten, written_at, writes_object, stores_through, stores, unset, without_arguments, with_zero, news, gives, frees, with_output, emits, calls, jumps, branches, exits, result_number}
 use Rattle.ebpf_machine.specs.World.{Name}
 use Rattle.std.specs.List.{enumerate_from}
 use Rattle.std.proofs.lemmas.Bool.{cond_both}
@@ -28,9 +32,7 @@ use Rattle.ebpf_insn.specs.declared.insn.Size.{Size}
 use Rattle.ebpf_state.specs.Stack.{bytes_in, place_of, is_whole_word}
 use Rattle.ebpf_machine.specs.declared.value.Cell.{Cell}
 use Rattle.ebpf_machine.specs.declared.value.Cell.TheVariants.{Unset, Byte, Part}
-use Rattle.ebpf_machine.specs.Values.{PointerMisuse}
-use Rattle.ebpf_machine.specs.Cells.{cell_at, are_parts, pointer_from, number_from, loaded_number, loaded_word, loaded_at, context_place, read_at, cell_of, left_over, touches, is_among, stored_cell, stored_cells, is_pointer, stored_at}
-use Rattle.ebpf_machine.specs.Effect.{loaded, stored_through, stored, rewritten}
+use Rattle.ebpf_machine.specs.Cells.{cell_at, are_parts, pointer_from, number_from, loaded_number, loaded_word, loaded_at, place_in, read_at, cell_of, left_over, touches, is_among, stored_cell, stored_cells, is_pointer, stored_at}
 use Rattle.ebpf_machine.specs.Sound.{Names, NamesPart, HasPointer, InRegister, InCell}
 use Rattle.ebpf_machine.proofs.CellsSeen.{HasPart, cell_points}
 
@@ -51,10 +53,10 @@ in_registers [] k n h = absurd h
 in_registers (x ∷ xs) zero n h = (0, omega arith, refl)
 in_registers (x ∷ xs) (suc k) n h = let there = in_registers xs k n h in let inside = there.1 in (suc there.0, omega arith, there.2)
 
-read_points : (frame : Frame Name) (r : Reg) (n : Name) → Names (read frame r) n → HasPointer frame n
+pub read_points : (frame : Frame Name) (r : Reg) (n : Name) → Names (read frame r) n → HasPointer frame n
 read_points frame r n h = InRegister (read frame r) (in_registers frame.registers (number_of r) n h) h
 
-source_points : (frame : Frame Name) (width : Width) (src : Source) (n : Name) → Names (source_value frame width src) n → HasPointer frame n
+pub source_points : (frame : Frame Name) (width : Width) (src : Source) (n : Name) → Names (source_value frame width src) n → HasPointer frame n
 source_points frame width (Register r) n h = read_points frame r n h
 source_points frame width (Imm z) n h = absurd h
 
@@ -103,17 +105,16 @@ alu_points W32 op.Mov x y = unary_points (kept_at W32) x y
 alu_points W32 o x y = binary_points W32 o x y
 alu_points W64 o x y = binary_points W64 o x y
 
--- what an instruction that goes on asks, and which pointers are left
-pub record IsPlain (before : Frame Name) (act : Act Name) (after : Frame Name) : Type 0 where
-  pub asks : act ≡ Nothing
-  pub pointers : (n : Name) → HasPointer after n → HasPointer before n
+-- a frame has no pointer that was not there before
+abbrev IsPlain : Frame Name → Frame Name → Type 0
+IsPlain before after = (n : Name) → HasPointer after n → HasPointer before n
 
 abbrev IsPlainEffect : Frame Name → Effect Name → Type 0
-IsPlainEffect before (Goes act to after) = IsPlain before act after
+IsPlainEffect before (Goes act to after) = IsPlain before after
 IsPlainEffect before _ = Unit {0}
 
-value_plain : (frame : Frame Name) (dst : Reg) (v : Value Name) → ((n : Name) → Names (Some v) n → HasPointer frame n) → IsPlain frame Nothing (with_value frame dst v)
-value_plain frame dst v from = record { asks = refl; pointers = pointed } where
+value_plain : (frame : Frame Name) (dst : Reg) (v : Value Name) → ((n : Name) → Names (Some v) n → HasPointer frame n) → IsPlain frame (with_value frame dst v)
+value_plain frame dst v from = pointed where
   pointed : (n : Name) → HasPointer (with_value frame dst v) n → HasPointer frame n
   pointed n (InCell c there h) = InCell c there h
   pointed n (InRegister x there h) = by_place (in_set frame.registers (number_of dst) (Some v) x there.0 there.1 there.2) where
@@ -166,16 +167,20 @@ load_plain to frame dst (Ok v) points = chosen (is_frame_pointer dst) where
   chosen true = tt
   chosen false = value_plain frame dst v (λ n h. cell_points frame n (points n h))
 
-read_points_nowhere : (stack : List (Cell Name)) (place : Option ℕ) (bytes : ℕ) (signed : Bool) (context : List ℕ) → PointsIn stack (read_at place bytes signed context)
-read_points_nowhere stack None bytes signed context = tt
-read_points_nowhere stack (Some place) bytes signed context = λ n h. absurd h
+read_points_nowhere : (stack : List (Cell Name)) (outside : Trap) (place : Option ℕ) (bytes : ℕ) (signed : Bool) (source : List ℕ) → PointsIn stack (read_at outside place bytes signed source)
+read_points_nowhere stack outside None bytes signed source = tt
+read_points_nowhere stack outside (Some place) bytes signed source = λ n h. absurd h
+
+object_points_nowhere : (stack : List (Cell Name)) (r : Result Found Trap) (at : ℤ) (bytes : ℕ) (signed : Bool) → PointsIn stack (read_object r at bytes signed)
+object_points_nowhere stack (Err trap) at bytes signed = tt
+object_points_nowhere stack (Ok found) at bytes signed = read_points_nowhere stack ObjectBounds (place_in (length found.bytes) at bytes) bytes signed found.bytes
 
 through_points : (a : Around Name) (stack : List (Cell Name)) (size : Size) (signed : Bool) (offset : ℤ) (x : Option (Value Name)) → PointsIn stack (loaded a stack size signed offset x)
 through_points a stack size signed offset None = tt
 through_points a stack size signed offset (Some (Number n)) = tt
 through_points a stack size signed offset (Some (Pointer Stack k)) = loaded_points a.is_same (place_of (k +ℤ offset) (bytes_in size)) (bytes_in size) signed stack
-through_points a stack size signed offset (Some (Pointer Context k)) = read_points_nowhere stack (context_place (length a.context) (k +ℤ offset) (bytes_in size)) (bytes_in size) signed a.context
-through_points a stack size signed offset (Some (Pointer (Object name) k)) = tt
+through_points a stack size signed offset (Some (Pointer Context k)) = read_points_nowhere stack ContextAccess (place_in (length a.context) (k +ℤ offset) (bytes_in size)) (bytes_in size) signed a.context
+through_points a stack size signed offset (Some (Pointer (Object name) k)) = object_points_nowhere stack (a.object name) (k +ℤ offset) (bytes_in size) signed
 
 -- a cell after a store is of the value, or was there
 stored_from : (place bytes : ℕ) (v : Value Name) (i : ℕ) (old c : Cell Name) (n : Name) → stored_cell place bytes v i old ≡ c → NamesPart c n → Names (Some v) n ⊎ NamesPart old n
@@ -207,8 +212,8 @@ in_changed f (x ∷ xs) from y (suc i) lt e =
     let inside = among.1 in
     (there.0, there.1, (suc among.0, omega arith, among.2), there.3)
 
-stack_plain : (to : ℕ) (frame : Frame Name) (place bytes : ℕ) (v : Value Name) → ((n : Name) → Names (Some v) n → HasPointer frame n) → IsPlain frame Nothing (record frame { stack = stored_cells place bytes v frame.stack })
-stack_plain to frame place bytes v from = record { asks = refl; pointers = pointed } where
+stack_plain : (to : ℕ) (frame : Frame Name) (place bytes : ℕ) (v : Value Name) → ((n : Name) → Names (Some v) n → HasPointer frame n) → IsPlain frame (record frame { stack = stored_cells place bytes v frame.stack })
+stack_plain to frame place bytes v from = pointed where
   old_or_new : (n : Name) (old : Cell Name) → Contains frame.stack old → Names (Some v) n ⊎ NamesPart old n → HasPointer frame n
   old_or_new n old among (inl named) = from n named
   old_or_new n old among (inr part) = InCell old among part
@@ -226,16 +231,83 @@ stored_at_plain to frame (Some place) bytes v from = chosen (is_pointer v && not
   chosen true = tt
   chosen false = stack_plain to frame place bytes v from
 
-through_plain : (to : ℕ) (frame : Frame Name) (size : Size) (offset : ℤ) (base v : Value Name) → ((n : Name) → Names (Some v) n → HasPointer frame n) → IsPlainEffect frame (rewritten to frame (stored_through frame.stack size offset base v))
-through_plain to frame size offset (Number m) v from = tt
-through_plain to frame size offset (Pointer Stack k) v from = stored_at_plain to frame (place_of (k +ℤ offset) (bytes_in size)) (bytes_in size) v from
-through_plain to frame size offset (Pointer Context k) v from = tt
-through_plain to frame size offset (Pointer (Object name) k) v from = tt
+written_at_plain : (to : ℕ) (frame : Frame Name) (name : Name) (place : Option ℕ) (bytes : ℕ) (v : Value Name) → IsPlainEffect frame (written_at to frame name place bytes v)
+written_at_plain to frame name None bytes v = tt
+written_at_plain to frame name (Some place) bytes (Number m) = λ n h. h
+written_at_plain to frame name (Some place) bytes (Pointer base k) = tt
 
-store_plain : (to : ℕ) (frame : Frame Name) (size : Size) (offset : ℤ) (x y : Option (Value Name)) → ((n : Name) → Names y n → HasPointer frame n) → IsPlainEffect frame (rewritten to frame (stored frame.stack size offset x y))
-store_plain to frame size offset None y from = tt
-store_plain to frame size offset (Some base) None from = tt
-store_plain to frame size offset (Some base) (Some v) from = through_plain to frame size offset base v from
+object_plain : (to : ℕ) (frame : Frame Name) (name : Name) (r : Result Found Trap) (at : ℤ) (bytes : ℕ) (v : Value Name) → IsPlainEffect frame (writes_object to frame name r at bytes v)
+object_plain to frame name (Err trap) at bytes v = tt
+object_plain to frame name (Ok found) at bytes v = written_at_plain to frame name (place_in (length found.bytes) at bytes) bytes v
+
+through_plain : (to : ℕ) (a : Around Name) (frame : Frame Name) (size : Size) (offset : ℤ) (base v : Value Name) → ((n : Name) → Names (Some v) n → HasPointer frame n) → IsPlainEffect frame (stores_through to a frame size offset base v)
+through_plain to a frame size offset (Number m) v from = tt
+through_plain to a frame size offset (Pointer Stack k) v from = stored_at_plain to frame (place_of (k +ℤ offset) (bytes_in size)) (bytes_in size) v from
+through_plain to a frame size offset (Pointer Context k) v from = tt
+through_plain to a frame size offset (Pointer (Object name) k) v from = object_plain to frame name (a.object name) (k +ℤ offset) (bytes_in size) v
+
+store_plain : (to : ℕ) (a : Around Name) (frame : Frame Name) (size : Size) (offset : ℤ) (x y : Option (Value Name)) → ((n : Name) → Names y n → HasPointer frame n) → IsPlainEffect frame (stores to a frame size offset x y)
+store_plain to a frame size offset None y from = tt
+store_plain to a frame size offset (Some base) None from = tt
+store_plain to a frame size offset (Some base) (Some v) from = through_plain to a frame size offset base v from
+
+-- ---- calls
+
+-- a register that is set to what is no pointer to an object
+unset_plain : (frame : Frame Name) (r : Reg) → IsPlain frame (unset frame r)
+unset_plain frame r n (InCell c there h) = InCell c there h
+unset_plain frame r n (InRegister x there h) = by_place (in_set frame.registers (number_of r) None x there.0 there.1 there.2) where
+  by_place : (None ≡ x) ⊎ Contains frame.registers x → HasPointer frame n
+  by_place (inl same) = absurd (subst (λ (o : Option (Value Name)). Names o n) (sym same) h)
+  by_place (inr before) = InRegister x before h
+
+arguments_plain : (frame : Frame Name) → IsPlain frame (without_arguments frame)
+arguments_plain frame n h =
+    unset_plain frame R1 n
+    (unset_plain (unset frame R1) R2 n
+    (unset_plain (unset (unset frame R1) R2) R3 n
+    (unset_plain (unset (unset (unset frame R1) R2) R3) R4 n
+    (unset_plain (unset (unset (unset (unset frame R1) R2) R3) R4) R5 n h))))
+
+zero_plain : (frame : Frame Name) → IsPlain frame (with_zero frame)
+zero_plain frame n h = arguments_plain frame n (value_plain (without_arguments frame) R0 (Number 0) (λ m named. absurd named) n h)
+
+output_plain : (m : ℕ) (frame : Frame Name) → IsPlain frame (with_output m frame)
+output_plain m frame n (InRegister x there h) = InRegister x there h
+output_plain m frame n (InCell c there h) = InCell c there h
+
+or_bad_plain : (frame : Frame Name) (t : Bool) (act : Act Name) (to : ℕ) (after : Frame Name) → IsPlain frame after → IsPlainEffect frame (cond t (Goes act to after) (Traps BadCall))
+or_bad_plain frame true act to after plain = plain
+or_bad_plain frame false act to after plain = tt
+
+news_plain : (to : ℕ) (a : Around Name) (frame : Frame Name) (x : Option (Value Name)) → IsPlainEffect frame (news to a frame x)
+news_plain to a frame None = tt
+news_plain to a frame (Some (Number kind)) = or_bad_plain frame (nat_lt kind a.kinds) (Take kind) to (without_arguments frame) (arguments_plain frame)
+news_plain to a frame (Some (Pointer base k)) = tt
+
+gives_plain : (to : ℕ) (frame : Frame Name) (name : Name) (r : Result Found Trap) (k : ℤ) → IsPlainEffect frame (gives to frame name r k)
+gives_plain to frame name (Err trap) k = tt
+gives_plain to frame name (Ok found) k = or_bad_plain frame (int_eq k (pos 0)) (Give name) to (with_zero frame) (zero_plain frame)
+
+frees_plain : (to : ℕ) (a : Around Name) (frame : Frame Name) (x : Option (Value Name)) → IsPlainEffect frame (frees to a frame x)
+frees_plain to a frame None = tt
+frees_plain to a frame (Some (Number m)) = tt
+frees_plain to a frame (Some (Pointer Stack k)) = tt
+frees_plain to a frame (Some (Pointer Context k)) = tt
+frees_plain to a frame (Some (Pointer (Object name) k)) = gives_plain to frame name (a.object name) k
+
+emits_plain : (to : ℕ) (frame : Frame Name) (x : Option (Value Name)) → IsPlainEffect frame (emits to frame x)
+emits_plain to frame None = tt
+emits_plain to frame (Some (Number m)) = λ n h. zero_plain frame n (output_plain m (with_zero frame) n h)
+emits_plain to frame (Some (Pointer base k)) = tt
+
+calls_plain : (helper : Option Helper) (to : ℕ) (a : Around Name) (frame : Frame Name) → IsPlainEffect frame (calls helper to a frame)
+calls_plain None to a frame = tt
+calls_plain (Some New) to a frame = news_plain to a frame (read frame R1)
+calls_plain (Some Free) to a frame = frees_plain to a frame (read frame R1)
+calls_plain (Some Emit) to a frame = emits_plain to frame (read frame R1)
+
+-- ---- every instruction
 
 -- an operation on one number
 number_plain : (to : ℕ) (frame : Frame Name) (dst : Reg) (f : ℕ → ℕ) (src : Reg) → IsPlainEffect frame (written to frame dst (unary f (read frame src)))
@@ -243,12 +315,12 @@ number_plain to frame dst f src = written_plain to frame dst (read frame src) (r
 
 jumps_plain : (target : Option ℕ) (frame : Frame Name) → IsPlainEffect frame (jumps target frame)
 jumps_plain None frame = tt
-jumps_plain (Some to) frame = record { asks = refl; pointers = λ n h. h }
+jumps_plain (Some to) frame = λ n h. h
 
 branches_plain : (next : ℕ) (target : Option ℕ) (frame : Frame Name) (r : Result Bool Trap) → IsPlainEffect frame (branches next target frame r)
 branches_plain next target frame (Err trap) = tt
 branches_plain next target frame (Ok true) = jumps_plain target frame
-branches_plain next target frame (Ok false) = record { asks = refl; pointers = λ n h. h }
+branches_plain next target frame (Ok false) = λ n h. h
 
 exits_plain : (frame : Frame Name) (holds : ℕ) (x : Option (Value Name)) → IsPlainEffect frame (exits holds x)
 exits_plain frame holds None = tt
@@ -273,8 +345,12 @@ effect_plain (insn.JumpFar offset) pc a frame = jumps_plain (jump_of (insn.JumpF
 effect_plain (insn.Branch width condition left right offset) pc a frame = branches_plain _ (jump_of (insn.Branch width condition left right offset) pc) frame (is_taken width condition right (read frame left) (source_value frame width right))
 effect_plain insn.Exit pc a frame = exits_plain frame a.holds (read frame R0)
 effect_plain (insn.Load size signed dst base offset) pc a frame = load_plain _ frame dst (loaded a frame.stack size signed offset (read frame base)) (through_points a frame.stack size signed offset (read frame base))
-effect_plain (insn.Store size base offset src) pc a frame = store_plain _ frame size offset (read frame base) (source_value frame W64 src) (source_points frame W64 src)
-effect_plain (insn.Call number) pc a frame = tt
+effect_plain (insn.Store size base offset src) pc a frame = store_plain _ a frame size offset (read frame base) (source_value frame W64 src) (source_points frame W64 src)
+effect_plain (insn.Call number) pc a frame = calls_plain (helper_of number) _ a frame
 
-pub plain_goes : (i : Insn) (pc : ℕ) (a : Around Name) (frame : Frame Name) (act : Act Name) (to : ℕ) (after : Frame Name) → effect i pc a frame ≡ Goes act to after → IsPlain frame act after
-plain_goes i pc a frame act to after e = subst (IsPlainEffect frame) e (effect_plain i pc a frame)
+effect_at_plain : (o : Option Insn) (pc : ℕ) (a : Around Name) (frame : Frame Name) → IsPlainEffect frame (effect_at o pc a frame)
+effect_at_plain None pc a frame = tt
+effect_at_plain (Some i) pc a frame = effect_plain i pc a frame
+
+pub plain_goes : (o : Option Insn) (pc : ℕ) (a : Around Name) (frame : Frame Name) (act : Act Name) (to : ℕ) (after : Frame Name) → effect_at o pc a frame ≡ Goes act to after → (n : Name) → HasPointer after n → HasPointer frame n
+plain_goes o pc a frame act to after e = subst (IsPlainEffect frame) e (effect_at_plain o pc a frame)

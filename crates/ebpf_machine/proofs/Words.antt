@@ -62,7 +62,7 @@ plain_byte calls (May r) v j set plain h = absurd (cc)
 -- ---- joins
 
 -- what is left of two spills speaks of cells that what is known of both does
-left_spilled : (calls : List ℕ) (a : Abs) (v : Value ℕ) (cells : ℕ → Cell ℕ) → IsOf calls a (Some v) → ((j : ℕ) → j < 8 → cells j ≡ cell_of v j) → IsOfCells calls (spill_or_nothing a) cells
+pub left_spilled : (calls : List ℕ) (a : Abs) (v : Value ℕ) (cells : ℕ → Cell ℕ) → IsOf calls a (Some v) → ((j : ℕ) → j < 8 → cells j ≡ cell_of v j) → IsOfCells calls (spill_or_nothing a) cells
 left_spilled calls Unset v cells of same = nothing_known calls cells
 left_spilled calls (Num a) v cells of same = (v, of, same, refl)
 left_spilled calls (Stk k) v cells of same = (v, of, same, refl)

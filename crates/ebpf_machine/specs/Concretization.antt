@@ -6,8 +6,8 @@ use Rattle.ebpf_state.specs.declared.value.Abs.{Abs}
 use Rattle.ebpf_state.specs.declared.value.Abs.TheVariants.{Unset, Num, Stk, Ctx, Ob, May}
 use Rattle.ebpf_state.specs.declared.word.Word.{Word}
 use Rattle.ebpf_state.specs.declared.word.Word.TheVariants.{Spill, Bytes}
-use Rattle.ebpf_state.specs.declared.held.Held.{Held}
 use Rattle.ebpf_state.specs.Abstract.{is_unset}
+use Rattle.ebpf_state.specs.References.{kind_held}
 use Rattle.ebpf_state.specs.Stack.{word_of}
 use Rattle.ebpf_state.specs.StateView.{StateView}
 use Rattle.ebpf_verify.specs.declared.entry.EntryState.{EntryState}
@@ -37,9 +37,9 @@ IsOf calls _ _ = ⊥
 abbrev pub calls_of : List ObjectView → List ℕ
 calls_of objects = map (λ o. o.call) objects
 
--- each object is that of a reference, and of its kind
-abbrev pub AreReferred : List Held → List ObjectView → Type 0
-AreReferred held objects = (o : ObjectView) → Contains objects o → (h : Held) × Contains held h × (h.call ≡ o.call) × (h.kind ≡ o.kind)
+-- each object is held, as one of its kind
+abbrev pub AreReferred : StateView → List ObjectView → Type 0
+AreReferred s objects = (o : ObjectView) → Contains objects o → kind_held o.call s ≡ Some o.kind
 
 -- a cell holds a byte
 abbrev pub IsByte : Cell ℕ → Type 0
@@ -56,7 +56,7 @@ IsOfCells calls (Bytes mask) cells = (j : ℕ) → j < 8 → bit_at mask j ≡ 1
 pub record AreOf (s : StateView) (frame : Frame ℕ) (objects : List ObjectView) : Type 0 where
   pub each : (k : ℕ) → k < 11 → IsOf (calls_of objects) (slice_index_or s.registers k Unset) (slice_index_or frame.registers k None)
   pub words : (w : ℕ) → w < 64 → IsOfCells (calls_of objects) (word_of s.words w) (λ j. cell_at frame.stack (8 * w + j))
-  pub held : AreReferred s.held objects
+  pub held : AreReferred s objects
 
 -- what comes to a slot speaks of a run there
 abbrev pub Arrives : EntryState → Frame ℕ → List ObjectView → Type 0

@@ -1,11 +1,14 @@
 -- One event of the world: a run starts, or does the instruction at its pc.
-use Rattle.std.specs.Prelude.{ℕ, zero, suc, pos, ◌+◌, ◌++◌, ◌==◌, Bool, true, false, not, ◌&&◌, nat_le, nat_lt, List, [], ◌∷◌, length, filter, if◌then◌else◌, Option, Some, None, Result, Ok, Err, slice_get, slice_set}
+use Rattle.std.specs.Prelude.{ℕ, pos, ◌+◌, ◌++◌, ◌==◌, Bool, true, false, not, ◌&&◌, nat_le, nat_lt, List, [], ◌∷◌, length, filter, if◌then◌else◌, Option, Some, None, Result, Ok, Err, slice_get, slice_set}
 use Rattle.ebpf_insn.specs.declared.insn.Insn.{Insn}
 use Rattle.ebpf_insn.specs.declared.insn.Insn.TheVariants as insn
 use Rattle.ebpf_insn.specs.declared.register.Reg.TheVariants.{R0, R1}
 use Rattle.ebpf_insn.specs.Program.{insn_at}
 use Rattle.ebpf_insn.specs.Faults.{first_of}
 use Rattle.ebpf_verify.specs.Subject.{Subject}
+use Rattle.ebpf_verify.specs.declared.helper.Helper.{Helper}
+use Rattle.ebpf_verify.specs.declared.helper.Helper.TheVariants.{New}
+use Rattle.ebpf_verify.specs.Calls.{helper_of}
 use Rattle.ebpf_machine.specs.declared.value.Value.{Value}
 use Rattle.ebpf_machine.specs.declared.value.Value.TheVariants.{Number, Pointer}
 use Rattle.ebpf_machine.specs.declared.value.Base.TheVariants.{Object}
@@ -103,9 +106,12 @@ abbrev pub asking_for : {N : Type 0} → Option (Value N) → ℕ → Asking
 asking_for (Some (Number kind)) kinds = if nat_lt kind kinds then OfKind kind else OfNoKind
 asking_for _ kinds = OfNoKind
 
--- call 1 is new
+abbrev pub asking_helper : {N : Type 0} → Option Helper → ℕ → Frame N → Asking
+asking_helper (Some New) kinds frame = asking_for (read frame R1) kinds
+asking_helper _ kinds frame = Unasked
+
 abbrev pub asking : {N : Type 0} → Option Insn → ℕ → Frame N → Asking
-asking (Some (insn.Call (pos (suc zero)))) kinds frame = asking_for (read frame R1) kinds
+asking (Some (insn.Call number)) kinds frame = asking_helper (helper_of number) kinds frame
 asking _ kinds frame = Unasked
 
 abbrev pub is_asked : Asking → Bool

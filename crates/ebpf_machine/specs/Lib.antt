@@ -14,3 +14,5 @@ pub mod Sound
 pub mod Step
 pub mod Flows
 pub mod Turns
+pub mod Parts
+pub mod Advance

@@ -3,6 +3,7 @@
 use Rattle.std.specs.Prelude.{◌≡◌, ◌<◌, ◌≤◌, ℕ, false, true, ◌==◌, List, [], length, All, Contains, count_by, FitsSigned, is_none, Option, Some, None, slice_get}
 use Rattle.std.specs.Int.{w64}
 use Rattle.ebpf_insn.specs.Program.{instructions, insn_at, count_below}
+use Rattle.ebpf_state.specs.Ascending.{IsAscending}
 use Rattle.ebpf_verify.specs.Verdict.{IsAccepted}
 use Rattle.ebpf_verify.specs.Entry.{entry_of}
 use Rattle.ebpf_machine.specs.declared.value.Value.{Value}
@@ -17,7 +18,7 @@ use Rattle.ebpf_machine.specs.World.{Name, Status, Going, Exited, Trapped, World
 use Rattle.ebpf_machine.specs.Alone.{alone_after}
 use Rattle.ebpf_machine.specs.View.{RunView, view_in}
 use Rattle.ebpf_machine.specs.RunState.{RunState, seen}
-use Rattle.ebpf_machine.specs.Concretization.{Arrives}
+use Rattle.ebpf_machine.specs.Concretization.{Arrives, calls_of}
 
 -- ---- one instruction
 
@@ -46,12 +47,18 @@ IsFine (Traps trap) = ⊥
 
 -- ---- a run of an accepted program, as it sees itself
 
--- one that goes on is at an instruction, and what is known there speaks of it; its objects are of calls behind it
+-- each object has as many bytes as its kind says
+abbrev pub AreSized : RunView → Type 0
+AreSized v = All (λ o. length o.bytes ≡ length (image_at (kinds_of v.subject.rows) o.kind)) v.objects
+
+-- one that goes on is at an instruction, and what is known there speaks of it; its objects are of calls behind it, in the order of
+-- their grants
 pub record IsGoing (v : RunView) : Type 0 where
   pub inside : is_none (insn_at v.subject.program v.pc) ≡ false
   pub few : v.executed ≤ count_below v.subject.program v.pc
   pub state : Arrives (entry_of v.subject.program v.pc) v.frame v.objects
   pub behind : All (λ o. o.call < v.pc) v.objects
+  pub ascending : IsAscending (calls_of v.objects)
   pub declared : length v.objects ≤ v.subject.decl.held
 
 pub record HasExited (v : RunView) : Type 0 where
@@ -75,11 +82,14 @@ pub record IsSound (v : RunView) : Type 0 where
 abbrev pub IsAlone : RunView → Type 0
 IsAlone v = view_in (alone_after v.executed v.subject v.context v.replies).world 0 ≡ Some v
 
--- a run as it is kept: whatever bytes its objects have it is sound, its peak is that of the run alone
+-- a run as it is kept: whatever bytes its objects have it is sound, its peak is that of the run alone, and no instruction told it
+-- more than one reply or added more than one number to its output
 pub record IsRun {H : Type 0} (r : RunState H) : Type 0 where
   pub sound : (bytes : H → List ℕ) → IsSound (seen bytes r)
   pub peak : (alone_after r.executed r.subject r.context r.replies).peak ≡ r.peak
   pub most : length r.held ≤ r.peak
+  pub told : length r.replies ≤ r.executed
+  pub emitted : length r.output ≤ r.executed
 
 -- ---- owners, ledgers and pointers of a world fit together
 
@@ -96,6 +106,10 @@ NamesPart _ n = ⊥
 pub data HasPointer (frame : Frame Name) (n : Name) : Type 0 where
   InRegister : (v : Option (Value Name)) → Contains frame.registers v → Names v n → HasPointer frame n
   InCell : (c : Cell Name) → Contains frame.stack c → NamesPart c n → HasPointer frame n
+
+-- pointers of a run to what one call was granted are to one slot
+abbrev pub HasOneSlot : Frame Name → Type 0
+HasOneSlot frame = (n m : Name) → HasPointer frame n → HasPointer frame m → n.1 ≡ m.1 → n.0 ≡ m.0
 
 -- a pointer stems from a call behind the run; where the run still holds what that call was granted, it is to that slot
 pub record IsTrue (w : World) (run : ℕ) (r : Running) (n : Name) : Type 0 where
@@ -124,4 +138,4 @@ pub record IsOwned (w : World) : Type 0 where
   pub one_a_call : (o p : Owner) → Contains w.owners o → Contains w.owners p → o.holder ≡ p.holder → o ≡ p
   pub asked : (o : Owner) → Contains w.owners o → IsOfKind w o.holder (kind_in w o.slot)
   pub pointers : (run : ℕ) (r : Running) → slice_get w.runs run ≡ Some r → (n : Name) → HasPointer r.frame n → IsTrue w run r n
-  pub one_slot : (run : ℕ) (r : Running) → slice_get w.runs run ≡ Some r → (n m : Name) → HasPointer r.frame n → HasPointer r.frame m → n.1 ≡ m.1 → n.0 ≡ m.0
+  pub one_slot : (run : ℕ) (r : Running) → slice_get w.runs run ≡ Some r → HasOneSlot r.frame

@@ -1,4 +1,7 @@
-//! An object that a run holds.
+//! The objects that a run holds.
+
+ghost use Rattle.std.specs.Prelude.{◌≡◌, ◌≢◌, ◌<◌, ℕ, length, map, Contains, slice_index_or};
+ghost use Rattle.ebpf_machine.specs.declared.holding.Holding.{Holding};
 
 /// An object, with the call that was granted it and its kind.
 #[derive(Drop)]
@@ -7,4 +10,19 @@ pub struct Holding<H> {
     pub call: u16,
     pub kind: u8,
     pub object: H,
+}
+
+/// The place of the object that was granted to a call, among those that are held.
+pub(crate) fn place_of<H>(held: &[Holding<H>], call: u16) -> usize
+    requires { Contains (map (λ h. h.call) held.now) call }
+    ensures inside { result < length held.now }
+    ensures value { (d : Holding H) → (slice_index_or held.now result d).call ≡ call }
+    ensures first { (k : ℕ) (d : Holding H) → k < result → k < length held.now → (slice_index_or held.now k d).call ≢ call }
+{
+    'places: for place in 0..held.len() {
+        if held[place].call == call {
+            return place;
+        }
+    }
+    unreachable!()
 }

@@ -5,15 +5,18 @@
 //! world of many runs, one event of it, and a run alone in a world of its own.
 //!
 //! To be read in this order: `value`, `kinds`, `objects`, `holding`, `number`, `stack`, `memory`, `execute`,
-//! `report`, `run`.
+//! `report`, `parts`, `helpers`, `advance`, `run`.
 #![tactic(auto)]
 
+mod advance;
 mod execute;
+mod helpers;
 pub mod holding;
 pub mod kinds;
 mod memory;
 mod number;
 pub mod objects;
+mod parts;
 pub mod report;
 pub mod run;
 mod stack;

@@ -1,95 +1,93 @@
 //! Loads and stores, through the pointer that a register holds (RFC 9669, sections 5.1 and 5.2).
 //!
-//! Nothing is tested: where the instruction does not trap, its bytes lie in the stack or in the context.
+//! Nothing is tested: where the instruction does not trap, its bytes lie in the stack, in the context, or in an object that the run
+//! holds.
 
-ghost use Rattle.std.specs.Prelude.{◌≡◌, ℕ, pos, negsuc, ◌+ℤ◌, ◌≤ℤ◌, ◌≤◌, nat_abs, true, is_ok, Some, Ok, FitsSigned};
+ghost use Rattle.std.specs.Prelude.{◌≡◌, ◌==◌, ℕ, pos, negsuc, ◌+ℤ◌, ◌≤ℤ◌, ◌≤◌, nat_abs, true, length, map, is_ok, Some, Ok, FitsSigned};
 ghost use Rattle.std.specs.Int.{w64};
-ghost use Rattle.ebpf_machine.specs.Effect.{Around, loaded, stored};
-ghost use Rattle.ebpf_machine.specs.Flows.{IsAround, IsResult};
+ghost use Rattle.ebpf_state.specs.Stack.{bytes_in, place_of};
+ghost use Rattle.ebpf_machine.specs.Values.{Trap};
+ghost use Rattle.ebpf_machine.specs.Cells.{place_in, loaded_at, read_at, stored_at};
+ghost use Rattle.ebpf_machine.specs.Effect.{loaded, read_object};
+ghost use Rattle.ebpf_machine.specs.View.{around_with, object_at};
+ghost use Rattle.ebpf_machine.specs.RunState.{object_seen};
+ghost use Rattle.ebpf_machine.specs.Step.{AreOut};
+ghost use Rattle.ebpf_machine.specs.Flows.{IsResult};
 
+use crate::holding::{Holding, place_of};
 use crate::number::number_at;
+use crate::objects::Objects;
 use crate::stack::Stack;
 use crate::value::{Base, Value};
 use ebpf_insn::insn::Size;
 
+/// What is loaded: so many bytes, with zeros or with their sign above them, at an offset from an address.
+#[derive(Clone, Copy)]
+pub(crate) struct Loaded {
+    pub(crate) size: Size,
+    pub(crate) signed: bool,
+    pub(crate) offset: i16,
+}
+
 /// The value of the bytes at an offset from an address.
-pub(crate) fn load(
+pub(crate) fn load<O: Objects>(
     stack: &Stack,
     context: &[u8],
+    held: &[Holding<O::Held>],
+    objects: &O,
     address: Option<Value<u16>>,
-    size: Size,
-    signed: bool,
-    offset: i16,
+    load: Loaded,
 ) -> Value<u16>
-    requires { (a : Around ℕ) × IsAround a context.now × IsResult (loaded a stack.now size signed offset address) }
-    ensures { (a : Around ℕ) → IsAround a context.now → loaded a stack.now size signed offset address ≡ Ok result }
+    requires out { AreOut (O.is_out objects.now) O.kind_of O.slot_of held.now }
+    requires loads { (kinds : ℕ) × IsResult (loaded (around_with context.now kinds (map (object_seen (O.bytes_of objects.now)) held.now)) stack.now load.size load.signed load.offset address) }
+    ensures { (kinds : ℕ) → loaded (around_with context.now kinds (map (object_seen (O.bytes_of objects.now)) held.now)) stack.now load.size load.signed load.offset address ≡ Ok result }
 {
     match address {
-        Some(Value::Pointer { base, offset: from }) => {
-            load_from(stack, context, base, from, size, signed, offset)
-        }
+        Some(Value::Pointer { base, offset: from }) => match base {
+            Base::Stack => load_stack(stack, from, load),
+            Base::Context => Value::Number(load_bytes(context, from, load)),
+            Base::Object(call) => Value::Number(load_object(held, objects, call, from, load)),
+        },
         _ => unreachable!(),
     }
 }
 
-fn load_from(
-    stack: &Stack,
-    context: &[u8],
-    base: Base<u16>,
+fn load_stack(stack: &Stack, from: i64, load: Loaded) -> Value<u16>
+    requires { IsResult (loaded_at (◌==◌) (place_of (from +ℤ load.offset) (bytes_in load.size)) (bytes_in load.size) load.signed stack.now) }
+    ensures { loaded_at (◌==◌) (place_of (from +ℤ load.offset) (bytes_in load.size)) (bytes_in load.size) load.signed stack.now ≡ Ok result }
+{
+    stack.load(stack_place(from, load.offset), load.size, load.signed)
+}
+
+// The number of the bytes of the context, or of an object.
+fn load_bytes(bytes: &[u8], from: i64, load: Loaded) -> u64
+    requires { (outside : Trap) × IsResult (read_at {N = ℕ} outside (place_in (length bytes.now) (from +ℤ load.offset) (bytes_in load.size)) (bytes_in load.size) load.signed bytes.now) }
+    ensures { (outside : Trap) → read_at {N = ℕ} outside (place_in (length bytes.now) (from +ℤ load.offset) (bytes_in load.size)) (bytes_in load.size) load.signed bytes.now ≡ Ok (Value.Number result) }
+{
+    number_at(bytes, byte_place(from, load.offset), load.size, load.signed)
+}
+
+fn load_object<O: Objects>(
+    held: &[Holding<O::Held>],
+    objects: &O,
+    call: u16,
     from: i64,
-    size: Size,
-    signed: bool,
-    offset: i16,
-) -> Value<u16>
-    requires { (a : Around ℕ) × IsAround a context.now × IsResult (loaded a stack.now size signed offset (Some (Value.Pointer base from))) }
-    ensures { (a : Around ℕ) → IsAround a context.now → loaded a stack.now size signed offset (Some (Value.Pointer base from)) ≡ Ok result }
+    load: Loaded,
+) -> u64
+    requires out { AreOut (O.is_out objects.now) O.kind_of O.slot_of held.now }
+    requires loads { IsResult (read_object {N = ℕ} (object_at (map (object_seen (O.bytes_of objects.now)) held.now) call) (from +ℤ load.offset) (bytes_in load.size) load.signed) }
+    ensures { read_object {N = ℕ} (object_at (map (object_seen (O.bytes_of objects.now)) held.now) call) (from +ℤ load.offset) (bytes_in load.size) load.signed ≡ Ok (Value.Number result) }
 {
-    match base {
-        Base::Stack => stack.load(stack_place(from, offset), size, signed),
-        Base::Context => Value::Number(number_at(
-            context,
-            context_place(from, offset),
-            size,
-            signed,
-        )),
-        Base::Object(_) => unreachable!(),
-    }
+    let place = place_of(held, call);
+    load_bytes(objects.bytes(&held[place].object), from, load)
 }
 
-/// Stores the low bytes of a value at an offset from an address.
-pub(crate) fn store(
-    stack: &mut Stack,
-    address: Option<Value<u16>>,
-    size: Size,
-    offset: i16,
-    value: Option<Value<u16>>,
-)
-    requires { is_ok (stored stack.old size offset address value) ≡ true }
-    ensures { stored stack.old size offset address value ≡ Ok stack.new }
+/// Stores the low bytes of a value on the stack, at an offset from a pointer to it.
+pub(crate) fn store(stack: &mut Stack, from: i64, size: Size, offset: i16, value: Value<u16>)
+    requires { is_ok (stored_at (place_of (from +ℤ offset) (bytes_in size)) (bytes_in size) value stack.old) ≡ true }
+    ensures { stored_at (place_of (from +ℤ offset) (bytes_in size)) (bytes_in size) value stack.old ≡ Ok stack.new }
 {
-    match (address, value) {
-        (Some(Value::Pointer { base, offset: from }), Some(value)) => {
-            store_to(stack, base, from, size, offset, value);
-        }
-        _ => unreachable!(),
-    }
-}
-
-fn store_to(
-    stack: &mut Stack,
-    base: Base<u16>,
-    from: i64,
-    size: Size,
-    offset: i16,
-    value: Value<u16>,
-)
-    requires { is_ok (stored stack.old size offset (Some (Value.Pointer base from)) (Some value)) ≡ true }
-    ensures { stored stack.old size offset (Some (Value.Pointer base from)) (Some value) ≡ Ok stack.new }
-{
-    match base {
-        Base::Stack => stack.store(stack_place(from, offset), size, value),
-        _ => unreachable!(),
-    }
+    stack.store(stack_place(from, offset), size, value);
 }
 
 // The place in the stack at an offset from a pointer.
@@ -101,8 +99,8 @@ fn stack_place(from: i64, offset: i16) -> usize
     (from + offset as i64 + 512) as usize
 }
 
-// The place in the context at an offset from a pointer.
-fn context_place(from: i64, offset: i16) -> usize
+/// The place among the bytes of the context, or of an object, at an offset from a pointer to it.
+pub(crate) fn byte_place(from: i64, offset: i16) -> usize
     requires low { pos 0 ≤ℤ (from +ℤ offset) }
     requires fits { FitsSigned w64 (from +ℤ offset) }
     ensures { result ≡ nat_abs (from +ℤ offset) }

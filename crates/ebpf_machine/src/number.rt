@@ -1,7 +1,7 @@
 //! The number of some bytes, the lowest first.
 
 ghost use Rattle.std.specs.Prelude.{◌≡◌, ◌≤◌, ◌<◌, ◌+◌, ◌*◌, ◌^◌, length, drop};
-ghost use Rattle.byteorder.specs.Endian.{little_number};
+ghost use Rattle.byteorder.specs.Endian.{little_number, little_bytes};
 ghost use Rattle.ebpf_insn.specs.declared.insn.Width.{Width};
 ghost use Rattle.ebpf_insn.specs.Arithmetic.{extension_at};
 ghost use Rattle.ebpf_state.specs.Stack.{bytes_in};
@@ -48,4 +48,13 @@ fn with_sign(n: u64, size: Size) -> u64
     } else {
         n + (u64::MAX - (2 * half - 1))
     }
+}
+
+/// The bytes of a number.
+pub(crate) fn low_bytes(n: u64) -> [u8; 8]
+    ensures { result ≡ little_bytes 8 n }
+{
+    let mut bytes = [0; 8];
+    LittleEndian::write_u64(&mut bytes, n);
+    bytes
 }

@@ -5,7 +5,7 @@ use Rattle.ebpf_insn.specs.declared.fault.DecodeCode.TheVariants.{I1, I2, I3, I4
 use Rattle.ebpf_flow.specs.declared.fault.FlowCode.{FlowCode}
 use Rattle.ebpf_flow.specs.declared.fault.FlowCode.TheVariants.{F1, F2, F3, F4, F5}
 use Rattle.ebpf_verify.specs.declared.fault.VerifyCode.{VerifyCode}
-use Rattle.ebpf_verify.specs.declared.fault.VerifyCode.TheVariants.{V0, V1, V2, V3, V4, V5, V6, V7, V8, V9, V10, V11, V12, V13, V14, V15, V16, V17, V18, V19}
+use Rattle.ebpf_verify.specs.declared.fault.VerifyCode.TheVariants.{V1, V2, V3, V4, V5, V6, V7, V8, V9, V10, V11, V12, V13, V14, V15, V16, V17, V18, V19}
 use Rattle.ebpf_core.specs.declared.fault.ApplyCode.{ApplyCode}
 use Rattle.ebpf_core.specs.declared.fault.ApplyCode.TheVariants.{E1, E2, E3, E4, E5, E6, E7, E8, E9, E10}
 use Rattle.ebpf_script.specs.declared.codes.RefusalCode.{RefusalCode}
@@ -30,7 +30,6 @@ flow_name F4 = codes "F4"
 flow_name F5 = codes "F5"
 
 abbrev pub verify_name : VerifyCode → List ℕ
-verify_name V0 = codes "V0"
 verify_name V1 = codes "V1"
 verify_name V2 = codes "V2"
 verify_name V3 = codes "V3"

@@ -67,7 +67,6 @@ fn verify_name(code: VerifyCode) -> &'static str
     ensures { result.now ≡ verify_name code }
 {
     match code {
-        VerifyCode::V0 => "V0",
         VerifyCode::V1 => "V1",
         VerifyCode::V2 => "V2",
         VerifyCode::V3 => "V3",

@@ -17,6 +17,8 @@ mod faults;
 #[cfg(test)]
 mod flow;
 #[cfg(test)]
+mod helpers;
+#[cfg(test)]
 mod insn;
 #[cfg(test)]
 mod library;

@@ -126,7 +126,7 @@ fn codes_are_written_by_their_names(rt: HostRuntime) {
     for (code, name) in [
         (RefusalCode::Decode(DecodeCode::I9), "I9"),
         (RefusalCode::Flow(FlowCode::F3), "F3"),
-        (RefusalCode::Verify(VerifyCode::V0), "V0"),
+        (RefusalCode::Verify(VerifyCode::V1), "V1"),
         (RefusalCode::Verify(VerifyCode::V19), "V19"),
     ] {
         holds(&rt, name, code.name() == name);

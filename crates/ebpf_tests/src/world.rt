@@ -125,6 +125,22 @@ fn five_events_lead_to_one_exit_and_one_run_that_goes_on(rt: HostRuntime) {
     is_told(&rt, "five events", told.as_str(), AFTER_SEVEN);
 }
 
+// emit(5), exit
+const EMITS: &str = "\
+program emits 0 0 b70100000500000085000000030000009500000000000000
+start emits -
+exec 0
+exec 0
+exec 0
+";
+
+#[test]
+fn a_number_that_is_emitted_is_output(rt: HostRuntime) {
+    let (programs, events) = read(&rt, rt.alloc(), EMITS);
+    let world = replay(rt.alloc(), &programs, &events).expect(&rt, "each event is legal");
+    holds(&rt, "5", matches!(world.output(0), Some([5])));
+}
+
 // What is wrong, its code, and a sixth event behind those of `SEVEN`.
 const ILLEGAL: &str = "\
 of no run | E1 | exec 2

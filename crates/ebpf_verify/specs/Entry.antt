@@ -26,14 +26,14 @@ with_edge None leads old = old
 with_edge (Some s) leads old = if leads then with_state old s else old
 
 -- what comes to a slot, with what a lower slot sends there: first by its jump, then by its fall
-abbrev pub with_sent : Option Insn → Edges → ℕ → EntryState → EntryState → EntryState
-with_sent (Some i) e to (Known s) old = with_edge (after_fall i s) (leads_to e.fall to) (with_edge (after_jump i s) (leads_to e.jump to) old)
-with_sent _ e to _ old = old
+abbrev pub with_sent : Option Insn → Edges → ℕ → ℕ → EntryState → EntryState → EntryState
+with_sent (Some i) e from to (Known s) old = with_edge (after_fall from i s) (leads_to e.fall to) (with_edge (after_jump i s) (leads_to e.jump to) old)
+with_sent _ e from to _ old = old
 
 -- what the slots below m send to a slot, in ascending order; the first state comes to slot 0
 unfoldable pub arrived : List (Option Insn) → ℕ → ℕ → EntryState
 arrived p zero to = if to == 0 then Known first_state else Unreached
-arrived p (suc m) to = with_sent (insn_at p m) (edges_at p m) to (arrived p m m) (arrived p m to)
+arrived p (suc m) to = with_sent (insn_at p m) (edges_at p m) m to (arrived p m m) (arrived p m to)
 
 -- the entry of a slot: only lower slots send to it
 abbrev pub entry_of : List (Option Insn) → ℕ → EntryState

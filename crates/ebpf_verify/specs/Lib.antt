@@ -3,6 +3,7 @@ pub mod Pointers
 pub mod Operations
 pub mod Branches
 pub mod Memory
+pub mod Calls
 pub mod Rules
 pub mod Entry
 pub mod Verdict

@@ -1,9 +1,10 @@
 -- Loads and stores (RFC 9669, sections 5.1 and 5.2): the codes that refuse one, in order, and what is known after it.
-use Rattle.std.specs.Prelude.{◌≡◌, ℕ, ℤ, pos, ◌+ℤ◌, int_le, [], ◌∷◌, Bool, true, false, ◌||◌, ◌&&◌, if◌then◌else◌, Option, Some, None, Result, Ok, Err}
+use Rattle.std.specs.Prelude.{◌≡◌, ℕ, ℤ, pos, ◌+ℤ◌, int_le, List, [], ◌∷◌, Bool, true, false, not, ◌||◌, ◌&&◌, if◌then◌else◌, Option, Some, None, option_map, unwrap_or, Result, Ok, Err, slice_get}
 use Rattle.ebpf_insn.specs.declared.register.Reg.{Reg}
 use Rattle.ebpf_insn.specs.declared.insn.Size.{Size}
 use Rattle.ebpf_insn.specs.Faults.{first_of}
 use Rattle.ebpf_flow.specs.Flow.{or_else}
+use Rattle.ebpf_state.specs.declared.kinds.KindRow.{KindRow}
 use Rattle.ebpf_state.specs.declared.value.Abs.{Abs}
 use Rattle.ebpf_state.specs.declared.value.Abs.TheVariants.{Unset, Num, Stk, Ctx, Ob}
 use Rattle.ebpf_state.specs.declared.stack.StackFault.{StackFault}
@@ -11,7 +12,8 @@ use Rattle.ebpf_state.specs.declared.stack.StackFault.TheVariants.{Bounds, Unset
 use Rattle.ebpf_state.specs.declared.stack.StoreFault.{StoreFault}
 use Rattle.ebpf_state.specs.declared.stack.StoreFault.TheVariants as store_fault
 use Rattle.ebpf_state.specs.Abstract.{is_unset, is_may}
-use Rattle.ebpf_state.specs.Stack.{bytes_in, loaded_range, loaded, stored}
+use Rattle.ebpf_state.specs.References.{kind_held}
+use Rattle.ebpf_state.specs.Stack.{bytes_in, may_point, loaded_range, loaded, stored}
 use Rattle.ebpf_state.specs.StateView.{StateView}
 use Rattle.ebpf_verify.specs.declared.fault.VerifyCode.{VerifyCode}
 use Rattle.ebpf_verify.specs.declared.fault.VerifyCode.TheVariants.{V1, V2, V6, V7, V8, V9, V10, V11, V12, V13}
@@ -33,26 +35,36 @@ abbrev pub refused_access : {X : Type 0} → Result X StackFault → Option Veri
 refused_access (Ok x) = None
 refused_access (Err fault) = Some (stack_code fault)
 
--- so many bytes at an offset from an address lie in the context, wherever between its ends the address is
-abbrev pub is_in_context : ℕ → ℤ → ℤ → ℤ → ℕ → Bool
-is_in_context context low high offset bytes = int_le (pos 0) (low +ℤ offset) && int_le ((high +ℤ offset) +ℤ pos bytes) (pos context)
+-- so many bytes at an offset from an address lie among those of something of this length, wherever between its ends the address
+-- is
+abbrev pub is_in_bounds : ℕ → ℤ → ℤ → ℤ → ℕ → Bool
+is_in_bounds len low high offset bytes = int_le (pos 0) (low +ℤ offset) && int_le ((high +ℤ offset) +ℤ pos bytes) (pos len)
+
+-- how many bytes an object of a kind has; nothing has none
+abbrev pub size_of : List KindRow → Option ℕ → ℕ
+size_of rows None = 0
+size_of rows (Some kind) = unwrap_or (option_map (λ row. row.size) (slice_get rows kind)) 0
+
+-- how many the object of a call has
+abbrev pub size_held : List KindRow → ℕ → StateView → ℕ
+size_held rows call s = size_of rows (kind_held call s)
 
 -- ---- loads
 
--- why bytes behind a pointer can't be loaded; of an object nothing is known yet
-abbrev pub reading_refusal : ℕ → Size → Bool → ℤ → Abs → StateView → Option VerifyCode
-reading_refusal context size signed offset (Stk k) s = refused_access (loaded s size signed (k +ℤ offset))
-reading_refusal context size signed offset (Ctx a b) s = if is_in_context context a b offset (bytes_in size) then None else Some V8
-reading_refusal context size signed offset (Ob call a b) s = Some V10
-reading_refusal context size signed offset _ s = None
+-- why bytes behind a pointer can't be loaded
+abbrev pub reading_refusal : ℕ → List KindRow → Size → Bool → ℤ → Abs → StateView → Option VerifyCode
+reading_refusal context rows size signed offset (Stk k) s = refused_access (loaded s size signed (k +ℤ offset))
+reading_refusal context rows size signed offset (Ctx a b) s = if is_in_bounds context a b offset (bytes_in size) then None else Some V8
+reading_refusal context rows size signed offset (Ob call a b) s = if is_in_bounds (size_held rows call s) a b offset (bytes_in size) then None else Some V10
+reading_refusal context rows size signed offset _ s = None
 
-abbrev pub load_refusal : ℕ → Size → Bool → Reg → ℤ → Abs → StateView → Option VerifyCode
-load_refusal context size signed dst offset base s = or_else (first_of (
+abbrev pub load_refusal : ℕ → List KindRow → Size → Bool → Reg → ℤ → Abs → StateView → Option VerifyCode
+load_refusal context rows size signed dst offset base s = or_else (first_of (
     (is_unset base, V1) ∷
     (is_frame_pointer dst, V2) ∷
     (is_number base, V13) ∷
     (is_may base, V11) ∷
-    [])) (reading_refusal context size signed offset base s)
+    [])) (reading_refusal context rows size signed offset base s)
 
 abbrev pub value_or_unset : Result Abs StackFault → Abs
 value_or_unset (Ok value) = value
@@ -62,23 +74,27 @@ value_or_unset (Err fault) = Unset
 abbrev pub loaded_value : Size → Bool → ℤ → Abs → StateView → Abs
 loaded_value size signed offset (Stk k) s = value_or_unset (loaded s size signed (k +ℤ offset))
 loaded_value size signed offset (Ctx a b) s = Num (loaded_range (bytes_in size) signed)
+loaded_value size signed offset (Ob call a b) s = Num (loaded_range (bytes_in size) signed)
 loaded_value size signed offset _ s = Unset
 
 -- ---- stores
 
--- why a value can't be stored behind a pointer; the context is never written, and of an object nothing is known yet
-abbrev pub writing_refusal : Size → ℤ → Abs → Abs → StateView → Option VerifyCode
-writing_refusal size offset (Stk k) value s = refused_access (stored s size (k +ℤ offset) value)
-writing_refusal size offset (Ctx a b) value s = Some V9
-writing_refusal size offset (Ob call a b) value s = Some V10
-writing_refusal size offset _ value s = None
+-- why a value can't be stored behind a pointer: the context is never written, and objects hold numbers alone
+abbrev pub writing_refusal : List KindRow → Size → ℤ → Abs → Abs → StateView → Option VerifyCode
+writing_refusal rows size offset (Stk k) value s = refused_access (stored s size (k +ℤ offset) value)
+writing_refusal rows size offset (Ctx a b) value s = Some V9
+writing_refusal rows size offset (Ob call a b) value s = first_of (
+    (not (is_in_bounds (size_held rows call s) a b offset (bytes_in size)), V10) ∷
+    (may_point value, V12) ∷
+    [])
+writing_refusal rows size offset _ value s = None
 
-abbrev pub store_refusal : Size → ℤ → Abs → Abs → StateView → Option VerifyCode
-store_refusal size offset base value s = or_else (first_of (
+abbrev pub store_refusal : List KindRow → Size → ℤ → Abs → Abs → StateView → Option VerifyCode
+store_refusal rows size offset base value s = or_else (first_of (
     (is_unset base || is_unset value, V1) ∷
     (is_number base, V13) ∷
     (is_may base, V11) ∷
-    [])) (writing_refusal size offset base value s)
+    [])) (writing_refusal rows size offset base value s)
 
 abbrev pub state_after : Result StateView StackFault → Option StateView
 state_after (Ok s) = Some s
@@ -87,6 +103,7 @@ state_after (Err fault) = None
 -- what is known after a store that is not refused
 abbrev pub after_store : Size → ℤ → Abs → Abs → StateView → Option StateView
 after_store size offset (Stk k) value s = state_after (stored s size (k +ℤ offset) value)
+after_store size offset (Ob call a b) value s = Some s
 after_store size offset _ value s = None
 
 -- a fault of the stack, as one of the access

@@ -1,6 +1,6 @@
 -- The rule of each instruction: the codes that refuse it, in order, and the states that it sends on. That the rules are sound for
 -- the machine is ebpf_machine/proofs/Soundness.
-use Rattle.std.specs.Prelude.{ℕ, [], ◌∷◌, Bool, true, false, ◌||◌, nat_lt, Option, Some, None, length}
+use Rattle.std.specs.Prelude.{ℕ, List, [], ◌∷◌, true, false, ◌||◌, nat_lt, Option, Some, None, length}
 use Rattle.ebpf_insn.specs.declared.register.Reg.TheVariants.{R0}
 use Rattle.ebpf_insn.specs.declared.insn.Insn.{Insn}
 use Rattle.ebpf_insn.specs.declared.insn.Insn.TheVariants as insn
@@ -8,6 +8,7 @@ use Rattle.ebpf_insn.specs.declared.insn.Width.TheVariants.{W64}
 use Rattle.ebpf_insn.specs.Faults.{first_of}
 use Rattle.ebpf_range.specs.Interval.{constant}
 use Rattle.ebpf_range.specs.Results.{extension_range, negation_range, swap_range}
+use Rattle.ebpf_state.specs.declared.kinds.KindRow.{KindRow}
 use Rattle.ebpf_state.specs.declared.value.Abs.{Abs}
 use Rattle.ebpf_state.specs.declared.value.Abs.TheVariants.{Num}
 use Rattle.ebpf_state.specs.Abstract.{is_unset, is_pointer, is_may}
@@ -15,15 +16,11 @@ use Rattle.ebpf_state.specs.StateView.{StateView}
 use Rattle.ebpf_state.specs.States.{register_of, with_register}
 use Rattle.ebpf_verify.specs.declared.decl.Decl.{Decl}
 use Rattle.ebpf_verify.specs.declared.fault.VerifyCode.{VerifyCode}
-use Rattle.ebpf_verify.specs.declared.fault.VerifyCode.TheVariants.{V0, V1, V17, V18}
+use Rattle.ebpf_verify.specs.declared.fault.VerifyCode.TheVariants.{V1, V17, V18}
 use Rattle.ebpf_verify.specs.Operations.{constant_refusal, unary_refusal, alu_refusal, unary_value, result_of}
 use Rattle.ebpf_verify.specs.Branches.{operand, null_test, branch_refusal, after_branch}
 use Rattle.ebpf_verify.specs.Memory.{load_refusal, loaded_value, store_refusal, after_store}
-
--- calls have no rule yet
-abbrev pub has_rule : Insn → Bool
-has_rule (insn.Call number) = false
-has_rule _ = true
+use Rattle.ebpf_verify.specs.Calls.{helper_of, call_refusal, after_call}
 
 -- exit returns a number, with no object held
 abbrev pub exit_refusal : Abs → ℕ → Option VerifyCode
@@ -33,20 +30,21 @@ exit_refusal result held = first_of (
     (is_pointer result || is_may result, V18) ∷
     [])
 
--- the first code that refuses an instruction of a program that declares this, where this is known before it
-abbrev pub refusal : Decl → Insn → StateView → Option VerifyCode
-refusal decl (insn.Alu width o dst src) s = alu_refusal width o (register_of s dst) (operand s width src) dst
-refusal decl (insn.Sext width bits dst src) s = unary_refusal (register_of s src) dst
-refusal decl (insn.Neg width dst) s = unary_refusal (register_of s dst) dst
-refusal decl (insn.Swap order bits dst) s = unary_refusal (register_of s dst) dst
-refusal decl (insn.Wide dst value) s = constant_refusal dst
-refusal decl (insn.Jump offset) s = None
-refusal decl (insn.JumpFar offset) s = None
-refusal decl (insn.Branch width condition left right offset) s = branch_refusal (null_test width condition (register_of s left) right) (register_of s left) (operand s width right)
-refusal decl insn.Exit s = exit_refusal (register_of s R0) (length s.held)
-refusal decl (insn.Load size signed dst base offset) s = load_refusal decl.context size signed dst offset (register_of s base) s
-refusal decl (insn.Store size base offset src) s = store_refusal size offset (register_of s base) (operand s W64 src) s
-refusal decl (insn.Call number) s = Some V0
+-- the first code that refuses an instruction of a program that declares this, where there are these kinds and this is known before
+-- it
+abbrev pub refusal : Decl → List KindRow → Insn → StateView → Option VerifyCode
+refusal decl rows (insn.Alu width o dst src) s = alu_refusal width o (register_of s dst) (operand s width src) dst
+refusal decl rows (insn.Sext width bits dst src) s = unary_refusal (register_of s src) dst
+refusal decl rows (insn.Neg width dst) s = unary_refusal (register_of s dst) dst
+refusal decl rows (insn.Swap order bits dst) s = unary_refusal (register_of s dst) dst
+refusal decl rows (insn.Wide dst value) s = constant_refusal dst
+refusal decl rows (insn.Jump offset) s = None
+refusal decl rows (insn.JumpFar offset) s = None
+refusal decl rows (insn.Branch width condition left right offset) s = branch_refusal (null_test width condition (register_of s left) right) (register_of s left) (operand s width right)
+refusal decl rows insn.Exit s = exit_refusal (register_of s R0) (length s.held)
+refusal decl rows (insn.Load size signed dst base offset) s = load_refusal decl.context rows size signed dst offset (register_of s base) s
+refusal decl rows (insn.Store size base offset src) s = store_refusal rows size offset (register_of s base) (operand s W64 src) s
+refusal decl rows (insn.Call number) s = call_refusal decl rows (helper_of number) s
 
 -- what is known after arithmetic, or a load, that is not refused
 abbrev pub after_operation : Insn → StateView → Option StateView
@@ -58,11 +56,12 @@ after_operation (insn.Wide dst value) s = Some (with_register s dst (Num (consta
 after_operation (insn.Load size signed dst base offset) s = Some (with_register s dst (loaded_value size signed offset (register_of s base) s))
 after_operation _ s = None
 
--- what is known after an instruction that is not refused, on the edge to the slot after it
-abbrev pub after_fall : Insn → StateView → Option StateView
-after_fall (insn.Branch width condition left right offset) s = after_branch condition width left right false s
-after_fall (insn.Store size base offset src) s = after_store size offset (register_of s base) (operand s W64 src) s
-after_fall i s = after_operation i s
+-- what is known after the instruction at a slot, where it is not refused, on the edge to the slot after it
+abbrev pub after_fall : ℕ → Insn → StateView → Option StateView
+after_fall slot (insn.Branch width condition left right offset) s = after_branch condition width left right false s
+after_fall slot (insn.Store size base offset src) s = after_store size offset (register_of s base) (operand s W64 src) s
+after_fall slot (insn.Call number) s = after_call slot (helper_of number) s
+after_fall slot i s = after_operation i s
 
 -- the same on the edge to the target of its jump
 abbrev pub after_jump : Insn → StateView → Option StateView

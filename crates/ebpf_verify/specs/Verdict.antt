@@ -1,44 +1,35 @@
 -- The verdict on a program.
-use Rattle.std.specs.Prelude.{◌≡◌, ◌≤◌, ℕ, List, length, All, Option, Some, None, if◌then◌else◌}
+use Rattle.std.specs.Prelude.{◌≡◌, ◌≤◌, ℕ, List, length, All, Option, Some, None}
 use Rattle.ebpf_insn.specs.declared.insn.Insn.{Insn}
 use Rattle.ebpf_insn.specs.Program.{insn_at}
 use Rattle.ebpf_insn.specs.Encoding.{IsWellFormed}
-use Rattle.ebpf_flow.specs.Flow.{AreForward, flow_fault, or_else}
+use Rattle.ebpf_flow.specs.Flow.{AreForward, flow_fault}
 use Rattle.ebpf_insn.specs.Faults.{lowest}
 use Rattle.ebpf_state.specs.declared.kinds.KindRow.{KindRow}
 use Rattle.ebpf_verify.specs.declared.decl.Decl.{Decl}
 use Rattle.ebpf_verify.specs.declared.entry.EntryState.{EntryState}
 use Rattle.ebpf_verify.specs.declared.entry.EntryState.TheVariants.{Known, Conflict}
 use Rattle.ebpf_verify.specs.declared.fault.VerifyCode.{VerifyCode}
-use Rattle.ebpf_verify.specs.declared.fault.VerifyCode.TheVariants.{V0, V19}
+use Rattle.ebpf_verify.specs.declared.fault.VerifyCode.TheVariants.{V19}
 use Rattle.ebpf_verify.specs.declared.fault.VerifyFault.{VerifyFault}
 use Rattle.ebpf_verify.specs.declared.fault.VerifyFault.TheVariants.{Refused, NoMemory}
 use Rattle.ebpf_verify.specs.Subject.{Subject}
-use Rattle.ebpf_verify.specs.Rules.{has_rule, refusal}
+use Rattle.ebpf_verify.specs.Rules.{refusal}
 use Rattle.ebpf_verify.specs.Entry.{entry_of}
 
 -- a slot that is never entered refuses nothing
-abbrev pub refusal_in : Decl → Option Insn → EntryState → Option VerifyCode
-refusal_in decl i Conflict = Some V19
-refusal_in decl (Some i) (Known s) = refusal decl i s
-refusal_in decl i _ = None
+abbrev pub refusal_in : Decl → List KindRow → Option Insn → EntryState → Option VerifyCode
+refusal_in decl rows i Conflict = Some V19
+refusal_in decl rows (Some i) (Known s) = refusal decl rows i s
+refusal_in decl rows i _ = None
 
 -- the first code that refuses a slot
 abbrev pub refusal_at : Subject → ℕ → Option VerifyCode
-refusal_at s slot = refusal_in s.decl (insn_at s.program slot) (entry_of s.program slot)
+refusal_at s slot = refusal_in s.decl s.rows (insn_at s.program slot) (entry_of s.program slot)
 
--- the code of an instruction that has no rule yet
-abbrev pub unruled_in : Option Insn → Option VerifyCode
-unruled_in None = None
-unruled_in (Some i) = if has_rule i then None else Some V0
-
-abbrev pub unruled_at : List (Option Insn) → ℕ → Option VerifyCode
-unruled_at p slot = unruled_in (insn_at p slot)
-
--- the lowest slot that has no rule; where each has one, the lowest slot that is refused, with its code; none, and the
--- program is accepted
+-- the lowest slot that is refused, with its code; none, and the program is accepted
 abbrev pub verdict : Subject → Option (ℕ × VerifyCode)
-verdict s = or_else (lowest (unruled_at s.program) (length s.program)) (lowest (refusal_at s) (length s.program))
+verdict s = lowest (refusal_at s) (length s.program)
 
 -- a fault is the verdict, or memory ran out
 abbrev pub IsVerifyFault : Subject → VerifyFault → Type 0

@@ -1,6 +1,8 @@
 //! Why a program is refused.
 
-ghost use Rattle.std.specs.Prelude.{◌≡◌};
+ghost use Rattle.std.specs.Prelude.{◌≡◌, ◌<◌, Some};
+ghost use Rattle.ebpf_insn.specs.declared.program.TheConstants.{MAX_SLOTS};
+ghost use Rattle.ebpf_verify.specs.Verdict.{IsSlotFault};
 
 use std::alloc::{AllocError, AllocFailed};
 use thiserror::Error;
@@ -8,8 +10,6 @@ use thiserror::Error;
 /// Why a slot is refused. Within a slot `V19` comes first, then the codes in the order of the instruction's rule.
 #[derive(Clone, Copy, Debug)]
 pub enum VerifyCode {
-    /// The instruction has no rule yet.
-    V0,
     /// A register is read that may be unset.
     V1,
     /// The frame pointer `r10` is written.
@@ -78,5 +78,16 @@ impl From<AllocError> for VerifyFault {
 
     fn from(_e: AllocError) -> VerifyFault {
         VerifyFault::NoMemory
+    }
+}
+
+/// The refusal of a slot.
+pub(crate) fn refused_at(slot: usize, code: VerifyCode) -> VerifyFault
+    requires { slot < MAX_SLOTS }
+    ensures { IsSlotFault slot (Some code) result }
+{
+    VerifyFault::Refused {
+        slot: slot as u16,
+        code,
     }
 }

@@ -4,13 +4,15 @@
 //! run that comes there. It refuses the lowest slot whose rule refuses what is known there; where it refuses none, it
 //! makes a [`verified::Verified`], and no run of that program traps.
 //!
-//! To be read in this order: `fault`, `decl`, `pointer`, `operations`, `branches`, `memory`, `rules`, `entry`, `propagate`, `verify`, `verified`.
+//! To be read in this order: `fault`, `decl`, `pointer`, `operations`, `branches`, `memory`, `helper`, `calls`, `rules`, `entry`, `propagate`, `verify`, `verified`.
 #![tactic(auto)]
 
 mod branches;
+mod calls;
 pub mod decl;
 mod entry;
 pub mod fault;
+pub mod helper;
 mod memory;
 mod operations;
 mod pointer;

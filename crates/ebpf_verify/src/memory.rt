@@ -1,15 +1,15 @@
 //! The rules of loads and stores: what refuses one, and what is known after it (RFC 9669, sections 5.1 and 5.2).
 
-ghost use Rattle.std.specs.Prelude.{◌≡◌, ◌≤◌, ◌^◌, ◌+ℤ◌, ◌≤ℤ◌, pos, negsuc, IfOk, IfErr, OnOk, Some, None, Ok, Err};
+ghost use Rattle.std.specs.Prelude.{◌≡◌, ◌^◌, ◌+ℤ◌, ◌≤ℤ◌, if◌then◌else◌, pos, negsuc, IfOk, IfErr, IfSome, OnOk, Some, None, Ok, Err};
 ghost use Rattle.ebpf_state.specs.Abstract.{IsProper};
-ghost use Rattle.ebpf_state.specs.Stack.{bytes_in, place_of, loaded};
-ghost use Rattle.ebpf_verify.specs.declared.decl.TheConstants.{MAX_CONTEXT};
-ghost use Rattle.ebpf_verify.specs.Memory.{is_number, stack_code, refused_access, is_in_context, load_refusal, loaded_value, reading_refusal, store_refusal, after_store, IsAccessFault};
+ghost use Rattle.ebpf_state.specs.Stack.{bytes_in, place_of, loaded, loaded_range};
+ghost use Rattle.ebpf_verify.specs.Memory.{is_number, stack_code, refused_access, is_in_bounds, size_held, load_refusal, loaded_value, reading_refusal, store_refusal, after_store, IsAccessFault};
 
 use crate::fault::VerifyCode;
 use crate::operations::is_frame_pointer;
-use ebpf_insn::insn::Size;
+use ebpf_insn::insn::{Size, Source};
 use ebpf_insn::register::Reg;
+use ebpf_state::kinds::KindRow;
 use ebpf_state::stack::{StackFault, StoreFault, bytes_in, loaded_range};
 use ebpf_state::state::State;
 use ebpf_state::value::Abs;
@@ -44,16 +44,29 @@ pub(crate) struct Load {
     pub(crate) offset: i16,
 }
 
+impl Load {
+    pub(crate) fn new(size: Size, signed: bool, dst: Reg, offset: i16) -> Load
+        ensures { result ≡ record { size = size; signed = signed; dst = dst; offset = offset } }
+    {
+        Load {
+            size,
+            signed,
+            dst,
+            offset,
+        }
+    }
+}
+
 /// What is known of the value that is loaded through a base, or the first code that refuses the load.
 pub(crate) fn load_value(
     context: u32,
+    rows: &[KindRow],
     load: Load,
     base: Abs,
     state: &State,
 ) -> Result<Abs, VerifyCode>
-    requires { context ≤ MAX_CONTEXT }
-    ensures refused { IfErr result (λ code. load_refusal context load.size load.signed load.dst load.offset base state.now ≡ Some code) }
-    ensures fine { OnOk result (load_refusal context load.size load.signed load.dst load.offset base state.now ≡ None) }
+    ensures refused { IfErr result (λ code. load_refusal context rows.now load.size load.signed load.dst load.offset base state.now ≡ Some code) }
+    ensures fine { OnOk result (load_refusal context rows.now load.size load.signed load.dst load.offset base state.now ≡ None) }
     ensures value { IfOk result (λ value. value ≡ loaded_value load.size load.signed load.offset base state.now) }
     ensures proper { IfOk result IsProper }
 {
@@ -66,30 +79,43 @@ pub(crate) fn load_value(
     } else if base.is_may() {
         Err(VerifyCode::V11)
     } else {
-        read(context, load, base, state)
+        read(context, rows, load, base, state)
     }
 }
 
-// What is known of the bytes behind a pointer, or the code that refuses the load of them. Of an object nothing is known yet.
-fn read(context: u32, load: Load, base: Abs, state: &State) -> Result<Abs, VerifyCode>
-    requires { context ≤ MAX_CONTEXT }
-    ensures refused { IfErr result (λ code. reading_refusal context load.size load.signed load.offset base state.now ≡ Some code) }
-    ensures fine { OnOk result (reading_refusal context load.size load.signed load.offset base state.now ≡ None) }
+// What is known of the bytes behind a pointer, or the code that refuses the load of them.
+fn read(
+    context: u32,
+    rows: &[KindRow],
+    load: Load,
+    base: Abs,
+    state: &State,
+) -> Result<Abs, VerifyCode>
+    ensures refused { IfErr result (λ code. reading_refusal context rows.now load.size load.signed load.offset base state.now ≡ Some code) }
+    ensures fine { OnOk result (reading_refusal context rows.now load.size load.signed load.offset base state.now ≡ None) }
     ensures value { IfOk result (λ value. value ≡ loaded_value load.size load.signed load.offset base state.now) }
     ensures proper { IfOk result IsProper }
 {
     match base {
         Abs::Stk(k) => read_stack(load, k, state),
-        Abs::Ctx(low, high) => {
-            let bytes = bytes_in(load.size);
-            if is_in_context(context, low, high, load.offset, bytes) {
-                Ok(Abs::Num(loaded_range(bytes, load.signed)))
-            } else {
-                Err(VerifyCode::V8)
-            }
+        Abs::Ctx(low, high) => read_bytes(load, context, low, high).ok_or(VerifyCode::V8),
+        Abs::Ob(call, low, high) => {
+            read_bytes(load, size_held(rows, call, state), low, high).ok_or(VerifyCode::V10)
         }
-        Abs::Ob(_, _, _) => Err(VerifyCode::V10),
         _ => Ok(Abs::Unset),
+    }
+}
+
+// What is known of bytes of the context or of an object of this length; `None` where one of them may be outside.
+fn read_bytes(load: Load, len: u32, low: i64, high: i64) -> Option<Abs>
+    ensures value { result ≡ (if is_in_bounds len low high load.offset (bytes_in load.size) then Some (Abs.Num (loaded_range (bytes_in load.size) load.signed)) else None) }
+    ensures proper { IfSome result IsProper }
+{
+    let bytes = bytes_in(load.size);
+    if is_in_bounds(len, low, high, load.offset, bytes) {
+        Some(Abs::Num(loaded_range(bytes, load.signed)))
+    } else {
+        None
     }
 }
 
@@ -132,11 +158,24 @@ fn end(address: i128, bytes: usize) -> i128
     address + bytes as i128
 }
 
-// The bytes at an offset from an address lie in the context, wherever between its ends the address is.
-fn is_in_context(context: u32, low: i64, high: i64, offset: i16, bytes: usize) -> bool
-    ensures { result ≡ is_in_context context low high offset bytes }
+// The bytes at an offset from an address lie among those of something of this length, wherever between its ends the address is.
+fn is_in_bounds(len: u32, low: i64, high: i64, offset: i16, bytes: usize) -> bool
+    ensures { result ≡ is_in_bounds len low high offset bytes }
 {
-    address(low, offset) >= 0 && end(address(high, offset), bytes) <= context as i128
+    address(low, offset) >= 0 && end(address(high, offset), bytes) <= len as i128
+}
+
+// How many bytes the object of a call has. Nothing has none.
+fn size_held(rows: &[KindRow], call: u16, state: &State) -> u32
+    ensures { result ≡ size_held rows.now call state.now }
+{
+    let Some(kind) = state.kind(call) else {
+        return 0;
+    };
+    match rows.get(kind as usize) {
+        Some(row) => row.size,
+        None => 0,
+    }
 }
 
 // The value is a number.
@@ -156,23 +195,39 @@ fn stack_code(fault: StackFault) -> VerifyCode
     }
 }
 
-/// A store: how wide it is, and to where.
+/// A store: how wide it is, to where, and of what.
 #[derive(Clone, Copy)]
 pub(crate) struct Store {
     pub(crate) size: Size,
+    pub(crate) base: Reg,
     pub(crate) offset: i16,
+    pub(crate) src: Source,
+}
+
+impl Store {
+    pub(crate) fn new(size: Size, base: Reg, offset: i16, src: Source) -> Store
+        ensures { result ≡ record { size = size; base = base; offset = offset; src = src } }
+    {
+        Store {
+            size,
+            base,
+            offset,
+            src,
+        }
+    }
 }
 
 /// Says in the state that a value is stored through a base, or says why that can't be.
 pub(crate) fn store_value(
+    rows: &[KindRow],
     store: Store,
     base: Abs,
     value: Abs,
     state: &mut State,
 ) -> Result<(), AccessFault>
     requires { IsProper value }
-    ensures done { OnOk result ((store_refusal store.size store.offset base value state.old ≡ None) × (after_store store.size store.offset base value state.old ≡ Some state.new)) }
-    ensures refused { IfErr result (IsAccessFault (store_refusal store.size store.offset base value state.old)) }
+    ensures done { OnOk result ((store_refusal rows.now store.size store.offset base value state.old ≡ None) × (after_store store.size store.offset base value state.old ≡ Some state.new)) }
+    ensures refused { IfErr result (IsAccessFault (store_refusal rows.now store.size store.offset base value state.old)) }
 {
     if base.is_unset() || value.is_unset() {
         return Err(AccessFault::Refused(VerifyCode::V1));
@@ -184,7 +239,16 @@ pub(crate) fn store_value(
             Ok(())
         }
         Abs::Ctx(_, _) => Err(AccessFault::Refused(VerifyCode::V9)),
-        Abs::Ob(_, _, _) => Err(AccessFault::Refused(VerifyCode::V10)),
+        Abs::Ob(call, low, high) => {
+            let len = size_held(rows, call, state);
+            if !is_in_bounds(len, low, high, store.offset, bytes_in(store.size)) {
+                Err(AccessFault::Refused(VerifyCode::V10))
+            } else if value.is_pointer() || value.is_may() {
+                Err(AccessFault::Refused(VerifyCode::V12))
+            } else {
+                Ok(())
+            }
+        }
         Abs::May(_) => Err(AccessFault::Refused(VerifyCode::V11)),
         Abs::Num(_) => Err(AccessFault::Refused(VerifyCode::V13)),
         Abs::Unset => Err(AccessFault::Refused(VerifyCode::V1)),

@@ -9,22 +9,25 @@ ghost use Rattle.ebpf_state.specs.StateView.{StateView};
 ghost use Rattle.ebpf_state.specs.References.{settled};
 ghost use Rattle.ebpf_state.specs.States.{register_of};
 ghost use Rattle.ebpf_verify.specs.Branches.{operand, null_test, branch_refusal, with_operands, is_null_where, after_branch};
+ghost use Rattle.ebpf_verify.specs.Calls.{helper_of, call_refusal, after_call};
 ghost use Rattle.ebpf_verify.specs.Memory.{store_refusal, after_store};
 ghost use Rattle.ebpf_verify.specs.Rules.{exit_refusal, refusal, after_operation};
 ghost use Rattle.ebpf_verify.specs.Verdict.{IsSlotFault};
 ghost use Rattle.ebpf_verify.specs.Entry.{with_edge, with_sent};
 
 use crate::branches::{Branch, compared, is_null_where, null_test, operand, set_operands};
+use crate::calls::call;
 use crate::decl::Decl;
 use crate::entry::EntryState;
-use crate::fault::{VerifyCode, VerifyFault};
+use crate::fault::{VerifyFault, refused_at};
 use crate::memory::{AccessFault, Store, store_value};
 use crate::rules::{exit_refusal, operation};
 use ebpf_flow::edges::Edges;
-use ebpf_insn::insn::{Cond, Insn, Source, Width};
+use ebpf_insn::insn::{Cond, Insn, Width};
 use ebpf_insn::register::Reg;
 use ebpf_range::branches::refine;
 use ebpf_range::range::Range;
+use ebpf_state::kinds::KindRow;
 use ebpf_state::state::State;
 use std::alloc::AllocError;
 
@@ -35,6 +38,7 @@ use std::alloc::AllocError;
 /// `Refused` with the first code that refuses the slot; `NoMemory` where an allocation fails.
 pub(crate) fn pass_on(
     decl: Decl,
+    rows: &[KindRow],
     insn: &Insn,
     slot: usize,
     state: State,
@@ -42,12 +46,13 @@ pub(crate) fn pass_on(
     entries: &mut Vec<EntryState>,
 ) -> Result<(), VerifyFault>
     requires inside { slot < MAX_SLOTS }
+    requires few { length rows.now ≤ 8 }
     requires fall { IfSome edges.fall (λ to. to < length entries.old.items) }
     requires jump { IfSome edges.jump (λ to. to < length entries.old.items) }
     ensures len { length entries.new.items ≡ length entries.old.items }
-    ensures fine { OnOk result (refusal decl insn.now state ≡ None) }
-    ensures sent { OnOk result ((t : ℕ) → t < length entries.old.items → slice_index_or entries.new.items t EntryState.Unreached ≡ with_sent (Some insn.now) edges t (EntryState.Known state) (slice_index_or entries.old.items t EntryState.Unreached)) }
-    ensures refused { IfErr result (IsSlotFault slot (refusal decl insn.now state)) }
+    ensures fine { OnOk result (refusal decl rows.now insn.now state ≡ None) }
+    ensures sent { OnOk result ((t : ℕ) → t < length entries.old.items → slice_index_or entries.new.items t EntryState.Unreached ≡ with_sent (Some insn.now) edges slot t (EntryState.Known state) (slice_index_or entries.old.items t EntryState.Unreached)) }
+    ensures refused { IfErr result (IsSlotFault slot (refusal decl rows.now insn.now state)) }
 {
     match *insn {
         Insn::Jump { .. } | Insn::JumpFar { .. } => {
@@ -75,28 +80,12 @@ pub(crate) fn pass_on(
             base,
             offset,
             src,
-        } => store_on(
-            Store { size, offset },
-            base,
-            src,
-            slot,
-            state,
-            edges,
-            entries,
-        ),
-        Insn::Call { .. } => Err(refused_at(slot, VerifyCode::V0)),
-        _ => operate_on(decl, insn, slot, state, edges, entries),
-    }
-}
-
-/// The refusal of a slot.
-pub(crate) fn refused_at(slot: usize, code: VerifyCode) -> VerifyFault
-    requires { slot < MAX_SLOTS }
-    ensures { IsSlotFault slot (Some code) result }
-{
-    VerifyFault::Refused {
-        slot: slot as u16,
-        code,
+        } => {
+            let store = Store::new(size, base, offset, src);
+            store_on(rows, store, slot, state, edges, entries)
+        }
+        Insn::Call { number } => call_on(decl, rows, number, slot, state, edges, entries),
+        _ => operate_on(decl, rows, insn, slot, state, edges, entries),
     }
 }
 
@@ -115,6 +104,7 @@ fn exit_at(slot: usize, state: &State) -> Result<(), VerifyFault>
 // Sends what is known after an arithmetic instruction or a load to the slot after it.
 fn operate_on(
     decl: Decl,
+    rows: &[KindRow],
     insn: &Insn,
     slot: usize,
     mut state: State,
@@ -125,11 +115,11 @@ fn operate_on(
     requires fall { IfSome edges.fall (λ to. to < length entries.old.items) }
     requires writes { IsSome (after_operation insn.now state) }
     ensures len { length entries.new.items ≡ length entries.old.items }
-    ensures fine { OnOk result (refusal decl insn.now state ≡ None) }
+    ensures fine { OnOk result (refusal decl rows.now insn.now state ≡ None) }
     ensures sent { OnOk result ((t : ℕ) → t < length entries.old.items → slice_index_or entries.new.items t EntryState.Unreached ≡ with_edge (after_operation insn.now state) (leads_to edges.fall t) (slice_index_or entries.old.items t EntryState.Unreached)) }
-    ensures refused { IfErr result (IsSlotFault slot (refusal decl insn.now state)) }
+    ensures refused { IfErr result (IsSlotFault slot (refusal decl rows.now insn.now state)) }
 {
-    match operation(decl, insn, &state) {
+    match operation(decl, rows, insn, &state) {
         Ok((dst, value)) => {
             state.set(dst, value);
             send(entries, edges.fall, state);
@@ -141,9 +131,8 @@ fn operate_on(
 
 // Sends what is known after a store to the slot after it.
 fn store_on(
+    rows: &[KindRow],
     store: Store,
-    base: Reg,
-    src: Source,
     slot: usize,
     mut state: State,
     edges: Edges,
@@ -152,12 +141,13 @@ fn store_on(
     requires inside { slot < MAX_SLOTS }
     requires fall { IfSome edges.fall (λ to. to < length entries.old.items) }
     ensures len { length entries.new.items ≡ length entries.old.items }
-    ensures fine { OnOk result (store_refusal store.size store.offset (register_of state base) (operand state Width.W64 src) state ≡ None) }
-    ensures sent { OnOk result ((t : ℕ) → t < length entries.old.items → slice_index_or entries.new.items t EntryState.Unreached ≡ with_edge (after_store store.size store.offset (register_of state base) (operand state Width.W64 src) state) (leads_to edges.fall t) (slice_index_or entries.old.items t EntryState.Unreached)) }
-    ensures refused { IfErr result (IsSlotFault slot (store_refusal store.size store.offset (register_of state base) (operand state Width.W64 src) state)) }
+    ensures fine { OnOk result (store_refusal rows.now store.size store.offset (register_of state store.base) (operand state Width.W64 store.src) state ≡ None) }
+    ensures sent { OnOk result ((t : ℕ) → t < length entries.old.items → slice_index_or entries.new.items t EntryState.Unreached ≡ with_edge (after_store store.size store.offset (register_of state store.base) (operand state Width.W64 store.src) state) (leads_to edges.fall t) (slice_index_or entries.old.items t EntryState.Unreached)) }
+    ensures refused { IfErr result (IsSlotFault slot (store_refusal rows.now store.size store.offset (register_of state store.base) (operand state Width.W64 store.src) state)) }
 {
-    let value = operand(&state, Width::W64, src);
-    match store_value(store, state.reg(base), value, &mut state) {
+    let base = state.reg(store.base);
+    let value = operand(&state, Width::W64, store.src);
+    match store_value(rows, store, base, value, &mut state) {
         Ok(()) => {
             send(entries, edges.fall, state);
             Ok(())
@@ -165,6 +155,30 @@ fn store_on(
         Err(AccessFault::Refused(code)) => Err(refused_at(slot, code)),
         Err(AccessFault::NoMemory) => Err(VerifyFault::NoMemory),
     }
+}
+
+// Sends what is known after a call to the slot after it. It stands apart from what most slots do.
+#[inline(never)]
+fn call_on(
+    decl: Decl,
+    rows: &[KindRow],
+    number: i32,
+    slot: usize,
+    mut state: State,
+    edges: Edges,
+    entries: &mut Vec<EntryState>,
+) -> Result<(), VerifyFault>
+    requires inside { slot < MAX_SLOTS }
+    requires few { length rows.now ≤ 8 }
+    requires fall { IfSome edges.fall (λ to. to < length entries.old.items) }
+    ensures len { length entries.new.items ≡ length entries.old.items }
+    ensures fine { OnOk result (call_refusal decl rows.now (helper_of number) state ≡ None) }
+    ensures sent { OnOk result ((t : ℕ) → t < length entries.old.items → slice_index_or entries.new.items t EntryState.Unreached ≡ with_edge (after_call slot (helper_of number) state) (leads_to edges.fall t) (slice_index_or entries.old.items t EntryState.Unreached)) }
+    ensures refused { IfErr result (IsSlotFault slot (call_refusal decl rows.now (helper_of number) state)) }
+{
+    call(decl, rows, number, slot, &mut state)?;
+    send(entries, edges.fall, state);
+    Ok(())
 }
 
 // Sends what is known along both edges of a branch.

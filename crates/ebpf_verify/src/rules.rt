@@ -3,7 +3,7 @@
 ghost use Rattle.std.specs.Prelude.{◌≡◌, OnOk, IfOk, IfErr, IsSome, Some, None};
 ghost use Rattle.ebpf_state.specs.Abstract.{IsProper};
 ghost use Rattle.ebpf_state.specs.States.{with_register};
-ghost use Rattle.ebpf_verify.specs.Rules.{has_rule, exit_refusal, refusal, after_operation};
+ghost use Rattle.ebpf_verify.specs.Rules.{exit_refusal, refusal, after_operation};
 
 use crate::branches::operand;
 use crate::decl::Decl;
@@ -13,27 +13,23 @@ use crate::operations::{alu_value, constant_value, one_number};
 use ebpf_insn::insn::Insn;
 use ebpf_insn::register::Reg;
 use ebpf_range::results::{neg, sext, swap};
+use ebpf_state::kinds::KindRow;
 use ebpf_state::state::State;
 use ebpf_state::value::Abs;
 
-/// Calls have no rule yet.
-pub(crate) fn has_rule(insn: &Insn) -> bool
-    ensures { result ≡ has_rule insn.now }
-{
-    match *insn {
-        Insn::Call { .. } => false,
-        _ => true,
-    }
-}
-
 /// The register that an arithmetic instruction or a load writes and what is known of it afterwards, or the first code that refuses
 /// the instruction. Its operands are read once for both.
-pub(crate) fn operation(decl: Decl, insn: &Insn, state: &State) -> Result<(Reg, Abs), VerifyCode>
+pub(crate) fn operation(
+    decl: Decl,
+    rows: &[KindRow],
+    insn: &Insn,
+    state: &State,
+) -> Result<(Reg, Abs), VerifyCode>
     requires { IsSome (after_operation insn.now state.now) }
-    ensures fine { OnOk result (refusal decl insn.now state.now ≡ None) }
+    ensures fine { OnOk result (refusal decl rows.now insn.now state.now ≡ None) }
     ensures value { IfOk result (λ written. after_operation insn.now state.now ≡ Some (with_register state.now written.0 written.1)) }
     ensures proper { IfOk result (λ written. IsProper written.1) }
-    ensures refused { IfErr result (λ code. refusal decl insn.now state.now ≡ Some code) }
+    ensures refused { IfErr result (λ code. refusal decl rows.now insn.now state.now ≡ Some code) }
 {
     match *insn {
         Insn::Alu {
@@ -41,11 +37,10 @@ pub(crate) fn operation(decl: Decl, insn: &Insn, state: &State) -> Result<(Reg, 
             op,
             dst,
             src,
-        } => {
-            let right = operand(state, width, src);
-            let value = alu_value(width, op, dst, right, state)?;
-            Ok((dst, value))
-        }
+        } => Ok((
+            dst,
+            alu_value(width, op, dst, operand(state, width, src), state)?,
+        )),
         Insn::Sext {
             width,
             bits,
@@ -71,15 +66,11 @@ pub(crate) fn operation(decl: Decl, insn: &Insn, state: &State) -> Result<(Reg, 
             base,
             offset,
         } => {
-            let load = Load {
-                size,
-                signed,
-                dst,
-                offset,
-            };
-            Ok((dst, load_value(decl.context, load, state.reg(base), state)?))
+            let load = Load::new(size, signed, dst, offset);
+            let value = load_value(decl.context, rows, load, state.reg(base), state)?;
+            Ok((dst, value))
         }
-        _ => Err(VerifyCode::V0),
+        _ => unreachable!(),
     }
 }
 

@@ -23,17 +23,15 @@ ghost use Rattle.ebpf_verify.specs.declared.fault.VerifyCode.{VerifyCode};
 ghost use Rattle.ebpf_verify.specs.declared.fault.VerifyFault.TheVariants.{NoMemory};
 ghost use Rattle.ebpf_insn.specs.Faults.{lowest};
 ghost use Rattle.ebpf_verify.specs.Entry.{with_sent};
-ghost use Rattle.ebpf_verify.specs.Verdict.{unruled_at, refusal_in, verdict, IsVerifyFault, AreRows, IsSlotFault};
+ghost use Rattle.ebpf_verify.specs.Verdict.{refusal_in, verdict, IsVerifyFault, AreRows, IsSlotFault};
 
 use crate::decl::Decl;
 use crate::entry::EntryState;
-use crate::fault::{VerifyCode, VerifyFault};
-use crate::propagate::{pass_on, refused_at};
-use crate::rules::has_rule;
+use crate::fault::{VerifyCode, VerifyFault, refused_at};
+use crate::propagate::pass_on;
 use crate::verified::Verified;
 use ebpf_flow::edges::Edges;
 use ebpf_flow::flowed::Flowed;
-use ebpf_insn::program::Program;
 use ebpf_state::kinds::KindRow;
 use ebpf_state::state::State;
 use std::alloc::{AllocError, Global};
@@ -55,36 +53,17 @@ pub fn verify(
     ensures fine { OnOk result (verdict (record { program = flowed; decl = decl; rows = rows.now }) ≡ None) }
     ensures refused { IfErr result (IsVerifyFault (record { program = flowed; decl = decl; rows = rows.now })) }
 {
-    let rows = Vec::from_slice(alloc, rows)?;
+    let kept = Vec::from_slice(alloc, rows)?;
     let slots = flowed.program().slots();
     let mut entries = first_entries(alloc, slots)?;
     for slot in 0..slots {
-        if let Err(fault) = visit(&flowed, decl, slot, &mut entries) {
-            // An instruction that has no rule is told before all else.
-            refuse_unruled(flowed.program())?;
-            return Err(fault);
-        }
+        visit(&flowed, decl, rows, slot, &mut entries)?;
     }
-    Ok(Verified { flowed, decl, rows })
-}
-
-// Refuses a program at the lowest slot whose instruction has no rule.
-fn refuse_unruled(program: &Program) -> Result<(), VerifyFault>
-    ensures fine { OnOk result (lowest (unruled_at program.now) (length program.now) ≡ None) }
-    ensures refused { IfErr result (λ e. (slot : ℕ) × (e ≡ VerifyFault.Refused slot VerifyCode.V0) × (lowest (unruled_at program.now) (length program.now) ≡ Some (slot, VerifyCode.V0))) }
-{
-    for slot in 0..program.slots() {
-        let Some(insn) = program.at(slot) else {
-            continue;
-        };
-        if !has_rule(insn) {
-            return Err(VerifyFault::Refused {
-                slot: slot as u16,
-                code: VerifyCode::V0,
-            });
-        }
-    }
-    Ok(())
+    Ok(Verified {
+        flowed,
+        decl,
+        rows: kept,
+    })
 }
 
 // What is known before each slot at first: the first state comes to slot 0, and nothing to the others.
@@ -104,20 +83,21 @@ fn first_entries(alloc: Global, slots: usize) -> Result<Vec<EntryState>, AllocEr
     Ok(entries)
 }
 
-// Takes what came to a slot, and sends it on, or says why it is refused. What has no rule is refused also where nothing came.
+// Takes what came to a slot, and sends it on, or says why it is refused.
 fn visit(
     flowed: &Flowed,
     decl: Decl,
+    rows: &[KindRow],
     slot: usize,
     entries: &mut Vec<EntryState>,
 ) -> Result<(), VerifyFault>
     requires inside { slot < length flowed.now }
+    requires few { length rows.now ≤ 8 }
     requires len { length entries.old.items ≡ length flowed.now }
     ensures len { length entries.new.items ≡ length entries.old.items }
-    ensures ruled { OnOk result (unruled_at flowed.now slot ≡ None) }
-    ensures fine { OnOk result (refusal_in decl (insn_at flowed.now slot) (slice_index_or entries.old.items slot EntryState.Unreached) ≡ None) }
-    ensures sent { OnOk result ((t : ℕ) → slot < t → t < length flowed.now → slice_index_or entries.new.items t EntryState.Unreached ≡ with_sent (insn_at flowed.now slot) (edges_at flowed.now slot) t (slice_index_or entries.old.items slot EntryState.Unreached) (slice_index_or entries.old.items t EntryState.Unreached)) }
-    ensures refused { IfErr result (λ fault. unruled_at flowed.now slot ≡ None → IsSlotFault slot (refusal_in decl (insn_at flowed.now slot) (slice_index_or entries.old.items slot EntryState.Unreached)) fault) }
+    ensures fine { OnOk result (refusal_in decl rows.now (insn_at flowed.now slot) (slice_index_or entries.old.items slot EntryState.Unreached) ≡ None) }
+    ensures sent { OnOk result ((t : ℕ) → slot < t → t < length flowed.now → slice_index_or entries.new.items t EntryState.Unreached ≡ with_sent (insn_at flowed.now slot) (edges_at flowed.now slot) slot t (slice_index_or entries.old.items slot EntryState.Unreached) (slice_index_or entries.old.items t EntryState.Unreached)) }
+    ensures refused { IfErr result (IsSlotFault slot (refusal_in decl rows.now (insn_at flowed.now slot) (slice_index_or entries.old.items slot EntryState.Unreached))) }
 {
     let edges = flowed.successors(slot);
     let Some(insn) = flowed.program().at(slot) else {
@@ -127,12 +107,8 @@ fn visit(
         };
     };
     match mem::replace(&mut entries[slot], EntryState::Unreached) {
-        EntryState::Known(state) => pass_on(decl, insn, slot, state, edges, entries),
+        EntryState::Known(state) => pass_on(decl, rows, insn, slot, state, edges, entries),
         EntryState::Conflict => Err(refused_at(slot, VerifyCode::V19)),
-        EntryState::Unreached => if has_rule(insn) {
-            Ok(())
-        } else {
-            Err(refused_at(slot, VerifyCode::V0))
-        },
+        EntryState::Unreached => Ok(()),
     }
 }

@@ -1,0 +1,147 @@
+//! Calls of helpers (RFC 9669, section 4.3.1): each takes its argument in r1 and leaves its result in r0, and r1 to r5 are lost.
+
+ghost use Rattle.std.specs.Prelude.{◌≡◌, ◌<◌, ◌+◌, ◌++◌, ◌∷◌, ℕ, ℤ, pos, max, List, [], length, None, Some};
+ghost use Rattle.ebpf_insn.specs.declared.insn.Insn.{Insn};
+ghost use Rattle.ebpf_insn.specs.declared.program.TheConstants.{MAX_SLOTS};
+ghost use Rattle.ebpf_insn.specs.Program.{instructions, insn_at};
+ghost use Rattle.ebpf_verify.specs.declared.helper.Helper.{Helper};
+ghost use Rattle.ebpf_verify.specs.Calls.{helper_of};
+ghost use Rattle.ebpf_machine.specs.Effect.{answered};
+ghost use Rattle.ebpf_machine.specs.Events.{Unasked};
+ghost use Rattle.ebpf_machine.specs.Flows.{object_in};
+ghost use Rattle.ebpf_machine.specs.RunState.{frame_with, seen};
+ghost use Rattle.ebpf_machine.specs.Step.{asking_in};
+ghost use Rattle.ebpf_machine.specs.World.{kinds_of};
+ghost use Rattle.ebpf_machine.specs.Parts.{state_of, HasCapacity};
+ghost use Rattle.ebpf_machine.specs.Advance.{IsReady, IsAdvanced};
+
+use crate::execute::number;
+use crate::holding::{Holding, place_of};
+use crate::objects::Objects;
+use crate::parts::Parts;
+use crate::report::Reply;
+use crate::value::{Base, Value};
+use ebpf_verify::helper::Helper;
+
+/// Does a call of a helper.
+pub(crate) fn call<O: Objects>(parts: &mut Parts<'_, O::Held>, helper: Helper, objects: &mut O)
+    requires kinds { O.kinds ≡ kinds_of parts.old.verified.now.rows }
+    requires ready { IsReady (record { is_out = O.is_out; kind_of = O.kind_of; slot_of = O.slot_of; bytes_of = O.bytes_of; can_grant = O.can_grant; can_refuse = O.can_refuse; grants = O.grants; nulls = O.nulls; outs = O.outs }) (state_of parts.old) objects.old }
+    requires at { (number : ℤ) × (insn_at parts.old.verified.now.program parts.old.pc ≡ Some (Insn.Call number)) × (helper_of number ≡ Some helper) }
+    requires can_give { asking_in (seen (O.bytes_of objects.old) (state_of parts.old)) ≡ Unasked → O.can_give objects.old }
+    requires room { HasCapacity parts.old }
+    ensures advanced { IsAdvanced (record { is_out = O.is_out; kind_of = O.kind_of; slot_of = O.slot_of; bytes_of = O.bytes_of; can_grant = O.can_grant; can_refuse = O.can_refuse; grants = O.grants; nulls = O.nulls; outs = O.outs }) (state_of parts.old) (state_of parts.new) objects.old objects.new }
+    ensures room { HasCapacity parts.new }
+{
+    match helper {
+        Helper::New => ask(parts, objects),
+        Helper::Free => give_back(parts, objects),
+        Helper::Emit => emit(parts, objects),
+    }
+}
+
+// Asks for an object of the kind in r1.
+fn ask<O: Objects>(parts: &mut Parts<'_, O::Held>, objects: &mut O)
+    requires kinds { O.kinds ≡ kinds_of parts.old.verified.now.rows }
+    requires ready { IsReady (record { is_out = O.is_out; kind_of = O.kind_of; slot_of = O.slot_of; bytes_of = O.bytes_of; can_grant = O.can_grant; can_refuse = O.can_refuse; grants = O.grants; nulls = O.nulls; outs = O.outs }) (state_of parts.old) objects.old }
+    requires at { (number : ℤ) × (insn_at parts.old.verified.now.program parts.old.pc ≡ Some (Insn.Call number)) × (helper_of number ≡ Some Helper.New) }
+    requires room { HasCapacity parts.old }
+    ensures advanced { IsAdvanced (record { is_out = O.is_out; kind_of = O.kind_of; slot_of = O.slot_of; bytes_of = O.bytes_of; can_grant = O.can_grant; can_refuse = O.can_refuse; grants = O.grants; nulls = O.nulls; outs = O.outs }) (state_of parts.old) (state_of parts.new) objects.old objects.new }
+    ensures room { HasCapacity parts.new }
+{
+    let call = parts.pc as u16;
+    let kind = number(parts.registers[1]) as u8;
+    match objects.take(kind, call) {
+        Some(object) => {
+            hold(parts, Holding { call, kind, object });
+            let base = Base::Object(call);
+            answer(parts, Value::Pointer { base, offset: 0 });
+        }
+        None => {
+            parts.replies.push_reserved(Reply::Null);
+            answer(parts, Value::Number(0));
+        }
+    }
+}
+
+// Holds an object that was granted.
+fn hold<H>(parts: &mut Parts<'_, H>, holding: Holding<H>)
+    requires held { length parts.old.held.items < parts.old.verified.now.decl.held }
+    requires replies { length parts.old.replies.items < length (instructions parts.old.verified.now.program) }
+    requires room { HasCapacity parts.old }
+    ensures state { state_of parts.new ≡ record (state_of parts.old) { held = parts.old.held.items ++ holding ∷ []; replies = parts.old.replies.items ++ Reply.Granted ∷ []; peak = max parts.old.peak (length parts.old.held.items + 1) } }
+    ensures room { HasCapacity parts.new }
+{
+    parts.held.push_reserved(holding);
+    parts.replies.push_reserved(Reply::Granted);
+    parts.peak = parts.peak.max(parts.held.len() as u64);
+}
+
+// Gives back the object in r1.
+fn give_back<O: Objects>(parts: &mut Parts<'_, O::Held>, objects: &mut O)
+    requires kinds { O.kinds ≡ kinds_of parts.old.verified.now.rows }
+    requires ready { IsReady (record { is_out = O.is_out; kind_of = O.kind_of; slot_of = O.slot_of; bytes_of = O.bytes_of; can_grant = O.can_grant; can_refuse = O.can_refuse; grants = O.grants; nulls = O.nulls; outs = O.outs }) (state_of parts.old) objects.old }
+    requires at { (number : ℤ) × (insn_at parts.old.verified.now.program parts.old.pc ≡ Some (Insn.Call number)) × (helper_of number ≡ Some Helper.Free) }
+    requires can_give { asking_in (seen (O.bytes_of objects.old) (state_of parts.old)) ≡ Unasked → O.can_give objects.old }
+    requires room { HasCapacity parts.old }
+    ensures advanced { IsAdvanced (record { is_out = O.is_out; kind_of = O.kind_of; slot_of = O.slot_of; bytes_of = O.bytes_of; can_grant = O.can_grant; can_refuse = O.can_refuse; grants = O.grants; nulls = O.nulls; outs = O.outs }) (state_of parts.old) (state_of parts.new) objects.old objects.new }
+    ensures room { HasCapacity parts.new }
+{
+    let place = place_of(&parts.held, object(parts.registers[1]));
+    let Holding {
+        call: _,
+        kind,
+        object,
+    } = parts.held.remove(place);
+    objects.give(kind, object);
+    answer(parts, Value::Number(0));
+}
+
+// Adds the number in r1 to the output.
+fn emit<O: Objects>(parts: &mut Parts<'_, O::Held>, objects: &mut O)
+    requires kinds { O.kinds ≡ kinds_of parts.old.verified.now.rows }
+    requires ready { IsReady (record { is_out = O.is_out; kind_of = O.kind_of; slot_of = O.slot_of; bytes_of = O.bytes_of; can_grant = O.can_grant; can_refuse = O.can_refuse; grants = O.grants; nulls = O.nulls; outs = O.outs }) (state_of parts.old) objects.old }
+    requires at { (number : ℤ) × (insn_at parts.old.verified.now.program parts.old.pc ≡ Some (Insn.Call number)) × (helper_of number ≡ Some Helper.Emit) }
+    requires room { HasCapacity parts.old }
+    ensures advanced { IsAdvanced (record { is_out = O.is_out; kind_of = O.kind_of; slot_of = O.slot_of; bytes_of = O.bytes_of; can_grant = O.can_grant; can_refuse = O.can_refuse; grants = O.grants; nulls = O.nulls; outs = O.outs }) (state_of parts.old) (state_of parts.new) objects.old objects.new }
+    ensures room { HasCapacity parts.new }
+    ensures store { objects.new ≡ objects.old }
+{
+    let emitted = number(parts.registers[1]);
+    parts.output.push_reserved(emitted);
+    answer(parts, Value::Number(0));
+}
+
+// Goes on behind a call, with its result.
+fn answer<H>(parts: &mut Parts<'_, H>, value: Value<u16>)
+    requires few { parts.old.executed < MAX_SLOTS }
+    requires inside { parts.old.pc < MAX_SLOTS }
+    requires room { HasCapacity parts.old }
+    ensures state { state_of parts.new ≡ record (state_of parts.old) { pc = parts.old.pc + 1; registers = (answered (frame_with parts.old.registers [] []) value).registers; executed = parts.old.executed + 1 } }
+    ensures room { HasCapacity parts.new }
+{
+    parts.registers[1] = None;
+    parts.registers[2] = None;
+    parts.registers[3] = None;
+    parts.registers[4] = None;
+    parts.registers[5] = None;
+    parts.registers[0] = Some(value);
+    parts.pc += 1;
+    parts.executed += 1;
+}
+
+// The call that was granted the object to which a register is a pointer.
+fn object(value: Option<Value<u16>>) -> u16
+    requires { (call : ℕ) × (k : ℤ) × (value ≡ Some (Value.Pointer (Base.Object call) k)) }
+    ensures { object_in value ≡ Some result }
+{
+    match value {
+        Some(
+            Value::Pointer {
+                base: Base::Object(call),
+                ..
+            },
+        ) => call,
+        _ => unreachable!(),
+    }
+}

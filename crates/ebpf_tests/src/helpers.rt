@@ -1,0 +1,98 @@
+//! What `one` and `replay` tell of programs that call helpers.
+
+use crate::programs::{column, holds, is_told};
+use ebpf_one::one::one;
+use ebpf_script::done::Done;
+use ebpf_script::replay::replay;
+use std::alloc::Global;
+use std::process::Abort;
+use std::test::*;
+
+// The options, or `-` for none, the program, and what is told, a `;` for each end of a line.
+const PROGRAMS: &str = "\
+# no helper has this number
+- | 85000000090000009500000000000000 | refused V14 0;
+# a number is emitted
+- | b70100000500000085000000030000009500000000000000 | accepted 3;emit 5;exit 0 executed 3 peak 0;
+# an object is granted, or not, and compared with null; where it is there it is written, read and freed
+--held 1 | b701000000000000850000000100000015000500000000007a000000050000007906000000000000bf010000000000008500000002000000bf600000000000009500000000000000 | accepted 9;exit 5 executed 9 peak 1;
+--held 1 --nulls | b701000000000000850000000100000015000500000000007a000000050000007906000000000000bf010000000000008500000002000000bf600000000000009500000000000000 | accepted 9;exit 0 executed 4 peak 0;
+# none is declared
+- | b701000000000000850000000100000015000500000000007a000000050000007906000000000000bf010000000000008500000002000000bf600000000000009500000000000000 | refused V16 1;
+# it is not compared with null
+--held 1 | b70100000000000085000000010000007a000000050000007906000000000000bf010000000000008500000002000000bf600000000000009500000000000000 | refused V11 2;
+# it is held at the exit
+--held 1 | b70100000000000085000000010000001500020000000000b70000000000000095000000000000009500000000000000 | refused V17 4;
+# it is held on one of the paths that meet
+--held 1 | b7010000000000008500000001000000150004000000000079060000000000001506020000000000bf0100000000000085000000020000009500000000000000 | refused V19 7;
+# it is freed twice
+--held 1 | b701000000000000850000000100000015000700000000007a000000050000007906000000000000bf010000000000008500000002000000bf010000000000008500000002000000bf600000000000009500000000000000 | refused V15 8;
+# its last 8 bytes are written, or a byte behind them
+--held 1 | b701000000000000850000000100000015000500000000007a000800050000007906000000000000bf010000000000008500000002000000bf600000000000009500000000000000 | accepted 9;exit 0 executed 9 peak 1;
+--held 1 | b701000000000000850000000100000015000500000000007a000900050000007906000000000000bf010000000000008500000002000000bf600000000000009500000000000000 | refused V10 3;
+# another register has it when it is freed, and is unset from then on
+--held 1 | b70100000000000085000000010000001500040000000000bf06000000000000bf01000000000000850000000200000079600000000000009500000000000000 | refused V1 6;";
+
+// Tries a row of `PROGRAMS`.
+fn is_run(rt: &impl Abort, alloc: Global, row: &str) {
+    let (options, rest) = column(rt, row);
+    let (input, expected) = column(rt, rest);
+    let expected = expected
+        .replace(alloc, ';', "\n")
+        .expect(rt, "out of memory");
+    let held = u8::from(options.contains("--held 1"));
+    let nulls = options.contains("--nulls");
+    let mut reader = input.as_bytes();
+    let mut written = Vec::new(alloc);
+    let done = one(alloc, &mut reader, &mut written, "-", held, nulls).expect(rt, "it is told");
+    let told = str::from_utf8(&written).expect(rt, "it is a text");
+    is_told(rt, row, told, expected.as_str());
+    let is_refused = told.starts_with("refused ");
+    holds(rt, row, matches!(done, Done::Refused) == is_refused);
+}
+
+#[test]
+fn calls_are_told(rt: HostRuntime) {
+    for row in PROGRAMS.lines() {
+        if !row.starts_with('#') {
+            is_run(&rt, rt.alloc(), row);
+        }
+    }
+}
+
+// A program that asks for an object, compares it with null, writes, reads and frees it.
+const ASKS: &str = "\
+program p 0 1 b701000000000000850000000100000015000500000000007a000000050000007906000000000000bf010000000000008500000002000000bf600000000000009500000000000000
+";
+
+// What is answered, the events behind `ASKS`, a `;` for each end of a line, and what is told of them.
+const ANSWERS: &str = "\
+the answer is null | start p -;exec 0;exec 0 null;exec 0;exec 0; | run 0 exit 0 executed 4;kind 0 slots 0 held 0;kind 1 slots 0 held 0;kind 2 slots 0 held 0;
+the answer is a slot of no ledger | start p -;exec 0;exec 0 0; | stopped E3 2;
+there is none | start p -;exec 0;exec 0; | stopped E6 2;
+it comes before the call | start p -;exec 0 null; | stopped E5 1;
+it comes twice | start p -;exec 0;exec 0 null;exec 0 null; | stopped E5 3;";
+
+// Tries a row of `ANSWERS`.
+fn is_answered(rt: &impl Abort, alloc: Global, row: &str) {
+    let (_, rest) = column(rt, row);
+    let (events, expected) = column(rt, rest);
+    let events = events.replace(alloc, ';', "\n").expect(rt, "out of memory");
+    let expected = expected
+        .replace(alloc, ';', "\n")
+        .expect(rt, "out of memory");
+    let script = format!(in alloc; "{ASKS}{events}").expect(rt, "out of memory");
+    let expected = format!(in alloc; "p accepted 9\n{expected}").expect(rt, "out of memory");
+    let mut reader = script.as_bytes();
+    let mut written = Vec::new(alloc);
+    let _ = replay(alloc, &mut reader, &mut written).expect(rt, "it is told");
+    let told = str::from_utf8(&written).expect(rt, "it is a text");
+    is_told(rt, row, told, expected.as_str());
+}
+
+#[test]
+fn answers_to_a_call_are_told(rt: HostRuntime) {
+    for row in ANSWERS.lines() {
+        is_answered(&rt, rt.alloc(), row);
+    }
+}

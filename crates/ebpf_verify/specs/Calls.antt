@@ -1,0 +1,89 @@
+-- Calls of helpers (RFC 9669, section 4.3.1): the codes that refuse one, in order, and what is known after it. A helper takes its
+-- argument in r1 and leaves its result in r0; r1 to r5 are lost.
+use Rattle.std.specs.Prelude.{ℕ, zero, suc, ℤ, pos, nat_lt, nat_le, length, List, [], ◌∷◌, Bool, false, not, ◌&&◌, ◌==◌, Option, Some, None}
+use Rattle.std.specs.Ordering.{int_eq}
+use Rattle.ebpf_insn.specs.declared.register.Reg.TheVariants.{R0, R1, R2, R3, R4, R5}
+use Rattle.ebpf_insn.specs.Faults.{first_of}
+use Rattle.ebpf_range.specs.Interval.{constant}
+use Rattle.ebpf_state.specs.declared.kinds.KindRow.{KindRow}
+use Rattle.ebpf_state.specs.declared.value.Abs.{Abs}
+use Rattle.ebpf_state.specs.declared.value.Abs.TheVariants.{Unset, Num, Ob, May}
+use Rattle.ebpf_state.specs.Abstract.{is_unset, is_may}
+use Rattle.ebpf_state.specs.StateView.{StateView}
+use Rattle.ebpf_state.specs.States.{register_of, with_register}
+use Rattle.ebpf_state.specs.References.{holding, forgotten}
+use Rattle.ebpf_verify.specs.declared.decl.Decl.{Decl}
+use Rattle.ebpf_verify.specs.declared.fault.VerifyCode.{VerifyCode}
+use Rattle.ebpf_verify.specs.declared.fault.VerifyCode.TheVariants.{V1, V11, V14, V15, V16}
+use Rattle.ebpf_verify.specs.declared.helper.Helper.{Helper}
+use Rattle.ebpf_verify.specs.declared.helper.Helper.TheVariants.{New, Free, Emit}
+use Rattle.ebpf_verify.specs.Memory.{is_number}
+
+-- the helper of a number
+abbrev pub helper_of : ℤ → Option Helper
+helper_of (pos (suc zero)) = Some New
+helper_of (pos (suc (suc zero))) = Some Free
+helper_of (pos (suc (suc (suc zero)))) = Some Emit
+helper_of _ = None
+
+-- ---- what each asks of its argument
+
+-- a constant that is the number of a kind
+abbrev pub names_kind : ℕ → Abs → Bool
+names_kind kinds (Num a) = (a.lo == a.hi) && nat_lt a.lo kinds
+names_kind kinds _ = false
+
+-- an object at its first byte
+abbrev pub is_whole_object : Abs → Bool
+is_whole_object (Ob call low high) = int_eq low (pos 0) && int_eq high (pos 0)
+is_whole_object _ = false
+
+-- new asks for a kind, and for room among the objects that the program declares
+abbrev pub new_refusal : Decl → ℕ → ℕ → Abs → Option VerifyCode
+new_refusal decl kinds held kind = first_of (
+    (is_unset kind, V1) ∷
+    (not (names_kind kinds kind), V15) ∷
+    (nat_le decl.held held, V16) ∷
+    [])
+
+abbrev pub free_refusal : Abs → Option VerifyCode
+free_refusal object = first_of (
+    (is_unset object, V1) ∷
+    (is_may object, V11) ∷
+    (not (is_whole_object object), V15) ∷
+    [])
+
+abbrev pub emit_refusal : Abs → Option VerifyCode
+emit_refusal number = first_of (
+    (is_unset number, V1) ∷
+    (not (is_number number), V15) ∷
+    [])
+
+abbrev pub call_refusal : Decl → List KindRow → Option Helper → StateView → Option VerifyCode
+call_refusal decl rows None s = Some V14
+call_refusal decl rows (Some New) s = new_refusal decl (length rows) (length s.held) (register_of s R1)
+call_refusal decl rows (Some Free) s = free_refusal (register_of s R1)
+call_refusal decl rows (Some Emit) s = emit_refusal (register_of s R1)
+
+-- ---- what is known after it
+
+abbrev pub without_arguments : StateView → StateView
+without_arguments s = with_register (with_register (with_register (with_register (with_register s R1 Unset) R2 Unset) R3 Unset) R4 Unset) R5 Unset
+
+abbrev pub with_result : Abs → StateView → StateView
+with_result result s = with_register (without_arguments s) R0 result
+
+-- the object of the call at this slot is held, and the answer may be null
+abbrev pub after_new : ℕ → Abs → StateView → Option StateView
+after_new slot (Num kind) s = Some (with_result (May slot) (holding slot kind.lo s))
+after_new slot _ s = None
+
+abbrev pub after_free : Abs → StateView → Option StateView
+after_free (Ob call low high) s = Some (with_result (Num (constant 0)) (forgotten call s))
+after_free _ s = None
+
+abbrev pub after_call : ℕ → Option Helper → StateView → Option StateView
+after_call slot (Some New) s = after_new slot (register_of s R1) s
+after_call slot (Some Free) s = after_free (register_of s R1) s
+after_call slot (Some Emit) s = Some (with_result (Num (constant 0)) s)
+after_call slot None s = None
