@@ -1,4 +1,5 @@
--- What is known where the objects of a run become more or fewer: where a call is granted one or told null, and where one is given back.
+-- What is known where the objects of a run become more or fewer: where a call is granted one or told null, and where one is given
+-- back.
 use Rattle.std.proofs.Common.{◌≡◌, ◌≢◌, ℕ, ◌+◌, ◌*◌, ◌<◌, false, not, List, [], ◌∷◌, ◌++◌, get_or, filter, Option, Some, None, sym, ap, ◌∙◌, subst, inl, inr, ◌⊎◌, arith}
 use Rattle.std.specs.Prelude.{All, Contains, ◌==◌}
 use Rattle.std.proofs.lemmas.Bool.{cond_both, eq-eqb, ne_eqb, not-true}

@@ -1,4 +1,5 @@
--- What the next instruction of a sound run is to do: it goes on, and the run is sound after it whatever is answered, or it ends the run.
+-- What the next instruction of a sound run is to do: it goes on, and the run is sound after it whatever is answered, or it ends the
+-- run.
 use Rattle.std.proofs.Common.{◌≡◌, ℕ, ◌+◌, ◌<◌, ◌≤◌, List, [], length, Option, Some, None, sym, ap, ◌∙◌, subst, arith, inl, inr, ◌⊎◌}
 use Rattle.std.specs.Prelude.{All}
 use Rattle.ebpf_insn.specs.declared.insn.Insn.{Insn}
