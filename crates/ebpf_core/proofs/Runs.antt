@@ -1,5 +1,5 @@
 -- The runs of a world, and those that are kept: what is said of one by its number.
-use Rattle.std.proofs.Common.{◌≡◌, ◌≢◌, ⊎_elim, ◌⊎◌, inl, inr, ℕ, zero, suc, true, false, eqb, All, List, [], ◌∷◌, ◌++◌, length, Option, Some, None, refl, sym, ap, ◌∙◌, subst}
+use Rattle.std.proofs.Common.{◌≡◌, ◌≢◌, ⊎_elim, ◌⊎◌, inl, inr, ℕ, zero, suc, true, false, eqb, All, List, [], ◌∷◌, ◌++◌, length, Option, Some, None, refl, sym, ap, ◌∙◌, subst, arith}
 use Rattle.std.specs.Prelude.{slice_get, option_map}
 use Rattle.std.proofs.lemmas.Bool.Decides.{eqb_tells}
 use Rattle.std.proofs.lemmas.Option.{get_or_from_slice_get, slice_get_within}
@@ -8,10 +8,12 @@ use Rattle.ebpf_machine.specs.World.{World, Running, kinds_of}
 use Rattle.ebpf_machine.specs.Kinds.{known_kinds}
 use Rattle.ebpf_machine.specs.View.{view_of, view_in}
 use Rattle.ebpf_machine.specs.RunState.{RunState, first_state_of}
+use Rattle.ebpf_machine.specs.Step.{AreOut}
 use Rattle.ebpf_machine.specs.Sound.{IsSound, IsAlone}
 use Rattle.ebpf_machine.proofs.Lone.{after_none}
 use Rattle.ebpf_machine.proofs.Execs.{shown_run}
 use Rattle.ebpf_core.specs.declared.passing.Object.{Object}
+use Rattle.ebpf_core.specs.Passing.{IsOut}
 use Rattle.ebpf_core.specs.Shown.{WorldState, Shows, IsTended, run_seen}
 
 -- what is said of all is said of the one of a number
@@ -56,6 +58,9 @@ pub tended_first : (s : Subject) (context : List ℕ) (r : RunState Object) → 
 tended_first s context r is sound kinds = record {
   sound = sound;
   alone = subst (λ (x : RunState Object). IsAlone (run_seen x)) (sym is) (first_alone s context);
-  nothing = ap (λ (x : RunState Object). x.held) is;
+  out = subst (λ (x : RunState Object). AreOut (IsOut None) (λ (o : Object). o.kind) (λ (o : Object). o.slot) x.held) (sym is) none_out;
   kinds = ap (λ (x : RunState Object). kinds_of x.subject.rows) is ∙ kinds;
 }
+  where
+    none_out : AreOut (IsOut None) (λ (o : Object). o.kind) (λ (o : Object). o.slot) []
+    none_out = record { out = λ k d lt. absurd (omega (arith, lt)); apart = λ i j d lt within. absurd (omega (arith, within)) }

@@ -1,8 +1,8 @@
 -- What an event does to the world.
-use Rattle.std.specs.Prelude.{List, [], map, Result, Err, slice_get}
+use Rattle.std.specs.Prelude.{List, [], map, Result, slice_get}
 use Rattle.ebpf_verify.specs.Subject.{Subject}
 use Rattle.ebpf_machine.specs.World.{World}
-use Rattle.ebpf_machine.specs.Events.{Illegal, NoSuchProgramOrKind, starting, exec}
+use Rattle.ebpf_machine.specs.Events.{Illegal, starting, exec, growing, reaping}
 use Rattle.ebpf_machine.specs.World as world
 use Rattle.ebpf_core.specs.declared.event.Answer.{Answer}
 use Rattle.ebpf_core.specs.declared.event.Answer.TheVariants.{Absent, Null, Slot}
@@ -19,9 +19,9 @@ answer_of Absent = world.Absent
 answer_of Null = world.Null
 answer_of (Slot slot) = world.Slot slot
 
--- the world after an event, or why the event is not legal. No slot joins a ledger yet, so there is no kind to name.
+-- the world after an event, or why the event is not legal
 abbrev pub happened : List Subject → Event → World → Result World Illegal
 happened programs (Start program context) w = starting (slice_get programs program) context w
 happened programs (Exec run answer) w = exec w run (answer_of answer)
-happened programs (Grow kind slot) w = Err NoSuchProgramOrKind
-happened programs (Reap kind slot) w = Err NoSuchProgramOrKind
+happened programs (Grow kind slot) w = growing kind slot w
+happened programs (Reap kind slot) w = reaping kind slot w

@@ -1,7 +1,9 @@
 pub mod Passing
+pub mod Places
 pub mod Events
 pub mod Faults
 pub mod Shown
+pub mod Stepping
 pub mod Readers
 pub mod Replay
 pub mod Isolation

@@ -1,50 +1,85 @@
 -- The world that is kept, and the world that it shows.
-use Rattle.std.specs.Prelude.{◌≡◌, ℕ, All, List, [], length, map, Ok, option_map, slice_get}
+use Rattle.std.specs.Prelude.{◌≡◌, ◌<◌, ℕ, false, true, All, Contains, List, [], length, Option, Some, None, Ok, option_map, slice_get, slice_index_or}
+use Rattle.std.specs.List.{list_any}
 use Rattle.ebpf_verify.specs.Subject.{Subject}
-use Rattle.ebpf_machine.specs.World.{World, kinds_of}
+use Rattle.ebpf_machine.specs.World.{Name, World, kinds_of, image_at, is_in}
 use Rattle.ebpf_machine.specs.Kinds.{known_kinds}
-use Rattle.ebpf_machine.specs.View.{RunView, view_in}
-use Rattle.ebpf_machine.specs.RunState.{RunState, seen}
+use Rattle.ebpf_machine.specs.View.{RunView, view_in, slots_in}
+use Rattle.ebpf_machine.specs.RunState.{RunState, seen, slots_kept}
+use Rattle.ebpf_machine.specs.Step.{AreOut}
 use Rattle.ebpf_machine.specs.Sound.{IsSound, IsAlone, IsOwned}
 use Rattle.ebpf_core.specs.declared.passing.Object.{Object}
+use Rattle.ebpf_core.specs.declared.place.Place.{Place}
+use Rattle.ebpf_core.specs.declared.place.Place.TheVariants.{Home, Held}
 use Rattle.ebpf_core.specs.declared.event.Event.{Event}
 use Rattle.ebpf_core.specs.declared.fault.ApplyFault.{ApplyFault}
 use Rattle.ebpf_core.specs.Events.{happened}
 use Rattle.ebpf_core.specs.Faults.{IsApplyFault}
+use Rattle.ebpf_core.specs.Passing.{IsOut}
+use Rattle.ebpf_core.specs.Places.{Places, place_at}
 
--- the world as it is kept: the programs, and the runs in the order of their starts
+-- the world as it is kept: the programs, the runs in the order of their starts, the slots of each kind, and where each slot is
 pub record WorldState : Type 0 where
   pub programs : List Subject
   pub runs : List (RunState Object)
+  pub ledgers : List (List ℕ)
+  pub places : Places
 
 -- programs that were verified with the known kinds
 abbrev pub AreKnown : List Subject → Type 0
 AreKnown programs = All (λ s. kinds_of s.rows ≡ known_kinds) programs
 
--- what a run sees of itself; it holds no objects yet, so there are no bytes to see
+-- what a run sees of itself
 abbrev pub run_seen : RunState Object → RunView
 run_seen r = seen (λ o. o.bytes.items) r
 
--- a run that is kept is sound and where the run alone is, and holds nothing, since no slot is in a ledger yet
+-- the slots that a run holds, and by which calls
+abbrev pub slots_of : RunState Object → List Name
+slots_of r = slots_kept (λ o. o.slot) r.held
+
+-- ---- what always holds of the world that is kept
+
+-- a run is sound and where the run alone is, and has its objects with it
 pub record IsTended (r : RunState Object) : Type 0 where
   pub sound : IsSound (run_seen r)
   pub alone : IsAlone (run_seen r)
-  pub nothing : r.held ≡ []
+  pub out : AreOut (IsOut None) (λ o. o.kind) (λ o. o.slot) r.held
   pub kinds : kinds_of r.subject.rows ≡ known_kinds
 
--- what always holds of the world that is kept
+-- an object that is nobody's is of the kind in whose ledger its slot is, and has its image
+pub record IsAtHome (kept : WorldState) (slot : ℕ) (o : Object) : Type 0 where
+  pub same : o.slot ≡ slot
+  pub its : is_in slot (slice_index_or kept.ledgers o.kind []) ≡ true
+  pub known : o.kind < length known_kinds
+  pub image : o.bytes.items ≡ image_at known_kinds o.kind
+
+-- a slot is where the world that is kept has it: nowhere, and in no ledger; at home; or with a run, which holds it by this call
+abbrev pub IsPlaced : WorldState → ℕ → Option Place → Type 0
+IsPlaced kept slot None = list_any (is_in slot) kept.ledgers ≡ false
+IsPlaced kept slot (Some (Home o)) = IsAtHome kept slot o
+IsPlaced kept slot (Some (Held run at)) = (r : RunState Object) × (slice_get kept.runs run ≡ Some r) × Contains (slots_of r) (slot, at)
+
+-- each slot is where it is kept, and each that a run holds is kept as held
+pub record ArePlaced (kept : WorldState) : Type 0 where
+  pub each : (slot : ℕ) → IsPlaced kept slot (place_at kept.places slot)
+  pub held : (run : ℕ) (r : RunState Object) → slice_get kept.runs run ≡ Some r → (n : Name) → Contains (slots_of r) n → place_at kept.places n.0 ≡ Some (Held run n.1)
+
+-- the world that is kept shows this one: each run as it sees itself, in the slots that it holds
+pub record Shows (w : World) (kept : WorldState) : Type 0 where
+  pub views : (run : ℕ) → view_in w run ≡ option_map run_seen (slice_get kept.runs run)
+  pub slots : (run : ℕ) (r : RunState Object) → slice_get kept.runs run ≡ Some r → slots_in w run ≡ slots_of r
+  pub as_many : length w.runs ≡ length kept.runs
+  pub kinds : w.kinds ≡ known_kinds
+  pub ledgers : w.ledgers ≡ kept.ledgers
+  pub owned : IsOwned w
+
 pub record IsTendedWorld (kept : WorldState) : Type 0 where
   pub known : AreKnown kept.programs
   pub runs : All IsTended kept.runs
+  pub placed : ArePlaced kept
+  pub shown : (w : World) × Shows w kept
 
--- the world that is kept shows this one: each run as it sees itself. No slot is in a ledger yet.
-pub record Shows (w : World) (kept : WorldState) : Type 0 where
-  pub views : (run : ℕ) → view_in w run ≡ option_map run_seen (slice_get kept.runs run)
-  pub as_many : length w.runs ≡ length kept.runs
-  pub kinds : w.kinds ≡ known_kinds
-  pub ledgers : w.ledgers ≡ map (λ kind. []) known_kinds
-  pub owners : w.owners ≡ []
-  pub owned : IsOwned w
+-- ---- what calls say of it
 
 -- something holds of the world that is shown
 abbrev pub OfWorld : WorldState → (World → Type 0) → Type 0

@@ -5,11 +5,14 @@
 //! [`replay::replay`] makes the world after a list of events. It carries the main theorem: for every legal list no run
 //! traps, and each computes what its program computes alone, whatever the others do between (specs/Isolation).
 //!
-//! To be read in this order: `event`, `fault`, `passing`, `world`, `replay`.
+//! To be read in this order: `event`, `fault`, `ledger`, `passing`, `place`, `stepping`, `world`, `replay`.
 #![tactic(auto)]
 
 pub mod event;
 pub mod fault;
+mod ledger;
 mod passing;
+mod place;
 pub mod replay;
+mod stepping;
 pub mod world;

@@ -1,6 +1,6 @@
 //! The objects of the world, and the store through which one of them passes to or from a run.
 
-ghost use Rattle.std.specs.Prelude.{◌≡◌, ◌<◌, None, length, IfSome};
+ghost use Rattle.std.specs.Prelude.{◌≡◌, ◌<◌, length, IfSome, IfOk};
 ghost use Rattle.std.proofs.Props.{props};
 ghost use Rattle.ebpf_machine.specs.World.{image_at};
 ghost use Rattle.ebpf_machine.specs.Kinds.{known_kinds};
@@ -8,6 +8,7 @@ ghost use Rattle.ebpf_core.specs.Passing.{is_of_kind};
 
 use ebpf_machine::kinds::row_of;
 use ebpf_machine::objects::Objects;
+use std::alloc::{AllocError, Global};
 use std::sync::ledger::{Book, Ledger, Share};
 
 /// A slot with its bytes. Whoever has the object has the slot.
@@ -35,24 +36,47 @@ pub struct Passing<G: Ledger, N: Ledger> {
     ghost counts_nulls: { 0 < nulls_share.parts },
 }
 
+impl Object {
+    /// A new object, with its kind's fill in all its bytes.
+    pub(crate) fn new(alloc: Global, slot: u32, kind: u8) -> Result<Object, AllocError>
+        requires { kind < length known_kinds }
+        ensures { IfOk result (λ o. (o.slot ≡ slot) × (o.kind ≡ kind) × (o.bytes.items ≡ image_at known_kinds kind)) }
+    {
+        let row = row_of(kind);
+        let bytes = vec![in alloc; row.fill; row.size as usize]?;
+        Ok(Object { slot, kind, bytes })
+    }
+}
+
 impl<G: Ledger, N: Ledger> Passing<G, N> {
-    /// A store that is lent nothing, over new ledgers.
+    /// A store that is lent this object, or none, over new ledgers.
     pub(crate) fn new(
+        object: Option<Object>,
         grants: Book<G>,
         grants_share: Share<G>,
         nulls: Book<N>,
         nulls_share: Share<N>,
     ) -> Passing<G, N>
-        requires { (0 < grants_share.parts) × (0 < nulls_share.parts) }
-        ensures { result.object ≡ None }
+        requires lent { IfSome object (λ o. (o.bytes.items ≡ image_at known_kinds o.kind) × (o.kind < length known_kinds)) }
+        requires shares { (0 < grants_share.parts) × (0 < nulls_share.parts) }
+        ensures { result.object ≡ object }
     {
         Passing {
-            object: None,
+            object,
             grants,
             grants_share,
             nulls,
             nulls_share,
         }
+    }
+
+    /// The object that lies here after the instruction, where one does: it has its kind's image.
+    pub(crate) fn into_object(self) -> Option<Object>
+        ensures same { result ≡ self.object }
+        ensures image { IfSome result (λ o. o.bytes.items ≡ image_at known_kinds o.kind) }
+        ensures known { IfSome result (λ o. o.kind < length known_kinds) }
+    {
+        self.object
     }
 }
 

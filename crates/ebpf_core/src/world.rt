@@ -1,33 +1,37 @@
 //! The world.
 //!
-//! *The idea.* A world is a list of runs, and what they share. An event is tested against the world as it is: the first cause
-//! that makes it illegal is told, and the world stays as it was. A legal event changes one run, and the objects that this run
-//! asks for or frees pass to and from it through a store that has no other object in it.
+//! *The idea.* A world is a list of runs, and what they share: of each kind its slots, and where each slot is. An event is
+//! tested against the world as it is: the first cause that makes it illegal is told, and the world stays as it was. A legal
+//! event changes one run, or one slot. The object that a run asks for or frees passes to or from it through a store that has no
+//! other object in it.
 //!
-//! *The invariant.* Each run is sound for its program and is where it would be alone (ebpf_machine). All programs were verified
-//! with the known kinds.
+//! *The invariant.* Each run is sound for its program and is where it would be alone (ebpf_machine). Each slot is where it is
+//! kept: at home, in the ledger of its object's kind and with its image, or with the one run that holds it. All programs were
+//! verified with the known kinds, and the model has a world that all this shows.
 //!
 //! *The reason.* A step sees its own run and the object that it is lent, and nothing else: so what is known of all other runs
-//! stays, and the world that is kept shows the model's world after the event. The main theorem is about the model's world
-//! alone; what ties the code to it is what each call here says of every world that is shown (specs/Shown).
+//! and slots stays, and the world that is kept shows the model's world after the event. The main theorem is about the model's
+//! world alone; what ties the code to it is what each call here says of every world that is shown (specs/Shown).
 
-ghost use Rattle.std.specs.Prelude.{◌≡◌, length, slice_get, option_map, OnOk, OnErr, IfOk, IfErr, IfSome, IfNone};
+ghost use Rattle.std.specs.Prelude.{◌≡◌, length, slice_get, option_map, OnOk, OnErr, IfOk, IfErr};
 ghost use Rattle.ebpf_core.specs.Events.{first_world, happened};
-ghost use Rattle.ebpf_machine.specs.declared.report.Reply.TheVariants.{Null};
-ghost use Rattle.ebpf_machine.specs.View.{stepped};
-ghost use Rattle.ebpf_core.specs.declared.event.Event.TheVariants.{Start, Exec};
-ghost use Rattle.ebpf_core.specs.Shown.{Shows, OfWorld, IsDone, IsRefused, IsTended, AreKnown, run_seen};
-ghost use Rattle.ebpf_state.specs.Ascending.{IsAscending};
+ghost use Rattle.ebpf_core.specs.declared.event.Event.TheVariants.{Start, Exec, Grow, Reap};
+ghost use Rattle.ebpf_core.specs.Shown.{Shows, OfWorld, IsDone, IsRefused, AreKnown};
 ghost use Rattle.ebpf_core.specs.Readers.{status_in, output_in, executed_in, owner_in, bytes_in, ledger_in};
+ghost use Rattle.ebpf_state.specs.Ascending.{IsAscending};
 
 use crate::event::{Answer, Context, Event};
 use crate::fault::{ApplyCode, ApplyFault};
-use crate::passing::{Object, Passing};
+use crate::ledger::{Ledger, join, part};
+use crate::passing::Object;
+use crate::place::{Place, is_home_of, lend, put};
+use crate::stepping::{answer_fault, step_in};
 use ebpf_machine::run::{Run, StartFault};
 use ebpf_verify::verified::Verified;
 use std::alloc::{AllocError, Global};
+use std::collections::BTreeMap;
 use std::marker::{Brand, Model};
-use std::sync::ledger::{Blank, Ledger};
+use std::sync::ledger::Blank;
 
 /// How far a run is.
 #[derive(Clone, Copy)]
@@ -44,6 +48,8 @@ pub struct World<'v> {
     alloc: Global,
     programs: &'v [Verified],
     runs: Vec<Run<'v, Object>>,
+    ledgers: [Ledger; 3],
+    places: BTreeMap<u32, Place>,
 }
 
 impl<'v> Model for World<'v> {
@@ -51,9 +57,9 @@ impl<'v> Model for World<'v> {
 
     ghost Value = { WorldState };
 
-    ghost view = { λ w. record { programs = w.programs.now; runs = w.runs.items } };
+    ghost view = { λ w. record { programs = w.programs.now; runs = w.runs.items; ledgers = w.ledgers; places = w.places.entries } };
 
-    ghost invariant = { λ w. IsTendedWorld (record { programs = w.programs.now; runs = w.runs.items }) };
+    ghost invariant = { λ w. IsTendedWorld (record { programs = w.programs.now; runs = w.runs.items; ledgers = w.ledgers; places = w.places.entries }) };
 }
 
 impl<'v> World<'v> {
@@ -71,6 +77,8 @@ impl<'v> World<'v> {
             alloc,
             programs,
             runs: Vec::new(alloc),
+            ledgers: [Ledger::new(alloc), Ledger::new(alloc), Ledger::new(alloc)],
+            places: BTreeMap::new(alloc),
         })
     }
 
@@ -106,8 +114,8 @@ impl<'v> World<'v> {
                 self.start(*program, Context { bytes })
             }
             Event::Exec { run, answer } => self.execute(*run, *answer),
-            Event::Grow { kind: _, slot: _ } => Err(ApplyFault::Bad(ApplyCode::E9)),
-            Event::Reap { kind: _, slot: _ } => Err(ApplyFault::Bad(ApplyCode::E9)),
+            Event::Grow { kind, slot } => self.grow(*kind, *slot),
+            Event::Reap { kind, slot } => self.reap(*kind, *slot),
         }
     }
 
@@ -141,23 +149,66 @@ impl<'v> World<'v> {
         ensures unchanged { OnErr result (self.new ≡ self.old) }
         ensures programs { self.new.programs ≡ self.old.programs }
     {
-        if run >= self.runs.len() {
+        let number = run;
+        if number >= self.runs.len() {
             return Err(ApplyFault::Bad(ApplyCode::E1));
         }
-        let run = &mut self.runs[run];
+        let run = &mut self.runs[number];
         if run.exit().is_some() {
             return Err(ApplyFault::Bad(ApplyCode::E2));
         }
-        let fault = match (answer, run.wants()) {
-            (Answer::Slot(_), _) => Some(ApplyCode::E3), // none is home yet
-            (Answer::Null, None) => Some(ApplyCode::E5),
-            (Answer::Absent, Some(_)) => Some(ApplyCode::E6),
-            _ => None,
-        };
-        if let Some(code) = fault {
+        if let Some(code) = answer_fault(&self.places, answer, run.wants()) {
             return Err(ApplyFault::Bad(code));
         }
-        step_in::<Brand, Brand>(run, Blank::new(1), Blank::new(1));
+        let lent = lend(&mut self.places, answer, number, run.pc() as u16);
+        let freed = step_in::<Brand, Brand>(run, lent, Blank::new(1), Blank::new(1));
+        put(&mut self.places, freed);
+        Ok(())
+    }
+
+    // A slot joins the ledger of a kind.
+    fn grow(&mut self, kind: u8, slot: u32) -> Result<(), ApplyFault>
+        ensures done { OnOk result (IsDone (Grow kind slot) self.old self.new) }
+        ensures refused { IfErr result (IsRefused (Grow kind slot) self.old) }
+        ensures unchanged { OnErr result (self.new ≡ self.old) }
+        ensures programs { self.new.programs ≡ self.old.programs }
+    {
+        let number = kind as usize;
+        if number >= self.ledgers.len() {
+            return Err(ApplyFault::Bad(ApplyCode::E9));
+        }
+        if self.places.contains_key(&slot) {
+            return Err(ApplyFault::Bad(ApplyCode::E7));
+        }
+        let Ok(object) = Object::new(self.alloc, slot, kind) else {
+            return Err(ApplyFault::NoMemory);
+        };
+        if join(&mut self.ledgers, number, slot).is_err() {
+            return Err(ApplyFault::NoMemory);
+        }
+        if self.places.insert(slot, Place::Home(object)).is_err() {
+            part(&mut self.ledgers, number, slot); // as it was
+            return Err(ApplyFault::NoMemory);
+        }
+        Ok(())
+    }
+
+    // A slot leaves the ledger of a kind.
+    fn reap(&mut self, kind: u8, slot: u32) -> Result<(), ApplyFault>
+        ensures done { OnOk result (IsDone (Reap kind slot) self.old self.new) }
+        ensures refused { IfErr result (IsRefused (Reap kind slot) self.old) }
+        ensures unchanged { OnErr result (self.new ≡ self.old) }
+        ensures programs { self.new.programs ≡ self.old.programs }
+    {
+        let number = kind as usize;
+        if number >= self.ledgers.len() {
+            return Err(ApplyFault::Bad(ApplyCode::E9));
+        }
+        if !is_home_of(self.places.get(&slot), kind) {
+            return Err(ApplyFault::Bad(ApplyCode::E8));
+        }
+        part(&mut self.ledgers, number, slot);
+        self.places.remove(&slot);
         Ok(())
     }
 
@@ -205,14 +256,20 @@ impl<'v> World<'v> {
     pub fn owner(&self, slot: u32) -> Option<(usize, u16)>
         ensures { OfWorld self.now (λ w. result ≡ owner_in w slot) }
     {
-        None // no instruction is granted a slot yet
+        match self.places.get(&slot) {
+            Some(Place::Held { run, at }) => Some((*run, *at)),
+            _ => None,
+        }
     }
 
     /// The bytes of a slot; `None` where it is in no ledger.
     pub fn bytes(&self, slot: u32) -> Option<&[u8]>
         ensures { OfWorld self.now (λ w. option_map (λ b. b.now) result ≡ bytes_in w slot) }
     {
-        None // no slot joins a ledger yet
+        match self.places.get(&slot)? {
+            Place::Home(object) => Some(&object.bytes),
+            Place::Held { run, at } => Some(&self.runs[*run].object(*at)?.bytes),
+        }
     }
 
     /// The slots in the ledger of a kind, ascending; none for a number that is no kind.
@@ -220,21 +277,9 @@ impl<'v> World<'v> {
         ensures value { OfWorld self.now (λ w. result.now ≡ ledger_in w kind) }
         ensures ascending { IsAscending result.now }
     {
-        &[]
+        match self.ledgers.get(kind as usize) {
+            Some(ledger) => ledger.slots(),
+            None => &[],
+        }
     }
-}
-
-// One instruction of a run, with new ledgers for what it is answered. No slot is in a ledger yet, so there is no object to
-// lend.
-fn step_in<G: Ledger, N: Ledger>(run: &mut Run<Object>, grants: Blank, nulls: Blank)
-    requires names { (grants.name ≡ G.name) × (nulls.name ≡ N.name) }
-    requires parts { (grants.parts ≡ G.parts) × (nulls.parts ≡ N.parts) × (G.parts ≡ 1) × (N.parts ≡ 1) }
-    requires tended { IsTended run.old }
-    ensures next { IfNone run.old.exit (run_seen run.new ≡ stepped Null (run_seen run.old)) }
-    ensures tended { IsTended run.new }
-{
-    let (grants, grants_share) = grants.open::<G>();
-    let (nulls, nulls_share) = nulls.open::<N>();
-    let mut passing = Passing::<G, N>::new(grants, grants_share, nulls, nulls_share);
-    run.step(&mut passing);
 }

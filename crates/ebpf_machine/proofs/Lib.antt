@@ -40,7 +40,9 @@ pub mod Pointing
 pub mod Steps
 pub mod Asking
 pub mod Execs
+pub mod LedgerChanges
 pub mod NewSlots
+pub mod PartedSlots
 pub mod Replies
 pub mod Lone
 pub mod Runs

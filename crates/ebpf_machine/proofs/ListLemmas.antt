@@ -3,7 +3,7 @@
 use Rattle.std.proofs.Common.{◌≡◌, ◌≢◌, ◌⊎◌, inl, inr, ℕ, zero, suc, ◌+◌, ◌<◌, ◌≤◌, Bool, true, false, cond, not, ◌&&◌, ◌||◌, List, [], ◌∷◌, ◌++◌, length, map, filter, count_by, get_or, Option, Some, None, option_map, All, refl, sym, ap, ◌∙◌, subst, arith}
 use Rattle.std.specs.Prelude.{Contains, slice_get, slice_set}
 use Rattle.std.specs.List.{find, list_any}
-use Rattle.std.proofs.lemmas.Bool.{cases_eq, or_parts}
+use Rattle.std.proofs.lemmas.Bool.{cases_eq, or_parts, false_from_ne_true}
 use Rattle.std.proofs.lemmas.List.Elements.{All-contains, All-contains_itself, All-filter, All-set, Contains-get_or, filter_passes}
 use Rattle.std.proofs.lemmas.List.Folds.{list_any_at}
 use Rattle.std.proofs.lemmas.List.Filters.{sum_by-filter_both}
@@ -165,6 +165,11 @@ any_one {X} p (x ∷ xs) any = by (p x) refl any (λ h. any_one p xs h) where
   by : (t : Bool) → p x ≡ t → (t || list_any p xs) ≡ true → (list_any p xs ≡ true → (y : X) × Contains xs y × (p y ≡ true)) → (y : X) × Contains (x ∷ xs) y × (p y ≡ true)
   by true e h later = (x, Contains-head x xs, e)
   by false e h later = let rest = later h in (rest.0, Contains-tail x rest.0 xs rest.1, rest.2)
+
+pub none_from_count : {X : Type 0} (p : X → Bool) (xs : List X) → count_by p xs ≡ 0 → list_any p xs ≡ false
+none_from_count p xs none = false_from_ne_true (list_any p xs) (λ any. some (any_one p xs any)) where
+  some : (x : _) × Contains xs x × (p x ≡ true) → ⊥
+  some (x, (k, lt, e), passes) = absurd (omega (arith, none, counted p xs k x lt e passes))
 
 -- what a search finds: an element that passes, or that none does
 abbrev pub IsFound : {X : Type 0} → (X → Bool) → List X → Option X → Type 0

@@ -12,8 +12,8 @@ use Rattle.ebpf_machine.specs.declared.report.Reply.{Reply}
 use Rattle.ebpf_machine.specs.declared.report.Reply.TheVariants as reply
 use Rattle.ebpf_machine.specs.Effect.{Nothing, Write, Take, Give, Effect, Goes, Ends, Traps}
 use Rattle.ebpf_machine.specs.World.{Answer, Absent, Null, Slot, World, Running, Told, Status, Going, Exited, Trapped, is_in, is_in_ledger, held_by, holds_of, first_run}
-use Rattle.ebpf_machine.specs.Events.{Asking, Unasked, OfNoKind, OfKind, answer_fault, asking_of, exec}
-use Rattle.ebpf_machine.specs.Alone.{Alone, Fed, fed, fed_to, joined, advanced, alone_first, alone_by, alone_next, alone_after, outcome_of, outcome_alone}
+use Rattle.ebpf_machine.specs.Events.{Asking, Unasked, OfNoKind, OfKind, answer_fault, asking_of, joined, exec}
+use Rattle.ebpf_machine.specs.Alone.{Alone, Fed, fed, fed_to, advanced, alone_first, alone_by, alone_next, alone_after, outcome_of, outcome_alone}
 use Rattle.ebpf_machine.specs.View.{RunView, object_in, view_of, view_in, done_by, effect_of_view, stepped}
 use Rattle.ebpf_machine.specs.Step.{reply_of, asking_in}
 use Rattle.ebpf_machine.specs.Sound.{IsOwned, IsSound, IsAlone, IsWellStated}

@@ -1,11 +1,11 @@
 -- The run alone: one run in a world of its own, fed with replies until it ends.
-use Rattle.std.specs.Prelude.{ℕ, zero, suc, max, nat_lt, if◌then◌else◌, List, [], ◌∷◌, length, map, Option, Some, None, Result, Ok, Err, slice_get, slice_set}
+use Rattle.std.specs.Prelude.{ℕ, zero, suc, max, List, [], ◌∷◌, length, map, Option, Some, None, Result, Ok, Err, slice_get}
 use Rattle.ebpf_insn.specs.Program.{instructions}
 use Rattle.ebpf_verify.specs.Subject.{Subject}
 use Rattle.ebpf_machine.specs.declared.report.Reply.{Reply}
 use Rattle.ebpf_machine.specs.declared.report.Reply.TheVariants.{Granted}
-use Rattle.ebpf_machine.specs.World.{World, Running, Status, Going, Answer, Absent, Null, Slot, kinds_of, image_at, ledger_of, first_run, holds_of}
-use Rattle.ebpf_machine.specs.Events.{Illegal, Asking, Unasked, OfKind, asking_of, with_bytes, exec}
+use Rattle.ebpf_machine.specs.World.{World, Running, Status, Going, Answer, Absent, Null, Slot, kinds_of, first_run, holds_of}
+use Rattle.ebpf_machine.specs.Events.{Illegal, Asking, Unasked, OfKind, asking_of, joined, exec}
 
 -- the world of one run, and the most objects that it held at one time
 pub record Alone : Type 0 where
@@ -18,15 +18,6 @@ alone_first subject context = record {
   world = record { kinds = kinds_of subject.rows; ledgers = map (λ row. []) subject.rows; owners = []; bytes = λ slot. []; runs = first_run subject context ∷ [] };
   peak = 0;
 }
-
--- a slot in its place in an ascending ledger
-unfoldable pub with_slot : ℕ → List ℕ → List ℕ
-with_slot slot [] = slot ∷ []
-with_slot slot (s ∷ slots) = if nat_lt s slot then s ∷ with_slot slot slots else slot ∷ s ∷ slots
-
--- a slot joins the ledger of a kind, with its image
-abbrev pub joined : ℕ → ℕ → World → World
-joined kind slot w = with_bytes slot (image_at w.kinds kind) (record w { ledgers = slice_set w.ledgers kind (with_slot slot (ledger_of w kind)) })
 
 -- the world before an instruction, and the answer to it
 pub record Fed : Type 0 where

@@ -1,4 +1,4 @@
--- One event of the world: a run starts, or does the instruction at its pc.
+-- One event of the world: a run starts, or does the instruction at its pc; a slot joins a ledger, or leaves it.
 use Rattle.std.specs.Prelude.{ℕ, pos, ◌+◌, ◌++◌, ◌==◌, Bool, true, false, not, ◌&&◌, nat_le, nat_lt, List, [], ◌∷◌, length, filter, if◌then◌else◌, Option, Some, None, Result, Ok, Err, slice_get, slice_set}
 use Rattle.ebpf_insn.specs.declared.insn.Insn.{Insn}
 use Rattle.ebpf_insn.specs.declared.insn.Insn.TheVariants as insn
@@ -17,7 +17,7 @@ use Rattle.ebpf_machine.specs.declared.report.Reply.TheVariants as reply
 use Rattle.ebpf_machine.specs.Bytes.{patched}
 use Rattle.ebpf_machine.specs.Values.{Trap, TooManyObjects, Frame, read}
 use Rattle.ebpf_machine.specs.Effect.{Act, Nothing, Write, Take, Give, Effect, Goes, Ends, Traps, effect_at, with_value}
-use Rattle.ebpf_machine.specs.World.{Name, World, Running, Status, Going, Exited, Trapped, Holder, Run, Answer, Absent, Slot, is_in, is_home, is_call, ledger_of, kind_in, image_at, holds_of, around, first_run}
+use Rattle.ebpf_machine.specs.World.{Name, World, Running, Status, Going, Exited, Trapped, Holder, Run, Answer, Absent, Slot, is_in, is_in_ledger, is_home, is_call, ledger_of, kind_in, image_at, holds_of, around, first_run}
 
 -- why an event is not legal. The causes are tested in this order, but for an event that names a kind: there an unknown one
 -- goes before what is wrong with the slot.
@@ -160,3 +160,37 @@ exec_by (Some r) w run answer = exec_going r.status w run answer r
 
 abbrev pub exec : World → ℕ → Answer → Result World Illegal
 exec w run answer = exec_by (slice_get w.runs run) w run answer
+
+-- ---- Grow: a slot that is in no ledger joins the ledger of a kind, with its image
+
+-- the kind has these slots
+abbrev pub with_ledger : ℕ → List ℕ → World → World
+with_ledger kind slots w = record w { ledgers = slice_set w.ledgers kind slots }
+
+-- a slot in its place in an ascending ledger
+unfoldable pub with_slot : ℕ → List ℕ → List ℕ
+with_slot slot [] = slot ∷ []
+with_slot slot (s ∷ slots) = if nat_lt s slot then s ∷ with_slot slot slots else slot ∷ s ∷ slots
+
+abbrev pub joined : ℕ → ℕ → World → World
+joined kind slot w = with_bytes slot (image_at w.kinds kind) (with_ledger kind (with_slot slot (ledger_of w kind)) w)
+
+abbrev pub growing : ℕ → ℕ → World → Result World Illegal
+growing kind slot w =
+    if not (nat_lt kind (length w.kinds)) then Err NoSuchProgramOrKind else
+    if is_in_ledger w slot then Err SlotInLedger else
+    Ok (joined kind slot w)
+
+-- ---- Reap: a slot that is home leaves the ledger of its kind
+
+abbrev pub without_slot : ℕ → List ℕ → List ℕ
+without_slot slot slots = filter (λ s. not (s == slot)) slots
+
+abbrev pub parted : ℕ → ℕ → World → World
+parted kind slot w = with_ledger kind (without_slot slot (ledger_of w kind)) w
+
+abbrev pub reaping : ℕ → ℕ → World → Result World Illegal
+reaping kind slot w =
+    if not (nat_lt kind (length w.kinds)) then Err NoSuchProgramOrKind else
+    if is_home w slot && is_in slot (ledger_of w kind) then Ok (parted kind slot w) else
+    Err SlotNotReapable

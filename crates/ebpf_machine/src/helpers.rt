@@ -36,7 +36,7 @@ pub(crate) fn call<O: Objects>(parts: &mut Parts<'_, O::Held>, helper: Helper, o
     match helper {
         Helper::New => ask(parts, objects),
         Helper::Free => give_back(parts, objects),
-        Helper::Emit => emit(parts, objects),
+        Helper::Emit => emit(parts, number(parts.registers[1])),
     }
 }
 
@@ -97,17 +97,15 @@ fn give_back<O: Objects>(parts: &mut Parts<'_, O::Held>, objects: &mut O)
     answer(parts, Value::Number(0));
 }
 
-// Adds the number in r1 to the output.
-fn emit<O: Objects>(parts: &mut Parts<'_, O::Held>, objects: &mut O)
-    requires kinds { O.kinds ≡ kinds_of parts.old.verified.now.rows }
-    requires ready { IsReady (record { is_out = O.is_out; kind_of = O.kind_of; slot_of = O.slot_of; bytes_of = O.bytes_of; can_grant = O.can_grant; can_refuse = O.can_refuse; grants = O.grants; nulls = O.nulls; outs = O.outs }) (state_of parts.old) objects.old }
-    requires at { (number : ℤ) × (insn_at parts.old.verified.now.program parts.old.pc ≡ Some (Insn.Call number)) × (helper_of number ≡ Some Helper.Emit) }
+// Adds a number to the output, and goes on behind the call.
+fn emit<H>(parts: &mut Parts<'_, H>, emitted: u64)
+    requires output { length parts.old.output.items < length (instructions parts.old.verified.now.program) }
+    requires few { parts.old.executed < MAX_SLOTS }
+    requires inside { parts.old.pc < MAX_SLOTS }
     requires room { HasCapacity parts.old }
-    ensures advanced { IsAdvanced (record { is_out = O.is_out; kind_of = O.kind_of; slot_of = O.slot_of; bytes_of = O.bytes_of; can_grant = O.can_grant; can_refuse = O.can_refuse; grants = O.grants; nulls = O.nulls; outs = O.outs }) (state_of parts.old) (state_of parts.new) objects.old objects.new }
+    ensures state { state_of parts.new ≡ record (state_of parts.old) { output = parts.old.output.items ++ emitted ∷ []; pc = parts.old.pc + 1; registers = (answered (frame_with parts.old.registers [] []) (Value.Number 0)).registers; executed = parts.old.executed + 1 } }
     ensures room { HasCapacity parts.new }
-    ensures store { objects.new ≡ objects.old }
 {
-    let emitted = number(parts.registers[1]);
     parts.output.push_reserved(emitted);
     answer(parts, Value::Number(0));
 }

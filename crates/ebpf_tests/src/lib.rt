@@ -27,6 +27,8 @@ mod machine;
 #[cfg(test)]
 mod memory;
 #[cfg(test)]
+mod objects;
+#[cfg(test)]
 mod one;
 #[cfg(test)]
 mod programs;

@@ -11,12 +11,13 @@ program seven 0 0 b7000000070000009500000000000000
 ";
 
 #[test]
-fn a_move_asks_for_no_object(rt: HostRuntime) {
+fn a_move_asks_for_no_object_and_holds_none(rt: HostRuntime) {
     let (programs, _) = read(&rt, rt.alloc(), SEVEN);
     let verified = programs.first().expect(&rt, "there is a program");
     let run = Run::<u32>::start(rt.alloc(), verified, Vec::new(rt.alloc()));
     let run = run.expect(&rt, "it starts");
     holds(&rt, "no kind", run.wants().is_none());
+    holds(&rt, "no object", run.object(0).is_none());
 }
 
 #[test]

@@ -147,8 +147,8 @@ of no run | E1 | exec 2
 of a run that has ended | E2 | exec 0
 with a slot of no ledger | E3 | exec 1 0
 with null unasked | E5 | exec 1 null
-a slot joins | E9 | grow 1 0
-a slot leaves | E9 | reap 1 0
+a slot that is nowhere leaves | E8 | reap 1 0
+a slot joins no kind | E9 | grow 3 0
 the context is too long | E10 | start seven 09
 ";
 

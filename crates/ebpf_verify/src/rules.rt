@@ -1,8 +1,10 @@
 //! The rules of the instructions: what refuses one, or else what it writes.
 
-ghost use Rattle.std.specs.Prelude.{◌≡◌, OnOk, IfOk, IfErr, IsSome, Some, None};
+ghost use Rattle.std.specs.Prelude.{◌≡◌, ◌≤◌, OnOk, IfOk, IfErr, IsSome, Some, None};
+ghost use Rattle.ebpf_state.specs.declared.value.Abs.{Abs};
 ghost use Rattle.ebpf_state.specs.Abstract.{IsProper};
-ghost use Rattle.ebpf_state.specs.States.{with_register};
+ghost use Rattle.ebpf_state.specs.States.{register_of, with_register};
+ghost use Rattle.ebpf_verify.specs.Operations.{unary_refusal};
 ghost use Rattle.ebpf_verify.specs.Rules.{exit_refusal, refusal, after_operation};
 
 use crate::branches::operand;
@@ -12,6 +14,7 @@ use crate::memory::{Load, load_value};
 use crate::operations::{alu_value, constant_value, one_number};
 use ebpf_insn::insn::Insn;
 use ebpf_insn::register::Reg;
+use ebpf_range::range::Range;
 use ebpf_range::results::{neg, sext, swap};
 use ebpf_state::kinds::KindRow;
 use ebpf_state::state::State;
@@ -46,17 +49,10 @@ pub(crate) fn operation(
             bits,
             dst,
             src,
-        } => {
-            let a = one_number(state.reg(src), dst)?;
-            Ok((dst, Abs::Num(sext(width, bits, a))))
-        }
-        Insn::Neg { width, dst } => {
-            let a = one_number(state.reg(dst), dst)?;
-            Ok((dst, Abs::Num(neg(width, a))))
-        }
+        } => Ok((dst, Abs::Num(sext(width, bits, number(state, src, dst)?)))),
+        Insn::Neg { width, dst } => Ok((dst, Abs::Num(neg(width, number(state, dst, dst)?)))),
         Insn::Swap { order, bits, dst } => {
-            let a = one_number(state.reg(dst), dst)?;
-            Ok((dst, Abs::Num(swap(order, bits, a))))
+            Ok((dst, Abs::Num(swap(order, bits, number(state, dst, dst)?))))
         }
         Insn::Wide { dst, value } => Ok((dst, constant_value(value, dst)?)),
         Insn::Load {
@@ -72,6 +68,16 @@ pub(crate) fn operation(
         }
         _ => unreachable!(),
     }
+}
+
+// The number that `movsx`, `neg` and `end` read, or the first code that refuses them.
+fn number(state: &State, src: Reg, dst: Reg) -> Result<Range, VerifyCode>
+    ensures fine { OnOk result (unary_refusal (register_of state.now src) dst ≡ None) }
+    ensures value { IfOk result (λ a. register_of state.now src ≡ Abs.Num a) }
+    ensures ordered { IfOk result (λ a. a.lo ≤ a.hi) }
+    ensures refused { IfErr result (λ code. unary_refusal (register_of state.now src) dst ≡ Some code) }
+{
+    one_number(state.reg(src), dst)
 }
 
 /// `exit` returns a number, with no object held (RFC 9669, section 4.3).

@@ -1,0 +1,214 @@
+-- A run that is kept does the instruction at its pc: it is the event of the world that is shown.
+use Rattle.std.proofs.Common.{◌≡◌, ◌≢◌, ◌⊎◌, inl, inr, ℕ, Bool, true, false, cond, List, length, get_or, Option, Some, None, Ok, Err, refl, sym, ap, ◌∙◌, subst, length-set}
+use Rattle.std.specs.Prelude.{slice_get, slice_set, option_map, IfNone, ◌==◌}
+use Rattle.std.proofs.lemmas.List.Elements.{All-map}
+use Rattle.ebpf_machine.specs.declared.holding.Holding.{Holding}
+use Rattle.ebpf_machine.specs.World.{Name, Kind, World, Running, Going, Exited, kinds_of, image_at}
+use Rattle.ebpf_machine.specs.World as world
+use Rattle.ebpf_machine.specs.Events.{Illegal, NoSuchRun, RunEnded, Asking, answer_fault, asking_of, exec}
+use Rattle.ebpf_machine.specs.Kinds.{known_kinds}
+use Rattle.ebpf_machine.specs.View.{ObjectView, RunView, view_of, view_in, slots_in, effect_of_view}
+use Rattle.ebpf_machine.specs.RunState.{RunState, object_seen, status_of}
+use Rattle.ebpf_machine.specs.Step.{MayAnswer, asking_in, wanted}
+use Rattle.ebpf_machine.specs.Advance.{slots_after}
+use Rattle.ebpf_machine.specs.Sound.{AreSized, IsSound}
+use Rattle.ebpf_machine.proofs.ListLemmas.{get_set_same, get_set_other}
+use Rattle.ebpf_machine.proofs.Execs.{IsNextWorld, next_world}
+use Rattle.ebpf_core.specs.declared.event.Answer.{Answer}
+use Rattle.ebpf_core.specs.declared.event.Answer.TheVariants.{Absent, Null, Slot}
+use Rattle.ebpf_core.specs.declared.fault.ApplyCode.{ApplyCode}
+use Rattle.ebpf_core.specs.declared.fault.ApplyCode.TheVariants.{E4}
+use Rattle.ebpf_core.specs.declared.passing.Object.{Object}
+use Rattle.ebpf_core.specs.declared.place.Place.{Place}
+use Rattle.ebpf_core.specs.declared.place.Place.TheVariants.{Home, Held}
+use Rattle.ebpf_core.specs.Events.{answer_of}
+use Rattle.ebpf_core.specs.Faults.{code_of}
+use Rattle.ebpf_core.specs.Passing.{IsOut, Lends, LendsNone}
+use Rattle.ebpf_core.specs.Places.{Places, place_at, object_home, lent_by}
+use Rattle.ebpf_core.specs.Shown.{WorldState, Shows, IsTended, IsTendedWorld, ArePlaced, IsPlaced, run_seen, slots_of}
+use Rattle.ebpf_core.specs.Stepping.{slot_code, code_by, IsStepped}
+use Rattle.ebpf_core.proofs.LegalAnswers.{asked_as, asks_as, code_at}
+use Rattle.ebpf_core.proofs.Placing.{answers_from}
+use Rattle.ebpf_core.proofs.Runs.{at_number, run_shown, none_shown, same_number}
+
+-- the objects of a run that is kept have the bytes of their kinds
+pub sized_tended : (r : RunState Object) → IsTended r → AreSized (run_seen r)
+sized_tended r h = All-map IsLong (object_seen (λ o. o.bytes.items)) r.held (λ k d lt. long (get_or r.held k d) (h.out.out k d lt)) where
+  IsLong : ObjectView → Type 0
+  IsLong o = length o.bytes ≡ length (image_at (kinds_of r.subject.rows) o.kind)
+
+  long : (x : Holding Object) → IsOut None x.object × (x.object.kind ≡ x.kind) → length x.object.bytes.items ≡ length (image_at (kinds_of r.subject.rows) x.kind)
+  long x (out, kind) = out.size ∙ ap (λ (k : ℕ). length (image_at known_kinds k)) kind ∙ ap (λ (ks : List Kind). length (image_at ks x.kind)) (sym h.kinds)
+
+-- ---- the answer that the store gives is the event's
+
+-- an object at home is in its slot
+abbrev AreTheirs : Places → Type 0
+AreTheirs places = (slot : ℕ) (o : Object) → place_at places slot ≡ Some (Home o) → o.slot ≡ slot
+
+answer_given : (places : Places) (answer : Answer) (wants : Option ℕ) (given : world.Answer) → AreTheirs places → code_by places answer wants ≡ None → MayAnswer (Lends (lent_by answer places)) (LendsNone (lent_by answer places)) (asked_as wants) given → given ≡ answer_of answer
+answer_given places Absent None given theirs fine may = may
+answer_given places Absent (Some kind) given theirs fine may = absurd (cc)
+answer_given places Null None given theirs fine may = absurd (cc)
+answer_given places Null (Some kind) world.Absent theirs fine may = absurd may
+answer_given places Null (Some kind) world.Null theirs fine may = refl
+answer_given places Null (Some kind) (world.Slot slot) theirs fine may = absurd may
+answer_given places (Slot slot) wants given theirs fine may = by_place (place_at places slot) wants refl fine may where
+  of_kind : (o : Object) (kind : ℕ) (given : world.Answer) (t : Bool) → (o.kind == kind) ≡ t → place_at places slot ≡ Some (Home o) → cond t None (Some E4) ≡ None → MayAnswer (Lends (Some o)) (LendsNone (Some o)) (asked_as (Some kind)) given → given ≡ world.Slot slot
+  of_kind o kind given false is at fine may = absurd (cc)
+  of_kind o kind world.Absent true is at fine may = absurd may
+  of_kind o kind world.Null true is at fine may = absurd (cc)
+  of_kind o kind (world.Slot s) true is at fine may = ap world.Slot (sym may.1 ∙ theirs slot o at)
+
+  by_place : (p : Option Place) (wants : Option ℕ) → place_at places slot ≡ p → slot_code p wants ≡ None → MayAnswer (Lends (object_home p)) (LendsNone (object_home p)) (asked_as wants) given → given ≡ world.Slot slot
+  by_place None wants at fine may = absurd (cc)
+  by_place (Some (Held run place)) wants at fine may = absurd (cc)
+  by_place (Some (Home o)) None at fine may = absurd (cc)
+  by_place (Some (Home o)) (Some kind) at fine may = of_kind o kind given (o.kind == kind) refl at fine may
+
+-- ---- an instruction of a run that is kept
+
+-- a run that goes on is done one instruction of, with an answer that is legal
+pub record IsInstruction (kept : WorldState) (k : ℕ) (answer : Answer) (r t : RunState Object) (freed : Option Object) : Type 0 where
+  pub tended : IsTendedWorld kept
+  pub run : IsTended r
+  pub at : slice_get kept.runs k ≡ Some r
+  pub going : r.exit ≡ None
+  pub fine : code_by kept.places answer (wanted (asking_in (run_seen r))) ≡ None
+  pub step : IsStepped (lent_by answer kept.places) freed r t
+
+going_seen : (r : RunState Object) → r.exit ≡ None → (run_seen r).status ≡ Going
+going_seen r going = ap status_of going
+
+pub answered : (kept : WorldState) (k : ℕ) (answer : Answer) (r t : RunState Object) (freed : Option Object) (i : IsInstruction kept k answer r t freed) → i.step.answer ≡ answer_of answer
+answered kept k answer r t freed i =
+    let asks = asks_as (run_seen r) i.run.sound (sized_tended r i.run) (going_seen r i.going) in
+    let may = subst (λ (asked : Asking). MayAnswer (Lends (lent_by answer kept.places)) (LendsNone (lent_by answer kept.places)) asked i.step.answer) asks i.step.may in
+    answer_given kept.places answer (wanted (asking_in (run_seen r))) i.step.answer theirs i.fine may
+  where
+    theirs : AreTheirs kept.places
+    theirs slot o at = (subst (IsPlaced kept slot) at (i.tended.placed.each slot)).same
+
+-- so it is, by what the tests and the step told
+pub instruction : (kept : WorldState) (k : ℕ) (answer : Answer) (r t : RunState Object) (lent freed : Option Object) (wants : Option ℕ) (fault : Option ApplyCode) → IsTendedWorld kept → slice_get kept.runs k ≡ Some r → r.exit ≡ None
+    → fault ≡ code_by kept.places answer wants → fault ≡ None → wants ≡ wanted (asking_in (run_seen r)) → lent ≡ lent_by answer kept.places → IfNone r.exit (IsStepped lent freed r t) → IsInstruction kept k answer r t freed
+instruction kept k answer r t lent freed wants fault tended at goes code none wanted_is lent_is step = record {
+  tended = tended;
+  run = at_number IsTended kept.runs k r tended.runs at;
+  at = at;
+  going = goes;
+  fine = ap (code_by kept.places answer) (sym wanted_is) ∙ sym code ∙ none;
+  step = subst (λ (l : Option Object). IsStepped l freed r t) lent_is (then_going r.exit goes step);
+}
+  where
+    then_going : (o : Option ℕ) → o ≡ None → IfNone o (IsStepped lent freed r t) → IsStepped lent freed r t
+    then_going None e h = h
+    then_going (Some n) e h = absurd (cc)
+
+-- ---- why an event is not legal
+
+-- a run that goes on, in the world that shows it, and why an answer to it is not legal there
+pub record IsAt (w : World) (places : Places) (k : ℕ) (r : RunState Object) : Type 0 where
+  pub run : Running
+  pub there : slice_get w.runs k ≡ Some run
+  pub seen : view_of w k run ≡ run_seen r
+  pub goes : run.status ≡ Going
+  pub sound : IsSound (view_of w k run)
+  pub code : (answer : Answer) → option_map code_of (answer_fault w (asking_of w run) (answer_of answer)) ≡ code_by places answer (wanted (asking_in (run_seen r)))
+
+pub going_at : (w : World) (kept : WorldState) (k : ℕ) (r : RunState Object) → Shows w kept → ArePlaced kept → slice_get kept.runs k ≡ Some r → IsSound (run_seen r) → r.exit ≡ None → IsAt w kept.places k r
+going_at w kept k r h placed at sound going =
+    let run = run_shown w kept k r h at in
+    let goes : run.0.status ≡ Going = ap (λ (v : RunView). v.status) run.2 ∙ going_seen r going in
+    let here = subst IsSound (sym run.2) sound in
+    record {
+      run = run.0;
+      there = run.1;
+      seen = run.2;
+      goes = goes;
+      sound = here;
+      code = λ answer. code_at w k run.0 kept.places answer h.owned (answers_from w kept answer h placed) run.1 here goes ∙ ap (λ (v : RunView). code_by kept.places answer (wanted (asking_in v))) run.2;
+    }
+
+-- there is no such run
+pub executed_none : (w : World) (kept : WorldState) (k : ℕ) (answer : world.Answer) → Shows w kept → slice_get kept.runs k ≡ None → exec w k answer ≡ Err NoSuchRun
+executed_none w kept k answer h at = rw (none_shown w kept k h at) refl
+
+-- the run has ended
+pub executed_ended : (w : World) (kept : WorldState) (k n : ℕ) (answer : world.Answer) (r : RunState Object) → Shows w kept → slice_get kept.runs k ≡ Some r → r.exit ≡ Some n → exec w k answer ≡ Err RunEnded
+executed_ended w kept k n answer r h at ended =
+    let run = run_shown w kept k r h at in
+    let exited : run.0.status ≡ Exited n = ap (λ (v : RunView). v.status) run.2 ∙ ap status_of ended in
+    rw (run.1, exited) refl
+
+-- the answer is not one that the run may get
+pub executed_bad : (w : World) (kept : WorldState) (k : ℕ) (answer : Answer) (code : ApplyCode) (r : RunState Object) → Shows w kept → ArePlaced kept → slice_get kept.runs k ≡ Some r → IsSound (run_seen r) → r.exit ≡ None → code_by kept.places answer (wanted (asking_in (run_seen r))) ≡ Some code
+    → (why : Illegal) × (exec w k (answer_of answer) ≡ Err why) × (code ≡ code_of why)
+executed_bad w kept k answer code r h placed at sound going bad = by (answer_fault w (asking_of w here.run) (answer_of answer)) refl where
+  here : IsAt w kept.places k r
+  here = going_at w kept k r h placed at sound going
+
+  by : (o : Option Illegal) → answer_fault w (asking_of w here.run) (answer_of answer) ≡ o → (why : Illegal) × (exec w k (answer_of answer) ≡ Err why) × (code ≡ code_of why)
+  by None fault = let none = ap (option_map code_of) (sym fault) ∙ here.code answer ∙ bad in absurd (cc)
+  by (Some why) fault = let same = ap (option_map code_of) (sym fault) ∙ here.code answer ∙ bad in (why, rw (here.there, here.goes, fault) refl, cc)
+
+-- ---- the world after it
+
+pub record IsAfter (w : World) (kept : WorldState) (k : ℕ) (answer : Answer) (r t : RunState Object) : Type 0 where
+  pub after : World
+  pub legal : exec w k (answer_of answer) ≡ Ok after
+  pub shows : (places : Places) → Shows after (record kept { runs = slice_set kept.runs k t; places = places })
+  pub slots : slots_of t ≡ slots_after (effect_of_view (run_seen r)) (answer_of answer) r.subject.decl.held r.pc (slots_of r)
+
+no_fault : (o : Option Illegal) → option_map code_of o ≡ None → o ≡ None
+no_fault None e = refl
+no_fault (Some why) e = absurd (cc)
+
+pub executed_after : (w : World) (kept : WorldState) (k : ℕ) (answer : Answer) (r t : RunState Object) (freed : Option Object) → Shows w kept → IsInstruction kept k answer r t freed → IsAfter w kept k answer r t
+executed_after w kept k answer r t freed h i = record { after = after; legal = next.1.legal; shows = shows; slots = slots } where
+  here : IsAt w kept.places k r
+  here = going_at w kept k r h i.tended.placed i.at i.run.sound i.going
+
+  next : (after : World) × IsNextWorld w k here.run (answer_of answer) after
+  next = next_world w k here.run (answer_of answer) h.owned here.there here.sound here.goes (no_fault (answer_fault w (asking_of w here.run) (answer_of answer)) (here.code answer ∙ i.fine))
+
+  after : World
+  after = next.0
+
+  -- what the step says of the world that is shown
+  event : (view_in after k ≡ Some (run_seen t)) × (slots_in after k ≡ slots_of t)
+  event =
+      let view : view_in w k ≡ Some (run_seen r) = h.views k ∙ ap (option_map run_seen) i.at in
+      let given = answered kept k answer r t freed i in
+      i.step.event w after k h.owned view (h.slots k r i.at) (ap (exec w k) given ∙ next.1.legal)
+
+  slots : slots_of t ≡ slots_after (effect_of_view (run_seen r)) (answer_of answer) r.subject.decl.held r.pc (slots_of r)
+  slots =
+      let subject = ap (λ (v : RunView). slots_after (effect_of_view v) (answer_of answer) v.subject.decl.held v.pc (slots_in w k)) here.seen in
+      sym event.1 ∙ next.1.slots ∙ subject ∙ ap (slots_after (effect_of_view (run_seen r)) (answer_of answer) r.subject.decl.held r.pc) (h.slots k r i.at)
+
+  runs : List (RunState Object)
+  runs = slice_set kept.runs k t
+
+  view_at : (j : ℕ) → (j ≡ k) ⊎ (j ≢ k) → view_in after j ≡ option_map run_seen (slice_get runs j)
+  view_at j (inl same) = subst (λ (n : ℕ). view_in after n ≡ option_map run_seen (slice_get runs n)) (sym same) (event.0 ∙ sym (ap (option_map run_seen) (get_set_same kept.runs k r t i.at)))
+  view_at j (inr ne) = next.1.others j ne ∙ (h.views j ∙ sym (ap (option_map run_seen) (get_set_other kept.runs k j t ne)))
+
+  slots_at : (j : ℕ) (x : RunState Object) → slice_get runs j ≡ Some x → (j ≡ k) ⊎ (j ≢ k) → slots_in after j ≡ slots_of x
+  slots_at j x there (inl same) =
+      let now : t ≡ x = some_same (sym (get_set_same kept.runs k r t i.at) ∙ ap (slice_get runs) (sym same) ∙ there) in
+      ap (slots_in after) same ∙ event.1 ∙ ap slots_of now
+    where
+      some_same : {a b : RunState Object} → Some a ≡ Some b → a ≡ b
+      some_same e = cc
+  slots_at j x there (inr ne) = next.1.others_slots j ne ∙ h.slots j x (sym (get_set_other kept.runs k j t ne) ∙ there)
+
+  shows : (places : Places) → Shows after (record kept { runs = runs; places = places })
+  shows places = record {
+    views = λ j. view_at j (same_number j k);
+    slots = λ j x there. slots_at j x there (same_number j k);
+    as_many = next.1.as_many ∙ (h.as_many ∙ sym (length-set kept.runs k t));
+    kinds = next.1.kinds ∙ h.kinds;
+    ledgers = next.1.ledgers ∙ h.ledgers;
+    owned = next.1.owned;
+  }

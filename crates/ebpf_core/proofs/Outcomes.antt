@@ -1,0 +1,159 @@
+-- What one instruction does to the objects of a run: nothing, or it is granted one, or it frees one.
+use Rattle.std.proofs.Common.{◌≡◌, inl, inr, ℕ, zero, suc, ◌+◌, ◌<◌, Bool, true, false, cond, not, List, [], ◌∷◌, ◌++◌, length, map, filter, count_by, Option, Some, None, Ok, refl, sym, ap, ◌∙◌, subst, arith}
+use Rattle.std.specs.Prelude.{Contains, ◌==◌, nat_le, if◌then◌else◌}
+use Rattle.std.specs.List.{find}
+use Rattle.std.proofs.lemmas.Bool.{eqb-true}
+use Rattle.std.proofs.lemmas.Bool.Decides.{nat_tests}
+use Rattle.std.proofs.lemmas.List.Sums.{sum_by-cons}
+use Rattle.ebpf_insn.specs.Program.{insn_at}
+use Rattle.ebpf_machine.specs.Bytes.{patched}
+use Rattle.ebpf_machine.specs.Values.{Frame}
+use Rattle.ebpf_machine.specs.Effect.{Found, Act, Nothing, Write, Take, Give}
+use Rattle.ebpf_machine.specs.World.{Name, Going}
+use Rattle.ebpf_machine.specs.World as world
+use Rattle.ebpf_machine.specs.Events.{Unasked, OfKind}
+use Rattle.ebpf_machine.specs.View.{ObjectView, RunView, found_in, object_at, patched_at, around_view, effect_of_view, acted, stepped}
+use Rattle.ebpf_machine.specs.Step.{reply_of, asking_in}
+use Rattle.ebpf_machine.specs.Advance.{slots_acted, slots_after}
+use Rattle.ebpf_machine.specs.Sound.{IsSound, AreSized}
+use Rattle.ebpf_machine.proofs.Asking.{asked_by, asked_goes, asked_ends, there_goes}
+use Rattle.ebpf_machine.proofs.ListLemmas.{IsFound, find_is, count_by-filter-le, counted_once, counted_less}
+use Rattle.ebpf_machine.proofs.Steps.{GoesOn, IsNext, next_of, stepped_goes, stepped_ends}
+
+-- how many of the objects are of a kind
+abbrev pub of_kind : ℕ → List ObjectView → ℕ
+of_kind kind objects = count_by (λ o. kind == o.kind) objects
+
+-- the objects are as many of each kind, in the same slots; a slot that is answered was not asked for
+pub record IsKept (v u : RunView) (answer : world.Answer) (slots now : List Name) : Type 0 where
+  pub unasked : (slot : ℕ) → answer ≡ world.Slot slot → asking_in v ≡ Unasked
+  pub slots_are : now ≡ slots
+  pub kinds : (kind : ℕ) → of_kind kind u.objects ≡ of_kind kind v.objects
+
+-- one more, of the kind that was asked for, by the call at the pc
+pub record IsGranted (v u : RunView) (answer : world.Answer) (slots now : List Name) : Type 0 where
+  pub slot : ℕ
+  pub new : ℕ
+  pub answered : answer ≡ world.Slot slot
+  pub asked : asking_in v ≡ OfKind new
+  pub slots_are : now ≡ slots ++ (slot, v.pc) ∷ []
+  pub kinds : (kind : ℕ) → of_kind kind u.objects ≡ of_kind kind v.objects + (if kind == new then 1 else 0)
+
+-- one is no more there
+pub record IsFreed (v u : RunView) (slots now : List Name) : Type 0 where
+  pub unasked : asking_in v ≡ Unasked
+  pub object : ObjectView
+  pub there : Contains v.objects object
+  pub slots_are : now ≡ filter (λ n. not (n.1 == object.call)) slots
+  pub fewer : of_kind object.kind u.objects < of_kind object.kind v.objects
+
+pub data IsOutcome (v u : RunView) (answer : world.Answer) (slots now : List Name) : Type 0 where
+  Kept : IsKept v u answer slots now → IsOutcome v u answer slots now
+  Granted : IsGranted v u answer slots now → IsOutcome v u answer slots now
+  Freed : IsFreed v u slots now → IsOutcome v u answer slots now
+
+-- ---- how many are of a kind
+
+counted : {X : Type 0} (p : X → Bool) (x : X) (xs : List X) → count_by p (x ∷ xs) ≡ cond (p x) 1 0 + count_by p xs
+counted p x xs = sum_by-cons (λ y. cond (p y) 1 0) x xs
+
+-- bytes that are written change no kind
+kinds_patched : (kind call at : ℕ) (bytes : List ℕ) (objects : List ObjectView) → of_kind kind (map (patched_at call at bytes) objects) ≡ of_kind kind objects
+kinds_patched kind call at bytes [] = refl
+kinds_patched kind call at bytes (o ∷ objects) =
+    let p : ObjectView → Bool = λ x. kind == x.kind in
+    let here = counted p (patched_at call at bytes o) (map (patched_at call at bytes) objects) in
+    let before = counted p o objects in
+    let one = ap (λ (k : ℕ). cond {A = ℕ} (kind == k) 1 0) (kind_patched (o.call == call) o (patched o.bytes at bytes)) in
+    omega (arith, here, before, one, kinds_patched kind call at bytes objects)
+  where
+    kind_patched : (t : Bool) (o : ObjectView) (now : List ℕ) → (cond t (record o { bytes = now }) o).kind ≡ o.kind
+    kind_patched true o now = refl
+    kind_patched false o now = refl
+
+kinds_added : (kind : ℕ) (objects : List ObjectView) (o : ObjectView) → of_kind kind (objects ++ o ∷ []) ≡ of_kind kind objects + cond (kind == o.kind) 1 0
+kinds_added kind [] o = omega (arith, counted (λ (x : ObjectView). kind == x.kind) o [])
+kinds_added kind (x ∷ objects) o =
+    let here = counted (λ (y : ObjectView). kind == y.kind) x (objects ++ o ∷ []) in
+    let before = counted (λ (y : ObjectView). kind == y.kind) x objects in
+    omega (arith, here, before, kinds_added kind objects o)
+
+-- what is dropped is no more counted
+fewer_dropped : {X : Type 0} (p q : X → Bool) (xs : List X) (x : X) → Contains xs x → p x ≡ true → q x ≡ false → count_by p (filter q xs) < count_by p xs
+fewer_dropped p q [] x (k, lt, e) counts drops = absurd (omega (arith, lt))
+fewer_dropped {X} p q (y ∷ xs) x (zero, lt, e) counts drops =
+    let away = ap q e ∙ drops in
+    let one = counted_once p y xs (ap p e ∙ counts) in
+    let few = count_by-filter-le p q xs in
+    subst (λ (t : Bool). count_by p (cond t (y ∷ filter q xs) (filter q xs)) < count_by p (y ∷ xs)) (sym away) (omega (arith, one, few))
+fewer_dropped {X} p q (y ∷ xs) x (suc k, lt, e) counts drops = by (q y) (fewer_dropped p q xs x (k, omega (arith, lt), e) counts drops) where
+  by : (t : Bool) → count_by p (filter q xs) < count_by p xs → count_by p (cond t (y ∷ filter q xs) (filter q xs)) < count_by p (y ∷ xs)
+  by true rest = let here = counted p y (filter q xs) in let before = counted p y xs in omega (arith, rest, here, before)
+  by false rest = omega (arith, rest, counted_less p y xs)
+
+-- ---- each act
+
+room_for : (declared held : ℕ) → held < declared → nat_le declared held ≡ false
+room_for declared held lt = grind (arith, nat_tests)
+
+-- the object that is given back is one of the run's
+given_there : (objects : List ObjectView) (call : ℕ) (found : Found) → object_at objects call ≡ Ok found → (o : ObjectView) × Contains objects o × (o.call ≡ call)
+given_there objects call found is = by (find (λ (o : ObjectView). o.call == call) objects) (find_is (λ (o : ObjectView). o.call == call) objects) is where
+  by : (f : Option ObjectView) → IsFound (λ (o : ObjectView). o.call == call) objects f → found_in f ≡ Ok found → (o : ObjectView) × Contains objects o × (o.call ≡ call)
+  by None none is = absurd (cc)
+  by (Some o) there is = (o, there.0, eqb-true o.call call there.1)
+
+freed : (v : RunView) (to : ℕ) (after : Frame ℕ) (call : ℕ) (answer : world.Answer) (slots : List Name) (o : ObjectView) → asking_in v ≡ Unasked → Contains v.objects o → o.call ≡ call
+    → IsFreed v (acted (Give call) (reply_of answer) to after v) slots (slots_acted (Give call) answer v.subject.decl.held v.pc slots)
+freed v to after call answer slots o unasked there same = record {
+  unasked = unasked;
+  object = o;
+  there = there;
+  slots_are = ap (λ (c : ℕ). filter (λ (n : Name). not (n.1 == c)) slots) (sym same);
+  fewer = fewer_dropped (λ (x : ObjectView). o.kind == x.kind) (λ (x : ObjectView). not (x.call == call)) v.objects o there (equal o.kind) (ap not (ap (λ (c : ℕ). c == call) same ∙ equal call));
+}
+  where
+    equal : (a : ℕ) → (a == a) ≡ true
+    equal a = grind (arith, nat_tests)
+
+taken : (v : RunView) (to : ℕ) (after : Frame ℕ) (kind : ℕ) (answer : world.Answer) (slots : List Name) → asking_in v ≡ OfKind kind → length v.objects < v.subject.decl.held → length slots ≡ length v.objects
+    → IsOutcome v (acted (Take kind) (reply_of answer) to after v) answer slots (slots_acted (Take kind) answer v.subject.decl.held v.pc slots)
+taken v to after kind world.Absent slots asked room many = Kept (record { unasked = λ slot e. absurd (cc); slots_are = refl; kinds = λ k. refl })
+taken v to after kind world.Null slots asked room many = Kept (record { unasked = λ slot e. absurd (cc); slots_are = refl; kinds = λ k. refl })
+taken v to after kind (world.Slot slot) slots asked room many =
+    let few = room_for v.subject.decl.held (length v.objects) room in
+    let few_slots = ap (nat_le v.subject.decl.held) many ∙ few in
+    Granted (record {
+      slot = slot;
+      new = kind;
+      answered = refl;
+      asked = asked;
+      slots_are = rw few_slots refl;
+      kinds = λ k. rw few (kinds_added k v.objects _);
+    })
+
+-- what the instruction asks for is what it does
+asks_for : (v : RunView) (act : Act ℕ) (to : ℕ) (after : Frame ℕ) → GoesOn v act to after → asking_in v ≡ asked_by act
+asks_for v act to after g = asked_goes (insn_at v.subject.program v.pc) v.pc (around_view v) v.frame act to after g.does
+
+outcome_acted : (v : RunView) (act : Act ℕ) (to : ℕ) (after : Frame ℕ) (answer : world.Answer) (slots : List Name) → GoesOn v act to after → length slots ≡ length v.objects
+    → IsOutcome v (acted act (reply_of answer) to after v) answer slots (slots_acted act answer v.subject.decl.held v.pc slots)
+outcome_acted v Nothing to after answer slots g many = Kept (record { unasked = λ slot e. asks_for v Nothing to after g; slots_are = refl; kinds = λ k. refl })
+outcome_acted v (Write call at bytes) to after answer slots g many = Kept (record { unasked = λ slot e. asks_for v (Write call at bytes) to after g; slots_are = refl; kinds = λ k. kinds_patched k call at bytes v.objects })
+outcome_acted v (Take kind) to after answer slots g many = taken v to after kind answer slots (asks_for v (Take kind) to after g) g.room.1 many
+outcome_acted v (Give call) to after answer slots g many =
+    let there = there_goes (insn_at v.subject.program v.pc) v.pc (around_view v) v.frame (Give call) to after g.does in
+    let o = given_there v.objects call there.0 there.1 in
+    Freed (freed v to after call answer slots o.0 (asks_for v (Give call) to after g) o.1 o.2)
+
+-- ---- each instruction
+
+pub outcome_of : (v : RunView) (answer : world.Answer) (slots : List Name) → IsSound v → AreSized v → v.status ≡ Going → length slots ≡ length v.objects
+    → IsOutcome v (stepped (reply_of answer) v) answer slots (slots_after (effect_of_view v) answer v.subject.decl.held v.pc slots)
+outcome_of v answer slots sound sized going many = by (next_of v sound sized going) where
+  IsOne : RunView → List Name → Type 0
+  IsOne u now = IsOutcome v u answer slots now
+
+  by : IsNext v → IsOne (stepped (reply_of answer) v) (slots_after (effect_of_view v) answer v.subject.decl.held v.pc slots)
+  by (inl (act, to, after, g)) = rw (stepped_goes v (reply_of answer) act to after going g, g.does) (outcome_acted v act to after answer slots g many)
+  by (inr (n, ends)) = rw (stepped_ends v (reply_of answer) n going ends, ends.does) (Kept (record { unasked = λ slot e. asked_ends (insn_at v.subject.program v.pc) v.pc (around_view v) v.frame n ends.does; slots_are = refl; kinds = λ k. refl }))

@@ -1,0 +1,68 @@
+//! One instruction of a run: whether its answer is legal, the object that it is lent, and the one that it frees.
+
+ghost use Rattle.std.specs.Prelude.{◌≡◌, IfNone, option_copied};
+ghost use Rattle.ebpf_core.specs.Shown.{IsTended};
+ghost use Rattle.ebpf_core.specs.Stepping.{slot_code, code_by, CanLend, IsStepped};
+
+use crate::event::Answer;
+use crate::fault::ApplyCode;
+use crate::passing::{Object, Passing};
+use crate::place::Place;
+use ebpf_machine::run::Run;
+use std::collections::BTreeMap;
+use std::sync::ledger::{Blank, Ledger};
+
+/// Why an answer isn't legal for a run that wants this kind, or nothing.
+pub(crate) fn answer_fault(
+    places: &BTreeMap<u32, Place>,
+    answer: Answer,
+    wants: Option<u8>,
+) -> Option<ApplyCode>
+    ensures { result ≡ code_by places.now.entries answer wants }
+{
+    match (answer, wants) {
+        (Answer::Slot(slot), _) => slot_fault(places.get(&slot), wants),
+        (Answer::Null, None) => Some(ApplyCode::E5),
+        (Answer::Absent, Some(_)) => Some(ApplyCode::E6),
+        _ => None,
+    }
+}
+
+// Why a slot at this place isn't a legal answer.
+fn slot_fault(place: Option<&Place>, wants: Option<u8>) -> Option<ApplyCode>
+    ensures { result ≡ slot_code (option_copied place.entry) wants }
+{
+    match (place, wants) {
+        (Some(Place::Home(_)), None) => Some(ApplyCode::E5),
+        (Some(Place::Home(object)), Some(kind)) => {
+            if object.kind == kind {
+                None
+            } else {
+                Some(ApplyCode::E4)
+            }
+        }
+        _ => Some(ApplyCode::E3),
+    }
+}
+
+/// Does one instruction of a run that is lent this object, or none, with new ledgers for what it is answered. The answer is
+/// the object that it freed.
+pub(crate) fn step_in<G: Ledger, N: Ledger>(
+    run: &mut Run<Object>,
+    lent: Option<Object>,
+    grants: Blank,
+    nulls: Blank,
+) -> Option<Object>
+    requires names { (grants.name ≡ G.name) × (nulls.name ≡ N.name) }
+    requires parts { (grants.parts ≡ G.parts) × (nulls.parts ≡ N.parts) × (G.parts ≡ 1) × (N.parts ≡ 1) }
+    requires tended { IsTended run.old }
+    requires lends { CanLend lent run.old }
+    ensures stepped { IfNone run.old.exit (IsStepped lent result run.old run.new) }
+    ensures tended { IsTended run.new }
+{
+    let (grants, grants_share) = grants.open::<G>();
+    let (nulls, nulls_share) = nulls.open::<N>();
+    let mut passing = Passing::<G, N>::new(lent, grants, grants_share, nulls, nulls_share);
+    run.step(&mut passing);
+    passing.into_object()
+}

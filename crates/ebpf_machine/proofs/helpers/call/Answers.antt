@@ -1,0 +1,25 @@
+use Rattle.std.proofs.Common.{Some, ap, ◌∙◌}
+use Rattle.ebpf_verify.specs.declared.helper.Helper.TheVariants.{Emit}
+use Rattle.ebpf_machine.specs.Parts.{state_of}
+use Rattle.ebpf_machine.proofs.Advancing.{Calls, ready_few, ready_inside, ready_emits, emit_finds, emit_advanced}
+use Rattle.ebpf_machine.proofs.helpers.call.Given.{Over}
+use Rattle.ebpf_machine.proofs.helpers.call.Goals.{In-Emit}
+use Rattle.ebpf_machine.proofs.helpers.call.Goals as goal
+
+calls : (g : Over) (c : In-Emit g) → Calls (state_of c.args.parts.now) Emit
+calls g c = record { number = c.requires.at.0; at = c.requires.at.1; is = c.requires.at.2 ∙ ap Some c.in-Emit.is }
+
+pub number-requires : goal.number-requires
+number-requires g c = emit_finds _ _ _ c.requires.ready (calls g (goal.at.number-requires g c).In-Emit)
+
+pub emit-requires-clause-output : goal.emit-requires-clause-output
+emit-requires-clause-output g c = ready_emits _ _ _ c.requires.ready
+
+pub emit-requires-clause-few : goal.emit-requires-clause-few
+emit-requires-clause-few g c = ready_few _ _ _ c.requires.ready
+
+pub emit-requires-clause-inside : goal.emit-requires-clause-inside
+emit-requires-clause-inside g c = ready_inside _ _ _ c.requires.ready
+
+pub returns-in-Emit-clause-advanced : goal.returns-in-Emit-clause-advanced
+returns-in-Emit-clause-advanced g c = rw c.emit.ensures.state (emit_advanced _ _ _ c.number.result c.requires.ready (calls g (goal.at.returns-in-Emit-clause-advanced g c).In-Emit) c.number.ensures)
