@@ -57,7 +57,7 @@ impl Ledger {
     }
 
     // A slot leaves.
-    pub(crate) fn part(&mut self, slot: u32)
+    pub(crate) fn leave(&mut self, slot: u32)
         ensures { self.new ≡ without_slot slot self.old }
     {
         if let Ok(place) = self.slots.binary_search(&slot) {
@@ -77,9 +77,9 @@ pub(crate) fn join(ledgers: &mut [Ledger; 3], kind: usize, slot: u32) -> Result<
 }
 
 /// A slot leaves the ledger of a kind.
-pub(crate) fn part(ledgers: &mut [Ledger; 3], kind: usize, slot: u32)
+pub(crate) fn leave(ledgers: &mut [Ledger; 3], kind: usize, slot: u32)
     requires { kind < length ledgers.old }
     ensures { ledgers.new ≡ slice_set ledgers.old kind (without_slot slot (slice_index_or ledgers.old kind [])) }
 {
-    ledgers[kind].part(slot);
+    ledgers[kind].leave(slot);
 }

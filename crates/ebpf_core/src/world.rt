@@ -22,7 +22,7 @@ ghost use Rattle.ebpf_state.specs.Ascending.{IsAscending};
 
 use crate::event::{Answer, Context, Event};
 use crate::fault::{ApplyCode, ApplyFault};
-use crate::ledger::{Ledger, join, part};
+use crate::ledger::{Ledger, join, leave};
 use crate::passing::Object;
 use crate::place::{Place, is_home_of, lend, put};
 use crate::stepping::{answer_fault, step_in};
@@ -187,7 +187,7 @@ impl<'v> World<'v> {
             return Err(ApplyFault::NoMemory);
         }
         if self.places.insert(slot, Place::Home(object)).is_err() {
-            part(&mut self.ledgers, number, slot); // as it was
+            leave(&mut self.ledgers, number, slot); // as it was
             return Err(ApplyFault::NoMemory);
         }
         Ok(())
@@ -207,7 +207,7 @@ impl<'v> World<'v> {
         if !is_home_of(self.places.get(&slot), kind) {
             return Err(ApplyFault::Bad(ApplyCode::E8));
         }
-        part(&mut self.ledgers, number, slot);
+        leave(&mut self.ledgers, number, slot);
         self.places.remove(&slot);
         Ok(())
     }

@@ -1,7 +1,10 @@
-//! Events in words, as a script has them.
+//! Events in words, as a script has them, and what `replay` tells of them.
 
+use crate::programs::{column, is_told};
 use ebpf_core::event::{Answer, Event};
-use std::alloc::AllocError;
+use ebpf_script::replay::replay;
+use std::alloc::{AllocError, Global};
+use std::process::Abort;
 
 // An event in words, a line more, with the number of its program, and with the bytes of its context in brackets.
 pub(crate) fn tell_event(told: &mut String, event: &Event) -> Result<(), AllocError> {
@@ -18,4 +21,28 @@ pub(crate) fn tell_event(told: &mut String, event: &Event) -> Result<(), AllocEr
         Event::Grow { kind, slot } => write!(told, "grow {kind} {slot}\n"),
         Event::Reap { kind, slot } => write!(told, "reap {kind} {slot}\n"),
     }
+}
+
+// Tries a row: what happens, events behind these programs, and what is told of them behind the verdicts, a `;` for each end
+// of a line.
+pub(crate) fn is_replayed(
+    rt: &impl Abort,
+    alloc: Global,
+    programs: &str,
+    verdicts: &str,
+    row: &str,
+) {
+    let (_, rest) = column(rt, row);
+    let (events, expected) = column(rt, rest);
+    let events = events.replace(alloc, ';', "\n").expect(rt, "out of memory");
+    let expected = expected
+        .replace(alloc, ';', "\n")
+        .expect(rt, "out of memory");
+    let script = format!(in alloc; "{programs}{events}").expect(rt, "out of memory");
+    let expected = format!(in alloc; "{verdicts}{expected}").expect(rt, "out of memory");
+    let mut reader = script.as_bytes();
+    let mut written = Vec::new(alloc);
+    let _ = replay(alloc, &mut reader, &mut written).expect(rt, "it is told");
+    let told = str::from_utf8(&written).expect(rt, "it is a text");
+    is_told(rt, row, told, expected.as_str());
 }

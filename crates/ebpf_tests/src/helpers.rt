@@ -1,9 +1,9 @@
 //! What `one` and `replay` tell of programs that call helpers.
 
+use crate::events::is_replayed;
 use crate::programs::{column, holds, is_told};
 use ebpf_one::one::one;
 use ebpf_script::done::Done;
-use ebpf_script::replay::replay;
 use std::alloc::Global;
 use std::process::Abort;
 use std::test::*;
@@ -73,26 +73,9 @@ there is none | start p -;exec 0;exec 0; | stopped E6 2;
 it comes before the call | start p -;exec 0 null; | stopped E5 1;
 it comes twice | start p -;exec 0;exec 0 null;exec 0 null; | stopped E5 3;";
 
-// Tries a row of `ANSWERS`.
-fn is_answered(rt: &impl Abort, alloc: Global, row: &str) {
-    let (_, rest) = column(rt, row);
-    let (events, expected) = column(rt, rest);
-    let events = events.replace(alloc, ';', "\n").expect(rt, "out of memory");
-    let expected = expected
-        .replace(alloc, ';', "\n")
-        .expect(rt, "out of memory");
-    let script = format!(in alloc; "{ASKS}{events}").expect(rt, "out of memory");
-    let expected = format!(in alloc; "p accepted 9\n{expected}").expect(rt, "out of memory");
-    let mut reader = script.as_bytes();
-    let mut written = Vec::new(alloc);
-    let _ = replay(alloc, &mut reader, &mut written).expect(rt, "it is told");
-    let told = str::from_utf8(&written).expect(rt, "it is a text");
-    is_told(rt, row, told, expected.as_str());
-}
-
 #[test]
 fn answers_to_a_call_are_told(rt: HostRuntime) {
     for row in ANSWERS.lines() {
-        is_answered(&rt, rt.alloc(), row);
+        is_replayed(&rt, rt.alloc(), ASKS, "p accepted 9\n", row);
     }
 }

@@ -1,11 +1,11 @@
 //! Worlds whose runs share slots: what `replay` tells of them, and what is read of the slots after each event.
 
 use crate::accepted::read;
-use crate::programs::{column, is_told};
+use crate::events::is_replayed;
+use crate::programs::is_told;
 use ebpf_core::event::Event;
 use ebpf_core::world::World;
-use ebpf_script::replay::replay;
-use std::alloc::{AllocError, Global};
+use std::alloc::AllocError;
 use std::process::Abort;
 use std::test::*;
 
@@ -29,30 +29,16 @@ a slot of another kind is granted | grow 0 0;start p -;exec 0;exec 0 0; | stoppe
 there is no answer | grow 0 0;start p -;exec 0;exec 0; | stopped E6 3;
 a run holds one of two slots | grow 1 7;grow 1 3;start p -;exec 0;exec 0 7; | run 0 going 2 executed 2;kind 0 slots 0 held 0;kind 1 slots 2 held 1;kind 2 slots 0 held 0;";
 
-// Tries a row of `TOLD`.
-fn is_row_told(rt: &impl Abort, alloc: Global, row: &str) {
-    let (_, rest) = column(rt, row);
-    let (events, expected) = column(rt, rest);
-    let events = events.replace(alloc, ';', "\n").expect(rt, "out of memory");
-    let expected = expected
-        .replace(alloc, ';', "\n")
-        .expect(rt, "out of memory");
-    let script = format!(in alloc; "{PROGRAMS}{events}").expect(rt, "out of memory");
-    let expected = format!(in alloc; "p accepted 9\nq accepted 8\n{expected}").expect(
-        rt,
-        "out of memory",
-    );
-    let mut reader = script.as_bytes();
-    let mut written = Vec::new(alloc);
-    let _ = replay(alloc, &mut reader, &mut written).expect(rt, "it is told");
-    let told = str::from_utf8(&written).expect(rt, "it is a text");
-    is_told(rt, row, told, expected.as_str());
-}
-
 #[test]
 fn runs_that_share_slots_are_told(rt: HostRuntime) {
     for row in TOLD.lines() {
-        is_row_told(&rt, rt.alloc(), row);
+        is_replayed(
+            &rt,
+            rt.alloc(),
+            PROGRAMS,
+            "p accepted 9\nq accepted 8\n",
+            row,
+        );
     }
 }
 

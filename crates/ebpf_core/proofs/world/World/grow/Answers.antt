@@ -15,14 +15,14 @@ pub invariant_of-self-then-is_err-2 : goal.invariant_of-self-then-is_err-2
 invariant_of-self-then-is_err-2 c =
     let joins = on_ok c.join.result c.if-is_err.ensures.value c.join.ensures.joined in
     let same = on_err c.insert.result c.if-is_err-2.ensures.value c.insert.ensures.err in
-    let again = grow_undone _ c.args.kind c.args.slot c.join.new.ledgers c.part.new.ledgers c.insert.new.self.entries c.self.invariant.placed (sym c.contains_key.ensures ∙ c.if-contains_key.false) joins c.part.ensures same in
+    let again = grow_undone _ c.args.kind c.args.slot c.join.new.ledgers c.leave.new.ledgers c.insert.new.self.entries c.self.invariant.placed (sym c.contains_key.ensures ∙ c.if-contains_key.false) joins c.leave.ensures same in
     subst IsTendedWorld (sym again) c.self.invariant
 
 pub returns-then-is_err-2-clause-unchanged : goal.returns-then-is_err-2-clause-unchanged
 returns-then-is_err-2-clause-unchanged c =
     let joins = on_ok c.join.result c.if-is_err.ensures.value c.join.ensures.joined in
     let same = on_err c.insert.result c.if-is_err-2.ensures.value c.insert.ensures.err in
-    grow_undone _ c.args.kind c.args.slot c.join.new.ledgers c.part.new.ledgers c.insert.new.self.entries c.self.invariant.placed (sym c.contains_key.ensures ∙ c.if-contains_key.false) joins c.part.ensures same ∙ c.self.view_is
+    grow_undone _ c.args.kind c.args.slot c.join.new.ledgers c.leave.new.ledgers c.insert.new.self.entries c.self.invariant.placed (sym c.contains_key.ensures ∙ c.if-contains_key.false) joins c.leave.ensures same ∙ c.self.view_is
 
 pub invariant_of-self-else-is_err-2 : goal.invariant_of-self-else-is_err-2
 invariant_of-self-else-is_err-2 c = grow_tended _ c.args.kind c.args.slot c.in-Ok.object c.join.new.ledgers c.insert.new.self.entries c.self.invariant (record {

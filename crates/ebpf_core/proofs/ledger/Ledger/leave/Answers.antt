@@ -3,7 +3,7 @@ use Rattle.ebpf_state.specs.Ascending.{IsAscending}
 use Rattle.ebpf_machine.specs.Events.{without_slot}
 use Rattle.ebpf_machine.proofs.Ascents.{ascending_kept}
 use Rattle.ebpf_core.proofs.Ledgers.{place_found, parted_none}
-use Rattle.ebpf_core.proofs.ledger.Ledger.part.Goals as goal
+use Rattle.ebpf_core.proofs.ledger.Ledger.leave.Goals as goal
 
 pub returns-in-Ok : goal.returns-in-Ok
 returns-in-Ok c =
