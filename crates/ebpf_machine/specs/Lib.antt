@@ -9,6 +9,7 @@ pub mod Events
 pub mod Alone
 pub mod View
 pub mod RunState
+pub mod Store
 pub mod Concretization
 pub mod Sound
 pub mod Step

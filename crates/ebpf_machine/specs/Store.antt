@@ -1,0 +1,74 @@
+-- What is said of a store of objects, and of the objects of a run that are out of it.
+use Rattle.std.specs.Prelude.{◌≡◌, ◌≢◌, ℕ, ◌==◌, List, All, AllPairs, Contains, count_by}
+use Rattle.ebpf_machine.specs.declared.holding.Holding.{Holding}
+use Rattle.ebpf_machine.specs.World.{Kind}
+
+-- a store in the states S, of objects H: the kinds that there are; the kind and the slot of an object; which objects are out, and
+-- their bytes; what a call of new for a kind, made at a slot of a program, may be answered, with an object in a slot or with none;
+-- whether an object may come back; how often it granted and refused; and how many objects of each kind are out
+pub record Store (S H : Type 0) : Type 1 where
+  pub kinds : List Kind
+  pub kind_of : H → ℕ
+  pub slot_of : H → ℕ
+  pub is_out : S → H → Type 0
+  pub bytes_of : S → H → List ℕ
+  pub can_grant : (s : S) (kind at slot : ℕ) → Type 0
+  pub can_refuse : (s : S) (kind : ℕ) → Type 0
+  pub can_give : S → Type 0
+  pub grants : S → ℕ
+  pub nulls : S → ℕ
+  pub outs : S → ℕ → ℕ
+
+-- ---- what it counts
+
+pub record Counts : Type 0 where
+  pub grants : ℕ
+  pub nulls : ℕ
+  pub outs : ℕ → ℕ
+
+abbrev pub counts_of : {S H : Type 0} → Store S H → S → Counts
+counts_of o s = record { grants = o.grants s; nulls = o.nulls s; outs = o.outs s }
+
+-- it granted and refused as often as before
+abbrev pub CountsStay : {S H : Type 0} → Store S H → S → S → Type 0
+CountsStay o old new = (o.grants new ≡ o.grants old) × (o.nulls new ≡ o.nulls old)
+
+-- how many of the objects of a run are of a kind
+abbrev pub held_of_kind : {H : Type 0} → List (Holding H) → ℕ → ℕ
+held_of_kind held kind = count_by (λ h. kind == h.kind) held
+
+-- ---- what stays
+
+-- an object stays out, with its bytes
+abbrev pub Stays : {S H : Type 0} → Store S H → S → S → H → Type 0
+Stays o old new object = o.is_out new object × (o.bytes_of new object ≡ o.bytes_of old object)
+
+-- every object that is out stays so, but for one in this slot
+abbrev pub AllStayBut : {S H : Type 0} → ℕ → Store S H → S → S → Type 0
+AllStayBut {H = H} slot o old new = (other : H) → o.is_out old other → o.slot_of other ≢ slot → Stays o old new other
+
+-- every object that is out stays so
+abbrev pub AllStay : {S H : Type 0} → Store S H → S → S → Type 0
+AllStay {H = H} o old new = (other : H) → o.is_out old other → Stays o old new other
+
+-- no object that is out is in this slot
+abbrev pub IsNobodys : {S H : Type 0} → ℕ → Store S H → S → Type 0
+IsNobodys {H = H} slot o s = (other : H) → o.is_out s other → o.slot_of other ≢ slot
+
+-- ---- the objects of a run
+
+-- objects that are out, each of its kind, no two in one slot
+pub record AreOutBy {H : Type 0} (is_out : H → Type 0) (kind_of slot_of : H → ℕ) (held : List (Holding H)) : Type 0 where
+  pub out : All (λ h. is_out h.object × (kind_of h.object ≡ h.kind)) held
+  pub apart : AllPairs (λ a b. slot_of a.object ≢ slot_of b.object) held
+
+abbrev pub AreOut : {S H : Type 0} → Store S H → S → List (Holding H) → Type 0
+AreOut o s held = AreOutBy (o.is_out s) o.kind_of o.slot_of held
+
+-- what the run held and holds no more is out no more
+abbrev pub AreGone : {S H : Type 0} → Store S H → S → (held now : List (Holding H)) → Type 0
+AreGone {H = H} o new held now = (h : Holding H) → Contains held h → All (λ k. o.slot_of k.object ≢ o.slot_of h.object) now → o.is_out new h.object → ⊥
+
+-- everything else that is out stays so
+abbrev pub OthersStay : {S H : Type 0} → Store S H → S → S → (held : List (Holding H)) → Type 0
+OthersStay {H = H} o old new held = (other : H) → o.is_out old other → All (λ h. o.slot_of h.object ≢ o.slot_of other) held → Stays o old new other
