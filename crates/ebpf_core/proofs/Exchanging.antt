@@ -6,11 +6,12 @@ use Rattle.std.proofs.lemmas.List.{length-map}
 use Rattle.std.proofs.lemmas.List.Elements.{All-contains}
 use Rattle.std.proofs.lemmas.List.Sums.{sum_by-cons}
 use Rattle.ebpf_machine.specs.declared.holding.Holding.{Holding}
-use Rattle.ebpf_machine.specs.World.{Name, World, Owner, Going, kind_in, ledger_of, is_in, held_by}
-use Rattle.ebpf_machine.specs.World as world
+use Rattle.ebpf_machine.specs.World.{Name, World, Owner, Going, kind_in, ledger_of, is_in, held_by, name_of}
 use Rattle.ebpf_machine.specs.View.{ObjectView, stepped}
 use Rattle.ebpf_machine.specs.RunState.{RunState, object_seen, status_of}
-use Rattle.ebpf_machine.specs.Step.{held_of_kind, reply_of, asking_in, wanted}
+use Rattle.ebpf_machine.specs.Step as step
+use Rattle.ebpf_machine.specs.Step.{Served, result_of, served_by, asking_in, wanted}
+use Rattle.ebpf_machine.specs.Store.{held_of_kind}
 use Rattle.ebpf_machine.proofs.ListLemmas.{All-by_contains, Contains-filter}
 use Rattle.ebpf_machine.proofs.Mapped.{Contains-mapped, Contains-unmapped}
 use Rattle.ebpf_machine.proofs.Owners.{owner_of}
@@ -64,11 +65,11 @@ lendable places (Slot slot) wants fine = by (place_at places slot) fine where
 
 -- ---- what a run holds is kept as held by it
 
-pub held_named : (r : RunState Object) (h : Holding Object) → Contains r.held h → Contains (slots_of r) (h.object.slot, h.call)
-held_named r h among = Contains-mapped (λ (x : Holding Object). (x.object.slot, x.call)) r.held h among
+pub held_named : (r : RunState Object) (h : Holding Object) → Contains r.held h → Contains (slots_of r) (name_of h.object.slot h.call)
+held_named r h among = Contains-mapped (λ (x : Holding Object). name_of x.object.slot x.call) r.held h among
 
 pub held_placed : (kept : WorldState) (k : ℕ) (r : RunState Object) (h : Holding Object) → ArePlaced kept → slice_get kept.runs k ≡ Some r → Contains r.held h → place_at kept.places h.object.slot ≡ Some (Held k h.call)
-held_placed kept k r h placed at among = placed.held k r at (h.object.slot, h.call) (held_named r h among)
+held_placed kept k r h placed at among = placed.held k r at (name_of h.object.slot h.call) (held_named r h among)
 
 -- so it can be lent what is at home
 pub can_lend : (kept : WorldState) (k : ℕ) (answer : Answer) (r : RunState Object) → ArePlaced kept → IsTended r → slice_get kept.runs k ≡ Some r → code_by kept.places answer (wanted (asking_in (run_seen r))) ≡ None → CanLend (lent_by answer kept.places) r
@@ -96,7 +97,7 @@ object_its : (w : World) (kept : WorldState) (k : ℕ) (r : RunState Object) (h 
 object_its w kept k r h shows at among =
     let one = object_kept w kept k r h shows at among in
     let kind : kind_in w h.object.slot ≡ h.kind = ap (λ (v : ObjectView). v.kind) one.1 in
-    let there = kind_there w h.object.slot (owned_there w (owner_of k (h.object.slot, h.call)) shows.owned one.0) in
+    let there = kind_there w h.object.slot (owned_there w (owner_of k (name_of h.object.slot h.call)) shows.owned one.0) in
     subst (λ (kind : ℕ). is_in h.object.slot (ledger_of w kind) ≡ true) kind there
 
 -- ---- what a step frees, by what the store counts
@@ -124,20 +125,20 @@ some_freed (Some o) kind none = by (kind == o.kind) refl none where
 -- nothing passes; a run is lent an object; or it frees one, which is at home then
 pub data IsExchange (kept : WorldState) (k : ℕ) (answer : Answer) (r t : RunState Object) (freed : Option Object) : Type 0 where
   Stays : freed ≡ None → ((run at q : ℕ) → place_lent answer run at kept.places q ≡ place_at kept.places q) → slots_of t ≡ slots_of r → IsExchange kept k answer r t freed
-  Lends : (slot : ℕ) (o : Object) → freed ≡ None → answer ≡ Slot slot → place_at kept.places slot ≡ Some (Home o) → slots_of t ≡ slots_of r ++ (slot, r.pc) ∷ [] → IsExchange kept k answer r t freed
-  Frees : (o : Object) (call : ℕ) → freed ≡ Some o → ((run at q : ℕ) → place_lent answer run at kept.places q ≡ place_at kept.places q) → Contains (slots_of r) (o.slot, call) → IsAtHome kept o.slot o
-      → slots_of t ≡ filter (λ n. not (n.1 == call)) (slots_of r) → IsExchange kept k answer r t freed
+  Lends : (slot : ℕ) (o : Object) → freed ≡ None → answer ≡ Slot slot → place_at kept.places slot ≡ Some (Home o) → slots_of t ≡ slots_of r ++ name_of slot r.pc ∷ [] → IsExchange kept k answer r t freed
+  Frees : (o : Object) (call : ℕ) → freed ≡ Some o → ((run at q : ℕ) → place_lent answer run at kept.places q ≡ place_at kept.places q) → Contains (slots_of r) (name_of o.slot call) → IsAtHome kept o.slot o
+      → slots_of t ≡ filter (λ n. not (n.call == call)) (slots_of r) → IsExchange kept k answer r t freed
 
 slots_many : (r : RunState Object) → length (slots_of r) ≡ length (run_seen r).objects
 slots_many r = length-map r.held _ ∙ sym (length-map r.held _)
 
 -- what becomes of the objects of the run
-outcome : (w : World) (kept : WorldState) (k : ℕ) (answer : Answer) (r t : RunState Object) (freed : Option Object) → Shows w kept → IsInstruction kept k answer r t freed → IsOutcome (run_seen r) (run_seen t) (answer_of answer) (slots_of r) (slots_of t)
+outcome : (w : World) (kept : WorldState) (k : ℕ) (answer : Answer) (r t : RunState Object) (freed : Option Object) → Shows w kept → IsInstruction kept k answer r t freed → IsOutcome (run_seen r) (run_seen t) (served_by (answer_of answer)) (slots_of r) (slots_of t)
 outcome w kept k answer r t freed shows i =
     let v = run_seen r in
     let after = executed_after w kept k answer r t freed shows i in
-    let is = outcome_of v (answer_of answer) (slots_of r) i.run.sound (sized_tended r i.run) (ap status_of i.going) (slots_many r) in
-    let state = i.step.state ∙ ap (λ (a : world.Answer). stepped (reply_of a) v) (answered kept k answer r t freed i) in
+    let is = outcome_of v (served_by (answer_of answer)) (slots_of r) i.run.sound (sized_tended r i.run) (ap status_of i.going) (slots_many r) in
+    let state = i.step.state ∙ ap (λ (s : Served). stepped (result_of s) v) (answered kept k answer r t freed i) in
     rw (state, after.slots) is
 
 -- the counts of the store
@@ -149,12 +150,12 @@ lent_none : (kept : WorldState) (answer : Answer) (kind : ℕ) → lent_by answe
 lent_none kept answer kind none = ap (λ (l : Option Object). out_of_kind l kind) none
 
 -- the object that is freed is the run's
-freed_its : (kept : WorldState) (k : ℕ) (answer : Answer) (r t : RunState Object) (freed : Option Object) (o : Object) (h : Holding Object) → IsInstruction kept k answer r t freed → freed ≡ Some o → Contains r.held h → slots_of t ≡ filter (λ n. not (n.1 == h.call)) (slots_of r) → o.slot ≡ h.object.slot
+freed_its : (kept : WorldState) (k : ℕ) (answer : Answer) (r t : RunState Object) (freed : Option Object) (o : Object) (h : Holding Object) → IsInstruction kept k answer r t freed → freed ≡ Some o → Contains r.held h → slots_of t ≡ filter (λ n. not (n.call == h.call)) (slots_of r) → o.slot ≡ h.object.slot
 freed_its kept k answer r t freed o h i is among slots = by (cases_eq o.slot h.object.slot) where
   others : (x : Holding Object) → Contains t.held x → x.object.slot ≢ h.object.slot
   others x there same =
-      let left = Contains-filter (λ (n : Name). not (n.1 == h.call)) (slots_of r) (x.object.slot, x.call) (subst (λ (ns : List Name). Contains ns (x.object.slot, x.call)) slots (held_named t x there)) in
-      let mine = i.tended.placed.held k r i.at (x.object.slot, x.call) left.0 in
+      let left = Contains-filter (λ (n : Name). not (n.call == h.call)) (slots_of r) (name_of x.object.slot x.call) (subst (λ (ns : List Name). Contains ns (name_of x.object.slot x.call)) slots (held_named t x there)) in
+      let mine = i.tended.placed.held k r i.at (name_of x.object.slot x.call) left.0 in
       let its = held_placed kept k r h i.tended.placed i.at among in
       let both : Some (Held k x.call) ≡ Some (Held k h.call) = sym mine ∙ ap (place_at kept.places) same ∙ its in
       let equal = eq-eqb x.call h.call (call_same both) in
@@ -181,7 +182,7 @@ frees w kept k answer r t freed shows i none stays f =
     let counts = counted kept k answer r t freed i f.object.kind in
     let back = some_freed freed f.object.kind (omega (arith, counts, lent_none kept answer f.object.kind none, f.fewer)) in
     let o = back.0 in
-    let slots : slots_of t ≡ filter (λ n. not (n.1 == h.call)) (slots_of r) = f.slots_are ∙ ap (λ (c : ℕ). filter (λ (n : Name). not (n.1 == c)) (slots_of r)) (sym call) in
+    let slots : slots_of t ≡ filter (λ n. not (n.call == h.call)) (slots_of r) = f.slots_are ∙ ap (λ (c : ℕ). filter (λ (n : Name). not (n.call == c)) (slots_of r)) (sym call) in
     let slot = freed_its kept k answer r t freed o h i back.1 one.1 slots in
     let its = object_its w kept k r h shows i.at one.1 in
     let new : IsNewObject o = subst (λ (x : Option Object). IfSome x IsNewObject) back.1 i.step.image in
@@ -191,23 +192,23 @@ frees w kept k answer r t freed shows i none stays f =
       known = new.1;
       image = new.0;
     } in
-    Frees o h.call back.1 stays (subst (λ (s : ℕ). Contains (slots_of r) (s, h.call)) (sym slot) (held_named r h one.1)) here slots
+    Frees o h.call back.1 stays (subst (λ (s : ℕ). Contains (slots_of r) (name_of s h.call)) (sym slot) (held_named r h one.1)) here slots
   where
     ledger_kept : (w : World) (kept : WorldState) (slot kind : ℕ) → Shows w kept → is_in slot (ledger_of w kind) ≡ true → is_in slot (slice_index_or kept.ledgers kind []) ≡ true
     ledger_kept w kept slot kind shows its = ap (λ (ls : List (List ℕ)). is_in slot (slice_index_or ls kind [])) (sym shows.ledgers) ∙ its
 
 lends : (kept : WorldState) (k : ℕ) (answer : Answer) (r t : RunState Object) (freed : Option Object) (slot : ℕ) (o : Object) → IsInstruction kept k answer r t freed → answer ≡ Slot slot → place_at kept.places slot ≡ Some (Home o) → wanted (asking_in (run_seen r)) ≡ Some o.kind
-    → IsGranted (run_seen r) (run_seen t) (answer_of answer) (slots_of r) (slots_of t) → IsExchange kept k answer r t freed
+    → IsGranted (run_seen r) (run_seen t) (served_by (answer_of answer)) (slots_of r) (slots_of t) → IsExchange kept k answer r t freed
 lends kept k answer r t freed slot o i is home wants g =
     let new : g.new ≡ o.kind = number_same (sym (ap wanted g.asked) ∙ wants) in
-    let same : g.slot ≡ slot = slot_same (sym g.answered ∙ ap answer_of is) in
+    let same : g.slot ≡ slot = slot_same (sym g.answered ∙ ap (λ (a : Answer). served_by (answer_of a)) is) in
     let lent = lent_loan kept.places answer slot o is home in
-    Lends slot o (none_freed freed (λ kind. one lent new kind)) is home (g.slots_are ∙ ap (λ (s : ℕ). slots_of r ++ (s, r.pc) ∷ []) same)
+    Lends slot o (none_freed freed (λ kind. one lent new kind)) is home (g.slots_are ∙ ap (λ (s : ℕ). slots_of r ++ name_of s r.pc ∷ []) same)
   where
     number_same : {a b : ℕ} → Some a ≡ Some b → a ≡ b
     number_same e = cc
 
-    slot_same : {a b : ℕ} → world.Slot a ≡ world.Slot b → a ≡ b
+    slot_same : {a b : ℕ} → step.Granted a ≡ step.Granted b → a ≡ b
     slot_same e = cc
 
     one : lent_by answer kept.places ≡ Some o → g.new ≡ o.kind → (kind : ℕ) → out_of_kind freed kind ≡ 1
@@ -225,14 +226,14 @@ lends kept k answer r t freed slot o i is home wants g =
 
 pub exchange : (w : World) (kept : WorldState) (k : ℕ) (answer : Answer) (r t : RunState Object) (freed : Option Object) → Shows w kept → IsInstruction kept k answer r t freed → IsExchange kept k answer r t freed
 exchange w kept k answer r t freed shows i = by (loan kept.places answer (wanted (asking_in (run_seen r))) i.fine) (outcome w kept k answer r t freed shows i) where
-  by : IsLoan kept.places answer (wanted (asking_in (run_seen r))) → IsOutcome (run_seen r) (run_seen t) (answer_of answer) (slots_of r) (slots_of t) → IsExchange kept k answer r t freed
+  by : IsLoan kept.places answer (wanted (asking_in (run_seen r))) → IsOutcome (run_seen r) (run_seen t) (served_by (answer_of answer)) (slots_of r) (slots_of t) → IsExchange kept k answer r t freed
   by (Nothing unanswered none stays) (Kept o) = Stays (none_freed freed (λ kind. omega (arith, counted kept k answer r t freed i kind, lent_none kept answer kind none, o.kinds kind))) stays o.slots_are
   by (Nothing unanswered none stays) (Granted g) = absurd (not_slot answer unanswered g.slot g.answered) where
-    not_slot : (a : Answer) → ((slot : ℕ) → a ≢ Slot slot) → (slot : ℕ) → answer_of a ≢ world.Slot slot
+    not_slot : (a : Answer) → ((slot : ℕ) → a ≢ Slot slot) → (slot : ℕ) → served_by (answer_of a) ≢ step.Granted slot
     not_slot Absent un slot e = absurd (cc)
     not_slot Null un slot e = absurd (cc)
     not_slot (Slot s) un slot e = un s refl
   by (Nothing unanswered none stays) (Freed f) = frees w kept k answer r t freed shows i none stays f
-  by (Loan slot o is home wants) (Kept kept_o) = let unasked = ap wanted (kept_o.unasked slot (ap answer_of is)) in absurd (cc)
+  by (Loan slot o is home wants) (Kept kept_o) = let unasked = ap wanted (kept_o.unasked slot (ap (λ (a : Answer). served_by (answer_of a)) is)) in absurd (cc)
   by (Loan slot o is home wants) (Granted g) = lends kept k answer r t freed slot o i is home wants g
   by (Loan slot o is home wants) (Freed f) = let unasked = ap wanted f.unasked in absurd (cc)

@@ -9,7 +9,7 @@ use Rattle.ebpf_machine.specs.Events.{Illegal, NoSuchRun, RunEnded, Asking, answ
 use Rattle.ebpf_machine.specs.Kinds.{known_kinds}
 use Rattle.ebpf_machine.specs.View.{ObjectView, RunView, view_of, view_in, slots_in, effect_of_view}
 use Rattle.ebpf_machine.specs.RunState.{RunState, object_seen, status_of}
-use Rattle.ebpf_machine.specs.Step.{MayAnswer, asking_in, wanted}
+use Rattle.ebpf_machine.specs.Step.{MayAnswer, asking_in, wanted, Served, Idle, Refused, Granted, answer_for, served_by}
 use Rattle.ebpf_machine.specs.Advance.{slots_after}
 use Rattle.ebpf_machine.specs.Sound.{AreSized, IsSound}
 use Rattle.ebpf_machine.proofs.ListLemmas.{get_set_same, get_set_other}
@@ -46,25 +46,31 @@ sized_tended r h = All-map IsLong (object_seen (λ o. o.bytes.items)) r.held (λ
 abbrev AreTheirs : Places → Type 0
 AreTheirs places = (slot : ℕ) (o : Object) → place_at places slot ≡ Some (Home o) → o.slot ≡ slot
 
-answer_given : (places : Places) (answer : Answer) (wants : Option ℕ) (given : world.Answer) → AreTheirs places → code_by places answer wants ≡ None → MayAnswer (Lends (lent_by answer places)) (LendsNone (lent_by answer places)) (asked_as wants) given → given ≡ answer_of answer
-answer_given places Absent None given theirs fine may = may
-answer_given places Absent (Some kind) given theirs fine may = absurd (cc)
-answer_given places Null None given theirs fine may = absurd (cc)
-answer_given places Null (Some kind) world.Absent theirs fine may = absurd may
-answer_given places Null (Some kind) world.Null theirs fine may = refl
-answer_given places Null (Some kind) (world.Slot slot) theirs fine may = absurd may
-answer_given places (Slot slot) wants given theirs fine may = by_place (place_at places slot) wants refl fine may where
-  of_kind : (o : Object) (kind : ℕ) (given : world.Answer) (t : Bool) → (o.kind == kind) ≡ t → place_at places slot ≡ Some (Home o) → cond t None (Some E4) ≡ None → MayAnswer (Lends (Some o)) (LendsNone (Some o)) (asked_as (Some kind)) given → given ≡ world.Slot slot
+answer_given : (places : Places) (answer : Answer) (wants : Option ℕ) (at : ℕ) (given : Served) → AreTheirs places → code_by places answer wants ≡ None → MayAnswer (Lends (lent_by answer places)) (LendsNone (lent_by answer places)) at (asked_as wants) given → given ≡ served_by (answer_of answer)
+answer_given places Absent None pc given theirs fine may = may
+answer_given places Absent (Some kind) pc given theirs fine may = absurd (cc)
+answer_given places Null None pc given theirs fine may = absurd (cc)
+answer_given places Null (Some kind) pc Idle theirs fine may = absurd may
+answer_given places Null (Some kind) pc Refused theirs fine may = refl
+answer_given places Null (Some kind) pc (Granted slot) theirs fine may = absurd may
+answer_given places (Slot slot) wants pc given theirs fine may = by_place (place_at places slot) wants refl fine may where
+  of_kind : (o : Object) (kind : ℕ) (given : Served) (t : Bool) → (o.kind == kind) ≡ t → place_at places slot ≡ Some (Home o) → cond t None (Some E4) ≡ None → MayAnswer (Lends (Some o)) (LendsNone (Some o)) pc (asked_as (Some kind)) given → given ≡ Granted slot
   of_kind o kind given false is at fine may = absurd (cc)
-  of_kind o kind world.Absent true is at fine may = absurd may
-  of_kind o kind world.Null true is at fine may = absurd (cc)
-  of_kind o kind (world.Slot s) true is at fine may = ap world.Slot (sym may.1 ∙ theirs slot o at)
+  of_kind o kind Idle true is at fine may = absurd may
+  of_kind o kind Refused true is at fine may = absurd (cc)
+  of_kind o kind (Granted s) true is at fine may = ap Granted (sym may.1 ∙ theirs slot o at)
 
-  by_place : (p : Option Place) (wants : Option ℕ) → place_at places slot ≡ p → slot_code p wants ≡ None → MayAnswer (Lends (object_home p)) (LendsNone (object_home p)) (asked_as wants) given → given ≡ world.Slot slot
+  by_place : (p : Option Place) (wants : Option ℕ) → place_at places slot ≡ p → slot_code p wants ≡ None → MayAnswer (Lends (object_home p)) (LendsNone (object_home p)) pc (asked_as wants) given → given ≡ Granted slot
   by_place None wants at fine may = absurd (cc)
   by_place (Some (Held run place)) wants at fine may = absurd (cc)
   by_place (Some (Home o)) None at fine may = absurd (cc)
   by_place (Some (Home o)) (Some kind) at fine may = of_kind o kind given (o.kind == kind) refl at fine may
+
+-- the event that it makes is the event
+answer_back : (answer : world.Answer) → answer_for (served_by answer) ≡ answer
+answer_back world.Absent = refl
+answer_back world.Null = refl
+answer_back (world.Slot slot) = refl
 
 -- ---- an instruction of a run that is kept
 
@@ -80,11 +86,11 @@ pub record IsInstruction (kept : WorldState) (k : ℕ) (answer : Answer) (r t : 
 going_seen : (r : RunState Object) → r.exit ≡ None → (run_seen r).status ≡ Going
 going_seen r going = ap status_of going
 
-pub answered : (kept : WorldState) (k : ℕ) (answer : Answer) (r t : RunState Object) (freed : Option Object) (i : IsInstruction kept k answer r t freed) → i.step.answer ≡ answer_of answer
+pub answered : (kept : WorldState) (k : ℕ) (answer : Answer) (r t : RunState Object) (freed : Option Object) (i : IsInstruction kept k answer r t freed) → i.step.served ≡ served_by (answer_of answer)
 answered kept k answer r t freed i =
     let asks = asks_as (run_seen r) i.run.sound (sized_tended r i.run) (going_seen r i.going) in
-    let may = subst (λ (asked : Asking). MayAnswer (Lends (lent_by answer kept.places)) (LendsNone (lent_by answer kept.places)) asked i.step.answer) asks i.step.may in
-    answer_given kept.places answer (wanted (asking_in (run_seen r))) i.step.answer theirs i.fine may
+    let may = subst (λ (asked : Asking). MayAnswer (Lends (lent_by answer kept.places)) (LendsNone (lent_by answer kept.places)) r.pc asked i.step.served) asks i.step.may in
+    answer_given kept.places answer (wanted (asking_in (run_seen r))) r.pc i.step.served theirs i.fine may
   where
     theirs : AreTheirs kept.places
     theirs slot o at = (subst (IsPlaced kept slot) at (i.tended.placed.each slot)).same
@@ -158,7 +164,7 @@ pub record IsAfter (w : World) (kept : WorldState) (k : ℕ) (answer : Answer) (
   pub after : World
   pub legal : exec w k (answer_of answer) ≡ Ok after
   pub shows : (places : Places) → Shows after (record kept { runs = slice_set kept.runs k t; places = places })
-  pub slots : slots_of t ≡ slots_after (effect_of_view (run_seen r)) (answer_of answer) r.subject.decl.held r.pc (slots_of r)
+  pub slots : slots_of t ≡ slots_after (effect_of_view (run_seen r)) (served_by (answer_of answer)) r.subject.decl.held r.pc (slots_of r)
 
 no_fault : (o : Option Illegal) → option_map code_of o ≡ None → o ≡ None
 no_fault None e = refl
@@ -180,12 +186,12 @@ executed_after w kept k answer r t freed h i = record { after = after; legal = n
   event =
       let view : view_in w k ≡ Some (run_seen r) = h.views k ∙ ap (option_map run_seen) i.at in
       let given = answered kept k answer r t freed i in
-      i.step.event w after k h.owned view (h.slots k r i.at) (ap (exec w k) given ∙ next.1.legal)
+      i.step.event w after k h.owned view (h.slots k r i.at) (ap (λ (served : Served). exec w k (answer_for served)) given ∙ ap (exec w k) (answer_back (answer_of answer)) ∙ next.1.legal)
 
-  slots : slots_of t ≡ slots_after (effect_of_view (run_seen r)) (answer_of answer) r.subject.decl.held r.pc (slots_of r)
+  slots : slots_of t ≡ slots_after (effect_of_view (run_seen r)) (served_by (answer_of answer)) r.subject.decl.held r.pc (slots_of r)
   slots =
-      let subject = ap (λ (v : RunView). slots_after (effect_of_view v) (answer_of answer) v.subject.decl.held v.pc (slots_in w k)) here.seen in
-      sym event.1 ∙ next.1.slots ∙ subject ∙ ap (slots_after (effect_of_view (run_seen r)) (answer_of answer) r.subject.decl.held r.pc) (h.slots k r i.at)
+      let subject = ap (λ (v : RunView). slots_after (effect_of_view v) (served_by (answer_of answer)) v.subject.decl.held v.pc (slots_in w k)) here.seen in
+      sym event.1 ∙ next.1.slots ∙ subject ∙ ap (slots_after (effect_of_view (run_seen r)) (served_by (answer_of answer)) r.subject.decl.held r.pc) (h.slots k r i.at)
 
   runs : List (RunState Object)
   runs = slice_set kept.runs k t

@@ -11,7 +11,7 @@ use Rattle.ebpf_machine.specs.declared.report.Reply.{Reply}
 use Rattle.ebpf_machine.specs.World.{World, Running, Going, Exited, Trapped, Status, held_by, first_run}
 use Rattle.ebpf_machine.specs.Kinds.{known_kinds}
 use Rattle.ebpf_machine.specs.Events.{Illegal, Asking, answer_fault, started}
-use Rattle.ebpf_machine.specs.Alone.{Outcome, outcome_alone}
+use Rattle.ebpf_machine.specs.Alone.{Outcome, outcome_alone, replies_from}
 use Rattle.ebpf_machine.specs.View.{ObjectView, RunView, object_in, view_of, view_in, stepped}
 use Rattle.ebpf_machine.specs.RunState.{first_state_of}
 use Rattle.ebpf_machine.specs.Step.{reply_of, asking_in}
@@ -28,7 +28,7 @@ use Rattle.ebpf_core.specs.declared.event.Event.TheVariants.{Start, Exec, Grow, 
 use Rattle.ebpf_core.specs.Events.{first_world, answer_of, happened}
 use Rattle.ebpf_core.specs.Shown.{AreKnown, run_seen}
 use Rattle.ebpf_core.specs.Replay.{and_then, world_after_from}
-use Rattle.ebpf_core.specs.Isolation.{answers_to, answer_in, reply_by, replies_to, IsUntrapped, IsWhereAlone, IsOutcomeOf, IsIsolated, IsSafe, IsAlwaysSafe}
+use Rattle.ebpf_core.specs.Isolation.{answers_to, answer_in, reply_by, replies_to, replies_to_new, IsUntrapped, IsWhereAlone, IsOutcomeOf, IsIsolated, IsSafe, IsAlwaysSafe}
 use Rattle.ebpf_core.proofs.LegalAnswers.{told_next}
 use Rattle.ebpf_core.proofs.OtherRuns.{own_run, AreSound, IsEventOf, IsExec, start_next, exec_next, event_next}
 use Rattle.ebpf_core.proofs.OwnedSlots.{kind_there, owned_there, unheld}
@@ -232,7 +232,7 @@ alone_of w k run answers own =
 
 outcome_of_run : (w : World) (k : ℕ) (run : Running) (answers : List Reply) (n : ℕ) → IsOwn (view_of w k run) answers → run.status ≡ Exited n → IsOutcomeOf run n (outcome_alone run.subject run.context (replies_to run))
 outcome_of_run w k run answers n own ended =
-    let is = ap (outcome_alone run.subject run.context) (sym (append-nil (replies_to run))) ∙ outcome_exited (view_of w k run) n own.sound own.alone ended [] in
+    let is = ap (λ (rs : List Reply). outcome_alone run.subject run.context (replies_from rs)) (sym (append-nil (replies_to_new run))) ∙ outcome_exited (view_of w k run) n own.sound own.alone ended [] in
     record { status = ap (λ (o : Outcome). o.status) is; output = ap (λ (o : Outcome). o.output) is; executed = ap (λ (o : Outcome). o.executed) is }
 
 -- a run that exited holds nothing, and any other no more than it declared

@@ -3,7 +3,7 @@ use Rattle.std.proofs.Common.{◌≡◌, ◌≢◌, ◌⊎◌, inl, inr, ℕ, ze
 use Rattle.std.specs.Prelude.{slice_get, slice_set, Contains, ◌==◌, IfSome, IsSome}
 use Rattle.std.proofs.lemmas.Bool.{eq-eqb, ne_eqb, not-true, cases_eq}
 use Rattle.std.proofs.lemmas.List.Elements.{Contains-append_left, Contains-push, Contains-append_cases}
-use Rattle.ebpf_machine.specs.World.{Name, World, Owner}
+use Rattle.ebpf_machine.specs.World.{Name, World, Owner, name_of}
 use Rattle.ebpf_machine.specs.RunState.{RunState}
 use Rattle.ebpf_machine.proofs.ListLemmas.{Contains-filter, get_set_same, get_set_other}
 use Rattle.ebpf_machine.proofs.Mapped.{Contains-kept}
@@ -27,14 +27,14 @@ stepped_to kept k t now = record kept { runs = slice_set kept.runs k t; places =
 -- ---- a slot that stays where it is
 
 -- what the run holds of it, it holds still
-moved : (kept : WorldState) (k q : ℕ) (r t : RunState Object) (now : Places) (p : Option Place) → slice_get kept.runs k ≡ Some r → ((at : ℕ) → Contains (slots_of r) (q, at) → Contains (slots_of t) (q, at)) → IsPlaced kept q p → IsPlaced (stepped_to kept k t now) q p
+moved : (kept : WorldState) (k q : ℕ) (r t : RunState Object) (now : Places) (p : Option Place) → slice_get kept.runs k ≡ Some r → ((at : ℕ) → Contains (slots_of r) (name_of q at) → Contains (slots_of t) (name_of q at)) → IsPlaced kept q p → IsPlaced (stepped_to kept k t now) q p
 moved kept k q r t now None there keeps placed = placed
 moved kept k q r t now (Some (Home o)) there keeps placed = record { same = placed.same; its = placed.its; known = placed.known; image = placed.image }
 moved kept k q r t now (Some (Held run at)) there keeps placed = by (same_number run k) where
   by : (run ≡ k) ⊎ (run ≢ k) → IsPlaced (stepped_to kept k t now) q (Some (Held run at))
   by (inl same) =
       let mine : placed.0 ≡ r = some_same (sym placed.1 ∙ ap (slice_get kept.runs) same ∙ there) in
-      (t, ap (slice_get (slice_set kept.runs k t)) same ∙ get_set_same kept.runs k r t there, keeps at (subst (λ (x : RunState Object). Contains (slots_of x) (q, at)) mine placed.2))
+      (t, ap (slice_get (slice_set kept.runs k t)) same ∙ get_set_same kept.runs k r t there, keeps at (subst (λ (x : RunState Object). Contains (slots_of x) (name_of q at)) mine placed.2))
     where
       some_same : {a b : RunState Object} → Some a ≡ Some b → a ≡ b
       some_same e = cc
@@ -52,7 +52,7 @@ run_after kept k run r t x there now = by (same_number run k) where
 -- what is known of the places
 record IsMoved (kept : WorldState) (k : ℕ) (answer : Answer) (r : RunState Object) (freed : Option Object) (lent now : Places) : Type 0 where
   lent_are : (q : ℕ) → place_at lent q ≡ place_lent answer k r.pc kept.places q
-  now_are : (q : ℕ) → place_at now q ≡ place_returned freed lent q
+  now_are : (q : ℕ) → place_at now q ≡ place_returned Home freed lent q
 
 here_or : (q slot : ℕ) (a b : Option Place) → q ≡ slot → cond (q == slot) a b ≡ a
 here_or q slot a b e = let is = eq-eqb q slot e in rw is refl
@@ -63,21 +63,21 @@ else_or q slot a b ne = let is = ne_eqb q slot ne in rw is refl
 stays_placed : (kept : WorldState) (k : ℕ) (answer : Answer) (r t : RunState Object) (freed : Option Object) (lent now : Places) → IsInstruction kept k answer r t freed → IsMoved kept k answer r freed lent now
     → freed ≡ None → ((run at q : ℕ) → place_lent answer run at kept.places q ≡ place_at kept.places q) → slots_of t ≡ slots_of r → ArePlaced (stepped_to kept k t now)
 stays_placed kept k answer r t freed lent now i m none stays slots = record {
-  each = λ q. subst (IsPlaced (stepped_to kept k t now) q) (sym (as_before q)) (moved kept k q r t now (place_at kept.places q) i.at (λ at among. subst (λ (ns : List Name). Contains ns (q, at)) (sym slots) among) (i.tended.placed.each q));
-  held = λ run x there n among. as_before n.0 ∙ by run x n among (run_after kept k run r t x i.at there);
+  each = λ q. subst (IsPlaced (stepped_to kept k t now) q) (sym (as_before q)) (moved kept k q r t now (place_at kept.places q) i.at (λ at among. subst (λ (ns : List Name). Contains ns (name_of q at)) (sym slots) among) (i.tended.placed.each q));
+  held = λ run x there n among. as_before n.slot ∙ by run x n among (run_after kept k run r t x i.at there);
 }
   where
     as_before : (q : ℕ) → place_at now q ≡ place_at kept.places q
     as_before q = m.now_are q ∙ ap (λ (f : Option Object). place_returned f lent q) none ∙ m.lent_are q ∙ stays k r.pc q
 
-    by : (run : ℕ) (x : RunState Object) (n : Name) → Contains (slots_of x) n → ((run ≡ k) × (t ≡ x)) ⊎ ((run ≢ k) × (slice_get kept.runs run ≡ Some x)) → place_at kept.places n.0 ≡ Some (Held run n.1)
+    by : (run : ℕ) (x : RunState Object) (n : Name) → Contains (slots_of x) n → ((run ≡ k) × (t ≡ x)) ⊎ ((run ≢ k) × (slice_get kept.runs run ≡ Some x)) → place_at kept.places n.slot ≡ Some (Held run n.call)
     by run x n among (inl (same, is)) =
         let mine = subst (λ (ns : List Name). Contains ns n) slots (subst (λ (y : RunState Object). Contains (slots_of y) n) (sym is) among) in
-        i.tended.placed.held k r i.at n mine ∙ ap (λ (j : ℕ). Some (Held j n.1)) (sym same)
+        i.tended.placed.held k r i.at n mine ∙ ap (λ (j : ℕ). Some (Held j n.call)) (sym same)
     by run x n among (inr (ne, there)) = i.tended.placed.held run x there n among
 
 lends_placed : (kept : WorldState) (k : ℕ) (answer : Answer) (r t : RunState Object) (freed : Option Object) (lent now : Places) (slot : ℕ) (o : Object) → IsInstruction kept k answer r t freed → IsMoved kept k answer r freed lent now
-    → freed ≡ None → answer ≡ Slot slot → place_at kept.places slot ≡ Some (Home o) → slots_of t ≡ slots_of r ++ (slot, r.pc) ∷ [] → ArePlaced (stepped_to kept k t now)
+    → freed ≡ None → answer ≡ Slot slot → place_at kept.places slot ≡ Some (Home o) → slots_of t ≡ slots_of r ++ name_of slot r.pc ∷ [] → ArePlaced (stepped_to kept k t now)
 lends_placed kept k answer r t freed lent now slot o i m none is home slots = record {
   each = λ q. each q (cases_eq q slot);
   held = λ run x there n among. held run x n among (run_after kept k run r t x i.at there);
@@ -86,62 +86,62 @@ lends_placed kept k answer r t freed lent now slot o i m none is home slots = re
     now_is : (q : ℕ) → place_at now q ≡ cond (q == slot) (Some (Held k r.pc)) (place_at kept.places q)
     now_is q = m.now_are q ∙ ap (λ (f : Option Object). place_returned f lent q) none ∙ m.lent_are q ∙ ap (λ (a : Answer). place_lent a k r.pc kept.places q) is
 
-    newest : Contains (slots_of t) (slot, r.pc)
-    newest = subst (λ (ns : List Name). Contains ns (slot, r.pc)) (sym slots) (Contains-push (slots_of r) (slot, r.pc))
+    newest : Contains (slots_of t) (name_of slot r.pc)
+    newest = subst (λ (ns : List Name). Contains ns (name_of slot r.pc)) (sym slots) (Contains-push (slots_of r) (name_of slot r.pc))
 
     each : (q : ℕ) → (q ≡ slot) ⊎ (q ≢ slot) → IsPlaced (stepped_to kept k t now) q (place_at now q)
-    each q (inl same) = subst (IsPlaced (stepped_to kept k t now) q) (sym (now_is q ∙ here_or q slot _ _ same)) (t, get_set_same kept.runs k r t i.at, subst (λ (s : ℕ). Contains (slots_of t) (s, r.pc)) (sym same) newest)
+    each q (inl same) = subst (IsPlaced (stepped_to kept k t now) q) (sym (now_is q ∙ here_or q slot _ _ same)) (t, get_set_same kept.runs k r t i.at, subst (λ (s : ℕ). Contains (slots_of t) (name_of s r.pc)) (sym same) newest)
     each q (inr ne) = subst (IsPlaced (stepped_to kept k t now) q) (sym (now_is q ∙ else_or q slot _ _ ne))
-        (moved kept k q r t now (place_at kept.places q) i.at (λ at among. subst (λ (ns : List Name). Contains ns (q, at)) (sym slots) (Contains-append_left (slots_of r) ((slot, r.pc) ∷ []) (q, at) among)) (i.tended.placed.each q))
+        (moved kept k q r t now (place_at kept.places q) i.at (λ at among. subst (λ (ns : List Name). Contains ns (name_of q at)) (sym slots) (Contains-append_left (slots_of r) (name_of slot r.pc ∷ []) (name_of q at) among)) (i.tended.placed.each q))
 
     -- a slot that is held is not the one that was at home
-    elsewhere : (run : ℕ) (n : Name) → place_at kept.places n.0 ≡ Some (Held run n.1) → place_at now n.0 ≡ Some (Held run n.1)
-    elsewhere run n held = now_is n.0 ∙ else_or n.0 slot _ _ (λ same. apart (sym held ∙ ap (place_at kept.places) same ∙ home)) ∙ held where
-      apart : Some (Held run n.1) ≡ Some (Home o) → ⊥
+    elsewhere : (run : ℕ) (n : Name) → place_at kept.places n.slot ≡ Some (Held run n.call) → place_at now n.slot ≡ Some (Held run n.call)
+    elsewhere run n held = now_is n.slot ∙ else_or n.slot slot _ _ (λ same. apart (sym held ∙ ap (place_at kept.places) same ∙ home)) ∙ held where
+      apart : Some (Held run n.call) ≡ Some (Home o) → ⊥
       apart e = cc
 
-    mine : (n : Name) → Contains (slots_of r) n ⊎ Contains ((slot, r.pc) ∷ []) n → place_at now n.0 ≡ Some (Held k n.1)
+    mine : (n : Name) → Contains (slots_of r) n ⊎ Contains (name_of slot r.pc ∷ []) n → place_at now n.slot ≡ Some (Held k n.call)
     mine n (inl old) = elsewhere k n (i.tended.placed.held k r i.at n old)
     mine n (inr new) =
-        let same : (slot, r.pc) ≡ n = only new in
-        now_is n.0 ∙ here_or n.0 slot _ _ (sym (ap (λ (m : Name). m.0) same)) ∙ ap (λ (m : Name). Some (Held k m.1)) same
+        let same : (name_of slot r.pc) ≡ n = only new in
+        now_is n.slot ∙ here_or n.slot slot _ _ (sym (ap (λ (m : Name). m.slot) same)) ∙ ap (λ (m : Name). Some (Held k m.call)) same
       where
-        only : Contains ((slot, r.pc) ∷ []) n → (slot, r.pc) ≡ n
+        only : Contains (name_of slot r.pc ∷ []) n → (name_of slot r.pc) ≡ n
         only (zero, lt, e) = e
         only (suc j, lt, e) = absurd (omega (arith, lt))
 
-    held : (run : ℕ) (x : RunState Object) (n : Name) → Contains (slots_of x) n → ((run ≡ k) × (t ≡ x)) ⊎ ((run ≢ k) × (slice_get kept.runs run ≡ Some x)) → place_at now n.0 ≡ Some (Held run n.1)
+    held : (run : ℕ) (x : RunState Object) (n : Name) → Contains (slots_of x) n → ((run ≡ k) × (t ≡ x)) ⊎ ((run ≢ k) × (slice_get kept.runs run ≡ Some x)) → place_at now n.slot ≡ Some (Held run n.call)
     held run x n among (inl (same, is_t)) =
         let there = subst (λ (ns : List Name). Contains ns n) slots (subst (λ (y : RunState Object). Contains (slots_of y) n) (sym is_t) among) in
-        mine n (Contains-append_cases (slots_of r) ((slot, r.pc) ∷ []) n there) ∙ ap (λ (j : ℕ). Some (Held j n.1)) (sym same)
+        mine n (Contains-append_cases (slots_of r) (name_of slot r.pc ∷ []) n there) ∙ ap (λ (j : ℕ). Some (Held j n.call)) (sym same)
     held run x n among (inr (ne, there)) = elsewhere run n (i.tended.placed.held run x there n among)
 
 frees_placed : (w : World) (kept : WorldState) (k : ℕ) (answer : Answer) (r t : RunState Object) (freed : Option Object) (lent now : Places) (o : Object) (call : ℕ) → Shows w kept → IsInstruction kept k answer r t freed → IsMoved kept k answer r freed lent now
-    → freed ≡ Some o → ((run at q : ℕ) → place_lent answer run at kept.places q ≡ place_at kept.places q) → Contains (slots_of r) (o.slot, call) → IsAtHome kept o.slot o → slots_of t ≡ filter (λ n. not (n.1 == call)) (slots_of r) → ArePlaced (stepped_to kept k t now)
+    → freed ≡ Some o → ((run at q : ℕ) → place_lent answer run at kept.places q ≡ place_at kept.places q) → Contains (slots_of r) (name_of o.slot call) → IsAtHome kept o.slot o → slots_of t ≡ filter (λ n. not (n.call == call)) (slots_of r) → ArePlaced (stepped_to kept k t now)
 frees_placed w kept k answer r t freed lent now o call shows i m is stays among home slots = record {
   each = λ q. each q (cases_eq q o.slot);
   held = λ run x there n inside. held run x n inside (run_after kept k run r t x i.at there);
 }
   where
-    back : (q : ℕ) → place_returned freed lent q ≡ cond (q == o.slot) (Some (Home o)) (place_at lent q)
+    back : (q : ℕ) → place_returned Home freed lent q ≡ cond (q == o.slot) (Some (Home o)) (place_at lent q)
     back q = ap (λ (f : Option Object). place_returned f lent q) is
 
     now_is : (q : ℕ) → place_at now q ≡ cond (q == o.slot) (Some (Home o)) (place_at kept.places q)
     now_is q = m.now_are q ∙ back q ∙ ap (λ (p : Option Place). cond (q == o.slot) (Some (Home o)) p) (m.lent_are q ∙ stays k r.pc q)
 
     was_held : place_at kept.places o.slot ≡ Some (Held k call)
-    was_held = i.tended.placed.held k r i.at (o.slot, call) among
+    was_held = i.tended.placed.held k r i.at (name_of o.slot call) among
 
     -- a call has one slot
-    one_slot : (q : ℕ) → Contains (slots_of r) (q, call) → q ≡ o.slot
+    one_slot : (q : ℕ) → Contains (slots_of r) (name_of q call) → q ≡ o.slot
     one_slot q too =
         let owns = λ (n : Name) (inside : Contains (slots_of r) n). held_owns w k n (subst (λ (ns : List Name). Contains ns n) (sym (shows.slots k r i.at)) inside) in
-        ap (λ (p : Owner). p.slot) (shows.owned.one_a_call (owner_of k (q, call)) (owner_of k (o.slot, call)) (owns (q, call) too) (owns (o.slot, call) among) refl)
+        ap (λ (p : Owner). p.slot) (shows.owned.one_a_call (owner_of k (name_of q call)) (owner_of k (name_of o.slot call)) (owns (name_of q call) too) (owns (name_of o.slot call) among) refl)
 
-    keeps : (q : ℕ) → q ≢ o.slot → (at : ℕ) → Contains (slots_of r) (q, at) → Contains (slots_of t) (q, at)
+    keeps : (q : ℕ) → q ≢ o.slot → (at : ℕ) → Contains (slots_of r) (name_of q at) → Contains (slots_of t) (name_of q at)
     keeps q ne at inside =
         let other : (at == call) ≡ false = ne_eqb at call (λ same. ne (one_slot q (subst (λ (a : ℕ). Contains (slots_of r) (q, a)) same inside))) in
-        subst (λ (ns : List Name). Contains ns (q, at)) (sym slots) (Contains-kept (λ (n : Name). not (n.1 == call)) (slots_of r) (q, at) inside (ap not other))
+        subst (λ (ns : List Name). Contains ns (name_of q at)) (sym slots) (Contains-kept (λ (n : Name). not (n.call == call)) (slots_of r) (name_of q at) inside (ap not other))
 
     each : (q : ℕ) → (q ≡ o.slot) ⊎ (q ≢ o.slot) → IsPlaced (stepped_to kept k t now) q (place_at now q)
     each q (inl same) = subst (IsPlaced (stepped_to kept k t now) q) (sym (now_is q ∙ here_or q o.slot _ _ same))
@@ -152,22 +152,22 @@ frees_placed w kept k answer r t freed lent now o call shows i m is stays among 
     same_place e = (cc, cc)
 
     -- what is held still is elsewhere
-    elsewhere : (run : ℕ) (n : Name) → place_at kept.places n.0 ≡ Some (Held run n.1) → ((run ≡ k) → n.1 ≢ call) → place_at now n.0 ≡ Some (Held run n.1)
-    elsewhere run n was apart = now_is n.0 ∙ else_or n.0 o.slot _ _ (λ same. moved_off (same_place (sym was ∙ ap (place_at kept.places) same ∙ was_held))) ∙ was where
-      moved_off : (run ≡ k) × (n.1 ≡ call) → ⊥
+    elsewhere : (run : ℕ) (n : Name) → place_at kept.places n.slot ≡ Some (Held run n.call) → ((run ≡ k) → n.call ≢ call) → place_at now n.slot ≡ Some (Held run n.call)
+    elsewhere run n was apart = now_is n.slot ∙ else_or n.slot o.slot _ _ (λ same. moved_off (same_place (sym was ∙ ap (place_at kept.places) same ∙ was_held))) ∙ was where
+      moved_off : (run ≡ k) × (n.call ≡ call) → ⊥
       moved_off (same_run, same_call) = apart same_run same_call
 
-    held : (run : ℕ) (x : RunState Object) (n : Name) → Contains (slots_of x) n → ((run ≡ k) × (t ≡ x)) ⊎ ((run ≢ k) × (slice_get kept.runs run ≡ Some x)) → place_at now n.0 ≡ Some (Held run n.1)
+    held : (run : ℕ) (x : RunState Object) (n : Name) → Contains (slots_of x) n → ((run ≡ k) × (t ≡ x)) ⊎ ((run ≢ k) × (slice_get kept.runs run ≡ Some x)) → place_at now n.slot ≡ Some (Held run n.call)
     held run x n inside (inl (same, is_t)) =
         let left = Contains-filter (λ (y : Name). not (y.1 == call)) (slots_of r) n (subst (λ (ns : List Name). Contains ns n) slots (subst (λ (y : RunState Object). Contains (slots_of y) n) (sym is_t) inside)) in
         let was = i.tended.placed.held k r i.at n left.0 in
-        elsewhere k n was (λ mine same_call. let equal = eq-eqb n.1 call same_call in let unequal = not-true (n.1 == call) left.1 in absurd (cc)) ∙ ap (λ (j : ℕ). Some (Held j n.1)) (sym same)
+        elsewhere k n was (λ mine same_call. let equal = eq-eqb n.call call same_call in let unequal = not-true (n.call == call) left.1 in absurd (cc)) ∙ ap (λ (j : ℕ). Some (Held j n.call)) (sym same)
     held run x n inside (inr (ne, there)) = elsewhere run n (i.tended.placed.held run x there n inside) (λ mine. absurd (ne mine))
 
 -- ---- every instruction
 
 pub placed_after : (w : World) (kept : WorldState) (k : ℕ) (answer : Answer) (r t : RunState Object) (freed : Option Object) (lent now : Places) → Shows w kept → IsInstruction kept k answer r t freed
-    → ((q : ℕ) → place_at lent q ≡ place_lent answer k r.pc kept.places q) → ((q : ℕ) → place_at now q ≡ place_returned freed lent q) → ArePlaced (stepped_to kept k t now)
+    → ((q : ℕ) → place_at lent q ≡ place_lent answer k r.pc kept.places q) → ((q : ℕ) → place_at now q ≡ place_returned Home freed lent q) → ArePlaced (stepped_to kept k t now)
 placed_after w kept k answer r t freed lent now shows i lent_are now_are = by (exchange w kept k answer r t freed shows i) where
   m : IsMoved kept k answer r freed lent now
   m = record { lent_are = lent_are; now_are = now_are }
@@ -187,4 +187,4 @@ freed_known w kept k answer r t freed lent shows i lent_are = by (exchange w kep
   by : IsExchange kept k answer r t freed → IsKnown freed
   by (Stays none stays slots) = subst IsKnown (sym none) tt
   by (Lends slot o none is home slots) = subst IsKnown (sym none) tt
-  by (Frees o call is stays among home slots) = subst IsKnown (sym is) (rw (lent_are o.slot ∙ stays k r.pc o.slot ∙ i.tended.placed.held k r i.at (o.slot, call) among) refl)
+  by (Frees o call is stays among home slots) = subst IsKnown (sym is) (rw (lent_are o.slot ∙ stays k r.pc o.slot ∙ i.tended.placed.held k r i.at (name_of o.slot call) among) refl)

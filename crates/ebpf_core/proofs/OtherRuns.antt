@@ -6,7 +6,7 @@ use Rattle.ebpf_verify.specs.Subject.{Subject}
 use Rattle.ebpf_machine.specs.World.{World, Running, Owner, Holder, Run, Going, Exited, Trapped, Status, kinds_of, first_run, held_by, is_home, is_in, is_in_ledger, ledger_of}
 use Rattle.ebpf_machine.specs.World as world
 use Rattle.ebpf_machine.specs.Kinds.{known_kinds}
-use Rattle.ebpf_machine.specs.Events.{Illegal, SlotInLedger, SlotNotReapable, NoSuchProgramOrKind, WrongContext, answer_fault, asking_of, started, starting, exec_going, exec_by, exec, joined, growing, parted, reaping}
+use Rattle.ebpf_machine.specs.Events.{Illegal, SlotInLedger, SlotNotReapable, NoSuchProgramOrKind, WrongContext, answer_fault, asking_of, started, starting, exec_going, exec_by, exec, with_slot_joined, growing, with_slot_left, reaping}
 use Rattle.ebpf_machine.specs.View.{view_of, view_in, slots_in}
 use Rattle.ebpf_machine.specs.Sound.{IsSound, IsOwned}
 use Rattle.ebpf_machine.proofs.Owned.{owned_started}
@@ -102,9 +102,9 @@ known_or false u x why after e = absurd (cc)
 known_or true true x why after e = absurd (cc)
 known_or true false x why after e = (refl, refl, cc)
 
-pub grow_next : (w after : World) (kind slot : ℕ) → growing kind slot w ≡ Ok after → IsNew w kind slot × (joined kind slot w ≡ after)
+pub grow_next : (w after : World) (kind slot : ℕ) → growing kind slot w ≡ Ok after → IsNew w kind slot × (with_slot_joined kind slot w ≡ after)
 grow_next w after kind slot e =
-    let parts = known_or (nat_lt kind (length w.kinds)) (is_in_ledger w slot) (joined kind slot w) SlotInLedger after e in
+    let parts = known_or (nat_lt kind (length w.kinds)) (is_in_ledger w slot) (with_slot_joined kind slot w) SlotInLedger after e in
     (record { kind_is = ltb-true kind (length w.kinds) parts.0; fresh = parts.1 }, parts.2)
 
 reapable_or : (t u : Bool) (x : World) (after : World) → cond (not t) (Err NoSuchProgramOrKind) (cond u (Ok x) (Err SlotNotReapable)) ≡ Ok after → (t ≡ true) × (u ≡ true) × (x ≡ after)
@@ -112,9 +112,9 @@ reapable_or false u x after e = absurd (cc)
 reapable_or true true x after e = (refl, refl, cc)
 reapable_or true false x after e = absurd (cc)
 
-pub reap_next : (w after : World) (kind slot : ℕ) → reaping kind slot w ≡ Ok after → IsReapable w kind slot × (parted kind slot w ≡ after)
+pub reap_next : (w after : World) (kind slot : ℕ) → reaping kind slot w ≡ Ok after → IsReapable w kind slot × (with_slot_left kind slot w ≡ after)
 reap_next w after kind slot e =
-    let parts = reapable_or (nat_lt kind (length w.kinds)) (is_home w slot && is_in slot (ledger_of w kind)) (parted kind slot w) after e in
+    let parts = reapable_or (nat_lt kind (length w.kinds)) (is_home w slot && is_in slot (ledger_of w kind)) (with_slot_left kind slot w) after e in
     let both = and_parts (is_home w slot) (is_in slot (ledger_of w kind)) parts.1 in
     (record { home = both.0; its = both.1 }, parts.2)
 
@@ -150,12 +150,12 @@ event_next programs (Grow kind slot) w after known owned kinds sound is =
     subst (λ (v : World). IsEventOf w v None) grown.1 (record {
       owned = owned_joined w kind slot owned grown.0;
       kinds = refl;
-      left = λ k ne. all_left w (joined kind slot w) k refl refl (λ r. view_joined w k kind slot r owned grown.0);
+      left = λ k ne. all_left w (with_slot_joined kind slot w) k refl refl (λ r. view_joined w k kind slot r owned grown.0);
     })
 event_next programs (Reap kind slot) w after known owned kinds sound is =
     let reaped = reap_next w after kind slot is in
     subst (λ (v : World). IsEventOf w v None) reaped.1 (record {
       owned = owned_parted w kind slot owned reaped.0;
       kinds = refl;
-      left = λ k ne. all_left w (parted kind slot w) k refl refl (λ r. view_parted w k kind slot r owned reaped.0);
+      left = λ k ne. all_left w (with_slot_left kind slot w) k refl refl (λ r. view_parted w k kind slot r owned reaped.0);
     })

@@ -8,12 +8,12 @@ use Rattle.std.proofs.lemmas.List.Sums.{sum_by-cons}
 use Rattle.ebpf_insn.specs.Program.{insn_at}
 use Rattle.ebpf_machine.specs.Bytes.{patched}
 use Rattle.ebpf_machine.specs.Values.{Frame}
-use Rattle.ebpf_machine.specs.Effect.{Found, Act, Nothing, Write, Take, Give}
-use Rattle.ebpf_machine.specs.World.{Name, Going}
-use Rattle.ebpf_machine.specs.World as world
+use Rattle.ebpf_machine.specs.Effect.{Found, Act, Nothing, Write, Ask, Free}
+use Rattle.ebpf_machine.specs.World.{Name, Going, name_of}
 use Rattle.ebpf_machine.specs.Events.{Unasked, OfKind}
-use Rattle.ebpf_machine.specs.View.{ObjectView, RunView, found_in, object_at, patched_at, around_view, effect_of_view, acted, stepped}
-use Rattle.ebpf_machine.specs.Step.{reply_of, asking_in}
+use Rattle.ebpf_machine.specs.View.{ObjectView, RunView, found_in, object_at, patched_at, environment_of_view, effect_of_view, acted, stepped}
+use Rattle.ebpf_machine.specs.Step as step
+use Rattle.ebpf_machine.specs.Step.{Served, result_of, asking_in}
 use Rattle.ebpf_machine.specs.Advance.{slots_acted, slots_after}
 use Rattle.ebpf_machine.specs.Sound.{IsSound, AreSized}
 use Rattle.ebpf_machine.proofs.Asking.{asked_by, asked_goes, asked_ends, there_goes}
@@ -25,18 +25,18 @@ abbrev pub of_kind : ℕ → List ObjectView → ℕ
 of_kind kind objects = count_by (λ o. kind == o.kind) objects
 
 -- the objects are as many of each kind, in the same slots; a slot that is answered was not asked for
-pub record IsKept (v u : RunView) (answer : world.Answer) (slots now : List Name) : Type 0 where
-  pub unasked : (slot : ℕ) → answer ≡ world.Slot slot → asking_in v ≡ Unasked
+pub record IsKept (v u : RunView) (served : Served) (slots now : List Name) : Type 0 where
+  pub unasked : (slot : ℕ) → served ≡ step.Granted slot → asking_in v ≡ Unasked
   pub slots_are : now ≡ slots
   pub kinds : (kind : ℕ) → of_kind kind u.objects ≡ of_kind kind v.objects
 
 -- one more, of the kind that was asked for, by the call at the pc
-pub record IsGranted (v u : RunView) (answer : world.Answer) (slots now : List Name) : Type 0 where
+pub record IsGranted (v u : RunView) (served : Served) (slots now : List Name) : Type 0 where
   pub slot : ℕ
   pub new : ℕ
-  pub answered : answer ≡ world.Slot slot
+  pub answered : served ≡ step.Granted slot
   pub asked : asking_in v ≡ OfKind new
-  pub slots_are : now ≡ slots ++ (slot, v.pc) ∷ []
+  pub slots_are : now ≡ slots ++ name_of slot v.pc ∷ []
   pub kinds : (kind : ℕ) → of_kind kind u.objects ≡ of_kind kind v.objects + (if kind == new then 1 else 0)
 
 -- one is no more there
@@ -44,13 +44,13 @@ pub record IsFreed (v u : RunView) (slots now : List Name) : Type 0 where
   pub unasked : asking_in v ≡ Unasked
   pub object : ObjectView
   pub there : Contains v.objects object
-  pub slots_are : now ≡ filter (λ n. not (n.1 == object.call)) slots
+  pub slots_are : now ≡ filter (λ n. not (n.call == object.call)) slots
   pub fewer : of_kind object.kind u.objects < of_kind object.kind v.objects
 
-pub data IsOutcome (v u : RunView) (answer : world.Answer) (slots now : List Name) : Type 0 where
-  Kept : IsKept v u answer slots now → IsOutcome v u answer slots now
-  Granted : IsGranted v u answer slots now → IsOutcome v u answer slots now
-  Freed : IsFreed v u slots now → IsOutcome v u answer slots now
+pub data IsOutcome (v u : RunView) (served : Served) (slots now : List Name) : Type 0 where
+  Kept : IsKept v u served slots now → IsOutcome v u served slots now
+  Granted : IsGranted v u served slots now → IsOutcome v u served slots now
+  Freed : IsFreed v u slots now → IsOutcome v u served slots now
 
 -- ---- how many are of a kind
 
@@ -103,24 +103,24 @@ given_there objects call found is = by (find (λ (o : ObjectView). o.call == cal
   by None none is = absurd (cc)
   by (Some o) there is = (o, there.0, eqb-true o.call call there.1)
 
-freed : (v : RunView) (to : ℕ) (after : Frame ℕ) (call : ℕ) (answer : world.Answer) (slots : List Name) (o : ObjectView) → asking_in v ≡ Unasked → Contains v.objects o → o.call ≡ call
-    → IsFreed v (acted (Give call) (reply_of answer) to after v) slots (slots_acted (Give call) answer v.subject.decl.held v.pc slots)
-freed v to after call answer slots o unasked there same = record {
+freed : (v : RunView) (to : ℕ) (after : Frame ℕ) (call : ℕ) (served : Served) (slots : List Name) (o : ObjectView) → asking_in v ≡ Unasked → Contains v.objects o → o.call ≡ call
+    → IsFreed v (acted (Free call) (result_of served) to after v) slots (slots_acted (Free call) served v.subject.decl.held v.pc slots)
+freed v to after call served slots o unasked there same = record {
   unasked = unasked;
   object = o;
   there = there;
-  slots_are = ap (λ (c : ℕ). filter (λ (n : Name). not (n.1 == c)) slots) (sym same);
+  slots_are = ap (λ (c : ℕ). filter (λ (n : Name). not (n.call == c)) slots) (sym same);
   fewer = fewer_dropped (λ (x : ObjectView). o.kind == x.kind) (λ (x : ObjectView). not (x.call == call)) v.objects o there (equal o.kind) (ap not (ap (λ (c : ℕ). c == call) same ∙ equal call));
 }
   where
     equal : (a : ℕ) → (a == a) ≡ true
     equal a = grind (arith, nat_tests)
 
-taken : (v : RunView) (to : ℕ) (after : Frame ℕ) (kind : ℕ) (answer : world.Answer) (slots : List Name) → asking_in v ≡ OfKind kind → length v.objects < v.subject.decl.held → length slots ≡ length v.objects
-    → IsOutcome v (acted (Take kind) (reply_of answer) to after v) answer slots (slots_acted (Take kind) answer v.subject.decl.held v.pc slots)
-taken v to after kind world.Absent slots asked room many = Kept (record { unasked = λ slot e. absurd (cc); slots_are = refl; kinds = λ k. refl })
-taken v to after kind world.Null slots asked room many = Kept (record { unasked = λ slot e. absurd (cc); slots_are = refl; kinds = λ k. refl })
-taken v to after kind (world.Slot slot) slots asked room many =
+taken : (v : RunView) (to : ℕ) (after : Frame ℕ) (kind : ℕ) (served : Served) (slots : List Name) → asking_in v ≡ OfKind kind → length v.objects < v.subject.decl.held → length slots ≡ length v.objects
+    → IsOutcome v (acted (Ask kind) (result_of served) to after v) served slots (slots_acted (Ask kind) served v.subject.decl.held v.pc slots)
+taken v to after kind step.Idle slots asked room many = Kept (record { unasked = λ slot e. absurd (cc); slots_are = refl; kinds = λ k. refl })
+taken v to after kind step.Refused slots asked room many = Kept (record { unasked = λ slot e. absurd (cc); slots_are = refl; kinds = λ k. refl })
+taken v to after kind (step.Granted slot) slots asked room many =
     let few = room_for v.subject.decl.held (length v.objects) room in
     let few_slots = ap (nat_le v.subject.decl.held) many ∙ few in
     Granted (record {
@@ -134,26 +134,26 @@ taken v to after kind (world.Slot slot) slots asked room many =
 
 -- what the instruction asks for is what it does
 asks_for : (v : RunView) (act : Act ℕ) (to : ℕ) (after : Frame ℕ) → GoesOn v act to after → asking_in v ≡ asked_by act
-asks_for v act to after g = asked_goes (insn_at v.subject.program v.pc) v.pc (around_view v) v.frame act to after g.does
+asks_for v act to after g = asked_goes (insn_at v.subject.program v.pc) v.pc (environment_of_view v) v.frame act to after g.does
 
-outcome_acted : (v : RunView) (act : Act ℕ) (to : ℕ) (after : Frame ℕ) (answer : world.Answer) (slots : List Name) → GoesOn v act to after → length slots ≡ length v.objects
-    → IsOutcome v (acted act (reply_of answer) to after v) answer slots (slots_acted act answer v.subject.decl.held v.pc slots)
-outcome_acted v Nothing to after answer slots g many = Kept (record { unasked = λ slot e. asks_for v Nothing to after g; slots_are = refl; kinds = λ k. refl })
-outcome_acted v (Write call at bytes) to after answer slots g many = Kept (record { unasked = λ slot e. asks_for v (Write call at bytes) to after g; slots_are = refl; kinds = λ k. kinds_patched k call at bytes v.objects })
-outcome_acted v (Take kind) to after answer slots g many = taken v to after kind answer slots (asks_for v (Take kind) to after g) g.room.1 many
-outcome_acted v (Give call) to after answer slots g many =
-    let there = there_goes (insn_at v.subject.program v.pc) v.pc (around_view v) v.frame (Give call) to after g.does in
+outcome_acted : (v : RunView) (act : Act ℕ) (to : ℕ) (after : Frame ℕ) (served : Served) (slots : List Name) → GoesOn v act to after → length slots ≡ length v.objects
+    → IsOutcome v (acted act (result_of served) to after v) served slots (slots_acted act served v.subject.decl.held v.pc slots)
+outcome_acted v Nothing to after served slots g many = Kept (record { unasked = λ slot e. asks_for v Nothing to after g; slots_are = refl; kinds = λ k. refl })
+outcome_acted v (Write call at bytes) to after served slots g many = Kept (record { unasked = λ slot e. asks_for v (Write call at bytes) to after g; slots_are = refl; kinds = λ k. kinds_patched k call at bytes v.objects })
+outcome_acted v (Ask kind) to after served slots g many = taken v to after kind served slots (asks_for v (Ask kind) to after g) g.room.1 many
+outcome_acted v (Free call) to after served slots g many =
+    let there = there_goes (insn_at v.subject.program v.pc) v.pc (environment_of_view v) v.frame (Free call) to after g.does in
     let o = given_there v.objects call there.0 there.1 in
-    Freed (freed v to after call answer slots o.0 (asks_for v (Give call) to after g) o.1 o.2)
+    Freed (freed v to after call served slots o.0 (asks_for v (Free call) to after g) o.1 o.2)
 
 -- ---- each instruction
 
-pub outcome_of : (v : RunView) (answer : world.Answer) (slots : List Name) → IsSound v → AreSized v → v.status ≡ Going → length slots ≡ length v.objects
-    → IsOutcome v (stepped (reply_of answer) v) answer slots (slots_after (effect_of_view v) answer v.subject.decl.held v.pc slots)
-outcome_of v answer slots sound sized going many = by (next_of v sound sized going) where
+pub outcome_of : (v : RunView) (served : Served) (slots : List Name) → IsSound v → AreSized v → v.status ≡ Going → length slots ≡ length v.objects
+    → IsOutcome v (stepped (result_of served) v) served slots (slots_after (effect_of_view v) served v.subject.decl.held v.pc slots)
+outcome_of v served slots sound sized going many = by (next_of v sound sized going) where
   IsOne : RunView → List Name → Type 0
-  IsOne u now = IsOutcome v u answer slots now
+  IsOne u now = IsOutcome v u served slots now
 
-  by : IsNext v → IsOne (stepped (reply_of answer) v) (slots_after (effect_of_view v) answer v.subject.decl.held v.pc slots)
-  by (inl (act, to, after, g)) = rw (stepped_goes v (reply_of answer) act to after going g, g.does) (outcome_acted v act to after answer slots g many)
-  by (inr (n, ends)) = rw (stepped_ends v (reply_of answer) n going ends, ends.does) (Kept (record { unasked = λ slot e. asked_ends (insn_at v.subject.program v.pc) v.pc (around_view v) v.frame n ends.does; slots_are = refl; kinds = λ k. refl }))
+  by : IsNext v → IsOne (stepped (result_of served) v) (slots_after (effect_of_view v) served v.subject.decl.held v.pc slots)
+  by (inl (act, to, after, g)) = rw (stepped_goes v (result_of served) act to after going g, g.does) (outcome_acted v act to after served slots g many)
+  by (inr (n, ends)) = rw (stepped_ends v (result_of served) n going ends, ends.does) (Kept (record { unasked = λ slot e. asked_ends (insn_at v.subject.program v.pc) v.pc (environment_of_view v) v.frame n ends.does; slots_are = refl; kinds = λ k. refl }))

@@ -3,9 +3,9 @@ use Rattle.std.proofs.Common.{◌≡◌, ℕ, suc, ◌+◌, Bool, true, false, c
 use Rattle.std.specs.Prelude.{slice_get, Contains, ◌==◌}
 use Rattle.std.specs.List.{list_any, find}
 use Rattle.std.proofs.lemmas.Bool.{eqb-true, eq-eqb}
-use Rattle.ebpf_machine.specs.World.{Name, World, Running, Owner, Holder, Run, is_in, is_in_ledger, is_run, kind_from, kind_in, ledger_of, held_by}
+use Rattle.ebpf_machine.specs.World.{Name, World, Running, Owner, Holder, Run, is_in, is_in_ledger, is_run, kind_from, kind_in, ledger_of, held_by, name_of, IsOfKind}
 use Rattle.ebpf_machine.specs.View.{call_of, slots_in}
-use Rattle.ebpf_machine.specs.Sound.{IsOwned, IsOfKind}
+use Rattle.ebpf_machine.specs.Sound.{IsOwned}
 use Rattle.ebpf_machine.proofs.ListLemmas.{IsFound, find_is, Contains-head, Contains-kept, none_counted}
 use Rattle.ebpf_machine.proofs.Mapped.{Contains-mapped, Contains-unmapped}
 use Rattle.ebpf_machine.proofs.Owners.{owner_of, held_owner, same_slot}
@@ -37,24 +37,24 @@ owned_there w o owned among = by (is_in_ledger w o.slot) refl where
 -- a slot that a run holds is owned by it, and the other way round
 pub held_owns : (w : World) (run : ℕ) (n : Name) → Contains (slots_in w run) n → Contains w.owners (owner_of run n)
 held_owns w run n among =
-    let one = Contains-unmapped (λ (o : Owner). (o.slot, call_of o.holder)) (held_by w run) n among in
+    let one = Contains-unmapped (λ (o : Owner). name_of o.slot (call_of o.holder)) (held_by w run) n among in
     let held = held_owner w run one.0 one.1 in
-    let slot : one.0.slot ≡ n.0 = ap (λ (m : Name). m.0) one.2 in
-    let call : call_of one.0.holder ≡ n.1 = ap (λ (m : Name). m.1) one.2 in
-    let holder : one.0.holder ≡ Run run n.1 = held.1 ∙ ap (λ (at : ℕ). Run run at) call in
+    let slot : one.0.slot ≡ n.slot = ap (λ (m : Name). m.slot) one.2 in
+    let call : call_of one.0.holder ≡ n.call = ap (λ (m : Name). m.call) one.2 in
+    let holder : one.0.holder ≡ Run run n.call = held.1 ∙ ap (λ (at : ℕ). Run run at) call in
     let same : one.0 ≡ owner_of run n = λ i. record { slot = slot i; holder = holder i } in
     subst (λ (o : Owner). Contains w.owners o) same held.0
 
 pub owns_held : (w : World) (run : ℕ) (n : Name) → Contains w.owners (owner_of run n) → Contains (slots_in w run) n
-owns_held w run n among = Contains-mapped (λ (o : Owner). (o.slot, call_of o.holder)) (held_by w run) (owner_of run n) (Contains-kept (λ (o : Owner). is_run run o.holder) w.owners (owner_of run n) among (eq-eqb run run refl))
+owns_held w run n among = Contains-mapped (λ (o : Owner). name_of o.slot (call_of o.holder)) (held_by w run) (owner_of run n) (Contains-kept (λ (o : Owner). is_run run o.holder) w.owners (owner_of run n) among (eq-eqb run run refl))
 
 -- whoever has a slot is a run, which holds it
-pub owner_runs : (w : World) (o : Owner) → IsOwned w → Contains w.owners o → (run at : ℕ) × (r : Running) × (slice_get w.runs run ≡ Some r) × (o ≡ owner_of run (o.slot, at))
+pub owner_runs : (w : World) (o : Owner) → IsOwned w → Contains w.owners o → (run at : ℕ) × (r : Running) × (slice_get w.runs run ≡ Some r) × (o ≡ owner_of run (name_of o.slot at))
 owner_runs w o owned among = by o.holder refl where
-  by : (h : Holder) → o.holder ≡ h → (run at : ℕ) × (r : Running) × (slice_get w.runs run ≡ Some r) × (o ≡ owner_of run (o.slot, at))
+  by : (h : Holder) → o.holder ≡ h → (run at : ℕ) × (r : Running) × (slice_get w.runs run ≡ Some r) × (o ≡ owner_of run (name_of o.slot at))
   by (Run run at) is =
       let asker = subst (λ (h : Holder). IsOfKind w h (kind_in w o.slot)) is (owned.asked o among) in
-      let same : o ≡ owner_of run (o.slot, at) = λ i. record { slot = o.slot; holder = is i } in
+      let same : o ≡ owner_of run (name_of o.slot at) = λ i. record { slot = o.slot; holder = is i } in
       (run, at, asker.asker, asker.there, same)
 
 -- where there is no run of a number, nobody has a slot by it
@@ -69,8 +69,8 @@ unheld w k owned none = by_list (held_by w k) refl where
       absurd (cc)
 
 -- who is found to have a slot
-pub owner_found : (w : World) (run at slot : ℕ) → IsOwned w → Contains w.owners (owner_of run (slot, at)) → find (λ (o : Owner). o.slot == slot) w.owners ≡ Some (owner_of run (slot, at))
+pub owner_found : (w : World) (run at slot : ℕ) → IsOwned w → Contains w.owners (owner_of run (name_of slot at)) → find (λ (o : Owner). o.slot == slot) w.owners ≡ Some (owner_of run (name_of slot at))
 owner_found w run at slot owned among = by (find (λ (o : Owner). o.slot == slot) w.owners) (find_is (λ (o : Owner). o.slot == slot) w.owners) where
-  by : (f : Option Owner) → IsFound (λ (o : Owner). o.slot == slot) w.owners f → f ≡ Some (owner_of run (slot, at))
-  by None none = let away = none (owner_of run (slot, at)) among in let here = eq-eqb slot slot refl in absurd (cc)
-  by (Some o) found = ap Some (same_slot w o (owner_of run (slot, at)) owned found.0 among (eqb-true o.slot slot found.1))
+  by : (f : Option Owner) → IsFound (λ (o : Owner). o.slot == slot) w.owners f → f ≡ Some (owner_of run (name_of slot at))
+  by None none = let away = none (owner_of run (name_of slot at)) among in let here = eq-eqb slot slot refl in absurd (cc)
+  by (Some o) found = ap Some (same_slot w o (owner_of run (name_of slot at)) owned found.0 among (eqb-true o.slot slot found.1))

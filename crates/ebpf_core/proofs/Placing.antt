@@ -4,7 +4,7 @@ use Rattle.std.specs.Prelude.{slice_get, Contains, ◌==◌, ◌&&◌, ◌||◌,
 use Rattle.std.specs.List.{list_any}
 use Rattle.std.proofs.lemmas.Bool.{eqb-true, eq-eqb, false_from_ne_true, and_from, not_from_false}
 use Rattle.ebpf_machine.specs.declared.holding.Holding.{Holding}
-use Rattle.ebpf_machine.specs.World.{Name, World, Running, Owner, Run, held_by, is_in, is_in_ledger, is_owned, ledger_of}
+use Rattle.ebpf_machine.specs.World.{Name, World, Running, Owner, Run, held_by, is_in, is_in_ledger, is_owned, ledger_of, name_of}
 use Rattle.ebpf_machine.specs.View.{ObjectView, RunView, call_of, object_in, view_of, view_in}
 use Rattle.ebpf_machine.specs.RunState.{RunState, object_seen}
 use Rattle.ebpf_machine.proofs.ListLemmas.{any_from, any_one}
@@ -32,23 +32,23 @@ run_kept w kept k run h there = by (slice_get kept.runs k) refl where
       absurd (cc)
 
 -- an owned slot is kept as held
-pub owner_kept : (w : World) (kept : WorldState) (o : Owner) → Shows w kept → ArePlaced kept → Contains w.owners o → (run at : ℕ) × (place_at kept.places o.slot ≡ Some (Held run at)) × (o ≡ owner_of run (o.slot, at))
+pub owner_kept : (w : World) (kept : WorldState) (o : Owner) → Shows w kept → ArePlaced kept → Contains w.owners o → (run at : ℕ) × (place_at kept.places o.slot ≡ Some (Held run at)) × (o ≡ owner_of run (name_of o.slot at))
 owner_kept w kept o h placed among =
     let (run, at, r, there, is) = owner_runs w o h.owned among in
     let kept_run = run_kept w kept run r h there in
-    let held = owns_held w run (o.slot, at) (subst (λ (p : Owner). Contains w.owners p) is among) in
-    let here : Contains (slots_of kept_run.0) (o.slot, at) = subst (λ (ns : List Name). Contains ns (o.slot, at)) (h.slots run kept_run.0 kept_run.1) held in
-    (run, at, placed.held run kept_run.0 kept_run.1 (o.slot, at) here, is)
+    let held = owns_held w run (name_of o.slot at) (subst (λ (p : Owner). Contains w.owners p) is among) in
+    let here : Contains (slots_of kept_run.0) (name_of o.slot at) = subst (λ (ns : List Name). Contains ns (name_of o.slot at)) (h.slots run kept_run.0 kept_run.1) held in
+    (run, at, placed.held run kept_run.0 kept_run.1 (name_of o.slot at) here, is)
 
 -- and one that is kept as held is owned
-pub held_kept : (w : World) (kept : WorldState) (slot run at : ℕ) → Shows w kept → ArePlaced kept → place_at kept.places slot ≡ Some (Held run at) → Contains w.owners (owner_of run (slot, at))
+pub held_kept : (w : World) (kept : WorldState) (slot run at : ℕ) → Shows w kept → ArePlaced kept → place_at kept.places slot ≡ Some (Held run at) → Contains w.owners (owner_of run (name_of slot at))
 held_kept w kept slot run at h placed is =
     let held = subst (IsPlaced kept slot) is (placed.each slot) in
-    held_owns w run (slot, at) (subst (λ (ns : List Name). Contains ns (slot, at)) (sym (h.slots run held.0 held.1)) held.2)
+    held_owns w run (name_of slot at) (subst (λ (ns : List Name). Contains ns (name_of slot at)) (sym (h.slots run held.0 held.1)) held.2)
 
 -- an object that a run holds is the one that the world has in its slot
 pub object_kept : (w : World) (kept : WorldState) (k : ℕ) (r : RunState Object) (h : Holding Object) → Shows w kept → slice_get kept.runs k ≡ Some r → Contains r.held h
-    → Contains w.owners (owner_of k (h.object.slot, h.call)) × (object_in w (owner_of k (h.object.slot, h.call)) ≡ object_seen (λ o. o.bytes.items) h)
+    → Contains w.owners (owner_of k (name_of h.object.slot h.call)) × (object_in w (owner_of k (name_of h.object.slot h.call)) ≡ object_seen (λ o. o.bytes.items) h)
 object_kept w kept k r h shows at among =
     let run = run_shown w kept k r shows at in
     let objects : map (object_in w) (held_by w k) ≡ map (object_seen (λ (o : Object). o.bytes.items)) r.held = ap (λ (v : RunView). v.objects) run.2 in
@@ -56,9 +56,9 @@ object_kept w kept k r h shows at among =
     let one = Contains-unmapped (object_in w) (held_by w k) (object_seen (λ (o : Object). o.bytes.items) h) (subst (λ (os : List ObjectView). Contains os (object_seen (λ (o : Object). o.bytes.items) h)) (sym objects) seen) in
     let its = held_owner w k one.0 one.1 in
     let call : call_of one.0.holder ≡ h.call = ap (λ (v : ObjectView). v.call) one.2 in
-    let slots = Contains-mapped {Y = Name} (λ (x : Holding Object). (x.object.slot, x.call)) r.held h among in
-    let owns = held_owns w k (h.object.slot, h.call) (subst (λ (ns : List Name). Contains ns (h.object.slot, h.call)) (sym (shows.slots k r at)) slots) in
-    let same = shows.owned.one_a_call one.0 (owner_of k (h.object.slot, h.call)) its.0 owns (its.1 ∙ ap (λ (c : ℕ). Run k c) call) in
+    let slots = Contains-mapped {Y = Name} (λ (x : Holding Object). name_of x.object.slot x.call) r.held h among in
+    let owns = held_owns w k (name_of h.object.slot h.call) (subst (λ (ns : List Name). Contains ns (name_of h.object.slot h.call)) (sym (shows.slots k r at)) slots) in
+    let same = shows.owned.one_a_call one.0 (owner_of k (name_of h.object.slot h.call)) its.0 owns (its.1 ∙ ap (λ (c : ℕ). Run k c) call) in
     (owns, ap (object_in w) (sym same) ∙ one.2)
 
 -- what is not kept as held is not owned
@@ -90,7 +90,7 @@ kept_in w kept slot h placed = by (place_at kept.places slot) refl (placed.each 
       let its = ledger o.kind home.its in
       (and_from (is_in_ledger w slot) (not (is_owned w slot)) (in_some w.ledgers o.kind slot its) (not_from_false (is_owned w slot) free), its)
   by (Some (Held run at)) is held =
-      let owns = any_from (λ (o : Owner). o.slot == slot) w.owners (owner_of run (slot, at)) (held_kept w kept slot run at h placed is) (eq-eqb slot slot refl) in
+      let owns = any_from (λ (o : Owner). o.slot == slot) w.owners (owner_of run (name_of slot at)) (held_kept w kept slot run at h placed is) (eq-eqb slot slot refl) in
       not_home (is_in_ledger w slot) (is_owned w slot) owns
     where
       not_home : (a b : Bool) → b ≡ true → (a && not b) ≡ false

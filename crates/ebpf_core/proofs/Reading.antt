@@ -5,7 +5,7 @@ use Rattle.std.specs.List.{find}
 use Rattle.std.proofs.lemmas.Bool.{eqb-true, eq-eqb, and_parts}
 use Rattle.std.proofs.lemmas.Option.{get_or_from_slice_get}
 use Rattle.ebpf_machine.specs.declared.holding.Holding.{Holding}
-use Rattle.ebpf_machine.specs.World.{Name, Kind, World, Owner, Run, Going, Exited, is_in_ledger, is_owned, image_at, kind_in}
+use Rattle.ebpf_machine.specs.World.{Name, Kind, World, Owner, Run, Going, Exited, is_in_ledger, is_owned, image_at, kind_in, name_of}
 use Rattle.ebpf_machine.specs.Kinds.{known_kinds}
 use Rattle.ebpf_machine.specs.View.{ObjectView, RunView}
 use Rattle.ebpf_machine.specs.RunState.{RunState, status_of}
@@ -86,26 +86,26 @@ bytes_home w kept slot o h placed is =
     there_bytes w slot o.bytes.items there (at.image ∙ ap (image_at known_kinds) kind ∙ ap (λ (kinds : List Kind). image_at kinds (kind_in w slot)) (sym h.kinds) ∙ sym (h.owned.imaged slot home.0))
 
 -- and with a run those of the object that was granted to its call
-call_held : (r : RunState Object) (slot at : ℕ) → Contains (slots_of r) (slot, at) → (held : Holding Object) × Contains r.held held × (held.call ≡ at)
+call_held : (r : RunState Object) (slot at : ℕ) → Contains (slots_of r) (name_of slot at) → (held : Holding Object) × Contains r.held held × (held.call ≡ at)
 call_held r slot at among =
-    let one = Contains-unmapped (λ (held : Holding Object). (held.object.slot, held.call)) r.held (slot, at) among in
-    (one.0, one.1, ap (λ (n : Name). n.1) one.2)
+    let one = Contains-unmapped (λ (held : Holding Object). name_of held.object.slot held.call) r.held (name_of slot at) among in
+    (one.0, one.1, ap (λ (n : Name). n.call) one.2)
 
-bytes_held : (w : World) (kept : WorldState) (slot run at : ℕ) (r : RunState Object) (held : Holding Object) → Shows w kept → Contains w.owners (owner_of run (slot, at)) → slice_get kept.runs run ≡ Some r → Contains r.held held → held.call ≡ at → Some held.object.bytes.items ≡ bytes_in w slot
+bytes_held : (w : World) (kept : WorldState) (slot run at : ℕ) (r : RunState Object) (held : Holding Object) → Shows w kept → Contains w.owners (owner_of run (name_of slot at)) → slice_get kept.runs run ≡ Some r → Contains r.held held → held.call ≡ at → Some held.object.bytes.items ≡ bytes_in w slot
 bytes_held w kept slot run at r held h owns there among call =
     let its = object_kept w kept run r held h there among in
-    let same = h.owned.one_a_call (owner_of run (held.object.slot, held.call)) (owner_of run (slot, at)) its.0 owns (ap (Run run) call) in
+    let same = h.owned.one_a_call (owner_of run (name_of held.object.slot held.call)) (owner_of run (name_of slot at)) its.0 owns (ap (Run run) call) in
     let bytes : w.bytes held.object.slot ≡ held.object.bytes.items = ap (λ (v : ObjectView). v.bytes) its.1 in
-    there_bytes w slot held.object.bytes.items (owned_there w (owner_of run (slot, at)) h.owned owns) (sym bytes ∙ ap (λ (o : Owner). w.bytes o.slot) same)
+    there_bytes w slot held.object.bytes.items (owned_there w (owner_of run (name_of slot at)) h.owned owns) (sym bytes ∙ ap (λ (o : Owner). w.bytes o.slot) same)
 
 object_held : (w : World) (kept : WorldState) (slot run at : ℕ) (r : RunState Object) → Shows w kept → ArePlaced kept → place_at kept.places slot ≡ Some (Held run at) → slice_get kept.runs run ≡ Some r
     → (held : Holding Object) × (find (λ (held : Holding Object). held.call == at) r.held ≡ Some held) × (Some held.object.bytes.items ≡ bytes_in w slot)
 object_held w kept slot run at r h placed is there = by (find (λ (held : Holding Object). held.call == at) r.held) refl (find_is (λ (held : Holding Object). held.call == at) r.held) where
-  owns : Contains w.owners (owner_of run (slot, at))
+  owns : Contains w.owners (owner_of run (name_of slot at))
   owns = held_kept w kept slot run at h placed is
 
-  among : Contains (slots_of r) (slot, at)
-  among = subst (λ (ns : List Name). Contains ns (slot, at)) (h.slots run r there) (owns_held w run (slot, at) owns)
+  among : Contains (slots_of r) (name_of slot at)
+  among = subst (λ (ns : List Name). Contains ns (name_of slot at)) (h.slots run r there) (owns_held w run (name_of slot at) owns)
 
   by : (f : Option (Holding Object)) → find (λ (held : Holding Object). held.call == at) r.held ≡ f → IsFound (λ (held : Holding Object). held.call == at) r.held f
       → (held : Holding Object) × (find (λ (held : Holding Object). held.call == at) r.held ≡ Some held) × (Some held.object.bytes.items ≡ bytes_in w slot)

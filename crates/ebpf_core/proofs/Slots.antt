@@ -7,9 +7,9 @@ use Rattle.std.specs.Option.{is_some}
 use Rattle.std.specs.Result.{OnOk, OnErr, is_err}
 use Rattle.std.proofs.lemmas.Bool.{cases_eq, eqb-true, eq-eqb, ne_eqb, lt-ltb, or_parts, and_parts, and_from, false_from_ne_true}
 use Rattle.std.proofs.lemmas.Bool.Decides.{nat_tests}
-use Rattle.ebpf_machine.specs.World.{Name, World, is_in, is_in_ledger, is_owned, is_home, ledger_of, image_at}
+use Rattle.ebpf_machine.specs.World.{Name, World, is_in, is_in_ledger, is_owned, is_home, ledger_of, image_at, name_of}
 use Rattle.ebpf_machine.specs.Kinds.{known_kinds}
-use Rattle.ebpf_machine.specs.Events.{SlotInLedger, SlotNotReapable, NoSuchProgramOrKind, with_slot, joined, growing, without_slot, parted, reaping}
+use Rattle.ebpf_machine.specs.Events.{SlotInLedger, SlotNotReapable, NoSuchProgramOrKind, with_slot, with_slot_joined, growing, without_slot, with_slot_left, reaping}
 use Rattle.ebpf_machine.specs.RunState.{RunState}
 use Rattle.ebpf_machine.proofs.LedgerChanges.{any-set}
 use Rattle.ebpf_machine.proofs.NewSlots.{IsNew, joined_in, owned_joined, view_joined}
@@ -63,7 +63,7 @@ answers-set p (x ∷ xs) (suc k) zero y d e = refl
 answers-set p (x ∷ xs) (suc k) (suc j) y d e = answers-set p xs k j y d e
 
 placed_moved : (kept : WorldState) (kind slot : ℕ) (slots : List ℕ) (place : Option Place) (places : Places) → ArePlaced kept → IsMoved kept kind slot slots place places → ArePlaced (with_slots kept kind slots places)
-placed_moved kept kind slot slots place places placed moved = record { each = λ s. each s (cases_eq s slot); held = λ run r there n among. held run r there n among (cases_eq n.0 slot) } where
+placed_moved kept kind slot slots place places placed moved = record { each = λ s. each s (cases_eq s slot); held = λ run r there n among. held run r there n among (cases_eq n.slot slot) } where
   after : WorldState
   after = with_slots kept kind slots places
 
@@ -82,9 +82,9 @@ placed_moved kept kind slot slots place places placed moved = record { each = λ
   each s (inl e) = subst (λ (k : ℕ). IsPlaced (with_slots kept kind slots places) k (place_at places k)) (sym e) (subst (IsPlaced (with_slots kept kind slots places) slot) (sym here) moved.fits)
   each s (inr ne) = subst (IsPlaced (with_slots kept kind slots places) s) (sym (there s ne)) (other s (place_at kept.places s) ne (placed.each s))
 
-  held : (run : ℕ) (r : RunState Object) → slice_get kept.runs run ≡ Some r → (n : Name) → Contains (slots_of r) n → (n.0 ≡ slot) ⊎ (n.0 ≢ slot) → place_at places n.0 ≡ Some (Held run n.1)
-  held run r at n among (inl e) = absurd (moved.unheld run n.1 (ap (place_at kept.places) (sym e) ∙ placed.held run r at n among))
-  held run r at n among (inr ne) = there n.0 ne ∙ placed.held run r at n among
+  held : (run : ℕ) (r : RunState Object) → slice_get kept.runs run ≡ Some r → (n : Name) → Contains (slots_of r) n → (n.slot ≡ slot) ⊎ (n.slot ≢ slot) → place_at places n.slot ≡ Some (Held run n.call)
+  held run r at n among (inl e) = absurd (moved.unheld run n.call (ap (place_at kept.places) (sym e) ∙ placed.held run r at n among))
+  held run r at n among (inr ne) = there n.slot ne ∙ placed.held run r at n among
 
 -- ---- a kind that there isn't
 
@@ -114,7 +114,7 @@ grow_there w kept kind slot h placed lt some =
     by : (p : Option Place) → place_at kept.places slot ≡ p → is_some p ≡ true → is_in_ledger w slot ≡ true
     by None is some = absurd (cc)
     by (Some (Home o)) is some = (and_parts (is_in_ledger w slot) (not (is_owned w slot)) (subst (IsKeptIn w slot) is (kept_in w kept slot h placed)).0).0
-    by (Some (Held run at)) is some = owned_there w (owner_of run (slot, at)) h.owned (held_kept w kept slot run at h placed is)
+    by (Some (Held run at)) is some = owned_there w (owner_of run (name_of slot at)) h.owned (held_kept w kept slot run at h placed is)
 
 -- it had no place, and is at home in the ledger of this kind
 pub record IsGrown (kept : WorldState) (kind slot : ℕ) (o : Object) (ledgers : List (List ℕ)) (places : Places) : Type 0 where
@@ -133,7 +133,7 @@ nowhere kept slot placed free = by (place_at kept.places slot) free (placed.each
 is_new : (w : World) (kept : WorldState) (kind slot : ℕ) → Shows w kept → ArePlaced kept → kind < length known_kinds → is_some (place_at kept.places slot) ≡ false → IsNew w kind slot
 is_new w kept kind slot h placed lt free = record { kind_is = known w kept kind h lt; fresh = ap (list_any (is_in slot)) h.ledgers ∙ nowhere kept slot placed free }
 
-joined_shows : (w : World) (kept : WorldState) (kind slot : ℕ) (places : Places) → Shows w kept → IsNew w kind slot → Shows (joined kind slot w) (with_slots kept kind (with_slot slot (kept_of kept kind)) places)
+joined_shows : (w : World) (kept : WorldState) (kind slot : ℕ) (places : Places) → Shows w kept → IsNew w kind slot → Shows (with_slot_joined kind slot w) (with_slots kept kind (with_slot slot (kept_of kept kind)) places)
 joined_shows w kept kind slot places h new = record {
   views = λ k. (λ i. option_map (λ r. view_joined w k kind slot r h.owned new i) (slice_get w.runs k)) ∙ h.views k;
   slots = h.slots;
@@ -149,7 +149,7 @@ grow_done w kept kind slot o ledgers places h placed grown =
     let new = is_new w kept kind slot h placed grown.known grown.free in
     let is_known = lt-ltb kind (length w.kinds) new.kind_is in
     let fresh = new.fresh in
-    (joined kind slot w, rw (is_known, fresh) refl, subst (λ (ls : List (List ℕ)). Shows (joined kind slot w) (record kept { ledgers = ls; places = places })) (sym grown.ledgers_are) (joined_shows w kept kind slot places h new))
+    (with_slot_joined kind slot w, rw (is_known, fresh) refl, subst (λ (ls : List (List ℕ)). Shows (with_slot_joined kind slot w) (record kept { ledgers = ls; places = places })) (sym grown.ledgers_are) (joined_shows w kept kind slot places h new))
 
 grown_moved : (w : World) (kept : WorldState) (kind slot : ℕ) (o : Object) (ledgers : List (List ℕ)) (places : Places) → Shows w kept → ArePlaced kept → IsGrown kept kind slot o ledgers places → IsMoved kept kind slot (with_slot slot (kept_of kept kind)) (Some (Home o)) places
 grown_moved w kept kind slot o ledgers places h placed grown = record {
@@ -245,7 +245,7 @@ is_reapable w kept kind slot h placed home = by (place_at kept.places slot) (kep
   by (Some (Held run at)) is home = absurd (cc)
   by (Some (Home o)) is home = record { home = is.0; its = subst (λ (k : ℕ). is_in slot (ledger_of w k) ≡ true) (eqb-true o.kind kind home) is.1 }
 
-parted_shows : (w : World) (kept : WorldState) (kind slot : ℕ) (places : Places) → Shows w kept → IsReapable w kind slot → Shows (parted kind slot w) (with_slots kept kind (without_slot slot (kept_of kept kind)) places)
+parted_shows : (w : World) (kept : WorldState) (kind slot : ℕ) (places : Places) → Shows w kept → IsReapable w kind slot → Shows (with_slot_left kind slot w) (with_slots kept kind (without_slot slot (kept_of kept kind)) places)
 parted_shows w kept kind slot places h reapable = record {
   views = λ k. (λ i. option_map (λ r. view_parted w k kind slot r h.owned reapable i) (slice_get w.runs k)) ∙ h.views k;
   slots = h.slots;
@@ -261,7 +261,7 @@ reap_done w kept kind slot ledgers places h placed reaped =
     let reapable = is_reapable w kept kind slot h placed reaped.home in
     let is_known = lt-ltb kind (length w.kinds) (known w kept kind h reaped.known) in
     let its = and_from (is_home w slot) (is_in slot (ledger_of w kind)) reapable.home reapable.its in
-    (parted kind slot w, rw (is_known, its) refl, subst (λ (ls : List (List ℕ)). Shows (parted kind slot w) (record kept { ledgers = ls; places = places })) (sym reaped.ledgers_are) (parted_shows w kept kind slot places h reapable))
+    (with_slot_left kind slot w, rw (is_known, its) refl, subst (λ (ls : List (List ℕ)). Shows (with_slot_left kind slot w) (record kept { ledgers = ls; places = places })) (sym reaped.ledgers_are) (parted_shows w kept kind slot places h reapable))
 
 reaped_moved : (w : World) (kept : WorldState) (kind slot : ℕ) (ledgers : List (List ℕ)) (places : Places) → Shows w kept → ArePlaced kept → IsReaped kept kind slot ledgers places → IsMoved kept kind slot (without_slot slot (kept_of kept kind)) None places
 reaped_moved w kept kind slot ledgers places h placed reaped = record {

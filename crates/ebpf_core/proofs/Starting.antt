@@ -7,7 +7,7 @@ use Rattle.std.proofs.lemmas.Option.{slice_get_past}
 use Rattle.std.proofs.lemmas.List.{length_push}
 use Rattle.std.proofs.lemmas.List.Elements.{All-push}
 use Rattle.ebpf_verify.specs.Subject.{Subject}
-use Rattle.ebpf_machine.specs.World.{Name, World, Owner, kinds_of, first_run, held_by}
+use Rattle.ebpf_machine.specs.World.{Name, World, Owner, kinds_of, first_run, held_by, name_of}
 use Rattle.ebpf_machine.specs.Kinds.{known_kinds}
 use Rattle.ebpf_machine.specs.Events.{NoSuchProgramOrKind, WrongContext, started, starting}
 use Rattle.ebpf_machine.specs.View.{call_of, view_of, view_in, slots_in}
@@ -56,7 +56,7 @@ started_slots w kept s context h k r at = by_place (same_number k (length kept.r
       let here : slice_get (kept.runs ++ first_state_of s context ∷ []) k ≡ Some (first_state_of s context) = ap (slice_get (kept.runs ++ first_state_of s context ∷ [])) last ∙ get_last kept.runs (first_state_of s context) in
       let same : first_state_of s context ≡ r = cc in
       let none : held_by w k ≡ [] = ap (held_by w) last ∙ next_unheld w kept h in
-      let had : slots_in w k ≡ [] = ap (map (λ (o : Owner). (o.slot, call_of o.holder))) none in
+      let had : slots_in w k ≡ [] = ap (map (λ (o : Owner). name_of o.slot (call_of o.holder))) none in
       let has : [] ≡ slots_of r = ap slots_of same in
       had ∙ has
   by_place (inr ne) = h.slots k r (sym (get_past kept.runs (first_state_of {H = Object} s context) k ne) ∙ at)
@@ -105,7 +105,7 @@ placed_started kept r none placed = record { each = λ slot. by (place_at kept.p
   by (Some (Home o)) slot is = record { same = is.same; its = is.its; known = is.known; image = is.image }
   by (Some (Held run at)) slot is = (is.0, get_push kept.runs run is.0 r is.1, is.2)
 
-  held : (run : ℕ) (t : RunState Object) (n : Name) → Contains (slots_of t) n → (slice_get kept.runs run ≡ Some t) ⊎ (r ≡ t) → slice_get (kept.runs ++ r ∷ []) run ≡ Some t → place_at kept.places n.0 ≡ Some (Held run n.1)
+  held : (run : ℕ) (t : RunState Object) (n : Name) → Contains (slots_of t) n → (slice_get kept.runs run ≡ Some t) ⊎ (r ≡ t) → slice_get (kept.runs ++ r ∷ []) run ≡ Some t → place_at kept.places n.slot ≡ Some (Held run n.call)
   held run t n among (inl old) at = placed.held run t old n among
   held run t n among (inr new) at = let inside = (subst (λ (ns : List Name). Contains ns n) (sym (ap slots_of new) ∙ none) among).1 in absurd (omega (arith, inside))
 

@@ -7,18 +7,21 @@ use Rattle.ebpf_insn.specs.Program.{instructions}
 use Rattle.ebpf_verify.specs.Subject.{Subject}
 use Rattle.ebpf_machine.specs.declared.report.Reply.{Reply}
 use Rattle.ebpf_machine.specs.declared.report.Reply.TheVariants as reply
-use Rattle.ebpf_machine.specs.World.{World, Running, Owner, Going, Exited, Trapped, Status, is_in, is_home, ledger_of, kind_in, image_at, holds_of}
-use Rattle.ebpf_machine.specs.Alone.{Outcome, alone_after, outcome_alone}
-use Rattle.ebpf_machine.specs.Sound.{IsOfKind}
+use Rattle.ebpf_machine.specs.World.{World, Running, Owner, IsOfKind, Going, Exited, Trapped, Status, is_in, is_home, ledger_of, kind_in, image_at, holds_of}
+use Rattle.ebpf_machine.specs.Alone.{Replies, Outcome, replies_from, alone_after, outcome_alone}
 use Rattle.ebpf_core.specs.declared.event.Answer.{Answer}
 use Rattle.ebpf_core.specs.declared.event.Answer.TheVariants.{Absent, Null, Slot}
 use Rattle.ebpf_core.specs.declared.event.Event.{Event}
 use Rattle.ebpf_core.specs.declared.event.Event.TheVariants.{Start, Exec, Grow, Reap}
 use Rattle.ebpf_core.specs.Replay.{world_after}
 
--- what a run was told by its calls of new, in order
-abbrev pub replies_to : Running → List Reply
-replies_to run = map (λ t. t.reply) run.told
+-- what the calls of a run were answered, in order
+abbrev pub replies_to : Running → Replies
+replies_to run = replies_from (map (λ c. c.reply) run.calls)
+
+-- what its calls of new were answered
+abbrev pub replies_to_new : Running → List Reply
+replies_to_new run = map (λ c. c.reply) run.calls
 
 -- what the events answer to them: granted, or null
 abbrev pub reply_by : Answer → List Reply
@@ -42,7 +45,7 @@ IsUntrapped (Exited n) = Unit {0}
 IsUntrapped (Trapped trap) = ⊥
 
 -- a run is where the run alone is after as many instructions with the same replies: at the same pc, with the same output,
--- going on or ended alike
+-- going on or ended alike; and it did as many: the run alone stays where it is once it ended
 pub record IsWhereAlone (run : Running) : Type 0 where
   pub alone : Running
   pub only : (alone_after run.executed run.subject run.context (replies_to run)).world.runs ≡ alone ∷ []
@@ -60,7 +63,7 @@ pub record IsOutcomeOf (run : Running) (n : ℕ) (o : Outcome) : Type 0 where
 -- a run of the world, by its number, that was given these answers
 pub record IsIsolated (w : World) (k : ℕ) (run : Running) (answers : List Reply) : Type 0 where
   pub untrapped : IsUntrapped run.status
-  pub told : replies_to run ≡ answers
+  pub told : replies_to_new run ≡ answers
   pub alone : IsWhereAlone run
   pub ended : (n : ℕ) → run.status ≡ Exited n → IsOutcomeOf run n (outcome_alone run.subject run.context (replies_to run))
   pub bounded : run.executed ≤ length (instructions run.subject.program)
@@ -73,7 +76,7 @@ pub record IsInLedger (w : World) (o : Owner) : Type 0 where
   pub there : is_in o.slot (ledger_of w (kind_in w o.slot)) ≡ true
   pub asked : IsOfKind w o.holder (kind_in w o.slot)
 
--- the world after these events
+-- what the theorem says of the world that these events lead to; the events are there for what each run was answered
 pub record IsSafe (w : World) (events : List Event) : Type 0 where
   pub runs : (k : ℕ) (run : Running) → slice_get w.runs k ≡ Some run → IsIsolated w k run (answers_to k events)
   pub held_once : (slot : ℕ) → count_by (λ o. o.slot == slot) w.owners ≤ 1

@@ -20,9 +20,9 @@ is_of_kind None kind = false
 is_of_kind (Some o) kind = o.kind == kind
 
 -- what a call of new for a kind may be answered: the object here where it is of this kind, else null
-abbrev pub Lends : Option Object → ℕ → ℕ → Type 0
-Lends None kind slot = ⊥
-Lends (Some o) kind slot = (o.kind ≡ kind) × (o.slot ≡ slot)
+abbrev pub Lends : Option Object → (kind at slot : ℕ) → Type 0
+Lends None kind at slot = ⊥
+Lends (Some o) kind at slot = (o.kind ≡ kind) × (o.slot ≡ slot)
 
 abbrev pub LendsNone : Option Object → ℕ → Type 0
 LendsNone here kind = is_of_kind here kind ≡ false

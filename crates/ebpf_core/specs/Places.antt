@@ -47,8 +47,8 @@ abbrev pub place_lent : Answer → ℕ → ℕ → Places → ℕ → Option Pla
 place_lent (Slot slot) run at places q = if q == slot then Some (Held run at) else place_at places q
 place_lent _ run at places q = place_at places q
 
--- ---- an object that a run freed is at home in its slot
+-- ---- an object comes back from a run, to a place that it makes
 
-abbrev pub place_returned : Option Object → Places → ℕ → Option Place
-place_returned (Some o) places q = if q == o.slot then Some (Home o) else place_at places q
-place_returned None places q = place_at places q
+abbrev pub place_returned : (Object → Place) → Option Object → Places → ℕ → Option Place
+place_returned place (Some o) places q = if q == o.slot then Some (place o) else place_at places q
+place_returned place None places q = place_at places q

@@ -2,12 +2,12 @@
 use Rattle.std.specs.Prelude.{◌≡◌, ◌<◌, ℕ, false, true, All, Contains, List, [], length, Option, Some, None, Ok, option_map, slice_get, slice_index_or}
 use Rattle.std.specs.List.{list_any}
 use Rattle.ebpf_verify.specs.Subject.{Subject}
-use Rattle.ebpf_machine.specs.World.{Name, World, kinds_of, image_at, is_in}
+use Rattle.ebpf_machine.specs.World.{Name, World, kinds_of, image_at, is_in, name_of}
 use Rattle.ebpf_machine.specs.Kinds.{known_kinds}
 use Rattle.ebpf_machine.specs.View.{RunView, view_in, slots_in}
 use Rattle.ebpf_machine.specs.RunState.{RunState, seen, slots_kept}
-use Rattle.ebpf_machine.specs.Step.{AreOut}
 use Rattle.ebpf_machine.specs.Sound.{IsSound, IsAlone, IsOwned}
+use Rattle.ebpf_machine.specs.Store.{AreOutBy}
 use Rattle.ebpf_core.specs.declared.passing.Object.{Object}
 use Rattle.ebpf_core.specs.declared.place.Place.{Place}
 use Rattle.ebpf_core.specs.declared.place.Place.TheVariants.{Home, Held}
@@ -43,7 +43,7 @@ slots_of r = slots_kept (λ o. o.slot) r.held
 pub record IsTended (r : RunState Object) : Type 0 where
   pub sound : IsSound (run_seen r)
   pub alone : IsAlone (run_seen r)
-  pub out : AreOut (IsOut None) (λ o. o.kind) (λ o. o.slot) r.held
+  pub out : AreOutBy (IsOut None) (λ o. o.kind) (λ o. o.slot) r.held
   pub kinds : kinds_of r.subject.rows ≡ known_kinds
 
 -- an object that is nobody's is of the kind in whose ledger its slot is, and has its image
@@ -57,12 +57,12 @@ pub record IsAtHome (kept : WorldState) (slot : ℕ) (o : Object) : Type 0 where
 abbrev pub IsPlaced : WorldState → ℕ → Option Place → Type 0
 IsPlaced kept slot None = list_any (is_in slot) kept.ledgers ≡ false
 IsPlaced kept slot (Some (Home o)) = IsAtHome kept slot o
-IsPlaced kept slot (Some (Held run at)) = (r : RunState Object) × (slice_get kept.runs run ≡ Some r) × Contains (slots_of r) (slot, at)
+IsPlaced kept slot (Some (Held run at)) = (r : RunState Object) × (slice_get kept.runs run ≡ Some r) × Contains (slots_of r) (name_of slot at)
 
 -- each slot is where it is kept, and each that a run holds is kept as held
 pub record ArePlaced (kept : WorldState) : Type 0 where
   pub each : (slot : ℕ) → IsPlaced kept slot (place_at kept.places slot)
-  pub held : (run : ℕ) (r : RunState Object) → slice_get kept.runs run ≡ Some r → (n : Name) → Contains (slots_of r) n → place_at kept.places n.0 ≡ Some (Held run n.1)
+  pub held : (run : ℕ) (r : RunState Object) → slice_get kept.runs run ≡ Some r → (n : Name) → Contains (slots_of r) n → place_at kept.places n.slot ≡ Some (Held run n.call)
 
 -- the world that is kept shows this one: each run as it sees itself, in the slots that it holds
 pub record Shows (w : World) (kept : WorldState) : Type 0 where

@@ -1,17 +1,18 @@
 -- One instruction of a run that is kept: which answers are legal, the object that is lent to it, and the one that it frees.
 use Rattle.std.specs.Prelude.{◌≡◌, ◌≢◌, ◌<◌, ◌+◌, ℕ, ◌==◌, if◌then◌else◌, length, All, Contains, Option, Some, None, IfSome}
+use Rattle.ebpf_verify.specs.Subject.{Subject}
 use Rattle.ebpf_machine.specs.declared.holding.Holding.{Holding}
 use Rattle.ebpf_machine.specs.World.{image_at}
-use Rattle.ebpf_machine.specs.World as world
 use Rattle.ebpf_machine.specs.Events.{Unasked}
 use Rattle.ebpf_machine.specs.Kinds.{known_kinds}
 use Rattle.ebpf_machine.specs.View.{stepped}
 use Rattle.ebpf_machine.specs.RunState.{RunState}
-use Rattle.ebpf_machine.specs.Step.{AreOut, MayAnswer, IsEvent, held_of_kind, asking_in, reply_of}
+use Rattle.ebpf_machine.specs.Step.{Served, MayAnswer, IsEvent, asking_in, answer_for, result_of}
+use Rattle.ebpf_machine.specs.Store.{AreOutBy, held_of_kind}
 use Rattle.ebpf_core.specs.declared.event.Answer.{Answer}
 use Rattle.ebpf_core.specs.declared.event.Answer.TheVariants.{Absent, Null, Slot}
 use Rattle.ebpf_core.specs.declared.fault.ApplyCode.{ApplyCode}
-use Rattle.ebpf_core.specs.declared.fault.ApplyCode.TheVariants.{E3, E4, E5, E6}
+use Rattle.ebpf_core.specs.declared.fault.ApplyCode.TheVariants.{E3, E4, E5, E6, E9, E10}
 use Rattle.ebpf_core.specs.declared.passing.Object.{Object}
 use Rattle.ebpf_core.specs.declared.place.Place.{Place}
 use Rattle.ebpf_core.specs.declared.place.Place.TheVariants.{Home}
@@ -43,15 +44,22 @@ IsNewObject o = (o.bytes.items ≡ image_at known_kinds o.kind) × (o.kind < len
 -- an object can be lent to a run: it has its image and is none of the run's own, and the run asks for one
 pub record CanLend (lent : Option Object) (r : RunState Object) : Type 0 where
   pub image : IfSome lent IsNewObject
-  pub out : AreOut (IsOut lent) (λ o. o.kind) (λ o. o.slot) r.held
+  pub out : AreOutBy (IsOut lent) (λ o. o.kind) (λ o. o.slot) r.held
   pub asked : asking_in (run_seen r) ≡ Unasked → lent ≡ None
 
 -- what the instruction leaves of a run that was lent this object, and what it freed
 pub record IsStepped (lent freed : Option Object) (r t : RunState Object) : Type 0 where
-  pub answer : world.Answer
-  pub may : MayAnswer (Lends lent) (LendsNone lent) (asking_in (run_seen r)) answer
-  pub state : run_seen t ≡ stepped (reply_of answer) (run_seen r)
-  pub event : IsEvent answer (run_seen r) (run_seen t) (slots_of r) (slots_of t)
+  pub served : Served
+  pub may : MayAnswer (Lends lent) (LendsNone lent) r.pc (asking_in (run_seen r)) served
+  pub state : run_seen t ≡ stepped (result_of served) (run_seen r)
+  pub event : IsEvent (answer_for served) (run_seen r) (run_seen t) (slots_of r) (slots_of t)
   pub of_kind : (kind : ℕ) → out_of_kind freed kind + held_of_kind r.held kind ≡ out_of_kind lent kind + held_of_kind t.held kind
   pub gone : (h : Holding Object) → Contains r.held h → All (λ k. k.object.slot ≢ h.object.slot) t.held → IsOut freed h.object → ⊥
   pub image : IfSome freed IsNewObject
+
+-- ---- the code of a start that is not legal
+
+-- by the program of its number, and how long the context is
+abbrev pub start_code : Option Subject → ℕ → Option ApplyCode
+start_code None long = Some E9
+start_code (Some s) long = if long == s.decl.context then None else Some E10

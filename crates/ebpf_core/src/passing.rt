@@ -113,27 +113,21 @@ impl<G: Ledger, N: Ledger> Objects for Passing<G, N> {
 
     type Held = Object;
 
-    ghost kinds = { known_kinds };
-
-    ghost kind_of = { λ o. o.kind };
-
-    ghost slot_of = { λ o. o.slot };
-
-    ghost is_out = { λ p o. IsOut p.object o };
-
-    ghost bytes_of = { λ p o. o.bytes.items };
-
-    ghost can_grant = { λ p kind slot. Lends p.object kind slot };
-
-    ghost can_refuse = { λ p kind. LendsNone p.object kind };
-
-    ghost can_give = { λ p. p.object ≡ None };
-
-    ghost grants = { λ p. p.grants.total };
-
-    ghost nulls = { λ p. p.nulls.total };
-
-    ghost outs = { λ p kind. out_of_kind p.object kind };
+    ghost store = {
+        record {
+            kinds = known_kinds;
+            kind_of = λ o. o.kind;
+            slot_of = λ o. o.slot;
+            is_out = λ p o. IsOut p.object o;
+            bytes_of = λ p o. o.bytes.items;
+            can_grant = λ p kind at slot. Lends p.object kind at slot;
+            can_refuse = λ p kind. LendsNone p.object kind;
+            can_give = λ p. p.object ≡ None;
+            grants = λ p. p.grants.total;
+            nulls = λ p. p.nulls.total;
+            outs = λ p kind. out_of_kind p.object kind;
+        }
+    };
 
     fn take(&mut self, kind: u8, _at: u16) -> Option<Object> {
         if is_of_kind(&self.object, kind) {

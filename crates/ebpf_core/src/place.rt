@@ -43,7 +43,7 @@ pub(crate) fn lend(
 /// An object that a run freed is at home again. No memory is taken.
 pub(crate) fn put(places: &mut BTreeMap<u32, Place>, freed: Option<Object>)
     requires known { IfSome freed (λ o. IsSome (place_at places.old.entries o.slot)) }
-    ensures places { (q : ℕ) → place_at places.new.entries q ≡ place_returned freed places.old.entries q }
+    ensures places { (q : ℕ) → place_at places.new.entries q ≡ place_returned Place.Home freed places.old.entries q }
 {
     let Some(object) = freed else {
         return;

@@ -1,16 +1,31 @@
 //! One instruction of a run: whether its answer is legal, the object that it is lent, and the one that it frees.
 
-ghost use Rattle.std.specs.Prelude.{◌≡◌, IfNone, option_copied};
+ghost use Rattle.std.specs.Prelude.{◌≡◌, IfNone, option_copied, slice_get};
 ghost use Rattle.ebpf_core.specs.Shown.{IsTended};
-ghost use Rattle.ebpf_core.specs.Stepping.{slot_code, code_by, CanLend, IsStepped};
+ghost use Rattle.ebpf_core.specs.Stepping.{slot_code, start_code, code_by, CanLend, IsStepped};
 
 use crate::event::Answer;
 use crate::fault::ApplyCode;
 use crate::passing::{Object, Passing};
 use crate::place::Place;
 use ebpf_machine::run::Run;
+use ebpf_verify::verified::Verified;
 use std::collections::BTreeMap;
 use std::sync::ledger::{Blank, Ledger};
+
+/// Why a run of the program of this number can't start on a context of this length.
+pub(crate) fn start_fault(programs: &[Verified], program: usize, length: usize) -> Option<ApplyCode>
+    ensures { result ≡ start_code (slice_get programs.now program) length }
+{
+    if program >= programs.len() {
+        return Some(ApplyCode::E9);
+    }
+    if length == programs[program].decl().context as usize {
+        None
+    } else {
+        Some(ApplyCode::E10)
+    }
+}
 
 /// Why an answer isn't legal for a run that wants this kind, or nothing.
 pub(crate) fn answer_fault(

@@ -16,6 +16,7 @@
 ghost use Rattle.std.specs.Prelude.{◌≡◌, length, slice_get, option_map, OnOk, OnErr, IfOk, IfErr};
 ghost use Rattle.ebpf_core.specs.Events.{first_world, happened};
 ghost use Rattle.ebpf_core.specs.declared.event.Event.TheVariants.{Start, Exec, Grow, Reap};
+ghost use Rattle.ebpf_core.specs.Faults.{IsMemoryDue};
 ghost use Rattle.ebpf_core.specs.Shown.{Shows, OfWorld, IsDone, IsRefused, AreKnown};
 ghost use Rattle.ebpf_core.specs.Readers.{status_in, output_in, executed_in, owner_in, bytes_in, ledger_in};
 ghost use Rattle.ebpf_state.specs.Ascending.{IsAscending};
@@ -25,7 +26,7 @@ use crate::fault::{ApplyCode, ApplyFault};
 use crate::ledger::{Ledger, join, leave};
 use crate::passing::Object;
 use crate::place::{Place, is_home_of, lend, put};
-use crate::stepping::{answer_fault, step_in};
+use crate::stepping::{answer_fault, start_fault, step_in};
 use ebpf_machine::run::{Run, StartFault};
 use ebpf_verify::verified::Verified;
 use std::alloc::{AllocError, Global};
@@ -85,11 +86,12 @@ impl<'v> World<'v> {
     /// One event.
     ///
     /// # Errors
-    /// `Bad` where the event isn't legal, with the first code that applies; `NoMemory` where an allocation failed. The
-    /// world is as it was then.
+    /// `Bad` where the event isn't legal, with the first code that applies; `NoMemory` where it is legal and an allocation
+    /// failed, of a run that starts or of a slot that joins. The world is as it was then.
     pub fn apply(&mut self, event: Event) -> Result<(), ApplyFault>
         ensures done { OnOk result (IsDone event self.old self.new) }
         ensures refused { IfErr result (IsRefused event self.old) }
+        ensures memory { IfErr result (IsMemoryDue event) }
         ensures unchanged { OnErr result (self.new ≡ self.old) }
         ensures programs { self.new.programs ≡ self.old.programs }
     {
@@ -103,11 +105,15 @@ impl<'v> World<'v> {
     pub(crate) fn follow(&mut self, event: &Event) -> Result<(), ApplyFault>
         ensures done { OnOk result (IsDone event.now self.old self.new) }
         ensures refused { IfErr result (IsRefused event.now self.old) }
+        ensures memory { IfErr result (IsMemoryDue event.now) }
         ensures unchanged { OnErr result (self.new ≡ self.old) }
         ensures programs { self.new.programs ≡ self.old.programs }
     {
         match event {
             Event::Start { program, context } => {
+                if let Some(code) = start_fault(self.programs, *program, context.bytes.len()) {
+                    return Err(ApplyFault::Bad(code));
+                }
                 let Ok(bytes) = context.bytes.to_vec(self.alloc) else {
                     return Err(ApplyFault::NoMemory);
                 };
@@ -146,6 +152,7 @@ impl<'v> World<'v> {
     fn execute(&mut self, run: usize, answer: Answer) -> Result<(), ApplyFault>
         ensures done { OnOk result (IsDone (Exec run answer) self.old self.new) }
         ensures refused { IfErr result (IsRefused (Exec run answer) self.old) }
+        ensures memory { IfErr result (IsMemoryDue (Exec run answer)) }
         ensures unchanged { OnErr result (self.new ≡ self.old) }
         ensures programs { self.new.programs ≡ self.old.programs }
     {
@@ -197,6 +204,7 @@ impl<'v> World<'v> {
     fn reap(&mut self, kind: u8, slot: u32) -> Result<(), ApplyFault>
         ensures done { OnOk result (IsDone (Reap kind slot) self.old self.new) }
         ensures refused { IfErr result (IsRefused (Reap kind slot) self.old) }
+        ensures memory { IfErr result (IsMemoryDue (Reap kind slot)) }
         ensures unchanged { OnErr result (self.new ≡ self.old) }
         ensures programs { self.new.programs ≡ self.old.programs }
     {

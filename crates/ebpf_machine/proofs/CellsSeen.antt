@@ -48,9 +48,9 @@ cell_points frame n h = InCell (cell_at frame.stack h.0) (part_among frame.stack
 
 -- names that two lists of cells have parts of are one on one side where they are on the other
 abbrev AreAlike : (Name → Name → Bool) → (ℕ → ℕ → Bool) → List (Cell Name) → Type 0
-AreAlike one seen stack = (n m : Name) → HasPart stack n → HasPart stack m → seen n.1 m.1 ≡ one n m
+AreAlike one seen stack = (n m : Name) → HasPart stack n → HasPart stack m → seen n.call m.call ≡ one n m
 
-base-seen : (one : Name → Name → Bool) (seen : ℕ → ℕ → Bool) (a b : Base Name) → ((n m : Name) → a ≡ Object n → b ≡ Object m → seen n.1 m.1 ≡ one n m) → is_same_base seen (base_seen a) (base_seen b) ≡ is_same_base one a b
+base-seen : (one : Name → Name → Bool) (seen : ℕ → ℕ → Bool) (a b : Base Name) → ((n m : Name) → a ≡ Object n → b ≡ Object m → seen n.call m.call ≡ one n m) → is_same_base seen (base_seen a) (base_seen b) ≡ is_same_base one a b
 base-seen one seen Stack Stack alike = refl
 base-seen one seen Stack Context alike = refl
 base-seen one seen Stack (Object m) alike = refl
@@ -61,17 +61,17 @@ base-seen one seen (Object n) Stack alike = refl
 base-seen one seen (Object n) Context alike = refl
 base-seen one seen (Object n) (Object m) alike = alike n m refl refl
 
-pointer-seen : (one : Name → Name → Bool) (seen : ℕ → ℕ → Bool) (v u : Value Name) → ((n m : Name) → Names (Some v) n → Names (Some u) m → seen n.1 m.1 ≡ one n m) → is_same_pointer seen (value_seen v) (value_seen u) ≡ is_same_pointer one v u
+pointer-seen : (one : Name → Name → Bool) (seen : ℕ → ℕ → Bool) (v u : Value Name) → ((n m : Name) → Names (Some v) n → Names (Some u) m → seen n.call m.call ≡ one n m) → is_same_pointer seen (value_seen v) (value_seen u) ≡ is_same_pointer one v u
 pointer-seen one seen (Number x) u alike = refl
 pointer-seen one seen (Pointer a k) (Number x) alike = refl
 pointer-seen one seen (Pointer a k) (Pointer b j) alike =
     ap (λ (t : Bool). t && int_eq k j) (base-seen one seen a b (λ n m e f. named n m e f)) where
-      named : (n m : Name) → a ≡ Object n → b ≡ Object m → seen n.1 m.1 ≡ one n m
+      named : (n m : Name) → a ≡ Object n → b ≡ Object m → seen n.call m.call ≡ one n m
       named n m e f = alike n m (of_object a k n e) (of_object b j m f) where
         of_object : (base : Base Name) (k : ℤ) (n : Name) → base ≡ Object n → Names (Some (Pointer base k)) n
         of_object base k n e = rw e refl
 
-part-seen : (one : Name → Name → Bool) (seen : ℕ → ℕ → Bool) (v : Value Name) (j : ℕ) (c : Cell Name) → ((n m : Name) → Names (Some v) n → NamesPart c m → seen n.1 m.1 ≡ one n m) → is_part seen (value_seen v) j (cell_seen c) ≡ is_part one v j c
+part-seen : (one : Name → Name → Bool) (seen : ℕ → ℕ → Bool) (v : Value Name) (j : ℕ) (c : Cell Name) → ((n m : Name) → Names (Some v) n → NamesPart c m → seen n.call m.call ≡ one n m) → is_part seen (value_seen v) j (cell_seen c) ≡ is_part one v j c
 part-seen one seen v j Unset alike = refl
 part-seen one seen v j (Byte b) alike = refl
 part-seen one seen v j (Part u i) alike = ap (λ (t : Bool). t && i == j) (pointer-seen one seen v u alike)

@@ -8,14 +8,14 @@ use Rattle.std.proofs.lemmas.List.{length-map}
 use Rattle.std.proofs.lemmas.List.Elements.{All-map}
 use Rattle.ebpf_insn.specs.Program.{insn_at}
 use Rattle.ebpf_insn.specs.Faults.{first_of}
-use Rattle.ebpf_machine.specs.declared.report.Reply.TheVariants.{Null}
 use Rattle.ebpf_machine.specs.Values.{Frame}
-use Rattle.ebpf_machine.specs.Effect.{Act, Nothing, Write, Take, Give, Effect, Goes, Ends, Traps}
-use Rattle.ebpf_machine.specs.World.{Name, Kind, World, Running, Owner, Going, Answer, Absent, Slot, around, holds_of, held_by, is_home, is_in, kind_in, kinds_of, image_at, ledger_of}
+use Rattle.ebpf_machine.specs.Effect.{Act, Nothing, Write, Ask, Free, Effect, Goes, Ends, Traps}
+use Rattle.ebpf_machine.specs.World.{Name, Kind, World, Running, Owner, Going, Answer, Absent, Slot, environment, holds_of, held_by, is_home, is_in, kind_in, kinds_of, image_at, ledger_of}
 use Rattle.ebpf_machine.specs.World as world
 use Rattle.ebpf_machine.specs.Events.{Illegal, SlotNotHome, SlotOfAnotherKind, Asking, OfKind, granted, done_by, effect_of_run, asking_of, answer_fault, exec}
-use Rattle.ebpf_machine.specs.View.{ObjectView, RunView, object_in, view_of, view_in, slots_in, around_view, effect_of_view, stepped}
-use Rattle.ebpf_machine.specs.Step.{IsEvent, reply_of}
+use Rattle.ebpf_machine.specs.View as view
+use Rattle.ebpf_machine.specs.View.{ObjectView, RunView, object_in, view_of, view_in, slots_in, environment_of_view, effect_of_view, stepped}
+use Rattle.ebpf_machine.specs.Step.{IsEvent, reply_of, served_by, Served, Idle, Refused, Granted, answer_for, result_of}
 use Rattle.ebpf_machine.specs.Advance.{slots_after}
 use Rattle.ebpf_machine.specs.Sound.{IsOwned, IsSound, AreSized}
 use Rattle.ebpf_machine.proofs.ListLemmas.{All-by_contains}
@@ -34,12 +34,12 @@ pub record IsNextWorld (w : World) (run : ℕ) (r : Running) (answer : Answer) (
   pub owned : IsOwned after
   pub as_many : length after.runs ≡ length w.runs
   pub seen : view_in after run ≡ Some (stepped (reply_of answer) (view_of w run r))
-  pub slots : slots_in after run ≡ slots_after (effect_of_view (view_of w run r)) answer r.subject.decl.held r.pc (slots_in w run)
+  pub slots : slots_in after run ≡ slots_after (effect_of_view (view_of w run r)) (served_by answer) r.subject.decl.held r.pc (slots_in w run)
   pub others : (other : ℕ) → other ≢ run → view_in after other ≡ view_in w other
   pub others_slots : (other : ℕ) → other ≢ run → slots_in after other ≡ slots_in w other
   pub kinds : after.kinds ≡ w.kinds
   pub ledgers : after.ledgers ≡ w.ledgers
-  pub unowned : w.owners ≡ [] → reply_of answer ≡ Null → after.owners ≡ []
+  pub unowned : w.owners ≡ [] → reply_of answer ≡ view.Null → after.owners ≡ []
 
 -- ---- what an effect leaves as it was
 
@@ -57,21 +57,21 @@ steady_done w run r (Ends n) answer = record { as_many = length-set w.runs run _
 steady_done w run r (Traps trap) answer = record { as_many = length-set w.runs run _; kinds = refl; ledgers = refl }
 steady_done w run r (Goes Nothing to frame) answer = record { as_many = length-set w.runs run _; kinds = refl; ledgers = refl }
 steady_done w run r (Goes (Write name at bytes) to frame) answer = record { as_many = length-set w.runs run _; kinds = refl; ledgers = refl }
-steady_done w run r (Goes (Give name) to frame) answer = record { as_many = length-set w.runs run _; kinds = refl; ledgers = refl }
-steady_done w run r (Goes (Take kind) to frame) Absent = record { as_many = length-set w.runs run _; kinds = refl; ledgers = refl }
-steady_done w run r (Goes (Take kind) to frame) world.Null = record { as_many = length-set w.runs run _; kinds = refl; ledgers = refl }
-steady_done w run r (Goes (Take kind) to frame) (Slot slot) = steady_granted w run r slot to kind frame
+steady_done w run r (Goes (Free name) to frame) answer = record { as_many = length-set w.runs run _; kinds = refl; ledgers = refl }
+steady_done w run r (Goes (Ask kind) to frame) Absent = record { as_many = length-set w.runs run _; kinds = refl; ledgers = refl }
+steady_done w run r (Goes (Ask kind) to frame) world.Null = record { as_many = length-set w.runs run _; kinds = refl; ledgers = refl }
+steady_done w run r (Goes (Ask kind) to frame) (Slot slot) = steady_granted w run r slot to kind frame
 
 -- nobody has a slot then either, where none was granted
-unowned_done : (w : World) (run : ℕ) (r : Running) (e : Effect Name) (answer : Answer) → w.owners ≡ [] → reply_of answer ≡ Null → (done_by e answer w run r).owners ≡ []
+unowned_done : (w : World) (run : ℕ) (r : Running) (e : Effect Name) (answer : Answer) → w.owners ≡ [] → reply_of answer ≡ view.Null → (done_by e answer w run r).owners ≡ []
 unowned_done w run r (Ends n) answer none null = none
 unowned_done w run r (Traps trap) answer none null = none
 unowned_done w run r (Goes Nothing to frame) answer none null = none
 unowned_done w run r (Goes (Write name at bytes) to frame) answer none null = none
-unowned_done w run r (Goes (Give name) to frame) answer none null = ap (filter _) none
-unowned_done w run r (Goes (Take kind) to frame) Absent none null = none
-unowned_done w run r (Goes (Take kind) to frame) world.Null none null = none
-unowned_done w run r (Goes (Take kind) to frame) (Slot slot) none null = absurd (cc)
+unowned_done w run r (Goes (Free name) to frame) answer none null = ap (filter _) none
+unowned_done w run r (Goes (Ask kind) to frame) Absent none null = none
+unowned_done w run r (Goes (Ask kind) to frame) world.Null none null = none
+unowned_done w run r (Goes (Ask kind) to frame) (Slot slot) none null = absurd (cc)
 
 -- ---- the effect in the world and the effect that is seen
 
@@ -83,18 +83,18 @@ and_false true = refl
 and_false false = refl
 
 -- what a run meets in the world is seen by it
-met : (w : World) (run : ℕ) (r : Running) → IsOwned w → slice_get w.runs run ≡ Some r → IsSeenAs (around w run r) (around_view (view_of w run r)) r.frame
+met : (w : World) (run : ℕ) (r : Running) → IsOwned w → slice_get w.runs run ≡ Some r → IsSeenAs (environment w run r) (environment_of_view (view_of w run r)) r.frame
 met w run r owned there = record {
   context = refl;
   kinds = kinds_alike w run r owned there;
   holds = length-map (held_by w run) (object_in w);
   objects = λ n has. objects_found w run r n owned there has;
-  names = λ n m has too. same n m (n.1 == m.1) refl (λ e. owned.one_slot run r there n m has too e);
+  names = λ n m has too. same n m (n.call == m.call) refl (λ e. owned.one_slot run r there n m has too e);
 }
   where
-    same : (n m : Name) (t : Bool) → (n.1 == m.1) ≡ t → (n.1 ≡ m.1 → n.0 ≡ m.0) → (n.1 == m.1) ≡ ((n.0 == m.0) && (n.1 == m.1))
-    same n m false e one = rw e (sym (and_false (n.0 == m.0)))
-    same n m true e one = let slots = equal n.0 m.0 (one (calls n.1 m.1 e)) in rw (e, slots) refl
+    same : (n m : Name) (t : Bool) → (n.call == m.call) ≡ t → (n.call ≡ m.call → n.slot ≡ m.slot) → (n.call == m.call) ≡ ((n.slot == m.slot) && (n.call == m.call))
+    same n m false e one = rw e (sym (and_false (n.slot == m.slot)))
+    same n m true e one = let slots = equal n.slot m.slot (one (calls n.call m.call e)) in rw (e, slots) refl
       where
         calls : (a b : ℕ) → (a == b) ≡ true → a ≡ b
         calls a b e = grind (arith, nat_tests)
@@ -103,7 +103,7 @@ met w run r owned there = record {
         equal a b e = grind (arith, nat_tests)
 
 seen_effect : (w : World) (run : ℕ) (r : Running) → IsOwned w → slice_get w.runs run ≡ Some r → effect_seen (effect_of_run w run r) ≡ effect_of_view (view_of w run r)
-seen_effect w run r owned there = sym (effect_at-seen (insn_at r.subject.program r.pc) r.pc (around w run r) (around_view (view_of w run r)) r.frame (met w run r owned there))
+seen_effect w run r owned there = sym (effect_at-seen (insn_at r.subject.program r.pc) r.pc (environment w run r) (environment_of_view (view_of w run r)) r.frame (met w run r owned there))
 
 -- each object of a run has as many bytes as its kind says
 pub sized_in : (w : World) (run : ℕ) (r : Running) → IsOwned w → slice_get w.runs run ≡ Some r → AreSized (view_of w run r)
@@ -126,13 +126,13 @@ grantable w kind (Slot slot) fine = by (is_home w slot) (is_in slot (ledger_of w
   by true false home its fine = absurd (cc)
   by false u home its fine = absurd (cc)
 
-own_act : (w : World) (run : ℕ) (r : Running) (answer : Answer) (act : Act Name) → IsThere (around w run r) act → answer_fault w (asked_by act) answer ≡ None → IsOwnAct w run answer act
+own_act : (w : World) (run : ℕ) (r : Running) (answer : Answer) (act : Act Name) → IsThere (environment w run r) act → answer_fault w (asked_by act) answer ≡ None → IsOwnAct w run answer act
 own_act w run r answer Nothing there fine = tt
 own_act w run r answer (Write name at bytes) there fine =
     let own = own_found w run name there.0 there.1 in
     (own.0, subst (λ (old : List ℕ). at + length bytes ≤ length old) own.1 there.2)
-own_act w run r answer (Take kind) there fine = (there, grantable w kind answer fine)
-own_act w run r answer (Give name) there fine = (own_found w run name there.0 there.1).0
+own_act w run r answer (Ask kind) there fine = (there, grantable w kind answer fine)
+own_act w run r answer (Free name) there fine = (own_found w run name there.0 there.1).0
 
 abbrev IsOwnNext : World → ℕ → Running → Answer → Effect Name → Type 0
 IsOwnNext w run r answer e = IsOwnEffect w run answer e × IsForward r.frame r.pc e
@@ -144,7 +144,7 @@ own_next w run r answer (Traps trap) fine is seen (inr (n, ends)) = let does = e
 own_next w run r answer (Goes act to frame) fine is seen (inr (n, ends)) = let does = ends.does in absurd (cc)
 own_next w run r answer (Goes act to frame) fine is seen (inl (same, where_to, after, g)) =
     let o = insn_at r.subject.program r.pc in
-    let a = around w run r in
+    let a = environment w run r in
     let does = g.does in
     let there : where_to ≡ to = cc in
     let asked = asked_goes o r.pc a r.frame act to frame is in (
@@ -167,7 +167,7 @@ next_world w run r answer owned there sound going fine =
         owned = owned_done w run r e answer owned there own.0 own.1;
         as_many = steady.as_many;
         seen = own_view w run r e answer owned there own.0 ∙ rw (seen, going) refl;
-        slots = own_slots w run r e answer owned own.0 ∙ ap (λ (x : Effect ℕ). slots_after x answer r.subject.decl.held r.pc (slots_in w run)) seen;
+        slots = own_slots w run r e answer owned own.0 ∙ ap (λ (x : Effect ℕ). slots_after x (served_by answer) r.subject.decl.held r.pc (slots_in w run)) seen;
         others = λ other ne. others_view w run other r e answer owned own.0 ne;
         others_slots = λ other ne. others_slots w run other r e answer owned own.0 ne;
         kinds = steady.kinds;
@@ -196,12 +196,18 @@ legal_answer w after run r answer there going does = by (answer_fault w (asking_
   by None fault = refl
   by (Some why) fault = let illegal : exec w run answer ≡ Err why = rw (there, going, fault) refl in absurd (cc)
 
-pub step_event : (v : RunView) (answer : Answer) (held : List Name) → IsSound v → v.status ≡ Going → IsEvent answer v (stepped (reply_of answer) v) held (slots_after (effect_of_view v) answer v.subject.decl.held v.pc held)
+pub step_event : (v : RunView) (answer : Answer) (held : List Name) → IsSound v → v.status ≡ Going → IsEvent answer v (stepped (reply_of answer) v) held (slots_after (effect_of_view v) (served_by answer) v.subject.decl.held v.pc held)
 step_event v answer held sound going w after run owned shows slots does =
     let r = shown_run w run v shows in
     let goes : r.0.status ≡ Going = ap (λ (u : RunView). u.status) r.2 ∙ going in
     let next = next_world w run r.0 answer owned r.1 (subst IsSound (sym r.2) sound) goes (legal_answer w after run r.0 answer r.1 goes does) in
     let same : next.0 ≡ after = ok_same next.0 after (exec w run answer) next.1.legal does in
-    let now = ap (λ (u : RunView). slots_after (effect_of_view u) answer u.subject.decl.held u.pc (slots_in w run)) r.2 ∙ ap (slots_after (effect_of_view v) answer v.subject.decl.held v.pc) slots in
-    subst (λ (u : World). (view_in u run ≡ Some (stepped (reply_of answer) v)) × (slots_in u run ≡ slots_after (effect_of_view v) answer v.subject.decl.held v.pc held)) same
+    let now = ap (λ (u : RunView). slots_after (effect_of_view u) (served_by answer) u.subject.decl.held u.pc (slots_in w run)) r.2 ∙ ap (slots_after (effect_of_view v) (served_by answer) v.subject.decl.held v.pc) slots in
+    subst (λ (u : World). (view_in u run ≡ Some (stepped (reply_of answer) v)) × (slots_in u run ≡ slots_after (effect_of_view v) (served_by answer) v.subject.decl.held v.pc held)) same
     (next.1.seen ∙ ap (λ (u : RunView). Some (stepped (reply_of answer) u)) r.2, next.1.slots ∙ now)
+
+-- and one step with a store's answer is the event with the answer that it makes
+pub served_event : (v : RunView) (served : Served) (held : List Name) → IsSound v → v.status ≡ Going → IsEvent (answer_for served) v (stepped (result_of served) v) held (slots_after (effect_of_view v) served v.subject.decl.held v.pc held)
+served_event v Idle held sound going = step_event v Absent held sound going
+served_event v Refused held sound going = step_event v world.Null held sound going
+served_event v (Granted slot) held sound going = step_event v (Slot slot) held sound going

@@ -5,10 +5,10 @@ use Rattle.std.specs.Prelude.{Contains, ◌==◌}
 use Rattle.std.specs.List.{list_any}
 use Rattle.std.proofs.lemmas.Bool.{cases_eq, eq-eqb, and_parts, and_from}
 use Rattle.std.proofs.lemmas.List.Sums.{sum_by-cons}
-use Rattle.ebpf_machine.specs.World.{World, Running, Owner, is_in, is_in_ledger, is_owned, is_home, held_by, ledger_of, kind_from, kind_in, image_at}
+use Rattle.ebpf_machine.specs.World.{World, Running, Owner, is_in, is_in_ledger, is_owned, is_home, held_by, ledger_of, kind_from, kind_in, image_at, IsOfKind}
 use Rattle.ebpf_machine.specs.Events.{with_ledger}
 use Rattle.ebpf_machine.specs.View.{ObjectView, object_in, view_of}
-use Rattle.ebpf_machine.specs.Sound.{IsOwned, IsOfKind}
+use Rattle.ebpf_machine.specs.Sound.{IsOwned}
 use Rattle.ebpf_machine.proofs.ListLemmas.{any_from, map_agree}
 use Rattle.ebpf_machine.proofs.Owners.{held_owner}
 use Rattle.ebpf_machine.proofs.OwnedParts.{of_kind_same, true_same}

@@ -26,7 +26,7 @@ use Rattle.ebpf_machine.specs.Values.{Trap, ContextAccess, ObjectBounds, read}
 use Rattle.ebpf_machine.specs.Cells.{loaded_at}
 use Rattle.ebpf_machine.specs.Effect.{Found, read_object}
 use Rattle.ebpf_machine.specs.Effect as effect
-use Rattle.ebpf_machine.specs.View.{RunView, around_view, object_at}
+use Rattle.ebpf_machine.specs.View.{RunView, environment_of_view, object_at}
 use Rattle.ebpf_machine.specs.Concretization.{IsOf, calls_of}
 use Rattle.ebpf_machine.specs.Sound.{FitsCell}
 use Rattle.ebpf_machine.proofs.Words.{AreOfCells}
@@ -69,7 +69,7 @@ object_loaded calls size signed low high at offset there found declared is long 
 
 -- the address of a load that is not refused is a pointer
 load_from : (v : RunView) (i : Insn) (s : StateView) (size : Size) (signed : Bool) (offset : ℤ) (base : Abs) (x : Option (Value ℕ)) → IsHere v i s → is_unset base ≡ false → is_number base ≡ false → is_may base ≡ false → reading_refusal v.subject.decl.context v.subject.rows size signed offset base s ≡ None → IsOf (calls_of v.objects) base x
-    → IsFitting (calls_of v.objects) (loaded_value size signed offset base s) (effect.loaded (around_view v) v.frame.stack size signed offset x)
+    → IsFitting (calls_of v.objects) (loaded_value size signed offset base s) (effect.loaded (environment_of_view v) v.frame.stack size signed offset x)
 load_from v i s size signed offset Unset x here known no_number no_may fine h = absurd (cc)
 load_from v i s size signed offset (Num a) x here known no_number no_may fine h = absurd (cc)
 load_from v i s size signed offset (May call) x here known no_number no_may fine h = absurd (cc)
@@ -105,4 +105,4 @@ load_next v size signed dst base offset s here =
     let number = none_first (is_number known) _ _ pointer.1 in
     let may = none_first (is_may known) _ _ number.1 in
     let it = load_from v i s size signed offset known x here unset.0 number.0 may.0 tests.1 (register_holds v i s base here) in
-    result_next v i s dst (loaded_value size signed offset known s) (effect.loaded (around_view v) v.frame.stack size signed offset x) here (record { does = refl; falls = refl; sends = refl }) pointer.0 it
+    result_next v i s dst (loaded_value size signed offset known s) (effect.loaded (environment_of_view v) v.frame.stack size signed offset x) here (record { does = refl; falls = refl; sends = refl }) pointer.0 it

@@ -6,7 +6,7 @@ use Rattle.std.proofs.lemmas.List.{get_or-set_same}
 use Rattle.std.proofs.lemmas.List.Folds.{list_any_at}
 use Rattle.std.proofs.lemmas.List.Sums.{sum_by-set}
 use Rattle.ebpf_machine.specs.World.{World, Running, Owner, is_in, is_in_ledger, is_owned, is_home, ledger_of, kind_in, image_at}
-use Rattle.ebpf_machine.specs.Events.{with_slot, joined}
+use Rattle.ebpf_machine.specs.Events.{with_slot, with_slot_joined}
 use Rattle.ebpf_machine.specs.View.{view_of}
 use Rattle.ebpf_machine.specs.Sound.{IsOwned}
 use Rattle.ebpf_machine.proofs.ListLemmas.{any_one, none_counted}
@@ -55,36 +55,36 @@ nobodys w kind slot owned new = false_from_ne_true (is_owned w slot) (λ owns. s
       absurd (omega (arith, none, one, same))
 
 -- what the ledgers say of it
-pub joined_in : (w : World) (kind slot : ℕ) → IsOwned w → IsNew w kind slot → is_in slot (ledger_of (joined kind slot w) kind) ≡ true
+pub joined_in : (w : World) (kind slot : ℕ) → IsOwned w → IsNew w kind slot → is_in slot (ledger_of (with_slot_joined kind slot w) kind) ≡ true
 joined_in w kind slot owned new = ap (is_in slot) (get_or-set_same w.ledgers kind (with_slot slot (ledger_of w kind)) [] (room w kind slot owned new)) ∙ itself_in slot (ledger_of w kind)
 
-joined_once : (w : World) (kind slot : ℕ) → IsOwned w → IsNew w kind slot → count_by (is_in slot) (joined kind slot w).ledgers ≤ 1
+joined_once : (w : World) (kind slot : ℕ) → IsOwned w → IsNew w kind slot → count_by (is_in slot) (with_slot_joined kind slot w).ledgers ≤ 1
 joined_once w kind slot owned new =
     let none = none_counted (is_in slot) w.ledgers new.fresh in
     let one = ap (λ (b : Bool). cond {A = ℕ} b 1 0) (itself_in slot (ledger_of w kind)) in
     omega (arith, none, one, sum_by-set (λ slots. cond (is_in slot slots) 1 0) w.ledgers kind (with_slot slot (ledger_of w kind)) [] (room w kind slot owned new))
 
-joined_kind : (w : World) (kind slot : ℕ) → IsOwned w → IsNew w kind slot → kind_in (joined kind slot w) slot ≡ kind
-joined_kind w kind slot owned new = kind_from-ledger 0 (joined kind slot w).ledgers kind slot (joined_in w kind slot owned new) (joined_once w kind slot owned new) ∙ omega arith
+joined_kind : (w : World) (kind slot : ℕ) → IsOwned w → IsNew w kind slot → kind_in (with_slot_joined kind slot w) slot ≡ kind
+joined_kind w kind slot owned new = kind_from-ledger 0 (with_slot_joined kind slot w).ledgers kind slot (joined_in w kind slot owned new) (joined_once w kind slot owned new) ∙ omega arith
 
-pub joined_home : (w : World) (kind slot : ℕ) → IsOwned w → IsNew w kind slot → is_home (joined kind slot w) slot ≡ true
+pub joined_home : (w : World) (kind slot : ℕ) → IsOwned w → IsNew w kind slot → is_home (with_slot_joined kind slot w) slot ≡ true
 joined_home w kind slot owned new =
-    let inside : kind < length (joined kind slot w).ledgers = omega (arith, room w kind slot owned new, length-set w.ledgers kind (with_slot slot (ledger_of w kind))) in
-    let there = list_any_at (is_in slot) (joined kind slot w).ledgers kind [] inside (joined_in w kind slot owned new) in
-    and_from (is_in_ledger (joined kind slot w) slot) (not (is_owned w slot)) there (not_from_false (is_owned w slot) (nobodys w kind slot owned new))
+    let inside : kind < length (with_slot_joined kind slot w).ledgers = omega (arith, room w kind slot owned new, length-set w.ledgers kind (with_slot slot (ledger_of w kind))) in
+    let there = list_any_at (is_in slot) (with_slot_joined kind slot w).ledgers kind [] inside (joined_in w kind slot owned new) in
+    and_from (is_in_ledger (with_slot_joined kind slot w) slot) (not (is_owned w slot)) there (not_from_false (is_owned w slot) (nobodys w kind slot owned new))
 
 -- and of another slot
-pub joined_others : (w : World) (kind slot s : ℕ) → s ≢ slot → is_in_ledger (joined kind slot w) s ≡ is_in_ledger w s
+pub joined_others : (w : World) (kind slot s : ℕ) → s ≢ slot → is_in_ledger (with_slot_joined kind slot w) s ≡ is_in_ledger w s
 joined_others w kind slot s ne = other_ledger w kind (with_slot slot (ledger_of w kind)) s (others_in s slot (ledger_of w kind) ne)
 
 -- a slot of a ledger is the new one, or was there
-pub joined_cases : (w : World) (kind slot s : ℕ) → is_in_ledger (joined kind slot w) s ≡ true → (s ≡ slot) ⊎ (is_in_ledger w s ≡ true)
+pub joined_cases : (w : World) (kind slot s : ℕ) → is_in_ledger (with_slot_joined kind slot w) s ≡ true → (s ≡ slot) ⊎ (is_in_ledger w s ≡ true)
 joined_cases w kind slot s there = by (cases_eq s slot) where
   by : (s ≡ slot) ⊎ (s ≢ slot) → (s ≡ slot) ⊎ (is_in_ledger w s ≡ true)
   by (inl e) = inl e
   by (inr ne) = inr (sym (joined_others w kind slot s ne) ∙ there)
 
-joined_change : (w : World) (kind slot : ℕ) → IsOwned w → IsNew w kind slot → IsChange w kind slot (with_slot slot (ledger_of w kind)) (joined kind slot w).bytes
+joined_change : (w : World) (kind slot : ℕ) → IsOwned w → IsNew w kind slot → IsChange w kind slot (with_slot slot (ledger_of w kind)) (with_slot_joined kind slot w).bytes
 joined_change w kind slot owned new = record {
   nobodys = nobodys w kind slot owned new;
   others = λ s ne. others_in s slot (ledger_of w kind) ne;
@@ -93,8 +93,8 @@ joined_change w kind slot owned new = record {
   imaged = λ home. let here = eq-eqb slot slot refl in rw here (ap (image_at w.kinds) (sym (joined_kind w kind slot owned new)));
 }
 
-pub owned_joined : (w : World) (kind slot : ℕ) → IsOwned w → IsNew w kind slot → IsOwned (joined kind slot w)
+pub owned_joined : (w : World) (kind slot : ℕ) → IsOwned w → IsNew w kind slot → IsOwned (with_slot_joined kind slot w)
 owned_joined w kind slot owned new = owned_changed w kind slot _ _ owned (joined_change w kind slot owned new)
 
-pub view_joined : (w : World) (run kind slot : ℕ) (r : Running) → IsOwned w → IsNew w kind slot → view_of (joined kind slot w) run r ≡ view_of w run r
+pub view_joined : (w : World) (run kind slot : ℕ) (r : Running) → IsOwned w → IsNew w kind slot → view_of (with_slot_joined kind slot w) run r ≡ view_of w run r
 view_joined w run kind slot r owned new = view_changed w run kind slot _ _ r (joined_change w kind slot owned new)

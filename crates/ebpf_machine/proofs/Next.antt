@@ -14,9 +14,9 @@ use Rattle.ebpf_verify.specs.Rules.{refusal}
 use Rattle.ebpf_verify.specs.Entry.{entry_of}
 use Rattle.ebpf_machine.specs.declared.report.Reply.{Reply}
 use Rattle.ebpf_machine.specs.Values.{Frame}
-use Rattle.ebpf_machine.specs.Effect.{Act, Nothing, Take, Goes, Ends, effect, effect_at}
+use Rattle.ebpf_machine.specs.Effect.{Act, Nothing, Ask, Goes, Ends, effect, effect_at}
 use Rattle.ebpf_machine.specs.World.{Status, Going}
-use Rattle.ebpf_machine.specs.View.{ObjectView, RunView, around_view, effect_of_view, acted}
+use Rattle.ebpf_machine.specs.View.{ObjectView, RunView, environment_of_view, effect_of_view, acted, CallResult}
 use Rattle.ebpf_machine.specs.Concretization.{AreOf, Arrives, calls_of}
 use Rattle.ebpf_machine.specs.Sound.{FitsFrame, AreSized, IsGoing, IsWellStated, IsSound}
 use Rattle.ebpf_machine.proofs.Bounded.{IsFull}
@@ -25,7 +25,7 @@ use Rattle.ebpf_machine.proofs.Registers.{IsFrame}
 
 -- what is asked for has room
 abbrev pub HasRoom : RunView → Act ℕ → Type 0
-HasRoom v (Take kind) = (kind < length v.subject.rows) × (length v.objects < v.subject.decl.held)
+HasRoom v (Ask kind) = (kind < length v.subject.rows) × (length v.objects < v.subject.decl.held)
 HasRoom v _ = Unit {0}
 
 -- an instruction that goes on: whatever is answered, the run is sound after it
@@ -35,7 +35,7 @@ pub record GoesOn (v : RunView) (act : Act ℕ) (to : ℕ) (after : Frame ℕ) :
   pub edge : (i : Insn) × (insn_at v.subject.program v.pc ≡ Some i) × ((fall_of i v.pc ≡ Some to) ⊎ (jump_of i v.pc ≡ Some to))
   pub fit : FitsFrame after
   pub room : HasRoom v act
-  pub sound : (reply : Reply) → IsSound (acted act reply to after v)
+  pub sound : (reply : CallResult) → IsSound (acted act reply to after v)
 
 -- one that ends the run
 pub record EndsRun (v : RunView) (n : ℕ) : Type 0 where
@@ -68,8 +68,8 @@ defined_in v h k i at = defined_at v.subject.program k i h.accepted.formed.defin
 pub frame_of : (v : RunView) → IsSound v → IsFrame v.frame
 frame_of v h = record { whole = h.registers; deep = h.stack; fit = h.fit }
 
-pub effect_here : (v : RunView) (i : Insn) (s : StateView) → IsHere v i s → effect_of_view v ≡ effect i v.pc (around_view v) v.frame
-effect_here v i s here = ap (λ (o : Option Insn). effect_at o v.pc (around_view v) v.frame) here.at
+pub effect_here : (v : RunView) (i : Insn) (s : StateView) → IsHere v i s → effect_of_view v ≡ effect i v.pc (environment_of_view v) v.frame
+effect_here v i s here = ap (λ (o : Option Insn). effect_at o v.pc (environment_of_view v) v.frame) here.at
 
 -- ---- to another slot
 
@@ -126,12 +126,12 @@ there_sound v i s to after objects replies here edge there =
 -- ---- what goes on
 
 -- an instruction that goes on, where the run is sound after it
-pub goes_on : (v : RunView) (i : Insn) (s : StateView) (act : Act ℕ) (to : ℕ) (after : Frame ℕ) → IsHere v i s → effect i v.pc (around_view v) v.frame ≡ Goes act to after → Leads i v.pc to → FitsFrame after → HasRoom v act → ((reply : Reply) → IsSound (acted act reply to after v)) → IsNext v
+pub goes_on : (v : RunView) (i : Insn) (s : StateView) (act : Act ℕ) (to : ℕ) (after : Frame ℕ) → IsHere v i s → effect i v.pc (environment_of_view v) v.frame ≡ Goes act to after → Leads i v.pc to → FitsFrame after → HasRoom v act → ((reply : CallResult) → IsSound (acted act reply to after v)) → IsNext v
 goes_on v i s act to after here does edge fit room sound =
     inl (act, to, after, record { does = effect_here v i s here ∙ does; forward = (leads_forward v i to here.sound here.at edge).0; edge = (i, here.at, edge); fit = fit; room = room; sound = sound })
 
 -- one that asks for nothing
-pub goes_quietly : (v : RunView) (i : Insn) (s : StateView) (to : ℕ) (after : Frame ℕ) → IsHere v i s → effect i v.pc (around_view v) v.frame ≡ Goes Nothing to after → Leads i v.pc to → IsFrame after → Arrives (entry_of v.subject.program to) after v.objects → IsNext v
+pub goes_quietly : (v : RunView) (i : Insn) (s : StateView) (to : ℕ) (after : Frame ℕ) → IsHere v i s → effect i v.pc (environment_of_view v) v.frame ≡ Goes Nothing to after → Leads i v.pc to → IsFrame after → Arrives (entry_of v.subject.program to) after v.objects → IsNext v
 goes_quietly v i s to after here does edge frame state =
     let forward = (leads_forward v i to here.sound here.at edge).0 in
     goes_on v i s Nothing to after here does edge frame.fit tt (λ reply. there_sound v i s to after v.objects v.replies here edge (stays_there v i s to after here forward frame state))

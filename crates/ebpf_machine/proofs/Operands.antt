@@ -28,7 +28,7 @@ use Rattle.ebpf_machine.specs.declared.value.Value.{Value}
 use Rattle.ebpf_machine.specs.declared.value.Value.TheVariants.{Number}
 use Rattle.ebpf_machine.specs.Values.{Trap, Frame, read, source_value}
 use Rattle.ebpf_machine.specs.Effect.{Nothing, Goes, effect, with_value, written}
-use Rattle.ebpf_machine.specs.View.{ObjectView, RunView, around_view}
+use Rattle.ebpf_machine.specs.View.{ObjectView, RunView, environment_of_view}
 use Rattle.ebpf_machine.specs.Concretization.{IsOf, AreOf, calls_of}
 use Rattle.ebpf_machine.specs.Sound.{FitsRegister}
 use Rattle.ebpf_machine.proofs.Bounded.{number_of-lt}
@@ -57,7 +57,7 @@ register_holds v i s r here = here.state.each (number_of r) (number_of-lt r)
 
 -- an instruction that writes a result: what it does, and what its rule says
 pub record Writes (v : RunView) (i : Insn) (s : StateView) (dst : Reg) (known : Abs) (result : Result (Value ℕ) Trap) : Type 0 where
-  pub does : effect i v.pc (around_view v) v.frame ≡ written (v.pc + slots_in i) v.frame dst result
+  pub does : effect i v.pc (environment_of_view v) v.frame ≡ written (v.pc + slots_in i) v.frame dst result
   pub falls : fall_of i v.pc ≡ Some (v.pc + slots_in i)
   pub sends : after_fall v.pc i s ≡ Some (with_register s dst known)
 
@@ -72,7 +72,7 @@ result_next v i s dst known result here w low r =
     let some = some_slots i in
     let to = v.pc + slots_in i in
     let after = with_value v.frame dst r.v in
-    let writes : effect i v.pc (around_view v) v.frame ≡ Goes Nothing to after = w.does ∙ rw (r.is, low) refl in
+    let writes : effect i v.pc (environment_of_view v) v.frame ≡ Goes Nothing to after = w.does ∙ rw (r.is, low) refl in
     let there = AreOf-with s v.frame v.objects dst known (Some r.v) here.full.whole frame.whole here.state r.of in
     goes_quietly v i s to after here writes (inl w.falls) (IsFrame-with v.frame dst (Some r.v) r.fits frame)
     (fall_arrives v.subject.program v.pc to i s (with_register s dst known) after v.objects (defined_in v here.sound) here.at here.entered here.full w.sends w.falls (omega (arith, some)) there)

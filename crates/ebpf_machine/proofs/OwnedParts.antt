@@ -7,17 +7,17 @@ use Rattle.std.proofs.lemmas.List.Elements.{Contains-push_cases}
 use Rattle.std.proofs.lemmas.List.Folds.{list_any-append}
 use Rattle.std.proofs.lemmas.List.Sums.{sum_by_push}
 use Rattle.ebpf_verify.specs.Subject.{Subject}
-use Rattle.ebpf_machine.specs.World.{Name, World, Running, Told, Owner, Holder, Run, is_in, is_in_ledger, is_owned, is_home, is_call, ledger_of, kinds_of, image_at, kind_in}
+use Rattle.ebpf_machine.specs.World.{Name, World, Running, AnsweredCall, Owner, Holder, Run, is_in, is_in_ledger, is_owned, is_home, is_call, ledger_of, kinds_of, image_at, kind_in, name_of, IsOfKind, AskedFor}
 use Rattle.ebpf_machine.specs.Events.{with_run, with_bytes, with_owner, without_owner}
 use Rattle.ebpf_machine.specs.View.{call_of}
-use Rattle.ebpf_machine.specs.Sound.{IsOwned, IsOfKind, AskedFor, HasPointer, HasOneSlot, IsTrue}
+use Rattle.ebpf_machine.specs.Sound.{IsOwned, HasPointer, HasOneSlot, IsTrue}
 use Rattle.ebpf_machine.proofs.ListLemmas.{get_set_same, get_set_other, get_set_cases, Contains-filter, count_by-filter-le, list_any-filter, none_counted}
 use Rattle.ebpf_machine.proofs.Owners.{owner_of, run_of, not_home, holder_of_slot, kind_in-ledger, in_one_ledger}
 
 -- ---- facts that are of the runs alone, or of the owners alone
 
 pub of_kind_same : (w v : World) (h : Holder) (kind : ℕ) → v.runs ≡ w.runs → IsOfKind w h kind → IsOfKind v h kind
-of_kind_same w v (Run run at) kind same h = record { asker = h.asker; there = ap (λ (runs : List Running). slice_get runs run) same ∙ h.there; behind = h.behind; told = h.told }
+of_kind_same w v (Run run at) kind same h = record { asker = h.asker; there = ap (λ (runs : List Running). slice_get runs run) same ∙ h.there; behind = h.behind; reply = h.reply; got = h.got; told = h.told }
 
 pub true_same : (w v : World) (run : ℕ) (r : Running) (n : Name) → ((o : Owner) → Contains v.owners o → Contains w.owners o) → IsTrue w run r n → IsTrue v run r n
 true_same w v run r n fewer h = record { behind = h.behind; slot = λ o among e. h.slot o (fewer o among) e }
@@ -28,7 +28,7 @@ true_same w v run r n fewer h = record { behind = h.behind; slot = λ o among e.
 pub record IsLater (r now : Running) : Type 0 where
   pub subject : now.subject ≡ r.subject
   pub pc : r.pc ≤ now.pc
-  pub told : (t : Told) → Contains r.told t → Contains now.told t
+  pub told : (t : AnsweredCall) → Contains r.calls t → Contains now.calls t
 
 pub same_run : (w : World) (run : ℕ) (r x : Running) → slice_get w.runs run ≡ Some r → slice_get w.runs run ≡ Some x → x ≡ r
 same_run w run r x there at = cc
@@ -42,9 +42,11 @@ of_kind_later w run r now (Run asker at) kind there later h = by (cases_eq asker
         asker = now;
         there = subst (λ (k : ℕ). slice_get (with_run w run now).runs k ≡ Some now) (sym e) (get_set_same w.runs run r now there);
         behind = omega (arith, h.behind, ap (λ (x : Running). x.pc) same, later.pc);
-        told = later.told _ (subst (λ (x : Running). Contains x.told _) same h.told);
+        reply = h.reply;
+        got = h.got;
+        told = later.told (record { at = at; kind = kind; reply = h.reply }) (subst (λ (x : Running). Contains x.calls (record { at = at; kind = kind; reply = h.reply })) same h.told);
       }
-  by (inr ne) = record { asker = h.asker; there = get_set_other w.runs run asker now ne ∙ h.there; behind = h.behind; told = h.told }
+  by (inr ne) = record { asker = h.asker; there = get_set_other w.runs run asker now ne ∙ h.there; behind = h.behind; reply = h.reply; got = h.got; told = h.told }
 
 pub owned_running : (w : World) (run : ℕ) (r now : Running) → IsOwned w → slice_get w.runs run ≡ Some r → IsLater r now → ((n : Name) → HasPointer now.frame n → IsTrue w run now n) → HasOneSlot now.frame → IsOwned (with_run w run now)
 owned_running w run r now owned there later true_now alike = record {
@@ -72,7 +74,7 @@ owned_running w run r now owned there later true_now alike = record {
     true_in : (k : ℕ) (x : Running) (n : Name) → HasPointer x.frame n → ((k ≡ run) × (now ≡ x)) ⊎ ((k ≢ run) × (slice_get w.runs k ≡ Some x)) → IsTrue (with_run w run now) k x n
     true_in k x n has (inl e) =
         let here = true_now n (subst (λ (y : Running). HasPointer y.frame n) (sym e.1) has) in
-        record { behind = subst (λ (y : Running). n.1 < y.pc) e.1 here.behind; slot = λ o among held. here.slot o among (held ∙ ap (λ (m : ℕ). Run m n.1) e.0) }
+        record { behind = subst (λ (y : Running). n.call < y.pc) e.1 here.behind; slot = λ o among held. here.slot o among (held ∙ ap (λ (m : ℕ). Run m n.call) e.0) }
     true_in k x n has (inr at) = true_same w (with_run w run now) k x n (λ o among. among) (owned.pointers k x at.1 n has)
 
 -- ---- bytes of an object that a run holds
@@ -101,15 +103,15 @@ owned_bytes w slot bytes p owned own is as_long = record {
 
 -- ---- an object is given back
 
-pub owned_given : (w : World) (run : ℕ) (name : Name) → IsOwned w → Contains w.owners (owner_of run name) → IsOwned (with_bytes name.0 (image_at w.kinds (kind_in w name.0)) (without_owner run name w))
+pub owned_given : (w : World) (run : ℕ) (name : Name) → IsOwned w → Contains w.owners (owner_of run name) → IsOwned (with_bytes name.slot (image_at w.kinds (kind_in w name.slot)) (without_owner run name w))
 owned_given w run name owned own = record {
   once = λ slot. omega (arith, count_by-filter-le (λ (o : Owner). o.slot == slot) stays w.owners, owned.once slot);
   in_ledger = λ o among. owned.in_ledger o (was o among);
   apart = owned.apart;
   as_many = owned.as_many;
   kinds_are = owned.kinds_are;
-  imaged = λ s home. image s home (cases_eq s name.0);
-  sized = λ o among. let apart = ne_eqb o.slot name.0 (other o among) in rw apart (owned.sized o (was o among));
+  imaged = λ s home. image s home (cases_eq s name.slot);
+  sized = λ o among. let apart = ne_eqb o.slot name.slot (other o among) in rw apart (owned.sized o (was o among));
   one_a_call = λ o p among here e. owned.one_a_call o p (was o among) (was p here) e;
   asked = λ o among. of_kind_same w after o.holder (kind_in w o.slot) refl (owned.asked o (was o among));
   pointers = λ k x at n has. true_same w after k x n was (owned.pointers k x at n has);
@@ -117,42 +119,42 @@ owned_given w run name owned own = record {
 }
   where
     stays : Owner → Bool
-    stays o = not ((o.slot == name.0) && is_call run name.1 o.holder)
+    stays o = not ((o.slot == name.slot) && is_call run name.call o.holder)
 
     after : World
-    after = with_bytes name.0 (image_at w.kinds (kind_in w name.0)) (without_owner run name w)
+    after = with_bytes name.slot (image_at w.kinds (kind_in w name.slot)) (without_owner run name w)
 
     was : (o : Owner) → Contains (filter stays w.owners) o → Contains w.owners o
     was o among = (Contains-filter stays w.owners o among).0
 
-    named : (h : Holder) → h ≡ Run run name.1 → is_call run name.1 h ≡ true
-    named h e = ap (is_call run name.1) e ∙ and_from (run == run) (name.1 == name.1) (eq-eqb run run refl) (eq-eqb name.1 name.1 refl)
+    named : (h : Holder) → h ≡ Run run name.call → is_call run name.call h ≡ true
+    named h e = ap (is_call run name.call) e ∙ and_from (run == run) (name.call == name.call) (eq-eqb run run refl) (eq-eqb name.call name.call refl)
 
-    other : (o : Owner) → Contains (filter stays w.owners) o → o.slot ≢ name.0
+    other : (o : Owner) → Contains (filter stays w.owners) o → o.slot ≢ name.slot
     other o among e =
-        let here = eq-eqb o.slot name.0 e in
+        let here = eq-eqb o.slot name.slot e in
         let its = named o.holder (holder_of_slot w run name o owned own (was o among) e) in
-        let stayed : not ((o.slot == name.0) && is_call run name.1 o.holder) ≡ true = (Contains-filter stays w.owners o among).1 in
-        let gone : not ((o.slot == name.0) && is_call run name.1 o.holder) ≡ false = rw (here, its) refl in
+        let stayed : not ((o.slot == name.slot) && is_call run name.call o.holder) ≡ true = (Contains-filter stays w.owners o among).1 in
+        let gone : not ((o.slot == name.slot) && is_call run name.call o.holder) ≡ false = rw (here, its) refl in
         absurd (cc)
 
-    still : (s : ℕ) → s ≢ name.0 → is_home after s ≡ true → is_home w s ≡ true
+    still : (s : ℕ) → s ≢ name.slot → is_home after s ≡ true → is_home w s ≡ true
     still s ne home =
         let parts = and_parts (is_in_ledger w s) (not (is_owned after s)) home in
         let same : is_owned after s ≡ is_owned w s = list_any-filter (λ (o : Owner). o.slot == s) stays w.owners (λ o here. stays_there s ne o here) in
         and_from (is_in_ledger w s) (not (is_owned w s)) parts.0 (ap not (sym same) ∙ parts.1)
       where
-        stays_there : (s : ℕ) → s ≢ name.0 → (o : Owner) → (o.slot == s) ≡ true → stays o ≡ true
-        stays_there s ne o here = let apart = ne_eqb o.slot name.0 (λ e. ne (sym (eqb-true o.slot s here) ∙ e)) in rw apart refl
+        stays_there : (s : ℕ) → s ≢ name.slot → (o : Owner) → (o.slot == s) ≡ true → stays o ≡ true
+        stays_there s ne o here = let apart = ne_eqb o.slot name.slot (λ e. ne (sym (eqb-true o.slot s here) ∙ e)) in rw apart refl
 
-    image : (s : ℕ) → is_home after s ≡ true → (s ≡ name.0) ⊎ (s ≢ name.0) → cond (s == name.0) (image_at w.kinds (kind_in w name.0)) (w.bytes s) ≡ image_at w.kinds (kind_in w s)
-    image s home (inl e) = let here = eq-eqb s name.0 e in rw here (ap (λ (m : ℕ). image_at w.kinds (kind_in w m)) (sym e))
-    image s home (inr ne) = let apart = ne_eqb s name.0 ne in rw apart (owned.imaged s (still s ne home))
+    image : (s : ℕ) → is_home after s ≡ true → (s ≡ name.slot) ⊎ (s ≢ name.slot) → cond (s == name.slot) (image_at w.kinds (kind_in w name.slot)) (w.bytes s) ≡ image_at w.kinds (kind_in w s)
+    image s home (inl e) = let here = eq-eqb s name.slot e in rw here (ap (λ (m : ℕ). image_at w.kinds (kind_in w m)) (sym e))
+    image s home (inr ne) = let apart = ne_eqb s name.slot ne in rw apart (owned.imaged s (still s ne home))
 
 -- ---- an object is granted
 
-added : (w : World) (run at slot : ℕ) (o : Owner) → Contains (w.owners ++ owner_of run (slot, at) ∷ []) o → Contains w.owners o ⊎ (owner_of run (slot, at) ≡ o)
-added w run at slot o among = Contains-push_cases w.owners (owner_of run (slot, at)) o among
+added : (w : World) (run at slot : ℕ) (o : Owner) → Contains (w.owners ++ owner_of run (name_of slot at) ∷ []) o → Contains w.owners o ⊎ (owner_of run (name_of slot at) ≡ o)
+added w run at slot o among = Contains-push_cases w.owners (owner_of run (name_of slot at)) o among
 
 unowned : (w : World) (slot : ℕ) → is_home w slot ≡ true → is_owned w slot ≡ false
 unowned w slot home = not-true (is_owned w slot) (and_parts (is_in_ledger w slot) (not (is_owned w slot)) home).1
@@ -160,7 +162,7 @@ unowned w slot home = not-true (is_owned w slot) (and_parts (is_in_ledger w slot
 -- a slot is home after it, where it was so before and isn't the one that was granted
 still_home : (w : World) (run at slot s : ℕ) → is_home (with_owner slot (Run run at) w) s ≡ true → (is_home w s ≡ true) × (s ≢ slot)
 still_home w run at slot s home =
-    let new = owner_of run (slot, at) ∷ [] in
+    let new = owner_of run (name_of slot at) ∷ [] in
     let parts = and_parts (is_in_ledger w s) (not (list_any (λ (o : Owner). o.slot == s) (w.owners ++ new))) home in
     let none = sym (list_any-append (λ (o : Owner). o.slot == s) w.owners new) ∙ not-true _ parts.1 in
     let both = or_parts (is_owned w s) (list_any (λ (o : Owner). o.slot == s) new) none in (
@@ -168,12 +170,12 @@ still_home w run at slot s home =
       λ e. eqb-false slot s (or_parts (slot == s) false both.1).0 (sym e),
     )
 
-counted_more : (w : World) (run at slot s : ℕ) → IsOwned w → is_home w slot ≡ true → count_by (λ (o : Owner). o.slot == s) (w.owners ++ owner_of run (slot, at) ∷ []) ≤ 1
+counted_more : (w : World) (run at slot s : ℕ) → IsOwned w → is_home w slot ≡ true → count_by (λ (o : Owner). o.slot == s) (w.owners ++ owner_of run (name_of slot at) ∷ []) ≤ 1
 counted_more w run at slot s owned home = by (cases_eq slot s) where
-  more : count_by (λ (o : Owner). o.slot == s) (w.owners ++ owner_of run (slot, at) ∷ []) ≡ count_by (λ (o : Owner). o.slot == s) w.owners + cond (slot == s) 1 0
-  more = sum_by_push (λ (o : Owner). cond (o.slot == s) 1 0) w.owners (owner_of run (slot, at))
+  more : count_by (λ (o : Owner). o.slot == s) (w.owners ++ owner_of run (name_of slot at) ∷ []) ≡ count_by (λ (o : Owner). o.slot == s) w.owners + cond (slot == s) 1 0
+  more = sum_by_push (λ (o : Owner). cond (o.slot == s) 1 0) w.owners (owner_of run (name_of slot at))
 
-  by : (slot ≡ s) ⊎ (slot ≢ s) → count_by (λ (o : Owner). o.slot == s) (w.owners ++ owner_of run (slot, at) ∷ []) ≤ 1
+  by : (slot ≡ s) ⊎ (slot ≢ s) → count_by (λ (o : Owner). o.slot == s) (w.owners ++ owner_of run (name_of slot at) ∷ []) ≤ 1
   by (inl e) =
       let here = more ∙ ap (λ (b : Bool). count_by (λ (o : Owner). o.slot == s) w.owners + cond b 1 0) (eq-eqb slot s e) in
       omega (arith, here, none_counted (λ (o : Owner). o.slot == s) w.owners (ap (is_owned w) (sym e) ∙ unowned w slot home))
@@ -184,7 +186,7 @@ counted_more w run at slot s owned home = by (cases_eq slot s) where
 -- where the call that it is granted to holds nothing yet, and all that points to what that call was granted points to this slot
 pub owned_granted : (w : World) (run at slot kind : ℕ) → IsOwned w → is_home w slot ≡ true → is_in slot (ledger_of w kind) ≡ true → AskedFor w run at kind
     → ((o : Owner) → Contains w.owners o → o.holder ≢ Run run at)
-    → ((r : Running) (n : Name) → slice_get w.runs run ≡ Some r → HasPointer r.frame n → n.1 ≡ at → n.0 ≡ slot)
+    → ((r : Running) (n : Name) → slice_get w.runs run ≡ Some r → HasPointer r.frame n → n.call ≡ at → n.slot ≡ slot)
     → IsOwned (with_owner slot (Run run at) (with_bytes slot (image_at w.kinds kind) w))
 owned_granted w run at slot kind owned home there asked nothing points = record {
   once = λ s. counted_more w run at slot s owned home;
@@ -203,7 +205,7 @@ owned_granted w run at slot kind owned home there asked nothing points = record 
     after : World
     after = with_owner slot (Run run at) (with_bytes slot (image_at w.kinds kind) w)
 
-    in_one : (o : Owner) → Contains w.owners o ⊎ (owner_of run (slot, at) ≡ o) → count_by (is_in o.slot) w.ledgers ≡ 1
+    in_one : (o : Owner) → Contains w.owners o ⊎ (owner_of run (name_of slot at) ≡ o) → count_by (is_in o.slot) w.ledgers ≡ 1
     in_one o (inl among) = owned.in_ledger o among
     in_one o (inr e) = ap (λ (p : Owner). count_by (is_in p.slot) w.ledgers) (sym e) ∙ in_one_ledger w kind slot owned there
 
@@ -213,11 +215,11 @@ owned_granted w run at slot kind owned home there asked nothing points = record 
     new_long : length (cond (slot == slot) (image_at w.kinds kind) (w.bytes slot)) ≡ length (image_at w.kinds (kind_in w slot))
     new_long = let here = eq-eqb slot slot refl in let of_its = kind_in-ledger w kind slot owned there in rw (here, of_its) refl
 
-    long : (o : Owner) → Contains w.owners o ⊎ (owner_of run (slot, at) ≡ o) → length (cond (o.slot == slot) (image_at w.kinds kind) (w.bytes o.slot)) ≡ length (image_at w.kinds (kind_in w o.slot))
+    long : (o : Owner) → Contains w.owners o ⊎ (owner_of run (name_of slot at) ≡ o) → length (cond (o.slot == slot) (image_at w.kinds kind) (w.bytes o.slot)) ≡ length (image_at w.kinds (kind_in w o.slot))
     long o (inl among) = let apart = ne_eqb o.slot slot (not_home w o slot home among) in rw apart (owned.sized o among)
     long o (inr e) = subst (λ (p : Owner). length (cond (p.slot == slot) (image_at w.kinds kind) (w.bytes p.slot)) ≡ length (image_at w.kinds (kind_in w p.slot))) e new_long
 
-    one : (o p : Owner) → Contains w.owners o ⊎ (owner_of run (slot, at) ≡ o) → Contains w.owners p ⊎ (owner_of run (slot, at) ≡ p) → o.holder ≡ p.holder → o ≡ p
+    one : (o p : Owner) → Contains w.owners o ⊎ (owner_of run (name_of slot at) ≡ o) → Contains w.owners p ⊎ (owner_of run (name_of slot at) ≡ p) → o.holder ≡ p.holder → o ≡ p
     one o p (inl among) (inl here) e = owned.one_a_call o p among here e
     one o p (inl among) (inr same) e = absurd (nothing o among (e ∙ ap (λ (q : Owner). q.holder) (sym same)))
     one o p (inr same) (inl here) e = absurd (nothing p here (sym e ∙ ap (λ (q : Owner). q.holder) (sym same)))
@@ -226,18 +228,18 @@ owned_granted w run at slot kind owned home there asked nothing points = record 
     new_asked : AskedFor w run at (kind_in w slot)
     new_asked = subst (λ (k : ℕ). AskedFor w run at k) (sym (kind_in-ledger w kind slot owned there)) asked
 
-    of_kind : (o : Owner) → Contains w.owners o ⊎ (owner_of run (slot, at) ≡ o) → IsOfKind after o.holder (kind_in w o.slot)
+    of_kind : (o : Owner) → Contains w.owners o ⊎ (owner_of run (name_of slot at) ≡ o) → IsOfKind after o.holder (kind_in w o.slot)
     of_kind o (inl among) = of_kind_same w after o.holder (kind_in w o.slot) refl (owned.asked o among)
     of_kind o (inr e) = subst (λ (p : Owner). IsOfKind after p.holder (kind_in w p.slot)) e (of_kind_same w after (Run run at) (kind_in w slot) refl new_asked)
 
     true_in : (k : ℕ) (x : Running) (n : Name) → slice_get w.runs k ≡ Some x → HasPointer x.frame n → IsTrue w k x n → IsTrue after k x n
     true_in k x n seen has h = record { behind = h.behind; slot = λ o among e. to o (added w run at slot o among) e }
       where
-        to : (o : Owner) → Contains w.owners o ⊎ (owner_of run (slot, at) ≡ o) → o.holder ≡ Run k n.1 → o.slot ≡ n.0
+        to : (o : Owner) → Contains w.owners o ⊎ (owner_of run (name_of slot at) ≡ o) → o.holder ≡ Run k n.call → o.slot ≡ n.slot
         to o (inl among) e = h.slot o among e
         to o (inr same) e =
-            let held : Run run at ≡ Run k n.1 = ap (λ (q : Owner). q.holder) same ∙ e in
+            let held : Run run at ≡ Run k n.call = ap (λ (q : Owner). q.holder) same ∙ e in
             let its_run : run ≡ k = ap run_of held in
-            let its_call : at ≡ n.1 = ap call_of held in
+            let its_call : at ≡ n.call = ap call_of held in
             let seen_here : slice_get w.runs run ≡ Some x = ap (λ (m : ℕ). slice_get w.runs m) its_run ∙ seen in
             ap (λ (q : Owner). q.slot) (sym same) ∙ sym (points x n seen_here has (sym its_call))

@@ -5,7 +5,7 @@ use Rattle.std.proofs.lemmas.Bool.{eqb-true, eq-eqb, ne_eqb, not-true, and_parts
 use Rattle.std.proofs.lemmas.List.{append-nil}
 use Rattle.std.proofs.lemmas.List.Elements.{filter-append}
 use Rattle.std.proofs.lemmas.List.Folds.{list_any_at}
-use Rattle.ebpf_machine.specs.World.{Name, World, Owner, Holder, Run, is_in, is_in_ledger, is_owned, is_home, is_run, is_call, held_by, ledger_of, kind_from, kind_in}
+use Rattle.ebpf_machine.specs.World.{Name, World, Owner, Holder, Run, is_in, is_in_ledger, is_owned, is_home, is_run, is_call, held_by, ledger_of, kind_from, kind_in, name_of}
 use Rattle.ebpf_machine.specs.Events.{with_owner, without_owner}
 use Rattle.ebpf_machine.specs.View.{call_of}
 use Rattle.ebpf_machine.specs.Sound.{IsOwned}
@@ -13,7 +13,7 @@ use Rattle.ebpf_machine.proofs.ListLemmas.{Contains-filter, counted_at, counted_
 
 -- the owner of the object of a name
 abbrev pub owner_of : ℕ → Name → Owner
-owner_of run name = record { slot = name.0; holder = Run run name.1 }
+owner_of run name = record { slot = name.slot; holder = Run run name.call }
 
 -- ---- holders
 
@@ -49,17 +49,17 @@ not_home w o slot home (i, li, ei) e =
     absurd (cc)
 
 -- the object of a name is owned by one call of one run
-pub slot_of_call : (w : World) (run : ℕ) (name : Name) (o : Owner) → IsOwned w → Contains w.owners (owner_of run name) → Contains w.owners o → o.holder ≡ Run run name.1 → o.slot ≡ name.0
+pub slot_of_call : (w : World) (run : ℕ) (name : Name) (o : Owner) → IsOwned w → Contains w.owners (owner_of run name) → Contains w.owners o → o.holder ≡ Run run name.call → o.slot ≡ name.slot
 slot_of_call w run name o owned own among e = ap (λ (q : Owner). q.slot) (owned.one_a_call o (owner_of run name) among own e)
 
-pub holder_of_slot : (w : World) (run : ℕ) (name : Name) (o : Owner) → IsOwned w → Contains w.owners (owner_of run name) → Contains w.owners o → o.slot ≡ name.0 → o.holder ≡ Run run name.1
+pub holder_of_slot : (w : World) (run : ℕ) (name : Name) (o : Owner) → IsOwned w → Contains w.owners (owner_of run name) → Contains w.owners o → o.slot ≡ name.slot → o.holder ≡ Run run name.call
 holder_of_slot w run name o owned own among e = ap (λ (q : Owner). q.holder) (same_slot w o (owner_of run name) owned among own e)
 
 -- an object of another call is in another slot, and one of another run
-pub slot_of_another_call : (w : World) (run : ℕ) (name : Name) (o : Owner) → IsOwned w → Contains w.owners (owner_of run name) → Contains w.owners o → call_of o.holder ≢ name.1 → o.slot ≢ name.0
+pub slot_of_another_call : (w : World) (run : ℕ) (name : Name) (o : Owner) → IsOwned w → Contains w.owners (owner_of run name) → Contains w.owners o → call_of o.holder ≢ name.call → o.slot ≢ name.slot
 slot_of_another_call w run name o owned own among ne e = ne (ap call_of (holder_of_slot w run name o owned own among e))
 
-pub slot_of_another_run : (w : World) (run other : ℕ) (name : Name) (o : Owner) → IsOwned w → Contains w.owners (owner_of run name) → other ≢ run → Contains (held_by w other) o → o.slot ≢ name.0
+pub slot_of_another_run : (w : World) (run other : ℕ) (name : Name) (o : Owner) → IsOwned w → Contains w.owners (owner_of run name) → other ≢ run → Contains (held_by w other) o → o.slot ≢ name.slot
 slot_of_another_run w run other name o owned own ne among e =
     let held = held_owner w other o among in
     ne (ap run_of (sym held.1 ∙ holder_of_slot w run name o owned own held.0 e))
@@ -82,41 +82,41 @@ others_bits true false c t h = refl
 others_bits false r c t h = refl
 
 pub held_given : (w : World) (run : ℕ) (name : Name) → IsOwned w → Contains w.owners (owner_of run name)
-    → held_by (without_owner run name w) run ≡ filter (λ (o : Owner). not (call_of o.holder == name.1)) (held_by w run)
+    → held_by (without_owner run name w) run ≡ filter (λ (o : Owner). not (call_of o.holder == name.call)) (held_by w run)
 held_given w run name owned own =
-    filter-filter (λ (o : Owner). is_run run o.holder) (λ (o : Owner). not ((o.slot == name.0) && is_call run name.1 o.holder)) w.owners
+    filter-filter (λ (o : Owner). is_run run o.holder) (λ (o : Owner). not ((o.slot == name.slot) && is_call run name.call o.holder)) w.owners
     ∙ filter_same _ _ w.owners (λ o among. alike o among)
-    ∙ sym (filter-filter (λ (o : Owner). not (call_of o.holder == name.1)) (λ (o : Owner). is_run run o.holder) w.owners)
+    ∙ sym (filter-filter (λ (o : Owner). not (call_of o.holder == name.call)) (λ (o : Owner). is_run run o.holder) w.owners)
   where
-    is_its : (o : Owner) → Contains w.owners o → is_run run o.holder ≡ true → (call_of o.holder == name.1) ≡ true → (o.slot == name.0) ≡ true
-    is_its o among mine named = eq-eqb o.slot name.0 (slot_of_call w run name o owned own among (is_run-own run o.holder mine ∙ ap (λ (n : ℕ). Run run n) (eqb-true (call_of o.holder) name.1 named)))
+    is_its : (o : Owner) → Contains w.owners o → is_run run o.holder ≡ true → (call_of o.holder == name.call) ≡ true → (o.slot == name.slot) ≡ true
+    is_its o among mine named = eq-eqb o.slot name.slot (slot_of_call w run name o owned own among (is_run-own run o.holder mine ∙ ap (λ (n : ℕ). Run run n) (eqb-true (call_of o.holder) name.call named)))
 
-    alike : (o : Owner) → Contains w.owners o → (not ((o.slot == name.0) && is_call run name.1 o.holder) && is_run run o.holder) ≡ (is_run run o.holder && not (call_of o.holder == name.1))
+    alike : (o : Owner) → Contains w.owners o → (not ((o.slot == name.slot) && is_call run name.call o.holder) && is_run run o.holder) ≡ (is_run run o.holder && not (call_of o.holder == name.call))
     alike o among =
-        ap (λ (t : Bool). not ((o.slot == name.0) && t) && is_run run o.holder) (is_call-parts run name.1 o.holder)
-        ∙ kept_bits (o.slot == name.0) (is_run run o.holder) (call_of o.holder == name.1) (is_its o among)
+        ap (λ (t : Bool). not ((o.slot == name.slot) && t) && is_run run o.holder) (is_call-parts run name.call o.holder)
+        ∙ kept_bits (o.slot == name.slot) (is_run run o.holder) (call_of o.holder == name.call) (is_its o among)
 
 pub others_given : (w : World) (run other : ℕ) (name : Name) → other ≢ run → held_by (without_owner run name w) other ≡ held_by w other
 others_given w run other name ne =
-    filter-filter (λ (o : Owner). is_run other o.holder) (λ (o : Owner). not ((o.slot == name.0) && is_call run name.1 o.holder)) w.owners
+    filter-filter (λ (o : Owner). is_run other o.holder) (λ (o : Owner). not ((o.slot == name.slot) && is_call run name.call o.holder)) w.owners
     ∙ filter_same _ _ w.owners (λ o among. alike o)
   where
-    alike : (o : Owner) → (not ((o.slot == name.0) && is_call run name.1 o.holder) && is_run other o.holder) ≡ is_run other o.holder
+    alike : (o : Owner) → (not ((o.slot == name.slot) && is_call run name.call o.holder) && is_run other o.holder) ≡ is_run other o.holder
     alike o =
-        ap (λ (t : Bool). not ((o.slot == name.0) && t) && is_run other o.holder) (is_call-parts run name.1 o.holder)
-        ∙ others_bits (o.slot == name.0) (is_run run o.holder) (call_of o.holder == name.1) (is_run other o.holder) (is_run-other run other o.holder ne)
+        ap (λ (t : Bool). not ((o.slot == name.slot) && t) && is_run other o.holder) (is_call-parts run name.call o.holder)
+        ∙ others_bits (o.slot == name.slot) (is_run run o.holder) (call_of o.holder == name.call) (is_run other o.holder) (is_run-other run other o.holder ne)
 
 -- ---- and where one is granted a slot
 
-pub held_granted : (w : World) (run at slot : ℕ) → held_by (with_owner slot (Run run at) w) run ≡ held_by w run ++ owner_of run (slot, at) ∷ []
+pub held_granted : (w : World) (run at slot : ℕ) → held_by (with_owner slot (Run run at) w) run ≡ held_by w run ++ owner_of run (name_of slot at) ∷ []
 held_granted w run at slot =
-    filter-append (λ (o : Owner). is_run run o.holder) w.owners (owner_of run (slot, at) ∷ [])
-    ∙ ap (λ (t : Bool). held_by w run ++ cond t (owner_of run (slot, at) ∷ []) []) (eq-eqb run run refl)
+    filter-append (λ (o : Owner). is_run run o.holder) w.owners (owner_of run (name_of slot at) ∷ [])
+    ∙ ap (λ (t : Bool). held_by w run ++ cond t (owner_of run (name_of slot at) ∷ []) []) (eq-eqb run run refl)
 
 pub others_granted : (w : World) (run other at slot : ℕ) → other ≢ run → held_by (with_owner slot (Run run at) w) other ≡ held_by w other
 others_granted w run other at slot ne =
-    filter-append (λ (o : Owner). is_run other o.holder) w.owners (owner_of run (slot, at) ∷ [])
-    ∙ ap (λ (t : Bool). held_by w other ++ cond t (owner_of run (slot, at) ∷ []) []) (ne_eqb run other (λ same. ne (sym same)))
+    filter-append (λ (o : Owner). is_run other o.holder) w.owners (owner_of run (name_of slot at) ∷ [])
+    ∙ ap (λ (t : Bool). held_by w other ++ cond t (owner_of run (name_of slot at) ∷ []) []) (ne_eqb run other (λ same. ne (sym same)))
     ∙ append-nil (held_by w other)
 
 -- ---- the kind of a slot

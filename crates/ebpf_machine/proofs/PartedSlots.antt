@@ -5,7 +5,7 @@ use Rattle.std.proofs.lemmas.Bool.{eqb-true, ne_eqb, and_parts, not-true, not_fr
 use Rattle.std.proofs.lemmas.List.Sums.{sum_by-set}
 use Rattle.std.proofs.lemmas.Map.Views.{any-filter_same}
 use Rattle.ebpf_machine.specs.World.{World, Running, is_in, is_in_ledger, is_owned, is_home, ledger_of}
-use Rattle.ebpf_machine.specs.Events.{without_slot, parted}
+use Rattle.ebpf_machine.specs.Events.{without_slot, with_slot_left}
 use Rattle.ebpf_machine.specs.View.{view_of}
 use Rattle.ebpf_machine.specs.Sound.{IsOwned}
 use Rattle.ebpf_machine.proofs.ListLemmas.{none_from_count}
@@ -32,17 +32,17 @@ has_ledger (slots ∷ ledgers) zero slot its = omega arith
 has_ledger (slots ∷ ledgers) (suc kind) slot its = omega (arith, has_ledger ledgers kind slot its)
 
 -- it was in one ledger, and is in none
-parted_count : (w : World) (kind slot : ℕ) → IsOwned w → IsReapable w kind slot → count_by (is_in slot) (parted kind slot w).ledgers ≡ 0
+parted_count : (w : World) (kind slot : ℕ) → IsOwned w → IsReapable w kind slot → count_by (is_in slot) (with_slot_left kind slot w).ledgers ≡ 0
 parted_count w kind slot owned reapable =
     let was = ap (λ (b : Bool). cond {A = ℕ} b 1 0) reapable.its in
     let is = ap (λ (b : Bool). cond {A = ℕ} b 1 0) (itself_out slot (ledger_of w kind)) in
     omega (arith, was, is, owned.apart slot, sum_by-set (λ slots. cond (is_in slot slots) 1 0) w.ledgers kind (without_slot slot (ledger_of w kind)) [] (has_ledger w.ledgers kind slot reapable.its))
 
-pub parted_away : (w : World) (kind slot : ℕ) → IsOwned w → IsReapable w kind slot → is_in_ledger (parted kind slot w) slot ≡ false
-parted_away w kind slot owned reapable = none_from_count (is_in slot) (parted kind slot w).ledgers (parted_count w kind slot owned reapable)
+pub parted_away : (w : World) (kind slot : ℕ) → IsOwned w → IsReapable w kind slot → is_in_ledger (with_slot_left kind slot w) slot ≡ false
+parted_away w kind slot owned reapable = none_from_count (is_in slot) (with_slot_left kind slot w).ledgers (parted_count w kind slot owned reapable)
 
 -- what the ledgers say of another slot
-pub parted_others : (w : World) (kind slot s : ℕ) → s ≢ slot → is_in_ledger (parted kind slot w) s ≡ is_in_ledger w s
+pub parted_others : (w : World) (kind slot s : ℕ) → s ≢ slot → is_in_ledger (with_slot_left kind slot w) s ≡ is_in_ledger w s
 parted_others w kind slot s ne = other_ledger w kind (without_slot slot (ledger_of w kind)) s (others_in s slot (ledger_of w kind) ne)
 
 parted_change : (w : World) (kind slot : ℕ) → IsOwned w → IsReapable w kind slot → IsChange w kind slot (without_slot slot (ledger_of w kind)) w.bytes
@@ -54,14 +54,14 @@ parted_change w kind slot owned reapable = record {
   imaged = λ home. absurd (not_home home);
 }
   where
-    not_home : is_home (parted kind slot w) slot ≡ true → ⊥
+    not_home : is_home (with_slot_left kind slot w) slot ≡ true → ⊥
     not_home home =
-        let there = (and_parts (is_in_ledger (parted kind slot w) slot) (not (is_owned w slot)) home).0 in
+        let there = (and_parts (is_in_ledger (with_slot_left kind slot w) slot) (not (is_owned w slot)) home).0 in
         let none = parted_away w kind slot owned reapable in
         cc
 
-pub owned_parted : (w : World) (kind slot : ℕ) → IsOwned w → IsReapable w kind slot → IsOwned (parted kind slot w)
+pub owned_parted : (w : World) (kind slot : ℕ) → IsOwned w → IsReapable w kind slot → IsOwned (with_slot_left kind slot w)
 owned_parted w kind slot owned reapable = owned_changed w kind slot _ _ owned (parted_change w kind slot owned reapable)
 
-pub view_parted : (w : World) (run kind slot : ℕ) (r : Running) → IsOwned w → IsReapable w kind slot → view_of (parted kind slot w) run r ≡ view_of w run r
+pub view_parted : (w : World) (run kind slot : ℕ) (r : Running) → IsOwned w → IsReapable w kind slot → view_of (with_slot_left kind slot w) run r ≡ view_of w run r
 view_parted w run kind slot r owned reapable = view_changed w run kind slot _ _ r (parted_change w kind slot owned reapable)

@@ -17,14 +17,14 @@ use Rattle.ebpf_insn.specs.Arithmetic.{kept_at, extension_at, negation_at, swap_
 use Rattle.ebpf_flow.specs.Edges.{jump_of}
 use Rattle.ebpf_verify.specs.Operations.{is_frame_pointer}
 use Rattle.ebpf_verify.specs.declared.helper.Helper.{Helper}
-use Rattle.ebpf_verify.specs.declared.helper.Helper.TheVariants.{New, Free, Emit}
+use Rattle.ebpf_verify.specs.declared.helper.Helper.TheVariants as helper
 use Rattle.ebpf_verify.specs.Calls.{helper_of}
 use Rattle.ebpf_machine.specs.declared.value.Value.{Value}
 use Rattle.ebpf_machine.specs.declared.value.Value.TheVariants.{Number, Pointer}
 use Rattle.ebpf_machine.specs.declared.value.Base.{Base}
 use Rattle.ebpf_machine.specs.declared.value.Base.TheVariants.{Stack, Context, Object}
 use Rattle.ebpf_machine.specs.Values.{Trap, ContextAccess, ObjectBounds, PointerMisuse, BadCall, FramePointerWritten, Leak, Frame, read, source_value}
-use Rattle.ebpf_machine.specs.Effect.{Found, Around, Act, Nothing, Take, Give, Effect, Goes, Traps, effect_at, effect, unary, copied, moved_on_left, moved_on_right, pointer_to, computed, binary, alu_value, with_value, written, is_taken, read_object, loaded, rewritten, written_at, writes_object, stores_through, stores, unset, without_arguments, with_zero, news, gives, frees, with_output, emits, calls, jumps, branches, exits, result_number}
+use Rattle.ebpf_machine.specs.Effect.{Found, Environment, Act, Nothing, Ask, Free, Effect, Goes, Traps, effect_at, effect, unary, copied, moved_on_left, moved_on_right, pointer_to, computed, binary, alu_value, with_value, written, is_taken, read_object, loaded, rewritten, written_at, writes_object, effect_of_store_through, effect_of_store, unset, without_arguments, with_zero, effect_of_new, effect_of_freeing, effect_of_free, with_output, effect_of_emit, effect_of_call, effect_of_jump, effect_of_branch, effect_of_exit, result_number}
 use Rattle.ebpf_machine.specs.World.{Name}
 use Rattle.std.specs.List.{enumerate_from}
 use Rattle.std.proofs.lemmas.Bool.{cond_both}
@@ -175,7 +175,7 @@ object_points_nowhere : (stack : List (Cell Name)) (r : Result Found Trap) (at :
 object_points_nowhere stack (Err trap) at bytes signed = tt
 object_points_nowhere stack (Ok found) at bytes signed = read_points_nowhere stack ObjectBounds (place_in (length found.bytes) at bytes) bytes signed found.bytes
 
-through_points : (a : Around Name) (stack : List (Cell Name)) (size : Size) (signed : Bool) (offset : ℤ) (x : Option (Value Name)) → PointsIn stack (loaded a stack size signed offset x)
+through_points : (a : Environment Name) (stack : List (Cell Name)) (size : Size) (signed : Bool) (offset : ℤ) (x : Option (Value Name)) → PointsIn stack (loaded a stack size signed offset x)
 through_points a stack size signed offset None = tt
 through_points a stack size signed offset (Some (Number n)) = tt
 through_points a stack size signed offset (Some (Pointer Stack k)) = loaded_points a.is_same (place_of (k +ℤ offset) (bytes_in size)) (bytes_in size) signed stack
@@ -240,13 +240,13 @@ object_plain : (to : ℕ) (frame : Frame Name) (name : Name) (r : Result Found T
 object_plain to frame name (Err trap) at bytes v = tt
 object_plain to frame name (Ok found) at bytes v = written_at_plain to frame name (place_in (length found.bytes) at bytes) bytes v
 
-through_plain : (to : ℕ) (a : Around Name) (frame : Frame Name) (size : Size) (offset : ℤ) (base v : Value Name) → ((n : Name) → Names (Some v) n → HasPointer frame n) → IsPlainEffect frame (stores_through to a frame size offset base v)
+through_plain : (to : ℕ) (a : Environment Name) (frame : Frame Name) (size : Size) (offset : ℤ) (base v : Value Name) → ((n : Name) → Names (Some v) n → HasPointer frame n) → IsPlainEffect frame (effect_of_store_through to a frame size offset base v)
 through_plain to a frame size offset (Number m) v from = tt
 through_plain to a frame size offset (Pointer Stack k) v from = stored_at_plain to frame (place_of (k +ℤ offset) (bytes_in size)) (bytes_in size) v from
 through_plain to a frame size offset (Pointer Context k) v from = tt
 through_plain to a frame size offset (Pointer (Object name) k) v from = object_plain to frame name (a.object name) (k +ℤ offset) (bytes_in size) v
 
-store_plain : (to : ℕ) (a : Around Name) (frame : Frame Name) (size : Size) (offset : ℤ) (x y : Option (Value Name)) → ((n : Name) → Names y n → HasPointer frame n) → IsPlainEffect frame (stores to a frame size offset x y)
+store_plain : (to : ℕ) (a : Environment Name) (frame : Frame Name) (size : Size) (offset : ℤ) (x y : Option (Value Name)) → ((n : Name) → Names y n → HasPointer frame n) → IsPlainEffect frame (effect_of_store to a frame size offset x y)
 store_plain to a frame size offset None y from = tt
 store_plain to a frame size offset (Some base) None from = tt
 store_plain to a frame size offset (Some base) (Some v) from = through_plain to a frame size offset base v from
@@ -280,32 +280,32 @@ or_bad_plain : (frame : Frame Name) (t : Bool) (act : Act Name) (to : ℕ) (afte
 or_bad_plain frame true act to after plain = plain
 or_bad_plain frame false act to after plain = tt
 
-news_plain : (to : ℕ) (a : Around Name) (frame : Frame Name) (x : Option (Value Name)) → IsPlainEffect frame (news to a frame x)
+news_plain : (to : ℕ) (a : Environment Name) (frame : Frame Name) (x : Option (Value Name)) → IsPlainEffect frame (effect_of_new to a frame x)
 news_plain to a frame None = tt
-news_plain to a frame (Some (Number kind)) = or_bad_plain frame (nat_lt kind a.kinds) (Take kind) to (without_arguments frame) (arguments_plain frame)
+news_plain to a frame (Some (Number kind)) = or_bad_plain frame (nat_lt kind a.kinds) (Ask kind) to (without_arguments frame) (arguments_plain frame)
 news_plain to a frame (Some (Pointer base k)) = tt
 
-gives_plain : (to : ℕ) (frame : Frame Name) (name : Name) (r : Result Found Trap) (k : ℤ) → IsPlainEffect frame (gives to frame name r k)
+gives_plain : (to : ℕ) (frame : Frame Name) (name : Name) (r : Result Found Trap) (k : ℤ) → IsPlainEffect frame (effect_of_freeing to frame name r k)
 gives_plain to frame name (Err trap) k = tt
-gives_plain to frame name (Ok found) k = or_bad_plain frame (int_eq k (pos 0)) (Give name) to (with_zero frame) (zero_plain frame)
+gives_plain to frame name (Ok found) k = or_bad_plain frame (int_eq k (pos 0)) (Free name) to (with_zero frame) (zero_plain frame)
 
-frees_plain : (to : ℕ) (a : Around Name) (frame : Frame Name) (x : Option (Value Name)) → IsPlainEffect frame (frees to a frame x)
+frees_plain : (to : ℕ) (a : Environment Name) (frame : Frame Name) (x : Option (Value Name)) → IsPlainEffect frame (effect_of_free to a frame x)
 frees_plain to a frame None = tt
 frees_plain to a frame (Some (Number m)) = tt
 frees_plain to a frame (Some (Pointer Stack k)) = tt
 frees_plain to a frame (Some (Pointer Context k)) = tt
 frees_plain to a frame (Some (Pointer (Object name) k)) = gives_plain to frame name (a.object name) k
 
-emits_plain : (to : ℕ) (frame : Frame Name) (x : Option (Value Name)) → IsPlainEffect frame (emits to frame x)
+emits_plain : (to : ℕ) (frame : Frame Name) (x : Option (Value Name)) → IsPlainEffect frame (effect_of_emit to frame x)
 emits_plain to frame None = tt
 emits_plain to frame (Some (Number m)) = λ n h. zero_plain frame n (output_plain m (with_zero frame) n h)
 emits_plain to frame (Some (Pointer base k)) = tt
 
-calls_plain : (helper : Option Helper) (to : ℕ) (a : Around Name) (frame : Frame Name) → IsPlainEffect frame (calls helper to a frame)
+calls_plain : (helper : Option Helper) (to : ℕ) (a : Environment Name) (frame : Frame Name) → IsPlainEffect frame (effect_of_call helper to a frame)
 calls_plain None to a frame = tt
-calls_plain (Some New) to a frame = news_plain to a frame (read frame R1)
-calls_plain (Some Free) to a frame = frees_plain to a frame (read frame R1)
-calls_plain (Some Emit) to a frame = emits_plain to frame (read frame R1)
+calls_plain (Some helper.New) to a frame = news_plain to a frame (read frame R1)
+calls_plain (Some helper.Free) to a frame = frees_plain to a frame (read frame R1)
+calls_plain (Some helper.Emit) to a frame = emits_plain to frame (read frame R1)
 
 -- ---- every instruction
 
@@ -313,16 +313,16 @@ calls_plain (Some Emit) to a frame = emits_plain to frame (read frame R1)
 number_plain : (to : ℕ) (frame : Frame Name) (dst : Reg) (f : ℕ → ℕ) (src : Reg) → IsPlainEffect frame (written to frame dst (unary f (read frame src)))
 number_plain to frame dst f src = written_plain to frame dst (read frame src) (read frame src) (unary f (read frame src)) (read_points frame src) (read_points frame src) (unary_points f (read frame src) (read frame src))
 
-jumps_plain : (target : Option ℕ) (frame : Frame Name) → IsPlainEffect frame (jumps target frame)
+jumps_plain : (target : Option ℕ) (frame : Frame Name) → IsPlainEffect frame (effect_of_jump target frame)
 jumps_plain None frame = tt
 jumps_plain (Some to) frame = λ n h. h
 
-branches_plain : (next : ℕ) (target : Option ℕ) (frame : Frame Name) (r : Result Bool Trap) → IsPlainEffect frame (branches next target frame r)
+branches_plain : (next : ℕ) (target : Option ℕ) (frame : Frame Name) (r : Result Bool Trap) → IsPlainEffect frame (effect_of_branch next target frame r)
 branches_plain next target frame (Err trap) = tt
 branches_plain next target frame (Ok true) = jumps_plain target frame
 branches_plain next target frame (Ok false) = λ n h. h
 
-exits_plain : (frame : Frame Name) (holds : ℕ) (x : Option (Value Name)) → IsPlainEffect frame (exits holds x)
+exits_plain : (frame : Frame Name) (holds : ℕ) (x : Option (Value Name)) → IsPlainEffect frame (effect_of_exit holds x)
 exits_plain frame holds None = tt
 exits_plain frame holds (Some v) = leaks (nat_lt 0 holds) v where
   returns : (v : Value Name) → IsPlainEffect frame (result_number v)
@@ -333,7 +333,7 @@ exits_plain frame holds (Some v) = leaks (nat_lt 0 holds) v where
   leaks true v = tt
   leaks false v = returns v
 
-effect_plain : (i : Insn) (pc : ℕ) (a : Around Name) (frame : Frame Name) → IsPlainEffect frame (effect i pc a frame)
+effect_plain : (i : Insn) (pc : ℕ) (a : Environment Name) (frame : Frame Name) → IsPlainEffect frame (effect i pc a frame)
 effect_plain (insn.Alu width o dst src) pc a frame =
     written_plain _ frame dst (read frame dst) (source_value frame width src) (alu_value width o (read frame dst) (source_value frame width src)) (read_points frame dst) (source_points frame width src) (alu_points width o (read frame dst) (source_value frame width src))
 effect_plain (insn.Sext width bits dst src) pc a frame = number_plain _ frame dst (extension_at width bits) src
@@ -348,9 +348,9 @@ effect_plain (insn.Load size signed dst base offset) pc a frame = load_plain _ f
 effect_plain (insn.Store size base offset src) pc a frame = store_plain _ a frame size offset (read frame base) (source_value frame W64 src) (source_points frame W64 src)
 effect_plain (insn.Call number) pc a frame = calls_plain (helper_of number) _ a frame
 
-effect_at_plain : (o : Option Insn) (pc : ℕ) (a : Around Name) (frame : Frame Name) → IsPlainEffect frame (effect_at o pc a frame)
+effect_at_plain : (o : Option Insn) (pc : ℕ) (a : Environment Name) (frame : Frame Name) → IsPlainEffect frame (effect_at o pc a frame)
 effect_at_plain None pc a frame = tt
 effect_at_plain (Some i) pc a frame = effect_plain i pc a frame
 
-pub plain_goes : (o : Option Insn) (pc : ℕ) (a : Around Name) (frame : Frame Name) (act : Act Name) (to : ℕ) (after : Frame Name) → effect_at o pc a frame ≡ Goes act to after → (n : Name) → HasPointer after n → HasPointer frame n
+pub plain_goes : (o : Option Insn) (pc : ℕ) (a : Environment Name) (frame : Frame Name) (act : Act Name) (to : ℕ) (after : Frame Name) → effect_at o pc a frame ≡ Goes act to after → (n : Name) → HasPointer after n → HasPointer frame n
 plain_goes o pc a frame act to after e = subst (IsPlainEffect frame) e (effect_at_plain o pc a frame)

@@ -22,7 +22,7 @@ use Rattle.ebpf_state.specs.Stack.{bytes_in, place_of}
 use Rattle.ebpf_verify.specs.Operations.{is_frame_pointer}
 use Rattle.ebpf_verify.specs.Branches.{compares_with_null}
 use Rattle.ebpf_verify.specs.declared.helper.Helper.{Helper}
-use Rattle.ebpf_verify.specs.declared.helper.Helper.TheVariants.{New, Free, Emit}
+use Rattle.ebpf_verify.specs.declared.helper.Helper.TheVariants as helper
 use Rattle.ebpf_verify.specs.Calls.{helper_of}
 use Rattle.ebpf_machine.specs.declared.value.Base.{Base}
 use Rattle.ebpf_machine.specs.declared.value.Base.TheVariants.{Stack, Context, Object}
@@ -31,7 +31,7 @@ use Rattle.ebpf_machine.specs.declared.value.Value.TheVariants.{Number, Pointer}
 use Rattle.ebpf_machine.specs.declared.value.Cell.{Cell}
 use Rattle.ebpf_machine.specs.Values.{Trap, ContextAccess, ObjectBounds, PointerMisuse, BadCall, FramePointerWritten, Leak, Frame, read, source_value}
 use Rattle.ebpf_machine.specs.Cells.{loaded_at, place_in, read_at, stored_at}
-use Rattle.ebpf_machine.specs.Effect.{Found, Around, Act, Nothing, Take, Give, Effect, Goes, Traps, effect_at, effect, unary, copied, moved_on_left, moved_on_right, pointer_to, computed, binary, alu_value, with_value, written, is_inequality, compared, is_taken, read_object, loaded, rewritten, written_at, writes_object, stores_through, stores, unset, without_arguments, with_zero, news, gives, frees, with_output, emits, calls, jumps, branches, exits, result_number}
+use Rattle.ebpf_machine.specs.Effect.{Found, Environment, Act, Nothing, Ask, Free, Effect, Goes, Traps, effect_at, effect, unary, copied, moved_on_left, moved_on_right, pointer_to, computed, binary, alu_value, with_value, written, is_inequality, compared, is_taken, read_object, loaded, rewritten, written_at, writes_object, effect_of_store_through, effect_of_store, unset, without_arguments, with_zero, effect_of_new, effect_of_freeing, effect_of_free, with_output, effect_of_emit, effect_of_call, effect_of_jump, effect_of_branch, effect_of_exit, result_number}
 use Rattle.ebpf_machine.specs.World.{Name}
 use Rattle.ebpf_machine.specs.View.{base_seen, value_seen, register_seen, cell_seen, frame_seen}
 use Rattle.ebpf_machine.specs.Sound.{Names, HasPointer}
@@ -109,14 +109,14 @@ taken-seen width condition right None y = refl
 taken-seen width condition right (Some v) None = refl
 taken-seen width condition right (Some v) (Some w) = compared-seen width condition right v w
 
-jumps-seen : (target : Option ℕ) (frame : Frame Name) → jumps target (frame_seen frame) ≡ effect_seen (jumps target frame)
-jumps-seen None frame = refl
-jumps-seen (Some to) frame = refl
+effect_of_jump-seen : (target : Option ℕ) (frame : Frame Name) → effect_of_jump target (frame_seen frame) ≡ effect_seen (effect_of_jump target frame)
+effect_of_jump-seen None frame = refl
+effect_of_jump-seen (Some to) frame = refl
 
-branches-seen : (next : ℕ) (target : Option ℕ) (frame : Frame Name) (r : Result Bool Trap) → branches next target (frame_seen frame) (decision_seen r) ≡ effect_seen (branches next target frame r)
-branches-seen next target frame (Err trap) = refl
-branches-seen next target frame (Ok true) = jumps-seen target frame
-branches-seen next target frame (Ok false) = refl
+effect_of_branch-seen : (next : ℕ) (target : Option ℕ) (frame : Frame Name) (r : Result Bool Trap) → effect_of_branch next target (frame_seen frame) (decision_seen r) ≡ effect_seen (effect_of_branch next target frame r)
+effect_of_branch-seen next target frame (Err trap) = refl
+effect_of_branch-seen next target frame (Ok true) = effect_of_jump-seen target frame
+effect_of_branch-seen next target frame (Ok false) = refl
 
 with_value-seen : (frame : Frame Name) (dst : Reg) (v : Value Name) → with_value (frame_seen frame) dst (value_seen v) ≡ frame_seen (with_value frame dst v)
 with_value-seen frame dst v = ap (λ (regs : List (Option (Value ℕ))). record (frame_seen frame) { registers = regs }) (sym (set-seen frame.registers (number_of dst) v))
@@ -137,22 +137,22 @@ leaks-seen : (t : Bool) (e : Effect Name) → cond t (Traps Leak) (effect_seen e
 leaks-seen true e = refl
 leaks-seen false e = refl
 
-exits-seen : (holds : ℕ) (x : Option (Value Name)) → exits holds (register_seen x) ≡ effect_seen (exits holds x)
-exits-seen holds None = refl
-exits-seen holds (Some v) = rw (number-seen v) (leaks-seen (nat_lt 0 holds) (result_number v))
+effect_of_exit-seen : (holds : ℕ) (x : Option (Value Name)) → effect_of_exit holds (register_seen x) ≡ effect_seen (effect_of_exit holds x)
+effect_of_exit-seen holds None = refl
+effect_of_exit-seen holds (Some v) = rw (number-seen v) (leaks-seen (nat_lt 0 holds) (result_number v))
 
 -- what an instruction meets beside the frame is seen so: the same context, as many kinds and as many objects; what is found under
 -- names of which it has pointers; and these names are one on one side where they are on the other
-pub record IsSeenAs (a : Around Name) (b : Around ℕ) (frame : Frame Name) : Type 0 where
+pub record IsSeenAs (a : Environment Name) (b : Environment ℕ) (frame : Frame Name) : Type 0 where
   pub context : b.context ≡ a.context
   pub kinds : b.kinds ≡ a.kinds
   pub holds : b.holds ≡ a.holds
-  pub objects : (n : Name) → HasPointer frame n → b.object n.1 ≡ found_seen (a.object n)
-  pub names : (n m : Name) → HasPointer frame n → HasPointer frame m → b.is_same n.1 m.1 ≡ a.is_same n m
+  pub objects : (n : Name) → HasPointer frame n → b.object n.call ≡ found_seen (a.object n)
+  pub names : (n m : Name) → HasPointer frame n → HasPointer frame m → b.is_same n.call m.call ≡ a.is_same n m
 
 -- ---- loads
 
-stack_load-seen : (a : Around Name) (b : Around ℕ) (frame : Frame Name) (size : Size) (signed : Bool) (at : ℤ) → IsSeenAs a b frame → loaded_at b.is_same (place_of at (bytes_in size)) (bytes_in size) signed (map cell_seen frame.stack) ≡ result_seen (loaded_at a.is_same (place_of at (bytes_in size)) (bytes_in size) signed frame.stack)
+stack_load-seen : (a : Environment Name) (b : Environment ℕ) (frame : Frame Name) (size : Size) (signed : Bool) (at : ℤ) → IsSeenAs a b frame → loaded_at b.is_same (place_of at (bytes_in size)) (bytes_in size) signed (map cell_seen frame.stack) ≡ result_seen (loaded_at a.is_same (place_of at (bytes_in size)) (bytes_in size) signed frame.stack)
 stack_load-seen a b frame size signed at same = loaded_at-seen a.is_same b.is_same (place_of at (bytes_in size)) (bytes_in size) signed frame.stack (λ n m u v. same.names n m (cell_points frame n u) (cell_points frame m v))
 
 context_load-seen : (context other : List ℕ) (at : ℤ) (bytes : ℕ) (signed : Bool) → other ≡ context → read_at ContextAccess (place_in (length other) at bytes) bytes signed other ≡ result_seen (read_at ContextAccess (place_in (length context) at bytes) bytes signed context)
@@ -162,7 +162,7 @@ object_load-seen : (r : Result Found Trap) (at : ℤ) (bytes : ℕ) (signed : Bo
 object_load-seen (Err trap) at bytes signed = refl
 object_load-seen (Ok found) at bytes signed = read_at-seen ObjectBounds (place_in (length found.bytes) at bytes) bytes signed found.bytes refl
 
-loaded-seen : (a : Around Name) (b : Around ℕ) (frame : Frame Name) (size : Size) (signed : Bool) (offset : ℤ) (x : Option (Value Name)) → IsSeenAs a b frame → ((n : Name) → Names x n → HasPointer frame n)
+loaded-seen : (a : Environment Name) (b : Environment ℕ) (frame : Frame Name) (size : Size) (signed : Bool) (offset : ℤ) (x : Option (Value Name)) → IsSeenAs a b frame → ((n : Name) → Names x n → HasPointer frame n)
     → loaded b (map cell_seen frame.stack) size signed offset (register_seen x) ≡ result_seen (loaded a frame.stack size signed offset x)
 loaded-seen a b frame size signed offset None same has = refl
 loaded-seen a b frame size signed offset (Some (Number n)) same has = refl
@@ -176,28 +176,28 @@ rewritten-seen : (to : ℕ) (frame : Frame Name) (r : Result (List (Cell Name)) 
 rewritten-seen to frame (Err trap) = refl
 rewritten-seen to frame (Ok stack) = refl
 
-written_at-seen : (to : ℕ) (frame : Frame Name) (name : Name) (place : Option ℕ) (bytes : ℕ) (v : Value Name) → written_at to (frame_seen frame) name.1 place bytes (value_seen v) ≡ effect_seen (written_at to frame name place bytes v)
+written_at-seen : (to : ℕ) (frame : Frame Name) (name : Name) (place : Option ℕ) (bytes : ℕ) (v : Value Name) → written_at to (frame_seen frame) name.call place bytes (value_seen v) ≡ effect_seen (written_at to frame name place bytes v)
 written_at-seen to frame name None bytes v = refl
 written_at-seen to frame name (Some place) bytes (Number n) = refl
 written_at-seen to frame name (Some place) bytes (Pointer base k) = refl
 
-object_store-seen : (to : ℕ) (frame : Frame Name) (name : Name) (r : Result Found Trap) (at : ℤ) (bytes : ℕ) (v : Value Name) → writes_object to (frame_seen frame) name.1 (found_seen r) at bytes (value_seen v) ≡ effect_seen (writes_object to frame name r at bytes v)
+object_store-seen : (to : ℕ) (frame : Frame Name) (name : Name) (r : Result Found Trap) (at : ℤ) (bytes : ℕ) (v : Value Name) → writes_object to (frame_seen frame) name.call (found_seen r) at bytes (value_seen v) ≡ effect_seen (writes_object to frame name r at bytes v)
 object_store-seen to frame name (Err trap) at bytes v = refl
 object_store-seen to frame name (Ok found) at bytes v = written_at-seen to frame name (place_in (length found.bytes) at bytes) bytes v
 
-through-seen : (to : ℕ) (a : Around Name) (b : Around ℕ) (frame : Frame Name) (size : Size) (offset : ℤ) (base v : Value Name) → IsSeenAs a b frame → ((n : Name) → Names (Some base) n → HasPointer frame n)
-    → stores_through to b (frame_seen frame) size offset (value_seen base) (value_seen v) ≡ effect_seen (stores_through to a frame size offset base v)
+through-seen : (to : ℕ) (a : Environment Name) (b : Environment ℕ) (frame : Frame Name) (size : Size) (offset : ℤ) (base v : Value Name) → IsSeenAs a b frame → ((n : Name) → Names (Some base) n → HasPointer frame n)
+    → effect_of_store_through to b (frame_seen frame) size offset (value_seen base) (value_seen v) ≡ effect_seen (effect_of_store_through to a frame size offset base v)
 through-seen to a b frame size offset (Number n) v same has = refl
 through-seen to a b frame size offset (Pointer Stack k) v same has =
     rw (stored_at-seen (place_of (k +ℤ offset) (bytes_in size)) (bytes_in size) v frame.stack) (rewritten-seen to frame (stored_at (place_of (k +ℤ offset) (bytes_in size)) (bytes_in size) v frame.stack))
 through-seen to a b frame size offset (Pointer Context k) v same has = refl
 through-seen to a b frame size offset (Pointer (Object name) k) v same has = rw (same.objects name (has name refl)) (object_store-seen to frame name (a.object name) (k +ℤ offset) (bytes_in size) v)
 
-stores-seen : (to : ℕ) (a : Around Name) (b : Around ℕ) (frame : Frame Name) (size : Size) (offset : ℤ) (x y : Option (Value Name)) → IsSeenAs a b frame → ((n : Name) → Names x n → HasPointer frame n)
-    → stores to b (frame_seen frame) size offset (register_seen x) (register_seen y) ≡ effect_seen (stores to a frame size offset x y)
-stores-seen to a b frame size offset None y same has = refl
-stores-seen to a b frame size offset (Some base) None same has = refl
-stores-seen to a b frame size offset (Some base) (Some v) same has = through-seen to a b frame size offset base v same has
+effect_of_store-seen : (to : ℕ) (a : Environment Name) (b : Environment ℕ) (frame : Frame Name) (size : Size) (offset : ℤ) (x y : Option (Value Name)) → IsSeenAs a b frame → ((n : Name) → Names x n → HasPointer frame n)
+    → effect_of_store to b (frame_seen frame) size offset (register_seen x) (register_seen y) ≡ effect_seen (effect_of_store to a frame size offset x y)
+effect_of_store-seen to a b frame size offset None y same has = refl
+effect_of_store-seen to a b frame size offset (Some base) None same has = refl
+effect_of_store-seen to a b frame size offset (Some base) (Some v) same has = through-seen to a b frame size offset base v same has
 
 -- ---- calls
 
@@ -223,35 +223,35 @@ or_bad-seen : (t : Bool) (e : Effect Name) → cond t (effect_seen e) (Traps Bad
 or_bad-seen true e = refl
 or_bad-seen false e = refl
 
-news-seen : (to : ℕ) (a : Around Name) (b : Around ℕ) (frame : Frame Name) (x : Option (Value Name)) → b.kinds ≡ a.kinds → news to b (frame_seen frame) (register_seen x) ≡ effect_seen (news to a frame x)
-news-seen to a b frame None same = refl
-news-seen to a b frame (Some (Number kind)) same = rw (same, goes-seen (Take kind) to (without_arguments frame) (without_arguments (frame_seen frame)) (arguments-seen frame)) (or_bad-seen (nat_lt kind a.kinds) (Goes (Take kind) to (without_arguments frame)))
-news-seen to a b frame (Some (Pointer base k)) same = refl
+effect_of_new-seen : (to : ℕ) (a : Environment Name) (b : Environment ℕ) (frame : Frame Name) (x : Option (Value Name)) → b.kinds ≡ a.kinds → effect_of_new to b (frame_seen frame) (register_seen x) ≡ effect_seen (effect_of_new to a frame x)
+effect_of_new-seen to a b frame None same = refl
+effect_of_new-seen to a b frame (Some (Number kind)) same = rw (same, goes-seen (Ask kind) to (without_arguments frame) (without_arguments (frame_seen frame)) (arguments-seen frame)) (or_bad-seen (nat_lt kind a.kinds) (Goes (Ask kind) to (without_arguments frame)))
+effect_of_new-seen to a b frame (Some (Pointer base k)) same = refl
 
-gives-seen : (to : ℕ) (frame : Frame Name) (name : Name) (r : Result Found Trap) (k : ℤ) → gives to (frame_seen frame) name.1 (found_seen r) k ≡ effect_seen (gives to frame name r k)
-gives-seen to frame name (Err trap) k = refl
-gives-seen to frame name (Ok found) k = rw (goes-seen (Give name) to (with_zero frame) (with_zero (frame_seen frame)) (zero-seen frame)) (or_bad-seen (int_eq k (pos 0)) (Goes (Give name) to (with_zero frame)))
+effect_of_freeing-seen : (to : ℕ) (frame : Frame Name) (name : Name) (r : Result Found Trap) (k : ℤ) → effect_of_freeing to (frame_seen frame) name.call (found_seen r) k ≡ effect_seen (effect_of_freeing to frame name r k)
+effect_of_freeing-seen to frame name (Err trap) k = refl
+effect_of_freeing-seen to frame name (Ok found) k = rw (goes-seen (Free name) to (with_zero frame) (with_zero (frame_seen frame)) (zero-seen frame)) (or_bad-seen (int_eq k (pos 0)) (Goes (Free name) to (with_zero frame)))
 
-frees-seen : (to : ℕ) (a : Around Name) (b : Around ℕ) (frame : Frame Name) (x : Option (Value Name)) → IsSeenAs a b frame → ((n : Name) → Names x n → HasPointer frame n) → frees to b (frame_seen frame) (register_seen x) ≡ effect_seen (frees to a frame x)
-frees-seen to a b frame None same has = refl
-frees-seen to a b frame (Some (Number n)) same has = refl
-frees-seen to a b frame (Some (Pointer Stack k)) same has = refl
-frees-seen to a b frame (Some (Pointer Context k)) same has = refl
-frees-seen to a b frame (Some (Pointer (Object name) k)) same has = rw (same.objects name (has name refl)) (gives-seen to frame name (a.object name) k)
+effect_of_free-seen : (to : ℕ) (a : Environment Name) (b : Environment ℕ) (frame : Frame Name) (x : Option (Value Name)) → IsSeenAs a b frame → ((n : Name) → Names x n → HasPointer frame n) → effect_of_free to b (frame_seen frame) (register_seen x) ≡ effect_seen (effect_of_free to a frame x)
+effect_of_free-seen to a b frame None same has = refl
+effect_of_free-seen to a b frame (Some (Number n)) same has = refl
+effect_of_free-seen to a b frame (Some (Pointer Stack k)) same has = refl
+effect_of_free-seen to a b frame (Some (Pointer Context k)) same has = refl
+effect_of_free-seen to a b frame (Some (Pointer (Object name) k)) same has = rw (same.objects name (has name refl)) (effect_of_freeing-seen to frame name (a.object name) k)
 
-emits-seen : (to : ℕ) (frame : Frame Name) (x : Option (Value Name)) → emits to (frame_seen frame) (register_seen x) ≡ effect_seen (emits to frame x)
-emits-seen to frame None = refl
-emits-seen to frame (Some (Number n)) = goes-seen Nothing to (with_output n (with_zero frame)) (with_output n (with_zero (frame_seen frame))) (ap (with_output n) (zero-seen frame))
-emits-seen to frame (Some (Pointer base k)) = refl
+effect_of_emit-seen : (to : ℕ) (frame : Frame Name) (x : Option (Value Name)) → effect_of_emit to (frame_seen frame) (register_seen x) ≡ effect_seen (effect_of_emit to frame x)
+effect_of_emit-seen to frame None = refl
+effect_of_emit-seen to frame (Some (Number n)) = goes-seen Nothing to (with_output n (with_zero frame)) (with_output n (with_zero (frame_seen frame))) (ap (with_output n) (zero-seen frame))
+effect_of_emit-seen to frame (Some (Pointer base k)) = refl
 
-calls-seen : (helper : Option Helper) (to : ℕ) (a : Around Name) (b : Around ℕ) (frame : Frame Name) → IsSeenAs a b frame → calls helper to b (frame_seen frame) ≡ effect_seen (calls helper to a frame)
-calls-seen None to a b frame same = refl
-calls-seen (Some New) to a b frame same = rw (read-seen frame R1) (news-seen to a b frame (read frame R1) same.kinds)
-calls-seen (Some Free) to a b frame same = rw (read-seen frame R1) (frees-seen to a b frame (read frame R1) same (read_points frame R1))
-calls-seen (Some Emit) to a b frame same = rw (read-seen frame R1) (emits-seen to frame (read frame R1))
+effect_of_call-seen : (helper : Option Helper) (to : ℕ) (a : Environment Name) (b : Environment ℕ) (frame : Frame Name) → IsSeenAs a b frame → effect_of_call helper to b (frame_seen frame) ≡ effect_seen (effect_of_call helper to a frame)
+effect_of_call-seen None to a b frame same = refl
+effect_of_call-seen (Some helper.New) to a b frame same = rw (read-seen frame R1) (effect_of_new-seen to a b frame (read frame R1) same.kinds)
+effect_of_call-seen (Some helper.Free) to a b frame same = rw (read-seen frame R1) (effect_of_free-seen to a b frame (read frame R1) same (read_points frame R1))
+effect_of_call-seen (Some helper.Emit) to a b frame same = rw (read-seen frame R1) (effect_of_emit-seen to frame (read frame R1))
 
 -- an effect of the run is the effect as it sees itself
-effect-seen : (i : Insn) (pc : ℕ) (a : Around Name) (b : Around ℕ) (frame : Frame Name) → IsSeenAs a b frame → effect i pc b (frame_seen frame) ≡ effect_seen (effect i pc a frame)
+effect-seen : (i : Insn) (pc : ℕ) (a : Environment Name) (b : Environment ℕ) (frame : Frame Name) → IsSeenAs a b frame → effect i pc b (frame_seen frame) ≡ effect_seen (effect i pc a frame)
 effect-seen (insn.Alu width o dst src) pc a b frame same =
     rw (read-seen frame dst, source-seen frame width src, alu-seen width o (read frame dst) (source_value frame width src)) (written-seen (pc + 1) frame dst (alu_value width o (read frame dst) (source_value frame width src)))
 effect-seen (insn.Sext width bits dst src) pc a b frame same =
@@ -261,17 +261,17 @@ effect-seen (insn.Neg width dst) pc a b frame same =
 effect-seen (insn.Swap order bits dst) pc a b frame same =
     rw (read-seen frame dst, unary-seen (swap_of order bits) (read frame dst)) (written-seen (pc + 1) frame dst (unary (swap_of order bits) (read frame dst)))
 effect-seen (insn.Wide dst value) pc a b frame same = written-seen (pc + 2) frame dst (Ok (Number value))
-effect-seen (insn.Jump offset) pc a b frame same = jumps-seen (jump_of (insn.Jump offset) pc) frame
-effect-seen (insn.JumpFar offset) pc a b frame same = jumps-seen (jump_of (insn.JumpFar offset) pc) frame
+effect-seen (insn.Jump offset) pc a b frame same = effect_of_jump-seen (jump_of (insn.Jump offset) pc) frame
+effect-seen (insn.JumpFar offset) pc a b frame same = effect_of_jump-seen (jump_of (insn.JumpFar offset) pc) frame
 effect-seen (insn.Branch width condition left right offset) pc a b frame same =
-    rw (read-seen frame left, source-seen frame width right, taken-seen width condition right (read frame left) (source_value frame width right)) (branches-seen (pc + 1) (jump_of (insn.Branch width condition left right offset) pc) frame (is_taken width condition right (read frame left) (source_value frame width right)))
-effect-seen insn.Exit pc a b frame same = rw (read-seen frame R0, same.holds) (exits-seen a.holds (read frame R0))
+    rw (read-seen frame left, source-seen frame width right, taken-seen width condition right (read frame left) (source_value frame width right)) (effect_of_branch-seen (pc + 1) (jump_of (insn.Branch width condition left right offset) pc) frame (is_taken width condition right (read frame left) (source_value frame width right)))
+effect-seen insn.Exit pc a b frame same = rw (read-seen frame R0, same.holds) (effect_of_exit-seen a.holds (read frame R0))
 effect-seen (insn.Load size signed dst base offset) pc a b frame same =
     rw (read-seen frame base, loaded-seen a b frame size signed offset (read frame base) same (read_points frame base)) (written-seen (pc + 1) frame dst (loaded a frame.stack size signed offset (read frame base)))
 effect-seen (insn.Store size base offset src) pc a b frame same =
-    rw (read-seen frame base, source-seen frame W64 src) (stores-seen (pc + 1) a b frame size offset (read frame base) (source_value frame W64 src) same (read_points frame base))
-effect-seen (insn.Call number) pc a b frame same = calls-seen (helper_of number) (pc + 1) a b frame same
+    rw (read-seen frame base, source-seen frame W64 src) (effect_of_store-seen (pc + 1) a b frame size offset (read frame base) (source_value frame W64 src) same (read_points frame base))
+effect-seen (insn.Call number) pc a b frame same = effect_of_call-seen (helper_of number) (pc + 1) a b frame same
 
-pub effect_at-seen : (o : Option Insn) (pc : ℕ) (a : Around Name) (b : Around ℕ) (frame : Frame Name) → IsSeenAs a b frame → effect_at o pc b (frame_seen frame) ≡ effect_seen (effect_at o pc a frame)
+pub effect_at-seen : (o : Option Insn) (pc : ℕ) (a : Environment Name) (b : Environment ℕ) (frame : Frame Name) → IsSeenAs a b frame → effect_at o pc b (frame_seen frame) ≡ effect_seen (effect_at o pc a frame)
 effect_at-seen None pc a b frame same = refl
 effect_at-seen (Some i) pc a b frame same = effect-seen i pc a b frame same

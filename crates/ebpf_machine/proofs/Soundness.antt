@@ -36,9 +36,9 @@ use Rattle.ebpf_verify.specs.Verdict.{refusal_in}
 use Rattle.ebpf_machine.specs.declared.value.Value.{Value}
 use Rattle.ebpf_machine.specs.declared.value.Value.TheVariants.{Number}
 use Rattle.ebpf_machine.specs.Values.{Frame, read, source_value}
-use Rattle.ebpf_machine.specs.Effect.{Nothing, Goes, Ends, effect, unary, alu_value, jumps, is_taken, exits}
+use Rattle.ebpf_machine.specs.Effect.{Nothing, Goes, Ends, effect, unary, alu_value, effect_of_jump, is_taken, effect_of_exit}
 use Rattle.ebpf_machine.specs.World.{Going, first_registers, first_frame}
-use Rattle.ebpf_machine.specs.View.{ObjectView, RunView, around_view}
+use Rattle.ebpf_machine.specs.View.{ObjectView, RunView, environment_of_view}
 use Rattle.ebpf_machine.specs.Concretization.{IsOf, AreOf, AreReferred, Arrives, calls_of}
 use Rattle.ebpf_machine.specs.Sound.{AreSized, IsSound}
 use Rattle.ebpf_machine.proofs.Joins.{IsWhole}
@@ -84,15 +84,15 @@ wide_next v dst value s here =
 -- ---- jumps and branches
 
 -- an instruction that leaves the frame as it is, and jumps
-jumps_next : (v : RunView) (i : Insn) (s after : StateView) (z : ℤ) → IsHere v i s → displacement_of i ≡ Some z → ((to : ℕ) → jump_of i v.pc ≡ Some to → effect i v.pc (around_view v) v.frame ≡ Goes Nothing to v.frame) → after_jump i s ≡ Some after → AreOf after v.frame v.objects → IsNext v
+jumps_next : (v : RunView) (i : Insn) (s after : StateView) (z : ℤ) → IsHere v i s → displacement_of i ≡ Some z → ((to : ℕ) → jump_of i v.pc ≡ Some to → effect i v.pc (environment_of_view v) v.frame ≡ Goes Nothing to v.frame) → after_jump i s ≡ Some after → AreOf after v.frame v.objects → IsNext v
 jumps_next v i s after z here by does sends h =
     let to = jump_leads v.subject.program v.pc i z here.sound.accepted.flow here.at by in
     goes_quietly v i s to.0 v.frame here (does to.0 to.1) (inr to.1) (frame_of v here.sound)
     (jump_arrives v.subject.program v.pc to.0 i s after v.frame v.objects (defined_in v here.sound) here.at here.entered here.full sends to.1 to.2 h)
 
 -- a jump
-jump_next : (v : RunView) (i : Insn) (s : StateView) (z : ℤ) → IsHere v i s → displacement_of i ≡ Some z → effect i v.pc (around_view v) v.frame ≡ jumps (jump_of i v.pc) v.frame → after_jump i s ≡ Some s → IsNext v
-jump_next v i s z here by does sends = jumps_next v i s s z here by (λ to at. does ∙ ap (λ (o : Option ℕ). jumps o v.frame) at) sends here.state
+jump_next : (v : RunView) (i : Insn) (s : StateView) (z : ℤ) → IsHere v i s → displacement_of i ≡ Some z → effect i v.pc (environment_of_view v) v.frame ≡ effect_of_jump (jump_of i v.pc) v.frame → after_jump i s ≡ Some s → IsNext v
+jump_next v i s z here by does sends = jumps_next v i s s z here by (λ to at. does ∙ ap (λ (o : Option ℕ). effect_of_jump o v.frame) at) sends here.state
 
 -- a branch that goes one way, where what it sends there speaks of the run
 branch_leads : (v : RunView) (width : Width) (condition : Cond) (left : Reg) (right : Source) (offset : ℤ) (s after : StateView) (taken : Bool) → IsHere v (insn.Branch width condition left right offset) s → is_taken width condition right (read v.frame left) (source_value v.frame width right) ≡ Ok taken → after_branch condition width left right taken s ≡ Some after → AreOf after v.frame v.objects → IsNext v
@@ -149,7 +149,7 @@ no_objects s (o ∷ objects) none order h = absurd (is_empty (length s.held) non
   is_empty : (n : ℕ) → nat_lt 0 n ≡ false → suc (length objects) ≤ n → ⊥
   is_empty n none le = grind (arith, nat_tests)
 
-exits_number : (holds : ℕ) (x : Option (Value ℕ)) (n : ℕ) → x ≡ Some (Number n) → holds ≡ 0 → exits holds x ≡ Ends n
+exits_number : (holds : ℕ) (x : Option (Value ℕ)) (n : ℕ) → x ≡ Some (Number n) → holds ≡ 0 → effect_of_exit holds x ≡ Ends n
 exits_number holds x n e none = rw (e, none) refl
 
 exit_next : (v : RunView) (s : StateView) → IsHere v insn.Exit s → IsNext v

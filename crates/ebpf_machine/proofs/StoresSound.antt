@@ -29,8 +29,8 @@ use Rattle.ebpf_machine.specs.declared.value.Cell.{Cell}
 use Rattle.ebpf_machine.specs.Bytes.{patched}
 use Rattle.ebpf_machine.specs.Values.{Trap, Frame, read, source_value}
 use Rattle.ebpf_machine.specs.Cells.{place_in, stored_at}
-use Rattle.ebpf_machine.specs.Effect.{Found, Nothing, Write, Goes, effect, rewritten, writes_object, stores}
-use Rattle.ebpf_machine.specs.View.{ObjectView, RunView, around_view, object_at, patched_at, gone}
+use Rattle.ebpf_machine.specs.Effect.{Found, Nothing, Write, Goes, effect, rewritten, writes_object, effect_of_store}
+use Rattle.ebpf_machine.specs.View.{ObjectView, RunView, environment_of_view, object_at, patched_at, moved_to}
 use Rattle.ebpf_machine.specs.Concretization.{IsOf, calls_of}
 use Rattle.ebpf_machine.specs.Sound.{FitsValue, FitsRegister, FitsCell}
 use Rattle.ebpf_machine.proofs.Words.{AreOfCells}
@@ -54,7 +54,7 @@ store_tests base value = first_of (
 -- what a store does with an address and a value of which this is known, and what its rule says
 record IsStore (v : RunView) (size : Size) (base : Reg) (offset : ℤ) (src : Source) (s : StateView) (known value : Abs) (address : Value ℕ) (stored : Value ℕ) : Type 0 where
   here : IsHere v (insn.Store size base offset src) s
-  does : effect (insn.Store size base offset src) v.pc (around_view v) v.frame ≡ stores (v.pc + 1) (around_view v) v.frame size offset (Some address) (Some stored)
+  does : effect (insn.Store size base offset src) v.pc (environment_of_view v) v.frame ≡ effect_of_store (v.pc + 1) (environment_of_view v) v.frame size offset (Some address) (Some stored)
   sends : after_fall v.pc (insn.Store size base offset src) s ≡ after_store size offset known value s
   fine : writing_refusal v.subject.rows size offset known value s ≡ None
   fits : FitsValue stored
@@ -82,7 +82,7 @@ to_stack v size base offset src s k w value stored same h =
     let frame = frame_of v here.sound in
     let it = stack_stored (calls_of v.objects) size (k +ℤ offset) value stored s v.frame.stack (state.stored s size (k +ℤ offset) value) refl h.unset h.fine here.state.words here.full.deep frame.deep frame.fit.stack h.fits h.of in
     let after = record v.frame { stack = it.stored.stack } in
-    let writes : effect i v.pc (around_view v) v.frame ≡ Goes Nothing (v.pc + 1) after = h.does ∙ ap (λ (z : ℤ). rewritten (v.pc + 1) v.frame (stored_at (place_of (z +ℤ offset) (bytes_in size)) (bytes_in size) stored v.frame.stack)) same ∙ ap (rewritten (v.pc + 1) v.frame) it.stored.is in
+    let writes : effect i v.pc (environment_of_view v) v.frame ≡ Goes Nothing (v.pc + 1) after = h.does ∙ ap (λ (z : ℤ). rewritten (v.pc + 1) v.frame (stored_at (place_of (z +ℤ offset) (bytes_in size)) (bytes_in size) stored v.frame.stack)) same ∙ ap (rewritten (v.pc + 1) v.frame) it.stored.is in
     goes_quietly v i s (v.pc + 1) after here writes (inl refl) (record { whole = frame.whole; deep = it.stored.deep; fit = record { registers = frame.fit.registers; stack = it.stored.fit } })
     (fall_arrives v.subject.program v.pc (v.pc + 1) i s it.then after v.objects (defined_in v here.sound) here.at here.entered here.full (h.sends ∙ it.sends) refl (omega arith) (record {
       each = λ j lt. rw it.stored.registers (here.state.each j lt);
@@ -128,7 +128,7 @@ to_object v size base offset src s call low high w at value stored address h =
     let writes = h.does ∙ number_written (v.pc + 1) v.frame at (object_at v.objects at) it.found (w +ℤ offset) (bytes_in size) place number.0 stored (ap (object_at v.objects) address.0 ∙ it.is) (place_between (length it.found.bytes) (bytes_in size) low high w offset address.1 address.2 inside) number.1 in
     let there = fall_arrives v.subject.program v.pc (v.pc + 1) i s s v.frame v.objects (defined_in v here.sound) here.at here.entered here.full h.sends refl (omega arith) here.state in
     let gone_on = there_sound v i s (v.pc + 1) v.frame v.objects v.replies here (inl refl) (stays_there v i s (v.pc + 1) v.frame here (omega arith) frame there) in
-    goes_on v i s (Write at place bytes) (v.pc + 1) v.frame here writes (inl refl) frame.fit tt (λ reply. sound_alike (gone (v.pc + 1) v.frame v) (map (patched_at at place bytes) v.objects) (patched_alike at place bytes v.objects) gone_on)
+    goes_on v i s (Write at place bytes) (v.pc + 1) v.frame here writes (inl refl) frame.fit tt (λ reply. sound_alike (moved_to (v.pc + 1) v.frame v) (map (patched_at at place bytes) v.objects) (patched_alike at place bytes v.objects) gone_on)
 
 -- ---- the table
 
@@ -162,7 +162,7 @@ store_next v size base offset src s here =
     let stored = set_value (calls_of v.objects) value (source_value v.frame W64 src) sets.1 (operand_sound s v.frame v.objects W64 src source here.state) in
     store_to v size base offset src s known value address.0 stored.0 sets.0 number.0 may.0 address.2 (record {
       here = here;
-      does = ap (λ (x : Option (Value ℕ)). stores (v.pc + 1) (around_view v) v.frame size offset x (source_value v.frame W64 src)) address.1 ∙ ap (stores (v.pc + 1) (around_view v) v.frame size offset (Some address.0)) stored.1;
+      does = ap (λ (x : Option (Value ℕ)). effect_of_store (v.pc + 1) (environment_of_view v) v.frame size offset x (source_value v.frame W64 src)) address.1 ∙ ap (effect_of_store (v.pc + 1) (environment_of_view v) v.frame size offset (Some address.0)) stored.1;
       sends = refl;
       fine = tests.1;
       fits = subst FitsRegister stored.1 (source_fits v.frame W64 src (frame_of v here.sound));

@@ -7,7 +7,7 @@ use Rattle.ebpf_insn.specs.Program.{insn_at}
 use Rattle.ebpf_insn.specs.Faults.{first_of}
 use Rattle.ebpf_verify.specs.Subject.{Subject}
 use Rattle.ebpf_verify.specs.declared.helper.Helper.{Helper}
-use Rattle.ebpf_verify.specs.declared.helper.Helper.TheVariants.{New}
+use Rattle.ebpf_verify.specs.declared.helper.Helper.TheVariants as helper
 use Rattle.ebpf_verify.specs.Calls.{helper_of}
 use Rattle.ebpf_machine.specs.declared.value.Value.{Value}
 use Rattle.ebpf_machine.specs.declared.value.Value.TheVariants.{Number, Pointer}
@@ -16,8 +16,8 @@ use Rattle.ebpf_machine.specs.declared.report.Reply.{Reply}
 use Rattle.ebpf_machine.specs.declared.report.Reply.TheVariants as reply
 use Rattle.ebpf_machine.specs.Bytes.{patched}
 use Rattle.ebpf_machine.specs.Values.{Trap, TooManyObjects, Frame, read}
-use Rattle.ebpf_machine.specs.Effect.{Act, Nothing, Write, Take, Give, Effect, Goes, Ends, Traps, effect_at, with_value}
-use Rattle.ebpf_machine.specs.World.{Name, World, Running, Status, Going, Exited, Trapped, Holder, Run, Answer, Absent, Slot, is_in, is_in_ledger, is_home, is_call, ledger_of, kind_in, image_at, holds_of, around, first_run}
+use Rattle.ebpf_machine.specs.Effect.{Act, Nothing, Write, Ask, Free, Effect, Goes, Ends, Traps, effect_at, with_value}
+use Rattle.ebpf_machine.specs.World.{Name, World, Running, Status, Going, Exited, Trapped, Holder, Run, Answer, Absent, Null, Slot, is_in, is_in_ledger, is_home, is_call, ledger_of, kind_in, image_at, holds_of, environment, first_run, name_of}
 
 -- why an event is not legal. The causes are tested in this order, but for an event that names a kind: there an unknown one
 -- goes before what is wrong with the slot.
@@ -46,7 +46,7 @@ with_owner slot holder w = record w { owners = w.owners ++ record { slot = slot;
 
 -- the run has the slot by this call no more
 abbrev pub without_owner : ℕ → Name → World → World
-without_owner run name w = record w { owners = filter (λ o. not ((o.slot == name.0) && is_call run name.1 o.holder)) w.owners }
+without_owner run name w = record w { owners = filter (λ o. not ((o.slot == name.slot) && is_call run name.call o.holder)) w.owners }
 
 -- ---- Start: one more run of an accepted program, on a context of the length that it declares
 
@@ -59,8 +59,8 @@ starting (Some s) context w = if length context == s.decl.context then Ok (start
 
 -- ---- Exec: one run does the instruction at its pc
 
-abbrev pub gone : ℕ → Frame Name → Running → Running
-gone to frame r = record r { pc = to; frame = frame; executed = r.executed + 1 }
+abbrev pub moved_to : ℕ → Frame Name → Running → Running
+moved_to to frame r = record r { pc = to; frame = frame; executed = r.executed + 1 }
 
 abbrev pub ended : ℕ → Running → Running
 ended n r = record r { status = Exited n; executed = r.executed + 1 }
@@ -69,26 +69,29 @@ ended n r = record r { status = Exited n; executed = r.executed + 1 }
 abbrev pub trapped : Trap → Running → Running
 trapped trap r = record r { status = Trapped trap; executed = r.executed + 1 }
 
--- a call of new goes on with the reply, in r0
+-- a call of new goes on with what it is answered, in r0
 abbrev pub replied : ℕ → Reply → Value Name → ℕ → Frame Name → Running → Running
-replied kind told v to frame r = record (gone to (with_value frame R0 v) r) { told = r.told ++ record { at = r.pc; kind = kind; reply = told } ∷ [] }
+replied kind reply v to frame r = record (moved_to to (with_value frame R0 v) r) { calls = r.calls ++ record { at = r.pc; kind = kind; reply = reply } ∷ [] }
 
 -- a slot is granted, with its image, unless the run holds as many as it declared
 abbrev pub granted : ℕ → World → ℕ → Running → ℕ → Frame Name → ℕ → World
 granted slot w run r to frame kind =
+    let pointer = Pointer (Object (name_of slot r.pc)) (pos 0) in
+    let imaged = with_bytes slot (image_at w.kinds kind) (with_run w run (replied kind reply.Granted pointer to frame r)) in
     if nat_le r.subject.decl.held (holds_of w run) then with_run w run (trapped TooManyObjects r) else
-    with_owner slot (Run run r.pc) (with_bytes slot (image_at w.kinds kind) (with_run w run (replied kind reply.Granted (Pointer (Object (slot, r.pc)) (pos 0)) to frame r)))
+    with_owner slot (Run run r.pc) imaged
 
-abbrev pub taken : Answer → World → ℕ → Running → ℕ → Frame Name → ℕ → World
-taken (Slot slot) w run r to frame kind = granted slot w run r to frame kind
-taken _ w run r to frame kind = with_run w run (replied kind reply.Null (Number 0) to frame r)
+abbrev pub answered : Answer → World → ℕ → Running → ℕ → Frame Name → ℕ → World
+answered (Slot slot) w run r to frame kind = granted slot w run r to frame kind
+answered Null w run r to frame kind = with_run w run (replied kind reply.Null (Number 0) to frame r)
+answered Absent w run r to frame kind = with_run w run (replied kind reply.Null (Number 0) to frame r)
 
--- what an instruction that goes on asks of the world; an object that is taken back gets its image
+-- what an instruction that goes on asks of the world; an object that is freed gets its image
 abbrev pub acted : Act Name → Answer → World → ℕ → Running → ℕ → Frame Name → World
-acted Nothing answer w run r to frame = with_run w run (gone to frame r)
-acted (Write name at bytes) answer w run r to frame = with_bytes name.0 (patched (w.bytes name.0) at bytes) (with_run w run (gone to frame r))
-acted (Take kind) answer w run r to frame = taken answer w run r to frame kind
-acted (Give name) answer w run r to frame = with_bytes name.0 (image_at w.kinds (kind_in w name.0)) (without_owner run name (with_run w run (gone to frame r)))
+acted Nothing answer w run r to frame = with_run w run (moved_to to frame r)
+acted (Write name at bytes) answer w run r to frame = with_bytes name.slot (patched (w.bytes name.slot) at bytes) (with_run w run (moved_to to frame r))
+acted (Ask kind) answer w run r to frame = answered answer w run r to frame kind
+acted (Free name) answer w run r to frame = with_bytes name.slot (image_at w.kinds (kind_in w name.slot)) (without_owner run name (with_run w run (moved_to to frame r)))
 
 abbrev pub done_by : Effect Name → Answer → World → ℕ → Running → World
 done_by (Goes act to frame) answer w run r = acted act answer w run r to frame
@@ -107,8 +110,10 @@ asking_for (Some (Number kind)) kinds = if nat_lt kind kinds then OfKind kind el
 asking_for _ kinds = OfNoKind
 
 abbrev pub asking_helper : {N : Type 0} → Option Helper → ℕ → Frame N → Asking
-asking_helper (Some New) kinds frame = asking_for (read frame R1) kinds
-asking_helper _ kinds frame = Unasked
+asking_helper (Some helper.New) kinds frame = asking_for (read frame R1) kinds
+asking_helper (Some helper.Free) kinds frame = Unasked
+asking_helper (Some helper.Emit) kinds frame = Unasked
+asking_helper None kinds frame = Unasked
 
 abbrev pub asking : {N : Type 0} → Option Insn → ℕ → Frame N → Asking
 asking (Some (insn.Call number)) kinds frame = asking_helper (helper_of number) kinds frame
@@ -148,7 +153,7 @@ asking_of w r = asking (insn_at r.subject.program r.pc) (length w.kinds) r.frame
 
 -- what the instruction at its pc does to a run of the world
 abbrev pub effect_of_run : World → ℕ → Running → Effect Name
-effect_of_run w run r = effect_at (insn_at r.subject.program r.pc) r.pc (around w run r) r.frame
+effect_of_run w run r = effect_at (insn_at r.subject.program r.pc) r.pc (environment w run r) r.frame
 
 abbrev pub exec_going : Status → World → ℕ → Answer → Running → Result World Illegal
 exec_going Going w run answer r = or_illegal (answer_fault w (asking_of w r) answer) (done_by (effect_of_run w run r) answer w run r)
@@ -172,25 +177,25 @@ unfoldable pub with_slot : ℕ → List ℕ → List ℕ
 with_slot slot [] = slot ∷ []
 with_slot slot (s ∷ slots) = if nat_lt s slot then s ∷ with_slot slot slots else slot ∷ s ∷ slots
 
-abbrev pub joined : ℕ → ℕ → World → World
-joined kind slot w = with_bytes slot (image_at w.kinds kind) (with_ledger kind (with_slot slot (ledger_of w kind)) w)
+abbrev pub with_slot_joined : ℕ → ℕ → World → World
+with_slot_joined kind slot w = with_bytes slot (image_at w.kinds kind) (with_ledger kind (with_slot slot (ledger_of w kind)) w)
 
 abbrev pub growing : ℕ → ℕ → World → Result World Illegal
 growing kind slot w =
     if not (nat_lt kind (length w.kinds)) then Err NoSuchProgramOrKind else
     if is_in_ledger w slot then Err SlotInLedger else
-    Ok (joined kind slot w)
+    Ok (with_slot_joined kind slot w)
 
 -- ---- Reap: a slot that is home leaves the ledger of its kind
 
 abbrev pub without_slot : ℕ → List ℕ → List ℕ
 without_slot slot slots = filter (λ s. not (s == slot)) slots
 
-abbrev pub parted : ℕ → ℕ → World → World
-parted kind slot w = with_ledger kind (without_slot slot (ledger_of w kind)) w
+abbrev pub with_slot_left : ℕ → ℕ → World → World
+with_slot_left kind slot w = with_ledger kind (without_slot slot (ledger_of w kind)) w
 
 abbrev pub reaping : ℕ → ℕ → World → Result World Illegal
 reaping kind slot w =
     if not (nat_lt kind (length w.kinds)) then Err NoSuchProgramOrKind else
-    if is_home w slot && is_in slot (ledger_of w kind) then Ok (parted kind slot w) else
+    if is_home w slot && is_in slot (ledger_of w kind) then Ok (with_slot_left kind slot w) else
     Err SlotNotReapable

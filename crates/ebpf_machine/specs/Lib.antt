@@ -6,8 +6,8 @@ pub mod Bytes
 pub mod World
 pub mod Kinds
 pub mod Events
-pub mod Alone
 pub mod View
+pub mod Alone
 pub mod RunState
 pub mod Store
 pub mod Concretization

@@ -11,11 +11,10 @@ use Rattle.ebpf_machine.specs.declared.value.Value.TheVariants.{Number, Pointer}
 use Rattle.ebpf_machine.specs.declared.value.Base.TheVariants.{Object}
 use Rattle.ebpf_machine.specs.declared.value.Cell.{Cell}
 use Rattle.ebpf_machine.specs.declared.value.Cell.TheVariants.{Part}
-use Rattle.ebpf_machine.specs.declared.report.Reply.TheVariants.{Granted}
 use Rattle.ebpf_machine.specs.Values.{Frame}
 use Rattle.ebpf_machine.specs.Effect.{Effect, Goes, Ends, Traps}
-use Rattle.ebpf_machine.specs.World.{Name, Status, Going, Exited, Trapped, World, Running, Owner, Holder, Run, kinds_of, image_at, is_in, is_home, kind_in}
-use Rattle.ebpf_machine.specs.Alone.{alone_after}
+use Rattle.ebpf_machine.specs.World.{Name, Status, Going, Exited, Trapped, World, Running, Owner, Run, IsOfKind, kinds_of, image_at, is_in, is_home, kind_in}
+use Rattle.ebpf_machine.specs.Alone.{replies_from, replies_of, alone_after}
 use Rattle.ebpf_machine.specs.View.{RunView, view_in}
 use Rattle.ebpf_machine.specs.RunState.{RunState, seen}
 use Rattle.ebpf_machine.specs.Concretization.{Arrives, calls_of}
@@ -80,14 +79,15 @@ pub record IsSound (v : RunView) : Type 0 where
 
 -- it is what the run alone is after as many instructions, with its own replies
 abbrev pub IsAlone : RunView → Type 0
-IsAlone v = view_in (alone_after v.executed v.subject v.context v.replies).world 0 ≡ Some v
+IsAlone v = view_in (alone_after v.executed v.subject v.context (replies_of v)).world 0 ≡ Some v
 
--- a run as it is kept: whatever bytes its objects have it is sound, its peak is that of the run alone, and no instruction told it
--- more than one reply or added more than one number to its output
+-- a run as it is kept: whatever bytes its objects have it is sound, its peak is that of the run alone and within what it declared,
+-- and no instruction told it more than one reply or added more than one number to its output
 pub record IsRun {H : Type 0} (r : RunState H) : Type 0 where
   pub sound : (bytes : H → List ℕ) → IsSound (seen bytes r)
-  pub peak : (alone_after r.executed r.subject r.context r.replies).peak ≡ r.peak
+  pub peak : (alone_after r.executed r.subject r.context (replies_from r.replies)).peak ≡ r.peak
   pub most : length r.held ≤ r.peak
+  pub declared : r.peak ≤ r.subject.decl.held
   pub told : length r.replies ≤ r.executed
   pub emitted : length r.output ≤ r.executed
 
@@ -109,23 +109,12 @@ pub data HasPointer (frame : Frame Name) (n : Name) : Type 0 where
 
 -- pointers of a run to what one call was granted are to one slot
 abbrev pub HasOneSlot : Frame Name → Type 0
-HasOneSlot frame = (n m : Name) → HasPointer frame n → HasPointer frame m → n.1 ≡ m.1 → n.0 ≡ m.0
+HasOneSlot frame = (n m : Name) → HasPointer frame n → HasPointer frame m → n.call ≡ m.call → n.slot ≡ m.slot
 
 -- a pointer stems from a call behind the run; where the run still holds what that call was granted, it is to that slot
 pub record IsTrue (w : World) (run : ℕ) (r : Running) (n : Name) : Type 0 where
-  pub behind : n.1 < r.pc
-  pub slot : (o : Owner) → Contains w.owners o → o.holder ≡ Run run n.1 → o.slot ≡ n.0
-
--- a call of the run, behind it, asked for an object of this kind and was granted one
-pub record AskedFor (w : World) (run at kind : ℕ) : Type 0 where
-  pub asker : Running
-  pub there : slice_get w.runs run ≡ Some asker
-  pub behind : at < asker.pc
-  pub told : Contains asker.told (record { at = at; kind = kind; reply = Granted })
-
--- whoever has a slot has it as one of this kind
-abbrev pub IsOfKind : World → Holder → ℕ → Type 0
-IsOfKind w (Run run at) kind = AskedFor w run at kind
+  pub behind : n.call < r.pc
+  pub slot : (o : Owner) → Contains w.owners o → o.holder ≡ Run run n.call → o.slot ≡ n.slot
 
 pub record IsOwned (w : World) : Type 0 where
   pub once : (slot : ℕ) → count_by (λ o. o.slot == slot) w.owners ≤ 1

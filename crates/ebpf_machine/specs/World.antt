@@ -1,5 +1,5 @@
 -- The world: ledgers, owners, object bytes and runs, and what it says of a slot.
-use Rattle.std.specs.Prelude.{ℕ, suc, ◌==◌, Bool, not, ◌&&◌, if◌then◌else◌, List, [], ◌∷◌, length, filter, map, replicate, pos, Option, Some, None, Result, Ok, Err, slice_index_or}
+use Rattle.std.specs.Prelude.{◌≡◌, ◌<◌, ℕ, suc, ◌==◌, Bool, true, not, ◌&&◌, if◌then◌else◌, List, [], ◌∷◌, length, filter, map, replicate, pos, Option, Some, None, Result, Ok, Err, Contains, slice_get, slice_index_or}
 use Rattle.std.specs.List.{list_any}
 use Rattle.ebpf_state.specs.declared.kinds.KindRow.{KindRow}
 use Rattle.ebpf_verify.specs.Subject.{Subject}
@@ -7,20 +7,25 @@ use Rattle.ebpf_machine.specs.declared.value.Value.{Value}
 use Rattle.ebpf_machine.specs.declared.value.Value.TheVariants.{Pointer}
 use Rattle.ebpf_machine.specs.declared.value.Base.TheVariants.{Stack, Context}
 use Rattle.ebpf_machine.specs.declared.report.Reply.{Reply}
+use Rattle.ebpf_machine.specs.declared.report.Reply.TheVariants as reply
 use Rattle.ebpf_machine.specs.Values.{Trap, UseAfterFree, AnotherRunsObject, Frame, empty_stack}
-use Rattle.ebpf_machine.specs.Effect.{Around, Found}
+use Rattle.ebpf_machine.specs.Effect.{Environment, Found}
 
 -- how the world names an object: its slot, and the call that was granted it
-abbrev pub Name : Type 0
-Name = ℕ × ℕ
+pub record Name : Type 0 where
+  pub slot : ℕ
+  pub call : ℕ
+
+abbrev pub name_of : (slot call : ℕ) → Name
+name_of slot call = record { slot = slot; call = call }
 
 pub data Status : Type 0 where
   Going : Status
   Exited : (result : ℕ) → Status
   Trapped : (trap : Trap) → Status
 
--- a call of new that a run made: where, for which kind, and the reply. A run keeps these, and no instruction reads them
-pub record Told : Type 0 where
+-- a call of new that a run made: where, for which kind, and what it was answered. A run keeps these, and no instruction reads them
+pub record AnsweredCall : Type 0 where
   pub at : ℕ
   pub kind : ℕ
   pub reply : Reply
@@ -30,13 +35,13 @@ pub record Running : Type 0 where
   pub context : List ℕ
   pub pc : ℕ
   pub frame : Frame Name
-  pub told : List Told
+  pub calls : List AnsweredCall
   pub executed : ℕ
   pub status : Status
 
 -- who has a slot: a run, by the call at this place of its program
 pub data Holder : Type 0 where
-  Run : (run at : ℕ) → Holder
+  Run : (run call : ℕ) → Holder
 
 pub record Owner : Type 0 where
   pub slot : ℕ
@@ -101,10 +106,10 @@ kind_in w slot = kind_from 0 w.ledgers slot
 -- ---- what the world says of a run's objects
 
 abbrev pub is_run : ℕ → Holder → Bool
-is_run run (Run r at) = r == run
+is_run run (Run r call) = r == run
 
-abbrev pub is_call : ℕ → ℕ → Holder → Bool
-is_call run at (Run r a) = (r == run) && (a == at)
+abbrev pub is_call : (run call : ℕ) → Holder → Bool
+is_call run call (Run r c) = (r == run) && (c == call)
 
 abbrev pub held_by : World → ℕ → List Owner
 held_by w run = filter (λ o. is_run run o.holder) w.owners
@@ -115,25 +120,28 @@ holds_of w run = length (held_by w run)
 
 -- the run has the slot by this call
 abbrev pub is_held_by : World → ℕ → Name → Bool
-is_held_by w run name = list_any (λ o. (o.slot == name.0) && is_call run name.1 o.holder) w.owners
+is_held_by w run name = list_any (λ o. (o.slot == name.slot) && is_call run name.call o.holder) w.owners
+
+abbrev pub is_by_run : Holder → Bool
+is_by_run (Run r call) = true
 
 -- another run has the slot, and this one has not
 abbrev pub is_anothers : World → ℕ → ℕ → Bool
-is_anothers w run slot = is_owned w slot && not (list_any (λ o. o.slot == slot) (held_by w run))
+is_anothers w run slot = list_any (λ o. (o.slot == slot) && is_by_run o.holder) w.owners && not (list_any (λ o. o.slot == slot) (held_by w run))
 
 -- what a run finds under the name of an object: its own under that call; else another run's; else nobody's
 abbrev pub object_for : World → ℕ → Name → Result Found Trap
 object_for w run name =
-    if is_held_by w run name then Ok (record { kind = kind_in w name.0; bytes = w.bytes name.0 }) else
-    if is_anothers w run name.0 then Err AnotherRunsObject else
+    if is_held_by w run name then Ok (record { kind = kind_in w name.slot; bytes = w.bytes name.slot }) else
+    if is_anothers w run name.slot then Err AnotherRunsObject else
     Err UseAfterFree
 
 abbrev pub is_same_name : Name → Name → Bool
-is_same_name a b = (a.0 == b.0) && (a.1 == b.1)
+is_same_name a b = (a.slot == b.slot) && (a.call == b.call)
 
 -- what a run meets in the world
-abbrev pub around : World → ℕ → Running → Around Name
-around w run r = record { context = r.context; kinds = length w.kinds; holds = holds_of w run; object = object_for w run; is_same = is_same_name }
+abbrev pub environment : World → ℕ → Running → Environment Name
+environment w run r = record { context = r.context; kinds = length w.kinds; holds = holds_of w run; object = object_for w run; is_same = is_same_name }
 
 -- ---- a run before its first instruction
 
@@ -144,4 +152,24 @@ abbrev pub first_frame : {N : Type 0} → Frame N
 first_frame = record { registers = first_registers; stack = empty_stack; output = [] }
 
 abbrev pub first_run : Subject → List ℕ → Running
-first_run subject context = record { subject = subject; context = context; pc = 0; frame = first_frame; told = []; executed = 0; status = Going }
+first_run subject context = record { subject = subject; context = context; pc = 0; frame = first_frame; calls = []; executed = 0; status = Going }
+
+-- ---- what a call asked for
+
+-- a reply that brought an object
+abbrev pub IsGot : Reply → Type 0
+IsGot reply.Granted = Unit {0}
+IsGot reply.Null = ⊥
+
+-- a call of the run, behind it, asked for an object of this kind and got one
+pub record AskedFor (w : World) (run at kind : ℕ) : Type 0 where
+  pub asker : Running
+  pub there : slice_get w.runs run ≡ Some asker
+  pub behind : at < asker.pc
+  pub reply : Reply
+  pub got : IsGot reply
+  pub told : Contains asker.calls (record { at = at; kind = kind; reply = reply })
+
+-- whoever has a slot has it as one of this kind
+abbrev pub IsOfKind : World → Holder → ℕ → Type 0
+IsOfKind w (Run run call) kind = AskedFor w run call kind

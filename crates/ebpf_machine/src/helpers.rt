@@ -6,11 +6,10 @@ ghost use Rattle.ebpf_insn.specs.declared.program.TheConstants.{MAX_SLOTS};
 ghost use Rattle.ebpf_insn.specs.Program.{instructions, insn_at};
 ghost use Rattle.ebpf_verify.specs.declared.helper.Helper.{Helper};
 ghost use Rattle.ebpf_verify.specs.Calls.{helper_of};
-ghost use Rattle.ebpf_machine.specs.Effect.{answered};
-ghost use Rattle.ebpf_machine.specs.Events.{Unasked};
+ghost use Rattle.ebpf_machine.specs.Effect.{with_result};
 ghost use Rattle.ebpf_machine.specs.Flows.{object_in};
-ghost use Rattle.ebpf_machine.specs.RunState.{frame_with, seen};
-ghost use Rattle.ebpf_machine.specs.Step.{asking_in};
+ghost use Rattle.ebpf_machine.specs.RunState.{frame_with};
+ghost use Rattle.ebpf_machine.specs.Step.{IsFree};
 ghost use Rattle.ebpf_machine.specs.World.{kinds_of};
 ghost use Rattle.ebpf_machine.specs.Parts.{state_of, HasCapacity};
 ghost use Rattle.ebpf_machine.specs.Advance.{IsReady, IsAdvanced};
@@ -25,12 +24,12 @@ use ebpf_verify::helper::Helper;
 
 /// Does a call of a helper.
 pub(crate) fn call<O: Objects>(parts: &mut Parts<'_, O::Held>, helper: Helper, objects: &mut O)
-    requires kinds { O.kinds ≡ kinds_of parts.old.verified.now.rows }
-    requires ready { IsReady (record { is_out = O.is_out; kind_of = O.kind_of; slot_of = O.slot_of; bytes_of = O.bytes_of; can_grant = O.can_grant; can_refuse = O.can_refuse; grants = O.grants; nulls = O.nulls; outs = O.outs }) (state_of parts.old) objects.old }
+    requires kinds { O.store.kinds ≡ kinds_of parts.old.verified.now.rows }
+    requires ready { IsReady O.store (state_of parts.old) objects.old }
     requires at { (number : ℤ) × (insn_at parts.old.verified.now.program parts.old.pc ≡ Some (Insn.Call number)) × (helper_of number ≡ Some helper) }
-    requires can_give { asking_in (seen (O.bytes_of objects.old) (state_of parts.old)) ≡ Unasked → O.can_give objects.old }
+    requires can_give { IsFree (Some helper) → O.store.can_give objects.old }
     requires room { HasCapacity parts.old }
-    ensures advanced { IsAdvanced (record { is_out = O.is_out; kind_of = O.kind_of; slot_of = O.slot_of; bytes_of = O.bytes_of; can_grant = O.can_grant; can_refuse = O.can_refuse; grants = O.grants; nulls = O.nulls; outs = O.outs }) (state_of parts.old) (state_of parts.new) objects.old objects.new }
+    ensures advanced { IsAdvanced O.store (state_of parts.old) (state_of parts.new) objects.old objects.new }
     ensures room { HasCapacity parts.new }
 {
     match helper {
@@ -42,11 +41,11 @@ pub(crate) fn call<O: Objects>(parts: &mut Parts<'_, O::Held>, helper: Helper, o
 
 // Asks for an object of the kind in r1.
 fn ask<O: Objects>(parts: &mut Parts<'_, O::Held>, objects: &mut O)
-    requires kinds { O.kinds ≡ kinds_of parts.old.verified.now.rows }
-    requires ready { IsReady (record { is_out = O.is_out; kind_of = O.kind_of; slot_of = O.slot_of; bytes_of = O.bytes_of; can_grant = O.can_grant; can_refuse = O.can_refuse; grants = O.grants; nulls = O.nulls; outs = O.outs }) (state_of parts.old) objects.old }
+    requires kinds { O.store.kinds ≡ kinds_of parts.old.verified.now.rows }
+    requires ready { IsReady O.store (state_of parts.old) objects.old }
     requires at { (number : ℤ) × (insn_at parts.old.verified.now.program parts.old.pc ≡ Some (Insn.Call number)) × (helper_of number ≡ Some Helper.New) }
     requires room { HasCapacity parts.old }
-    ensures advanced { IsAdvanced (record { is_out = O.is_out; kind_of = O.kind_of; slot_of = O.slot_of; bytes_of = O.bytes_of; can_grant = O.can_grant; can_refuse = O.can_refuse; grants = O.grants; nulls = O.nulls; outs = O.outs }) (state_of parts.old) (state_of parts.new) objects.old objects.new }
+    ensures advanced { IsAdvanced O.store (state_of parts.old) (state_of parts.new) objects.old objects.new }
     ensures room { HasCapacity parts.new }
 {
     let call = parts.pc as u16;
@@ -79,12 +78,12 @@ fn hold<H>(parts: &mut Parts<'_, H>, holding: Holding<H>)
 
 // Gives back the object in r1.
 fn give_back<O: Objects>(parts: &mut Parts<'_, O::Held>, objects: &mut O)
-    requires kinds { O.kinds ≡ kinds_of parts.old.verified.now.rows }
-    requires ready { IsReady (record { is_out = O.is_out; kind_of = O.kind_of; slot_of = O.slot_of; bytes_of = O.bytes_of; can_grant = O.can_grant; can_refuse = O.can_refuse; grants = O.grants; nulls = O.nulls; outs = O.outs }) (state_of parts.old) objects.old }
+    requires kinds { O.store.kinds ≡ kinds_of parts.old.verified.now.rows }
+    requires ready { IsReady O.store (state_of parts.old) objects.old }
     requires at { (number : ℤ) × (insn_at parts.old.verified.now.program parts.old.pc ≡ Some (Insn.Call number)) × (helper_of number ≡ Some Helper.Free) }
-    requires can_give { asking_in (seen (O.bytes_of objects.old) (state_of parts.old)) ≡ Unasked → O.can_give objects.old }
+    requires can_give { O.store.can_give objects.old }
     requires room { HasCapacity parts.old }
-    ensures advanced { IsAdvanced (record { is_out = O.is_out; kind_of = O.kind_of; slot_of = O.slot_of; bytes_of = O.bytes_of; can_grant = O.can_grant; can_refuse = O.can_refuse; grants = O.grants; nulls = O.nulls; outs = O.outs }) (state_of parts.old) (state_of parts.new) objects.old objects.new }
+    ensures advanced { IsAdvanced O.store (state_of parts.old) (state_of parts.new) objects.old objects.new }
     ensures room { HasCapacity parts.new }
 {
     let place = place_of(&parts.held, object(parts.registers[1]));
@@ -103,7 +102,7 @@ fn emit<H>(parts: &mut Parts<'_, H>, emitted: u64)
     requires few { parts.old.executed < MAX_SLOTS }
     requires inside { parts.old.pc < MAX_SLOTS }
     requires room { HasCapacity parts.old }
-    ensures state { state_of parts.new ≡ record (state_of parts.old) { output = parts.old.output.items ++ emitted ∷ []; pc = parts.old.pc + 1; registers = (answered (frame_with parts.old.registers [] []) (Value.Number 0)).registers; executed = parts.old.executed + 1 } }
+    ensures state { state_of parts.new ≡ record (state_of parts.old) { output = parts.old.output.items ++ emitted ∷ []; pc = parts.old.pc + 1; registers = (with_result (frame_with parts.old.registers [] []) (Value.Number 0)).registers; executed = parts.old.executed + 1 } }
     ensures room { HasCapacity parts.new }
 {
     parts.output.push_reserved(emitted);
@@ -115,7 +114,7 @@ fn answer<H>(parts: &mut Parts<'_, H>, value: Value<u16>)
     requires few { parts.old.executed < MAX_SLOTS }
     requires inside { parts.old.pc < MAX_SLOTS }
     requires room { HasCapacity parts.old }
-    ensures state { state_of parts.new ≡ record (state_of parts.old) { pc = parts.old.pc + 1; registers = (answered (frame_with parts.old.registers [] []) value).registers; executed = parts.old.executed + 1 } }
+    ensures state { state_of parts.new ≡ record (state_of parts.old) { pc = parts.old.pc + 1; registers = (with_result (frame_with parts.old.registers [] []) value).registers; executed = parts.old.executed + 1 } }
     ensures room { HasCapacity parts.new }
 {
     parts.registers[1] = None;

@@ -9,9 +9,9 @@ ghost use Rattle.ebpf_state.specs.Stack.{bytes_in, place_of};
 ghost use Rattle.ebpf_machine.specs.Values.{Trap};
 ghost use Rattle.ebpf_machine.specs.Cells.{place_in, loaded_at, read_at, stored_at};
 ghost use Rattle.ebpf_machine.specs.Effect.{loaded, read_object};
-ghost use Rattle.ebpf_machine.specs.View.{around_with, object_at};
+ghost use Rattle.ebpf_machine.specs.View.{environment_with, object_at};
 ghost use Rattle.ebpf_machine.specs.RunState.{object_seen};
-ghost use Rattle.ebpf_machine.specs.Step.{AreOut};
+ghost use Rattle.ebpf_machine.specs.Store.{AreOut};
 ghost use Rattle.ebpf_machine.specs.Flows.{IsResult};
 
 use crate::holding::{Holding, place_of};
@@ -38,9 +38,9 @@ pub(crate) fn load<O: Objects>(
     address: Option<Value<u16>>,
     load: Loaded,
 ) -> Value<u16>
-    requires out { AreOut (O.is_out objects.now) O.kind_of O.slot_of held.now }
-    requires loads { (kinds : ℕ) × IsResult (loaded (around_with context.now kinds (map (object_seen (O.bytes_of objects.now)) held.now)) stack.now load.size load.signed load.offset address) }
-    ensures { (kinds : ℕ) → loaded (around_with context.now kinds (map (object_seen (O.bytes_of objects.now)) held.now)) stack.now load.size load.signed load.offset address ≡ Ok result }
+    requires out { AreOut O.store objects.now held.now }
+    requires loads { (kinds : ℕ) × IsResult (loaded (environment_with context.now kinds (map (object_seen (O.store.bytes_of objects.now)) held.now)) stack.now load.size load.signed load.offset address) }
+    ensures { (kinds : ℕ) → loaded (environment_with context.now kinds (map (object_seen (O.store.bytes_of objects.now)) held.now)) stack.now load.size load.signed load.offset address ≡ Ok result }
 {
     match address {
         Some(Value::Pointer { base, offset: from }) => match base {
@@ -74,9 +74,9 @@ fn load_object<O: Objects>(
     from: i64,
     load: Loaded,
 ) -> u64
-    requires out { AreOut (O.is_out objects.now) O.kind_of O.slot_of held.now }
-    requires loads { IsResult (read_object {N = ℕ} (object_at (map (object_seen (O.bytes_of objects.now)) held.now) call) (from +ℤ load.offset) (bytes_in load.size) load.signed) }
-    ensures { read_object {N = ℕ} (object_at (map (object_seen (O.bytes_of objects.now)) held.now) call) (from +ℤ load.offset) (bytes_in load.size) load.signed ≡ Ok (Value.Number result) }
+    requires out { AreOut O.store objects.now held.now }
+    requires loads { IsResult (read_object {N = ℕ} (object_at (map (object_seen (O.store.bytes_of objects.now)) held.now) call) (from +ℤ load.offset) (bytes_in load.size) load.signed) }
+    ensures { read_object {N = ℕ} (object_at (map (object_seen (O.store.bytes_of objects.now)) held.now) call) (from +ℤ load.offset) (bytes_in load.size) load.signed ≡ Ok (Value.Number result) }
 {
     let place = place_of(held, call);
     load_bytes(objects.bytes(&held[place].object), from, load)

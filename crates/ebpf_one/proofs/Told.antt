@@ -7,13 +7,14 @@ use Rattle.std.proofs.lemmas.List.Sums.{sum_by-append}
 use Rattle.ebpf_verify.specs.Subject.{Subject}
 use Rattle.ebpf_machine.specs.declared.report.Reply.{Reply}
 use Rattle.ebpf_machine.specs.declared.report.Reply.TheVariants as reply
-use Rattle.ebpf_machine.specs.World.{Kind, Answer, Absent, Null, Slot, Going, kinds_of, image_at}
+use Rattle.ebpf_machine.specs.World.{Kind, Going, kinds_of, image_at}
 use Rattle.ebpf_machine.specs.Kinds.{known_kinds}
 use Rattle.ebpf_machine.specs.Events.{Asking, Unasked, OfNoKind, OfKind}
-use Rattle.ebpf_machine.specs.View.{ObjectView, RunView, stepped}
+use Rattle.ebpf_machine.specs.View.{ObjectView, RunView, stepped, reply_in}
 use Rattle.ebpf_machine.specs.RunState.{RunState, first_state_of, status_of, object_seen, seen}
 use Rattle.ebpf_machine.specs.Sound.{AreSized, IsSound}
-use Rattle.ebpf_machine.specs.Step.{AreOut, Counts, IsStep, MayAnswer, reply_of, granted_in, refused_in, asking_in}
+use Rattle.ebpf_machine.specs.Step.{Served, Idle, Refused, Granted, IsStep, MayAnswer, result_of, granted_in, refused_in, asking_in}
+use Rattle.ebpf_machine.specs.Store.{AreOutBy, Counts}
 use Rattle.ebpf_machine.proofs.Asking.{AsksNew, next_asks}
 use Rattle.ebpf_machine.proofs.Lone.{one_on}
 use Rattle.ebpf_machine.proofs.Replies.{replies_kept, replies_added}
@@ -46,41 +47,41 @@ counted_push test replies told =
     omega (arith, e)
 
 -- the replies after an instruction that got this answer
-after_answer : (asked : Asking) (answer : Answer) (replies now : List Reply) (grants nulls executed : ℕ) (can_grant : ℕ → ℕ → Type 0) (can_refuse : ℕ → Type 0) →
-    MayAnswer can_grant can_refuse asked answer →
-    (asked ≡ Unasked → now ≡ replies) → ((kind : ℕ) → asked ≡ OfKind kind → now ≡ replies ++ reply_of answer ∷ []) →
-    AreTold replies grants nulls executed → AreTold now (grants + granted_in answer) (nulls + refused_in answer) (executed + 1)
-after_answer Unasked answer replies now grants nulls executed can_grant can_refuse may kept added told =
-    let none : answer ≡ Absent = may in
+after_answer : (asked : Asking) (served : Served) (replies now : List Reply) (grants nulls executed at : ℕ) (can_grant : (kind at slot : ℕ) → Type 0) (can_refuse : ℕ → Type 0) →
+    MayAnswer can_grant can_refuse at asked served →
+    (asked ≡ Unasked → now ≡ replies) → ((kind : ℕ) → asked ≡ OfKind kind → now ≡ replies ++ reply_in (result_of served) ∷ []) →
+    AreTold replies grants nulls executed → AreTold now (grants + granted_in served) (nulls + refused_in served) (executed + 1)
+after_answer Unasked served replies now grants nulls executed at can_grant can_refuse may kept added told =
+    let none : served ≡ Idle = may in
     let same = kept refl in
     rw (none, same) (record { granted = omega (arith, told.granted); refused = omega (arith, told.refused); few = omega (arith, told.few) })
-after_answer (OfKind kind) answer replies now grants nulls executed can_grant can_refuse may kept added told = by answer may (added kind refl) where
-  by : (a : Answer) → MayAnswer can_grant can_refuse (OfKind kind) a → now ≡ replies ++ reply_of a ∷ [] → AreTold now (grants + granted_in a) (nulls + refused_in a) (executed + 1)
-  by (Slot slot) may e = subst (λ (rs : List Reply). AreTold rs (grants + 1) (nulls + 0) (executed + 1)) (sym e) (record {
+after_answer (OfKind kind) served replies now grants nulls executed at can_grant can_refuse may kept added told = by served may (added kind refl) where
+  by : (s : Served) → MayAnswer can_grant can_refuse at (OfKind kind) s → now ≡ replies ++ reply_in (result_of s) ∷ [] → AreTold now (grants + granted_in s) (nulls + refused_in s) (executed + 1)
+  by (Granted slot) may e = subst (λ (rs : List Reply). AreTold rs (grants + 1) (nulls + 0) (executed + 1)) (sym e) (record {
     granted = omega (arith, told.granted, counted_push is_granted replies reply.Granted);
     refused = omega (arith, told.refused, counted_push is_null replies reply.Granted);
     few = omega (arith, told.few, length_push replies reply.Granted);
   })
-  by Null may e = subst (λ (rs : List Reply). AreTold rs (grants + 0) (nulls + 1) (executed + 1)) (sym e) (record {
+  by Refused may e = subst (λ (rs : List Reply). AreTold rs (grants + 0) (nulls + 1) (executed + 1)) (sym e) (record {
     granted = omega (arith, told.granted, counted_push is_granted replies reply.Null);
     refused = omega (arith, told.refused, counted_push is_null replies reply.Null);
     few = omega (arith, told.few, length_push replies reply.Null);
   })
-  by Absent may e = absurd may
-after_answer OfNoKind answer replies now grants nulls executed can_grant can_refuse may kept added told = absurd may
+  by Idle may e = absurd may
+after_answer OfNoKind served replies now grants nulls executed at can_grant can_refuse may kept added told = absurd may
 
 -- what a run was told after an instruction, by what it was told before
-pub told_next : (v : RunView) (answer : Answer) (grants nulls : ℕ) (can_grant : ℕ → ℕ → Type 0) (can_refuse : ℕ → Type 0) → IsSound v → AreSized v → v.status ≡ Going →
-    MayAnswer can_grant can_refuse (asking_in v) answer → AreTold v.replies grants nulls v.executed → AreTold (stepped (reply_of answer) v).replies (grants + granted_in answer) (nulls + refused_in answer) (v.executed + 1)
-told_next v answer grants nulls can_grant can_refuse sound sized going may told =
-    after_answer (asking_in v) answer v.replies (stepped (reply_of answer) v).replies grants nulls v.executed can_grant can_refuse may (replies_kept v (reply_of answer) going) added told
+pub told_next : (v : RunView) (served : Served) (grants nulls : ℕ) (can_grant : (kind at slot : ℕ) → Type 0) (can_refuse : ℕ → Type 0) → IsSound v → AreSized v → v.status ≡ Going →
+    MayAnswer can_grant can_refuse v.pc (asking_in v) served → AreTold v.replies grants nulls v.executed → AreTold (stepped (result_of served) v).replies (grants + granted_in served) (nulls + refused_in served) (v.executed + 1)
+told_next v served grants nulls can_grant can_refuse sound sized going may told =
+    after_answer (asking_in v) served v.replies (stepped (result_of served) v).replies grants nulls v.executed v.pc can_grant can_refuse may (replies_kept v (result_of served) going) added told
   where
     asked_new : (kind : ℕ) → asking_in v ≡ OfKind kind → (asking_in v ≡ Unasked) ⊎ ((k : ℕ) × (asking_in v ≡ OfKind k) × AsksNew v k) → (k : ℕ) × AsksNew v k
     asked_new kind asked (inl unasked) = absurd cc
     asked_new kind asked (inr (k, is, new)) = (k, new)
 
-    added : (kind : ℕ) → asking_in v ≡ OfKind kind → (stepped (reply_of answer) v).replies ≡ v.replies ++ reply_of answer ∷ []
-    added kind asked = let new = asked_new kind asked (next_asks v (next_of v sound sized going)) in replies_added v (reply_of answer) new.0 going new.1
+    added : (kind : ℕ) → asking_in v ≡ OfKind kind → (stepped (result_of served) v).replies ≡ v.replies ++ reply_in (result_of served) ∷ []
+    added kind asked = let new = asked_new kind asked (next_asks v (next_of v sound sized going)) in replies_added v (result_of served) new.0 going new.1
 
 -- ---- a step of a run whose objects are out of a store
 
@@ -88,24 +89,24 @@ abbrev bytes_of : Object → List ℕ
 bytes_of o = o.bytes.items
 
 -- each object has its kind's size
-sized_out : (table : List Entry) (r : RunState Object) → kinds_of r.subject.rows ≡ known_kinds → AreOut (IsOut table) (λ o. o.kind) (λ o. o.slot) r.held → AreSized (seen bytes_of r)
+sized_out : (table : List Entry) (r : RunState Object) → kinds_of r.subject.rows ≡ known_kinds → AreOutBy (IsOut table) (λ o. o.kind) (λ o. o.slot) r.held → AreSized (seen bytes_of r)
 sized_out table r known out =
     All-map (λ (o : ObjectView). length o.bytes ≡ length (image_at (kinds_of r.subject.rows) o.kind)) (object_seen bytes_of) r.held
     (λ k d few. let h = out.out k d few in h.0.size ∙ ap (λ (kind : ℕ). length (image_at known_kinds kind)) h.1 ∙ ap (λ (kinds : List Kind). length (image_at kinds (get_or r.held k d).kind)) (sym known))
 
 -- the store counts what the run was told by it
-pub told_stepped : (r t : RunState Object) (table : List Entry) (old new : Counts) (can_grant : ℕ → ℕ → Type 0) (can_refuse : ℕ → Type 0) →
-    kinds_of r.subject.rows ≡ known_kinds → AreOut (IsOut table) (λ o. o.kind) (λ o. o.slot) r.held → IsSound (seen bytes_of r) → r.exit ≡ None →
-    IfNone r.exit ((answer : Answer) × MayAnswer can_grant can_refuse (asking_in (seen bytes_of r)) answer × IsStep (λ o. o.slot) answer (seen bytes_of r) (seen bytes_of t) r.held t.held old new) →
+pub told_stepped : (r t : RunState Object) (table : List Entry) (old new : Counts) (can_grant : (kind at slot : ℕ) → Type 0) (can_refuse : ℕ → Type 0) →
+    kinds_of r.subject.rows ≡ known_kinds → AreOutBy (IsOut table) (λ o. o.kind) (λ o. o.slot) r.held → IsSound (seen bytes_of r) → r.exit ≡ None →
+    IfNone r.exit ((served : Served) × MayAnswer can_grant can_refuse r.pc (asking_in (seen bytes_of r)) served × IsStep (λ o. o.slot) served (seen bytes_of r) (seen bytes_of t) r.held t.held old new) →
     AreTold r.replies old.grants old.nulls r.executed → AreTold t.replies new.grants new.nulls t.executed
 told_stepped r t table old new can_grant can_refuse known out sound going step told =
     let v = seen bytes_of r in
     let now : v.status ≡ Going = ap status_of going in
-    let P = (answer : Answer) × MayAnswer can_grant can_refuse (asking_in v) answer × IsStep (λ o. o.slot) answer v (seen bytes_of t) r.held t.held old new in
+    let P = (served : Served) × MayAnswer can_grant can_refuse v.pc (asking_in v) served × IsStep (λ o. o.slot) served v (seen bytes_of t) r.held t.held old new in
     let s : P = subst (λ (o : Option ℕ). IfNone o P) going step in
     let next = told_next v s.0 old.grants old.nulls can_grant can_refuse sound (sized_out table r known out) now s.1 told in
-    let on = one_on v (reply_of s.0) now in
-    let replies : t.replies ≡ (stepped (reply_of s.0) v).replies = ap (λ (u : RunView). u.replies) s.2.state in
+    let on = one_on v (result_of s.0) now in
+    let replies : t.replies ≡ (stepped (result_of s.0) v).replies = ap (λ (u : RunView). u.replies) s.2.state in
     let executed : t.executed ≡ r.executed + 1 = ap (λ (u : RunView). u.executed) s.2.state ∙ on.executed in
     record {
       granted = ap (count_by is_granted) replies ∙ next.granted ∙ sym s.2.counts.grants;

@@ -13,7 +13,7 @@ use Rattle.ebpf_machine.proofs.execute.execute.Goals as goal
 pub load-value-requires-clause-loads : goal.load-value-requires-clause-loads
 load-value-requires-clause-loads g c =
     let fits = to_z-of_z w16 c.in-Load.offset (search rules) in
-    rw (c.read.ensures, fits) (load_loads c.args.registers.now c.args.stack.now c.args.context.now (map (object_seen (g.O.Objects.bytes_of c.args.objects.now)) c.args.held.now) c.args.insn.now c.in-Load.size c.in-Load.signed c.in-Load.dst c.in-Load.base c.in-Load.offset c.in-Load.is c.told-registers c.requires.doable)
+    rw (c.read.ensures, fits) (load_loads c.args.registers.now c.args.stack.now c.args.context.now (map (object_seen (g.O.Objects.store.bytes_of c.args.objects.now)) c.args.held.now) c.args.insn.now c.in-Load.size c.in-Load.signed c.in-Load.dst c.in-Load.base c.in-Load.offset c.in-Load.is c.told-registers c.requires.doable)
 
 -- a store goes to the stack
 to_stack : (g : Over) (c : In-Store g) → object_in (read (frame_with c.args.registers.now [] []) c.in-Store.base) ≡ None
@@ -22,7 +22,7 @@ to_stack g c = subst (λ (i : Insn). object_written i c.args.registers.now ≡ N
 pub store_value-requires : goal.store_value-requires
 store_value-requires g c =
     let fits = to_z-of_z w16 c.in-Store.offset (search rules) in
-    let here = store_stores c.args.registers.now c.args.stack.now c.args.context.now (map (object_seen (g.O.Objects.bytes_of c.args.objects.now)) c.args.held.now) c.args.insn.now c.in-Store.size c.in-Store.base c.in-Store.offset c.in-Store.src c.in-Store.is c.requires.own c.requires.doable in
+    let here = store_stores c.args.registers.now c.args.stack.now c.args.context.now (map (object_seen (g.O.Objects.store.bytes_of c.args.objects.now)) c.args.held.now) c.args.insn.now c.in-Store.size c.in-Store.base c.in-Store.offset c.in-Store.src c.in-Store.is c.requires.own c.requires.doable in
     (here.k, here.v, c.read-in-Store.ensures ∙ here.through, c.source_value-value.ensures ∙ here.of, rw fits here.fine)
 
 pub returns-in-Load-clause-effect : goal.returns-in-Load-clause-effect

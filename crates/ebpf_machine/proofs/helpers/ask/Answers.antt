@@ -19,8 +19,11 @@ number-kind-requires g c = ask_finds _ _ _ c.requires.ready (calls g (goal.at.nu
 pub overflow_cast-kind : goal.overflow_cast-kind
 overflow_cast-kind g c = let fits = (kind_fits _ _ _ _ (asking _ _ _ _ c.requires.ready (calls g (goal.at.overflow_cast-kind g c).Start) c.number-kind.ensures)).1 in search rules
 
-pub take-requires : goal.take-requires
-take-requires g c = kind_there _ _ _ g.O.Objects.kinds _ (asking _ _ _ _ c.requires.ready (calls g (goal.at.take-requires g c).Start) c.number-kind.ensures) c.requires.kinds
+pub take-requires-clause-at : goal.take-requires-clause-at
+take-requires-clause-at g c = ready_inside _ _ _ c.requires.ready
+
+pub take-requires-clause-kind : goal.take-requires-clause-kind
+take-requires-clause-kind g c = kind_there _ _ _ g.O.Objects.store.kinds _ (asking _ _ _ _ c.requires.ready (calls g (goal.at.take-requires-clause-kind g c).Start) c.number-kind.ensures) c.requires.kinds
 
 pub hold-requires-clause-held : goal.hold-requires-clause-held
 hold-requires-clause-held g c =
