@@ -68,7 +68,7 @@ stays_placed kept k answer r t freed lent now i m none stays slots = record {
 }
   where
     as_before : (q : ℕ) → place_at now q ≡ place_at kept.places q
-    as_before q = m.now_are q ∙ ap (λ (f : Option Object). place_returned f lent q) none ∙ m.lent_are q ∙ stays k r.pc q
+    as_before q = m.now_are q ∙ ap (λ (f : Option Object). place_returned Home f lent q) none ∙ m.lent_are q ∙ stays k r.pc q
 
     by : (run : ℕ) (x : RunState Object) (n : Name) → Contains (slots_of x) n → ((run ≡ k) × (t ≡ x)) ⊎ ((run ≢ k) × (slice_get kept.runs run ≡ Some x)) → place_at kept.places n.slot ≡ Some (Held run n.call)
     by run x n among (inl (same, is)) =
@@ -84,7 +84,7 @@ lends_placed kept k answer r t freed lent now slot o i m none is home slots = re
 }
   where
     now_is : (q : ℕ) → place_at now q ≡ cond (q == slot) (Some (Held k r.pc)) (place_at kept.places q)
-    now_is q = m.now_are q ∙ ap (λ (f : Option Object). place_returned f lent q) none ∙ m.lent_are q ∙ ap (λ (a : Answer). place_lent a k r.pc kept.places q) is
+    now_is q = m.now_are q ∙ ap (λ (f : Option Object). place_returned Home f lent q) none ∙ m.lent_are q ∙ ap (λ (a : Answer). place_lent a k r.pc kept.places q) is
 
     newest : Contains (slots_of t) (name_of slot r.pc)
     newest = subst (λ (ns : List Name). Contains ns (name_of slot r.pc)) (sym slots) (Contains-push (slots_of r) (name_of slot r.pc))
@@ -124,7 +124,7 @@ frees_placed w kept k answer r t freed lent now o call shows i m is stays among 
 }
   where
     back : (q : ℕ) → place_returned Home freed lent q ≡ cond (q == o.slot) (Some (Home o)) (place_at lent q)
-    back q = ap (λ (f : Option Object). place_returned f lent q) is
+    back q = ap (λ (f : Option Object). place_returned Home f lent q) is
 
     now_is : (q : ℕ) → place_at now q ≡ cond (q == o.slot) (Some (Home o)) (place_at kept.places q)
     now_is q = m.now_are q ∙ back q ∙ ap (λ (p : Option Place). cond (q == o.slot) (Some (Home o)) p) (m.lent_are q ∙ stays k r.pc q)
@@ -140,7 +140,7 @@ frees_placed w kept k answer r t freed lent now o call shows i m is stays among 
 
     keeps : (q : ℕ) → q ≢ o.slot → (at : ℕ) → Contains (slots_of r) (name_of q at) → Contains (slots_of t) (name_of q at)
     keeps q ne at inside =
-        let other : (at == call) ≡ false = ne_eqb at call (λ same. ne (one_slot q (subst (λ (a : ℕ). Contains (slots_of r) (q, a)) same inside))) in
+        let other : (at == call) ≡ false = ne_eqb at call (λ same. ne (one_slot q (subst (λ (a : ℕ). Contains (slots_of r) (name_of q a)) same inside))) in
         subst (λ (ns : List Name). Contains ns (name_of q at)) (sym slots) (Contains-kept (λ (n : Name). not (n.call == call)) (slots_of r) (name_of q at) inside (ap not other))
 
     each : (q : ℕ) → (q ≡ o.slot) ⊎ (q ≢ o.slot) → IsPlaced (stepped_to kept k t now) q (place_at now q)
@@ -159,7 +159,7 @@ frees_placed w kept k answer r t freed lent now o call shows i m is stays among 
 
     held : (run : ℕ) (x : RunState Object) (n : Name) → Contains (slots_of x) n → ((run ≡ k) × (t ≡ x)) ⊎ ((run ≢ k) × (slice_get kept.runs run ≡ Some x)) → place_at now n.slot ≡ Some (Held run n.call)
     held run x n inside (inl (same, is_t)) =
-        let left = Contains-filter (λ (y : Name). not (y.1 == call)) (slots_of r) n (subst (λ (ns : List Name). Contains ns n) slots (subst (λ (y : RunState Object). Contains (slots_of y) n) (sym is_t) inside)) in
+        let left = Contains-filter (λ (y : Name). not (y.call == call)) (slots_of r) n (subst (λ (ns : List Name). Contains ns n) slots (subst (λ (y : RunState Object). Contains (slots_of y) n) (sym is_t) inside)) in
         let was = i.tended.placed.held k r i.at n left.0 in
         elsewhere k n was (λ mine same_call. let equal = eq-eqb n.call call same_call in let unequal = not-true (n.call == call) left.1 in absurd (cc)) ∙ ap (λ (j : ℕ). Some (Held j n.call)) (sym same)
     held run x n inside (inr (ne, there)) = elsewhere run n (i.tended.placed.held run x there n inside) (λ mine. absurd (ne mine))

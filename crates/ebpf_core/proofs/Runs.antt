@@ -10,6 +10,7 @@ use Rattle.ebpf_machine.specs.View.{view_of, view_in}
 use Rattle.ebpf_machine.specs.RunState.{RunState, first_state_of}
 use Rattle.ebpf_machine.specs.Sound.{IsSound, IsAlone}
 use Rattle.ebpf_machine.specs.Store.{AreOutBy}
+use Rattle.ebpf_machine.specs.Alone.{replies_from}
 use Rattle.ebpf_machine.proofs.Lone.{after_none}
 use Rattle.ebpf_machine.proofs.Execs.{shown_run}
 use Rattle.ebpf_core.specs.declared.passing.Object.{Object}
@@ -52,7 +53,7 @@ same_number a b = ⊎_elim (λ (e : (eqb a b ≡ true) × (a ≡ b)). inl e.1) (
 -- ---- a run that is kept
 
 pub first_alone : (s : Subject) (context : List ℕ) → IsAlone (run_seen (first_state_of s context))
-first_alone s context = rw (after_none s context []) refl
+first_alone s context = rw (after_none s context (replies_from [])) refl
 
 pub tended_first : (s : Subject) (context : List ℕ) (r : RunState Object) → r ≡ first_state_of s context → IsSound (run_seen r) → kinds_of s.rows ≡ known_kinds → IsTended r
 tended_first s context r is sound kinds = record {

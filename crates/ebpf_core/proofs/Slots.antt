@@ -143,6 +143,14 @@ joined_shows w kept kind slot places h new = record {
   owned = owned_joined w kind slot h.owned new;
 }
 
+-- so the event is legal
+pub grow_legal : (w : World) (kept : WorldState) (kind slot : ℕ) → Shows w kept → ArePlaced kept → kind < length known_kinds → is_some (place_at kept.places slot) ≡ false → (after : World) × (growing kind slot w ≡ Ok after)
+grow_legal w kept kind slot h placed lt free =
+    let new = is_new w kept kind slot h placed lt free in
+    let is_known = lt-ltb kind (length w.kinds) new.kind_is in
+    let fresh = new.fresh in
+    (with_slot_joined kind slot w, rw (is_known, fresh) refl)
+
 pub grow_done : (w : World) (kept : WorldState) (kind slot : ℕ) (o : Object) (ledgers : List (List ℕ)) (places : Places) → Shows w kept → ArePlaced kept → IsGrown kept kind slot o ledgers places
     → (after : World) × (growing kind slot w ≡ Ok after) × Shows after (record kept { ledgers = ledgers; places = places })
 grow_done w kept kind slot o ledgers places h placed grown =

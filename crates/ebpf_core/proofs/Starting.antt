@@ -1,6 +1,6 @@
 -- A run starts: the world that is kept then shows the one after the event, and what always holds of a world holds of it.
-use Rattle.std.proofs.Common.{◌≡◌, ◌≢◌, ⊎_elim, ◌⊎◌, inl, inr, ℕ, ◌+◌, true, false, eqb, List, [], ◌∷◌, ◌++◌, length, Option, Some, None, Ok, Err, refl, sym, ap, ◌∙◌, subst, arith}
-use Rattle.std.specs.Prelude.{Contains, map, option_map, slice_get}
+use Rattle.std.proofs.Common.{◌≡◌, ◌≢◌, ⊎_elim, ◌⊎◌, inl, inr, ℕ, ◌+◌, Bool, true, false, cond, eqb, List, [], ◌∷◌, ◌++◌, length, Option, Some, None, Ok, Err, refl, sym, ap, ◌∙◌, subst, arith}
+use Rattle.std.specs.Prelude.{◌==◌, Contains, map, option_map, slice_get}
 use Rattle.std.proofs.lemmas.Bool.{eq-eqb}
 use Rattle.std.proofs.lemmas.Bool.Decides.{eqb_tells}
 use Rattle.std.proofs.lemmas.Option.{slice_get_past}
@@ -9,15 +9,19 @@ use Rattle.std.proofs.lemmas.List.Elements.{All-push}
 use Rattle.ebpf_verify.specs.Subject.{Subject}
 use Rattle.ebpf_machine.specs.World.{Name, World, Owner, kinds_of, first_run, held_by, name_of}
 use Rattle.ebpf_machine.specs.Kinds.{known_kinds}
-use Rattle.ebpf_machine.specs.Events.{NoSuchProgramOrKind, WrongContext, started, starting}
+use Rattle.ebpf_machine.specs.Events.{Illegal, NoSuchProgramOrKind, WrongContext, started, starting}
 use Rattle.ebpf_machine.specs.View.{call_of, view_of, view_in, slots_in}
 use Rattle.ebpf_machine.specs.RunState.{RunState, first_state_of}
 use Rattle.ebpf_machine.specs.Sound.{IsSound}
 use Rattle.ebpf_machine.proofs.ListLemmas.{get_push, get_push_cases}
 use Rattle.ebpf_machine.proofs.Owned.{owned_started}
+use Rattle.ebpf_core.specs.declared.fault.ApplyCode.{ApplyCode}
+use Rattle.ebpf_core.specs.declared.fault.ApplyCode.TheVariants.{E9, E10}
 use Rattle.ebpf_core.specs.declared.passing.Object.{Object}
 use Rattle.ebpf_core.specs.declared.place.Place.{Place}
 use Rattle.ebpf_core.specs.declared.place.Place.TheVariants.{Home, Held}
+use Rattle.ebpf_core.specs.Faults.{code_of}
+use Rattle.ebpf_core.specs.Stepping.{start_code}
 use Rattle.ebpf_core.specs.Places.{place_at}
 use Rattle.ebpf_core.specs.Shown.{WorldState, Shows, ArePlaced, IsPlaced, IsTended, IsTendedWorld, run_seen, slots_of}
 use Rattle.ebpf_core.proofs.Runs.{get_past, get_last, none_shown, same_number, tended_first}
@@ -80,6 +84,24 @@ pub starting_long : (programs : List Subject) (program : ℕ) (s : Subject) (con
 starting_long programs program s context w at long = rw (at, differ (length context) s.decl.context long) refl where
   differ : (a b : ℕ) → a ≢ b → eqb a b ≡ false
   differ a b ne = ⊎_elim (λ (e : (eqb a b ≡ true) × (a ≡ b)). absurd (ne e.1)) (λ (e : (eqb a b ≡ false) × (a ≢ b)). e.0) (eqb_tells a b)
+
+pub starting_fits : (programs : List Subject) (program : ℕ) (s : Subject) (context : List ℕ) (w : World) → slice_get programs program ≡ Some s → length context ≡ s.decl.context → (after : World) × (starting (slice_get programs program) context w ≡ Ok after)
+starting_fits programs program s context w at fits = (started s context w, rw (at, eq-eqb (length context) s.decl.context fits) refl)
+
+-- by the code of a start
+pub start_refused : (o : Option Subject) (context : List ℕ) (w : World) (code : ApplyCode) → start_code o (length context) ≡ Some code → (why : Illegal) × (starting o context w ≡ Err why) × (code ≡ code_of why)
+start_refused None context w code e = (NoSuchProgramOrKind, refl, cc)
+start_refused (Some s) context w code e = by (length context == s.decl.context) e where
+  by : (t : Bool) → cond t None (Some E10) ≡ Some code → (why : Illegal) × (cond t (Ok (started s context w)) (Err WrongContext) ≡ Err why) × (code ≡ code_of why)
+  by true e = absurd (cc)
+  by false e = (WrongContext, refl, cc)
+
+pub start_legal : (o : Option Subject) (context : List ℕ) (w : World) → start_code o (length context) ≡ None → (after : World) × (starting o context w ≡ Ok after)
+start_legal None context w e = absurd (cc)
+start_legal (Some s) context w e = by (length context == s.decl.context) e where
+  by : (t : Bool) → cond t None (Some E10) ≡ None → (after : World) × (cond t (Ok (started s context w)) (Err WrongContext) ≡ Ok after)
+  by true e = (started s context w, refl)
+  by false e = absurd (cc)
 
 starting_shows : (programs : List Subject) (program : ℕ) (s : Subject) (context : List ℕ) (w : World) (kept : WorldState) (r : RunState Object) → kinds_of s.rows ≡ known_kinds → Shows w kept → slice_get programs program ≡ Some s → length context ≡ s.decl.context → r ≡ first_state_of s context
     → (after : World) × (starting (slice_get programs program) context w ≡ Ok after) × Shows after (with_started kept r)

@@ -1,4 +1,5 @@
-use Rattle.std.proofs.Common.{refl}
+use Rattle.std.proofs.Common.{refl, ◌∙◌}
+use Rattle.ebpf_core.specs.Shown.{run_seen}
 use Rattle.ebpf_core.proofs.StepsIn.{stepped_in, new_object, gives_unasked}
 use Rattle.ebpf_core.proofs.stepping.step_in.Goals as goal
 
@@ -8,4 +9,4 @@ returns-clause-stepped g c =
     stepped_in c.args.run.now.exit c.args.lent c.into_object.result c.new-passing.result.object c.step.new.objects.object c.args.run.now c.step.new.self _ _ c.new-passing.ensures c.into_object.ensures.same refl refl c.step.ensures.step c.step.ensures.gone image
 
 pub step-requires-clause-room : goal.step-requires-clause-room
-step-requires-clause-room g c = λ gives. c.new-passing.ensures ∙ c.requires.lends.asked (gives_unasked _ gives)
+step-requires-clause-room g c = λ gives. c.new-passing.ensures ∙ c.requires.lends.asked (gives_unasked (run_seen c.args.run.now) gives)

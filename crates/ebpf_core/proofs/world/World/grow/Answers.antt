@@ -2,7 +2,7 @@ use Rattle.std.proofs.Common.{refl, sym, ◌∙◌, subst, arith}
 use Rattle.ebpf_machine.specs.Events.{NoSuchProgramOrKind, SlotInLedger}
 use Rattle.ebpf_core.specs.Shown.{IsTendedWorld}
 use Rattle.ebpf_core.proofs.PlaceLemmas.{updated_places}
-use Rattle.ebpf_core.proofs.Slots.{on_ok, on_err, grow_unknown, grow_there, grow_undone, grow_done, grow_tended}
+use Rattle.ebpf_core.proofs.Slots.{on_ok, on_err, grow_unknown, grow_there, grow_undone, grow_legal, grow_done, grow_tended}
 use Rattle.ebpf_core.proofs.world.World.grow.Goals as goal
 
 pub returns-then-number-ge3-clause-refused : goal.returns-then-number-ge3-clause-refused
@@ -41,3 +41,12 @@ returns-clause-done c = rw (← c.self.view_is) (λ w h. grow_done w _ c.args.ki
   ledgers_are = on_ok c.join.result c.if-is_err.ensures.value c.join.ensures.joined;
   places_are = updated_places c.self.inside.places c.insert.new.self c.args.slot _ (on_ok c.insert.result c.if-is_err-2.ensures.value c.insert.ensures.updates);
 }))
+
+pub returns-in_default-clause-refused : goal.returns-in_default-clause-refused
+returns-in_default-clause-refused c = rw (← c.self.view_is) (λ w h. grow_legal w _ c.args.kind c.args.slot h c.self.invariant.placed (omega arith) (sym c.contains_key.ensures ∙ c.if-contains_key.false))
+
+pub returns-then-is_err-clause-refused : goal.returns-then-is_err-clause-refused
+returns-then-is_err-clause-refused c = rw (← c.self.view_is) (λ w h. grow_legal w _ c.args.kind c.args.slot h c.self.invariant.placed (omega arith) (sym c.contains_key.ensures ∙ c.if-contains_key.false))
+
+pub returns-then-is_err-2-clause-refused : goal.returns-then-is_err-2-clause-refused
+returns-then-is_err-2-clause-refused c = rw (← c.self.view_is) (λ w h. grow_legal w _ c.args.kind c.args.slot h c.self.invariant.placed (omega arith) (sym c.contains_key.ensures ∙ c.if-contains_key.false))

@@ -6,7 +6,7 @@ use Rattle.ebpf_machine.specs.Kinds.{known_kinds}
 use Rattle.ebpf_machine.specs.Events.{NoSuchProgramOrKind, WrongContext}
 use Rattle.ebpf_machine.specs.Turns.{IsStartFault}
 use Rattle.ebpf_core.proofs.Runs.{at_number}
-use Rattle.ebpf_core.proofs.Starting.{starting_none, starting_long, starting_pushed, pushed_tended}
+use Rattle.ebpf_core.proofs.Starting.{starting_none, starting_long, starting_fits, starting_pushed, pushed_tended}
 use Rattle.ebpf_core.proofs.world.World.start.Goals as goal
 
 pub returns-then-program-programs-clause-refused : goal.returns-then-program-programs-clause-refused
@@ -32,3 +32,14 @@ invariant_of-self-in-Ok c =
     let known = at_number (λ (s : Subject). kinds_of s.rows ≡ known_kinds) c.self.inside.programs.now c.args.program c.index-programs-program.result c.self.invariant.known at in
     let pushed : c.push.new.self.items ≡ c.self.inside.runs.items ++ c.in-Ok.run' ∷ [] = search rules in
     pushed_tended _ c.index-programs-program.result c.context.inside.bytes.items c.in-Ok.run' c.push.new.self.items known c.in-Ok.ensures.started (c.in-Ok.ensures.sound (λ o. o.bytes.items)) c.self.invariant pushed
+
+pub returns-then-is_err-clause-refused : goal.returns-then-is_err-clause-refused
+returns-then-is_err-clause-refused c = rw (← c.self.view_is, ← c.context.view_is) (λ w h.
+    let at = slice_get_read c.self.inside.programs.now _ c.args.program c.index-programs-program.result refl (omega arith) c.index-programs-program.is in
+    starting_fits c.self.inside.programs.now c.args.program c.index-programs-program.result c.context.inside.bytes.items w at c.in-Ok.ensures.length)
+
+pub returns-in-Err-NoMemory-clause-refused : goal.returns-in-Err-NoMemory-clause-refused
+returns-in-Err-NoMemory-clause-refused c = rw (← c.self.view_is, ← c.context.view_is) (λ w h.
+    let at = slice_get_read c.self.inside.programs.now _ c.args.program c.index-programs-program.result refl (omega arith) c.index-programs-program.is in
+    let fits = subst (IsStartFault (length c.context.inside.bytes.items) c.index-programs-program.result.decl.context) c.in-Err-NoMemory.field-0-is c.in-Err-NoMemory.ensures.refused in
+    starting_fits c.self.inside.programs.now c.args.program c.index-programs-program.result c.context.inside.bytes.items w at fits)
