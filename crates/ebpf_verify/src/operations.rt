@@ -13,8 +13,7 @@ use crate::pointer::{difference_value, sum_value};
 use ebpf_insn::insn::{AluOp, Width};
 use ebpf_insn::register::Reg;
 use ebpf_range::range::Range;
-use ebpf_range::results::alu;
-use ebpf_range::sums::low;
+use ebpf_range::results::{alu, low};
 use ebpf_state::state::State;
 use ebpf_state::value::Abs;
 
