@@ -13,7 +13,7 @@ use Rattle.ebpf_state.specs.Ascending.{IsAscending}
 use Rattle.ebpf_state.proofs.HeldLists.{IsBelowFirst, ascending-cons, tail_ascends, first_below}
 use Rattle.ebpf_machine.specs.World.{is_in}
 use Rattle.ebpf_machine.specs.Events.{with_slot, without_slot}
-use Rattle.ebpf_machine.proofs.Ascents.{all_above}
+use Rattle.ebpf_verify.proofs.Ascents.{all_above}
 
 -- a list of slots does not fall
 pub rises : (slots : List ℕ) → IsAscending slots → (i j : ℕ) → i ≤ j → j < length slots → get_or slots i 0 ≤ get_or slots j 0

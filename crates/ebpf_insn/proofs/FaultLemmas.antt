@@ -1,8 +1,13 @@
--- What is known of the lowest slot that has a code.
-use Rattle.std.proofs.Common.{◌≡◌, ℕ, zero, suc, ◌+◌, ◌<◌, ◌≤◌, Option, Some, None, refl, sym, ◌∙◌, add-one, arith, inl, inr}
+-- What is known where no test gives a code, and of the lowest slot that has one.
+use Rattle.std.proofs.Common.{◌≡◌, ℕ, zero, suc, ◌+◌, ◌<◌, ◌≤◌, Bool, true, false, cond, Option, Some, None, refl, sym, ◌∙◌, add-one, arith, inl, inr}
 use Rattle.std.proofs.lemmas.Option.{none-some, some_pair_parts}
 use Rattle.std.proofs.lemmas.Bool.{cases_lt}
 use Rattle.ebpf_insn.specs.Faults.{lowest, lowest_with}
+
+-- where no test of several holds, the first doesn't, nor do the rest
+pub none_first : {C : Type 0} (t : Bool) (c : C) (rest : Option C) → cond t (Some c) rest ≡ None → (t ≡ false) × (rest ≡ None)
+none_first true c rest e = absurd (cc)
+none_first false c rest e = (refl, e)
 
 -- One slot more.
 lowest-suc : {C : Type 0} (f : ℕ → Option C) (n : ℕ) → lowest f (suc n) ≡ lowest_with (lowest f n) n (f n)

@@ -24,8 +24,8 @@ use Rattle.ebpf_machine.specs.declared.value.Value.TheVariants.{Number, Pointer}
 use Rattle.ebpf_machine.specs.declared.value.Base.{Base}
 use Rattle.ebpf_machine.specs.Effect.{binary, computed}
 use Rattle.ebpf_machine.specs.Concretization.{IsOf}
-use Rattle.ebpf_machine.proofs.Pointers.{signed_between}
-use Rattle.ebpf_machine.proofs.Bounded.{IsBoundedValue}
+use Rattle.ebpf_verify.proofs.Pointers.{signed_between}
+use Rattle.ebpf_verify.proofs.Bounded.{IsBoundedValue}
 use Rattle.ebpf_machine.proofs.Operations.{none_first, neither, set_value, IsFitting, shifted, moved_fits, constant_reading}
 
 -- an operation on two numbers

@@ -35,8 +35,8 @@ use Rattle.ebpf_machine.specs.View.{ObjectView, RunView, environment_of_view, ob
 use Rattle.ebpf_machine.specs.Concretization.{IsOf, AreOf, Arrives, calls_of}
 use Rattle.ebpf_machine.specs.Sound.{FitsValue, IsSound}
 use Rattle.ebpf_machine.proofs.Operations.{none_first}
-use Rattle.ebpf_machine.proofs.Bounded.{forgotten-full}
-use Rattle.ebpf_machine.proofs.Ascents.{ascending_push, ascending_kept}
+use Rattle.ebpf_verify.proofs.Bounded.{forgotten-full}
+use Rattle.ebpf_verify.proofs.Ascents.{ascending_push, ascending_kept}
 use Rattle.ebpf_machine.proofs.Referred.{objects_few}
 use Rattle.ebpf_machine.proofs.Entries.{fall_arrives}
 use Rattle.ebpf_machine.proofs.Registers.{IsFrame-lost, IsFrame-result, AreOf-result}

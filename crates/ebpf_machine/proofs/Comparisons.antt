@@ -36,7 +36,7 @@ use Rattle.ebpf_machine.specs.Values.{Frame}
 use Rattle.ebpf_machine.specs.Cells.{cell_at}
 use Rattle.ebpf_machine.specs.View.{ObjectView}
 use Rattle.ebpf_machine.specs.Concretization.{IsOf, IsOfCells, AreOf, AreReferred, calls_of}
-use Rattle.ebpf_machine.proofs.Bounded.{IsBoundedValue, IsFull, number_of-lt}
+use Rattle.ebpf_verify.proofs.Bounded.{IsBoundedValue, IsFull, number_of-lt}
 use Rattle.ebpf_machine.proofs.Mapped.{Contains-mapped}
 use Rattle.ebpf_machine.proofs.Referred.{kinds_without, tested_kinds}
 use Rattle.ebpf_machine.proofs.Words.{settled_cells}

@@ -16,8 +16,8 @@ use Rattle.ebpf_verify.specs.Entry.{with_edge, with_sent, arrived, entry_of}
 use Rattle.ebpf_machine.specs.Values.{Frame}
 use Rattle.ebpf_machine.specs.View.{ObjectView}
 use Rattle.ebpf_machine.specs.Concretization.{AreOf, Arrives}
-use Rattle.ebpf_machine.proofs.Bounded.{IsFull, first-full}
-use Rattle.ebpf_machine.proofs.RulesBounded.{IsFullState, fall-full, jump-full}
+use Rattle.ebpf_verify.proofs.Bounded.{IsFull, first-full}
+use Rattle.ebpf_verify.proofs.RulesBounded.{IsFullState, fall-full, jump-full}
 use Rattle.ebpf_machine.proofs.Joins.{IsWhole, whole_weaker, IsWhole-with_state, Arrives-with_state_old, Arrives-with_state_new}
 
 -- the instructions of a program have an encoding

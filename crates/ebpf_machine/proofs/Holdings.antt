@@ -22,7 +22,7 @@ use Rattle.ebpf_machine.specs.View.{ObjectView}
 use Rattle.ebpf_machine.specs.Concretization.{IsOf, IsOfCells, AreOf, AreReferred, calls_of}
 use Rattle.ebpf_machine.proofs.ListLemmas.{Contains-filter, filter-map}
 use Rattle.ebpf_machine.proofs.Mapped.{Contains-mapped, Contains-unmapped, Contains-kept}
-use Rattle.ebpf_machine.proofs.Bounded.{IsBoundedValue, IsBoundedWord, IsFull, word_bounded}
+use Rattle.ebpf_verify.proofs.Bounded.{IsBoundedValue, IsBoundedWord, IsFull, word_bounded}
 use Rattle.ebpf_machine.proofs.Words.{left_spilled}
 use Rattle.ebpf_machine.proofs.Referred.{earlier_kinds, new_kind, kinds_without}
 

@@ -14,7 +14,7 @@ use Rattle.ebpf_verify.specs.declared.entry.EntryState.{EntryState}
 use Rattle.ebpf_verify.specs.declared.entry.EntryState.TheVariants.{Unreached, Known, Conflict}
 use Rattle.ebpf_verify.specs.Entry.{with_state, known_or_conflict}
 use Rattle.ebpf_machine.specs.View.{ObjectView}
-use Rattle.ebpf_machine.proofs.Bounded.{IsFull, full_weaker, joined_registers_bounded, joined_words_bounded}
+use Rattle.ebpf_verify.proofs.Bounded.{IsFull, full_weaker, joined_registers_bounded, joined_words_bounded}
 use Rattle.ebpf_machine.proofs.Referred.{same_kinds}
 use Rattle.ebpf_machine.specs.Values.{Frame}
 use Rattle.ebpf_machine.specs.Cells.{cell_at}

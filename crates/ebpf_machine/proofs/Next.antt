@@ -19,7 +19,7 @@ use Rattle.ebpf_machine.specs.World.{Status, Going}
 use Rattle.ebpf_machine.specs.View.{ObjectView, RunView, environment_of_view, effect_of_view, acted, CallResult}
 use Rattle.ebpf_machine.specs.Concretization.{AreOf, Arrives, calls_of}
 use Rattle.ebpf_machine.specs.Sound.{FitsFrame, AreSized, IsGoing, IsWellStated, IsSound}
-use Rattle.ebpf_machine.proofs.Bounded.{IsFull}
+use Rattle.ebpf_verify.proofs.Bounded.{IsFull}
 use Rattle.ebpf_machine.proofs.Entries.{AreDefined}
 use Rattle.ebpf_machine.proofs.Registers.{IsFrame}
 

@@ -31,7 +31,7 @@ use Rattle.ebpf_machine.specs.Effect.{Nothing, Goes, effect, with_value, written
 use Rattle.ebpf_machine.specs.View.{ObjectView, RunView, environment_of_view}
 use Rattle.ebpf_machine.specs.Concretization.{IsOf, AreOf, calls_of}
 use Rattle.ebpf_machine.specs.Sound.{FitsRegister}
-use Rattle.ebpf_machine.proofs.Bounded.{number_of-lt}
+use Rattle.ebpf_verify.proofs.Bounded.{number_of-lt}
 use Rattle.ebpf_machine.proofs.Entries.{fall_arrives}
 use Rattle.ebpf_machine.proofs.Operations.{IsFitting}
 use Rattle.ebpf_machine.proofs.Registers.{IsFrame, IsFrame-with, AreOf-with}

@@ -16,7 +16,7 @@ use Rattle.ebpf_machine.specs.declared.value.Base.TheVariants.{Stack, Context, O
 use Rattle.ebpf_machine.specs.Values.{Trap, PointerMisuse}
 use Rattle.ebpf_machine.specs.Concretization.{IsOf}
 use Rattle.ebpf_machine.specs.Sound.{FitsValue}
-use Rattle.ebpf_machine.proofs.Pointers.{near_end, near_fits, between_near}
+use Rattle.ebpf_verify.proofs.Pointers.{near_end, near_fits, between_near}
 
 -- the first test of a list fails where no code is given
 pub none_first : {C : Type 0} (t : Bool) (c : C) (rest : Option C) → cond t (Some c) rest ≡ None → (t ≡ false) × (rest ≡ None)

@@ -16,7 +16,7 @@ use Rattle.ebpf_machine.specs.View.{ObjectView}
 use Rattle.ebpf_machine.specs.Concretization.{calls_of}
 use Rattle.ebpf_machine.proofs.ListLemmas.{Contains-head, Contains-tail}
 use Rattle.ebpf_machine.proofs.Mapped.{Contains-mapped}
-use Rattle.ebpf_machine.proofs.Ascents.{all_above}
+use Rattle.ebpf_verify.proofs.Ascents.{all_above}
 
 -- the kind of the first reference of a call
 abbrev pub kind_among : ℕ → List Held → Option ℕ

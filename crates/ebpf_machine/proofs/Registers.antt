@@ -18,7 +18,7 @@ use Rattle.ebpf_machine.specs.Effect.{with_value, unset, without_arguments}
 use Rattle.ebpf_machine.specs.View.{ObjectView}
 use Rattle.ebpf_machine.specs.Concretization.{IsOf, AreOf, calls_of}
 use Rattle.ebpf_machine.specs.Sound.{FitsValue, FitsRegister, FitsFrame}
-use Rattle.ebpf_machine.proofs.Bounded.{number_of-lt}
+use Rattle.ebpf_verify.proofs.Bounded.{number_of-lt}
 
 -- a frame has all registers and its whole stack, and what they hold fits
 pub record IsFrame (frame : Frame ℕ) : Type 0 where

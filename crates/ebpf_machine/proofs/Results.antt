@@ -23,7 +23,7 @@ use Rattle.ebpf_machine.specs.declared.value.Value.TheVariants.{Number}
 use Rattle.ebpf_machine.specs.Effect.{unary, copied, binary, alu_value}
 use Rattle.ebpf_machine.specs.Concretization.{IsOf}
 use Rattle.ebpf_machine.specs.Sound.{FitsValue, FitsRegister}
-use Rattle.ebpf_machine.proofs.Bounded.{IsBoundedValue}
+use Rattle.ebpf_verify.proofs.Bounded.{IsBoundedValue}
 use Rattle.ebpf_machine.proofs.Operations.{none_first, neither, set_value, number_value, IsFitting}
 use Rattle.ebpf_machine.proofs.Additions.{numbers_fit, sum_sound, difference_sound}
 

@@ -42,8 +42,8 @@ use Rattle.ebpf_machine.specs.View.{ObjectView, RunView, environment_of_view}
 use Rattle.ebpf_machine.specs.Concretization.{IsOf, AreOf, AreReferred, Arrives, calls_of}
 use Rattle.ebpf_machine.specs.Sound.{AreSized, IsSound}
 use Rattle.ebpf_machine.proofs.Joins.{IsWhole}
-use Rattle.ebpf_machine.proofs.Bounded.{register_bounded}
-use Rattle.ebpf_machine.proofs.RulesBounded.{operand_bounded}
+use Rattle.ebpf_verify.proofs.Bounded.{register_bounded}
+use Rattle.ebpf_verify.proofs.RulesBounded.{operand_bounded}
 use Rattle.ebpf_machine.proofs.Entries.{fall_arrives, jump_arrives}
 use Rattle.ebpf_machine.proofs.Operations.{none_first, neither, number_value}
 use Rattle.ebpf_machine.proofs.Words.{first_cells}
@@ -54,7 +54,7 @@ use Rattle.ebpf_machine.proofs.LoadsSound.{load_next}
 use Rattle.ebpf_machine.proofs.StoresSound.{store_next}
 use Rattle.ebpf_machine.proofs.CallsSound.{call_next}
 use Rattle.ebpf_machine.proofs.Results.{IsRow, unary_sound, alu_sound, extension_row, negation_row, swap_row}
-use Rattle.ebpf_machine.proofs.Leading.{jump_leads}
+use Rattle.ebpf_verify.proofs.Leading.{jump_leads}
 use Rattle.ebpf_machine.proofs.Comparisons.{comparison_sound, refined_state, null_test_sound, settled_state}
 
 -- ---- arithmetic

@@ -1,5 +1,4 @@
 pub mod Wraps
-pub mod SumLemmas
 pub mod OperationLemmas
 pub mod RowLemmas
 pub mod ResultLemmas

@@ -14,13 +14,15 @@ use Rattle.ebpf_insn.specs.Arithmetic.{modulus, kept_at, factor_at, operation, r
 use Rattle.ebpf_insn.specs.declared.insn.Order.{Order}
 use Rattle.ebpf_insn.specs.declared.insn.Order.TheVariants.{Little, Big, Flip}
 use Rattle.ebpf_range.specs.declared.range.Range.{Range}
-use Rattle.ebpf_range.specs.Interval.{IsWithin, constant, all_below, low, sum_of}
-use Rattle.ebpf_range.specs.Results.{span, up, is_constant, difference_of, product_of, quotient_of, remainder_of, left_shift_of, right_shift_of, signed_shift_of, row, low_at, row_or_constant, result_range, extension_range, swap_range, negation_range}
-use Rattle.ebpf_range.proofs.SumLemmas.{low-sound}
+use Rattle.ebpf_range.specs.Interval.{IsWithin, constant, all_below, low}
+use Rattle.ebpf_range.specs.Results.{span, up, is_constant, sum_of, difference_of, product_of, quotient_of, remainder_of, left_shift_of, right_shift_of, signed_shift_of, row, low_at, row_or_constant, result_range, extension_range, swap_range, negation_range}
 use Rattle.ebpf_range.proofs.OperationLemmas.{some_numbers, result-below}
 use Rattle.ebpf_range.proofs.RowLemmas.{within_all, small, up-least, row-sound}
 
 -- ---- operands
+
+low-sound : (a : Range) (n : ℕ) → IsWithin n a → IsWithin (n % 2 ^ 32) (low a)
+low-sound a n h = (grind (arith, nat_tests), grind (arith, nat_tests))
 
 pub low_at-sound : (w : Width) (a : Range) (n : ℕ) → a.hi < 2 ^ 64 → IsWithin n a → IsWithin (kept_at w n) (low_at w a)
 low_at-sound W32 a n f h = low-sound a n h

@@ -11,28 +11,41 @@ use Rattle.ebpf_insn.specs.declared.insn.AluOp.TheVariants as op
 use Rattle.ebpf_insn.specs.Arithmetic.{modulus, bits_of, factor_at, unsigned_at, operation}
 use Rattle.ebpf_range.specs.declared.range.Range.{Range}
 use Rattle.ebpf_range.specs.Interval.{IsWithin, constant, all_below}
-use Rattle.ebpf_range.specs.Results.{span, up, is_constant, difference_of, product_of, quotient_of, remainder_of, left_shift_of, right_shift_of, signed_shift_of, row}
+use Rattle.ebpf_range.specs.Results.{span, up, is_constant, sum_of, difference_of, product_of, quotient_of, remainder_of, left_shift_of, right_shift_of, signed_shift_of, row}
 use Rattle.ebpf_range.proofs.Wraps.{mod-wraps}
-use Rattle.ebpf_range.proofs.SumLemmas.{sum_of-sound}
 use Rattle.ebpf_range.proofs.OperationLemmas.{some_numbers, operation-below, signed_at-low, unsigned_at-pos}
 
 pub within_all : (m n : ℕ) → n < m → IsWithin n (all_below m)
 within_all m n h = (omega arith, omega arith)
 
--- ---- differences
+-- ---- sums and differences
 
-none_wraps : (m x y al ah bl bh : ℕ) → bh ≤ al → al ≤ x → x ≤ ah → bl ≤ y → y ≤ bh → x < m → y < m → (al - bh ≤ (x + (m - y)) % m) × ((x + (m - y)) % m ≤ ah - bl)
-none_wraps m x y al ah bl bh apart l h l' h' lx ly = let wraps = mod-wraps (x + (m - y)) m (omega arith) (omega arith) in (omega (arith, wraps), omega (arith, wraps))
+none_wraps : (m x y lo hi : ℕ) → hi < m → lo ≤ x + y → x + y ≤ hi → (lo ≤ (x + y) % m) × ((x + y) % m ≤ hi)
+none_wraps m x y lo hi below l h = let small : x + y < m = omega arith in let same = mod-eq_of_lt small in (omega (arith, same), omega (arith, same))
 
-all_wrap : (m x y al ah bl bh : ℕ) → ah < bl → al ≤ x → x ≤ ah → bl ≤ y → y ≤ bh → y < m → (al + m - bh ≤ (x + (m - y)) % m) × ((x + (m - y)) % m ≤ ah + m - bl)
-all_wrap m x y al ah bl bh apart l h l' h' ly = let small : x + (m - y) < m = omega arith in let same = mod-eq_of_lt small in (omega (arith, same), omega (arith, same))
+all_wrap : (m x y lo hi : ℕ) → m ≤ lo → x < m → y < m → lo ≤ x + y → x + y ≤ hi → (lo - m ≤ (x + y) % m) × ((x + y) % m ≤ hi - m)
+all_wrap m x y lo hi above lx ly l h = let wraps = mod-wraps (x + y) m (omega arith) (omega arith) in (omega (arith, wraps), omega (arith, wraps))
+
+sum-sound : (m : ℕ) (a b : Range) (x y : ℕ) → 0 < m → x < m → y < m → IsWithin x a → IsWithin y b → IsWithin ((x + y) % m) (sum_of m a b)
+sum-sound m a b x y some lx ly h k =
+    cond_both (nat_lt (a.hi + b.hi) m) (span (a.lo + b.lo) (a.hi + b.hi)) (cond (nat_le m (a.lo + b.lo)) (span (a.lo + b.lo - m) (a.hi + b.hi - m)) (all_below m)) (IsWithin ((x + y) % m))
+    (λ e. none_wraps m x y (a.lo + b.lo) (a.hi + b.hi) (ltb-true (a.hi + b.hi) m e) (omega arith) (omega arith))
+    (λ e. cond_both (nat_le m (a.lo + b.lo)) (span (a.lo + b.lo - m) (a.hi + b.hi - m)) (all_below m) (IsWithin ((x + y) % m))
+    (λ f. all_wrap m x y (a.lo + b.lo) (a.hi + b.hi) (leb-true m (a.lo + b.lo) f) lx ly (omega arith) (omega arith))
+    (λ f. within_all m ((x + y) % m) (mod-lt (x + y) some)))
+
+no_difference_wraps : (m x y al ah bl bh : ℕ) → bh ≤ al → al ≤ x → x ≤ ah → bl ≤ y → y ≤ bh → x < m → y < m → (al - bh ≤ (x + (m - y)) % m) × ((x + (m - y)) % m ≤ ah - bl)
+no_difference_wraps m x y al ah bl bh apart l h l' h' lx ly = let wraps = mod-wraps (x + (m - y)) m (omega arith) (omega arith) in (omega (arith, wraps), omega (arith, wraps))
+
+each_difference_wraps : (m x y al ah bl bh : ℕ) → ah < bl → al ≤ x → x ≤ ah → bl ≤ y → y ≤ bh → y < m → (al + m - bh ≤ (x + (m - y)) % m) × ((x + (m - y)) % m ≤ ah + m - bl)
+each_difference_wraps m x y al ah bl bh apart l h l' h' ly = let small : x + (m - y) < m = omega arith in let same = mod-eq_of_lt small in (omega (arith, same), omega (arith, same))
 
 difference-sound : (m : ℕ) (a b : Range) (x y : ℕ) → 0 < m → x < m → y < m → IsWithin x a → IsWithin y b → IsWithin ((x + (m - y)) % m) (difference_of m a b)
 difference-sound m a b x y some lx ly h k =
     cond_both (nat_le b.hi a.lo) (span (a.lo - b.hi) (a.hi - b.lo)) (cond (nat_lt a.hi b.lo) (span (a.lo + m - b.hi) (a.hi + m - b.lo)) (all_below m)) (IsWithin ((x + (m - y)) % m))
-    (λ e. none_wraps m x y a.lo a.hi b.lo b.hi (leb-true b.hi a.lo e) h.0 h.1 k.0 k.1 lx ly)
+    (λ e. no_difference_wraps m x y a.lo a.hi b.lo b.hi (leb-true b.hi a.lo e) h.0 h.1 k.0 k.1 lx ly)
     (λ e. cond_both (nat_lt a.hi b.lo) (span (a.lo + m - b.hi) (a.hi + m - b.lo)) (all_below m) (IsWithin ((x + (m - y)) % m))
-    (λ f. all_wrap m x y a.lo a.hi b.lo b.hi (ltb-true a.hi b.lo f) h.0 h.1 k.0 k.1 ly)
+    (λ f. each_difference_wraps m x y a.lo a.hi b.lo b.hi (ltb-true a.hi b.lo f) h.0 h.1 k.0 k.1 ly)
     (λ f. within_all m ((x + (m - y)) % m) (mod-lt (x + (m - y)) some)))
 
 -- ---- products and quotients
@@ -154,7 +167,7 @@ small W32 n h = omega arith
 small W64 n h = h
 
 pub row-sound : (o : AluOp) (w : Width) (a b : Range) (x y : ℕ) → a.hi < modulus w → b.hi < modulus w → IsWithin x a → IsWithin y b → IsWithin (operation o w x y) (row o w a b)
-row-sound op.Add w a b x y p q h k = sum_of-sound (modulus w) a b x y (some_numbers w) (omega arith) (omega arith) h k
+row-sound op.Add w a b x y p q h k = sum-sound (modulus w) a b x y (some_numbers w) (omega arith) (omega arith) h k
 row-sound op.Sub w a b x y p q h k = difference-sound (modulus w) a b x y (some_numbers w) (omega arith) (omega arith) h k
 row-sound op.Mul w a b x y p q h k = product-sound (modulus w) a b x y (some_numbers w) h k
 row-sound op.Div w a b x y p q h k = quotient-sound w a b x y h k

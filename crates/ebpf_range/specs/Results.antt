@@ -8,7 +8,7 @@ use Rattle.ebpf_insn.specs.declared.insn.AluOp.TheVariants as op
 use Rattle.ebpf_insn.specs.declared.insn.Order.{Order}
 use Rattle.ebpf_insn.specs.Arithmetic.{modulus, factor_at, result_at, extension_at, negation_at, swapped_bits, swap_of}
 use Rattle.ebpf_range.specs.declared.range.Range.{Range}
-use Rattle.ebpf_range.specs.Interval.{constant, all_below, low, sum_of}
+use Rattle.ebpf_range.specs.Interval.{constant, all_below, low}
 
 abbrev pub is_constant : Range → Bool
 is_constant a = a.lo == a.hi
@@ -21,6 +21,13 @@ abbrev pub up : Range → Range → ℕ
 up a b = 2 ^ (64 - leading_zeros w64 (max a.hi b.hi)) - 1
 
 -- ---- rows with more than one case, on ranges of numbers below m
+
+-- no sum wraps, each one wraps, or else all numbers below m
+abbrev pub sum_of : ℕ → Range → Range → Range
+sum_of m a b =
+    if nat_lt (a.hi + b.hi) m then span (a.lo + b.lo) (a.hi + b.hi) else (
+    if nat_le m (a.lo + b.lo) then span (a.lo + b.lo - m) (a.hi + b.hi - m) else
+    all_below m)
 
 -- no difference wraps, each one wraps, or else all numbers below m
 abbrev pub difference_of : ℕ → Range → Range → Range

@@ -3,8 +3,8 @@
 //! Each function is the table's entry exactly, and its result holds every number that the operation can give on
 //! numbers of its operands' ranges, or every pair of numbers for which a branch goes that way. None of them allocates.
 //!
-//! To be read in this order: `range`, `arithmetic` (what operations give on numbers), `sums`, `rows` (the rows of the
-//! table of results), `results`, `branches`.
+//! To be read in this order: `range`, `arithmetic` (what operations give on numbers), `rows` (the rows of the table of
+//! results), `results`, `branches`.
 #![tactic(auto)]
 
 pub mod arithmetic;
@@ -12,4 +12,3 @@ pub mod branches;
 pub mod range;
 pub mod results;
 mod rows;
-pub mod sums;

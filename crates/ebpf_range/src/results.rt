@@ -1,16 +1,16 @@
 //! Ranges of results (RFC 9669, sections 4.1 and 4.2).
 
-ghost use Rattle.std.specs.Prelude.{◌≡◌, ◌≤◌, ◌<◌, ◌^◌, ℕ};
+ghost use Rattle.std.specs.Prelude.{◌≡◌, ◌≤◌, ◌<◌, ◌%◌, ◌^◌, ℕ};
 ghost use Rattle.ebpf_insn.specs.Arithmetic.{modulus, result_at, extension_at, negation_at, swapped_bits, swap_of};
-ghost use Rattle.ebpf_range.specs.Interval.{IsWithin};
+ghost use Rattle.ebpf_range.specs.Interval.{low, IsWithin};
 ghost use Rattle.ebpf_range.specs.Results.{low_at, row, row_or_constant, result_range, extension_or_any, extension_range, negation_or_any, negation_range, swap_range};
 
-use crate::arithmetic::{compute, extend, modulus, negate, reorder};
+use crate::arithmetic::{compute, extend, negate, reorder};
 use crate::range::Range;
 use crate::rows::{
-    all_at, difference, left_shift, product, quotient, remainder, right_shift, signed_shift, up,
+    all_at, difference, left_shift, product, quotient, remainder, right_shift, signed_shift, sum,
+    up,
 };
-use crate::sums::{low, sum_below};
 use ebpf_insn::insn::{AluOp, Order, Width};
 
 /// What is known of the result of an operation: its row of the table of results.
@@ -23,6 +23,30 @@ pub fn alu(op: AluOp, width: Width, a: Range, b: Range) -> Range
     ensures holds { (x y : ℕ) → IsWithin x a → IsWithin y b → IsWithin (result_at op width x y) result }
 {
     row_or_constant(op, width, low_at(width, a), low_at(width, b))
+}
+
+/// What is known of the low 32 bits of a number of the range, which is what the table says of `mov` at 32 bits.
+pub fn low(a: Range) -> Range
+    requires { a.lo ≤ a.hi }
+    ensures value { result ≡ low a }
+    ensures table { result ≡ result_range AluOp.Mov Width.W32 a a }
+    ensures ordered { result.lo ≤ result.hi }
+    ensures half { result.hi < 2 ^ 32 }
+    ensures holds { (n : ℕ) → IsWithin n a → IsWithin (n % 2 ^ 32) result }
+{
+    if a.hi < 1 << 32 {
+        a
+    } else if a.lo / (1 << 32) == a.hi / (1 << 32) {
+        Range {
+            lo: a.lo % (1 << 32),
+            hi: a.hi % (1 << 32),
+        }
+    } else {
+        Range {
+            lo: 0,
+            hi: (1 << 32) - 1,
+        }
+    }
 }
 
 // What an operation of a width reads of its operand.
@@ -62,7 +86,7 @@ fn row(op: AluOp, width: Width, a: Range, b: Range) -> Range
     ensures { result ≡ row op width a b }
 {
     match op {
-        AluOp::Add => sum_below(modulus(width), a, b),
+        AluOp::Add => sum(width, a, b),
         AluOp::Sub => difference(width, a, b),
         AluOp::Mul => product(width, a, b),
         AluOp::Div => quotient(a, b),

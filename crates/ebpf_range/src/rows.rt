@@ -3,7 +3,7 @@
 ghost use Rattle.std.specs.Prelude.{◌≡◌, ◌≤◌, ◌<◌, ◌+◌, ◌^◌, ℕ};
 ghost use Rattle.ebpf_insn.specs.Arithmetic.{modulus, factor_at};
 ghost use Rattle.ebpf_range.specs.Interval.{all_below};
-ghost use Rattle.ebpf_range.specs.Results.{up, difference_of, product_of, quotient_of, remainder_of, left_shift_of, right_shift_of, signed_shift_of};
+ghost use Rattle.ebpf_range.specs.Results.{up, sum_of, difference_of, product_of, quotient_of, remainder_of, left_shift_of, right_shift_of, signed_shift_of};
 
 use crate::arithmetic::{modulus, power_of_two};
 use crate::range::Range;
@@ -16,6 +16,32 @@ pub(crate) fn all_at(width: Width) -> Range
     Range {
         lo: 0,
         hi: (modulus(width) - 1) as u64,
+    }
+}
+
+// The sum, which wraps.
+pub(crate) fn sum(width: Width, a: Range, b: Range) -> Range
+    requires left { a.lo ≤ a.hi }
+    requires right { b.lo ≤ b.hi }
+    requires left_below { a.hi < modulus width }
+    requires right_below { b.hi < modulus width }
+    ensures { result ≡ sum_of (modulus width) a b }
+{
+    let modulus = modulus(width);
+    let lo = a.lo as u128 + b.lo as u128;
+    let hi = a.hi as u128 + b.hi as u128;
+    if hi < modulus {
+        Range {
+            lo: lo as u64,
+            hi: hi as u64,
+        }
+    } else if modulus <= lo {
+        Range {
+            lo: (lo - modulus) as u64,
+            hi: (hi - modulus) as u64,
+        }
+    } else {
+        all_at(width)
     }
 }
 

@@ -7,8 +7,7 @@ use crate::programs::{column, holds};
 use ebpf_insn::insn::{AluOp, Cond, Order, Width};
 use ebpf_range::branches::refine;
 use ebpf_range::range::{Range, hull};
-use ebpf_range::results::{alu, neg, sext, swap};
-use ebpf_range::sums::{add, low};
+use ebpf_range::results::{alu, low, neg, sext, swap};
 use std::process::Abort;
 use std::test::*;
 
@@ -435,6 +434,4 @@ fn each_function_has_a_plain_use(rt: HostRuntime) {
     is(&rt, "hull", hull(range(1, 2), range(5, 6)), 1, 6);
     let half = low(range(5, (1 << 32) + 5));
     is(&rt, "low", half, 0, (1 << 32) - 1);
-    let sum = add(Width::W64, range(1, 2), range(3, 4));
-    is(&rt, "add", sum, 4, 6);
 }

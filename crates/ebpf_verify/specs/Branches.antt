@@ -72,7 +72,8 @@ is_null_where _ taken = not taken
 
 abbrev pub after_comparison : Option ℕ → Cond → Width → Reg → Source → Bool → StateView → Option StateView
 after_comparison (Some call) condition width left right taken s = Some (settled call (is_null_where condition taken) s)
-after_comparison None condition width left right taken s = with_operands left right (refined_values condition width (register_of s left) (operand s width right) taken) s
+after_comparison None condition width left right taken s =
+    with_operands left right (refined_values condition width (register_of s left) (operand s width right) taken) s
 
 -- what is known after a branch that is taken, or is not; nothing where it never goes that way
 abbrev pub after_branch : Cond → Width → Reg → Source → Bool → StateView → Option StateView

@@ -1,5 +1,5 @@
 -- What comes to each slot: the join of what the lower slots send to it.
-use Rattle.std.specs.Prelude.{ℕ, zero, suc, List, Bool, if◌then◌else◌, ◌==◌, Option, Some, None}
+use Rattle.std.specs.Prelude.{◌≡◌, ◌<◌, ℕ, zero, suc, List, length, slice_index_or, Bool, true, false, if◌then◌else◌, ◌==◌, Option, Some, None}
 use Rattle.ebpf_insn.specs.declared.insn.Insn.{Insn}
 use Rattle.ebpf_insn.specs.Program.{insn_at}
 use Rattle.ebpf_flow.specs.declared.edges.Edges.{Edges}
@@ -30,11 +30,36 @@ abbrev pub with_sent : Option Insn → Edges → ℕ → ℕ → EntryState → 
 with_sent (Some i) e from to (Known s) old = with_edge (after_fall from i s) (leads_to e.fall to) (with_edge (after_jump i s) (leads_to e.jump to) old)
 with_sent _ e from to _ old = old
 
--- what the slots below m send to a slot, in ascending order; the first state comes to slot 0
+-- at first the first state comes to slot 0, and nothing to the others
+abbrev pub first_entry : ℕ → EntryState
+first_entry to = if to == 0 then Known first_state else Unreached
+
+-- what the slots below m send to a slot, in ascending order
 unfoldable pub arrived : List (Option Insn) → ℕ → ℕ → EntryState
-arrived p zero to = if to == 0 then Known first_state else Unreached
+arrived p zero to = first_entry to
 arrived p (suc m) to = with_sent (insn_at p m) (edges_at p m) m to (arrived p m m) (arrived p m to)
 
 -- the entry of a slot: only lower slots send to it
 abbrev pub entry_of : List (Option Insn) → ℕ → EntryState
 entry_of p slot = arrived p slot slot
+
+-- ---- the entries of all slots, as a list
+
+abbrev pub entry_in : List EntryState → ℕ → EntryState
+entry_in entries slot = slice_index_or entries slot Unreached
+
+-- what comes to each slot has changed so
+abbrev pub ChangesEach : List EntryState → List EntryState → (ℕ → EntryState → EntryState) → Type 0
+ChangesEach old new change = (t : ℕ) → t < length old → entry_in new t ≡ change t (entry_in old t)
+
+-- this was sent along an edge
+abbrev pub Sends : List EntryState → List EntryState → Option ℕ → Option StateView → Type 0
+Sends old new edge state = ChangesEach old new (λ t. with_edge state (leads_to edge t))
+
+-- this was sent along both edges of a branch, where it is taken and where it is not
+abbrev pub SendsBoth : List EntryState → List EntryState → Edges → (Bool → Option StateView) → Type 0
+SendsBoth old new e state = ChangesEach old new (λ t came. with_edge (state false) (leads_to e.fall t) (with_edge (state true) (leads_to e.jump t) came))
+
+-- what comes to a slot once a lower one was visited
+abbrev pub after_visit : List (Option Insn) → ℕ → List EntryState → ℕ → EntryState
+after_visit p slot entries t = with_sent (insn_at p slot) (edges_at p slot) slot t (entry_in entries slot) (entry_in entries t)

@@ -52,27 +52,27 @@ abbrev pub makes_stack_offset_vary : Abs → Abs → Bool
 makes_stack_offset_vary (Stk k) (Num a) = not (a.lo == a.hi)
 makes_stack_offset_vary _ _ = false
 
--- add at 64 bits: two numbers are added, or a pointer is moved by a number
-abbrev pub add64_refusal : Abs → Abs → Reg → Option VerifyCode
-add64_refusal left right dst = first_of (
+-- add and sub at 64 bits, of two values whose result is this
+abbrev pub moving_refusal : Abs → Abs → Reg → Bool → Bool → Option Abs → Option VerifyCode
+moving_refusal left right dst moves_by_pointer moves_stack_by_unknown value = first_of (
     (is_unset left || is_unset right, V1) ∷
     (is_frame_pointer dst, V2) ∷
     (is_may left || is_may right, V11) ∷
-    (is_pointer left && is_pointer right, V3) ∷
-    (makes_stack_offset_vary left right || makes_stack_offset_vary right left, V3) ∷
-    (is_none (sum_value left right), V4) ∷
+    (moves_by_pointer, V3) ∷
+    (moves_stack_by_unknown, V3) ∷
+    (is_none value, V4) ∷
     [])
 
--- sub at 64 bits: a number is taken from a number, or a pointer is moved back by a number
+-- two numbers are added, or a pointer is moved by a number
+abbrev pub add64_refusal : Abs → Abs → Reg → Option VerifyCode
+add64_refusal left right dst =
+    let unknown = makes_stack_offset_vary left right || makes_stack_offset_vary right left in
+    moving_refusal left right dst (is_pointer left && is_pointer right) unknown (sum_value left right)
+
+-- a number is taken from a number, or a pointer is moved back by a number
 abbrev pub sub64_refusal : Abs → Abs → Reg → Option VerifyCode
-sub64_refusal left right dst = first_of (
-    (is_unset left || is_unset right, V1) ∷
-    (is_frame_pointer dst, V2) ∷
-    (is_may left || is_may right, V11) ∷
-    (is_pointer right, V3) ∷
-    (makes_stack_offset_vary left right, V3) ∷
-    (is_none (difference_value left right), V4) ∷
-    [])
+sub64_refusal left right dst =
+    moving_refusal left right dst (is_pointer right) (makes_stack_offset_vary left right) (difference_value left right)
 
 abbrev pub alu_refusal : Width → AluOp → Abs → Abs → Reg → Option VerifyCode
 alu_refusal W64 op.Mov left right dst = mov64_refusal right dst

@@ -1,9 +1,14 @@
 -- The rule of each instruction: the codes that refuse it, in order, and the states that it sends on. That the rules are sound for
 -- the machine is ebpf_machine/proofs/Soundness.
-use Rattle.std.specs.Prelude.{ℕ, List, [], ◌∷◌, true, false, ◌||◌, nat_lt, Option, Some, None, length}
+use Rattle.std.specs.Prelude.{ℕ, ℤ, List, [], ◌∷◌, true, false, ◌||◌, nat_lt, Option, Some, None, length}
+use Rattle.ebpf_insn.specs.declared.register.Reg.{Reg}
 use Rattle.ebpf_insn.specs.declared.register.Reg.TheVariants.{R0}
 use Rattle.ebpf_insn.specs.declared.insn.Insn.{Insn}
 use Rattle.ebpf_insn.specs.declared.insn.Insn.TheVariants as insn
+use Rattle.ebpf_insn.specs.declared.insn.Cond.{Cond}
+use Rattle.ebpf_insn.specs.declared.insn.Size.{Size}
+use Rattle.ebpf_insn.specs.declared.insn.Source.{Source}
+use Rattle.ebpf_insn.specs.declared.insn.Width.{Width}
 use Rattle.ebpf_insn.specs.declared.insn.Width.TheVariants.{W64}
 use Rattle.ebpf_insn.specs.Faults.{first_of}
 use Rattle.ebpf_range.specs.Interval.{constant}
@@ -30,6 +35,18 @@ exit_refusal result held = first_of (
     (is_pointer result || is_may result, V18) ∷
     [])
 
+-- what refuses a branch, and a store, from what is known of their operands
+abbrev pub refusal_of_branch : Cond → Width → Reg → Source → StateView → Option VerifyCode
+refusal_of_branch condition width left right s =
+    branch_refusal (null_test width condition (register_of s left) right) (register_of s left) (operand s width right)
+
+abbrev pub refusal_of_store : List KindRow → Size → Reg → ℤ → Source → StateView → Option VerifyCode
+refusal_of_store rows size base offset src s = store_refusal rows size offset (register_of s base) (operand s W64 src) s
+
+-- what is known after a store
+abbrev pub state_after_store : Size → Reg → ℤ → Source → StateView → Option StateView
+state_after_store size base offset src s = after_store size offset (register_of s base) (operand s W64 src) s
+
 -- the first code that refuses an instruction of a program that declares this, where there are these kinds and this is known before
 -- it
 abbrev pub refusal : Decl → List KindRow → Insn → StateView → Option VerifyCode
@@ -40,10 +57,10 @@ refusal decl rows (insn.Swap order bits dst) s = unary_refusal (register_of s ds
 refusal decl rows (insn.Wide dst value) s = constant_refusal dst
 refusal decl rows (insn.Jump offset) s = None
 refusal decl rows (insn.JumpFar offset) s = None
-refusal decl rows (insn.Branch width condition left right offset) s = branch_refusal (null_test width condition (register_of s left) right) (register_of s left) (operand s width right)
+refusal decl rows (insn.Branch width condition left right offset) s = refusal_of_branch condition width left right s
 refusal decl rows insn.Exit s = exit_refusal (register_of s R0) (length s.held)
 refusal decl rows (insn.Load size signed dst base offset) s = load_refusal decl.context rows size signed dst offset (register_of s base) s
-refusal decl rows (insn.Store size base offset src) s = store_refusal rows size offset (register_of s base) (operand s W64 src) s
+refusal decl rows (insn.Store size base offset src) s = refusal_of_store rows size base offset src s
 refusal decl rows (insn.Call number) s = call_refusal decl rows (helper_of number) s
 
 -- what is known after arithmetic, or a load, that is not refused
@@ -59,7 +76,7 @@ after_operation _ s = None
 -- what is known after the instruction at a slot, where it is not refused, on the edge to the slot after it
 abbrev pub after_fall : ℕ → Insn → StateView → Option StateView
 after_fall slot (insn.Branch width condition left right offset) s = after_branch condition width left right false s
-after_fall slot (insn.Store size base offset src) s = after_store size offset (register_of s base) (operand s W64 src) s
+after_fall slot (insn.Store size base offset src) s = state_after_store size base offset src s
 after_fall slot (insn.Call number) s = after_call slot (helper_of number) s
 after_fall slot i s = after_operation i s
 

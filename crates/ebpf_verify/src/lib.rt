@@ -4,7 +4,8 @@
 //! run that comes there. It refuses the lowest slot whose rule refuses what is known there; where it refuses none, it
 //! makes a [`verified::Verified`], and no run of that program traps.
 //!
-//! To be read in this order: `fault`, `decl`, `pointer`, `operations`, `branches`, `memory`, `helper`, `calls`, `rules`, `entry`, `propagate`, `verify`, `verified`.
+//! To be read in this order: `fault`, `decl`, `pointer`, `operations`, `branches`, `memory`, `helper`, `calls`, `rules`, `entry`,
+//! `propagate`, `verify`, `verified`.
 #![tactic(auto)]
 
 mod branches;

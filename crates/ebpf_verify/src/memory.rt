@@ -3,7 +3,8 @@
 ghost use Rattle.std.specs.Prelude.{◌≡◌, ◌^◌, ◌+ℤ◌, ◌≤ℤ◌, if◌then◌else◌, pos, negsuc, IfOk, IfErr, IfSome, OnOk, Some, None, Ok, Err};
 ghost use Rattle.ebpf_state.specs.Abstract.{IsProper};
 ghost use Rattle.ebpf_state.specs.Stack.{bytes_in, place_of, loaded, loaded_range};
-ghost use Rattle.ebpf_verify.specs.Memory.{is_number, stack_code, refused_access, is_in_bounds, size_held, load_refusal, loaded_value, reading_refusal, store_refusal, after_store, IsAccessFault};
+ghost use Rattle.ebpf_verify.specs.Memory.{is_number, stack_code, refused_access, is_in_bounds, size_held};
+ghost use Rattle.ebpf_verify.specs.Memory.{load_refusal, loaded_value, reading_refusal, store_refusal, after_store, IsAccessFault};
 
 use crate::fault::VerifyCode;
 use crate::operations::is_frame_pointer;
@@ -108,7 +109,8 @@ fn read(
 
 // What is known of bytes of the context or of an object of this length; `None` where one of them may be outside.
 fn read_bytes(load: Load, len: u32, low: i64, high: i64) -> Option<Abs>
-    ensures value { result ≡ (if is_in_bounds len low high load.offset (bytes_in load.size) then Some (Abs.Num (loaded_range (bytes_in load.size) load.signed)) else None) }
+    ensures value { let bytes = bytes_in load.size in
+        result ≡ (if is_in_bounds len low high load.offset bytes then Some (Abs.Num (loaded_range bytes load.signed)) else None) }
     ensures proper { IfSome result IsProper }
 {
     let bytes = bytes_in(load.size);
@@ -226,7 +228,8 @@ pub(crate) fn store_value(
     state: &mut State,
 ) -> Result<(), AccessFault>
     requires { IsProper value }
-    ensures done { OnOk result ((store_refusal rows.now store.size store.offset base value state.old ≡ None) × (after_store store.size store.offset base value state.old ≡ Some state.new)) }
+    ensures fine { OnOk result (store_refusal rows.now store.size store.offset base value state.old ≡ None) }
+    ensures known { OnOk result (after_store store.size store.offset base value state.old ≡ Some state.new) }
     ensures refused { IfErr result (IsAccessFault (store_refusal rows.now store.size store.offset base value state.old)) }
 {
     if base.is_unset() || value.is_unset() {

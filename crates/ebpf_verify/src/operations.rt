@@ -1,11 +1,13 @@
 //! The rules of arithmetic: what refuses an operation, or else what is known of its result (RFC 9669, sections 4.1 and 4.2).
 
-ghost use Rattle.std.specs.Prelude.{◌≡◌, ◌≤◌, OnOk, IfOk, IfErr, Some, None, unwrap_or};
+ghost use Rattle.std.specs.Prelude.{◌≡◌, ◌≤◌, OnOk, IfOk, IfErr, IfSome, Some, None, unwrap_or};
 ghost use Rattle.ebpf_range.specs.Interval.{constant};
 ghost use Rattle.ebpf_state.specs.declared.value.Abs.{Abs};
 ghost use Rattle.ebpf_state.specs.Abstract.{IsProper};
 ghost use Rattle.ebpf_state.specs.States.{register_of};
-ghost use Rattle.ebpf_verify.specs.Operations.{is_frame_pointer, constant_refusal, mov64_refusal, unary_refusal, binary_refusal, makes_stack_offset_vary, add64_refusal, sub64_refusal, alu_refusal, binary_value, result_of};
+ghost use Rattle.ebpf_verify.specs.Operations.{is_frame_pointer, constant_refusal, mov64_refusal, unary_refusal, binary_refusal};
+ghost use Rattle.ebpf_verify.specs.Operations.{makes_stack_offset_vary, moving_refusal, add64_refusal, sub64_refusal, alu_refusal};
+ghost use Rattle.ebpf_verify.specs.Operations.{binary_value, result_of};
 ghost use Rattle.ebpf_verify.specs.Pointers.{sum_value, difference_value};
 
 use crate::fault::VerifyCode;
@@ -13,8 +15,7 @@ use crate::pointer::{difference_value, sum_value};
 use ebpf_insn::insn::{AluOp, Width};
 use ebpf_insn::register::Reg;
 use ebpf_range::range::Range;
-use ebpf_range::results::alu;
-use ebpf_range::sums::low;
+use ebpf_range::results::{alu, low};
 use ebpf_state::state::State;
 use ebpf_state::value::Abs;
 
@@ -119,31 +120,14 @@ fn add64(left: Abs, right: Abs, dst: Reg) -> Result<Abs, VerifyCode>
         (Abs::Num(a), Abs::Num(b)) if !is_frame_pointer(dst) => {
             Ok(Abs::Num(alu(AluOp::Add, Width::W64, a, b)))
         }
-        _ => add64_any(left, right, dst),
-    }
-}
-
-// The sum of any two values.
-fn add64_any(left: Abs, right: Abs, dst: Reg) -> Result<Abs, VerifyCode>
-    requires left { IsProper left }
-    requires right { IsProper right }
-    ensures fine { OnOk result (add64_refusal left right dst ≡ None) }
-    ensures value { IfOk result (λ value. value ≡ unwrap_or (sum_value left right) Abs.Unset) }
-    ensures proper { IfOk result IsProper }
-    ensures refused { IfErr result (λ code. add64_refusal left right dst ≡ Some code) }
-{
-    if left.is_unset() || right.is_unset() {
-        Err(VerifyCode::V1)
-    } else if is_frame_pointer(dst) {
-        Err(VerifyCode::V2)
-    } else if left.is_may() || right.is_may() {
-        Err(VerifyCode::V11)
-    } else if left.is_pointer() && right.is_pointer() {
-        Err(VerifyCode::V3)
-    } else if makes_stack_offset_vary(left, right) || makes_stack_offset_vary(right, left) {
-        Err(VerifyCode::V3)
-    } else {
-        sum_value(left, right).ok_or(VerifyCode::V4)
+        _ => moving(
+            left,
+            right,
+            dst,
+            left.is_pointer() && right.is_pointer(),
+            makes_stack_offset_vary(left, right) || makes_stack_offset_vary(right, left),
+            sum_value(left, right),
+        ),
     }
 }
 
@@ -160,18 +144,31 @@ fn sub64(left: Abs, right: Abs, dst: Reg) -> Result<Abs, VerifyCode>
         (Abs::Num(a), Abs::Num(b)) if !is_frame_pointer(dst) => {
             Ok(Abs::Num(alu(AluOp::Sub, Width::W64, a, b)))
         }
-        _ => sub64_any(left, right, dst),
+        _ => moving(
+            left,
+            right,
+            dst,
+            right.is_pointer(),
+            makes_stack_offset_vary(left, right),
+            difference_value(left, right),
+        ),
     }
 }
 
-// The difference of any two values.
-fn sub64_any(left: Abs, right: Abs, dst: Reg) -> Result<Abs, VerifyCode>
-    requires left { IsProper left }
-    requires right { IsProper right }
-    ensures fine { OnOk result (sub64_refusal left right dst ≡ None) }
-    ensures value { IfOk result (λ value. value ≡ unwrap_or (difference_value left right) Abs.Unset) }
+// The sum or the difference of any two values, or the first code that refuses it.
+fn moving(
+    left: Abs,
+    right: Abs,
+    dst: Reg,
+    moves_by_pointer: bool,
+    moves_stack_by_unknown: bool,
+    value: Option<Abs>,
+) -> Result<Abs, VerifyCode>
+    requires { IfSome value IsProper }
+    ensures fine { OnOk result (moving_refusal left right dst moves_by_pointer moves_stack_by_unknown value ≡ None) }
+    ensures value { IfOk result (λ known. known ≡ unwrap_or value Abs.Unset) }
     ensures proper { IfOk result IsProper }
-    ensures refused { IfErr result (λ code. sub64_refusal left right dst ≡ Some code) }
+    ensures refused { IfErr result (λ code. moving_refusal left right dst moves_by_pointer moves_stack_by_unknown value ≡ Some code) }
 {
     if left.is_unset() || right.is_unset() {
         Err(VerifyCode::V1)
@@ -179,10 +176,10 @@ fn sub64_any(left: Abs, right: Abs, dst: Reg) -> Result<Abs, VerifyCode>
         Err(VerifyCode::V2)
     } else if left.is_may() || right.is_may() {
         Err(VerifyCode::V11)
-    } else if right.is_pointer() || makes_stack_offset_vary(left, right) {
+    } else if moves_by_pointer || moves_stack_by_unknown {
         Err(VerifyCode::V3)
     } else {
-        difference_value(left, right).ok_or(VerifyCode::V4)
+        value.ok_or(VerifyCode::V4)
     }
 }
 

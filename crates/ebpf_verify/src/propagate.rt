@@ -1,19 +1,16 @@
 //! What is known after an instruction, sent along its edges.
 
-ghost use Rattle.std.specs.Prelude.{◌≡◌, ◌<◌, ◌≤◌, true, false, ℕ, IfSome, IfErr, OnOk, IsSome, Option, Some, None, length, slice_index_or};
-ghost use Rattle.ebpf_flow.specs.Edges.{leads_to};
+ghost use Rattle.std.specs.Prelude.{◌≡◌, ◌<◌, ◌≤◌, true, if◌then◌else◌, IfSome, IfErr, OnOk, IsSome, Some, None, length};
 ghost use Rattle.ebpf_insn.specs.declared.program.TheConstants.{MAX_SLOTS};
 ghost use Rattle.ebpf_insn.specs.declared.register.Reg.{Reg};
 ghost use Rattle.ebpf_range.specs.Refinements.{refinement};
-ghost use Rattle.ebpf_state.specs.StateView.{StateView};
 ghost use Rattle.ebpf_state.specs.References.{settled};
 ghost use Rattle.ebpf_state.specs.States.{register_of};
-ghost use Rattle.ebpf_verify.specs.Branches.{operand, null_test, branch_refusal, with_operands, is_null_where, after_branch};
+ghost use Rattle.ebpf_verify.specs.Branches.{with_operands, is_null_where, after_branch};
 ghost use Rattle.ebpf_verify.specs.Calls.{helper_of, call_refusal, after_call};
-ghost use Rattle.ebpf_verify.specs.Memory.{store_refusal, after_store};
-ghost use Rattle.ebpf_verify.specs.Rules.{exit_refusal, refusal, after_operation};
+ghost use Rattle.ebpf_verify.specs.Rules.{exit_refusal, refusal_of_branch, refusal_of_store, state_after_store, refusal, after_operation};
 ghost use Rattle.ebpf_verify.specs.Verdict.{IsSlotFault};
-ghost use Rattle.ebpf_verify.specs.Entry.{with_edge, with_sent};
+ghost use Rattle.ebpf_verify.specs.Entry.{with_sent, ChangesEach, Sends, SendsBoth};
 
 use crate::branches::{Branch, compared, is_null_where, null_test, operand, set_operands};
 use crate::calls::call;
@@ -51,7 +48,7 @@ pub(crate) fn pass_on(
     requires jump { IfSome edges.jump (λ to. to < length entries.old.items) }
     ensures len { length entries.new.items ≡ length entries.old.items }
     ensures fine { OnOk result (refusal decl rows.now insn.now state ≡ None) }
-    ensures sent { OnOk result ((t : ℕ) → t < length entries.old.items → slice_index_or entries.new.items t EntryState.Unreached ≡ with_sent (Some insn.now) edges slot t (EntryState.Known state) (slice_index_or entries.old.items t EntryState.Unreached)) }
+    ensures sent { OnOk result (ChangesEach entries.old.items entries.new.items (λ t. with_sent (Some insn.now) edges slot t (EntryState.Known state))) }
     ensures refused { IfErr result (IsSlotFault slot (refusal decl rows.now insn.now state)) }
 {
     match *insn {
@@ -116,7 +113,7 @@ fn operate_on(
     requires writes { IsSome (after_operation insn.now state) }
     ensures len { length entries.new.items ≡ length entries.old.items }
     ensures fine { OnOk result (refusal decl rows.now insn.now state ≡ None) }
-    ensures sent { OnOk result ((t : ℕ) → t < length entries.old.items → slice_index_or entries.new.items t EntryState.Unreached ≡ with_edge (after_operation insn.now state) (leads_to edges.fall t) (slice_index_or entries.old.items t EntryState.Unreached)) }
+    ensures sent { OnOk result (Sends entries.old.items entries.new.items edges.fall (after_operation insn.now state)) }
     ensures refused { IfErr result (IsSlotFault slot (refusal decl rows.now insn.now state)) }
 {
     match operation(decl, rows, insn, &state) {
@@ -141,9 +138,9 @@ fn store_on(
     requires inside { slot < MAX_SLOTS }
     requires fall { IfSome edges.fall (λ to. to < length entries.old.items) }
     ensures len { length entries.new.items ≡ length entries.old.items }
-    ensures fine { OnOk result (store_refusal rows.now store.size store.offset (register_of state store.base) (operand state Width.W64 store.src) state ≡ None) }
-    ensures sent { OnOk result ((t : ℕ) → t < length entries.old.items → slice_index_or entries.new.items t EntryState.Unreached ≡ with_edge (after_store store.size store.offset (register_of state store.base) (operand state Width.W64 store.src) state) (leads_to edges.fall t) (slice_index_or entries.old.items t EntryState.Unreached)) }
-    ensures refused { IfErr result (IsSlotFault slot (store_refusal rows.now store.size store.offset (register_of state store.base) (operand state Width.W64 store.src) state)) }
+    ensures fine { OnOk result (refusal_of_store rows.now store.size store.base store.offset store.src state ≡ None) }
+    ensures sent { OnOk result (Sends entries.old.items entries.new.items edges.fall (state_after_store store.size store.base store.offset store.src state)) }
+    ensures refused { IfErr result (IsSlotFault slot (refusal_of_store rows.now store.size store.base store.offset store.src state)) }
 {
     let base = state.reg(store.base);
     let value = operand(&state, Width::W64, store.src);
@@ -173,7 +170,7 @@ fn call_on(
     requires fall { IfSome edges.fall (λ to. to < length entries.old.items) }
     ensures len { length entries.new.items ≡ length entries.old.items }
     ensures fine { OnOk result (call_refusal decl rows.now (helper_of number) state ≡ None) }
-    ensures sent { OnOk result ((t : ℕ) → t < length entries.old.items → slice_index_or entries.new.items t EntryState.Unreached ≡ with_edge (after_call slot (helper_of number) state) (leads_to edges.fall t) (slice_index_or entries.old.items t EntryState.Unreached)) }
+    ensures sent { OnOk result (Sends entries.old.items entries.new.items edges.fall (after_call slot (helper_of number) state)) }
     ensures refused { IfErr result (IsSlotFault slot (call_refusal decl rows.now (helper_of number) state)) }
 {
     call(decl, rows, number, slot, &mut state)?;
@@ -193,9 +190,10 @@ fn branch_on(
     requires fall { IfSome edges.fall (λ to. to < length entries.old.items) }
     requires jump { IfSome edges.jump (λ to. to < length entries.old.items) }
     ensures len { length entries.new.items ≡ length entries.old.items }
-    ensures fine { OnOk result (branch_refusal (null_test branch.width branch.cond (register_of state branch.left) branch.right) (register_of state branch.left) (operand state branch.width branch.right) ≡ None) }
-    ensures sent { OnOk result ((t : ℕ) → t < length entries.old.items → slice_index_or entries.new.items t EntryState.Unreached ≡ with_edge (after_branch branch.cond branch.width branch.left branch.right false state) (leads_to edges.fall t) (with_edge (after_branch branch.cond branch.width branch.left branch.right true state) (leads_to edges.jump t) (slice_index_or entries.old.items t EntryState.Unreached))) }
-    ensures refused { IfErr result (IsSlotFault slot (branch_refusal (null_test branch.width branch.cond (register_of state branch.left) branch.right) (register_of state branch.left) (operand state branch.width branch.right))) }
+    ensures fine { OnOk result (refusal_of_branch branch.cond branch.width branch.left branch.right state ≡ None) }
+    ensures sent { OnOk result (SendsBoth entries.old.items entries.new.items edges
+        (λ taken. after_branch branch.cond branch.width branch.left branch.right taken state)) }
+    ensures refused { IfErr result (IsSlotFault slot (refusal_of_branch branch.cond branch.width branch.left branch.right state)) }
 {
     let left = state.reg(branch.left);
     if let Some(call) = null_test(branch.width, branch.cond, left, branch.right) {
@@ -224,7 +222,7 @@ fn settle_on(
     requires fall { IfSome edges.fall (λ to. to < length entries.old.items) }
     requires jump { IfSome edges.jump (λ to. to < length entries.old.items) }
     ensures len { length entries.new.items ≡ length entries.old.items }
-    ensures sent { OnOk result ((t : ℕ) → t < length entries.old.items → slice_index_or entries.new.items t EntryState.Unreached ≡ with_edge (Some (settled call (is_null_where cond false) state)) (leads_to edges.fall t) (with_edge (Some (settled call (is_null_where cond true) state)) (leads_to edges.jump t) (slice_index_or entries.old.items t EntryState.Unreached))) }
+    ensures sent { OnOk result (SendsBoth entries.old.items entries.new.items edges (λ taken. Some (settled call (is_null_where cond taken) state))) }
 {
     let mut taken = state.copy()?;
     taken.settle(call, is_null_where(cond, true));
@@ -248,7 +246,8 @@ fn refine_on(
     requires fall { IfSome edges.fall (λ to. to < length entries.old.items) }
     requires jump { IfSome edges.jump (λ to. to < length entries.old.items) }
     ensures len { length entries.new.items ≡ length entries.old.items }
-    ensures sent { OnOk result ((t : ℕ) → t < length entries.old.items → slice_index_or entries.new.items t EntryState.Unreached ≡ with_edge (with_operands branch.left branch.right (refinement branch.cond branch.width a b false) state) (leads_to edges.fall t) (with_edge (with_operands branch.left branch.right (refinement branch.cond branch.width a b true) state) (leads_to edges.jump t) (slice_index_or entries.old.items t EntryState.Unreached))) }
+    ensures sent { OnOk result (SendsBoth entries.old.items entries.new.items edges
+        (λ taken. with_operands branch.left branch.right (refinement branch.cond branch.width a b taken) state)) }
 {
     let taken = refine(branch.cond, branch.width, a, b, true);
     let passed = refine(branch.cond, branch.width, a, b, false);
@@ -284,7 +283,8 @@ fn send_both(
     requires fall { IfSome edges.fall (λ to. to < length entries.old.items) }
     requires jump { IfSome edges.jump (λ to. to < length entries.old.items) }
     ensures len { length entries.new.items ≡ length entries.old.items }
-    ensures sent { OnOk result ((t : ℕ) → t < length entries.old.items → slice_index_or entries.new.items t EntryState.Unreached ≡ with_edge (with_operands branch.left branch.right (Some passed) state) (leads_to edges.fall t) (with_edge (with_operands branch.left branch.right (Some taken) state) (leads_to edges.jump t) (slice_index_or entries.old.items t EntryState.Unreached))) }
+    ensures sent { OnOk result (SendsBoth entries.old.items entries.new.items edges
+        (λ way. with_operands branch.left branch.right (Some (if way then taken else passed)) state)) }
 {
     if fall_goes_first(edges, entries) {
         set_operands(&mut state, branch.left, branch.right, passed);
@@ -316,7 +316,7 @@ fn fall_goes_first(edges: Edges, entries: &[EntryState]) -> bool
 fn send(entries: &mut Vec<EntryState>, edge: Option<u16>, state: State)
     requires { IfSome edge (λ to. to < length entries.old.items) }
     ensures len { length entries.new.items ≡ length entries.old.items }
-    ensures sent { (t : ℕ) → t < length entries.old.items → slice_index_or entries.new.items t EntryState.Unreached ≡ with_edge (Some state) (leads_to edge t) (slice_index_or entries.old.items t EntryState.Unreached) }
+    ensures sent { Sends entries.old.items entries.new.items edge (Some state) }
 {
     if let Some(to) = edge {
         entries[to as usize].take(state);
@@ -328,7 +328,7 @@ fn send(entries: &mut Vec<EntryState>, edge: Option<u16>, state: State)
 fn add(entries: &mut Vec<EntryState>, edge: Option<u16>, state: &State) -> Result<(), AllocError>
     requires { IfSome edge (λ to. to < length entries.old.items) }
     ensures len { length entries.new.items ≡ length entries.old.items }
-    ensures sent { OnOk result ((t : ℕ) → t < length entries.old.items → slice_index_or entries.new.items t EntryState.Unreached ≡ with_edge (Some state.now) (leads_to edge t) (slice_index_or entries.old.items t EntryState.Unreached)) }
+    ensures sent { OnOk result (Sends entries.old.items entries.new.items edge (Some state.now)) }
 {
     if let Some(to) = edge {
         entries[to as usize].add(state)?;

@@ -12,7 +12,7 @@
 //! has come: one visit a slot is enough, there is nothing to iterate to, and the verdict takes time linear in the slots. A
 //! state goes on as it is; it is copied only where a branch sends it to two slots and nothing has come to either before.
 
-ghost use Rattle.std.specs.Prelude.{◌≡◌, ◌≤◌, ◌<◌, ◌==◌, if◌then◌else◌, ℕ, IfErr, IfOk, IfSome, OnOk, None, Some, Option, length, slice_index_or, slice_set, All};
+ghost use Rattle.std.specs.Prelude.{◌≡◌, ◌≤◌, ◌<◌, ℕ, IfErr, IfOk, IfSome, OnOk, None, Some, Option, length, All};
 ghost use Rattle.ebpf_insn.specs.declared.insn.Insn.{Insn};
 ghost use Rattle.ebpf_insn.specs.declared.program.TheConstants.{MAX_SLOTS};
 ghost use Rattle.ebpf_insn.specs.Program.{insn_at};
@@ -22,7 +22,7 @@ ghost use Rattle.ebpf_state.specs.States.{first_state};
 ghost use Rattle.ebpf_verify.specs.declared.fault.VerifyCode.{VerifyCode};
 ghost use Rattle.ebpf_verify.specs.declared.fault.VerifyFault.TheVariants.{NoMemory};
 ghost use Rattle.ebpf_insn.specs.Faults.{lowest};
-ghost use Rattle.ebpf_verify.specs.Entry.{with_sent};
+ghost use Rattle.ebpf_verify.specs.Entry.{first_entry, entry_in, after_visit};
 ghost use Rattle.ebpf_verify.specs.Verdict.{refusal_in, verdict, IsVerifyFault, AreRows, IsSlotFault};
 
 use crate::decl::Decl;
@@ -40,8 +40,8 @@ use std::mem;
 /// The verdict on a program whose flow was checked.
 ///
 /// # Errors
-/// `Refused` with the lowest slot that is refused and the first code that applies there; `NoMemory` where a growth was
-/// refused. The program is gone then.
+/// `Refused` with the lowest slot that is refused and the first code that applies there; `NoMemory` where an
+/// allocation failed. The program is gone then.
 pub fn verify(
     alloc: Global,
     flowed: Flowed,
@@ -69,7 +69,7 @@ pub fn verify(
 // What is known before each slot at first: the first state comes to slot 0, and nothing to the others.
 fn first_entries(alloc: Global, slots: usize) -> Result<Vec<EntryState>, AllocError>
     ensures len { IfOk result (λ v. length v.items ≡ slots) }
-    ensures first { IfOk result (λ v. (k : ℕ) → k < slots → slice_index_or v.items k EntryState.Unreached ≡ (if k == 0 then EntryState.Known first_state else EntryState.Unreached)) }
+    ensures first { IfOk result (λ v. (k : ℕ) → k < slots → entry_in v.items k ≡ first_entry k) }
 {
     let mut entries = Vec::with_capacity(alloc, slots)?;
     for slot in 0..slots {
@@ -95,9 +95,9 @@ fn visit(
     requires few { length rows.now ≤ 8 }
     requires len { length entries.old.items ≡ length flowed.now }
     ensures len { length entries.new.items ≡ length entries.old.items }
-    ensures fine { OnOk result (refusal_in decl rows.now (insn_at flowed.now slot) (slice_index_or entries.old.items slot EntryState.Unreached) ≡ None) }
-    ensures sent { OnOk result ((t : ℕ) → slot < t → t < length flowed.now → slice_index_or entries.new.items t EntryState.Unreached ≡ with_sent (insn_at flowed.now slot) (edges_at flowed.now slot) slot t (slice_index_or entries.old.items slot EntryState.Unreached) (slice_index_or entries.old.items t EntryState.Unreached)) }
-    ensures refused { IfErr result (IsSlotFault slot (refusal_in decl rows.now (insn_at flowed.now slot) (slice_index_or entries.old.items slot EntryState.Unreached))) }
+    ensures fine { OnOk result (refusal_in decl rows.now (insn_at flowed.now slot) (entry_in entries.old.items slot) ≡ None) }
+    ensures sent { OnOk result ((t : ℕ) → slot < t → t < length flowed.now → entry_in entries.new.items t ≡ after_visit flowed.now slot entries.old.items t) }
+    ensures refused { IfErr result (IsSlotFault slot (refusal_in decl rows.now (insn_at flowed.now slot) (entry_in entries.old.items slot))) }
 {
     let edges = flowed.successors(slot);
     let Some(insn) = flowed.program().at(slot) else {

@@ -1,7 +1,7 @@
 use Rattle.std.proofs.Common.{◌∙◌, ◌==◌, not, Ok, Err, sym, ap, subst}
 use Rattle.ebpf_state.specs.Ascending.{IsAscending}
 use Rattle.ebpf_machine.specs.Events.{without_slot}
-use Rattle.ebpf_machine.proofs.Ascents.{ascending_kept}
+use Rattle.ebpf_verify.proofs.Ascents.{ascending_kept}
 use Rattle.ebpf_core.proofs.Ledgers.{place_found, parted_none}
 use Rattle.ebpf_core.proofs.ledger.Ledger.leave.Goals as goal
 

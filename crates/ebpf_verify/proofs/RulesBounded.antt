@@ -38,7 +38,7 @@ use Rattle.ebpf_verify.specs.declared.helper.Helper.{Helper}
 use Rattle.ebpf_verify.specs.declared.helper.Helper.TheVariants.{New, Free, Emit}
 use Rattle.ebpf_verify.specs.Calls.{helper_of, without_arguments, with_result, after_new, after_free, after_call}
 use Rattle.ebpf_verify.specs.Rules.{after_operation, after_fall, after_jump}
-use Rattle.ebpf_machine.proofs.Bounded.{IsBoundedValue, IsFull, IsBoundedLoad, IsFullStore, register_bounded, full_weaker, with_register-full, settled-full, forgotten-full, loaded-bounded, context_bounded, stored-full}
+use Rattle.ebpf_verify.proofs.Bounded.{IsBoundedValue, IsFull, IsBoundedLoad, IsFullStore, register_bounded, full_weaker, with_register-full, settled-full, forgotten-full, loaded-bounded, context_bounded, stored-full}
 
 -- a state that is sent, if any, has all registers
 abbrev pub IsFullState : ℕ → Option StateView → Type 0

@@ -6,10 +6,9 @@ use Rattle.std.proofs.lemmas.Option.{none-some}
 use Rattle.ebpf_insn.specs.declared.insn.Insn.{Insn}
 use Rattle.ebpf_insn.specs.Program.{insn_at}
 use Rattle.ebpf_insn.proofs.ProgramLemmas.{insn_at_within}
-use Rattle.ebpf_insn.proofs.FaultLemmas.{none_below}
+use Rattle.ebpf_insn.proofs.FaultLemmas.{none_first, none_below}
 use Rattle.ebpf_flow.specs.Edges.{displacement_of, jump_of}
 use Rattle.ebpf_flow.specs.Flow.{is_outside, is_second_half, is_backward, jump_fault, fall_fault, insn_fault, flow_fault, flow_fault_at, or_else}
-use Rattle.ebpf_machine.proofs.Operations.{none_first}
 
 first_none : {C : Type 0} (first other : Option C) → or_else first other ≡ None → first ≡ None
 first_none (Some code) other e = absurd (none-some code (sym e))
