@@ -1,0 +1,3 @@
+-- Lists: what holds of any.
+pub mod ListLemmas
+pub mod Mapped

@@ -1,0 +1,22 @@
+-- The verifier's rules are sound: what an abstract state says of a run, it says after each instruction.
+pub mod ValueJoins
+pub mod Words
+pub mod Loads
+pub mod Stores
+pub mod Referred
+pub mod Joins
+pub mod Entries
+pub mod Operations
+pub mod Additions
+pub mod Results
+pub mod Comparisons
+pub mod Alike
+pub mod Found
+pub mod Registers
+pub mod Next
+pub mod Operands
+pub mod LoadsSound
+pub mod StoresSound
+pub mod Holdings
+pub mod CallsSound
+pub mod Soundness

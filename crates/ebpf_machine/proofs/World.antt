@@ -1,0 +1,20 @@
+-- The world against what each run sees of it: owners and ledgers, one event, and the run alone.
+pub mod Owners
+pub mod ObjectsSeen
+pub mod TrapsSeen
+pub mod ObjectsFound
+pub mod Acts
+pub mod ObjectPointers
+pub mod OwnedParts
+pub mod Owned
+pub mod CellsSeen
+pub mod Projection
+pub mod Pointing
+pub mod Steps
+pub mod Asking
+pub mod Execs
+pub mod LedgerChanges
+pub mod NewSlots
+pub mod PartedSlots
+pub mod Replies
+pub mod Lone

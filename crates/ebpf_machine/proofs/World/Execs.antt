@@ -1,0 +1,213 @@
+-- The next instruction of a sound run in its world: with an answer that fits what it asks it is legal, and the run goes on as it
+-- sees itself.
+use Rattle.std.proofs.Common.{◌≡◌, ◌≢◌, ℕ, ◌+◌, ◌<◌, ◌≤◌, Bool, true, false, arith, List, [], ◌∷◌, length, filter, Option, Some, None, Result, Ok, Err, refl, sym, ap, ◌∙◌, subst, inl, inr, length-set}
+use Rattle.std.specs.Prelude.{Contains, slice_get, ◌==◌, ◌&&◌, not, nat_le}
+use Rattle.std.proofs.lemmas.Bool.{cond_both}
+use Rattle.std.proofs.lemmas.Bool.Decides.{nat_tests}
+use Rattle.std.proofs.lemmas.List.{length-map}
+use Rattle.std.proofs.lemmas.List.Elements.{All-map}
+use Rattle.ebpf_insn.specs.Program.{insn_at}
+use Rattle.ebpf_insn.specs.Faults.{first_of}
+use Rattle.ebpf_machine.specs.Values.{Frame}
+use Rattle.ebpf_machine.specs.Effect.{Act, Nothing, Write, Ask, Free, Effect, Goes, Ends, Traps}
+use Rattle.ebpf_machine.specs.World.{Name, Kind, World, Running, Owner, Going, Answer, Absent, Slot, environment, holds_of, held_by, is_home, is_in, kind_in, kinds_of, image_at, ledger_of}
+use Rattle.ebpf_machine.specs.World as world
+use Rattle.ebpf_machine.specs.Events.{Illegal, SlotNotHome, SlotOfAnotherKind, Asking, OfKind, granted, done_by, effect_of_run, asking_of, answer_fault, exec}
+use Rattle.ebpf_machine.specs.View as view
+use Rattle.ebpf_machine.specs.View.{ObjectView, RunView, object_in, view_of, view_in, slots_in, environment_of_view, effect_of_view, stepped}
+use Rattle.ebpf_machine.specs.Step.{IsEvent, reply_of, served_by, Served, Idle, Refused, Granted, answer_for, result_of}
+use Rattle.ebpf_machine.specs.Advance.{slots_after}
+use Rattle.ebpf_machine.specs.Sound.{IsOwned, IsSound, AreSized}
+use Rattle.ebpf_machine.proofs.Lists.ListLemmas.{All-by_contains}
+use Rattle.ebpf_machine.proofs.World.Owners.{held_owner}
+use Rattle.ebpf_machine.proofs.World.ObjectsFound.{own_found, objects_found}
+use Rattle.ebpf_machine.proofs.World.Acts.{effect_seen, IsGrantable, IsOwnAct, IsOwnEffect, own_view, own_slots, others_view, others_slots}
+use Rattle.ebpf_machine.proofs.World.Owned.{IsForward, owned_done}
+use Rattle.ebpf_machine.proofs.World.Projection.{IsSeenAs, effect_at-seen}
+use Rattle.ebpf_machine.proofs.World.Pointing.{plain_goes}
+use Rattle.ebpf_machine.proofs.World.Asking.{IsThere, asked_by, asked_goes, there_goes}
+use Rattle.ebpf_machine.proofs.World.Steps.{IsNext, next_of}
+
+-- the world that the next instruction of a run leads to, with this answer
+pub record IsNextWorld (w : World) (run : ℕ) (r : Running) (answer : Answer) (after : World) : Type 0 where
+  pub legal : exec w run answer ≡ Ok after
+  pub owned : IsOwned after
+  pub as_many : length after.runs ≡ length w.runs
+  pub seen : view_in after run ≡ Some (stepped (reply_of answer) (view_of w run r))
+  pub slots : slots_in after run ≡ slots_after (effect_of_view (view_of w run r)) (served_by answer) r.subject.decl.held r.pc (slots_in w run)
+  pub others : (other : ℕ) → other ≢ run → view_in after other ≡ view_in w other
+  pub others_slots : (other : ℕ) → other ≢ run → slots_in after other ≡ slots_in w other
+  pub kinds : after.kinds ≡ w.kinds
+  pub ledgers : after.ledgers ≡ w.ledgers
+  pub unowned : w.owners ≡ [] → reply_of answer ≡ view.Null → after.owners ≡ []
+
+-- ---- what an effect leaves as it was
+
+record IsSteady (w after : World) : Type 0 where
+  as_many : length after.runs ≡ length w.runs
+  kinds : after.kinds ≡ w.kinds
+  ledgers : after.ledgers ≡ w.ledgers
+
+steady_granted : (w : World) (run : ℕ) (r : Running) (slot to kind : ℕ) (frame : Frame Name) → IsSteady w (granted slot w run r to frame kind)
+steady_granted w run r slot to kind frame =
+    cond_both (nat_le r.subject.decl.held (holds_of w run)) _ _ (IsSteady w) (λ e. record { as_many = length-set w.runs run _; kinds = refl; ledgers = refl }) (λ e. record { as_many = length-set w.runs run _; kinds = refl; ledgers = refl })
+
+steady_done : (w : World) (run : ℕ) (r : Running) (e : Effect Name) (answer : Answer) → IsSteady w (done_by e answer w run r)
+steady_done w run r (Ends n) answer = record { as_many = length-set w.runs run _; kinds = refl; ledgers = refl }
+steady_done w run r (Traps trap) answer = record { as_many = length-set w.runs run _; kinds = refl; ledgers = refl }
+steady_done w run r (Goes Nothing to frame) answer = record { as_many = length-set w.runs run _; kinds = refl; ledgers = refl }
+steady_done w run r (Goes (Write name at bytes) to frame) answer = record { as_many = length-set w.runs run _; kinds = refl; ledgers = refl }
+steady_done w run r (Goes (Free name) to frame) answer = record { as_many = length-set w.runs run _; kinds = refl; ledgers = refl }
+steady_done w run r (Goes (Ask kind) to frame) Absent = record { as_many = length-set w.runs run _; kinds = refl; ledgers = refl }
+steady_done w run r (Goes (Ask kind) to frame) world.Null = record { as_many = length-set w.runs run _; kinds = refl; ledgers = refl }
+steady_done w run r (Goes (Ask kind) to frame) (Slot slot) = steady_granted w run r slot to kind frame
+
+-- nobody has a slot then either, where none was granted
+unowned_done : (w : World) (run : ℕ) (r : Running) (e : Effect Name) (answer : Answer) → w.owners ≡ [] → reply_of answer ≡ view.Null → (done_by e answer w run r).owners ≡ []
+unowned_done w run r (Ends n) answer none null = none
+unowned_done w run r (Traps trap) answer none null = none
+unowned_done w run r (Goes Nothing to frame) answer none null = none
+unowned_done w run r (Goes (Write name at bytes) to frame) answer none null = none
+unowned_done w run r (Goes (Free name) to frame) answer none null = ap (filter _) none
+unowned_done w run r (Goes (Ask kind) to frame) Absent none null = none
+unowned_done w run r (Goes (Ask kind) to frame) world.Null none null = none
+unowned_done w run r (Goes (Ask kind) to frame) (Slot slot) none null = absurd (cc)
+
+-- ---- the effect in the world and the effect that is seen
+
+pub kinds_alike : (w : World) (run : ℕ) (r : Running) → IsOwned w → slice_get w.runs run ≡ Some r → length r.subject.rows ≡ length w.kinds
+kinds_alike w run r owned there = sym (length-map r.subject.rows _) ∙ ap (λ (kinds : List Kind). length kinds) (owned.kinds_are run r there)
+
+and_false : (t : Bool) → (t && false) ≡ false
+and_false true = refl
+and_false false = refl
+
+-- what a run meets in the world is seen by it
+met : (w : World) (run : ℕ) (r : Running) → IsOwned w → slice_get w.runs run ≡ Some r → IsSeenAs (environment w run r) (environment_of_view (view_of w run r)) r.frame
+met w run r owned there = record {
+  context = refl;
+  kinds = kinds_alike w run r owned there;
+  holds = length-map (held_by w run) (object_in w);
+  objects = λ n has. objects_found w run r n owned there has;
+  names = λ n m has too. same n m (n.call == m.call) refl (λ e. owned.one_slot run r there n m has too e);
+}
+  where
+    same : (n m : Name) (t : Bool) → (n.call == m.call) ≡ t → (n.call ≡ m.call → n.slot ≡ m.slot) → (n.call == m.call) ≡ ((n.slot == m.slot) && (n.call == m.call))
+    same n m false e one = rw e (sym (and_false (n.slot == m.slot)))
+    same n m true e one = let slots = equal n.slot m.slot (one (calls n.call m.call e)) in rw (e, slots) refl
+      where
+        calls : (a b : ℕ) → (a == b) ≡ true → a ≡ b
+        calls a b e = grind (arith, nat_tests)
+
+        equal : (a b : ℕ) → a ≡ b → (a == b) ≡ true
+        equal a b e = grind (arith, nat_tests)
+
+seen_effect : (w : World) (run : ℕ) (r : Running) → IsOwned w → slice_get w.runs run ≡ Some r → effect_seen (effect_of_run w run r) ≡ effect_of_view (view_of w run r)
+seen_effect w run r owned there = sym (effect_at-seen (insn_at r.subject.program r.pc) r.pc (environment w run r) (environment_of_view (view_of w run r)) r.frame (met w run r owned there))
+
+-- each object of a run has as many bytes as its kind says
+pub sized_in : (w : World) (run : ℕ) (r : Running) → IsOwned w → slice_get w.runs run ≡ Some r → AreSized (view_of w run r)
+sized_in w run r owned there = All-map IsSized (object_in w) (held_by w run) (All-by_contains (λ o. IsSized (object_in w o)) (held_by w run) (λ o among. sized o (held_owner w run o among).0)) where
+  IsSized : ObjectView → Type 0
+  IsSized o = length o.bytes ≡ length (image_at (kinds_of r.subject.rows) o.kind)
+
+  sized : (o : Owner) → Contains w.owners o → IsSized (object_in w o)
+  sized o among = owned.sized o among ∙ ap (λ (kinds : List Kind). length (image_at kinds (kind_in w o.slot))) (sym (owned.kinds_are run r there))
+
+-- ---- the effect is the run's own, and leads forward
+
+-- a slot that is answered is one that may be granted
+grantable : (w : World) (kind : ℕ) (answer : Answer) → answer_fault w (OfKind kind) answer ≡ None → IsGrantable w kind answer
+grantable w kind Absent fine = tt
+grantable w kind world.Null fine = tt
+grantable w kind (Slot slot) fine = by (is_home w slot) (is_in slot (ledger_of w kind)) refl refl fine where
+  by : (t u : Bool) → is_home w slot ≡ t → is_in slot (ledger_of w kind) ≡ u → first_of ((not t, SlotNotHome) ∷ (not u, SlotOfAnotherKind) ∷ []) ≡ None → (is_home w slot ≡ true) × (is_in slot (ledger_of w kind) ≡ true)
+  by true true home its fine = (home, its)
+  by true false home its fine = absurd (cc)
+  by false u home its fine = absurd (cc)
+
+own_act : (w : World) (run : ℕ) (r : Running) (answer : Answer) (act : Act Name) → IsThere (environment w run r) act → answer_fault w (asked_by act) answer ≡ None → IsOwnAct w run answer act
+own_act w run r answer Nothing there fine = tt
+own_act w run r answer (Write name at bytes) there fine =
+    let own = own_found w run name there.0 there.1 in
+    (own.0, subst (λ (old : List ℕ). at + length bytes ≤ length old) own.1 there.2)
+own_act w run r answer (Ask kind) there fine = (there, grantable w kind answer fine)
+own_act w run r answer (Free name) there fine = (own_found w run name there.0 there.1).0
+
+abbrev IsOwnNext : World → ℕ → Running → Answer → Effect Name → Type 0
+IsOwnNext w run r answer e = IsOwnEffect w run answer e × IsForward r.frame r.pc e
+
+own_next : (w : World) (run : ℕ) (r : Running) (answer : Answer) (e : Effect Name) → answer_fault w (asking_of w r) answer ≡ None → effect_of_run w run r ≡ e → effect_seen e ≡ effect_of_view (view_of w run r) → IsNext (view_of w run r) → IsOwnNext w run r answer e
+own_next w run r answer (Ends n) fine is seen next = (tt, tt)
+own_next w run r answer (Traps trap) fine is seen (inl (act, to, after, g)) = let does = g.does in absurd (cc)
+own_next w run r answer (Traps trap) fine is seen (inr (n, ends)) = let does = ends.does in absurd (cc)
+own_next w run r answer (Goes act to frame) fine is seen (inr (n, ends)) = let does = ends.does in absurd (cc)
+own_next w run r answer (Goes act to frame) fine is seen (inl (same, where_to, after, g)) =
+    let o = insn_at r.subject.program r.pc in
+    let a = environment w run r in
+    let does = g.does in
+    let there : where_to ≡ to = cc in
+    let asked = asked_goes o r.pc a r.frame act to frame is in (
+      own_act w run r answer act (there_goes o r.pc a r.frame act to frame is) (subst (λ (asking : Asking). answer_fault w asking answer ≡ None) asked fine),
+      (subst (λ (k : ℕ). r.pc < k) there g.forward, plain_goes o r.pc a r.frame act to frame is),
+    )
+
+-- ---- the next world
+
+pub next_world : (w : World) (run : ℕ) (r : Running) (answer : Answer) → IsOwned w → slice_get w.runs run ≡ Some r → IsSound (view_of w run r) → r.status ≡ Going → answer_fault w (asking_of w r) answer ≡ None → (after : World) × IsNextWorld w run r answer after
+next_world w run r answer owned there sound going fine =
+    let v = view_of w run r in
+    let e = effect_of_run w run r in
+    let seen = seen_effect w run r owned there in
+    let own = own_next w run r answer e fine refl seen (next_of v sound (sized_in w run r owned there) going) in
+    let steady = steady_done w run r e answer in (
+      done_by e answer w run r,
+      record {
+        legal = rw (there, going, fine) refl;
+        owned = owned_done w run r e answer owned there own.0 own.1;
+        as_many = steady.as_many;
+        seen = own_view w run r e answer owned there own.0 ∙ rw (seen, going) refl;
+        slots = own_slots w run r e answer owned own.0 ∙ ap (λ (x : Effect ℕ). slots_after x (served_by answer) r.subject.decl.held r.pc (slots_in w run)) seen;
+        others = λ other ne. others_view w run other r e answer owned own.0 ne;
+        others_slots = λ other ne. others_slots w run other r e answer owned own.0 ne;
+        kinds = steady.kinds;
+        ledgers = steady.ledgers;
+        unowned = λ none null. unowned_done w run r e answer none null;
+      },
+    )
+
+-- ---- one step is one event
+
+-- an event leads to one world
+pub ok_same : (a b : World) (the : Result World Illegal) → the ≡ Ok a → the ≡ Ok b → a ≡ b
+ok_same a b the e f = cc
+
+-- the run of a world that is seen so
+pub shown_run : (w : World) (run : ℕ) (v : RunView) → view_in w run ≡ Some v → (r : Running) × (slice_get w.runs run ≡ Some r) × (view_of w run r ≡ v)
+shown_run w run v e = of_run (slice_get w.runs run) refl where
+  of_run : (o : Option Running) → slice_get w.runs run ≡ o → (r : Running) × (slice_get w.runs run ≡ Some r) × (view_of w run r ≡ v)
+  of_run None there = let none : view_in w run ≡ None = rw there refl in absurd (cc)
+  of_run (Some r) there = let some : view_in w run ≡ Some (view_of w run r) = rw there refl in (r, there, cc)
+
+-- the answer to a legal event has no fault
+legal_answer : (w after : World) (run : ℕ) (r : Running) (answer : Answer) → slice_get w.runs run ≡ Some r → r.status ≡ Going → exec w run answer ≡ Ok after → answer_fault w (asking_of w r) answer ≡ None
+legal_answer w after run r answer there going does = by (answer_fault w (asking_of w r) answer) refl where
+  by : (o : Option Illegal) → answer_fault w (asking_of w r) answer ≡ o → o ≡ None
+  by None fault = refl
+  by (Some why) fault = let illegal : exec w run answer ≡ Err why = rw (there, going, fault) refl in absurd (cc)
+
+pub step_event : (v : RunView) (answer : Answer) (held : List Name) → IsSound v → v.status ≡ Going → IsEvent answer v (stepped (reply_of answer) v) held (slots_after (effect_of_view v) (served_by answer) v.subject.decl.held v.pc held)
+step_event v answer held sound going w after run owned shows slots does =
+    let r = shown_run w run v shows in
+    let goes : r.0.status ≡ Going = ap (λ (u : RunView). u.status) r.2 ∙ going in
+    let next = next_world w run r.0 answer owned r.1 (subst IsSound (sym r.2) sound) goes (legal_answer w after run r.0 answer r.1 goes does) in
+    let same : next.0 ≡ after = ok_same next.0 after (exec w run answer) next.1.legal does in
+    let now = ap (λ (u : RunView). slots_after (effect_of_view u) (served_by answer) u.subject.decl.held u.pc (slots_in w run)) r.2 ∙ ap (slots_after (effect_of_view v) (served_by answer) v.subject.decl.held v.pc) slots in
+    subst (λ (u : World). (view_in u run ≡ Some (stepped (reply_of answer) v)) × (slots_in u run ≡ slots_after (effect_of_view v) (served_by answer) v.subject.decl.held v.pc held)) same
+    (next.1.seen ∙ ap (λ (u : RunView). Some (stepped (reply_of answer) u)) r.2, next.1.slots ∙ now)
+
+-- and one step with a store's answer is the event with the answer that it makes
+pub served_event : (v : RunView) (served : Served) (held : List Name) → IsSound v → v.status ≡ Going → IsEvent (answer_for served) v (stepped (result_of served) v) held (slots_after (effect_of_view v) served v.subject.decl.held v.pc held)
+served_event v Idle held sound going = step_event v Absent held sound going
+served_event v Refused held sound going = step_event v world.Null held sound going
+served_event v (Granted slot) held sound going = step_event v (Slot slot) held sound going

@@ -1,0 +1,46 @@
+-- The replies that a run was told: an instruction that asks for an object adds its own, and no other instruction reads or adds one.
+use Rattle.std.proofs.Common.{◌≡◌, ℕ, ◌<◌, false, [], ◌∷◌, ◌++◌, length, refl, sym, ap, ◌∙◌, arith}
+use Rattle.std.specs.Prelude.{nat_le}
+use Rattle.std.proofs.lemmas.Bool.Decides.{nat_tests}
+use Rattle.ebpf_insn.specs.Program.{insn_at}
+use Rattle.ebpf_machine.specs.Effect.{Nothing, Write, Ask, Free, Effect, Goes, Ends, Traps}
+use Rattle.ebpf_machine.specs.World.{Status, Going}
+use Rattle.ebpf_machine.specs.Events.{Unasked}
+use Rattle.ebpf_machine.specs.View.{RunView, environment_of_view, done_by, effect_of_view, stepped_from, stepped, answered, CallResult, Null, Granted, reply_in}
+use Rattle.ebpf_machine.specs.Step.{asking_in}
+use Rattle.ebpf_machine.proofs.World.Asking.{AsksNew, asked_goes}
+
+pub stepped_going : (v : RunView) (result : CallResult) → v.status ≡ Going → stepped result v ≡ done_by (effect_of_view v) result v
+stepped_going v result going = ap (λ (s : Status). stepped_from s result v) going
+
+-- ---- an instruction that asks for nothing
+
+-- what it does, whatever the result, and it leaves the replies as they are
+record IsDeaf (v : RunView) (e : Effect ℕ) : Type 0 where
+  same : (result other : CallResult) → done_by e result v ≡ done_by e other v
+  replies : (result : CallResult) → (done_by e result v).replies ≡ v.replies
+
+deaf : (v : RunView) (e : Effect ℕ) → effect_of_view v ≡ e → asking_in v ≡ Unasked → IsDeaf v e
+deaf v (Ends n) is unasked = record { same = λ result other. refl; replies = λ result. refl }
+deaf v (Traps trap) is unasked = record { same = λ result other. refl; replies = λ result. refl }
+deaf v (Goes Nothing to after) is unasked = record { same = λ result other. refl; replies = λ result. refl }
+deaf v (Goes (Write name at bytes) to after) is unasked = record { same = λ result other. refl; replies = λ result. refl }
+deaf v (Goes (Free name) to after) is unasked = record { same = λ result other. refl; replies = λ result. refl }
+deaf v (Goes (Ask kind) to after) is unasked = let asked = asked_goes (insn_at v.subject.program v.pc) v.pc (environment_of_view v) v.frame (Ask kind) to after is in absurd (cc)
+
+pub stepped_any : (v : RunView) (result other : CallResult) → v.status ≡ Going → asking_in v ≡ Unasked → stepped result v ≡ stepped other v
+stepped_any v result other going unasked = stepped_going v result going ∙ (deaf v (effect_of_view v) refl unasked).same result other ∙ sym (stepped_going v other going)
+
+pub replies_kept : (v : RunView) (result : CallResult) → v.status ≡ Going → asking_in v ≡ Unasked → (stepped result v).replies ≡ v.replies
+replies_kept v result going unasked = ap (λ (u : RunView). u.replies) (stepped_going v result going) ∙ (deaf v (effect_of_view v) refl unasked).replies result
+
+-- ---- an instruction that asks for an object
+
+pub replies_added : (v : RunView) (result : CallResult) (kind : ℕ) → v.status ≡ Going → AsksNew v kind → (stepped result v).replies ≡ v.replies ++ reply_in result ∷ []
+replies_added v result kind going new = ap (λ (u : RunView). u.replies) (stepped_going v result going ∙ ap (λ (e : Effect ℕ). done_by e result v) new.does) ∙ told result where
+  few : (declared held : ℕ) → held < declared → nat_le declared held ≡ false
+  few declared held lt = grind (arith, nat_tests)
+
+  told : (result : CallResult) → (answered result new.to new.after kind v).replies ≡ v.replies ++ reply_in result ∷ []
+  told Null = refl
+  told Granted = let room = few v.subject.decl.held (length v.objects) new.room in rw room refl
