@@ -12,9 +12,9 @@ use Rattle.ebpf_machine.specs.RunState.{RunState, object_seen, status_of}
 use Rattle.ebpf_machine.specs.Step as step
 use Rattle.ebpf_machine.specs.Step.{Served, result_of, served_by, asking_in, wanted}
 use Rattle.ebpf_machine.specs.Store.{held_of_kind}
-use Rattle.ebpf_machine.proofs.ListLemmas.{All-by_contains, Contains-filter}
-use Rattle.ebpf_machine.proofs.Mapped.{Contains-mapped, Contains-unmapped}
-use Rattle.ebpf_machine.proofs.Owners.{owner_of}
+use Rattle.ebpf_machine.proofs.Lists.ListLemmas.{All-by_contains, Contains-filter}
+use Rattle.ebpf_machine.proofs.Lists.Mapped.{Contains-mapped, Contains-unmapped}
+use Rattle.ebpf_machine.proofs.World.Owners.{owner_of}
 use Rattle.ebpf_core.specs.declared.event.Answer.{Answer}
 use Rattle.ebpf_core.specs.declared.event.Answer.TheVariants.{Absent, Null, Slot}
 use Rattle.ebpf_core.specs.declared.fault.ApplyCode.TheVariants.{E4}

@@ -12,8 +12,8 @@ use Rattle.ebpf_machine.specs.RunState.{RunState, object_seen, status_of}
 use Rattle.ebpf_machine.specs.Step.{MayAnswer, asking_in, wanted, Served, Idle, Refused, Granted, answer_for, served_by}
 use Rattle.ebpf_machine.specs.Advance.{slots_after}
 use Rattle.ebpf_machine.specs.Sound.{AreSized, IsSound}
-use Rattle.ebpf_machine.proofs.ListLemmas.{get_set_same, get_set_other}
-use Rattle.ebpf_machine.proofs.Execs.{IsNextWorld, next_world}
+use Rattle.ebpf_machine.proofs.Lists.ListLemmas.{get_set_same, get_set_other}
+use Rattle.ebpf_machine.proofs.World.Execs.{IsNextWorld, next_world}
 use Rattle.ebpf_core.specs.declared.event.Answer.{Answer}
 use Rattle.ebpf_core.specs.declared.event.Answer.TheVariants.{Absent, Null, Slot}
 use Rattle.ebpf_core.specs.declared.fault.ApplyCode.{ApplyCode}

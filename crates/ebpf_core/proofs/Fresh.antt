@@ -2,7 +2,7 @@
 use Rattle.std.proofs.Common.{List, [], ◌∷◌, refl, arith}
 use Rattle.ebpf_verify.specs.Subject.{Subject}
 use Rattle.ebpf_machine.specs.Kinds.{known_kinds}
-use Rattle.ebpf_machine.proofs.Owned.{owned_empty}
+use Rattle.ebpf_machine.proofs.World.Owned.{owned_empty}
 use Rattle.ebpf_core.specs.Events.{first_world}
 use Rattle.ebpf_core.specs.Shown.{WorldState, AreKnown, Shows, IsTendedWorld}
 

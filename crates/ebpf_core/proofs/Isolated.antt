@@ -16,11 +16,11 @@ use Rattle.ebpf_machine.specs.View.{ObjectView, RunView, object_in, view_of, vie
 use Rattle.ebpf_machine.specs.RunState.{first_state_of}
 use Rattle.ebpf_machine.specs.Step.{reply_of, asking_in}
 use Rattle.ebpf_machine.specs.Sound.{IsSound, IsAlone, IsOwned, IsWellStated, AreSized}
-use Rattle.ebpf_machine.proofs.Asking.{asking_seen}
-use Rattle.ebpf_machine.proofs.Owned.{owned_empty}
-use Rattle.ebpf_machine.proofs.Steps.{going_of, bounded, first_sound, sound_stepped}
-use Rattle.ebpf_machine.proofs.Execs.{sized_in, shown_run}
-use Rattle.ebpf_machine.proofs.Lone.{alone_stepped, seen_alone, outcome_exited}
+use Rattle.ebpf_machine.proofs.World.Asking.{asking_seen}
+use Rattle.ebpf_machine.proofs.World.Owned.{owned_empty}
+use Rattle.ebpf_machine.proofs.World.Steps.{going_of, bounded, first_sound, sound_stepped}
+use Rattle.ebpf_machine.proofs.World.Execs.{sized_in, shown_run}
+use Rattle.ebpf_machine.proofs.World.Lone.{alone_stepped, seen_alone, outcome_exited}
 use Rattle.ebpf_core.specs.declared.passing.Object.{Object}
 use Rattle.ebpf_core.specs.declared.event.Answer.{Answer}
 use Rattle.ebpf_core.specs.declared.event.Event.{Event}

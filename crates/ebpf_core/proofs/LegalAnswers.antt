@@ -9,11 +9,11 @@ use Rattle.ebpf_machine.specs.Events.{SlotNotHome, SlotOfAnotherKind, AnswerUnas
 use Rattle.ebpf_machine.specs.View.{RunView, view_of, stepped}
 use Rattle.ebpf_machine.specs.Step.{reply_of, asking_in, wanted}
 use Rattle.ebpf_machine.specs.Sound.{AreSized, IsSound, IsOwned}
-use Rattle.ebpf_machine.proofs.Asking.{AsksNew, asking_seen, next_asks, asked_next}
-use Rattle.ebpf_machine.proofs.Execs.{sized_in}
-use Rattle.ebpf_machine.proofs.Owners.{kind_in-ledger}
-use Rattle.ebpf_machine.proofs.Replies.{replies_kept, replies_added}
-use Rattle.ebpf_machine.proofs.Steps.{next_of}
+use Rattle.ebpf_machine.proofs.World.Asking.{AsksNew, asking_seen, next_asks, asked_next}
+use Rattle.ebpf_machine.proofs.World.Execs.{sized_in}
+use Rattle.ebpf_machine.proofs.World.Owners.{kind_in-ledger}
+use Rattle.ebpf_machine.proofs.World.Replies.{replies_kept, replies_added}
+use Rattle.ebpf_machine.proofs.World.Steps.{next_of}
 use Rattle.ebpf_core.specs.declared.event.Answer.{Answer}
 use Rattle.ebpf_core.specs.declared.event.Answer.TheVariants.{Absent, Null, Slot}
 use Rattle.ebpf_core.specs.declared.fault.ApplyCode.TheVariants.{E4}

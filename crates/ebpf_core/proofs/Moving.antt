@@ -5,9 +5,9 @@ use Rattle.std.proofs.lemmas.Bool.{eq-eqb, ne_eqb, not-true, cases_eq}
 use Rattle.std.proofs.lemmas.List.Elements.{Contains-append_left, Contains-push, Contains-append_cases}
 use Rattle.ebpf_machine.specs.World.{Name, World, Owner, name_of}
 use Rattle.ebpf_machine.specs.RunState.{RunState}
-use Rattle.ebpf_machine.proofs.ListLemmas.{Contains-filter, get_set_same, get_set_other}
-use Rattle.ebpf_machine.proofs.Mapped.{Contains-kept}
-use Rattle.ebpf_machine.proofs.Owners.{owner_of}
+use Rattle.ebpf_machine.proofs.Lists.ListLemmas.{Contains-filter, get_set_same, get_set_other}
+use Rattle.ebpf_machine.proofs.Lists.Mapped.{Contains-kept}
+use Rattle.ebpf_machine.proofs.World.Owners.{owner_of}
 use Rattle.ebpf_core.specs.declared.event.Answer.{Answer}
 use Rattle.ebpf_core.specs.declared.event.Answer.TheVariants.{Slot}
 use Rattle.ebpf_core.specs.declared.passing.Object.{Object}

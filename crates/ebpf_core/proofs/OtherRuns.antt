@@ -9,10 +9,10 @@ use Rattle.ebpf_machine.specs.Kinds.{known_kinds}
 use Rattle.ebpf_machine.specs.Events.{Illegal, SlotInLedger, SlotNotReapable, NoSuchProgramOrKind, WrongContext, answer_fault, asking_of, started, starting, exec_going, exec_by, exec, with_slot_joined, growing, with_slot_left, reaping}
 use Rattle.ebpf_machine.specs.View.{view_of, view_in, slots_in}
 use Rattle.ebpf_machine.specs.Sound.{IsSound, IsOwned}
-use Rattle.ebpf_machine.proofs.Owned.{owned_started}
-use Rattle.ebpf_machine.proofs.NewSlots.{IsNew, owned_joined, view_joined}
-use Rattle.ebpf_machine.proofs.PartedSlots.{IsReapable, owned_parted, view_parted}
-use Rattle.ebpf_machine.proofs.Execs.{IsNextWorld, next_world, ok_same}
+use Rattle.ebpf_machine.proofs.World.Owned.{owned_started}
+use Rattle.ebpf_machine.proofs.World.NewSlots.{IsNew, owned_joined, view_joined}
+use Rattle.ebpf_machine.proofs.World.PartedSlots.{IsReapable, owned_parted, view_parted}
+use Rattle.ebpf_machine.proofs.World.Execs.{IsNextWorld, next_world, ok_same}
 use Rattle.ebpf_core.specs.declared.event.Event.{Event}
 use Rattle.ebpf_core.specs.declared.event.Event.TheVariants.{Start, Exec, Grow, Reap}
 use Rattle.ebpf_core.specs.Events.{answer_of, happened}

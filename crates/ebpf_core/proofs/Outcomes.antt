@@ -16,9 +16,9 @@ use Rattle.ebpf_machine.specs.Step as step
 use Rattle.ebpf_machine.specs.Step.{Served, result_of, asking_in}
 use Rattle.ebpf_machine.specs.Advance.{slots_acted, slots_after}
 use Rattle.ebpf_machine.specs.Sound.{IsSound, AreSized}
-use Rattle.ebpf_machine.proofs.Asking.{asked_by, asked_goes, asked_ends, there_goes}
-use Rattle.ebpf_machine.proofs.ListLemmas.{IsFound, find_is, count_by-filter-le, counted_once, counted_less}
-use Rattle.ebpf_machine.proofs.Steps.{GoesOn, IsNext, next_of, stepped_goes, stepped_ends}
+use Rattle.ebpf_machine.proofs.World.Asking.{asked_by, asked_goes, asked_ends, there_goes}
+use Rattle.ebpf_machine.proofs.Lists.ListLemmas.{IsFound, find_is, count_by-filter-le, counted_once, counted_less}
+use Rattle.ebpf_machine.proofs.World.Steps.{GoesOn, IsNext, next_of, stepped_goes, stepped_ends}
 
 -- how many of the objects are of a kind
 abbrev pub of_kind : ℕ → List ObjectView → ℕ

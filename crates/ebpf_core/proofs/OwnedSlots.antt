@@ -6,9 +6,9 @@ use Rattle.std.proofs.lemmas.Bool.{eqb-true, eq-eqb}
 use Rattle.ebpf_machine.specs.World.{Name, World, Running, Owner, Holder, Run, is_in, is_in_ledger, is_run, kind_from, kind_in, ledger_of, held_by, name_of, IsOfKind}
 use Rattle.ebpf_machine.specs.View.{call_of, slots_in}
 use Rattle.ebpf_machine.specs.Sound.{IsOwned}
-use Rattle.ebpf_machine.proofs.ListLemmas.{IsFound, find_is, Contains-head, Contains-kept, none_counted}
-use Rattle.ebpf_machine.proofs.Mapped.{Contains-mapped, Contains-unmapped}
-use Rattle.ebpf_machine.proofs.Owners.{owner_of, held_owner, same_slot}
+use Rattle.ebpf_machine.proofs.Lists.ListLemmas.{IsFound, find_is, Contains-head, Contains-kept, none_counted}
+use Rattle.ebpf_machine.proofs.Lists.Mapped.{Contains-mapped, Contains-unmapped}
+use Rattle.ebpf_machine.proofs.World.Owners.{owner_of, held_owner, same_slot}
 
 -- a slot of some ledger is in that of its kind
 in_its_ledger : (base : ℕ) (ledgers : List (List ℕ)) (slot : ℕ) → list_any (is_in slot) ledgers ≡ true → (k : ℕ) × (kind_from base ledgers slot ≡ base + k) × (is_in slot (get_or ledgers k []) ≡ true)

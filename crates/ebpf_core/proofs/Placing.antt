@@ -7,9 +7,9 @@ use Rattle.ebpf_machine.specs.declared.holding.Holding.{Holding}
 use Rattle.ebpf_machine.specs.World.{Name, World, Running, Owner, Run, held_by, is_in, is_in_ledger, is_owned, ledger_of, name_of}
 use Rattle.ebpf_machine.specs.View.{ObjectView, RunView, call_of, object_in, view_of, view_in}
 use Rattle.ebpf_machine.specs.RunState.{RunState, object_seen}
-use Rattle.ebpf_machine.proofs.ListLemmas.{any_from, any_one}
-use Rattle.ebpf_machine.proofs.Mapped.{Contains-mapped, Contains-unmapped}
-use Rattle.ebpf_machine.proofs.Owners.{owner_of, held_owner}
+use Rattle.ebpf_machine.proofs.Lists.ListLemmas.{any_from, any_one}
+use Rattle.ebpf_machine.proofs.Lists.Mapped.{Contains-mapped, Contains-unmapped}
+use Rattle.ebpf_machine.proofs.World.Owners.{owner_of, held_owner}
 use Rattle.ebpf_core.specs.declared.event.Answer.{Answer}
 use Rattle.ebpf_core.specs.declared.event.Answer.TheVariants.{Absent, Null, Slot}
 use Rattle.ebpf_core.specs.declared.passing.Object.{Object}

@@ -9,9 +9,9 @@ use Rattle.ebpf_machine.specs.World.{Name, Kind, World, Owner, Run, Going, Exite
 use Rattle.ebpf_machine.specs.Kinds.{known_kinds}
 use Rattle.ebpf_machine.specs.View.{ObjectView, RunView}
 use Rattle.ebpf_machine.specs.RunState.{RunState, status_of}
-use Rattle.ebpf_machine.proofs.ListLemmas.{IsFound, find_is}
-use Rattle.ebpf_machine.proofs.Mapped.{Contains-unmapped}
-use Rattle.ebpf_machine.proofs.Owners.{owner_of, kind_in-ledger}
+use Rattle.ebpf_machine.proofs.Lists.ListLemmas.{IsFound, find_is}
+use Rattle.ebpf_machine.proofs.Lists.Mapped.{Contains-unmapped}
+use Rattle.ebpf_machine.proofs.World.Owners.{owner_of, kind_in-ledger}
 use Rattle.ebpf_core.specs.declared.passing.Object.{Object}
 use Rattle.ebpf_core.specs.declared.place.Place.TheVariants.{Home, Held}
 use Rattle.ebpf_core.specs.declared.world.Status.TheVariants as status

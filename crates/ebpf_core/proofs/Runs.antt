@@ -11,8 +11,8 @@ use Rattle.ebpf_machine.specs.RunState.{RunState, first_state_of}
 use Rattle.ebpf_machine.specs.Sound.{IsSound, IsAlone}
 use Rattle.ebpf_machine.specs.Store.{AreOutBy}
 use Rattle.ebpf_machine.specs.Alone.{replies_from}
-use Rattle.ebpf_machine.proofs.Lone.{after_none}
-use Rattle.ebpf_machine.proofs.Execs.{shown_run}
+use Rattle.ebpf_machine.proofs.World.Lone.{after_none}
+use Rattle.ebpf_machine.proofs.World.Execs.{shown_run}
 use Rattle.ebpf_core.specs.declared.passing.Object.{Object}
 use Rattle.ebpf_core.specs.Passing.{IsOut}
 use Rattle.ebpf_core.specs.Shown.{WorldState, Shows, IsTended, run_seen}

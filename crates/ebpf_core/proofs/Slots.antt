@@ -11,12 +11,12 @@ use Rattle.ebpf_machine.specs.World.{Name, World, is_in, is_in_ledger, is_owned,
 use Rattle.ebpf_machine.specs.Kinds.{known_kinds}
 use Rattle.ebpf_machine.specs.Events.{SlotInLedger, SlotNotReapable, NoSuchProgramOrKind, with_slot, with_slot_joined, growing, without_slot, with_slot_left, reaping}
 use Rattle.ebpf_machine.specs.RunState.{RunState}
-use Rattle.ebpf_machine.proofs.LedgerChanges.{any-set}
-use Rattle.ebpf_machine.proofs.NewSlots.{IsNew, joined_in, owned_joined, view_joined}
-use Rattle.ebpf_machine.proofs.NewSlots as new_slots
-use Rattle.ebpf_machine.proofs.Owners.{owner_of, kind_in-ledger}
-use Rattle.ebpf_machine.proofs.PartedSlots.{IsReapable, owned_parted, parted_away, view_parted}
-use Rattle.ebpf_machine.proofs.PartedSlots as parted_slots
+use Rattle.ebpf_machine.proofs.World.LedgerChanges.{any-set}
+use Rattle.ebpf_machine.proofs.World.NewSlots.{IsNew, joined_in, owned_joined, view_joined}
+use Rattle.ebpf_machine.proofs.World.NewSlots as new_slots
+use Rattle.ebpf_machine.proofs.World.Owners.{owner_of, kind_in-ledger}
+use Rattle.ebpf_machine.proofs.World.PartedSlots.{IsReapable, owned_parted, parted_away, view_parted}
+use Rattle.ebpf_machine.proofs.World.PartedSlots as parted_slots
 use Rattle.ebpf_core.specs.declared.passing.Object.{Object}
 use Rattle.ebpf_core.specs.declared.place.Place.{Place}
 use Rattle.ebpf_core.specs.declared.place.Place.TheVariants.{Home, Held}

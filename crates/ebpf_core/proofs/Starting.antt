@@ -13,8 +13,8 @@ use Rattle.ebpf_machine.specs.Events.{Illegal, NoSuchProgramOrKind, WrongContext
 use Rattle.ebpf_machine.specs.View.{call_of, view_of, view_in, slots_in}
 use Rattle.ebpf_machine.specs.RunState.{RunState, first_state_of}
 use Rattle.ebpf_machine.specs.Sound.{IsSound}
-use Rattle.ebpf_machine.proofs.ListLemmas.{get_push, get_push_cases}
-use Rattle.ebpf_machine.proofs.Owned.{owned_started}
+use Rattle.ebpf_machine.proofs.Lists.ListLemmas.{get_push, get_push_cases}
+use Rattle.ebpf_machine.proofs.World.Owned.{owned_started}
 use Rattle.ebpf_core.specs.declared.fault.ApplyCode.{ApplyCode}
 use Rattle.ebpf_core.specs.declared.fault.ApplyCode.TheVariants.{E9, E10}
 use Rattle.ebpf_core.specs.declared.passing.Object.{Object}

@@ -1,4 +1,5 @@
 -- The verifier's rules are sound: what an abstract state says of a run, it says after each instruction.
+pub mod SameLayout
 pub mod ValueJoins
 pub mod Words
 pub mod Loads

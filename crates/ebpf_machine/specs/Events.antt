@@ -8,12 +8,12 @@ use Rattle.ebpf_insn.specs.Faults.{first_of}
 use Rattle.ebpf_verify.specs.Subject.{Subject}
 use Rattle.ebpf_verify.specs.declared.helper.Helper.{Helper}
 use Rattle.ebpf_verify.specs.declared.helper.Helper.TheVariants as helper
-use Rattle.ebpf_verify.specs.Calls.{helper_of}
 use Rattle.ebpf_machine.specs.declared.value.Value.{Value}
 use Rattle.ebpf_machine.specs.declared.value.Value.TheVariants.{Number, Pointer}
 use Rattle.ebpf_machine.specs.declared.value.Base.TheVariants.{Object}
 use Rattle.ebpf_machine.specs.declared.report.Reply.{Reply}
 use Rattle.ebpf_machine.specs.declared.report.Reply.TheVariants as reply
+use Rattle.ebpf_machine.specs.Layout.{helper_of}
 use Rattle.ebpf_machine.specs.Bytes.{patched}
 use Rattle.ebpf_machine.specs.Values.{Trap, TooManyObjects, Frame, read}
 use Rattle.ebpf_machine.specs.Effect.{Act, Nothing, Write, Ask, Free, Effect, Goes, Ends, Traps, effect_at, with_value}

@@ -1,3 +1,4 @@
+pub mod Layout
 pub mod Values
 pub mod Cells
 pub mod StackWords

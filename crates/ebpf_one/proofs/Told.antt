@@ -15,10 +15,10 @@ use Rattle.ebpf_machine.specs.RunState.{RunState, first_state_of, status_of, obj
 use Rattle.ebpf_machine.specs.Sound.{AreSized, IsSound}
 use Rattle.ebpf_machine.specs.Step.{Served, Idle, Refused, Granted, IsStep, MayAnswer, result_of, granted_in, refused_in, asking_in}
 use Rattle.ebpf_machine.specs.Store.{AreOutBy, Counts}
-use Rattle.ebpf_machine.proofs.Asking.{AsksNew, next_asks}
-use Rattle.ebpf_machine.proofs.Lone.{one_on}
-use Rattle.ebpf_machine.proofs.Replies.{replies_kept, replies_added}
-use Rattle.ebpf_machine.proofs.Steps.{next_of}
+use Rattle.ebpf_machine.proofs.World.Asking.{AsksNew, next_asks}
+use Rattle.ebpf_machine.proofs.World.Lone.{one_on}
+use Rattle.ebpf_machine.proofs.World.Replies.{replies_kept, replies_added}
+use Rattle.ebpf_machine.proofs.World.Steps.{next_of}
 use Rattle.ebpf_one.specs.declared.store.Entry.{Entry}
 use Rattle.ebpf_one.specs.declared.store.Object.{Object}
 use Rattle.ebpf_one.specs.Store.{IsOut}

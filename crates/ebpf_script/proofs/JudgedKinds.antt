@@ -8,7 +8,7 @@ use Rattle.ebpf_verify.specs.declared.fault.VerifyCode.{VerifyCode}
 use Rattle.ebpf_verify.specs.Subject.{Subject}
 use Rattle.ebpf_machine.specs.World.{kinds_of}
 use Rattle.ebpf_machine.specs.Kinds.{known_kinds}
-use Rattle.ebpf_machine.proofs.KindLemmas.{kinds_known}
+use Rattle.ebpf_machine.proofs.Instructions.KindLemmas.{kinds_known}
 use Rattle.ebpf_script.specs.declared.judge.Judged.{Judged}
 use Rattle.ebpf_script.specs.declared.judge.Judged.TheVariants.{Accepted}
 use Rattle.ebpf_script.specs.Judging.{IsJudged, IsJudgedBy, judged_by_flow, judged_by_verdict}

@@ -5,7 +5,7 @@ use Rattle.ebpf_insn.specs.declared.insn.Insn.{Insn}
 use Rattle.ebpf_machine.specs.Values.{read}
 use Rattle.ebpf_machine.specs.RunState.{frame_with, object_seen}
 use Rattle.ebpf_machine.specs.Flows.{object_in, object_written}
-use Rattle.ebpf_machine.proofs.Doable.{load_loads, load_does, store_stores, store_does}
+use Rattle.ebpf_machine.proofs.Instructions.Doable.{load_loads, load_does, store_stores, store_does}
 use Rattle.ebpf_machine.proofs.execute.execute.Given.{Over}
 use Rattle.ebpf_machine.proofs.execute.execute.Goals.{In-Store}
 use Rattle.ebpf_machine.proofs.execute.execute.Goals as goal

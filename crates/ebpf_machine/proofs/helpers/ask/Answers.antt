@@ -4,8 +4,8 @@ use Rattle.ebpf_verify.specs.declared.helper.Helper.TheVariants.{New}
 use Rattle.ebpf_machine.specs.World.{Kind, image_at}
 use Rattle.ebpf_machine.specs.RunState.{RunState}
 use Rattle.ebpf_machine.specs.Parts.{state_of}
-use Rattle.ebpf_machine.proofs.Advancing.{Calls, ready_few, ready_inside, ready_told}
-use Rattle.ebpf_machine.proofs.Granting.{asking, ask_finds, ask_known, asks_room, kind_fits, kind_there, granted_state, grant_advanced, null_advanced}
+use Rattle.ebpf_machine.proofs.Instructions.Advancing.{Calls, ready_few, ready_inside, ready_told}
+use Rattle.ebpf_machine.proofs.Instructions.Granting.{asking, ask_finds, ask_known, asks_room, kind_fits, kind_there, granted_state, grant_advanced, null_advanced}
 use Rattle.ebpf_machine.proofs.helpers.ask.Given.{Over}
 use Rattle.ebpf_machine.proofs.helpers.ask.Goals.{Start, After-number-kind}
 use Rattle.ebpf_machine.proofs.helpers.ask.Goals as goal

@@ -1,7 +1,7 @@
 use Rattle.std.proofs.Common.{Some, ap, ◌∙◌}
 use Rattle.ebpf_verify.specs.declared.helper.Helper.TheVariants.{Emit}
 use Rattle.ebpf_machine.specs.Parts.{state_of}
-use Rattle.ebpf_machine.proofs.Advancing.{Calls, ready_few, ready_inside, ready_emits, emit_finds, emit_advanced}
+use Rattle.ebpf_machine.proofs.Instructions.Advancing.{Calls, ready_few, ready_inside, ready_emits, emit_finds, emit_advanced}
 use Rattle.ebpf_machine.proofs.helpers.call.Given.{Over}
 use Rattle.ebpf_machine.proofs.helpers.call.Goals.{In-Emit}
 use Rattle.ebpf_machine.proofs.helpers.call.Goals as goal

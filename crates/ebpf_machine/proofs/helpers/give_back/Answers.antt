@@ -3,8 +3,8 @@ use Rattle.ebpf_verify.specs.declared.helper.Helper.TheVariants.{Free}
 use Rattle.ebpf_machine.specs.declared.holding.Holding.{Holding}
 use Rattle.ebpf_machine.specs.declared.value.Value.TheVariants.{Number}
 use Rattle.ebpf_machine.specs.Parts.{state_of}
-use Rattle.ebpf_machine.proofs.Advancing.{Calls, registers_answered, ready_few, ready_inside}
-use Rattle.ebpf_machine.proofs.Returning.{free_object, free_held, free_here}
+use Rattle.ebpf_machine.proofs.Instructions.Advancing.{Calls, registers_answered, ready_few, ready_inside}
+use Rattle.ebpf_machine.proofs.Instructions.Returning.{free_object, free_held, free_here}
 use Rattle.ebpf_machine.proofs.helpers.give_back.Given.{Over}
 use Rattle.ebpf_machine.proofs.helpers.give_back.Goals.{Start}
 use Rattle.ebpf_machine.proofs.helpers.give_back.Goals as goal

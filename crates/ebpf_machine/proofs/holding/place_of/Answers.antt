@@ -1,4 +1,4 @@
-use Rattle.ebpf_machine.proofs.Places.{none_before_all, one_more_before}
+use Rattle.ebpf_machine.proofs.Instructions.Places.{none_before_all, one_more_before}
 use Rattle.ebpf_machine.proofs.holding.place_of.Goals as goal
 
 pub places-preserved : goal.places-preserved

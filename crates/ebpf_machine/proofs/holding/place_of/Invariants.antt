@@ -1,4 +1,4 @@
-use Rattle.ebpf_machine.proofs.Places.{NoneBefore}
+use Rattle.ebpf_machine.proofs.Instructions.Places.{NoneBefore}
 use Rattle.ebpf_machine.proofs.holding.place_of.Given as goal
 
 abbrev pub invariant-places : goal.invariant-places

@@ -6,7 +6,7 @@ use Rattle.ebpf_machine.specs.declared.value.Value.TheVariants.{Number}
 use Rattle.ebpf_machine.specs.Values.{ObjectBounds}
 use Rattle.ebpf_machine.specs.Cells.{place_in, read_at}
 use Rattle.ebpf_machine.specs.Flows.{IsResult}
-use Rattle.ebpf_machine.proofs.Places.{read_there, read_held}
+use Rattle.ebpf_machine.proofs.Instructions.Places.{read_there, read_held}
 use Rattle.ebpf_machine.proofs.memory.load_object.Goals as goal
 
 pub place_of-place-requires : goal.place_of-place-requires

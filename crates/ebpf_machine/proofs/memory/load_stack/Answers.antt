@@ -3,7 +3,7 @@ use Rattle.std.specs.Prelude.{nat_abs}
 use Rattle.std.specs.Int.{w16, w64}
 use Rattle.std.proofs.lemmas.Int.{to_z-of_z}
 use Rattle.ebpf_state.specs.Stack.{bytes_in, place_of}
-use Rattle.ebpf_machine.proofs.Accesses.{load_placed, load_fine, load_is}
+use Rattle.ebpf_machine.proofs.Instructions.Accesses.{load_placed, load_fine, load_is}
 use Rattle.ebpf_machine.proofs.memory.load_stack.Goals.{After-stack_place}
 use Rattle.ebpf_machine.proofs.memory.load_stack.Goals as goal
 

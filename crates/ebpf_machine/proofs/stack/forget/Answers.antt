@@ -1,4 +1,4 @@
-use Rattle.ebpf_machine.proofs.StackWords.{forgotten_flags, forgotten_words}
+use Rattle.ebpf_machine.proofs.Instructions.StackWords.{forgotten_flags, forgotten_words}
 use Rattle.ebpf_machine.proofs.stack.forget.Goals as goal
 
 pub returns-clause-pointers : goal.returns-clause-pointers

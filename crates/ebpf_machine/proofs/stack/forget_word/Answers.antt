@@ -1,5 +1,5 @@
 use Rattle.std.proofs.Common.{◌∙◌, sym, arith}
-use Rattle.ebpf_machine.proofs.StackWords.{forgotten_flag}
+use Rattle.ebpf_machine.proofs.Instructions.StackWords.{forgotten_flag}
 use Rattle.ebpf_machine.proofs.stack.forget_word.Goals as goal
 
 pub returns-then-is_some-clause-set : goal.returns-then-is_some-clause-set

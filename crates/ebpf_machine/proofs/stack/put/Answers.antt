@@ -1,5 +1,5 @@
 use Rattle.std.proofs.Common.{true, false, refl, arith, ◌∙◌, ap, take, List, ℕ}
-use Rattle.ebpf_machine.proofs.StackWords.{marked_byte, written_byte}
+use Rattle.ebpf_machine.proofs.Instructions.StackWords.{marked_byte, written_byte}
 use Rattle.ebpf_machine.proofs.stack.put.Goals as goal
 
 pub returns-clause-bytes : goal.returns-clause-bytes

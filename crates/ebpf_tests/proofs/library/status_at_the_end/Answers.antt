@@ -2,7 +2,7 @@ use Rattle.std.proofs.Common.{◌≡◌, ◌∙◌, ℕ, zero, suc, ◌<◌, ap,
 use Rattle.ebpf_verify.specs.Subject.{Subject}
 use Rattle.ebpf_machine.specs.World.{kinds_of}
 use Rattle.ebpf_machine.specs.Kinds.{known_kinds}
-use Rattle.ebpf_machine.proofs.KindLemmas.{kinds_known}
+use Rattle.ebpf_machine.proofs.Instructions.KindLemmas.{kinds_known}
 use Rattle.ebpf_tests.proofs.library.status_at_the_end.Goals as goal
 
 -- one program is all programs

@@ -1,7 +1,7 @@
 use Rattle.std.proofs.Common.{◌∙◌, ap, sym, ℕ, None, ◌/◌, get_or}
 use Rattle.std.specs.Prelude.{if◌then◌else◌}
 use Rattle.ebpf_state.specs.Stack.{bytes_in, is_whole_word}
-use Rattle.ebpf_machine.proofs.StackWords.{loads_number, loads_pointer, pointer_there, pointer_nowhere}
+use Rattle.ebpf_machine.proofs.Instructions.StackWords.{loads_number, loads_pointer, pointer_there, pointer_nowhere}
 use Rattle.ebpf_machine.proofs.stack.Stack.load.Goals as goal
 
 pub returns-in-Some : goal.returns-in-Some

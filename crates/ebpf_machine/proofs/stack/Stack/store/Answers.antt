@@ -1,7 +1,7 @@
 use Rattle.std.proofs.Common.{ap, ◌∙◌}
 use Rattle.ebpf_state.specs.Stack.{bytes_in}
 use Rattle.ebpf_machine.specs.Cells.{stored_cells, is_pointer}
-use Rattle.ebpf_machine.proofs.StackWords.{stores_number, stores_value, marked_after, size_some, size_few}
+use Rattle.ebpf_machine.proofs.Instructions.StackWords.{stores_number, stores_value, marked_after, size_some, size_few}
 use Rattle.ebpf_machine.proofs.stack.Stack.store.Goals as goal
 
 pub returns-in-Pointer : goal.returns-in-Pointer
