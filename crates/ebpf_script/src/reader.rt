@@ -3,7 +3,7 @@
 //! To be read in this order: `words`, `numbers`, `names`, `script`, `statement`, `line`.
 
 ghost use Rattle.std.specs.Prelude.{◌≡◌, ◌≤◌, ◌+◌, IfOk, IfErr};
-ghost use Rattle.ebpf_script.specs.declared.input.TheConstants.{MAX_INPUT};
+ghost use Rattle.ebpf_command.specs.declared.input.TheConstants.{MAX_INPUT};
 ghost use Rattle.ebpf_script.specs.ReadScripts.{parsed_script, IsScriptStop};
 ghost use Rattle.ebpf_script.specs.Scripts.{parsed_text};
 
@@ -14,10 +14,10 @@ pub mod script;
 mod statement;
 mod words;
 
-use crate::done::FaultCode;
-use crate::input::MAX_INPUT;
 use crate::reader::line::read_line;
 use crate::reader::script::{Dialect, Script, ScriptFault, ScriptStop};
+use ebpf_command::done::FaultCode;
+use ebpf_command::input::MAX_INPUT;
 use indexmap::IndexMap;
 use std::alloc::Global;
 
@@ -49,7 +49,7 @@ pub fn read_script(alloc: Global, dialect: Dialect, text: &[u8]) -> Result<Scrip
     for line in text.split(|c| *c == b'\n') {
         number += 1;
         if let Err(stop) = read_line(alloc, dialect, &mut script, line) {
-            return Err(stop.at(number));
+            return Err(ScriptStop::at(stop, number));
         }
     }
     Ok(script)
