@@ -1,6 +1,6 @@
 //! Bytes that are written as hex digits.
 
-ghost use Rattle.std.specs.Prelude.{◌≡◌, IfOk, option_map};
+ghost use Rattle.std.specs.Prelude.{◌≡◌, ◌%◌, IfOk, OnErr, option_map, length};
 ghost use Rattle.ebpf_command.specs.HexText.{hex_bytes, hex_or_dash, is_dash};
 
 use hex::FromHexError;
@@ -8,7 +8,9 @@ use std::alloc::{AllocError, Global};
 
 /// The bytes that a text of hex digits stands for, in upper or lower case; `None` where it isn't readable.
 pub fn hex_bytes(alloc: Global, text: &[u8]) -> Result<Option<Vec<u8>>, AllocError>
-    ensures { IfOk result (λ r. option_map (λ v. v.items) r ≡ hex_bytes text.now) }
+    ensures value { IfOk result (λ r. option_map (λ v. v.items) r ≡ hex_bytes text.now) }
+    // A text of an odd length takes no memory.
+    ensures even { OnErr result (length text.now % 2 ≡ 0) }
 {
     match hex::decode(alloc, text) {
         Ok(bytes) => Ok(Some(bytes)),

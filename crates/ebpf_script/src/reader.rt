@@ -2,7 +2,7 @@
 //!
 //! To be read in this order: `words`, `numbers`, `names`, `script`, `statement`, `line`.
 
-ghost use Rattle.std.specs.Prelude.{◌≡◌, ◌≤◌, ◌+◌, IfOk, IfErr};
+ghost use Rattle.std.specs.Prelude.{◌≡◌, ◌≤◌, ◌<◌, ◌+◌, IfOk, IfErr, Err, length};
 ghost use Rattle.ebpf_command.specs.declared.input.TheConstants.{MAX_INPUT};
 ghost use Rattle.ebpf_script.specs.ReadScripts.{parsed_script, IsScriptStop};
 ghost use Rattle.ebpf_script.specs.Scripts.{parsed_text};
@@ -31,6 +31,8 @@ pub fn read_script(alloc: Global, dialect: Dialect, text: &[u8]) -> Result<Scrip
     // So a caller can count passes of its own beside them.
     ensures few { IfOk result (λ script. script.passes ≤ MAX_INPUT + 1) }
     ensures refused { IfErr result (IsScriptStop (parsed_text dialect text.now)) }
+    // A text that is too long is told as such, whatever memory there is.
+    ensures long { MAX_INPUT < length text.now → result ≡ Err (ScriptStop.Fault (record { code = FaultCode.S1; line = 0 })) }
 {
     if text.len() > MAX_INPUT {
         return Err(ScriptStop::Fault(ScriptFault {
