@@ -7,7 +7,7 @@ pub record Response : Type 0 where
   pub text : List ℕ
   pub done : Done
 
--- a refusal or a fault is the whole text
+-- the text holds a refusal or a fault
 abbrev pub refused_response : List ℕ → Response
 refused_response line = record { text = line; done = Refused }
 
