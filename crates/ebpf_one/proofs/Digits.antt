@@ -5,7 +5,7 @@ use Rattle.std.proofs.lemmas.List.Elements.{All-head, All-tail}
 use Rattle.hex.specs.Hex.{is_hex_digit, decode_of}
 use Rattle.hex.specs.declared.error.FromHexError.{FromHexError}
 use Rattle.hex.proofs.HexLemmas.{decode_of-ok}
-use Rattle.ebpf_script.specs.HexText.{hex_bytes, bytes_or_none}
+use Rattle.ebpf_command.specs.HexText.{hex_bytes, bytes_or_none}
 use Rattle.ebpf_one.specs.ProgramText.{is_blank, program_bytes}
 
 abbrev IsDigit : ℕ → Type 0

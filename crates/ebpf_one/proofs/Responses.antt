@@ -4,13 +4,13 @@ use Rattle.std.proofs.lemmas.List.{length-take-le}
 use Rattle.std.proofs.lemmas.Bool.{lt-ltb}
 use Rattle.ebpf_state.specs.declared.kinds.KindRow.{KindRow}
 use Rattle.ebpf_verify.specs.declared.decl.Decl.{Decl}
-use Rattle.ebpf_script.specs.declared.done.FaultCode.{FaultCode}
-use Rattle.ebpf_script.specs.declared.done.FaultCode.TheVariants.{S1}
-use Rattle.ebpf_script.specs.declared.judge.Judged.{Judged}
-use Rattle.ebpf_script.specs.Input.{read_of}
-use Rattle.ebpf_script.specs.Judging.{IsJudged}
-use Rattle.ebpf_script.specs.Response.{Response}
-use Rattle.ebpf_script.proofs.Written.{CutsLong}
+use Rattle.ebpf_command.specs.declared.done.FaultCode.{FaultCode}
+use Rattle.ebpf_command.specs.declared.done.FaultCode.TheVariants.{S1}
+use Rattle.ebpf_command.specs.declared.judge.Judged.{Judged}
+use Rattle.ebpf_command.specs.Input.{read_of}
+use Rattle.ebpf_command.specs.Judging.{IsJudged}
+use Rattle.ebpf_command.specs.Response.{Response}
+use Rattle.ebpf_command.proofs.Written.{CutsLong}
 use Rattle.ebpf_one.specs.Asked.{Asked, asked_for, bytes_in, input_fault, fault_of}
 use Rattle.ebpf_one.specs.ListText.{RespondsList, RespondsGiven}
 use Rattle.ebpf_one.specs.OneText.{Responds, RespondsAsked, RespondsBytes, RespondsJudged, AreGiven}
@@ -34,7 +34,7 @@ cuts_at fault Responds is_long same input response long h =
     subst (λ (f : Option FaultCode). Responds f input response) (sym (is_long input (omega (arith, long)))) (same (read_of input) input response of_beginning)
 
 -- so `one` responds to an input that is too long as to its beginning
-pub one_cuts : (context : List ℕ) (held : ℕ) (nulls : Bool) → CutsLong (λ input response. Responds input context held nulls response)
+pub one_cuts : (context : List ℕ) (held : ℕ) (nulls : Bool) → CutsLong (Responds context held nulls)
 one_cuts context held nulls =
     cuts_at (λ input. fault_of input context held) (λ f input response. RespondsAsked f (asked_for input context held) nulls response) (λ input long. fault_of_long input context held long) (λ a b response h. h)
 
@@ -48,7 +48,7 @@ response_of_judged a seen decl rows was judged nulls response same given is e h 
     (decl, rows, judged, given, subst (λ (j : Judged). IsJudged a.bytes decl rows j) e (subst (λ (bytes : List ℕ). IsJudged bytes decl rows was) same is), h)
 
 -- the response to the bytes that an input asks for is the response to the input
-pub Responds-asked : (input context : List ℕ) (held : ℕ) (nulls : Bool) (a : Asked) (response : Response) → fault_of input context held ≡ None → a ≡ asked_for input context held → RespondsBytes a nulls response → Responds input context held nulls response
+pub Responds-asked : (input context : List ℕ) (held : ℕ) (nulls : Bool) (a : Asked) (response : Response) → fault_of input context held ≡ None → a ≡ asked_for input context held → RespondsBytes a nulls response → Responds context held nulls input response
 Responds-asked input context held nulls a response fine same h =
     let P : Option FaultCode → Type 0 = λ f. RespondsAsked f (asked_for input context held) nulls response in
     subst P (sym fine) (subst (λ (x : Asked). RespondsBytes x nulls response) same h)

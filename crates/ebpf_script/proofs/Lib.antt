@@ -1,11 +1,7 @@
-pub mod Known
-pub mod KindLemmas
 pub mod NameLemmas
 pub mod NumberLemmas
 pub mod ScriptLemmas
 pub mod LinesLemmas
-pub mod JudgedKinds
 pub mod VerdictLemmas
 pub mod WorldLemmas
-pub mod Written
 pub mod ScriptTextLemmas

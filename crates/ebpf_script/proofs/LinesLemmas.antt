@@ -4,16 +4,16 @@ use Rattle.std.proofs.lemmas.Bool.Decides.{nat_tests}
 use Rattle.std.proofs.lemmas.List.{at_drop_more, at_drop_all}
 use Rattle.std.proofs.lemmas.List.Splits.{length-slice_split}
 use Rattle.std.proofs.lemmas.List.Sums.{count_by-le-length}
-use Rattle.ebpf_script.specs.declared.done.FaultCode.{FaultCode}
-use Rattle.ebpf_script.specs.declared.done.Stop.{Stop}
-use Rattle.ebpf_script.specs.declared.done.Stop.TheVariants as stops
+use Rattle.ebpf_command.specs.declared.done.FaultCode.{FaultCode}
+use Rattle.ebpf_command.specs.declared.done.Stop.{Stop}
+use Rattle.ebpf_command.specs.declared.done.Stop.TheVariants as stops
+use Rattle.ebpf_command.specs.Stops.{IsStop}
 use Rattle.ebpf_script.specs.declared.reader.script.Dialect.{Dialect}
 use Rattle.ebpf_script.specs.LineFaults.{line_fault}
 use Rattle.ebpf_script.specs.declared.reader.script.Script.{Script}
 use Rattle.ebpf_script.specs.ReadScripts.{IsScriptStop, Adds, parsed_script, stop_at}
 use Rattle.ebpf_script.specs.ParsedScript.{ParsedScript, empty_script, with_line}
 use Rattle.ebpf_script.specs.ScriptLines.{script_lines}
-use Rattle.ebpf_script.specs.Stops.{IsStop}
 use Rattle.ebpf_script.specs.Scripts.{parsed_lines, parsed_text, unless_fault}
 use Rattle.ebpf_script.specs.Shapes.{Shape, Passed, Unknown, ProgramLine, StartLine, ExecLine, AnsweredLine, GrowLine, ReapLine, ArenaLine, JobLine, PassLine, shape_of}
 use Rattle.ebpf_script.specs.Words.{words}

@@ -2,16 +2,16 @@
 use Rattle.std.proofs.Common.{◌≡◌, ℕ, ◌<◌, List, length, Result, Err, refl, sym, subst, arith}
 use Rattle.std.proofs.lemmas.List.{length-take-le}
 use Rattle.std.proofs.lemmas.Bool.{lt-ltb}
-use Rattle.ebpf_script.specs.declared.done.FaultCode.{FaultCode}
-use Rattle.ebpf_script.specs.declared.done.FaultCode.TheVariants.{S1}
+use Rattle.ebpf_command.specs.declared.done.FaultCode.{FaultCode}
+use Rattle.ebpf_command.specs.declared.done.FaultCode.TheVariants.{S1}
+use Rattle.ebpf_command.specs.Input.{read_of}
+use Rattle.ebpf_command.specs.Response.{Response}
+use Rattle.ebpf_command.proofs.Written.{CutsLong}
 use Rattle.ebpf_script.specs.declared.reader.script.Dialect.{Dialect}
-use Rattle.ebpf_script.specs.Input.{read_of}
 use Rattle.ebpf_script.specs.ParsedScript.{ParsedScript}
-use Rattle.ebpf_script.specs.Response.{Response}
 use Rattle.ebpf_script.specs.Scripts.{parsed_text}
 use Rattle.ebpf_script.specs.ScriptText.{RespondsScript}
 use Rattle.ebpf_script.specs.Verdicts.{Verdict}
-use Rattle.ebpf_script.proofs.Written.{CutsLong}
 
 parsed_text_long : (dialect : Dialect) (text : List ℕ) → 1048576 < length text → parsed_text dialect text ≡ Err (0, S1)
 unfolding parsed_text

@@ -11,10 +11,11 @@ use Rattle.ebpf_verify.specs.Subject.{Subject}
 use Rattle.ebpf_machine.specs.World.{kinds_of}
 use Rattle.ebpf_machine.specs.Kinds.{known_kinds}
 use Rattle.ebpf_core.specs.Shown.{AreKnown}
-use Rattle.ebpf_script.specs.declared.judge.Judged.{Judged}
-use Rattle.ebpf_script.specs.declared.judge.Judged.TheVariants.{Accepted, Refused}
-use Rattle.ebpf_script.specs.Judging.{IsJudged}
-use Rattle.ebpf_script.proofs.JudgedKinds.{accepted_kinds}
+use Rattle.ebpf_command.specs.declared.judge.Judged.{Judged}
+use Rattle.ebpf_command.specs.declared.judge.Judged.TheVariants.{Accepted, Refused}
+use Rattle.ebpf_command.specs.Judging.{IsJudged}
+use Rattle.ebpf_command.proofs.JudgedRows.{accepted_rows}
+use Rattle.ebpf_machine.proofs.KindLemmas.{kinds_known}
 use Rattle.ebpf_script.specs.declared.verdicts.Verdicts.{Verdicts}
 use Rattle.ebpf_script.specs.ParsedScript.{Named}
 use Rattle.ebpf_script.specs.Verdicts.{Verdict, verdict_lines, accepted_of, is_any_refused, judged_line, accepted_in, is_refused}
@@ -51,7 +52,7 @@ kept_next programs left old new v h text accepted refused = record {
 
 known_in : (bytes : List ℕ) (decl : Decl) (rows : List KindRow) (judged : Judged) → AreKinds rows → IsJudged bytes decl rows judged → AreKnown (accepted_in judged)
 known_in bytes decl rows (Refused code slot) kinds is k d lt = absurd (omega arith)
-known_in bytes decl rows (Accepted t) kinds is zero d lt = accepted_kinds bytes decl rows (Accepted t) t kinds is refl
+known_in bytes decl rows (Accepted t) kinds is zero d lt = ap kinds_of (accepted_rows bytes decl rows (Accepted t) t is refl) ∙ kinds_known rows kinds
 known_in bytes decl rows (Accepted t) kinds is (suc k) d lt = absurd (omega (arith, lt))
 
 known_of : (verdicts : List Verdict) → AreKnown (accepted_of verdicts)

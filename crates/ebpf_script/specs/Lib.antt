@@ -1,10 +1,3 @@
-pub mod Input
-pub mod HexText
-pub mod Codes
-pub mod Judging
-pub mod Lines
-pub mod Stops
-pub mod Response
 pub mod ScriptLines
 pub mod Words
 pub mod Numbers
@@ -16,6 +9,7 @@ pub mod Scripts
 pub mod ReadScripts
 pub mod Verdicts
 pub mod VerdictsKept
+pub mod EventCodes
 pub mod WorldLines
 pub mod ScriptText
 pub mod CheckText

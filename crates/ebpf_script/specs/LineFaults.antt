@@ -1,15 +1,16 @@
 -- Why a line can't be used: the first of its faults, in the order of their codes.
 use Rattle.std.specs.Prelude.{ℕ, Bool, not, ◌==◌, if◌then◌else◌, List, [], ◌∷◌, length, Option, Some, None, is_none, is_some, unwrap_or}
 use Rattle.ebpf_insn.specs.Faults.{first_of}
-use Rattle.ebpf_script.specs.declared.done.FaultCode.{FaultCode}
-use Rattle.ebpf_script.specs.declared.done.FaultCode.TheVariants.{S2, S3, S4, S5, S6, S7, S8, S9}
+use Rattle.ebpf_command.specs.declared.done.FaultCode.{FaultCode}
+use Rattle.ebpf_command.specs.declared.done.FaultCode.TheVariants.{S2, S3, S4, S5, S6, S7, S8, S9}
+use Rattle.ebpf_command.specs.HexText.{hex_or_dash}
 use Rattle.ebpf_script.specs.declared.reader.script.Dialect.{Dialect}
-use Rattle.ebpf_script.specs.HexText.{hex_or_dash}
 use Rattle.ebpf_script.specs.Names.{is_name}
 use Rattle.ebpf_script.specs.Numbers.{context_of, held_of, run_of, kind_of, slot_of, pages_of}
 use Rattle.ebpf_script.specs.ParsedScript.{Named, ParsedScript, number_of, declared_by, answer_of}
 use Rattle.ebpf_script.specs.ScriptLines.{is_text}
-use Rattle.ebpf_script.specs.Shapes.{Shape, Passed, Unknown, ProgramLine, StartLine, ExecLine, AnsweredLine, GrowLine, ReapLine, ArenaLine, JobLine, PassLine, shape_of}
+use Rattle.ebpf_script.specs.Shapes.{Shape, shape_of}
+use Rattle.ebpf_script.specs.Shapes.{Passed, Unknown, ProgramLine, StartLine, ExecLine, AnsweredLine, GrowLine, ReapLine, ArenaLine, JobLine, PassLine}
 use Rattle.ebpf_script.specs.Words.{words}
 
 -- whether bytes are as many as the program of this name declares for its context

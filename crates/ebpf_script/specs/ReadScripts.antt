@@ -1,11 +1,11 @@
 -- A script and the stops of its reader, as contracts see them.
 use Rattle.std.specs.Prelude.{◌≡◌, ◌<◌, ℕ, ◌+◌, ◌^◌, map, None, Result, Err, String, string_bytes}
 use Rattle.std.specs.declared.alloc.Global.{Global}
-use Rattle.ebpf_script.specs.declared.done.FaultCode.{FaultCode}
+use Rattle.ebpf_command.specs.declared.done.FaultCode.{FaultCode}
+use Rattle.ebpf_command.specs.declared.done.Stop.{Stop}
+use Rattle.ebpf_command.specs.declared.done.Stop.TheVariants as line
 use Rattle.ebpf_script.specs.declared.reader.script.ProgramText.{ProgramText}
 use Rattle.ebpf_script.specs.declared.reader.script.Script.{Script}
-use Rattle.ebpf_script.specs.declared.done.Stop.{Stop}
-use Rattle.ebpf_script.specs.declared.done.Stop.TheVariants as line
 use Rattle.ebpf_script.specs.declared.reader.script.ScriptStop.{ScriptStop}
 use Rattle.ebpf_script.specs.declared.reader.script.ScriptStop.TheVariants as script
 use Rattle.ebpf_script.specs.LineFaults.{shape_fault}

@@ -5,12 +5,13 @@ use Rattle.ebpf_machine.specs.World.{World}
 use Rattle.ebpf_machine.specs.Events.{Illegal}
 use Rattle.ebpf_core.specs.Faults.{code_of}
 use Rattle.ebpf_core.specs.Replay.{world_after}
+use Rattle.ebpf_command.specs.Response.{Response, refused_response, clean_response}
+use Rattle.ebpf_command.specs.Writing.{Responding}
 use Rattle.ebpf_script.specs.declared.reader.script.Dialect.TheVariants.{Events}
-use Rattle.ebpf_script.specs.Codes.{apply_name}
+use Rattle.ebpf_script.specs.EventCodes.{apply_name}
 use Rattle.ebpf_script.specs.ParsedScript.{ParsedScript}
 use Rattle.ebpf_script.specs.Scripts.{parsed_text}
 use Rattle.ebpf_script.specs.ScriptText.{RespondsScript}
-use Rattle.ebpf_script.specs.Response.{Response, refused_response, clean_response}
 use Rattle.ebpf_script.specs.Verdicts.{Verdict, verdict_lines, accepted_of}
 use Rattle.ebpf_script.specs.WorldLines.{world_lines}
 
@@ -26,5 +27,5 @@ world_response verdicts (Err stop) = refused_response (verdicts ++ stopped_line 
 abbrev pub replay_response : ParsedScript → List Verdict → Response
 replay_response parsed verdicts = world_response (verdict_lines verdicts) (world_after (accepted_of verdicts) parsed.events)
 
-abbrev pub RespondsReplay : List ℕ → Response → Type 0
+abbrev pub RespondsReplay : Responding
 RespondsReplay text response = RespondsScript replay_response (parsed_text Events text) response

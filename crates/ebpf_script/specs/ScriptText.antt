@@ -1,9 +1,9 @@
 -- The response of a command over scripts to what a text is parsed to.
 use Rattle.std.specs.Prelude.{◌≡◌, ℕ, if◌then◌else◌, List, Result, Ok, Err}
-use Rattle.ebpf_script.specs.declared.done.FaultCode.{FaultCode}
-use Rattle.ebpf_script.specs.Lines.{fault_line}
+use Rattle.ebpf_command.specs.declared.done.FaultCode.{FaultCode}
+use Rattle.ebpf_command.specs.Lines.{fault_line}
+use Rattle.ebpf_command.specs.Response.{Response, refused_response}
 use Rattle.ebpf_script.specs.ParsedScript.{ParsedScript}
-use Rattle.ebpf_script.specs.Response.{Response, refused_response}
 use Rattle.ebpf_script.specs.Verdicts.{Verdict, AreOn, verdict_lines, is_any_refused}
 
 -- the verdicts alone where a program is refused, or else what the command does

@@ -6,10 +6,10 @@ use Rattle.ebpf_state.specs.declared.kinds.KindRow.{KindRow}
 use Rattle.ebpf_state.specs.Kinds.{AreKinds}
 use Rattle.ebpf_verify.specs.declared.decl.Decl.{Decl}
 use Rattle.ebpf_verify.specs.Subject.{Subject}
-use Rattle.ebpf_script.specs.declared.judge.Judged.{Judged}
-use Rattle.ebpf_script.specs.declared.judge.Judged.TheVariants.{Accepted, Refused}
-use Rattle.ebpf_script.specs.Codes.{refusal_name}
-use Rattle.ebpf_script.specs.Judging.{IsJudged}
+use Rattle.ebpf_command.specs.declared.judge.Judged.{Judged}
+use Rattle.ebpf_command.specs.declared.judge.Judged.TheVariants.{Accepted, Refused}
+use Rattle.ebpf_command.specs.Codes.{refusal_name}
+use Rattle.ebpf_command.specs.Judging.{IsJudged}
 use Rattle.ebpf_script.specs.ParsedScript.{Named}
 
 -- what a program of a script is judged to be, with what it declares and the kinds that there are

@@ -16,8 +16,10 @@ emit_lines run (Some output) = flat_map (run_emit_line run) output
 
 -- how far a run is, at which slot or with which number
 abbrev pub status_line : ℕ → Option Status → Option ℕ → List ℕ
-status_line run (Some (Going pc)) (Some executed) = codes "run " ++ (decimal run ++ (codes " going " ++ (decimal pc ++ (codes " executed " ++ (decimal executed ++ codes "\n")))))
-status_line run (Some (Exited n)) (Some executed) = codes "run " ++ (decimal run ++ (codes " exit " ++ (decimal n ++ (codes " executed " ++ (decimal executed ++ codes "\n")))))
+status_line run (Some (Going pc)) (Some executed) =
+    codes "run " ++ (decimal run ++ (codes " going " ++ (decimal pc ++ (codes " executed " ++ (decimal executed ++ codes "\n")))))
+status_line run (Some (Exited n)) (Some executed) =
+    codes "run " ++ (decimal run ++ (codes " exit " ++ (decimal n ++ (codes " executed " ++ (decimal executed ++ codes "\n")))))
 status_line run _ _ = []
 
 abbrev pub run_lines : World → ℕ → List ℕ
@@ -33,7 +35,8 @@ abbrev pub held_in : World → ℕ → ℕ
 held_in w kind = count_by (λ slot. is_some (owner_in w slot)) (ledger_in w kind)
 
 abbrev pub kind_line : World → ℕ → List ℕ
-kind_line w kind = codes "kind " ++ (decimal kind ++ (codes " slots " ++ (decimal (length (ledger_in w kind)) ++ (codes " held " ++ (decimal (held_in w kind) ++ codes "\n")))))
+kind_line w kind =
+    codes "kind " ++ (decimal kind ++ (codes " slots " ++ (decimal (length (ledger_in w kind)) ++ (codes " held " ++ (decimal (held_in w kind) ++ codes "\n")))))
 
 abbrev pub world_lines : World → List ℕ
 world_lines w = runs_below (length w.runs) w ++ (kind_line w 0 ++ (kind_line w 1 ++ kind_line w 2))

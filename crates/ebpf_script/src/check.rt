@@ -1,19 +1,17 @@
 //! The command `check`: programs, and the jobs that they are meant for.
 
-ghost use Rattle.std.specs.Prelude.{◌≡◌, ◌≢◌, ◌≤◌, ℕ, Ok, length, take, IfOk, IfErr, IfSome};
-ghost use Rattle.std.specs.Io.KnownBytes.{Appends, Consumes};
-ghost use Rattle.ebpf_script.specs.declared.done.EngineFault.TheVariants.{Output};
+ghost use Rattle.std.specs.Prelude.{◌≡◌, ◌≢◌, Ok, IfOk, IfErr};
+ghost use Rattle.ebpf_command.specs.declared.done.EngineFault.TheVariants.{Output};
+ghost use Rattle.ebpf_command.specs.Writing.{Writes, WritesBeginning, Reads};
 ghost use Rattle.ebpf_script.specs.CheckText.{RespondsCheck, check_response};
-ghost use Rattle.ebpf_script.specs.Input.{read_of};
 ghost use Rattle.ebpf_script.specs.ReadScripts.{parsed_script};
-ghost use Rattle.ebpf_script.specs.Response.{Response};
 ghost use Rattle.ebpf_script.specs.ScriptText.{RespondsScript};
 
-use crate::answer::{Answer, answer_fault, respond};
-use crate::done::{Done, EngineFault};
 use crate::reader::read_script;
 use crate::reader::script::{Dialect, Script, ScriptStop};
 use crate::verdicts::verdicts_on;
+use ebpf_command::answer::{Answer, answer_fault, respond};
+use ebpf_command::done::{Done, EngineFault};
 use std::alloc::{AllocError, Global};
 use std::io::{Read, Write};
 
@@ -28,11 +26,10 @@ pub fn check<R: Read, W: Write>(
     writer: &mut W,
 ) -> Result<Done, EngineFault>
     // The text of the input is written, and nothing else.
-    ensures response { IfOk result (λ done. IfSome (R.remaining reader.old) (λ input. (response : Response) × RespondsCheck input response × (response.done ≡ done) × Appends (W.contents writer.old) (W.contents writer.new) response.text)) }
-    // What was read is gone from the reader, and nothing behind it.
-    ensures consumed { IfOk result (λ done. IfSome (R.remaining reader.old) (λ input. Consumes (R.remaining reader.old) (R.remaining reader.new) (read_of input))) }
+    ensures response { Writes RespondsCheck (R.remaining reader.old) (W.contents writer.old) (W.contents writer.new) result }
+    ensures consumed { Reads (R.remaining reader.old) (R.remaining reader.new) result }
     ensures untouched { IfErr result (λ fault. fault ≢ Output → writer.new ≡ writer.old) }
-    ensures beginning { IfErr result (λ fault. IfSome (R.remaining reader.old) (λ input. fault ≡ Output → (response : Response) × RespondsCheck input response × ((n : ℕ) × (n ≤ length response.text) × Appends (W.contents writer.old) (W.contents writer.new) (take n response.text)))) }
+    ensures beginning { WritesBeginning RespondsCheck (R.remaining reader.old) (W.contents writer.old) (W.contents writer.new) result }
 {
     respond(alloc, reader, writer, |input| answer_text(alloc, input))
 }

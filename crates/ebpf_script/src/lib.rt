@@ -1,22 +1,14 @@
-//! What the commands over scripts share with one another and with the command `one`: hex, the verdict on the bytes of a
-//! program, the text that is written, and how an input is answered.
+//! The commands over scripts: `check` judges a script's programs, and `replay` makes the world after its events as well.
 //!
-//! A command writes a whole text or a beginning of it, and writes nothing else. So each command is a function from what is
-//! read to an [`answer::Answer`], and [`answer::respond`] reads and writes around it.
+//! What each writes is a function of what it reads, errors included, and it writes nothing else: that is the contract of
+//! [`check::check`] and of [`replay::replay`].
 //!
-//! To be read in this order: `done`, `input`, `hex_text`, `codes`, `judge`, `text`, `output`, `answer`.
+//! To be read in this order: `reader`, `verdicts`, `check`, `event_codes`, `world_text`, `replay`.
 #![tactic(auto)]
 
-pub mod answer;
 pub mod check;
-pub mod codes;
-pub mod done;
-pub mod hex_text;
-pub mod input;
-pub mod judge;
-mod output;
+mod event_codes;
 pub mod reader;
 pub mod replay;
-pub mod text;
 mod verdicts;
 mod world_text;

@@ -2,8 +2,8 @@
 //!
 //! To be read in this order: `words`, `numbers`, `names`, `script`, `statement`, `line`.
 
-ghost use Rattle.std.specs.Prelude.{◌≡◌, ◌≤◌, ◌+◌, IfOk, IfErr};
-ghost use Rattle.ebpf_script.specs.declared.input.TheConstants.{MAX_INPUT};
+ghost use Rattle.std.specs.Prelude.{◌≡◌, ◌≤◌, ◌<◌, ◌+◌, IfOk, IfErr, Err, length};
+ghost use Rattle.ebpf_command.specs.declared.input.TheConstants.{MAX_INPUT};
 ghost use Rattle.ebpf_script.specs.ReadScripts.{parsed_script, IsScriptStop};
 ghost use Rattle.ebpf_script.specs.Scripts.{parsed_text};
 
@@ -14,10 +14,10 @@ pub mod script;
 mod statement;
 mod words;
 
-use crate::done::FaultCode;
-use crate::input::MAX_INPUT;
 use crate::reader::line::read_line;
 use crate::reader::script::{Dialect, Script, ScriptFault, ScriptStop};
+use ebpf_command::done::FaultCode;
+use ebpf_command::input::MAX_INPUT;
 use indexmap::IndexMap;
 use std::alloc::Global;
 
@@ -31,6 +31,8 @@ pub fn read_script(alloc: Global, dialect: Dialect, text: &[u8]) -> Result<Scrip
     // So a caller can count passes of its own beside them.
     ensures few { IfOk result (λ script. script.passes ≤ MAX_INPUT + 1) }
     ensures refused { IfErr result (IsScriptStop (parsed_text dialect text.now)) }
+    // A text that is too long is told as such, whatever memory there is.
+    ensures long { MAX_INPUT < length text.now → result ≡ Err (ScriptStop.Fault (record { code = FaultCode.S1; line = 0 })) }
 {
     if text.len() > MAX_INPUT {
         return Err(ScriptStop::Fault(ScriptFault {
@@ -49,7 +51,7 @@ pub fn read_script(alloc: Global, dialect: Dialect, text: &[u8]) -> Result<Scrip
     for line in text.split(|c| *c == b'\n') {
         number += 1;
         if let Err(stop) = read_line(alloc, dialect, &mut script, line) {
-            return Err(stop.at(number));
+            return Err(ScriptStop::at(stop, number));
         }
     }
     Ok(script)

@@ -1,23 +1,21 @@
 //! The command `replay`: programs, and a list of events over runs of them.
 
-ghost use Rattle.std.specs.Prelude.{◌≡◌, ◌≢◌, ◌≤◌, ◌++◌, ℕ, string_bytes, length, take, IfOk, IfErr, IfSome};
-ghost use Rattle.std.specs.Io.KnownBytes.{Appends, Consumes};
+ghost use Rattle.std.specs.Prelude.{◌≡◌, ◌≢◌, string_bytes, IfOk, IfErr};
 ghost use Rattle.ebpf_core.specs.Replay.{world_after};
 ghost use Rattle.ebpf_core.specs.Shown.{AreKnown};
-ghost use Rattle.ebpf_script.specs.declared.done.EngineFault.TheVariants.{Output};
+ghost use Rattle.ebpf_command.specs.declared.done.EngineFault.TheVariants.{Output};
+ghost use Rattle.ebpf_command.specs.Writing.{Writes, WritesBeginning, Reads};
 ghost use Rattle.ebpf_script.specs.ReadScripts.{parsed_script};
 ghost use Rattle.ebpf_script.specs.ReplayText.{RespondsReplay, replay_response, world_response};
 ghost use Rattle.ebpf_script.specs.ScriptText.{RespondsScript};
-ghost use Rattle.ebpf_script.specs.Input.{read_of};
-ghost use Rattle.ebpf_script.specs.Response.{Response};
 
-use crate::answer::{Answer, answer_fault, respond};
-use crate::codes::apply_name;
-use crate::done::{Done, EngineFault};
+use crate::event_codes::apply_name;
 use crate::reader::read_script;
 use crate::reader::script::{Dialect, Script, ScriptStop};
 use crate::verdicts::verdicts_on;
 use crate::world_text::write_world;
+use ebpf_command::answer::{Answer, answer_fault, respond};
+use ebpf_command::done::{Done, EngineFault};
 use ebpf_core::event::Event;
 use ebpf_core::fault::ReplayFault;
 use ebpf_core::replay::replay as replay_events;
@@ -36,11 +34,10 @@ pub fn replay<R: Read, W: Write>(
     writer: &mut W,
 ) -> Result<Done, EngineFault>
     // The text of the input is written, and nothing else.
-    ensures response { IfOk result (λ done. IfSome (R.remaining reader.old) (λ input. (response : Response) × RespondsReplay input response × (response.done ≡ done) × Appends (W.contents writer.old) (W.contents writer.new) response.text)) }
-    // What was read is gone from the reader, and nothing behind it.
-    ensures consumed { IfOk result (λ done. IfSome (R.remaining reader.old) (λ input. Consumes (R.remaining reader.old) (R.remaining reader.new) (read_of input))) }
+    ensures response { Writes RespondsReplay (R.remaining reader.old) (W.contents writer.old) (W.contents writer.new) result }
+    ensures consumed { Reads (R.remaining reader.old) (R.remaining reader.new) result }
     ensures untouched { IfErr result (λ fault. fault ≢ Output → writer.new ≡ writer.old) }
-    ensures beginning { IfErr result (λ fault. IfSome (R.remaining reader.old) (λ input. fault ≡ Output → (response : Response) × RespondsReplay input response × ((n : ℕ) × (n ≤ length response.text) × Appends (W.contents writer.old) (W.contents writer.new) (take n response.text)))) }
+    ensures beginning { WritesBeginning RespondsReplay (R.remaining reader.old) (W.contents writer.old) (W.contents writer.new) result }
 {
     respond(alloc, reader, writer, |input| answer_text(alloc, input))
 }

@@ -5,8 +5,8 @@ ghost use Rattle.ebpf_script.specs.ReadScripts.{named};
 ghost use Rattle.ebpf_script.specs.Verdicts.{Verdict, AreOn, verdict_lines, accepted_of, is_any_refused, judged_line, accepted_in, is_refused};
 ghost use Rattle.ebpf_script.specs.VerdictsKept.{AreKept};
 
-use crate::judge::{Judged, judge};
 use crate::reader::script::ProgramText;
+use ebpf_command::judge::{Judged, judge};
 use ebpf_state::kinds::kinds;
 use ebpf_verify::verified::Verified;
 use indexmap::IndexMap;

@@ -6,8 +6,8 @@ ghost use Rattle.ebpf_machine.specs.Kinds.{known_kinds};
 ghost use Rattle.ebpf_core.specs.Shown.{AreKnown};
 
 use crate::programs::holds;
+use ebpf_command::judge::{Judged, judge};
 use ebpf_core::event::Event;
-use ebpf_script::judge::{Judged, judge};
 use ebpf_script::reader::read_script;
 use ebpf_script::reader::script::{Dialect, ProgramText, Script};
 use ebpf_state::kinds::kinds;

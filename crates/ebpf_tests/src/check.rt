@@ -1,8 +1,8 @@
 //! What `check` tells of scripts.
 
 use crate::programs::{column, holds, is_told};
+use ebpf_command::done::Done;
 use ebpf_script::check::check;
-use ebpf_script::done::Done;
 use std::alloc::Global;
 use std::process::Abort;
 use std::test::*;

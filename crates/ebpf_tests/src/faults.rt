@@ -1,9 +1,9 @@
 //! The words of the faults that stand in no other module.
 
 use crate::programs::is_told;
+use ebpf_command::done::EngineFault;
 use ebpf_flow::fault::{FlowCode, FlowFault};
 use ebpf_machine::run::StartFault;
-use ebpf_script::done::EngineFault;
 use ebpf_state::state::JoinFault;
 use ebpf_verify::fault::{VerifyCode, VerifyFault};
 use std::alloc::{AllocError, Global};

@@ -2,8 +2,8 @@
 
 use crate::events::is_replayed;
 use crate::programs::{column, holds, is_told};
+use ebpf_command::done::Done;
 use ebpf_one::one::one;
-use ebpf_script::done::Done;
 use std::alloc::Global;
 use std::process::Abort;
 use std::test::*;

@@ -1,8 +1,8 @@
 //! What `one` tells where a caller asks for more held objects than the command line lets through.
 
 use crate::programs::holds;
+use ebpf_command::done::Done;
 use ebpf_one::one::one;
-use ebpf_script::done::Done;
 use std::alloc::Global;
 use std::process::Abort;
 use std::test::*;

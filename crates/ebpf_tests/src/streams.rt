@@ -1,10 +1,10 @@
 //! Readers and writers that give and take a few bytes a call, and then end or fail, under each of the commands.
 
 use crate::programs::holds;
+use ebpf_command::done::{Done, EngineFault};
 use ebpf_one::list::list;
 use ebpf_one::one::one;
 use ebpf_script::check::check;
-use ebpf_script::done::{Done, EngineFault};
 use ebpf_script::replay::replay;
 use std::alloc::Global;
 use std::io;

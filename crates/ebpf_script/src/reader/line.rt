@@ -1,19 +1,19 @@
 //! A line of a script, read into the script.
 
 ghost use Rattle.std.specs.Prelude.{◌≡◌, [], ◌∷◌, IfErr, OnOk, map};
+ghost use Rattle.ebpf_command.specs.Stops.{IsStop};
 ghost use Rattle.ebpf_script.specs.LineFaults.{shape_fault, line_fault};
 ghost use Rattle.ebpf_script.specs.ReadScripts.{parsed_script, Adds, HasRoom};
-ghost use Rattle.ebpf_script.specs.Stops.{IsStop};
 ghost use Rattle.ebpf_script.specs.Shapes.{is_comment, event_shape, job_shape, program_shape, shape_of};
 ghost use Rattle.ebpf_script.specs.Words.{words};
 
-use crate::done::{FaultCode, Stop};
 use crate::reader::script::{Dialect, Script};
 use crate::reader::statement::{
     read_answered, read_arena, read_exec, read_grow, read_job, read_pass, read_program, read_reap,
     read_start,
 };
 use crate::reader::words::{is_text, line_words};
+use ebpf_command::done::{FaultCode, Stop};
 use std::alloc::Global;
 
 /// Reads a line behind those that the script has. Where it stops, nothing is promised of the script.

@@ -6,6 +6,9 @@ ghost use Rattle.ebpf_script.specs.Numbers.{number_to, context_of, held_of, run_
 
 use ebpf_verify::decl::{MAX_CONTEXT, MAX_HELD};
 
+// The most pages of an arena.
+const MAX_PAGES: u32 = 256;
+
 /// The length of a context, 0 to [`MAX_CONTEXT`].
 pub(crate) fn context_of(word: &[u8]) -> Option<u32>
     ensures value { result ≡ context_of word.now }
@@ -46,11 +49,11 @@ pub(crate) fn slot_of(word: &[u8]) -> Option<u32>
     number_to(65_535, word)
 }
 
-/// The pages of an arena, 1 to 256.
+/// The pages of an arena, 1 to [`MAX_PAGES`].
 pub(crate) fn pages_of(word: &[u8]) -> Option<u32>
     ensures { result ≡ pages_of word.now }
 {
-    let pages = number_to(256, word)?;
+    let pages = number_to(MAX_PAGES, word)?;
     if pages == 0 { None } else { Some(pages) }
 }
 

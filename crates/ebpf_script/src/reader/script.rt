@@ -2,7 +2,7 @@
 
 ghost use Rattle.std.specs.Prelude.{◌≡◌};
 
-use crate::done::{FaultCode, Stop};
+use ebpf_command::done::{FaultCode, Stop};
 use ebpf_core::event::{Context, Event};
 use ebpf_verify::decl::Decl;
 use indexmap::IndexMap;
@@ -57,14 +57,14 @@ pub enum ScriptStop {
     NoMemory,
 }
 
-impl Stop {
+impl ScriptStop {
     ghost use Rattle.ebpf_script.specs.ReadScripts.{stop_at};
 
-    /// The stop of a script at this line.
-    pub(crate) fn at(self, line: usize) -> ScriptStop
-        ensures { result ≡ stop_at self line }
+    /// The stop of a script whose line of this number is not read.
+    pub(crate) fn at(stop: Stop, line: usize) -> ScriptStop
+        ensures { result ≡ stop_at stop line }
     {
-        match self {
+        match stop {
             Stop::Fault(code) => ScriptStop::Fault(ScriptFault { code, line }),
             Stop::NoMemory => ScriptStop::NoMemory,
         }

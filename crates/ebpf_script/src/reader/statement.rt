@@ -1,17 +1,17 @@
 //! The lines of a script that say something, each read into the script.
 
 ghost use Rattle.std.specs.Prelude.{◌≡◌, IfErr, OnOk};
+ghost use Rattle.ebpf_command.specs.Stops.{IsStop};
 ghost use Rattle.ebpf_script.specs.LineFaults.{shape_fault};
 ghost use Rattle.ebpf_script.specs.ReadScripts.{parsed_script, Adds, HasRoom};
-ghost use Rattle.ebpf_script.specs.Stops.{IsStop};
 ghost use Rattle.ebpf_script.specs.ParsedScript.{answer_of};
 ghost use Rattle.ebpf_script.specs.Shapes.{ProgramLine, StartLine, ExecLine, AnsweredLine, GrowLine, ReapLine, ArenaLine, JobLine, PassLine};
 
-use crate::done::{FaultCode, Stop};
-use crate::hex_text::hex_or_dash;
 use crate::reader::names::name_of;
 use crate::reader::numbers::{context_of, held_of, kind_of, pages_of, run_of, slot_of};
 use crate::reader::script::{Job, ProgramText, Script};
+use ebpf_command::done::{FaultCode, Stop};
+use ebpf_command::hex_text::hex_or_dash;
 use ebpf_core::event::{Answer, Context, Event};
 use ebpf_verify::decl::Decl;
 use std::alloc::Global;

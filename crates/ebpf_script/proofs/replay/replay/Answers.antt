@@ -1,5 +1,5 @@
 use Rattle.std.proofs.Common.{rules}
-use Rattle.ebpf_script.proofs.Written.{response_through, begun_through, response_of_shown}
+use Rattle.ebpf_command.proofs.Written.{response_through, begun_through, response_of_shown}
 use Rattle.ebpf_script.specs.declared.reader.script.Dialect.TheVariants.{Events}
 use Rattle.ebpf_script.specs.ReplayText.{RespondsReplay, replay_response}
 use Rattle.ebpf_script.proofs.ScriptTextLemmas.{script_cuts}

@@ -1,6 +1,6 @@
 use Rattle.std.proofs.Common.{◌≡◌, ◌==◌, map, true, false, length, Some, None, refl, sym, arith}
 use Rattle.std.proofs.lemmas.Bool.Decides.{nat_tests}
-use Rattle.ebpf_script.specs.HexText.{hex_or_dash}
+use Rattle.ebpf_command.specs.HexText.{hex_or_dash}
 use Rattle.ebpf_script.specs.Names.{is_name}
 use Rattle.ebpf_script.specs.ReadScripts.{named}
 use Rattle.ebpf_script.specs.ParsedScript.{number_of, declared_by}

@@ -1,5 +1,5 @@
 use Rattle.std.proofs.Common.{◌≡◌, map, true, false, Some, is_some, refl, sym, ◌∙◌}
-use Rattle.ebpf_script.specs.HexText.{hex_or_dash}
+use Rattle.ebpf_command.specs.HexText.{hex_or_dash}
 use Rattle.ebpf_script.specs.Names.{is_name}
 use Rattle.ebpf_script.specs.Numbers.{context_of, held_of}
 use Rattle.ebpf_script.specs.ReadScripts.{named}

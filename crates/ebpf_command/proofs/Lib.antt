@@ -1,0 +1,4 @@
+pub mod Known
+pub mod KindLemmas
+pub mod JudgedRows
+pub mod Written

@@ -1,0 +1,36 @@
+-- What a command reads and writes, where the reader and the writer tell their bytes.
+use Rattle.std.specs.Prelude.{◌≡◌, ◌≤◌, ℕ, List, length, take, Option, Result, Ok, IfOk, IfErr, IfSome}
+use Rattle.std.specs.Borrow.{Bor}
+use Rattle.std.specs.Fn.{Once, FnOnceReturnsAt}
+use Rattle.std.specs.Io.KnownBytes.{Appends, Consumes}
+use Rattle.ebpf_command.specs.declared.done.Done.{Done}
+use Rattle.ebpf_command.specs.declared.done.EngineFault.{EngineFault}
+use Rattle.ebpf_command.specs.declared.done.EngineFault.TheVariants.{Output}
+use Rattle.ebpf_command.specs.Input.{read_of}
+use Rattle.ebpf_command.specs.Response.{Response}
+
+-- which responses a command may give to an input
+abbrev pub Responding : Type 1
+Responding = List ℕ → Response → Type 0
+
+-- those that a function gives to what is read of the input
+abbrev pub AnsweredBy : {F E : Type 0} → Once F (Bor (List ℕ) × Unit {0}) (Result Response E) → F → Responding
+AnsweredBy g f input response = FnOnceReturnsAt g f (read_of input) (Ok response)
+
+-- a beginning of a text is written
+abbrev pub AppendsBeginning : Option (List ℕ) → Option (List ℕ) → List ℕ → Type 0
+AppendsBeginning old new text = (n : ℕ) × (n ≤ length text) × Appends old new (take n text)
+
+-- where a command ends, it wrote the text of a response to the input, and ends as the response says
+abbrev pub Writes : Responding → (input old new : Option (List ℕ)) → Result Done EngineFault → Type 0
+Writes Responds input old new result =
+    IfOk result (λ done. IfSome input (λ all. (response : Response) × Responds all response × (response.done ≡ done) × Appends old new response.text))
+
+-- where it could not write, it wrote a beginning of that text
+abbrev pub WritesBeginning : Responding → (input old new : Option (List ℕ)) → Result Done EngineFault → Type 0
+WritesBeginning Responds input old new result =
+    IfErr result (λ fault. IfSome input (λ all. fault ≡ Output → (response : Response) × Responds all response × AppendsBeginning old new response.text))
+
+-- where it ends, what is read of the input is gone from the reader, and nothing behind it
+abbrev pub Reads : (old new : Option (List ℕ)) → Result Done EngineFault → Type 0
+Reads old new result = IfOk result (λ done. IfSome old (λ input. Consumes old new (read_of input)))

@@ -1,0 +1,66 @@
+//! What a command answers, and how each command is answered.
+
+ghost use Rattle.std.specs.Prelude.{◌≡◌, ◌≢◌, IfOk, IfErr};
+ghost use Rattle.ebpf_command.specs.declared.done.EngineFault.TheVariants.{Output};
+ghost use Rattle.ebpf_command.specs.Lines.{fault_line};
+ghost use Rattle.ebpf_command.specs.Response.{refused_response};
+ghost use Rattle.ebpf_command.specs.Writing.{AnsweredBy, Writes, WritesBeginning, Reads};
+
+use crate::done::{Done, EngineFault, FaultCode};
+use crate::input::read_input;
+use crate::output::write_text;
+use crate::text::fault_line;
+use std::alloc::{AllocError, Global};
+use std::io::{Read, Write};
+use std::marker::Model;
+
+/// A whole text, and how the command that writes it ends. Contracts see the text as its bytes.
+#[derive(Drop)]
+pub struct Answer {
+    pub text: String,
+    pub done: Done,
+}
+
+impl Model for Answer {
+    ghost use Rattle.std.specs.Prelude.{string_bytes};
+    ghost use Rattle.ebpf_command.specs.Response.{Response};
+
+    ghost Value = { Response };
+
+    ghost view = { λ a. record { text = string_bytes a.text; done = a.done } };
+}
+
+/// The answer to a fault: its line alone.
+pub fn answer_fault(alloc: Global, code: FaultCode, line: usize) -> Result<Answer, AllocError>
+    ensures { IfOk result (λ answer. answer ≡ refused_response (fault_line code line)) }
+{
+    Ok(Answer {
+        text: fault_line(alloc, code, line)?,
+        done: Done::Refused,
+    })
+}
+
+/// Reads the whole input, has it answered, writes the answer's text, flushes the writer, and says how the command ends. Of
+/// an input that is too long the first 1,048,577 bytes are read and answered.
+///
+/// # Errors
+/// `Input` where a read failed and `NoMemory` where an allocation failed: nothing was written then. `Output` where a write
+/// failed or took nothing.
+pub fn respond<R: Read, W: Write, F: FnOnce(&[u8]) -> Result<Answer, AllocError> + Drop>(
+    alloc: Global,
+    reader: &mut R,
+    writer: &mut W,
+    answer: F,
+) -> Result<Done, EngineFault>
+    requires { F.IsAlwaysCallable answer }
+    // The text of the input's answer is written, and nothing else.
+    ensures response { Writes (AnsweredBy F.FnOnce answer) (R.remaining reader.old) (W.contents writer.old) (W.contents writer.new) result }
+    ensures consumed { Reads (R.remaining reader.old) (R.remaining reader.new) result }
+    ensures untouched { IfErr result (λ fault. fault ≢ Output → writer.new ≡ writer.old) }
+    ensures beginning { WritesBeginning (AnsweredBy F.FnOnce answer) (R.remaining reader.old) (W.contents writer.old) (W.contents writer.new) result }
+{
+    let input = read_input(alloc, reader)?;
+    let answer = answer(&input)?;
+    write_text(writer, answer.text.as_bytes())?;
+    Ok(answer.done)
+}

@@ -1,0 +1,16 @@
+//! What the commands share: how an input is read, hex, the verdict on the bytes of a program, and how an answer is written.
+//!
+//! A command writes a whole text or a beginning of it, and writes nothing else. So each command is a function from what is
+//! read to an [`answer::Answer`], and [`answer::respond`] reads and writes around it.
+//!
+//! To be read in this order: `done`, `input`, `hex_text`, `codes`, `judge`, `text`, `output`, `answer`.
+#![tactic(auto)]
+
+pub mod answer;
+pub mod codes;
+pub mod done;
+pub mod hex_text;
+pub mod input;
+pub mod judge;
+mod output;
+pub mod text;

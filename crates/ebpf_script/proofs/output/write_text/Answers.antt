@@ -1,5 +1,0 @@
-use Rattle.ebpf_script.proofs.Known.{Appends-front}
-use Rattle.ebpf_script.proofs.output.write_text.Goals as goal
-
-pub writing-preserved : goal.writing-preserved
-writing-preserved g c = Appends-front _ _ _ _ _ _ c.writing.invariant.1 c.in-Ok.ensures.bound c.writing.invariant.0 c.in-Ok.ensures.bytes
