@@ -21,7 +21,7 @@ use Rattle.ebpf_machine.proofs.World.Replies.{replies_kept, replies_added}
 use Rattle.ebpf_machine.proofs.World.Steps.{next_of}
 use Rattle.ebpf_one.specs.declared.store.Entry.{Entry}
 use Rattle.ebpf_one.specs.declared.store.Object.{Object}
-use Rattle.ebpf_one.specs.Store.{IsOut}
+use Rattle.ebpf_one.specs.Store.{IsOut, out_of_kind}
 
 abbrev pub is_granted : Reply → Bool
 is_granted reply.Granted = true
@@ -93,6 +93,16 @@ sized_out : (table : List Entry) (r : RunState Object) → kinds_of r.subject.ro
 sized_out table r known out =
     All-map (λ (o : ObjectView). length o.bytes ≡ length (image_at (kinds_of r.subject.rows) o.kind)) (object_seen bytes_of) r.held
     (λ k d few. let h = out.out k d few in h.0.size ∙ ap (λ (kind : ℕ). length (image_at known_kinds kind)) h.1 ∙ ap (λ (kinds : List Kind). length (image_at kinds (get_or r.held k d).kind)) (sym known))
+
+-- what a store of this table counts, that answered null so often; and which slot it may grant
+abbrev pub counts_in : List Entry → ℕ → Counts
+counts_in table nulls = record { grants = length table; nulls = nulls; outs = out_of_kind table }
+
+abbrev pub may_grant : List Entry → Bool → (kind at slot : ℕ) → Type 0
+may_grant table nulls kind at slot = (nulls ≡ false) × (slot ≡ length table)
+
+abbrev pub may_refuse : ℕ → Type 0
+may_refuse kind = Unit {0}
 
 -- the store counts what the run was told by it
 pub told_stepped : (r t : RunState Object) (table : List Entry) (old new : Counts) (can_grant : (kind at slot : ℕ) → Type 0) (can_refuse : ℕ → Type 0) →

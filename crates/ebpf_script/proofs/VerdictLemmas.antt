@@ -15,7 +15,7 @@ use Rattle.ebpf_command.specs.declared.judge.Judged.{Judged}
 use Rattle.ebpf_command.specs.declared.judge.Judged.TheVariants.{Accepted, Refused}
 use Rattle.ebpf_command.specs.Judging.{IsJudged}
 use Rattle.ebpf_command.proofs.JudgedRows.{accepted_rows}
-use Rattle.ebpf_machine.proofs.KindLemmas.{kinds_known}
+use Rattle.ebpf_machine.proofs.Instructions.KindLemmas.{kinds_known}
 use Rattle.ebpf_script.specs.declared.verdicts.Verdicts.{Verdicts}
 use Rattle.ebpf_script.specs.ParsedScript.{Named}
 use Rattle.ebpf_script.specs.Verdicts.{Verdict, verdict_lines, accepted_of, is_any_refused, judged_line, accepted_in, is_refused}

@@ -1,6 +1,6 @@
 use Rattle.std.proofs.Common.{ap, ◌∙◌}
 use Rattle.ebpf_machine.specs.World.{kinds_of}
-use Rattle.ebpf_machine.proofs.KindLemmas.{kinds_known}
+use Rattle.ebpf_machine.proofs.Instructions.KindLemmas.{kinds_known}
 use Rattle.ebpf_command.proofs.KindLemmas.{AreRows-kinds}
 use Rattle.ebpf_command.proofs.JudgedRows.{accepted_rows}
 use Rattle.ebpf_tests.proofs.accepted.accepted.Goals as goal
