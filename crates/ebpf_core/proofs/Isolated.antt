@@ -264,9 +264,9 @@ isolated w events k run h at =
 safe_kept : (w : World) (events : List Event) → IsKept w events → IsSafe w events
 safe_kept w events h = record {
   runs = λ k run at. isolated w events k run h at;
-  held_once = h.owned.once;
-  in_ledger = λ o among. record { once = h.owned.in_ledger o among; there = kind_there w o.slot (owned_there w o h.owned among); asked = h.owned.asked o among };
-  imaged = h.owned.imaged;
+  held_once = h.owned.holders.once;
+  in_ledger = λ o among. record { once = h.owned.holders.in_ledger o among; there = kind_there w o.slot (owned_there w o h.owned among); asked = h.owned.runs.asked o among };
+  imaged = h.owned.ledgers.imaged;
 }
 
 -- the main theorem: every beginning of a list, where it is legal, leads to a safe world

@@ -136,7 +136,7 @@ frees_placed w kept k answer r t freed lent now o call shows i m is stays among 
     one_slot : (q : ℕ) → Contains (slots_of r) (name_of q call) → q ≡ o.slot
     one_slot q too =
         let owns = λ (n : Name) (inside : Contains (slots_of r) n). held_owns w k n (subst (λ (ns : List Name). Contains ns n) (sym (shows.slots k r i.at)) inside) in
-        ap (λ (p : Owner). p.slot) (shows.owned.one_a_call (owner_of k (name_of q call)) (owner_of k (name_of o.slot call)) (owns (name_of q call) too) (owns (name_of o.slot call) among) refl)
+        ap (λ (p : Owner). p.slot) (shows.owned.holders.one_a_call (owner_of k (name_of q call)) (owner_of k (name_of o.slot call)) (owns (name_of q call) too) (owns (name_of o.slot call) among) refl)
 
     keeps : (q : ℕ) → q ≢ o.slot → (at : ℕ) → Contains (slots_of r) (name_of q at) → Contains (slots_of t) (name_of q at)
     keeps q ne at inside =

@@ -30,7 +30,7 @@ pub owned_there : (w : World) (o : Owner) → IsOwned w → Contains w.owners o 
 owned_there w o owned among = by (is_in_ledger w o.slot) refl where
   by : (t : Bool) → is_in_ledger w o.slot ≡ t → t ≡ true
   by true e = refl
-  by false e = absurd (omega (arith, owned.in_ledger o among, none_counted (is_in o.slot) w.ledgers e))
+  by false e = absurd (omega (arith, owned.holders.in_ledger o among, none_counted (is_in o.slot) w.ledgers e))
 
 -- ---- runs and owners
 
@@ -53,7 +53,7 @@ pub owner_runs : (w : World) (o : Owner) → IsOwned w → Contains w.owners o �
 owner_runs w o owned among = by o.holder refl where
   by : (h : Holder) → o.holder ≡ h → (run at : ℕ) × (r : Running) × (slice_get w.runs run ≡ Some r) × (o ≡ owner_of run (name_of o.slot at))
   by (Run run at) is =
-      let asker = subst (λ (h : Holder). IsOfKind w h (kind_in w o.slot)) is (owned.asked o among) in
+      let asker = subst (λ (h : Holder). IsOfKind w.runs h (kind_in w o.slot)) is (owned.runs.asked o among) in
       let same : o ≡ owner_of run (name_of o.slot at) = λ i. record { slot = o.slot; holder = is i } in
       (run, at, asker.asker, asker.there, same)
 
@@ -64,7 +64,7 @@ unheld w k owned none = by_list (held_by w k) refl where
   by_list [] is = is
   by_list (o ∷ os) is =
       let held = held_owner w k o (subst (λ (xs : List Owner). Contains xs o) (sym is) (Contains-head o os)) in
-      let asker = subst (λ (h : Holder). IsOfKind w h (kind_in w o.slot)) held.1 (owned.asked o held.0) in
+      let asker = subst (λ (h : Holder). IsOfKind w.runs h (kind_in w o.slot)) held.1 (owned.runs.asked o held.0) in
       let there = asker.there in
       absurd (cc)
 

@@ -58,7 +58,7 @@ object_kept w kept k r h shows at among =
     let call : call_of one.0.holder ≡ h.call = ap (λ (v : ObjectView). v.call) one.2 in
     let slots = Contains-mapped {Y = Name} (λ (x : Holding Object). name_of x.object.slot x.call) r.held h among in
     let owns = held_owns w k (name_of h.object.slot h.call) (subst (λ (ns : List Name). Contains ns (name_of h.object.slot h.call)) (sym (shows.slots k r at)) slots) in
-    let same = shows.owned.one_a_call one.0 (owner_of k (name_of h.object.slot h.call)) its.0 owns (its.1 ∙ ap (λ (c : ℕ). Run k c) call) in
+    let same = shows.owned.holders.one_a_call one.0 (owner_of k (name_of h.object.slot h.call)) its.0 owns (its.1 ∙ ap (λ (c : ℕ). Run k c) call) in
     (owns, ap (object_in w) (sym same) ∙ one.2)
 
 -- what is not kept as held is not owned

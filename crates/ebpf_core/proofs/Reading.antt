@@ -83,7 +83,7 @@ bytes_home w kept slot o h placed is =
     let home = subst (IsKeptIn w slot) is (kept_in w kept slot h placed) in
     let there = (and_parts (is_in_ledger w slot) (not (is_owned w slot)) home.0).0 in
     let kind : o.kind ≡ kind_in w slot = sym (kind_in-ledger w o.kind slot h.owned home.1) in
-    there_bytes w slot o.bytes.items there (at.image ∙ ap (image_at known_kinds) kind ∙ ap (λ (kinds : List Kind). image_at kinds (kind_in w slot)) (sym h.kinds) ∙ sym (h.owned.imaged slot home.0))
+    there_bytes w slot o.bytes.items there (at.image ∙ ap (image_at known_kinds) kind ∙ ap (λ (kinds : List Kind). image_at kinds (kind_in w slot)) (sym h.kinds) ∙ sym (h.owned.ledgers.imaged slot home.0))
 
 -- and with a run those of the object that was granted to its call
 call_held : (r : RunState Object) (slot at : ℕ) → Contains (slots_of r) (name_of slot at) → (held : Holding Object) × Contains r.held held × (held.call ≡ at)
@@ -94,7 +94,7 @@ call_held r slot at among =
 bytes_held : (w : World) (kept : WorldState) (slot run at : ℕ) (r : RunState Object) (held : Holding Object) → Shows w kept → Contains w.owners (owner_of run (name_of slot at)) → slice_get kept.runs run ≡ Some r → Contains r.held held → held.call ≡ at → Some held.object.bytes.items ≡ bytes_in w slot
 bytes_held w kept slot run at r held h owns there among call =
     let its = object_kept w kept run r held h there among in
-    let same = h.owned.one_a_call (owner_of run (name_of held.object.slot held.call)) (owner_of run (name_of slot at)) its.0 owns (ap (Run run) call) in
+    let same = h.owned.holders.one_a_call (owner_of run (name_of held.object.slot held.call)) (owner_of run (name_of slot at)) its.0 owns (ap (Run run) call) in
     let bytes : w.bytes held.object.slot ≡ held.object.bytes.items = ap (λ (v : ObjectView). v.bytes) its.1 in
     there_bytes w slot held.object.bytes.items (owned_there w (owner_of run (name_of slot at)) h.owned owns) (sym bytes ∙ ap (λ (o : Owner). w.bytes o.slot) same)
 

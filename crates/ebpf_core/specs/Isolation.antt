@@ -74,7 +74,7 @@ pub record IsIsolated (w : World) (k : ℕ) (run : Running) (answers : List Repl
 pub record IsInLedger (w : World) (o : Owner) : Type 0 where
   pub once : count_by (is_in o.slot) w.ledgers ≡ 1
   pub there : is_in o.slot (ledger_of w (kind_in w o.slot)) ≡ true
-  pub asked : IsOfKind w o.holder (kind_in w o.slot)
+  pub asked : IsOfKind w.runs o.holder (kind_in w o.slot)
 
 -- what the theorem says of the world that these events lead to; the events are there for what each run was answered
 pub record IsSafe (w : World) (events : List Event) : Type 0 where

@@ -13,7 +13,7 @@ use Rattle.ebpf_machine.specs.declared.value.Cell.{Cell}
 use Rattle.ebpf_machine.specs.declared.value.Cell.TheVariants.{Part}
 use Rattle.ebpf_machine.specs.Values.{Frame}
 use Rattle.ebpf_machine.specs.Effect.{Effect, Goes, Ends, Traps}
-use Rattle.ebpf_machine.specs.World.{Name, Status, Going, Exited, Trapped, World, Running, Owner, Run, IsOfKind, kinds_of, image_at, is_in, is_home, kind_in}
+use Rattle.ebpf_machine.specs.World.{Name, Status, Going, Exited, Trapped, World, Running, Owner, Run, IsOfKind, kinds_of, image_at, is_in, Kind, is_home_in, kind_from}
 use Rattle.ebpf_machine.specs.Alone.{replies_from, replies_of, alone_after}
 use Rattle.ebpf_machine.specs.View.{RunView, view_in}
 use Rattle.ebpf_machine.specs.RunState.{RunState, seen}
@@ -112,19 +112,33 @@ abbrev pub HasOneSlot : Frame Name → Type 0
 HasOneSlot frame = (n m : Name) → HasPointer frame n → HasPointer frame m → n.call ≡ m.call → n.slot ≡ m.slot
 
 -- a pointer stems from a call behind the run; where the run still holds what that call was granted, it is to that slot
-pub record IsTrue (w : World) (run : ℕ) (r : Running) (n : Name) : Type 0 where
+pub record IsTrue (owners : List Owner) (run : ℕ) (r : Running) (n : Name) : Type 0 where
   pub behind : n.call < r.pc
-  pub slot : (o : Owner) → Contains w.owners o → o.holder ≡ Run run n.call → o.slot ≡ n.slot
+  pub slot : (o : Owner) → Contains owners o → o.holder ≡ Run run n.call → o.slot ≡ n.slot
 
+-- ledgers: one for each kind; no slot is in two; a slot that is nobody's has its kind's image
+pub record AreLedgers (kinds : List Kind) (ledgers : List (List ℕ)) (owners : List Owner) (bytes : ℕ → List ℕ) : Type 0 where
+  pub as_many : length ledgers ≡ length kinds
+  pub apart : (slot : ℕ) → count_by (is_in slot) ledgers ≤ 1
+  pub imaged : (slot : ℕ) → is_home_in ledgers owners slot ≡ true → bytes slot ≡ image_at kinds (kind_from 0 ledgers slot)
+
+-- holders: no slot has two, and no call has two slots; each slot is in one ledger, with as many bytes as its kind says
+pub record AreHolders (kinds : List Kind) (ledgers : List (List ℕ)) (owners : List Owner) (bytes : ℕ → List ℕ) : Type 0 where
+  pub once : (slot : ℕ) → count_by (λ o. o.slot == slot) owners ≤ 1
+  pub in_ledger : (o : Owner) → Contains owners o → count_by (is_in o.slot) ledgers ≡ 1
+  pub one_a_call : (o p : Owner) → Contains owners o → Contains owners p → o.holder ≡ p.holder → o ≡ p
+  pub sized : (o : Owner) → Contains owners o → length (bytes o.slot) ≡ length (image_at kinds (kind_from 0 ledgers o.slot))
+
+-- runs: each is of a program over these kinds; what a holder has, it asked for; pointers are true, and those to what one call was
+-- granted are to one slot
+pub record AreRuns (kinds : List Kind) (ledgers : List (List ℕ)) (owners : List Owner) (runs : List Running) : Type 0 where
+  pub kinds_are : (run : ℕ) (r : Running) → slice_get runs run ≡ Some r → kinds_of r.subject.rows ≡ kinds
+  pub asked : (o : Owner) → Contains owners o → IsOfKind runs o.holder (kind_from 0 ledgers o.slot)
+  pub pointers : (run : ℕ) (r : Running) → slice_get runs run ≡ Some r → (n : Name) → HasPointer r.frame n → IsTrue owners run r n
+  pub one_slot : (run : ℕ) (r : Running) → slice_get runs run ≡ Some r → HasOneSlot r.frame
+
+-- each part is said of the lists that it speaks of, so an event that changes others keeps it
 pub record IsOwned (w : World) : Type 0 where
-  pub once : (slot : ℕ) → count_by (λ o. o.slot == slot) w.owners ≤ 1
-  pub in_ledger : (o : Owner) → Contains w.owners o → count_by (is_in o.slot) w.ledgers ≡ 1
-  pub apart : (slot : ℕ) → count_by (is_in slot) w.ledgers ≤ 1
-  pub as_many : length w.ledgers ≡ length w.kinds
-  pub kinds_are : (run : ℕ) (r : Running) → slice_get w.runs run ≡ Some r → kinds_of r.subject.rows ≡ w.kinds
-  pub imaged : (slot : ℕ) → is_home w slot ≡ true → w.bytes slot ≡ image_at w.kinds (kind_in w slot)
-  pub sized : (o : Owner) → Contains w.owners o → length (w.bytes o.slot) ≡ length (image_at w.kinds (kind_in w o.slot))
-  pub one_a_call : (o p : Owner) → Contains w.owners o → Contains w.owners p → o.holder ≡ p.holder → o ≡ p
-  pub asked : (o : Owner) → Contains w.owners o → IsOfKind w o.holder (kind_in w o.slot)
-  pub pointers : (run : ℕ) (r : Running) → slice_get w.runs run ≡ Some r → (n : Name) → HasPointer r.frame n → IsTrue w run r n
-  pub one_slot : (run : ℕ) (r : Running) → slice_get w.runs run ≡ Some r → HasOneSlot r.frame
+  pub ledgers : AreLedgers w.kinds w.ledgers w.owners w.bytes
+  pub holders : AreHolders w.kinds w.ledgers w.owners w.bytes
+  pub runs : AreRuns w.kinds w.ledgers w.owners w.runs

@@ -92,8 +92,11 @@ abbrev pub is_owned : World → ℕ → Bool
 is_owned w slot = list_any (λ o. o.slot == slot) w.owners
 
 -- in a ledger, and nobody's
+abbrev pub is_home_in : List (List ℕ) → List Owner → ℕ → Bool
+is_home_in ledgers owners slot = list_any (is_in slot) ledgers && not (list_any (λ o. o.slot == slot) owners)
+
 abbrev pub is_home : World → ℕ → Bool
-is_home w slot = is_in_ledger w slot && not (is_owned w slot)
+is_home w slot = is_home_in w.ledgers w.owners slot
 
 -- the kind in whose ledger a slot is, from this kind's ledger on
 unfoldable pub kind_from : ℕ → List (List ℕ) → ℕ → ℕ
@@ -162,14 +165,14 @@ IsGot reply.Granted = Unit {0}
 IsGot reply.Null = ⊥
 
 -- a call of the run, behind it, asked for an object of this kind and got one
-pub record AskedFor (w : World) (run at kind : ℕ) : Type 0 where
+pub record AskedFor (runs : List Running) (run at kind : ℕ) : Type 0 where
   pub asker : Running
-  pub there : slice_get w.runs run ≡ Some asker
+  pub there : slice_get runs run ≡ Some asker
   pub behind : at < asker.pc
   pub reply : Reply
   pub got : IsGot reply
   pub told : Contains asker.calls (record { at = at; kind = kind; reply = reply })
 
 -- whoever has a slot has it as one of this kind
-abbrev pub IsOfKind : World → Holder → ℕ → Type 0
-IsOfKind w (Run run call) kind = AskedFor w run call kind
+abbrev pub IsOfKind : List Running → Holder → ℕ → Type 0
+IsOfKind runs (Run run call) kind = AskedFor runs run call kind

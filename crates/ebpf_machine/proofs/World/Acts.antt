@@ -103,7 +103,7 @@ granted_seen w run r slot to kind frame owned there home kind_is =
     by : (t : Bool) → view_in (cond t (with_run w run (trapped TooManyObjects r)) after) run ≡ Some (seen_by t)
     by true = own_seen (with_run w run (trapped TooManyObjects r)) run w.runs r (trapped TooManyObjects r) there refl
     by false =
-        let kinds : kinds_of r.subject.rows ≡ w.kinds = owned.kinds_are run r there in
+        let kinds : kinds_of r.subject.rows ≡ w.kinds = owned.runs.kinds_are run r there in
         let objects = objects_granted w run r.pc slot kind owned home kind_is ∙ ap (λ (bytes : List ℕ). let o : ObjectView = record { call = r.pc; kind = kind; bytes = bytes } in objects_of w run ++ o ∷ []) (ap (λ ks. image_at ks kind) (sym kinds)) in
         own_seen after run w.runs r now there refl ∙ ap Some (reply_seen w after run r kind to view.Granted (Pointer (Object (name_of slot r.pc)) (pos 0)) frame (objects_of w run ++ new_object (view_of w run r) kind ∷ []) objects)
 

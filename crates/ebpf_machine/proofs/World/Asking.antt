@@ -195,7 +195,7 @@ asks_seen (Some i) kinds frame = insn_asks i kinds frame
 pub asking_seen : (w : World) (run : ℕ) (r : Running) → IsOwned w → slice_get w.runs run ≡ Some r → asking_of w r ≡ asking_in (view_of w run r)
 asking_seen w run r owned there =
     let o = insn_at r.subject.program r.pc in
-    let kinds : length w.kinds ≡ length r.subject.rows = ap (λ (ks : List Kind). length ks) (sym (owned.kinds_are run r there)) ∙ length-map r.subject.rows _ in
+    let kinds : length w.kinds ≡ length r.subject.rows = ap (λ (ks : List Kind). length ks) (sym (owned.runs.kinds_are run r there)) ∙ length-map r.subject.rows _ in
     ap (λ (n : ℕ). asking o n r.frame) kinds ∙ sym (asks_seen o (length r.subject.rows) r.frame)
 
 -- ---- what the next instruction of a sound run asks for

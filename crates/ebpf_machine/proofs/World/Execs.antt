@@ -76,7 +76,7 @@ unowned_done w run r (Goes (Ask kind) to frame) (Slot slot) none null = absurd (
 -- ---- the effect in the world and the effect that is seen
 
 pub kinds_alike : (w : World) (run : ℕ) (r : Running) → IsOwned w → slice_get w.runs run ≡ Some r → length r.subject.rows ≡ length w.kinds
-kinds_alike w run r owned there = sym (length-map r.subject.rows _) ∙ ap (λ (kinds : List Kind). length kinds) (owned.kinds_are run r there)
+kinds_alike w run r owned there = sym (length-map r.subject.rows _) ∙ ap (λ (kinds : List Kind). length kinds) (owned.runs.kinds_are run r there)
 
 and_false : (t : Bool) → (t && false) ≡ false
 and_false true = refl
@@ -89,7 +89,7 @@ met w run r owned there = record {
   kinds = kinds_alike w run r owned there;
   holds = length-map (held_by w run) (object_in w);
   objects = λ n has. objects_found w run r n owned there has;
-  names = λ n m has too. same n m (n.call == m.call) refl (λ e. owned.one_slot run r there n m has too e);
+  names = λ n m has too. same n m (n.call == m.call) refl (λ e. owned.runs.one_slot run r there n m has too e);
 }
   where
     same : (n m : Name) (t : Bool) → (n.call == m.call) ≡ t → (n.call ≡ m.call → n.slot ≡ m.slot) → (n.call == m.call) ≡ ((n.slot == m.slot) && (n.call == m.call))
@@ -112,7 +112,7 @@ sized_in w run r owned there = All-map IsSized (object_in w) (held_by w run) (Al
   IsSized o = length o.bytes ≡ length (image_at (kinds_of r.subject.rows) o.kind)
 
   sized : (o : Owner) → Contains w.owners o → IsSized (object_in w o)
-  sized o among = owned.sized o among ∙ ap (λ (kinds : List Kind). length (image_at kinds (kind_in w o.slot))) (sym (owned.kinds_are run r there))
+  sized o among = owned.holders.sized o among ∙ ap (λ (kinds : List Kind). length (image_at kinds (kind_in w o.slot))) (sym (owned.runs.kinds_are run r there))
 
 -- ---- the effect is the run's own, and leads forward
 

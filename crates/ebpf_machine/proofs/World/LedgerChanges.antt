@@ -11,7 +11,6 @@ use Rattle.ebpf_machine.specs.View.{ObjectView, object_in, view_of}
 use Rattle.ebpf_machine.specs.Sound.{IsOwned}
 use Rattle.ebpf_machine.proofs.Lists.ListLemmas.{any_from, map_agree}
 use Rattle.ebpf_machine.proofs.World.Owners.{held_owner}
-use Rattle.ebpf_machine.proofs.World.OwnedParts.{of_kind_same, true_same}
 
 -- ---- a list of which one element answers as the one in whose place it comes
 
@@ -65,17 +64,23 @@ owners_apart w slot o nobodys among e = let somebodys = any_from (λ (q : Owner)
 
 pub owned_changed : (w : World) (kind slot : ℕ) (slots : List ℕ) (bytes : ℕ → List ℕ) → IsOwned w → IsChange w kind slot slots bytes → IsOwned (changed kind slots bytes w)
 owned_changed w kind slot slots bytes owned change = record {
-  once = owned.once;
-  in_ledger = λ o among. other_count w kind slots o.slot (other o among) ∙ owned.in_ledger o among;
-  apart = λ s. few s (cases_eq s slot);
-  as_many = length-set w.ledgers kind slots ∙ owned.as_many;
-  kinds_are = owned.kinds_are;
-  imaged = λ s home. image s home (cases_eq s slot);
-  sized = λ o among. long o among;
-  one_a_call = owned.one_a_call;
-  asked = λ o among. subst (IsOfKind after o.holder) (sym (other_kind w kind slots o.slot (other o among))) (of_kind_same w after o.holder (kind_in w o.slot) refl (owned.asked o among));
-  pointers = λ k x at n has. true_same w after k x n (λ o among. among) (owned.pointers k x at n has);
-  one_slot = owned.one_slot;
+  ledgers = record {
+    as_many = length-set w.ledgers kind slots ∙ owned.ledgers.as_many;
+    apart = λ s. few s (cases_eq s slot);
+    imaged = λ s home. image s home (cases_eq s slot);
+  };
+  holders = record {
+    once = owned.holders.once;
+    in_ledger = λ o among. other_count w kind slots o.slot (other o among) ∙ owned.holders.in_ledger o among;
+    one_a_call = owned.holders.one_a_call;
+    sized = λ o among. long o among;
+  };
+  runs = record {
+    kinds_are = owned.runs.kinds_are;
+    asked = λ o among. subst (IsOfKind w.runs o.holder) (sym (other_kind w kind slots o.slot (other o among))) (owned.runs.asked o among);
+    pointers = owned.runs.pointers;
+    one_slot = owned.runs.one_slot;
+  };
 }
   where
     after : World
@@ -86,7 +91,7 @@ owned_changed w kind slot slots bytes owned change = record {
 
     few : (s : ℕ) → (s ≡ slot) ⊎ (s ≢ slot) → count_by (is_in s) after.ledgers ≤ 1
     few s (inl e) = subst (λ (k : ℕ). count_by (is_in k) after.ledgers ≤ 1) (sym e) change.once
-    few s (inr ne) = omega (arith, other_count w kind slots s (change.others s ne), owned.apart s)
+    few s (inr ne) = omega (arith, other_count w kind slots s (change.others s ne), owned.ledgers.apart s)
 
     was_home : (s : ℕ) → s ≢ slot → is_home after s ≡ true → is_home w s ≡ true
     was_home s ne home =
@@ -95,12 +100,12 @@ owned_changed w kind slot slots bytes owned change = record {
 
     image : (s : ℕ) → is_home after s ≡ true → (s ≡ slot) ⊎ (s ≢ slot) → bytes s ≡ image_at w.kinds (kind_in after s)
     image s home (inl e) = subst (λ (k : ℕ). bytes k ≡ image_at w.kinds (kind_in after k)) (sym e) (change.imaged (subst (λ (k : ℕ). is_home after k ≡ true) e home))
-    image s home (inr ne) = change.others_bytes s ne ∙ owned.imaged s (was_home s ne home) ∙ ap (image_at w.kinds) (sym (other_kind w kind slots s (change.others s ne)))
+    image s home (inr ne) = change.others_bytes s ne ∙ owned.ledgers.imaged s (was_home s ne home) ∙ ap (image_at w.kinds) (sym (other_kind w kind slots s (change.others s ne)))
 
     long : (o : Owner) → Contains w.owners o → length (bytes o.slot) ≡ length (image_at w.kinds (kind_in after o.slot))
     long o among =
         let same = change.others_bytes o.slot (owners_apart w slot o change.nobodys among) in
-        ap (λ (bs : List ℕ). length bs) same ∙ owned.sized o among ∙ ap (λ (k : ℕ). length (image_at w.kinds k)) (sym (other_kind w kind slots o.slot (other o among)))
+        ap (λ (bs : List ℕ). length bs) same ∙ owned.holders.sized o among ∙ ap (λ (k : ℕ). length (image_at w.kinds k)) (sym (other_kind w kind slots o.slot (other o among)))
 
 -- ---- what a run sees
 

@@ -43,14 +43,14 @@ pub record IsNew (w : World) (kind slot : ℕ) : Type 0 where
   pub fresh : is_in_ledger w slot ≡ false
 
 room : (w : World) (kind slot : ℕ) → IsOwned w → IsNew w kind slot → kind < length w.ledgers
-room w kind slot owned new = omega (arith, owned.as_many, new.kind_is)
+room w kind slot owned new = omega (arith, owned.ledgers.as_many, new.kind_is)
 
 nobodys : (w : World) (kind slot : ℕ) → IsOwned w → IsNew w kind slot → is_owned w slot ≡ false
 nobodys w kind slot owned new = false_from_ne_true (is_owned w slot) (λ owns. somebodys (any_one (λ (o : Owner). o.slot == slot) w.owners owns)) where
   somebodys : (o : Owner) × Contains w.owners o × ((o.slot == slot) ≡ true) → ⊥
   somebodys (o, among, its) =
       let none = none_counted (is_in slot) w.ledgers new.fresh in
-      let one = owned.in_ledger o among in
+      let one = owned.holders.in_ledger o among in
       let same = ap (λ (s : ℕ). count_by (is_in s) w.ledgers) (eqb-true o.slot slot its) in
       absurd (omega (arith, none, one, same))
 

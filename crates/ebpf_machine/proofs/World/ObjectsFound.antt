@@ -68,7 +68,7 @@ objects_found w run r n owned there has =
     by (Some o) found =
         let held = held_owner w run o found.0 in
         let holder : o.holder ≡ Run run n.call = held.1 ∙ ap (λ (k : ℕ). Run run k) (eqb-true (call_of o.holder) n.call found.1) in
-        let slot = (owned.pointers run r there n has).slot o held.0 holder in
+        let slot = (owned.runs.pointers run r there n has).slot o held.0 holder in
         let its = any_from (has_name run n) w.owners o held.0 (and_from (o.slot == n.slot) (is_call run n.call o.holder) (eq-eqb o.slot n.slot slot) (call_is run n.call o.holder holder)) in
         rw (its, slot) refl
     by None fails =

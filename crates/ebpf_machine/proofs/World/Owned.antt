@@ -20,7 +20,7 @@ use Rattle.ebpf_machine.specs.Sound.{IsOwned, Names, HasPointer, HasOneSlot, IsT
 use Rattle.ebpf_machine.proofs.Lists.ListLemmas.{get_set_same, get_push, get_push_cases}
 use Rattle.ebpf_machine.proofs.World.Owners.{owner_of}
 use Rattle.ebpf_machine.proofs.World.ObjectPointers.{pointer_written, no_first_pointer}
-use Rattle.ebpf_machine.proofs.World.OwnedParts.{IsLater, same_run, true_same, owned_running, owned_bytes, owned_given, owned_granted}
+use Rattle.ebpf_machine.proofs.World.OwnedParts.{IsLater, same_run, owned_running, owned_bytes, owned_given, owned_granted}
 use Rattle.ebpf_machine.proofs.World.Acts.{IsOwnEffect}
 
 -- an instruction leads forward, and makes no pointer to an object that its run had none to
@@ -32,18 +32,18 @@ IsForward before pc (Traps trap) = Unit {0}
 -- ---- what a run has after an instruction
 
 -- a pointer that it had
-true_later : (w : World) (run : ℕ) (r now : Running) (n : Name) → r.pc ≤ now.pc → IsTrue w run r n → IsTrue w run now n
+true_later : (w : World) (run : ℕ) (r now : Running) (n : Name) → r.pc ≤ now.pc → IsTrue w.owners run r n → IsTrue w.owners run now n
 true_later w run r now n later h = record { behind = omega (arith, h.behind); slot = h.slot }
 
 -- it stays where it is
 owned_stays : (w : World) (run : ℕ) (r now : Running) → IsOwned w → slice_get w.runs run ≡ Some r → now.subject ≡ r.subject → now.pc ≡ r.pc → now.calls ≡ r.calls → now.frame ≡ r.frame → IsOwned (with_run w run now)
 owned_stays w run r now owned there subject pc told frame =
     let later : IsLater r now = record { subject = subject; pc = omega (arith, pc); told = λ t among. subst (λ (ts : List AnsweredCall). Contains ts t) (sym told) among } in
-    owned_running w run r now owned there later (λ n has. true_later w run r now n (omega (arith, pc)) (owned.pointers run r there n (subst (λ (f : Frame Name). HasPointer f n) frame has))) (subst HasOneSlot (sym frame) (owned.one_slot run r there))
+    owned_running w run r now owned there later (λ n has. true_later w run r now n (omega (arith, pc)) (owned.runs.pointers run r there n (subst (λ (f : Frame Name). HasPointer f n) frame has))) (subst HasOneSlot (sym frame) (owned.runs.one_slot run r there))
 
 owned_gone : (w : World) (run : ℕ) (r : Running) (to : ℕ) (frame : Frame Name) → IsOwned w → slice_get w.runs run ≡ Some r → r.pc < to → ((n : Name) → HasPointer frame n → HasPointer r.frame n) → IsOwned (with_run w run (moved_to to frame r))
 owned_gone w run r to frame owned there forward fewer =
-    owned_running w run r (moved_to to frame r) owned there (record { subject = refl; pc = omega arith; told = λ t among. among }) (λ n has. true_later w run r (moved_to to frame r) n (omega arith) (owned.pointers run r there n (fewer n has))) (λ n m has too e. owned.one_slot run r there n m (fewer n has) (fewer m too) e)
+    owned_running w run r (moved_to to frame r) owned there (record { subject = refl; pc = omega arith; told = λ t among. among }) (λ n has. true_later w run r (moved_to to frame r) n (omega arith) (owned.runs.pointers run r there n (fewer n has))) (λ n m has too e. owned.runs.one_slot run r there n m (fewer n has) (fewer m too) e)
 
 later_replied : (r : Running) (kind to : ℕ) (told : Reply) (v : Value Name) (frame : Frame Name) → r.pc < to → IsLater r (replied kind told v to frame r)
 later_replied r kind to told v frame forward = record { subject = refl; pc = omega arith; told = λ t among. Contains-append_left r.calls (record { at = r.pc; kind = kind; reply = told } ∷ []) t among }
@@ -53,12 +53,12 @@ owned_null w run r kind to frame owned there forward fewer = owned_running w run
   now : Running
   now = replied kind reply.Null (Number 0) to frame r
 
-  by : (n : Name) → HasPointer frame n ⊎ Names (Some (Number 0)) n → IsTrue w run now n
-  by n (inl has) = true_later w run r now n (omega arith) (owned.pointers run r there n (fewer n has))
+  by : (n : Name) → HasPointer frame n ⊎ Names (Some (Number 0)) n → IsTrue w.owners run now n
+  by n (inl has) = true_later w run r now n (omega arith) (owned.runs.pointers run r there n (fewer n has))
   by n (inr named) = absurd named
 
   alike : (n m : Name) → HasPointer frame n ⊎ Names (Some (Number 0)) n → HasPointer frame m ⊎ Names (Some (Number 0)) m → n.call ≡ m.call → n.slot ≡ m.slot
-  alike n m (inl has) (inl too) e = owned.one_slot run r there n m (fewer n has) (fewer m too) e
+  alike n m (inl has) (inl too) e = owned.runs.one_slot run r there n m (fewer n has) (fewer m too) e
   alike n m (inl has) (inr named) e = absurd named
   alike n m (inr named) too e = absurd named
 
@@ -67,7 +67,7 @@ owned_null w run r kind to frame owned there forward fewer = owned_running w run
 -- the call at which a run is holds nothing
 nothing_yet : (w : World) (run : ℕ) (r : Running) (o : Owner) → IsOwned w → slice_get w.runs run ≡ Some r → Contains w.owners o → o.holder ≢ Run run r.pc
 nothing_yet w run r o owned there among e =
-    let asked : AskedFor w run r.pc (kind_in w o.slot) = subst (λ h. IsOfKind w h (kind_in w o.slot)) e (owned.asked o among) in
+    let asked : AskedFor w.runs run r.pc (kind_in w o.slot) = subst (λ h. IsOfKind w.runs h (kind_in w o.slot)) e (owned.runs.asked o among) in
     let same = same_run w run r asked.asker there asked.there in
     absurd (omega (arith, asked.behind, ap (λ (x : Running). x.pc) same))
 
@@ -87,20 +87,20 @@ owned_taken w run r slot kind to frame owned there home of_kind forward fewer = 
     old_or_new n (inl old) = inl (fewer n old)
     old_or_new n (inr new) = inr new
 
-  true_now : (n : Name) → (HasPointer r.frame n) ⊎ ((name_of slot r.pc) ≡ n) → IsTrue w run now n
-  true_now n (inl old) = true_later w run r now n (omega arith) (owned.pointers run r there n old)
+  true_now : (n : Name) → (HasPointer r.frame n) ⊎ ((name_of slot r.pc) ≡ n) → IsTrue w.owners run now n
+  true_now n (inl old) = true_later w run r now n (omega arith) (owned.runs.pointers run r there n old)
   true_now n (inr new) =
       let call : r.pc ≡ n.call = ap (λ (m : Name). m.call) new in
       record { behind = omega arith; slot = λ o among e. absurd (nothing_yet w run r o owned there among (e ∙ ap (λ (k : ℕ). Run run k) (sym call))) }
 
   alike : (n m : Name) → (HasPointer r.frame n) ⊎ ((name_of slot r.pc) ≡ n) → (HasPointer r.frame m) ⊎ ((name_of slot r.pc) ≡ m) → n.call ≡ m.call → n.slot ≡ m.slot
-  alike n m (inl old) (inl older) e = owned.one_slot run r there n m old older e
-  alike n m (inl old) (inr new) e = let behind = (owned.pointers run r there n old).behind in let call : r.pc ≡ m.call = ap (λ (x : Name). x.call) new in absurd (omega arith)
-  alike n m (inr new) (inl old) e = let behind = (owned.pointers run r there m old).behind in let call : r.pc ≡ n.call = ap (λ (x : Name). x.call) new in absurd (omega arith)
+  alike n m (inl old) (inl older) e = owned.runs.one_slot run r there n m old older e
+  alike n m (inl old) (inr new) e = let behind = (owned.runs.pointers run r there n old).behind in let call : r.pc ≡ m.call = ap (λ (x : Name). x.call) new in absurd (omega arith)
+  alike n m (inr new) (inl old) e = let behind = (owned.runs.pointers run r there m old).behind in let call : r.pc ≡ n.call = ap (λ (x : Name). x.call) new in absurd (omega arith)
   alike n m (inr new) (inr newer) e = ap (λ (x : Name). x.slot) (sym new ∙ newer)
 
   points : (n : Name) → (HasPointer r.frame n) ⊎ ((name_of slot r.pc) ≡ n) → n.call ≡ r.pc → n.slot ≡ slot
-  points n (inl old) e = let behind = (owned.pointers run r there n old).behind in absurd (omega (arith, e))
+  points n (inl old) e = let behind = (owned.runs.pointers run r there n old).behind in absurd (omega (arith, e))
   points n (inr new) e = ap (λ (m : Name). m.slot) (sym new)
 
   points_in : (x : Running) (n : Name) → slice_get next.runs run ≡ Some x → HasPointer x.frame n → n.call ≡ r.pc → n.slot ≡ slot
@@ -108,7 +108,7 @@ owned_taken w run r slot kind to frame owned there home of_kind forward fewer = 
       let same = same_run next run now x (get_set_same w.runs run r now there) at in
       points n (cases n (subst (λ (y : Running). HasPointer y.frame n) same has)) e
 
-  asked : AskedFor next run r.pc kind
+  asked : AskedFor next.runs run r.pc kind
   asked = record { asker = now; there = get_set_same w.runs run r now there; behind = forward; reply = reply.Granted; got = tt; told = Contains-push r.calls (record { at = r.pc; kind = kind; reply = reply.Granted }) }
 
   owned_next : IsOwned next
@@ -135,36 +135,33 @@ owned_done w run r (Goes (Ask kind) to frame) Absent owned there own forward = o
 owned_done w run r (Goes (Ask kind) to frame) Null owned there own forward = owned_null w run r kind to frame owned there forward.0 forward.1
 owned_done w run r (Goes (Ask kind) to frame) (Slot slot) owned there own forward = owned_taken w run r slot kind to frame owned there own.1.0 own.1.1 forward.0 forward.1
 
-of_kind_started : (w v : World) (s : Subject) (context : List ℕ) (o : Owner) (kind : ℕ) → v.runs ≡ w.runs ++ first_run s context ∷ [] → IsOfKind w o.holder kind → IsOfKind v o.holder kind
+of_kind_started : (w v : World) (s : Subject) (context : List ℕ) (o : Owner) (kind : ℕ) → v.runs ≡ w.runs ++ first_run s context ∷ [] → IsOfKind w.runs o.holder kind → IsOfKind v.runs o.holder kind
 of_kind_started w v s context o kind more h = in_runs o.holder h where
-  in_runs : (holder : _) → IsOfKind w holder kind → IsOfKind v holder kind
+  in_runs : (holder : _) → IsOfKind w.runs holder kind → IsOfKind v.runs holder kind
   in_runs (Run run at) h = record { asker = h.asker; there = ap (λ (rs : List Running). slice_get rs run) more ∙ get_push w.runs run h.asker (first_run s context) h.there; behind = h.behind; reply = h.reply; got = h.got; told = h.told }
 
 pub owned_started : (w : World) (subject : Subject) (context : List ℕ) → IsOwned w → kinds_of subject.rows ≡ w.kinds → IsOwned (started subject context w)
 owned_started w subject context owned kinds = record {
-  once = owned.once;
-  in_ledger = owned.in_ledger;
-  apart = owned.apart;
-  as_many = owned.as_many;
-  kinds_are = λ k x at. kinds_in k x (get_push_cases w.runs k x (first_run subject context) at);
-  imaged = owned.imaged;
-  sized = owned.sized;
-  one_a_call = owned.one_a_call;
-  asked = λ o among. of_kind_started w (started subject context w) subject context o (kind_in w o.slot) refl (owned.asked o among);
-  pointers = λ k x at n has. true_in k x n has (get_push_cases w.runs k x (first_run subject context) at);
-  one_slot = λ k x at. alike_in k x (get_push_cases w.runs k x (first_run subject context) at);
+  ledgers = owned.ledgers;
+  holders = owned.holders;
+  runs = record {
+    kinds_are = λ k x at. kinds_in k x (get_push_cases w.runs k x (first_run subject context) at);
+    asked = λ o among. of_kind_started w (started subject context w) subject context o (kind_in w o.slot) refl (owned.runs.asked o among);
+    pointers = λ k x at n has. true_in k x n has (get_push_cases w.runs k x (first_run subject context) at);
+    one_slot = λ k x at. alike_in k x (get_push_cases w.runs k x (first_run subject context) at);
+  };
 }
   where
     alike_in : (k : ℕ) (x : Running) → (slice_get w.runs k ≡ Some x) ⊎ (first_run subject context ≡ x) → HasOneSlot x.frame
-    alike_in k x (inl at) = owned.one_slot k x at
+    alike_in k x (inl at) = owned.runs.one_slot k x at
     alike_in k x (inr same) = λ n m has too e. absurd (no_first_pointer n (subst (λ (y : Running). HasPointer y.frame n) (sym same) has))
 
     kinds_in : (k : ℕ) (x : Running) → (slice_get w.runs k ≡ Some x) ⊎ (first_run subject context ≡ x) → kinds_of x.subject.rows ≡ w.kinds
-    kinds_in k x (inl at) = owned.kinds_are k x at
+    kinds_in k x (inl at) = owned.runs.kinds_are k x at
     kinds_in k x (inr same) = ap (λ (y : Running). kinds_of y.subject.rows) (sym same) ∙ kinds
 
-    true_in : (k : ℕ) (x : Running) (n : Name) → HasPointer x.frame n → (slice_get w.runs k ≡ Some x) ⊎ (first_run subject context ≡ x) → IsTrue (started subject context w) k x n
-    true_in k x n has (inl at) = true_same w (started subject context w) k x n (λ o among. among) (owned.pointers k x at n has)
+    true_in : (k : ℕ) (x : Running) (n : Name) → HasPointer x.frame n → (slice_get w.runs k ≡ Some x) ⊎ (first_run subject context ≡ x) → IsTrue w.owners k x n
+    true_in k x n has (inl at) = owned.runs.pointers k x at n has
     true_in k x n has (inr same) = absurd (no_first_pointer n (subst (λ (y : Running). HasPointer y.frame n) (sym same) has))
 
 -- ---- a world without slots and runs
@@ -175,17 +172,23 @@ none_in (x ∷ xs) slot = none_in xs slot
 
 pub owned_empty : {X : Type 0} (xs : List X) (kinds : List Kind) → length xs ≡ length kinds → IsOwned (record { kinds = kinds; ledgers = map (λ x. []) xs; owners = []; bytes = λ slot. []; runs = [] })
 owned_empty xs kinds as_many = record {
-  once = λ slot. omega arith;
-  in_ledger = λ o there. let inside = there.1 in absurd (omega arith);
-  apart = λ slot. let none = (none_in xs slot).0 in omega (arith, none);
-  as_many = length-map xs _ ∙ as_many;
-  kinds_are = λ run r there. absurd (cc);
-  imaged = λ slot home. absurd (not_home slot (none_in xs slot).1 home);
-  sized = λ o there. let inside = there.1 in absurd (omega arith);
-  one_a_call = λ o p there. let inside = there.1 in absurd (omega arith);
-  asked = λ o there. let inside = there.1 in absurd (omega arith);
-  pointers = λ run r there. absurd (cc);
-  one_slot = λ run r there. absurd (cc);
+  ledgers = record {
+    as_many = length-map xs _ ∙ as_many;
+    apart = λ slot. let none = (none_in xs slot).0 in omega (arith, none);
+    imaged = λ slot home. absurd (not_home slot (none_in xs slot).1 home);
+  };
+  holders = record {
+    once = λ slot. omega arith;
+    in_ledger = λ o there. let inside = there.1 in absurd (omega arith);
+    one_a_call = λ o p there. let inside = there.1 in absurd (omega arith);
+    sized = λ o there. let inside = there.1 in absurd (omega arith);
+  };
+  runs = record {
+    kinds_are = λ run r there. absurd (cc);
+    asked = λ o there. let inside = there.1 in absurd (omega arith);
+    pointers = λ run r there. absurd (cc);
+    one_slot = λ run r there. absurd (cc);
+  };
 }
   where
     not_home : (slot : ℕ) → list_any (is_in slot) (map (λ x. []) xs) ≡ false → (list_any (is_in slot) (map (λ x. []) xs) && true) ≡ true → ⊥

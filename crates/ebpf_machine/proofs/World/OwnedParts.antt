@@ -14,13 +14,9 @@ use Rattle.ebpf_machine.specs.Sound.{IsOwned, HasPointer, HasOneSlot, IsTrue}
 use Rattle.ebpf_machine.proofs.Lists.ListLemmas.{get_set_same, get_set_other, get_set_cases, Contains-filter, count_by-filter-le, list_any-filter, none_counted}
 use Rattle.ebpf_machine.proofs.World.Owners.{owner_of, run_of, not_home, holder_of_slot, kind_in-ledger, in_one_ledger}
 
--- ---- facts that are of the runs alone, or of the owners alone
-
-pub of_kind_same : (w v : World) (h : Holder) (kind : ℕ) → v.runs ≡ w.runs → IsOfKind w h kind → IsOfKind v h kind
-of_kind_same w v (Run run at) kind same h = record { asker = h.asker; there = ap (λ (runs : List Running). slice_get runs run) same ∙ h.there; behind = h.behind; reply = h.reply; got = h.got; told = h.told }
-
-pub true_same : (w v : World) (run : ℕ) (r : Running) (n : Name) → ((o : Owner) → Contains v.owners o → Contains w.owners o) → IsTrue w run r n → IsTrue v run r n
-true_same w v run r n fewer h = record { behind = h.behind; slot = λ o among e. h.slot o (fewer o among) e }
+-- a pointer stays true where no more is owned
+pub true_fewer : (owners fewer : List Owner) (run : ℕ) (r : Running) (n : Name) → ((o : Owner) → Contains fewer o → Contains owners o) → IsTrue owners run r n → IsTrue fewer run r n
+true_fewer owners fewer run r n among h = record { behind = h.behind; slot = λ o there e. h.slot o (among o there) e }
 
 -- ---- a run goes on
 
@@ -33,9 +29,9 @@ pub record IsLater (r now : Running) : Type 0 where
 pub same_run : (w : World) (run : ℕ) (r x : Running) → slice_get w.runs run ≡ Some r → slice_get w.runs run ≡ Some x → x ≡ r
 same_run w run r x there at = cc
 
-of_kind_later : (w : World) (run : ℕ) (r now : Running) (h : Holder) (kind : ℕ) → slice_get w.runs run ≡ Some r → IsLater r now → IsOfKind w h kind → IsOfKind (with_run w run now) h kind
+of_kind_later : (w : World) (run : ℕ) (r now : Running) (h : Holder) (kind : ℕ) → slice_get w.runs run ≡ Some r → IsLater r now → IsOfKind w.runs h kind → IsOfKind (with_run w run now).runs h kind
 of_kind_later w run r now (Run asker at) kind there later h = by (cases_eq asker run) where
-  by : (asker ≡ run) ⊎ (asker ≢ run) → AskedFor (with_run w run now) asker at kind
+  by : (asker ≡ run) ⊎ (asker ≢ run) → AskedFor (with_run w run now).runs asker at kind
   by (inl e) =
       let same : h.asker ≡ r = same_run w run r h.asker there (subst (λ (k : ℕ). slice_get w.runs k ≡ Some h.asker) e h.there) in
       record {
@@ -48,74 +44,70 @@ of_kind_later w run r now (Run asker at) kind there later h = by (cases_eq asker
       }
   by (inr ne) = record { asker = h.asker; there = get_set_other w.runs run asker now ne ∙ h.there; behind = h.behind; reply = h.reply; got = h.got; told = h.told }
 
-pub owned_running : (w : World) (run : ℕ) (r now : Running) → IsOwned w → slice_get w.runs run ≡ Some r → IsLater r now → ((n : Name) → HasPointer now.frame n → IsTrue w run now n) → HasOneSlot now.frame → IsOwned (with_run w run now)
+pub owned_running : (w : World) (run : ℕ) (r now : Running) → IsOwned w → slice_get w.runs run ≡ Some r → IsLater r now → ((n : Name) → HasPointer now.frame n → IsTrue w.owners run now n) → HasOneSlot now.frame → IsOwned (with_run w run now)
 owned_running w run r now owned there later true_now alike = record {
-  once = owned.once;
-  in_ledger = owned.in_ledger;
-  apart = owned.apart;
-  as_many = owned.as_many;
-  kinds_are = λ k x at. kinds k x (get_set_cases w.runs run k r now x there at);
-  imaged = owned.imaged;
-  sized = owned.sized;
-  one_a_call = owned.one_a_call;
-  asked = λ o among. of_kind_later w run r now o.holder (kind_in w o.slot) there later (owned.asked o among);
-  pointers = λ k x at n has. true_in k x n has (get_set_cases w.runs run k r now x there at);
-  one_slot = λ k x at. alike_in k x (get_set_cases w.runs run k r now x there at);
+  ledgers = owned.ledgers;
+  holders = owned.holders;
+  runs = record {
+    kinds_are = λ k x at. kinds k x (get_set_cases w.runs run k r now x there at);
+    asked = λ o among. of_kind_later w run r now o.holder (kind_in w o.slot) there later (owned.runs.asked o among);
+    pointers = λ k x at n has. true_in k x n has (get_set_cases w.runs run k r now x there at);
+    one_slot = λ k x at. alike_in k x (get_set_cases w.runs run k r now x there at);
+  };
 }
   where
     alike_in : (k : ℕ) (x : Running) → ((k ≡ run) × (now ≡ x)) ⊎ ((k ≢ run) × (slice_get w.runs k ≡ Some x)) → HasOneSlot x.frame
     alike_in k x (inl e) = subst (λ (y : Running). HasOneSlot y.frame) e.1 alike
-    alike_in k x (inr at) = owned.one_slot k x at.1
+    alike_in k x (inr at) = owned.runs.one_slot k x at.1
 
     kinds : (k : ℕ) (x : Running) → ((k ≡ run) × (now ≡ x)) ⊎ ((k ≢ run) × (slice_get w.runs k ≡ Some x)) → kinds_of x.subject.rows ≡ w.kinds
-    kinds k x (inl e) = ap (λ (y : Running). kinds_of y.subject.rows) (sym e.1) ∙ ap (λ (s : Subject). kinds_of s.rows) later.subject ∙ owned.kinds_are run r there
-    kinds k x (inr at) = owned.kinds_are k x at.1
+    kinds k x (inl e) = ap (λ (y : Running). kinds_of y.subject.rows) (sym e.1) ∙ ap (λ (s : Subject). kinds_of s.rows) later.subject ∙ owned.runs.kinds_are run r there
+    kinds k x (inr at) = owned.runs.kinds_are k x at.1
 
-    true_in : (k : ℕ) (x : Running) (n : Name) → HasPointer x.frame n → ((k ≡ run) × (now ≡ x)) ⊎ ((k ≢ run) × (slice_get w.runs k ≡ Some x)) → IsTrue (with_run w run now) k x n
+    true_in : (k : ℕ) (x : Running) (n : Name) → HasPointer x.frame n → ((k ≡ run) × (now ≡ x)) ⊎ ((k ≢ run) × (slice_get w.runs k ≡ Some x)) → IsTrue w.owners k x n
     true_in k x n has (inl e) =
         let here = true_now n (subst (λ (y : Running). HasPointer y.frame n) (sym e.1) has) in
         record { behind = subst (λ (y : Running). n.call < y.pc) e.1 here.behind; slot = λ o among held. here.slot o among (held ∙ ap (λ (m : ℕ). Run m n.call) e.0) }
-    true_in k x n has (inr at) = true_same w (with_run w run now) k x n (λ o among. among) (owned.pointers k x at.1 n has)
+    true_in k x n has (inr at) = owned.runs.pointers k x at.1 n has
 
 -- ---- bytes of an object that a run holds
 
 pub owned_bytes : (w : World) (slot : ℕ) (bytes : List ℕ) (p : Owner) → IsOwned w → Contains w.owners p → p.slot ≡ slot → length bytes ≡ length (w.bytes slot) → IsOwned (with_bytes slot bytes w)
 owned_bytes w slot bytes p owned own is as_long = record {
-  once = owned.once;
-  in_ledger = owned.in_ledger;
-  apart = owned.apart;
-  as_many = owned.as_many;
-  kinds_are = owned.kinds_are;
-  imaged = λ s home. elsewhere s home;
-  sized = λ o among. long o among (cases_eq o.slot slot);
-  one_a_call = owned.one_a_call;
-  asked = λ o among. of_kind_same w (with_bytes slot bytes w) o.holder (kind_in w o.slot) refl (owned.asked o among);
-  pointers = λ k x at n has. true_same w (with_bytes slot bytes w) k x n (λ o among. among) (owned.pointers k x at n has);
-  one_slot = owned.one_slot;
+  ledgers = record { as_many = owned.ledgers.as_many; apart = owned.ledgers.apart; imaged = λ s home. elsewhere s home };
+  holders = record {
+    once = owned.holders.once;
+    in_ledger = owned.holders.in_ledger;
+    one_a_call = owned.holders.one_a_call;
+    sized = λ o among. long o among (cases_eq o.slot slot);
+  };
+  runs = owned.runs;
 }
   where
     elsewhere : (s : ℕ) → is_home w s ≡ true → cond (s == slot) bytes (w.bytes s) ≡ image_at w.kinds (kind_in w s)
-    elsewhere s home = let apart = ne_eqb s slot (λ e. not_home w p s home own (is ∙ sym e)) in rw apart (owned.imaged s home)
+    elsewhere s home = let apart = ne_eqb s slot (λ e. not_home w p s home own (is ∙ sym e)) in rw apart (owned.ledgers.imaged s home)
 
     long : (o : Owner) → Contains w.owners o → (o.slot ≡ slot) ⊎ (o.slot ≢ slot) → length (cond (o.slot == slot) bytes (w.bytes o.slot)) ≡ length (image_at w.kinds (kind_in w o.slot))
-    long o among (inl e) = let here = eq-eqb o.slot slot e in rw here (as_long ∙ ap (λ (s : ℕ). length (w.bytes s)) (sym e) ∙ owned.sized o among)
-    long o among (inr ne) = let apart = ne_eqb o.slot slot ne in rw apart (owned.sized o among)
+    long o among (inl e) = let here = eq-eqb o.slot slot e in rw here (as_long ∙ ap (λ (s : ℕ). length (w.bytes s)) (sym e) ∙ owned.holders.sized o among)
+    long o among (inr ne) = let apart = ne_eqb o.slot slot ne in rw apart (owned.holders.sized o among)
 
 -- ---- an object is given back
 
 pub owned_given : (w : World) (run : ℕ) (name : Name) → IsOwned w → Contains w.owners (owner_of run name) → IsOwned (with_bytes name.slot (image_at w.kinds (kind_in w name.slot)) (without_owner run name w))
 owned_given w run name owned own = record {
-  once = λ slot. omega (arith, count_by-filter-le (λ (o : Owner). o.slot == slot) stays w.owners, owned.once slot);
-  in_ledger = λ o among. owned.in_ledger o (was o among);
-  apart = owned.apart;
-  as_many = owned.as_many;
-  kinds_are = owned.kinds_are;
-  imaged = λ s home. image s home (cases_eq s name.slot);
-  sized = λ o among. let apart = ne_eqb o.slot name.slot (other o among) in rw apart (owned.sized o (was o among));
-  one_a_call = λ o p among here e. owned.one_a_call o p (was o among) (was p here) e;
-  asked = λ o among. of_kind_same w after o.holder (kind_in w o.slot) refl (owned.asked o (was o among));
-  pointers = λ k x at n has. true_same w after k x n was (owned.pointers k x at n has);
-  one_slot = owned.one_slot;
+  ledgers = record { as_many = owned.ledgers.as_many; apart = owned.ledgers.apart; imaged = λ s home. image s home (cases_eq s name.slot) };
+  holders = record {
+    once = λ slot. omega (arith, count_by-filter-le (λ (o : Owner). o.slot == slot) stays w.owners, owned.holders.once slot);
+    in_ledger = λ o among. owned.holders.in_ledger o (was o among);
+    one_a_call = λ o p among here e. owned.holders.one_a_call o p (was o among) (was p here) e;
+    sized = λ o among. let apart = ne_eqb o.slot name.slot (other o among) in rw apart (owned.holders.sized o (was o among));
+  };
+  runs = record {
+    kinds_are = owned.runs.kinds_are;
+    asked = λ o among. owned.runs.asked o (was o among);
+    pointers = λ k x at n has. true_fewer w.owners (filter stays w.owners) k x n was (owned.runs.pointers k x at n has);
+    one_slot = owned.runs.one_slot;
+  };
 }
   where
     stays : Owner → Bool
@@ -149,7 +141,7 @@ owned_given w run name owned own = record {
 
     image : (s : ℕ) → is_home after s ≡ true → (s ≡ name.slot) ⊎ (s ≢ name.slot) → cond (s == name.slot) (image_at w.kinds (kind_in w name.slot)) (w.bytes s) ≡ image_at w.kinds (kind_in w s)
     image s home (inl e) = let here = eq-eqb s name.slot e in rw here (ap (λ (m : ℕ). image_at w.kinds (kind_in w m)) (sym e))
-    image s home (inr ne) = let apart = ne_eqb s name.slot ne in rw apart (owned.imaged s (still s ne home))
+    image s home (inr ne) = let apart = ne_eqb s name.slot ne in rw apart (owned.ledgers.imaged s (still s ne home))
 
 -- ---- an object is granted
 
@@ -181,58 +173,57 @@ counted_more w run at slot s owned home = by (cases_eq slot s) where
       omega (arith, here, none_counted (λ (o : Owner). o.slot == s) w.owners (ap (is_owned w) (sym e) ∙ unowned w slot home))
   by (inr ne) =
       let here = more ∙ ap (λ (b : Bool). count_by (λ (o : Owner). o.slot == s) w.owners + cond b 1 0) (ne_eqb slot s ne) in
-      omega (arith, here, owned.once s)
+      omega (arith, here, owned.holders.once s)
 
 -- where the call that it is granted to holds nothing yet, and all that points to what that call was granted points to this slot
-pub owned_granted : (w : World) (run at slot kind : ℕ) → IsOwned w → is_home w slot ≡ true → is_in slot (ledger_of w kind) ≡ true → AskedFor w run at kind
+pub owned_granted : (w : World) (run at slot kind : ℕ) → IsOwned w → is_home w slot ≡ true → is_in slot (ledger_of w kind) ≡ true → AskedFor w.runs run at kind
     → ((o : Owner) → Contains w.owners o → o.holder ≢ Run run at)
     → ((r : Running) (n : Name) → slice_get w.runs run ≡ Some r → HasPointer r.frame n → n.call ≡ at → n.slot ≡ slot)
     → IsOwned (with_owner slot (Run run at) (with_bytes slot (image_at w.kinds kind) w))
 owned_granted w run at slot kind owned home there asked nothing points = record {
-  once = λ s. counted_more w run at slot s owned home;
-  in_ledger = λ o among. in_one o (added w run at slot o among);
-  apart = owned.apart;
-  as_many = owned.as_many;
-  kinds_are = owned.kinds_are;
-  imaged = λ s h. image s (still_home w run at slot s h);
-  sized = λ o among. long o (added w run at slot o among);
-  one_a_call = λ o p among here e. one o p (added w run at slot o among) (added w run at slot p here) e;
-  asked = λ o among. of_kind o (added w run at slot o among);
-  pointers = λ k x seen n has. true_in k x n seen has (owned.pointers k x seen n has);
-  one_slot = owned.one_slot;
+  ledgers = record { as_many = owned.ledgers.as_many; apart = owned.ledgers.apart; imaged = λ s h. image s (still_home w run at slot s h) };
+  holders = record {
+    once = λ s. counted_more w run at slot s owned home;
+    in_ledger = λ o among. in_one o (added w run at slot o among);
+    one_a_call = λ o p among here e. one o p (added w run at slot o among) (added w run at slot p here) e;
+    sized = λ o among. long o (added w run at slot o among);
+  };
+  runs = record {
+    kinds_are = owned.runs.kinds_are;
+    asked = λ o among. of_kind o (added w run at slot o among);
+    pointers = λ k x seen n has. true_in k x n seen has (owned.runs.pointers k x seen n has);
+    one_slot = owned.runs.one_slot;
+  };
 }
   where
-    after : World
-    after = with_owner slot (Run run at) (with_bytes slot (image_at w.kinds kind) w)
-
     in_one : (o : Owner) → Contains w.owners o ⊎ (owner_of run (name_of slot at) ≡ o) → count_by (is_in o.slot) w.ledgers ≡ 1
-    in_one o (inl among) = owned.in_ledger o among
+    in_one o (inl among) = owned.holders.in_ledger o among
     in_one o (inr e) = ap (λ (p : Owner). count_by (is_in p.slot) w.ledgers) (sym e) ∙ in_one_ledger w kind slot owned there
 
     image : (s : ℕ) → (is_home w s ≡ true) × (s ≢ slot) → cond (s == slot) (image_at w.kinds kind) (w.bytes s) ≡ image_at w.kinds (kind_in w s)
-    image s h = let apart = ne_eqb s slot h.1 in rw apart (owned.imaged s h.0)
+    image s h = let apart = ne_eqb s slot h.1 in rw apart (owned.ledgers.imaged s h.0)
 
     new_long : length (cond (slot == slot) (image_at w.kinds kind) (w.bytes slot)) ≡ length (image_at w.kinds (kind_in w slot))
     new_long = let here = eq-eqb slot slot refl in let of_its = kind_in-ledger w kind slot owned there in rw (here, of_its) refl
 
     long : (o : Owner) → Contains w.owners o ⊎ (owner_of run (name_of slot at) ≡ o) → length (cond (o.slot == slot) (image_at w.kinds kind) (w.bytes o.slot)) ≡ length (image_at w.kinds (kind_in w o.slot))
-    long o (inl among) = let apart = ne_eqb o.slot slot (not_home w o slot home among) in rw apart (owned.sized o among)
+    long o (inl among) = let apart = ne_eqb o.slot slot (not_home w o slot home among) in rw apart (owned.holders.sized o among)
     long o (inr e) = subst (λ (p : Owner). length (cond (p.slot == slot) (image_at w.kinds kind) (w.bytes p.slot)) ≡ length (image_at w.kinds (kind_in w p.slot))) e new_long
 
     one : (o p : Owner) → Contains w.owners o ⊎ (owner_of run (name_of slot at) ≡ o) → Contains w.owners p ⊎ (owner_of run (name_of slot at) ≡ p) → o.holder ≡ p.holder → o ≡ p
-    one o p (inl among) (inl here) e = owned.one_a_call o p among here e
+    one o p (inl among) (inl here) e = owned.holders.one_a_call o p among here e
     one o p (inl among) (inr same) e = absurd (nothing o among (e ∙ ap (λ (q : Owner). q.holder) (sym same)))
     one o p (inr same) (inl here) e = absurd (nothing p here (sym e ∙ ap (λ (q : Owner). q.holder) (sym same)))
     one o p (inr same) (inr alike) e = sym same ∙ alike
 
-    new_asked : AskedFor w run at (kind_in w slot)
-    new_asked = subst (λ (k : ℕ). AskedFor w run at k) (sym (kind_in-ledger w kind slot owned there)) asked
+    new_asked : AskedFor w.runs run at (kind_in w slot)
+    new_asked = subst (λ (k : ℕ). AskedFor w.runs run at k) (sym (kind_in-ledger w kind slot owned there)) asked
 
-    of_kind : (o : Owner) → Contains w.owners o ⊎ (owner_of run (name_of slot at) ≡ o) → IsOfKind after o.holder (kind_in w o.slot)
-    of_kind o (inl among) = of_kind_same w after o.holder (kind_in w o.slot) refl (owned.asked o among)
-    of_kind o (inr e) = subst (λ (p : Owner). IsOfKind after p.holder (kind_in w p.slot)) e (of_kind_same w after (Run run at) (kind_in w slot) refl new_asked)
+    of_kind : (o : Owner) → Contains w.owners o ⊎ (owner_of run (name_of slot at) ≡ o) → IsOfKind w.runs o.holder (kind_in w o.slot)
+    of_kind o (inl among) = owned.runs.asked o among
+    of_kind o (inr e) = subst (λ (p : Owner). IsOfKind w.runs p.holder (kind_in w p.slot)) e new_asked
 
-    true_in : (k : ℕ) (x : Running) (n : Name) → slice_get w.runs k ≡ Some x → HasPointer x.frame n → IsTrue w k x n → IsTrue after k x n
+    true_in : (k : ℕ) (x : Running) (n : Name) → slice_get w.runs k ≡ Some x → HasPointer x.frame n → IsTrue w.owners k x n → IsTrue (w.owners ++ owner_of run (name_of slot at) ∷ []) k x n
     true_in k x n seen has h = record { behind = h.behind; slot = λ o among e. to o (added w run at slot o among) e }
       where
         to : (o : Owner) → Contains w.owners o ⊎ (owner_of run (name_of slot at) ≡ o) → o.holder ≡ Run k n.call → o.slot ≡ n.slot

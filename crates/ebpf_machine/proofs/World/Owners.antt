@@ -38,7 +38,7 @@ held_owner w run o among =
 -- ---- who owns a slot
 
 pub same_slot : (w : World) (o p : Owner) → IsOwned w → Contains w.owners o → Contains w.owners p → o.slot ≡ p.slot → o ≡ p
-same_slot w o p owned (i, li, ei) (j, lj, ej) e = only_one (λ (q : Owner). q.slot == p.slot) w.owners i j o p li lj ei ej (eq-eqb o.slot p.slot e) (eq-eqb p.slot p.slot refl) (owned.once p.slot)
+same_slot w o p owned (i, li, ei) (j, lj, ej) e = only_one (λ (q : Owner). q.slot == p.slot) w.owners i j o p li lj ei ej (eq-eqb o.slot p.slot e) (eq-eqb p.slot p.slot refl) (owned.holders.once p.slot)
 
 -- a slot that is home is nobody's
 pub not_home : (w : World) (o : Owner) (slot : ℕ) → is_home w slot ≡ true → Contains w.owners o → o.slot ≢ slot
@@ -50,7 +50,7 @@ not_home w o slot home (i, li, ei) e =
 
 -- the object of a name is owned by one call of one run
 pub slot_of_call : (w : World) (run : ℕ) (name : Name) (o : Owner) → IsOwned w → Contains w.owners (owner_of run name) → Contains w.owners o → o.holder ≡ Run run name.call → o.slot ≡ name.slot
-slot_of_call w run name o owned own among e = ap (λ (q : Owner). q.slot) (owned.one_a_call o (owner_of run name) among own e)
+slot_of_call w run name o owned own among e = ap (λ (q : Owner). q.slot) (owned.holders.one_a_call o (owner_of run name) among own e)
 
 pub holder_of_slot : (w : World) (run : ℕ) (name : Name) (o : Owner) → IsOwned w → Contains w.owners (owner_of run name) → Contains w.owners o → o.slot ≡ name.slot → o.holder ≡ Run run name.call
 holder_of_slot w run name o owned own among e = ap (λ (q : Owner). q.holder) (same_slot w o (owner_of run name) owned among own e)
@@ -133,7 +133,7 @@ kind_from-ledger base (slots ∷ ledgers) (suc kind) slot there most =
     elsewhere = false_from_ne_true (is_in slot slots) (λ here. absurd (omega (arith, counted_once (is_in slot) slots ledgers here, counted_at (is_in slot) ledgers kind [] refl there)))
 
 pub kind_in-ledger : (w : World) (kind slot : ℕ) → IsOwned w → is_in slot (ledger_of w kind) ≡ true → kind_in w slot ≡ kind
-kind_in-ledger w kind slot owned there = kind_from-ledger 0 w.ledgers kind slot there (owned.apart slot) ∙ omega arith
+kind_in-ledger w kind slot owned there = kind_from-ledger 0 w.ledgers kind slot there (owned.ledgers.apart slot) ∙ omega arith
 
 pub in_one_ledger : (w : World) (kind slot : ℕ) → IsOwned w → is_in slot (ledger_of w kind) ≡ true → count_by (is_in slot) w.ledgers ≡ 1
-in_one_ledger w kind slot owned there = omega (arith, owned.apart slot, counted_at (is_in slot) w.ledgers kind [] refl there)
+in_one_ledger w kind slot owned there = omega (arith, owned.ledgers.apart slot, counted_at (is_in slot) w.ledgers kind [] refl there)

@@ -36,7 +36,7 @@ parted_count : (w : World) (kind slot : ℕ) → IsOwned w → IsReapable w kind
 parted_count w kind slot owned reapable =
     let was = ap (λ (b : Bool). cond {A = ℕ} b 1 0) reapable.its in
     let is = ap (λ (b : Bool). cond {A = ℕ} b 1 0) (itself_out slot (ledger_of w kind)) in
-    omega (arith, was, is, owned.apart slot, sum_by-set (λ slots. cond (is_in slot slots) 1 0) w.ledgers kind (without_slot slot (ledger_of w kind)) [] (has_ledger w.ledgers kind slot reapable.its))
+    omega (arith, was, is, owned.ledgers.apart slot, sum_by-set (λ slots. cond (is_in slot slots) 1 0) w.ledgers kind (without_slot slot (ledger_of w kind)) [] (has_ledger w.ledgers kind slot reapable.its))
 
 pub parted_away : (w : World) (kind slot : ℕ) → IsOwned w → IsReapable w kind slot → is_in_ledger (with_slot_left kind slot w) slot ≡ false
 parted_away w kind slot owned reapable = none_from_count (is_in slot) (with_slot_left kind slot w).ledgers (parted_count w kind slot owned reapable)
