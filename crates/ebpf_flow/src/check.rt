@@ -1,6 +1,7 @@
 //! The check of a program's flow.
 
-ghost use Rattle.std.specs.Prelude.{◌≡◌, ◌≤◌, ◌<◌, ◌+◌, ◌||◌, ◌&&◌, ◌==◌, ℕ, ℤ, pos, ◌+ℤ◌, Option, Some, None, length, slice_index_or, IfOk, IfErr, IfSome, OnOk, false, true};
+ghost use Rattle.std.specs.Prelude.{◌≡◌, ◌≤◌, ◌<◌, ◌+◌, ◌||◌, ◌&&◌, ◌==◌, ℕ, ℤ, pos, ◌+ℤ◌, Option, Some};
+ghost use Rattle.std.specs.Prelude.{None, length, slice_index_or, IfOk, IfErr, IfSome, OnOk, false, true};
 ghost use Rattle.ebpf_insn.specs.declared.program.TheConstants.{MAX_SLOTS};
 ghost use Rattle.ebpf_insn.specs.Program.{insn_at, slots_in};
 ghost use Rattle.ebpf_flow.specs.declared.fault.FlowCode.{FlowCode};
@@ -56,7 +57,8 @@ fn check_slot(program: &Program, slot: usize, reached: &mut Vec<bool>) -> Result
     ensures fine { OnOk result (flow_fault_at program.now slot ≡ None) }
     ensures edges { IfOk result (λ e. e ≡ edges_at program.now slot) }
     ensures forward { IfOk result (λ e. LeadsForward program.now slot e.fall × LeadsForward program.now slot e.jump) }
-    ensures marked { OnOk result ((k : ℕ) → k < length program.now → slice_index_or reached.new.items k false ≡ ((is_reached program.now slot && has_edge_to (edges_at program.now slot) k) || slice_index_or reached.old.items k false)) }
+    ensures marked { OnOk result ((k : ℕ) → k < length program.now → slice_index_or reached.new.items k false ≡
+        ((is_reached program.now slot && has_edge_to (edges_at program.now slot) k) || slice_index_or reached.old.items k false)) }
     ensures refused { IfErr result (λ e. (code : FlowCode) × (e ≡ FlowFault.Bad slot code) × (flow_fault_at program.now slot ≡ Some code)) }
 {
     let Some(insn) = program.at(slot) else {

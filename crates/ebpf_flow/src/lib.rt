@@ -3,6 +3,8 @@
 //! [`check::check`] makes a [`flowed::Flowed`] of a program exactly where every edge leads forward to an instruction and every
 //! instruction is reached; else it names the lowest slot at fault and why.
 //! Displacements are read here, once: the crates above see slots.
+//!
+//! To be read in this order: `fault`, `edges`, `flowed`, `check`.
 #![tactic(auto)]
 
 pub mod check;

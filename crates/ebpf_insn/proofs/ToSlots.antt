@@ -1,5 +1,6 @@
 -- The slots of an instruction have no fault, and the instruction is read from them again.
-use Rattle.std.proofs.Common.{◌≡◌, ℕ, ◌+◌, ◌*◌, ◌/◌, ◌%◌, ◌<◌, ◌^◌, Bool, true, false, eqb, ◌||◌, Option, Some, None, ℤ, w16, w32, FitsSigned, refl, sym, ap, ◌∙◌, inl, inr, arith}
+use Rattle.std.proofs.Common.{◌≡◌, ℕ, ◌+◌, ◌*◌, ◌/◌, ◌%◌, ◌<◌, ◌^◌, Bool, true, false, eqb, ◌||◌}
+use Rattle.std.proofs.Common.{Option, Some, None, ℤ, w16, w32, FitsSigned, refl, sym, ap, ◌∙◌, inl, inr, arith}
 use Rattle.std.proofs.lemmas.Bool.{ne_eqb, cases_eq}
 use Rattle.std.proofs.lemmas.Bool.Decides.{nat_tests}
 use Rattle.std.proofs.lemmas.Int.{ints, to_z-of_z}
@@ -25,7 +26,8 @@ use Rattle.ebpf_insn.specs.declared.opcode.Operand.TheVariants.{Immediate, Regis
 use Rattle.ebpf_insn.specs.Registers.{number_of, register_of}
 use Rattle.ebpf_insn.specs.Opcodes.{opcode_of, form_of}
 use Rattle.ebpf_insn.specs.Fields.{leaves_unused_zero, has_left_out_source, has_defined_fields, is_move_of, is_swap_of, lacks_second, has_bad_second}
-use Rattle.ebpf_insn.specs.Encoding.{unsigned_of, form_of_insn, operand_of, source_register, source_imm, sign_offset, slot_with, second_half, first_slot, IsSource, IsDefined}
+use Rattle.ebpf_insn.specs.Encoding.{unsigned_of, form_of_insn, operand_of, source_register, source_imm}
+use Rattle.ebpf_insn.specs.Encoding.{sign_offset, slot_with, second_half, first_slot, IsSource, IsDefined}
 use Rattle.ebpf_insn.specs.Decoding.{slot_fault}
 use Rattle.ebpf_insn.specs.Decoded.{alu_at, insn_at_slot}
 use Rattle.ebpf_insn.proofs.Registers.{register_of-number_of, is_register_of, number_below}
@@ -55,7 +57,8 @@ record Passes (f : Form) (s : Slot) (second : Option Slot) : Type 0 where
   pub blank : has_bad_second f second ≡ false
   pub defined : has_defined_fields f s ≡ true
 
-is_read : (i : Insn) (s : Slot) (second : Option Slot) (f : Form) (dst src : Reg) → form_of s.opcode ≡ Some f → register_of s.dst ≡ Some dst → register_of s.src ≡ Some src → Passes f s second → insn_at_slot f s second dst src ≡ i → IsReadFrom i s second
+is_read : (i : Insn) (s : Slot) (second : Option Slot) (f : Form) (dst src : Reg) → form_of s.opcode ≡ Some f → register_of s.dst ≡ Some dst
+    → register_of s.src ≡ Some src → Passes f s second → insn_at_slot f s second dst src ≡ i → IsReadFrom i s second
 unfolding found_in
 is_read i s second f dst src opcode to from passes made = record {
   fine = rw (opcode, passes.source, is_register_of s.dst dst to, is_register_of s.src src from, passes.unused, passes.whole, passes.blank, passes.defined) refl;
@@ -73,23 +76,32 @@ immediate_slot width o dst z = slot_with (form.Alu width o Immediate) (number_of
 -- what is left of the tests of an operation's slot, and what is made of it
 abbrev IsOperation : Width → Operand → Reg → Reg → Source → Slot → AluOp → Type 0
 IsOperation width operand dst src x s o =
-    (leaves_unused_zero (form.Alu width (unsigned_of o) operand) s ≡ true) × (has_defined_fields (form.Alu width (unsigned_of o) operand) s ≡ true) × (alu_at width (unsigned_of o) operand s dst src ≡ insn.Alu width o dst x)
+    (leaves_unused_zero (form.Alu width (unsigned_of o) operand) s ≡ true)
+    × (has_defined_fields (form.Alu width (unsigned_of o) operand) s ≡ true)
+    × (alu_at width (unsigned_of o) operand s dst src ≡ insn.Alu width o dst x)
 
 register_operation : (width : Width) (o : AluOp) (dst src : Reg) → IsOperation width Register dst src (source.Register src) (register_slot width o dst src) o
-register_operation width o dst src = elim o as (λ k. IsOperation width Register dst src (source.Register src) (register_slot width k dst src) k) [ op.Add ↦ (refl, refl, refl) | op.Sub ↦ (refl, refl, refl) | op.Mul ↦ (refl, refl, refl) | op.Div ↦ (refl, refl, refl) | op.SDiv ↦ (refl, refl, refl) | op.Or ↦ (refl, refl, refl) | op.And ↦ (refl, refl, refl) | op.Lsh ↦ (refl, refl, refl) | op.Rsh ↦ (refl, refl, refl) | op.Rem ↦ (refl, refl, refl) | op.SRem ↦ (refl, refl, refl) | op.Xor ↦ (refl, refl, refl) | op.Mov ↦ (refl, refl, refl) | op.Arsh ↦ (refl, refl, refl) ]
+register_operation width op.Add dst src = (refl, refl, refl)
+register_operation width _ dst src = (refl, refl, refl)
 
-immediate_operation : (width : Width) (o : AluOp) (dst src : Reg) (z : ℤ) → IsOperation width Immediate dst src (source.Imm (cast_signed w32 (cast_unsigned w32 z))) (immediate_slot width o dst z) o
-immediate_operation width o dst src z = elim o as (λ k. IsOperation width Immediate dst src (source.Imm (cast_signed w32 (cast_unsigned w32 z))) (immediate_slot width k dst z) k) [ op.Add ↦ (refl, refl, refl) | op.Sub ↦ (refl, refl, refl) | op.Mul ↦ (refl, refl, refl) | op.Div ↦ (refl, refl, refl) | op.SDiv ↦ (refl, refl, refl) | op.Or ↦ (refl, refl, refl) | op.And ↦ (refl, refl, refl) | op.Lsh ↦ (refl, refl, refl) | op.Rsh ↦ (refl, refl, refl) | op.Rem ↦ (refl, refl, refl) | op.SRem ↦ (refl, refl, refl) | op.Xor ↦ (refl, refl, refl) | op.Mov ↦ (refl, refl, refl) | op.Arsh ↦ (refl, refl, refl) ]
+immediate_operation : (width : Width) (o : AluOp) (dst src : Reg) (z : ℤ)
+    → IsOperation width Immediate dst src (source.Imm (cast_signed w32 (cast_unsigned w32 z))) (immediate_slot width o dst z) o
+immediate_operation width op.Add dst src z = (refl, refl, refl)
+immediate_operation width _ dst src z = (refl, refl, refl)
 
-alu_read : (width : Width) (o : AluOp) (dst : Reg) (x : Source) (second : Option Slot) → IsSource x → IsReadFrom (insn.Alu width o dst x) (first_slot (insn.Alu width o dst x)) second
+alu_read : (width : Width) (o : AluOp) (dst : Reg) (x : Source) (second : Option Slot) → IsSource x
+    → IsReadFrom (insn.Alu width o dst x) (first_slot (insn.Alu width o dst x)) second
 alu_read width o dst (source.Register src) second h =
     let known = register_operation width o dst src in
-    is_read _ (register_slot width o dst src) second (form.Alu width (unsigned_of o) Register) dst src (alu_again width Register o) (register_of-number_of dst) (register_of-number_of src)
+    is_read _ (register_slot width o dst src) second (form.Alu width (unsigned_of o) Register) dst src
+    (alu_again width Register o) (register_of-number_of dst) (register_of-number_of src)
     (record { source = refl; unused = known.0; whole = refl; blank = refl; defined = known.1 }) known.2
 alu_read width o dst (source.Imm z) second h =
     let known = immediate_operation width o dst R0 z in
-    is_read _ (immediate_slot width o dst z) second (form.Alu width (unsigned_of o) Immediate) dst R0 (alu_again width Immediate o) (register_of-number_of dst) refl
-    (record { source = refl; unused = known.0; whole = refl; blank = refl; defined = known.1 }) (known.2 ∙ ap (λ (y : ℤ). insn.Alu width o dst (source.Imm y)) (to_z-of_z w32 z h))
+    is_read _ (immediate_slot width o dst z) second (form.Alu width (unsigned_of o) Immediate) dst R0
+    (alu_again width Immediate o) (register_of-number_of dst) refl
+    (record { source = refl; unused = known.0; whole = refl; blank = refl; defined = known.1 })
+    (known.2 ∙ ap (λ (y : ℤ). insn.Alu width o dst (source.Imm y)) (to_z-of_z w32 z h))
 
 or_true : (a b : Bool) → b ≡ true → (a || b) ≡ true
 or_true true b e = refl
@@ -99,30 +111,40 @@ move_bits : (width : Width) (bits : ℕ) → is_move_of width bits ≡ true → 
 move_bits W32 bits h = grind (arith, nat_tests)
 move_bits W64 bits h = grind (arith, nat_tests)
 
-sext_read : (width : Width) (bits : ℕ) (dst src : Reg) (second : Option Slot) → is_move_of width bits ≡ true → IsReadFrom (insn.Sext width bits dst src) (first_slot (insn.Sext width bits dst src)) second
+sext_read : (width : Width) (bits : ℕ) (dst src : Reg) (second : Option Slot) → is_move_of width bits ≡ true
+    → IsReadFrom (insn.Sext width bits dst src) (first_slot (insn.Sext width bits dst src)) second
 sext_read width bits dst src second h =
-    is_read _ (slot_with (form.Alu width op.Mov Register) (number_of dst) (number_of src) bits 0) second (form.Alu width op.Mov Register) dst src (alu_again width Register op.Mov) (register_of-number_of dst) (register_of-number_of src)
-    (record { source = refl; unused = refl; whole = refl; blank = refl; defined = or_true (eqb bits 0) (is_move_of width bits) h }) (rw (move_bits width bits h).0 refl)
+    is_read _ (slot_with (form.Alu width op.Mov Register) (number_of dst) (number_of src) bits 0) second (form.Alu width op.Mov Register) dst src
+    (alu_again width Register op.Mov) (register_of-number_of dst) (register_of-number_of src)
+    (record { source = refl; unused = refl; whole = refl; blank = refl; defined = or_true (eqb bits 0) (is_move_of width bits) h })
+    (rw (move_bits width bits h).0 refl)
 
 -- ---- the others
 
-store_read : (size : Size) (base : Reg) (offset : ℤ) (x : Source) (second : Option Slot) → IsSource x → FitsSigned w16 offset → IsReadFrom (insn.Store size base offset x) (first_slot (insn.Store size base offset x)) second
+store_read : (size : Size) (base : Reg) (offset : ℤ) (x : Source) (second : Option Slot) → IsSource x → FitsSigned w16 offset
+    → IsReadFrom (insn.Store size base offset x) (first_slot (insn.Store size base offset x)) second
 store_read size base offset (source.Register src) second h fits =
     is_read _ _ second (form.Store size Register) base src (form_again (form.Store size Register) tt) (register_of-number_of base) (register_of-number_of src)
-    (record { source = refl; unused = refl; whole = refl; blank = refl; defined = refl }) (ap (λ (k : ℤ). insn.Store size base k (source.Register src)) (to_z-of_z w16 offset fits))
+    (record { source = refl; unused = refl; whole = refl; blank = refl; defined = refl })
+    (ap (λ (k : ℤ). insn.Store size base k (source.Register src)) (to_z-of_z w16 offset fits))
 store_read size base offset (source.Imm z) second h fits =
     is_read _ _ second (form.Store size Immediate) base R0 (form_again (form.Store size Immediate) tt) (register_of-number_of base) refl
     (record { source = refl; unused = refl; whole = refl; blank = refl; defined = refl })
-    (ap (λ (k : ℤ). insn.Store size base k (source.Imm (cast_signed w32 (cast_unsigned w32 z)))) (to_z-of_z w16 offset fits) ∙ ap (λ (y : ℤ). insn.Store size base offset (source.Imm y)) (to_z-of_z w32 z h))
+    (ap (λ (k : ℤ). insn.Store size base k (source.Imm (cast_signed w32 (cast_unsigned w32 z)))) (to_z-of_z w16 offset fits)
+    ∙ ap (λ (y : ℤ). insn.Store size base offset (source.Imm y)) (to_z-of_z w32 z h))
 
-branch_read : (width : Width) (c : Cond) (left : Reg) (x : Source) (offset : ℤ) (second : Option Slot) → IsSource x → FitsSigned w16 offset → IsReadFrom (insn.Branch width c left x offset) (first_slot (insn.Branch width c left x offset)) second
+branch_read : (width : Width) (c : Cond) (left : Reg) (x : Source) (offset : ℤ) (second : Option Slot) → IsSource x → FitsSigned w16 offset
+    → IsReadFrom (insn.Branch width c left x offset) (first_slot (insn.Branch width c left x offset)) second
 branch_read width c left (source.Register src) offset second h fits =
-    is_read _ _ second (form.Branch width c Register) left src (form_again (form.Branch width c Register) tt) (register_of-number_of left) (register_of-number_of src)
-    (record { source = refl; unused = refl; whole = refl; blank = refl; defined = refl }) (ap (λ (k : ℤ). insn.Branch width c left (source.Register src) k) (to_z-of_z w16 offset fits))
+    is_read _ _ second (form.Branch width c Register) left src
+    (form_again (form.Branch width c Register) tt) (register_of-number_of left) (register_of-number_of src)
+    (record { source = refl; unused = refl; whole = refl; blank = refl; defined = refl })
+    (ap (λ (k : ℤ). insn.Branch width c left (source.Register src) k) (to_z-of_z w16 offset fits))
 branch_read width c left (source.Imm z) offset second h fits =
     is_read _ _ second (form.Branch width c Immediate) left R0 (form_again (form.Branch width c Immediate) tt) (register_of-number_of left) refl
     (record { source = refl; unused = refl; whole = refl; blank = refl; defined = refl })
-    (ap (λ (k : ℤ). insn.Branch width c left (source.Imm (cast_signed w32 (cast_unsigned w32 z))) k) (to_z-of_z w16 offset fits) ∙ ap (λ (y : ℤ). insn.Branch width c left (source.Imm y) offset) (to_z-of_z w32 z h))
+    (ap (λ (k : ℤ). insn.Branch width c left (source.Imm (cast_signed w32 (cast_unsigned w32 z))) k) (to_z-of_z w16 offset fits)
+    ∙ ap (λ (y : ℤ). insn.Branch width c left (source.Imm y) offset) (to_z-of_z w32 z h))
 
 wide_read : (dst : Reg) (value : ℕ) → IsReadFrom (insn.Wide dst value) (first_slot (insn.Wide dst value)) (Some (second_half (value / 2 ^ 32)))
 wide_read dst value =
@@ -139,22 +161,29 @@ pub insn_read : (i : Insn) (second : Option Slot) → IsDefined i → Follows i 
 insn_read (insn.Alu width o dst src) second h follows = alu_read width o dst src second h
 insn_read (insn.Sext width bits dst src) second h follows = sext_read width bits dst src second h
 insn_read (insn.Neg width dst) second h follows =
-    is_read _ _ second (form.Neg width) dst R0 (form_again (form.Neg width) tt) (register_of-number_of dst) refl (record { source = refl; unused = refl; whole = refl; blank = refl; defined = refl }) refl
+    is_read _ _ second (form.Neg width) dst R0 (form_again (form.Neg width) tt) (register_of-number_of dst) refl
+    (record { source = refl; unused = refl; whole = refl; blank = refl; defined = refl }) refl
 insn_read (insn.Swap order bits dst) second h follows =
-    is_read _ _ second (form.Swap order) dst R0 (form_again (form.Swap order) tt) (register_of-number_of dst) refl (record { source = refl; unused = refl; whole = refl; blank = refl; defined = h }) refl
+    is_read _ _ second (form.Swap order) dst R0 (form_again (form.Swap order) tt) (register_of-number_of dst) refl
+    (record { source = refl; unused = refl; whole = refl; blank = refl; defined = h }) refl
 insn_read (insn.Wide dst value) second h follows = rw follows (wide_read dst value)
 insn_read (insn.Load size signed dst base offset) second h follows =
-    is_read _ _ second (form.Load size signed) dst base (form_again (form.Load size signed) h.0) (register_of-number_of dst) (register_of-number_of base) (record { source = refl; unused = refl; whole = refl; blank = refl; defined = refl }) (ap (insn.Load size signed dst base) (to_z-of_z w16 offset h.1))
+    is_read _ _ second (form.Load size signed) dst base (form_again (form.Load size signed) h.0) (register_of-number_of dst) (register_of-number_of base)
+    (record { source = refl; unused = refl; whole = refl; blank = refl; defined = refl }) (ap (insn.Load size signed dst base) (to_z-of_z w16 offset h.1))
 insn_read (insn.Store size base offset src) second h follows = store_read size base offset src second h.0 h.1
 insn_read (insn.Jump offset) second h follows =
-    is_read _ _ second form.Jump R0 R0 (form_again form.Jump tt) refl refl (record { source = refl; unused = refl; whole = refl; blank = refl; defined = refl }) (ap insn.Jump (to_z-of_z w16 offset h))
+    is_read _ _ second form.Jump R0 R0 (form_again form.Jump tt) refl refl
+    (record { source = refl; unused = refl; whole = refl; blank = refl; defined = refl }) (ap insn.Jump (to_z-of_z w16 offset h))
 insn_read (insn.JumpFar offset) second h follows =
-    is_read _ _ second form.JumpFar R0 R0 (form_again form.JumpFar tt) refl refl (record { source = refl; unused = refl; whole = refl; blank = refl; defined = refl }) (ap insn.JumpFar (to_z-of_z w32 offset h))
+    is_read _ _ second form.JumpFar R0 R0 (form_again form.JumpFar tt) refl refl
+    (record { source = refl; unused = refl; whole = refl; blank = refl; defined = refl }) (ap insn.JumpFar (to_z-of_z w32 offset h))
 insn_read (insn.Branch width c left right offset) second h follows = branch_read width c left right offset second h.0 h.1
 insn_read (insn.Call number) second h follows =
-    is_read _ _ second form.Call R0 R0 (form_again form.Call tt) refl refl (record { source = refl; unused = refl; whole = refl; blank = refl; defined = refl }) (ap insn.Call (to_z-of_z w32 number h))
+    is_read _ _ second form.Call R0 R0 (form_again form.Call tt) refl refl
+    (record { source = refl; unused = refl; whole = refl; blank = refl; defined = refl }) (ap insn.Call (to_z-of_z w32 number h))
 insn_read insn.Exit second h follows =
-    is_read _ _ second form.Exit R0 R0 (form_again form.Exit tt) refl refl (record { source = refl; unused = refl; whole = refl; blank = refl; defined = refl }) refl
+    is_read _ _ second form.Exit R0 R0 (form_again form.Exit tt) refl refl
+    (record { source = refl; unused = refl; whole = refl; blank = refl; defined = refl }) refl
 
 -- ---- the sizes of the fields
 
@@ -221,7 +250,8 @@ pub wide_opcode : (i : Insn) → IsDefined i → eqb (first_slot i).opcode (opco
 wide_opcode i h = wide_form (first_slot i).opcode (form_of_insn i) (first_form i h) ∙ same_wide i
 
 sign_below : (o : AluOp) → sign_offset o < 2 ^ 16
-sign_below o = elim o as (λ k. sign_offset k < 2 ^ 16) [ op.Add ↦ omega arith | op.Sub ↦ omega arith | op.Mul ↦ omega arith | op.Div ↦ omega arith | op.SDiv ↦ omega arith | op.Or ↦ omega arith | op.And ↦ omega arith | op.Lsh ↦ omega arith | op.Rsh ↦ omega arith | op.Rem ↦ omega arith | op.SRem ↦ omega arith | op.Xor ↦ omega arith | op.Mov ↦ omega arith | op.Arsh ↦ omega arith ]
+sign_below op.Add = omega arith
+sign_below _ = omega arith
 
 offset_below : (z : ℤ) → FitsSigned w16 z → cast_unsigned w16 z < 2 ^ 16
 offset_below z fits = omega (arith, ints)
@@ -236,20 +266,34 @@ source_below (source.Register r) h = (number_below r, omega arith)
 swap_below : (bits : ℕ) → is_swap_of bits ≡ true → bits < 2 ^ 32
 swap_below bits h = grind (arith, nat_tests)
 
-fits_slot : (f g : Form) (dst src offset imm : ℕ) → form_of (opcode_of f) ≡ Some g → dst < 16 → src < 16 → offset < 2 ^ 16 → imm < 2 ^ 32 → FitsSlot (slot_with f dst src offset imm)
+fits_slot : (f g : Form) (dst src offset imm : ℕ) → form_of (opcode_of f) ≡ Some g → dst < 16 → src < 16 → offset < 2 ^ 16 → imm < 2 ^ 32
+    → FitsSlot (slot_with f dst src offset imm)
 fits_slot f g dst src offset imm here to from by number = record { opcode = opcode_below (opcode_of f) g here; dst = to; src = from; offset = by; imm = number }
 
 pub first_fits : (i : Insn) → IsDefined i → FitsSlot (first_slot i)
-first_fits (insn.Alu width o dst src) h = fits_slot (form.Alu width o (operand_of src)) _ _ _ _ _ (alu_again width (operand_of src) o) (number_below dst) (source_below src h).0 (sign_below o) (source_below src h).1
-first_fits (insn.Sext width bits dst src) h = fits_slot (form.Alu width op.Mov Register) _ _ _ _ _ (alu_again width Register op.Mov) (number_below dst) (number_below src) (move_bits width bits h).1 (omega arith)
-first_fits (insn.Neg width dst) h = fits_slot (form.Neg width) _ _ _ _ _ (form_again (form.Neg width) tt) (number_below dst) (omega arith) (omega arith) (omega arith)
-first_fits (insn.Swap order bits dst) h = fits_slot (form.Swap order) _ _ _ _ _ (form_again (form.Swap order) tt) (number_below dst) (omega arith) (omega arith) (swap_below bits h)
+first_fits (insn.Alu width o dst src) h =
+    fits_slot (form.Alu width o (operand_of src)) _ _ _ _ _
+    (alu_again width (operand_of src) o) (number_below dst) (source_below src h).0 (sign_below o) (source_below src h).1
+first_fits (insn.Sext width bits dst src) h =
+    fits_slot (form.Alu width op.Mov Register) _ _ _ _ _
+    (alu_again width Register op.Mov) (number_below dst) (number_below src) (move_bits width bits h).1 (omega arith)
+first_fits (insn.Neg width dst) h =
+    fits_slot (form.Neg width) _ _ _ _ _ (form_again (form.Neg width) tt) (number_below dst) (omega arith) (omega arith) (omega arith)
+first_fits (insn.Swap order bits dst) h =
+    fits_slot (form.Swap order) _ _ _ _ _ (form_again (form.Swap order) tt) (number_below dst) (omega arith) (omega arith) (swap_below bits h)
 first_fits (insn.Wide dst value) h = fits_slot form.Wide _ _ _ _ _ (form_again form.Wide tt) (number_below dst) (omega arith) (omega arith) (omega arith)
-first_fits (insn.Load size signed dst base offset) h = fits_slot (form.Load size signed) _ _ _ _ _ (form_again (form.Load size signed) h.0) (number_below dst) (number_below base) (offset_below offset h.1) (omega arith)
-first_fits (insn.Store size base offset src) h = fits_slot (form.Store size (operand_of src)) _ _ _ _ _ (form_again (form.Store size (operand_of src)) tt) (number_below base) (source_below src h.0).0 (offset_below offset h.1) (source_below src h.0).1
+first_fits (insn.Load size signed dst base offset) h =
+    fits_slot (form.Load size signed) _ _ _ _ _
+    (form_again (form.Load size signed) h.0) (number_below dst) (number_below base) (offset_below offset h.1) (omega arith)
+first_fits (insn.Store size base offset src) h =
+    fits_slot (form.Store size (operand_of src)) _ _ _ _ _
+    (form_again (form.Store size (operand_of src)) tt) (number_below base) (source_below src h.0).0 (offset_below offset h.1) (source_below src h.0).1
 first_fits (insn.Jump offset) h = fits_slot form.Jump _ _ _ _ _ (form_again form.Jump tt) (omega arith) (omega arith) (offset_below offset h) (omega arith)
-first_fits (insn.JumpFar offset) h = fits_slot form.JumpFar _ _ _ _ _ (form_again form.JumpFar tt) (omega arith) (omega arith) (omega arith) (imm_below offset h)
-first_fits (insn.Branch width c left right offset) h = fits_slot (form.Branch width c (operand_of right)) _ _ _ _ _ (form_again (form.Branch width c (operand_of right)) tt) (number_below left) (source_below right h.0).0 (offset_below offset h.1) (source_below right h.0).1
+first_fits (insn.JumpFar offset) h =
+    fits_slot form.JumpFar _ _ _ _ _ (form_again form.JumpFar tt) (omega arith) (omega arith) (omega arith) (imm_below offset h)
+first_fits (insn.Branch width c left right offset) h =
+    fits_slot (form.Branch width c (operand_of right)) _ _ _ _ _
+    (form_again (form.Branch width c (operand_of right)) tt) (number_below left) (source_below right h.0).0 (offset_below offset h.1) (source_below right h.0).1
 first_fits (insn.Call number) h = fits_slot form.Call _ _ _ _ _ (form_again form.Call tt) (omega arith) (omega arith) (omega arith) (imm_below number h)
 first_fits insn.Exit h = fits_slot form.Exit _ _ _ _ _ (form_again form.Exit tt) (omega arith) (omega arith) (omega arith) (omega arith)
 
@@ -259,7 +303,8 @@ second_fits value lt = record { opcode = omega arith; dst = omega arith; src = o
 -- ---- the form of an instruction is one that an opcode stands for
 
 unsigned_again : (o : AluOp) → unsigned_of (unsigned_of o) ≡ unsigned_of o
-unsigned_again o = elim o as (λ k. unsigned_of (unsigned_of k) ≡ unsigned_of k) [ op.Add ↦ refl | op.Sub ↦ refl | op.Mul ↦ refl | op.Div ↦ refl | op.SDiv ↦ refl | op.Or ↦ refl | op.And ↦ refl | op.Lsh ↦ refl | op.Rsh ↦ refl | op.Rem ↦ refl | op.SRem ↦ refl | op.Xor ↦ refl | op.Mov ↦ refl | op.Arsh ↦ refl ]
+unsigned_again op.Add = refl
+unsigned_again _ = refl
 
 insn_form : (i : Insn) → IsDefined i → IsForm (form_of_insn i)
 insn_form (insn.Alu width o dst src) h = unsigned_again o
@@ -280,7 +325,8 @@ insn_form_again i h = form_again (form_of_insn i) (insn_form i h)
 
 -- a signed operation has the opcode of the unsigned one
 same_code : (width : Width) (operand : Operand) (o : AluOp) → opcode_of (form.Alu width (unsigned_of o) operand) ≡ opcode_of (form.Alu width o operand)
-same_code width operand o = elim o as (λ k. opcode_of (form.Alu width (unsigned_of k) operand) ≡ opcode_of (form.Alu width k operand)) [ op.Add ↦ refl | op.Sub ↦ refl | op.Mul ↦ refl | op.Div ↦ refl | op.SDiv ↦ refl | op.Or ↦ refl | op.And ↦ refl | op.Lsh ↦ refl | op.Rsh ↦ refl | op.Rem ↦ refl | op.SRem ↦ refl | op.Xor ↦ refl | op.Mov ↦ refl | op.Arsh ↦ refl ]
+same_code width operand op.Add = refl
+same_code width operand _ = refl
 
 pub same_opcode : (i : Insn) → opcode_of (form_of_insn i) ≡ (first_slot i).opcode
 same_opcode (insn.Alu width o dst src) = same_code width (operand_of src) o

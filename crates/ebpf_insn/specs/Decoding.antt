@@ -1,5 +1,6 @@
 -- Why bytes are no program: the first code of the lowest slot that has one.
-use Rattle.std.specs.Prelude.{Bool, false, not, ◌||◌, ◌==◌, nat_le, if◌then◌else◌, ◌≡◌, ◌*◌, ◌/◌, ◌%◌, ℕ, zero, suc, List, [], ◌∷◌, length, drop, Option, Some, None}
+use Rattle.std.specs.Prelude.{Bool, false, not, ◌||◌, ◌==◌, nat_le, if◌then◌else◌, ◌≡◌, ◌*◌, ◌/◌}
+use Rattle.std.specs.Prelude.{◌%◌, ℕ, zero, suc, List, [], ◌∷◌, length, drop, Option, Some, None}
 use Rattle.ebpf_insn.specs.declared.slot.Slot.{Slot}
 use Rattle.ebpf_insn.specs.declared.opcode.Form.{Form}
 use Rattle.ebpf_insn.specs.declared.opcode.Form.TheVariants.{Wide}

@@ -76,10 +76,12 @@ first_slot (insn.Neg width dst) = slot_with (form.Neg width) (number_of dst) 0 0
 first_slot (insn.Swap order bits dst) = slot_with (form.Swap order) (number_of dst) 0 0 bits
 first_slot (insn.Wide dst value) = slot_with form.Wide (number_of dst) 0 0 (value % 2 ^ 32)
 first_slot (insn.Load size signed dst base offset) = slot_with (form.Load size signed) (number_of dst) (number_of base) (cast_unsigned w16 offset) 0
-first_slot (insn.Store size base offset src) = slot_with (form.Store size (operand_of src)) (number_of base) (source_register src) (cast_unsigned w16 offset) (source_imm src)
+first_slot (insn.Store size base offset src) =
+    slot_with (form.Store size (operand_of src)) (number_of base) (source_register src) (cast_unsigned w16 offset) (source_imm src)
 first_slot (insn.Jump offset) = slot_with form.Jump 0 0 (cast_unsigned w16 offset) 0
 first_slot (insn.JumpFar offset) = slot_with form.JumpFar 0 0 0 (cast_unsigned w32 offset)
-first_slot (insn.Branch width condition left right offset) = slot_with (form.Branch width condition (operand_of right)) (number_of left) (source_register right) (cast_unsigned w16 offset) (source_imm right)
+first_slot (insn.Branch width condition left right offset) =
+    slot_with (form.Branch width condition (operand_of right)) (number_of left) (source_register right) (cast_unsigned w16 offset) (source_imm right)
 first_slot (insn.Call number) = slot_with form.Call 0 0 0 (cast_unsigned w32 number)
 first_slot insn.Exit = slot_with form.Exit 0 0 0 0
 

@@ -23,8 +23,8 @@ use std::alloc::Global;
 /// The program that the bytes encode.
 ///
 /// # Errors
-/// `Bad` with the lowest slot that has a fault, and the first code that applies there; `NoMemory` where a growth was
-/// refused.
+/// `Bad` with the lowest slot that has a fault, and the first code that applies there; `NoMemory` where an
+/// allocation failed.
 pub fn decode(alloc: Global, bytes: &[u8]) -> Result<Program, DecodeFault>
     // What is decoded is a program, encoded by the bytes.
     ensures found { IfOk result (IsProgram bytes.now) }

@@ -4,7 +4,8 @@ ghost use Rattle.std.specs.Prelude.{◌≡◌, ◌++◌, ◌<◌, ◌+◌, Some,
 ghost use Rattle.ebpf_insn.specs.declared.opcode.Form.{Form};
 ghost use Rattle.ebpf_insn.specs.Slot.{bytes_of_slot, listed};
 ghost use Rattle.ebpf_insn.specs.Opcodes.{opcode_of, form_of};
-ghost use Rattle.ebpf_insn.specs.Encoding.{unsigned_of, form_of_insn, operand_of, source_register, source_imm, sign_offset, slot_with, first_slot, later_slots, encoding, IsDefined, IsProgram};
+ghost use Rattle.ebpf_insn.specs.Encoding.{unsigned_of, form_of_insn, operand_of, source_register, source_imm, sign_offset};
+ghost use Rattle.ebpf_insn.specs.Encoding.{slot_with, first_slot, later_slots, encoding, IsDefined, IsProgram};
 
 use crate::insn::{AluOp, Insn, Source};
 use crate::opcode::{Form, Operand, opcode_of};

@@ -1,7 +1,8 @@
 //! Which fields of its slot an instruction uses, and what they may hold (RFC 9669, sections 3 to 5).
 
 ghost use Rattle.std.specs.Prelude.{◌≡◌, not, ◌==◌, ◌&&◌, ◌||◌};
-ghost use Rattle.ebpf_insn.specs.Fields.{takes_register, leaves_unused_zero, offset_chooses, has_left_out_source, has_defined_fields, is_move_of, is_swap_of, lacks_second, has_bad_second, is_blank};
+ghost use Rattle.ebpf_insn.specs.Fields.{takes_register, leaves_unused_zero, offset_chooses, has_left_out_source, has_defined_fields};
+ghost use Rattle.ebpf_insn.specs.Fields.{is_move_of, is_swap_of, lacks_second, has_bad_second, is_blank};
 
 use crate::insn::{AluOp, Width};
 use crate::opcode::{Form, Operand};

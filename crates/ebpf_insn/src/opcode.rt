@@ -5,7 +5,8 @@
 //! bits are the mode and the next two the size.
 
 ghost use Rattle.std.specs.Prelude.{◌≡◌, ◌≤◌, ◌/◌, ◌%◌, Some};
-ghost use Rattle.ebpf_insn.specs.Opcodes.{opcode_of, form_of, store_class, alu_class, jump_class, alu_op_of, condition_of, size_code, operand_bit, alu_code, condition_code, is_left_out};
+ghost use Rattle.ebpf_insn.specs.Opcodes.{opcode_of, form_of, store_class, alu_class, jump_class, alu_op_of, condition_of};
+ghost use Rattle.ebpf_insn.specs.Opcodes.{size_code, operand_bit, alu_code, condition_code, is_left_out};
 
 use crate::insn::{AluOp, Cond, Order, Size, Width};
 

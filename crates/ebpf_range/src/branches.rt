@@ -3,7 +3,8 @@
 ghost use Rattle.std.specs.Prelude.{◌≡◌, ◌≤◌, ◌<◌, ℕ, IfSome, IsSomeAnd};
 ghost use Rattle.ebpf_insn.specs.Arithmetic.{is_met};
 ghost use Rattle.ebpf_range.specs.Interval.{IsWithin};
-ghost use Rattle.ebpf_range.specs.Refinements.{after_eq, without, after_ne, after_gt, after_ge, exchange, unless_false, have_no_sign, after, after_not, fits, refinement};
+ghost use Rattle.ebpf_range.specs.Refinements.{after_eq, without, after_ne, after_gt, after_ge, exchange, unless_false};
+ghost use Rattle.ebpf_range.specs.Refinements.{have_no_sign, after, after_not, fits, refinement};
 
 use crate::arithmetic::{is_met, modulus};
 use crate::range::Range;

@@ -3,7 +3,8 @@
 ghost use Rattle.std.specs.Prelude.{◌≡◌, ◌≤◌, ◌<◌, ◌%◌, ◌^◌, ℕ};
 ghost use Rattle.ebpf_insn.specs.Arithmetic.{modulus, result_at, extension_at, negation_at, swapped_bits, swap_of};
 ghost use Rattle.ebpf_range.specs.Interval.{low, IsWithin};
-ghost use Rattle.ebpf_range.specs.Results.{low_at, row, row_or_constant, result_range, extension_or_any, extension_range, negation_or_any, negation_range, swap_range};
+ghost use Rattle.ebpf_range.specs.Results.{low_at, row, row_or_constant, result_range, extension_or_any};
+ghost use Rattle.ebpf_range.specs.Results.{extension_range, negation_or_any, negation_range, swap_range};
 
 use crate::arithmetic::{compute, extend, negate, reorder};
 use crate::range::Range;

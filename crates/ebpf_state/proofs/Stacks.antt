@@ -1,8 +1,8 @@
 -- The topmost words of the stack, and the words below them of which nothing is known.
-use Rattle.std.proofs.Common.{◌≡◌, ℕ, zero, suc, ◌+◌, ◌-◌, ◌<◌, ◌≤◌, List, [], ◌∷◌, ◌++◌, length, get_or, drop, refl, sym, ap, ◌∙◌, arith, length-append, set, length-set}
+use Rattle.std.proofs.Common.{◌≡◌, ℕ, zero, suc, ◌+◌, ◌-◌, ◌≤◌, List, [], ◌∷◌, ◌++◌, length, drop, refl, sym, ap, ◌∙◌, arith, length-append, set, length-set}
 use Rattle.std.specs.Prelude.{replicate, map}
 use Rattle.std.specs.Int.Bits.{and_zero_l, and_zero_r}
-use Rattle.std.proofs.lemmas.List.{length-map, length-replicate, get_or-replicate, get_or_append_left, get_or-append_right, set-append_right, replicate-append-replicate, append_assoc}
+use Rattle.std.proofs.lemmas.List.{length-map, length-replicate, set-append_right, replicate-append-replicate, append_assoc}
 use Rattle.ebpf_state.specs.declared.value.Abs.TheVariants.{Unset, Num, Stk, Ctx, Ob, May}
 use Rattle.ebpf_state.specs.declared.word.Word.{Word}
 use Rattle.ebpf_state.specs.declared.word.Word.TheVariants.{Spill, Bytes}
@@ -21,14 +21,6 @@ joined_nothing (Spill (May r)) = refl
 
 pub length-all_words : (words : List Word) → length words ≤ 64 → length (all_words words) ≡ 64
 length-all_words words few = length-append (replicate (64 - length words) (Bytes 0)) words ∙ omega (arith, length-replicate (64 - length words) (Bytes 0), few)
-
-pub all_words-below : (words : List Word) (w : ℕ) (d : Word) → w < 64 - length words → get_or (all_words words) w d ≡ Bytes 0
-all_words-below words w d lt =
-    let inside : w < length (replicate (64 - length words) (Bytes 0)) = omega (arith, length-replicate (64 - length words) (Bytes 0)) in
-    get_or_append_left (replicate (64 - length words) (Bytes 0)) words d w inside ∙ get_or-replicate (64 - length words) w (Bytes 0) d lt
-
-pub all_words-known : (words : List Word) (w : ℕ) (d : Word) → 64 - length words ≤ w → get_or (all_words words) w d ≡ get_or words (w - (64 - length words)) d
-all_words-known words w d le = get_or-append_right (replicate (64 - length words) (Bytes 0)) words (64 - length words) w d (length-replicate (64 - length words) (Bytes 0)) le
 
 -- the join of two stacks, from the join of the last words of one
 pub joined_below : (n : ℕ) (left right : List Word) → n ≤ length right → replicate n (Bytes 0) ++ joined_list joined_word left (drop n right) ≡ joined_list joined_word (replicate n (Bytes 0) ++ left) right

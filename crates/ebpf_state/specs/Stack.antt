@@ -1,5 +1,6 @@
 -- What a load from the stack reads and what a store to it leaves, by what is known of its words.
-use Rattle.std.specs.Prelude.{◌≡◌, is_ok, ℕ, ◌+◌, ◌-◌, ◌*◌, ◌/◌, ◌%◌, ◌^◌, min, ℤ, pos, negsuc, ◌+ℤ◌, int_le, nat_abs, Bool, true, false, not, ◌&&◌, ◌||◌, ◌==◌, if◌then◌else◌, bit_and, bit_or, List, [], ◌∷◌, slice_index_or, slice_set, Option, Some, None, Result, Ok, Err}
+use Rattle.std.specs.Prelude.{◌≡◌, is_ok, ℕ, ◌+◌, ◌-◌, ◌*◌, ◌/◌, ◌%◌, ◌^◌, min, ℤ, pos, negsuc, ◌+ℤ◌, int_le, nat_abs, Bool, true, false, not, ◌&&◌, ◌||◌}
+use Rattle.std.specs.Prelude.{◌==◌, if◌then◌else◌, bit_and, bit_or, List, [], ◌∷◌, slice_index_or, slice_set, Option, Some, None, Result, Ok, Err}
 use Rattle.ebpf_insn.specs.declared.insn.Size.{Size}
 use Rattle.ebpf_insn.specs.declared.insn.Size.TheVariants as size
 use Rattle.ebpf_insn.specs.Faults.{first_of}
@@ -62,9 +63,15 @@ is_split_in bits word = not (bits == 0) && holds_pointer word
 
 -- why bytes of the stack can't be read as a number: they lie in the word where they begin, and in the next one
 abbrev pub read_fault : ℕ → ℕ → List Word → Option StackFault
-read_fault place bytes words = first_of (
-    (is_unset_in (covered place bytes (place / 8)) (word_of words (place / 8)) || is_unset_in (covered place bytes (place / 8 + 1)) (word_of words (place / 8 + 1)), UnsetByte) ∷
-    (is_split_in (covered place bytes (place / 8)) (word_of words (place / 8)) || is_split_in (covered place bytes (place / 8 + 1)) (word_of words (place / 8 + 1)), SplitPointer) ∷
+read_fault place bytes words = first_of ((
+  is_unset_in (covered place bytes (place / 8)) (word_of words (place / 8))
+      || is_unset_in (covered place bytes (place / 8 + 1)) (word_of words (place / 8 + 1)),
+  UnsetByte,
+) ∷ (
+  is_split_in (covered place bytes (place / 8)) (word_of words (place / 8))
+      || is_split_in (covered place bytes (place / 8 + 1)) (word_of words (place / 8 + 1)),
+  SplitPointer,
+) ∷
     [])
 
 -- what is known of a number of so many bytes; with its sign above them it may be any

@@ -1,5 +1,6 @@
 -- The first state, reads and writes of registers, and the join of two states.
-use Rattle.std.specs.Prelude.{◌≡◌, pos, List, [], ◌∷◌, Bool, true, false, ◌&&◌, ◌==◌, if◌then◌else◌, slice_index_or, slice_set, replicate, Option, Some, None, is_none, Result, Ok, Err}
+use Rattle.std.specs.Prelude.{◌≡◌, pos, List, [], ◌∷◌, Bool, true, false, ◌&&◌, ◌==◌, if◌then◌else◌, slice_index_or}
+use Rattle.std.specs.Prelude.{slice_set, replicate, Option, Some, None, is_none, Result, Ok, Err}
 use Rattle.std.proofs.Math.Bool.{beq}
 use Rattle.ebpf_insn.specs.declared.register.Reg.{Reg}
 use Rattle.ebpf_insn.specs.Registers.{number_of}

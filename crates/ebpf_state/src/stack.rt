@@ -7,7 +7,8 @@ ghost use Rattle.std.specs.Prelude.{◌≡◌, ◌≤◌, ◌<◌, ◌^◌, leng
 ghost use Rattle.ebpf_state.specs.declared.word.Word.{Word};
 ghost use Rattle.ebpf_state.specs.Abstract.{IsProper};
 ghost use Rattle.ebpf_state.specs.Words.{all_words, IsProperWord};
-ghost use Rattle.ebpf_state.specs.Stack.{bytes_in, place_of, is_whole_word, covered, word_of, may_point, is_unset_in, is_split_in, read_fault, loaded_range, loaded_number, loaded_word, loaded_at, overwritten, written, written_at, stored_words};
+ghost use Rattle.ebpf_state.specs.Stack.{bytes_in, place_of, is_whole_word, covered, word_of, may_point, is_unset_in, is_split_in, read_fault};
+ghost use Rattle.ebpf_state.specs.Stack.{loaded_range, loaded_number, loaded_word, loaded_at, overwritten, written, written_at, stored_words};
 
 use crate::value::Abs;
 use crate::word::{Word, spill_or_nothing};

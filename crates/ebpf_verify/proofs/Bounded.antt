@@ -1,5 +1,5 @@
--- A state before a slot has all registers, what it knows of their numbers has its ends in order and below 2^64, and the answers that
--- it knows are those of calls below the slot: the rules keep this.
+-- A state before a slot has all registers, what it knows of their numbers has its ends in order and below 2^64, and the answers
+-- that it knows are those of calls below the slot: the rules keep this.
 use Rattle.std.proofs.Common.{◌≡◌, ℕ, zero, suc, ◌+◌, ◌/◌, ◌<◌, ◌≤◌, ℤ, Bool, true, false, eqb, List, [], ◌∷◌, length, get_or, set, Option, Some, None, Result, Ok, Err, refl, ◌∙◌, arith, length-set, rules}
 use Rattle.std.specs.Prelude.{All, ◌==◌, ◌&&◌, not}
 use Rattle.std.specs.Ordering.{int_eq}

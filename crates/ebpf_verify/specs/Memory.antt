@@ -1,5 +1,5 @@
 -- Loads and stores (RFC 9669, sections 5.1 and 5.2): the codes that refuse one, in order, and what is known after it.
-use Rattle.std.specs.Prelude.{◌≡◌, ℕ, ℤ, pos, ◌+ℤ◌, int_le, List, [], ◌∷◌, Bool, true, false, not, ◌||◌, ◌&&◌, if◌then◌else◌}
+use Rattle.std.specs.Prelude.{ℕ, ℤ, pos, ◌+ℤ◌, int_le, List, [], ◌∷◌, Bool, true, false, not, ◌||◌, ◌&&◌, if◌then◌else◌}
 use Rattle.std.specs.Prelude.{Option, Some, None, option_map, unwrap_or, Result, Ok, Err, slice_get}
 use Rattle.ebpf_insn.specs.declared.register.Reg.{Reg}
 use Rattle.ebpf_insn.specs.declared.insn.Size.{Size}
@@ -10,16 +10,12 @@ use Rattle.ebpf_state.specs.declared.value.Abs.{Abs}
 use Rattle.ebpf_state.specs.declared.value.Abs.TheVariants.{Unset, Num, Stk, Ctx, Ob}
 use Rattle.ebpf_state.specs.declared.stack.StackFault.{StackFault}
 use Rattle.ebpf_state.specs.declared.stack.StackFault.TheVariants.{Bounds, UnsetByte, SplitPointer}
-use Rattle.ebpf_state.specs.declared.stack.StoreFault.{StoreFault}
-use Rattle.ebpf_state.specs.declared.stack.StoreFault.TheVariants as store_fault
 use Rattle.ebpf_state.specs.Abstract.{is_unset, is_may}
 use Rattle.ebpf_state.specs.References.{kind_held}
 use Rattle.ebpf_state.specs.Stack.{bytes_in, may_point, loaded_range, loaded, stored}
 use Rattle.ebpf_state.specs.StateView.{StateView}
 use Rattle.ebpf_verify.specs.declared.fault.VerifyCode.{VerifyCode}
 use Rattle.ebpf_verify.specs.declared.fault.VerifyCode.TheVariants.{V1, V2, V6, V7, V8, V9, V10, V11, V12, V13}
-use Rattle.ebpf_verify.specs.declared.memory.AccessFault.{AccessFault}
-use Rattle.ebpf_verify.specs.declared.memory.AccessFault.TheVariants.{Refused, NoMemory}
 use Rattle.ebpf_verify.specs.Operations.{is_frame_pointer}
 
 abbrev pub is_number : Abs → Bool
@@ -106,13 +102,3 @@ abbrev pub after_store : Size → ℤ → Abs → Abs → StateView → Option S
 after_store size offset (Stk k) value s = state_after (stored s size (k +ℤ offset) value)
 after_store size offset (Ob call a b) value s = Some s
 after_store size offset _ value s = None
-
--- a fault of the stack, as one of the access
-abbrev pub fault_of : StoreFault → AccessFault
-fault_of (store_fault.Refused fault) = Refused (stack_code fault)
-fault_of store_fault.NoMemory = NoMemory
-
--- a fault is the refusal, or memory ran out
-abbrev pub IsAccessFault : Option VerifyCode → AccessFault → Type 0
-IsAccessFault refusal (Refused code) = refusal ≡ Some code
-IsAccessFault refusal NoMemory = Unit {0}

@@ -47,8 +47,8 @@ refusal_of_store rows size base offset src s = store_refusal rows size offset (r
 abbrev pub state_after_store : Size → Reg → ℤ → Source → StateView → Option StateView
 state_after_store size base offset src s = after_store size offset (register_of s base) (operand s W64 src) s
 
--- the first code that refuses an instruction of a program that declares this, where there are these kinds and this is known before
--- it
+-- the first code that refuses an instruction of a program that declares this, where there are these kinds and this is known
+-- before it
 abbrev pub refusal : Decl → List KindRow → Insn → StateView → Option VerifyCode
 refusal decl rows (insn.Alu width o dst src) s = alu_refusal width o (register_of s dst) (operand s width src) dst
 refusal decl rows (insn.Sext width bits dst src) s = unary_refusal (register_of s src) dst

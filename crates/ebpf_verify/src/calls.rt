@@ -20,6 +20,8 @@ use ebpf_state::state::State;
 use ebpf_state::value::Abs;
 
 /// Says in the state what is known after the call of a helper at a slot, or says why that can't be called.
+// It stands apart from what most slots do.
+#[inline(never)]
 pub(crate) fn call(
     decl: Decl,
     rows: &[KindRow],

@@ -1,40 +1,23 @@
 //! The rules of loads and stores: what refuses one, and what is known after it (RFC 9669, sections 5.1 and 5.2).
 
-ghost use Rattle.std.specs.Prelude.{◌≡◌, ◌^◌, ◌+ℤ◌, ◌≤ℤ◌, if◌then◌else◌, pos, negsuc, IfOk, IfErr, IfSome, OnOk, Some, None, Ok, Err};
+ghost use Rattle.std.specs.Prelude.{◌≡◌, ◌<◌, ◌^◌, ◌+ℤ◌, ◌≤ℤ◌, if◌then◌else◌, pos, negsuc, IfOk, IfErr, IfSome, OnOk, Some, None, Ok, Err};
+ghost use Rattle.ebpf_insn.specs.declared.program.TheConstants.{MAX_SLOTS};
 ghost use Rattle.ebpf_state.specs.Abstract.{IsProper};
-ghost use Rattle.ebpf_state.specs.Stack.{bytes_in, place_of, loaded, loaded_range};
+ghost use Rattle.ebpf_state.specs.Stack.{bytes_in, place_of, loaded, loaded_range, stored};
 ghost use Rattle.ebpf_verify.specs.Memory.{is_number, stack_code, refused_access, is_in_bounds, size_held};
-ghost use Rattle.ebpf_verify.specs.Memory.{load_refusal, loaded_value, reading_refusal, store_refusal, after_store, IsAccessFault};
+ghost use Rattle.ebpf_verify.specs.Memory.{load_refusal, loaded_value, reading_refusal};
+ghost use Rattle.ebpf_verify.specs.Rules.{refusal_of_store, state_after_store};
+ghost use Rattle.ebpf_verify.specs.Verdict.{IsSlotFault};
 
-use crate::fault::VerifyCode;
+use crate::branches::operand;
+use crate::fault::{VerifyCode, VerifyFault, refused_at};
 use crate::operations::is_frame_pointer;
-use ebpf_insn::insn::{Size, Source};
+use ebpf_insn::insn::{Size, Source, Width};
 use ebpf_insn::register::Reg;
 use ebpf_state::kinds::KindRow;
 use ebpf_state::stack::{StackFault, StoreFault, bytes_in, loaded_range};
 use ebpf_state::state::State;
 use ebpf_state::value::Abs;
-
-/// Why a store is refused, or was not done.
-#[derive(Clone, Copy)]
-pub(crate) enum AccessFault {
-    Refused(VerifyCode),
-    /// An allocation failed.
-    NoMemory,
-}
-
-impl From<StoreFault> for AccessFault {
-    ghost use Rattle.ebpf_verify.specs.Memory.{fault_of};
-
-    ghost from_gives = { λ fault e. e ≡ fault_of fault };
-
-    fn from(fault: StoreFault) -> AccessFault {
-        match fault {
-            StoreFault::Refused(fault) => AccessFault::Refused(stack_code(fault)),
-            StoreFault::NoMemory => AccessFault::NoMemory,
-        }
-    }
-}
 
 /// A load: how wide it is, and from where to where.
 #[derive(Clone, Copy)]
@@ -223,37 +206,52 @@ impl Store {
 pub(crate) fn store_value(
     rows: &[KindRow],
     store: Store,
-    base: Abs,
-    value: Abs,
+    slot: usize,
     state: &mut State,
-) -> Result<(), AccessFault>
-    requires { IsProper value }
-    ensures fine { OnOk result (store_refusal rows.now store.size store.offset base value state.old ≡ None) }
-    ensures known { OnOk result (after_store store.size store.offset base value state.old ≡ Some state.new) }
-    ensures refused { IfErr result (IsAccessFault (store_refusal rows.now store.size store.offset base value state.old)) }
+) -> Result<(), VerifyFault>
+    requires { slot < MAX_SLOTS }
+    ensures fine { OnOk result (refusal_of_store rows.now store.size store.base store.offset store.src state.old ≡ None) }
+    ensures known { OnOk result (state_after_store store.size store.base store.offset store.src state.old ≡ Some state.new) }
+    ensures refused { IfErr result (IsSlotFault slot (refusal_of_store rows.now store.size store.base store.offset store.src state.old)) }
 {
-    if base.is_unset() || value.is_unset() {
-        return Err(AccessFault::Refused(VerifyCode::V1));
-    }
-    match base {
-        Abs::Stk(k) => {
-            let at = stack_offset(k, store.offset, store.size);
-            state.store(store.size, at, value)?;
-            Ok(())
-        }
-        Abs::Ctx(_, _) => Err(AccessFault::Refused(VerifyCode::V9)),
+    let value = operand(state, Width::W64, store.src);
+    match state.reg(store.base) {
+        Abs::Unset => Err(refused_at(slot, VerifyCode::V1)),
+        _ if value.is_unset() => Err(refused_at(slot, VerifyCode::V1)),
+        Abs::Stk(k) => store_on_stack(store, k, value, slot, state),
+        Abs::Ctx(_, _) => Err(refused_at(slot, VerifyCode::V9)),
         Abs::Ob(call, low, high) => {
             let len = size_held(rows, call, state);
             if !is_in_bounds(len, low, high, store.offset, bytes_in(store.size)) {
-                Err(AccessFault::Refused(VerifyCode::V10))
+                Err(refused_at(slot, VerifyCode::V10))
             } else if value.is_pointer() || value.is_may() {
-                Err(AccessFault::Refused(VerifyCode::V12))
+                Err(refused_at(slot, VerifyCode::V12))
             } else {
                 Ok(())
             }
         }
-        Abs::May(_) => Err(AccessFault::Refused(VerifyCode::V11)),
-        Abs::Num(_) => Err(AccessFault::Refused(VerifyCode::V13)),
-        Abs::Unset => Err(AccessFault::Refused(VerifyCode::V1)),
+        Abs::May(_) => Err(refused_at(slot, VerifyCode::V11)),
+        Abs::Num(_) => Err(refused_at(slot, VerifyCode::V13)),
+    }
+}
+
+// Says in the state that a value is stored on the stack, or says why that can't be.
+fn store_on_stack(
+    store: Store,
+    k: i64,
+    value: Abs,
+    slot: usize,
+    state: &mut State,
+) -> Result<(), VerifyFault>
+    requires inside { slot < MAX_SLOTS }
+    requires proper { IsProper value }
+    ensures known { OnOk result (stored state.old store.size (k +ℤ store.offset) value ≡ Ok state.new) }
+    ensures refused { IfErr result (IsSlotFault slot (refused_access (stored state.old store.size (k +ℤ store.offset) value))) }
+{
+    let at = stack_offset(k, store.offset, store.size);
+    match state.store(store.size, at, value) {
+        Ok(()) => Ok(()),
+        Err(StoreFault::Refused(fault)) => Err(refused_at(slot, stack_code(fault))),
+        Err(StoreFault::NoMemory) => Err(VerifyFault::NoMemory),
     }
 }

@@ -107,7 +107,8 @@ fn binary(op: AluOp, width: Width, left: Abs, right: Abs, dst: Reg) -> Result<Ab
     }
 }
 
-// `add` at 64 bits adds two numbers, or moves a pointer by a number. Two numbers come first, since they are most of what is added.
+// `add` at 64 bits adds two numbers, or moves a pointer by a number. Two numbers come first, since they are most of what is
+// added.
 fn add64(left: Abs, right: Abs, dst: Reg) -> Result<Abs, VerifyCode>
     requires left { IsProper left }
     requires right { IsProper right }

@@ -7,8 +7,7 @@ ghost use Rattle.ebpf_range.specs.Refinements.{refinement};
 ghost use Rattle.ebpf_state.specs.References.{settled};
 ghost use Rattle.ebpf_state.specs.States.{register_of};
 ghost use Rattle.ebpf_verify.specs.Branches.{with_operands, is_null_where, after_branch};
-ghost use Rattle.ebpf_verify.specs.Calls.{helper_of, call_refusal, after_call};
-ghost use Rattle.ebpf_verify.specs.Rules.{exit_refusal, refusal_of_branch, refusal_of_store, state_after_store, refusal, after_operation};
+ghost use Rattle.ebpf_verify.specs.Rules.{exit_refusal, refusal_of_branch, refusal, after_operation};
 ghost use Rattle.ebpf_verify.specs.Verdict.{IsSlotFault};
 ghost use Rattle.ebpf_verify.specs.Entry.{with_sent, ChangesEach, Sends, SendsBoth};
 
@@ -17,10 +16,10 @@ use crate::calls::call;
 use crate::decl::Decl;
 use crate::entry::EntryState;
 use crate::fault::{VerifyFault, refused_at};
-use crate::memory::{AccessFault, Store, store_value};
+use crate::memory::{Store, store_value};
 use crate::rules::{exit_refusal, operation};
 use ebpf_flow::edges::Edges;
-use ebpf_insn::insn::{Cond, Insn, Width};
+use ebpf_insn::insn::{Cond, Insn};
 use ebpf_insn::register::Reg;
 use ebpf_range::branches::refine;
 use ebpf_range::range::Range;
@@ -38,7 +37,7 @@ pub(crate) fn pass_on(
     rows: &[KindRow],
     insn: &Insn,
     slot: usize,
-    state: State,
+    mut state: State,
     edges: Edges,
     entries: &mut Vec<EntryState>,
 ) -> Result<(), VerifyFault>
@@ -54,7 +53,7 @@ pub(crate) fn pass_on(
     match *insn {
         Insn::Jump { .. } | Insn::JumpFar { .. } => {
             send(entries, edges.jump, state);
-            Ok(())
+            return Ok(());
         }
         Insn::Branch {
             width,
@@ -69,9 +68,9 @@ pub(crate) fn pass_on(
                 left,
                 right,
             };
-            branch_on(branch, slot, state, edges, entries)
+            return branch_on(branch, slot, state, edges, entries);
         }
-        Insn::Exit => exit_at(slot, &state),
+        Insn::Exit => return exit_at(slot, &state),
         Insn::Store {
             size,
             base,
@@ -79,11 +78,13 @@ pub(crate) fn pass_on(
             src,
         } => {
             let store = Store::new(size, base, offset, src);
-            store_on(rows, store, slot, state, edges, entries)
+            store_value(rows, store, slot, &mut state)?;
         }
-        Insn::Call { number } => call_on(decl, rows, number, slot, state, edges, entries),
-        _ => operate_on(decl, rows, insn, slot, state, edges, entries),
+        Insn::Call { number } => call(decl, rows, number, slot, &mut state)?,
+        _ => operate(decl, rows, insn, slot, &mut state)?,
     }
+    send(entries, edges.fall, state);
+    Ok(())
 }
 
 // Nothing goes on from an exit.
@@ -98,84 +99,27 @@ fn exit_at(slot: usize, state: &State) -> Result<(), VerifyFault>
     }
 }
 
-// Sends what is known after an arithmetic instruction or a load to the slot after it.
-fn operate_on(
+// Says in the state what is known after an arithmetic instruction or a load, or says why that is refused.
+fn operate(
     decl: Decl,
     rows: &[KindRow],
     insn: &Insn,
     slot: usize,
-    mut state: State,
-    edges: Edges,
-    entries: &mut Vec<EntryState>,
+    state: &mut State,
 ) -> Result<(), VerifyFault>
     requires inside { slot < MAX_SLOTS }
-    requires fall { IfSome edges.fall (λ to. to < length entries.old.items) }
-    requires writes { IsSome (after_operation insn.now state) }
-    ensures len { length entries.new.items ≡ length entries.old.items }
-    ensures fine { OnOk result (refusal decl rows.now insn.now state ≡ None) }
-    ensures sent { OnOk result (Sends entries.old.items entries.new.items edges.fall (after_operation insn.now state)) }
-    ensures refused { IfErr result (IsSlotFault slot (refusal decl rows.now insn.now state)) }
+    requires writes { IsSome (after_operation insn.now state.old) }
+    ensures fine { OnOk result (refusal decl rows.now insn.now state.old ≡ None) }
+    ensures known { OnOk result (after_operation insn.now state.old ≡ Some state.new) }
+    ensures refused { IfErr result (IsSlotFault slot (refusal decl rows.now insn.now state.old)) }
 {
-    match operation(decl, rows, insn, &state) {
+    match operation(decl, rows, insn, state) {
         Ok((dst, value)) => {
             state.set(dst, value);
-            send(entries, edges.fall, state);
             Ok(())
         }
         Err(code) => Err(refused_at(slot, code)),
     }
-}
-
-// Sends what is known after a store to the slot after it.
-fn store_on(
-    rows: &[KindRow],
-    store: Store,
-    slot: usize,
-    mut state: State,
-    edges: Edges,
-    entries: &mut Vec<EntryState>,
-) -> Result<(), VerifyFault>
-    requires inside { slot < MAX_SLOTS }
-    requires fall { IfSome edges.fall (λ to. to < length entries.old.items) }
-    ensures len { length entries.new.items ≡ length entries.old.items }
-    ensures fine { OnOk result (refusal_of_store rows.now store.size store.base store.offset store.src state ≡ None) }
-    ensures sent { OnOk result (Sends entries.old.items entries.new.items edges.fall (state_after_store store.size store.base store.offset store.src state)) }
-    ensures refused { IfErr result (IsSlotFault slot (refusal_of_store rows.now store.size store.base store.offset store.src state)) }
-{
-    let base = state.reg(store.base);
-    let value = operand(&state, Width::W64, store.src);
-    match store_value(rows, store, base, value, &mut state) {
-        Ok(()) => {
-            send(entries, edges.fall, state);
-            Ok(())
-        }
-        Err(AccessFault::Refused(code)) => Err(refused_at(slot, code)),
-        Err(AccessFault::NoMemory) => Err(VerifyFault::NoMemory),
-    }
-}
-
-// Sends what is known after a call to the slot after it. It stands apart from what most slots do.
-#[inline(never)]
-fn call_on(
-    decl: Decl,
-    rows: &[KindRow],
-    number: i32,
-    slot: usize,
-    mut state: State,
-    edges: Edges,
-    entries: &mut Vec<EntryState>,
-) -> Result<(), VerifyFault>
-    requires inside { slot < MAX_SLOTS }
-    requires few { length rows.now ≤ 8 }
-    requires fall { IfSome edges.fall (λ to. to < length entries.old.items) }
-    ensures len { length entries.new.items ≡ length entries.old.items }
-    ensures fine { OnOk result (call_refusal decl rows.now (helper_of number) state ≡ None) }
-    ensures sent { OnOk result (Sends entries.old.items entries.new.items edges.fall (after_call slot (helper_of number) state)) }
-    ensures refused { IfErr result (IsSlotFault slot (call_refusal decl rows.now (helper_of number) state)) }
-{
-    call(decl, rows, number, slot, &mut state)?;
-    send(entries, edges.fall, state);
-    Ok(())
 }
 
 // Sends what is known along both edges of a branch.

@@ -20,8 +20,8 @@ use ebpf_state::kinds::KindRow;
 use ebpf_state::state::State;
 use ebpf_state::value::Abs;
 
-/// The register that an arithmetic instruction or a load writes and what is known of it afterwards, or the first code that refuses
-/// the instruction. Its operands are read once for both.
+/// The register that an arithmetic instruction or a load writes and what is known of it afterwards, or the first code that
+/// refuses the instruction. Its operands are read once for both.
 pub(crate) fn operation(
     decl: Decl,
     rows: &[KindRow],
