@@ -36,7 +36,8 @@ held_in w kind = count_by (λ slot. is_some (owner_in w slot)) (ledger_in w kind
 
 abbrev pub kind_line : World → ℕ → List ℕ
 kind_line w kind =
-    codes "kind " ++ (decimal kind ++ (codes " slots " ++ (decimal (length (ledger_in w kind)) ++ (codes " held " ++ (decimal (held_in w kind) ++ codes "\n")))))
+    codes "kind " ++ (decimal kind ++ (codes " slots " ++ (decimal (length (ledger_in w kind)) ++
+    (codes " held " ++ (decimal (held_in w kind) ++ codes "\n")))))
 
 abbrev pub world_lines : World → List ℕ
 world_lines w = runs_below (length w.runs) w ++ (kind_line w 0 ++ (kind_line w 1 ++ kind_line w 2))
