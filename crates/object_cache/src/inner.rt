@@ -13,7 +13,8 @@
 
 ghost use Rattle.std.specs.Prelude.{◌≡◌, ℕ, ◌+◌, ◌/◌, ◌^◌, ◌<◌, ◌≤◌, ◌↔◌, ◌⊎◌, [], ◌∷◌, ◌++◌, length, false, None, Contains, IsTrue, IsSome, IsOk, IfOk, OnOk, OnErr, IfSome, IfNone, MatchOption, IsPermutation};
 ghost use Rattle.vmem_arena.specs.Spans.{AreFree};
-ghost use Rattle.slab_layer.specs.Slots.{IsHome, IsOut, Has, Moves, out_count};
+ghost use Rattle.slab_layer.specs.declared.kind.TheConstants.{SLOTS_OF_A_PAGE};
+ghost use Rattle.slab_layer.specs.Slots.{IsHome, IsOut, Has, Moves, out_count, place_of};
 ghost use Rattle.slab_layer.specs.declared.place.Place.TheVariants.{Out};
 ghost use Rattle.magazine.specs.LayerView.{rounds_of, IsEmpty};
 ghost use Rattle.object_cache.specs.Growth.{GrowsBy, KeepsOut};
@@ -183,7 +184,7 @@ impl<K: Kind, A: Ledger, B: Ledger> Inner<K, A, B> {
     /// Gives each page with nothing out back to the arena; the answer is how many it took.
     pub fn give_pages<R: Wait>(&mut self, rt: &R, arena: &ArenaLock) -> u32
         ensures out { (slot : ℕ) → IsOut self.new.slabs slot ↔ IsOut self.old.slabs slot }
-        ensures busy { (page : ℕ) → Has self.new.slabs page → (slot : ℕ) × (slot / 256 ≡ page) × IsOut self.new.slabs slot }
+        ensures busy { (page : ℕ) → Has self.new.slabs page → (slot : ℕ) × (slot / SLOTS_OF_A_PAGE ≡ page) × IsOut self.new.slabs slot }
     {
         give_pages(&mut self.slabs, &mut *arena.arena.lock(rt))
     }
