@@ -21,9 +21,9 @@ ghost use Rattle.object_cache.specs.Growth.{GrowsBy, KeepsOut};
 ghost use Rattle.object_cache.specs.Homing.{TakesOut, SendsHome};
 
 use crate::arena_lock::ArenaLock;
-use crate::asking::Refusals;
 use crate::fault::TakeFault;
 use crate::homing::{give_pages, go_home, unload};
+use crate::part::Refusals;
 use magazine::{Layer, Magazine};
 use slab_layer::{Home, Kind, Obj, Ready, Slabs};
 use std::alloc::Global;

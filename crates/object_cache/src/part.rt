@@ -20,7 +20,6 @@ ghost use Rattle.std.specs.Prelude.{◌≡◌, ◌+◌, ◌^◌, ◌<◌, ◌≤
 ghost use Rattle.magazine.specs.LayerView.{rounds_of, IsEmpty, IsFull};
 ghost use Rattle.object_cache.specs.Homing.{SendsHome};
 
-use crate::asking::Refusals;
 use crate::inner::Inner;
 use magazine::{Depot, Layer, Magazine};
 use slab_layer::Kind;
@@ -31,6 +30,29 @@ use std::sync::{Mutex, Wait};
 /// That a part had nothing to give when it was asked.
 #[derive(Drop)]
 pub struct Refusal(());
+
+/// That parts, so many, were asked one after another, and each had nothing to give. Only refusals add up to it.
+#[derive(Drop)]
+pub struct Refusals {
+    count: usize,
+}
+
+impl Refusals {
+    /// No part was asked.
+    pub fn none() -> Refusals
+        ensures { result.count ≡ 0 }
+    {
+        Refusals { count: 0 }
+    }
+
+    /// One more.
+    pub fn add(&mut self, _refusal: Refusal)
+        requires { self.old.count + 1 < 2 ^ 64 }
+        ensures { self.new.count ≡ self.old.count + 1 }
+    {
+        self.count += 1;
+    }
+}
 
 /// Full magazines and empty ones, with a share of each book.
 pub struct Part<K: Kind, A: Ledger, B: Ledger> {
