@@ -7,10 +7,10 @@
 //! *The reason.* No clause names what a lock holds between two calls, so each of these functions says what it does to the
 //! hand alone: to its rounds, and to its shares of the books. That is enough: what a share counts, a book counts too.
 
-ghost use Rattle.std.specs.Prelude.{◌≡◌, ◌+◌, ◌<◌, ◌≤◌, [], length, vec_len, sum_by, IfOk, OnOk, OnErr};
+ghost use Rattle.std.specs.Prelude.{◌≡◌, ◌⊎◌, ◌+◌, ◌<◌, ◌≤◌, [], length, vec_len, sum_by, IfOk, OnOk, OnErr};
 ghost use Rattle.magazine.specs.LayerView.{rounds_of, IsEmpty, IsFull};
 ghost use Rattle.object_cache.specs.CacheView.{AreHomes};
-ghost use Rattle.object_cache.specs.HandView.{fresh};
+ghost use Rattle.object_cache.specs.HandView.{fresh, refilled};
 
 use crate::arena_lock::ArenaLock;
 use crate::asking::{refill_anywhere, relieve_anywhere};
@@ -199,6 +199,7 @@ impl<K: Kind, A: Ledger, B: Ledger> Cache<K, A, B> {
         requires full { IsFull K.ROUNDS layer.old }
         requires parts { (0 < outs.old.parts) × (0 < ins.old.parts) }
         requires amount { K.ROUNDS ≤ outs.old.amount }
+        ensures layer { (layer.new ≡ refilled layer.old object.slot) ⊎ (layer.new ≡ layer.old) }
         ensures parts { (outs.new.parts ≡ outs.old.parts) × (ins.new.parts ≡ ins.old.parts) }
         ensures even { outs.new.amount + ins.old.amount + length (rounds_of layer.old) + 1 ≡ outs.old.amount + ins.new.amount + length (rounds_of layer.new) }
         ensures lent { ins.old.amount ≤ ins.new.amount }
@@ -215,6 +216,7 @@ impl<K: Kind, A: Ledger, B: Ledger> Cache<K, A, B> {
         requires full { IsFull K.ROUNDS layer.old }
         requires part { 0 < outs.old.parts }
         requires amount { K.ROUNDS ≤ outs.old.amount }
+        ensures layer { (layer.new ≡ record { loaded = []; previous = layer.old.loaded }) ⊎ (layer.new ≡ layer.old) }
         ensures parts { outs.new.parts ≡ outs.old.parts }
         ensures even { outs.new.amount + length (rounds_of layer.old) ≡ outs.old.amount + length (rounds_of layer.new) }
     {

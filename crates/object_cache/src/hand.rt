@@ -10,9 +10,9 @@
 //! hand's shares of the cache's books, of which the inside knows the totals: so when a cache is closed, the counts of
 //! all hands can be compared with what is out of its slabs.
 
-ghost use Rattle.std.specs.Prelude.{◌≡◌, ℕ, ◌+◌, ◌∷◌, length, replicate, IsOk, IfOk, OnErr, MatchResult, IsPermutation};
-ghost use Rattle.magazine.specs.LayerView.{rounds_of, IsEmpty};
-ghost use Rattle.object_cache.specs.HandView.{HasRound, HasRoom};
+ghost use Rattle.std.specs.Prelude.{◌≡◌, ◌⊎◌, ◌≤◌, ℕ, ◌+◌, ◌^◌, ◌∷◌, length, replicate, IsOk, IfOk, OnErr, MatchResult, IsPermutation};
+ghost use Rattle.magazine.specs.LayerView.{rounds_of, IsEmpty, IsFull};
+ghost use Rattle.object_cache.specs.HandView.{HasRound, HasRoom, refilled};
 
 use crate::arena_lock::ArenaLock;
 use crate::cache::Cache;
@@ -100,8 +100,12 @@ impl<K: Kind, A: Ledger, B: Ledger> Hand<K, A, B> {
     #[inline(always)]
     pub fn give<R: Wait>(&mut self, rt: &R, cache: &Cache<K, A, B>, object: Obj<K, Held>)
         ensures frees { self.new.frees ≡ self.old.frees + 1 }
+        ensures few { self.new.frees ≤ 2 ^ 56 }
         ensures allocs { (self.new.allocs ≡ self.old.allocs) × (self.new.nulls ≡ self.old.nulls) }
         ensures given { HasRoom K.ROUNDS self.old.layer → IsPermutation (object.slot ∷ rounds_of self.old.layer) (rounds_of self.new.layer) }
+
+        // Where there is no room, the object becomes the one round of an empty magazine, or goes home.
+        ensures full { IsFull K.ROUNDS self.old.layer → (self.new.layer ≡ refilled self.old.layer object.slot) ⊎ (self.new.layer ≡ self.old.layer) }
     {
         if self.frees >= MOST {
             wait_for_ever(rt);
