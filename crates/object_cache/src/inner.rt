@@ -119,6 +119,7 @@ impl<K: Kind, A: Ledger, B: Ledger> Inner<K, A, B> {
 
         // An object that is home goes before a page more.
         ensures home { (slot : ℕ) → IsHome self.old.slabs slot → IsOk result }
+        ensures kept { (slot : ℕ) → IsHome self.old.slabs slot → (x : ℕ) → place_of self.old.slabs x ≡ None → place_of self.new.slabs x ≡ None }
         ensures out { IfOk result (λ object. TakesOut self.old.slabs self.new.slabs object.slot) }
         ensures fault { OnErr result ((share.new.amount ≡ share.old.amount) × (self.new.slabs ≡ self.old.slabs)) }
     {
