@@ -113,11 +113,7 @@ impl<K: Kind, A: Ledger, B: Ledger> Cache<K, A, B> {
 
     // The part of the depot that a hand goes to first.
     fn home(&self, number: usize) -> &Mutex<Part<K, A, B>> {
-        if number < self.parts.len() {
-            &self.parts[number]
-        } else {
-            &self.parts[0]
-        }
+        &self.parts[number % self.parts.len()]
     }
 
     // Gives a hand whose layer has no round at least one. It stands apart, so that `Hand::take` stays short.
