@@ -291,14 +291,6 @@ impl<K: Kind, A: Ledger, B: Ledger> Cache<K, A, B> {
         }
         hands.destroy_empty();
         inner.give_pages(rt, arena);
-        inner.audit(&mut all_outs, &mut all_ins);
-        let (missing, foreign) = inner.end();
-        Totals {
-            allocs,
-            frees,
-            nulls,
-            missing,
-            foreign,
-        }
+        Totals::new(inner.end(all_outs, all_ins), allocs, frees, nulls)
     }
 }

@@ -31,6 +31,30 @@ use std::sync::Wait;
 use std::sync::ledger::{Book, Ledger, Share};
 use vmem_arena::Arena;
 
+/// What an inside counted when it was ended, which nothing else makes: how many slots were out, and how many strangers had
+/// come home.
+#[derive(Clone, Copy)]
+pub struct Remains {
+    missing: u64,
+    foreign: u64,
+}
+
+impl Remains {
+    /// How many slots were out.
+    pub fn missing(self) -> u64
+        ensures { result ≡ self.missing }
+    {
+        self.missing
+    }
+
+    /// How many strangers had come home.
+    pub fn foreign(self) -> u64
+        ensures { result ≡ self.foreign }
+    {
+        self.foreign
+    }
+}
+
 /// Slabs and books.
 pub struct Inner<K: Kind, A: Ledger, B: Ledger> {
     slabs: Slabs<K>,
@@ -190,34 +214,23 @@ impl<K: Kind, A: Ledger, B: Ledger> Inner<K, A, B> {
         give_pages(&mut self.slabs, &mut *arena.arena.lock(rt))
     }
 
-    /// What the whole of both books says of the objects here.
-    pub fn audit(&mut self, outs: &mut Share<A>, ins: &mut Share<B>)
-        requires whole { (outs.old.parts ≡ A.parts) × (ins.old.parts ≡ B.parts) }
-        ensures even { out_count self.new.slabs + ins.old.amount ≡ outs.old.amount + self.new.foreign }
-        ensures slabs { (self.new.slabs ≡ self.old.slabs) × (self.new.foreign ≡ self.old.foreign) }
-    {
-        let Inner {
-            outs: out_book,
-            ins: in_book,
-            ..
-        } = self;
-        out_book.audit(outs);
-        in_book.audit(ins);
-    }
-
-    /// Ends the inside. The answers are how many slots are out, and how many strangers came home.
-    pub fn end(self) -> (u64, u64)
-        ensures missing { result.0 ≡ out_count self.slabs }
-        ensures foreign { result.1 ≡ self.foreign }
+    /// Ends the inside, with all shares of both books: so no hand and no part of the depot has one any more.
+    pub fn end(self, mut all_outs: Share<A>, mut all_ins: Share<B>) -> Remains
+        requires whole { (all_outs.parts ≡ A.parts) × (all_ins.parts ≡ B.parts) }
+        ensures missing { result.missing ≡ out_count self.slabs }
+        ensures foreign { result.foreign ≡ self.foreign }
+        ensures even { result.missing + all_ins.amount ≡ all_outs.amount + result.foreign }
     {
         let Inner {
             slabs,
-            outs: _,
-            ins: _,
+            mut outs,
+            mut ins,
             foreign,
         } = self;
+        outs.audit(&mut all_outs);
+        ins.audit(&mut all_ins);
         let missing = u64::from(slabs.out());
         slabs.end();
-        (missing, foreign)
+        Remains { missing, foreign }
     }
 }
