@@ -17,6 +17,13 @@ pub struct Mark {
     pub ghost short: { at < WORDS_OF_A_RUN },
 }
 
+/// Who owns a slot.
+#[derive(Clone, Copy)]
+pub enum Owner {
+    /// A run, by a call of its program.
+    Run(Mark),
+}
+
 impl Mark {
     /// The mark as a word of the table, `WORDS_OF_A_RUN` or more, so that 0 is left for a free slot and the words between for
     /// others.
