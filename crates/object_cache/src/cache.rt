@@ -164,7 +164,7 @@ impl<K: Kind, A: Ledger, B: Ledger> Cache<K, A, B> {
                     self.bring_home(rt, other, number);
                     return Ok(());
                 }
-                Err(refusals) => inner.supply(rt, arena, outs, refusals)?,
+                Err(refusals) => inner.supply(rt, arena, outs, self, refusals)?,
             }
         };
         match layer.try_give(object.construct()) {
@@ -221,7 +221,7 @@ impl<K: Kind, A: Ledger, B: Ledger> Cache<K, A, B> {
             return;
         }
         if let Err(refusals) = relieve_anywhere(rt, self, layer, outs) {
-            home.lock(rt).make_room(layer, outs, refusals);
+            home.lock(rt).make_room(layer, outs, self, refusals);
         }
     }
 

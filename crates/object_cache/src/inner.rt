@@ -17,10 +17,12 @@ ghost use Rattle.slab_layer.specs.declared.kind.TheConstants.{SLOTS_OF_A_PAGE};
 ghost use Rattle.slab_layer.specs.Slots.{IsHome, IsOut, Has, Moves, out_count, place_of};
 ghost use Rattle.slab_layer.specs.declared.place.Place.TheVariants.{Out};
 ghost use Rattle.magazine.specs.LayerView.{rounds_of, IsEmpty};
+ghost use Rattle.object_cache.specs.CacheView.{AreHomes};
 ghost use Rattle.object_cache.specs.Growth.{GrowsBy, KeepsOut};
 ghost use Rattle.object_cache.specs.Homing.{TakesOut, SendsHome};
 
 use crate::arena_lock::ArenaLock;
+use crate::cache::Cache;
 use crate::fault::TakeFault;
 use crate::homing::{give_pages, go_home, unload};
 use crate::part::Refusals;
@@ -128,16 +130,18 @@ impl<K: Kind, A: Ledger, B: Ledger> Inner<K, A, B> {
         }
     }
 
-    /// Takes an object off the slabs, where no part of the depot had a full magazine. These grow by a page where none is
-    /// home; no other hand gets in between, since the arena's lock is taken inside the cache's.
+    /// Takes an object off the slabs, where as many parts of the cache's depot as are homes had no full magazine. These grow
+    /// by a page where none is home; no other hand gets in between, since the arena's lock is taken inside the cache's.
     pub fn supply<R: Wait>(
         &mut self,
         rt: &R,
         arena: &ArenaLock,
         share: &mut Share<A>,
+        _cache: &Cache<K, A, B>,
         _refusals: Refusals,
     ) -> Result<Obj<K, Home>, TakeFault>
-        requires { 0 < share.old.parts }
+        requires part { 0 < share.old.parts }
+        requires refused { AreHomes _cache.now.hands _refusals.count }
         ensures parts { share.new.parts ≡ share.old.parts }
         ensures amount { OnOk result (share.new.amount ≡ share.old.amount + 1) }
 
