@@ -50,6 +50,9 @@ impl<K: Kind, A: Ledger, B: Ledger> Hand<K, A, B> {
     /// Takes an object, with its image: a round of this hand; else one of a full magazine of the depot, which this hand
     /// then has; else one of the slabs, which grow by a page of the arena where none is home. It waits for the two
     /// locks, the arena's inside the cache's, and for ever past 2^56 calls. The cache is the one that made this hand.
+    ///
+    /// The parts of the depot are looked at one after another. While no other hand is at work, all of them are searched; else
+    /// a take may be refused although the depot had a full magazine at each moment.
     #[inline(always)]
     pub fn take<R: Wait>(
         &mut self,
@@ -97,6 +100,8 @@ impl<K: Kind, A: Ledger, B: Ledger> Hand<K, A, B> {
     /// Gives an object back, with its image restored: to this hand's layer; where that has no room, an empty magazine of
     /// the depot makes some, or a new one; where there is no memory for it, the object goes home to the slabs. It waits
     /// for the cache's lock, and for ever past 2^56 calls. The cache is the one that made this hand.
+    ///
+    /// While other hands are at work, a new magazine may be made although the depot had an empty one at each moment.
     #[inline(always)]
     pub fn give<R: Wait>(&mut self, rt: &R, cache: &Cache<K, A, B>, object: Obj<K, Held>)
         ensures frees { self.new.frees ≡ self.old.frees + 1 }
