@@ -111,7 +111,8 @@ impl<K: Kind, A: Ledger, B: Ledger> Cache<K, A, B> {
         &self.parts[..count]
     }
 
-    // The part of the depot that a hand goes to first.
+    // The part of the depot that a hand of this number goes to first. Where there are more hands than parts, the parts are dealt
+    // to them in turn.
     fn home(&self, number: usize) -> &Mutex<Part<K, A, B>> {
         &self.parts[number % self.parts.len()]
     }

@@ -1,7 +1,8 @@
 //! Hands: what one worker takes objects with, and gives them back.
 //!
 //! *The idea* (Bonwick and Adams 2001, section 3.1). Each worker has a layer of its own, from which it takes and to
-//! which it gives without asking anybody. It goes to the cache's lock where the layer can't serve.
+//! which it gives without asking anybody. Where the layer can't serve it goes to a part of the cache's depot, and then
+//! to the cache's lock.
 //!
 //! *The invariant.* The objects that left the inside of the cache for this hand, and those that were given back to it,
 //! are as many as those that it sent in, those that it gave out, and its rounds.
