@@ -200,8 +200,8 @@ fn more_hands<K: Kind, A: Ledger, B: Ledger>(
     }
 }
 
-// Of 64 hands 32 are made when the others have each put a full magazine into the depot: a part of it goes with each of these,
-// and no round is lost.
+// Of 64 hands 32 have each put a full magazine into their part of the depot, and a pass empties all of these. They do so again,
+// and then the others are made: a part goes with each of them, and no round is lost.
 fn halves<A: Ledger, B: Ledger, R: Wait + Abort>(rt: &R, alloc: Global, outs: Blank, ins: Blank)
     requires names { (outs.name ≡ A.name) × (ins.name ≡ B.name) }
     requires parts { (outs.parts ≡ A.parts) × (ins.parts ≡ B.parts) }
@@ -212,18 +212,21 @@ fn halves<A: Ledger, B: Ledger, R: Wait + Abort>(rt: &R, alloc: Global, outs: Bl
     let mut hands = hands_of(rt, alloc, &mut cache, 32);
     let mut held = Vec::new(alloc);
     take_each(rt, &cache, &arena, hands.as_mut_slice(), &mut held);
-    holds(rt, cache.out(rt) == 544 && held.len() == 544);
+    give_each(rt, &cache, hands.as_mut_slice(), &mut held);
+    holds(rt, cache.out(rt) == 544 && held.is_empty());
+    holds(rt, cache.reap_pass(rt, &arena) == 0 && cache.out(rt) == 288);
+    take_each(rt, &cache, &arena, hands.as_mut_slice(), &mut held);
     give_each(rt, &cache, hands.as_mut_slice(), &mut held);
     give_all(rt, &cache, &mut hands[0], &mut held);
     held.destroy_empty();
     more_hands(rt, alloc, &mut cache, &mut hands, 32);
     holds(rt, cache.out(rt) == 544);
     holds(rt, cache.reap_pass(rt, &arena) == 0 && cache.out(rt) == 288);
-    holds(rt, are(cache.close(rt, hands, &arena), 544, 544, 0));
+    holds(rt, are(cache.close(rt, hands, &arena), 1_088, 1_088, 0));
 }
 
 #[test]
-fn hands_that_are_made_late_take_no_round_away(rt: HostRuntime) {
+fn a_pass_empties_each_part_and_late_hands_take_no_round_away(rt: HostRuntime) {
     halves::<Brand, Brand, HostRuntime>(&rt, rt.alloc(), Blank::new(65), Blank::new(65));
 }
 
@@ -252,8 +255,33 @@ fn a_page_of_blocks_is_found_again_in_the_depot(rt: HostRuntime) {
     eight::<Brand, Brand, HostRuntime>(&rt, rt.alloc(), Blank::new(65), Blank::new(65));
 }
 
-// One hand takes the 8 blocks of the one page and gives them back: 4 lie in its layer, and 4 in its part of the depot, where
-// another hand finds them, and no more.
+// A hand takes the 8 blocks of the one page and gives them back: 4 lie in its layer, and 4 in its part of the depot, where
+// another hand finds them, a whole magazine at a time, and no more.
+fn found<A: Ledger, B: Ledger, R: Wait + Abort>(
+    rt: &R,
+    cache: &Cache<BlockKind, A, B>,
+    arena: &ArenaLock,
+    hands: &mut [Hand<BlockKind, A, B>],
+    held: &mut Vec<Obj<BlockKind, Held>>,
+    giver: usize,
+    taker: usize,
+)
+    requires hands { (giver < length hands.old) × (taker < length hands.old) }
+    ensures { vec_len held.new ≡ 0 }
+{
+    take_all(rt, cache, arena, &mut hands[giver], held, 8);
+    give_all(rt, cache, &mut hands[giver], held);
+    take_all(rt, cache, arena, &mut hands[taker], held, 1);
+    holds(rt, cache.out(rt) == 8);
+    take_all(rt, cache, arena, &mut hands[taker], held, 3);
+    holds(rt, is_refused(rt, cache, arena, &mut hands[taker]));
+    give_all(rt, cache, &mut hands[taker], held);
+    hands[giver].flush(rt, cache);
+    hands[taker].flush(rt, cache);
+    holds(rt, cache.out(rt) == 0);
+}
+
+// The first of three hands gives and the last one takes, and then the other way round.
 fn others<A: Ledger, B: Ledger, R: Wait + Abort>(rt: &R, alloc: Global, outs: Blank, ins: Blank)
     requires names { (outs.name ≡ A.name) × (ins.name ≡ B.name) }
     requires parts { (outs.parts ≡ A.parts) × (ins.parts ≡ B.parts) }
@@ -261,15 +289,12 @@ fn others<A: Ledger, B: Ledger, R: Wait + Abort>(rt: &R, alloc: Global, outs: Bl
 {
     let arena = arena_of(rt, alloc, 1);
     let mut cache = cache_of::<BlockKind, A, B>(rt, alloc, outs, ins);
-    let mut hands = hands_of(rt, alloc, &mut cache, 2);
+    let mut hands = hands_of(rt, alloc, &mut cache, 3);
     let mut held = Vec::new(alloc);
-    take_all(rt, &cache, &arena, &mut hands[0], &mut held, 8);
-    give_all(rt, &cache, &mut hands[0], &mut held);
-    take_all(rt, &cache, &arena, &mut hands[1], &mut held, 4);
-    holds(rt, is_refused(rt, &cache, &arena, &mut hands[1]));
-    give_all(rt, &cache, &mut hands[1], &mut held);
+    found(rt, &cache, &arena, hands.as_mut_slice(), &mut held, 0, 2);
+    found(rt, &cache, &arena, hands.as_mut_slice(), &mut held, 2, 0);
     held.destroy_empty();
-    holds(rt, are(cache.close(rt, hands, &arena), 12, 12, 1));
+    holds(rt, are(cache.close(rt, hands, &arena), 24, 24, 2));
 }
 
 #[test]
@@ -277,7 +302,8 @@ fn blocks_that_another_hand_gave_are_found_in_its_part_of_the_depot(rt: HostRunt
     others::<Brand, Brand, HostRuntime>(&rt, rt.alloc(), Blank::new(65), Blank::new(65));
 }
 
-// An object of the first cache is given to the second one.
+// An object of the first cache is given to the second one, which has the other page of the arena. Once the second one is closed,
+// the first finds that page.
 fn strayed<A: Ledger, B: Ledger, C: Ledger, D: Ledger, R: Wait + Abort>(
     rt: &R,
     alloc: Global,
@@ -298,24 +324,30 @@ fn strayed<A: Ledger, B: Ledger, C: Ledger, D: Ledger, R: Wait + Abort>(
     let mut there = cache_of::<BlockKind, C, D>(rt, alloc, other_outs, other_ins);
     let mut hands = hands_of(rt, alloc, &mut here, 1);
     let mut others = hands_of(rt, alloc, &mut there, 1);
+    let mut held = Vec::new(alloc);
+    take_all(rt, &there, &arena, &mut others[0], &mut held, 1);
     match hands[0].take(rt, &here, &arena) {
         Ok(object) => others[0].give(rt, &there, object),
         Err(_) => panic!(rt; "no object"),
     }
-    let lost = here.close(rt, hands, &arena);
-    holds(
-        rt,
-        lost.allocs == 1 && lost.frees == 0 && lost.missing == 1 && lost.foreign == 0,
-    );
+    give_all(rt, &there, &mut others[0], &mut held);
     let found = there.close(rt, others, &arena);
     holds(
         rt,
-        found.allocs == 0 && found.frees == 1 && found.missing == 0 && found.foreign == 1,
+        found.allocs == 1 && found.frees == 2 && found.missing == 0 && found.foreign == 1,
+    );
+    take_all(rt, &here, &arena, &mut hands[0], &mut held, 8);
+    give_all(rt, &here, &mut hands[0], &mut held);
+    held.destroy_empty();
+    let lost = here.close(rt, hands, &arena);
+    holds(
+        rt,
+        lost.allocs == 9 && lost.frees == 8 && lost.missing == 1 && lost.foreign == 0,
     );
 }
 
 #[test]
-fn an_object_given_to_another_cache_is_missing_here_and_foreign_there(rt: HostRuntime) {
+fn a_closed_cache_tells_what_strayed_and_gives_its_pages_back(rt: HostRuntime) {
     strayed::<Brand, Brand, Brand, Brand, HostRuntime>(
         &rt,
         rt.alloc(),
@@ -326,8 +358,8 @@ fn an_object_given_to_another_cache_is_missing_here_and_foreign_there(rt: HostRu
     );
 }
 
-// Takes so many objects, or fewer where memory is refused.
-fn take_some<K: Kind, A: Ledger, B: Ledger, R: Wait>(
+// Takes so many objects, or fewer where memory is refused, which is told as such.
+fn take_some<K: Kind, A: Ledger, B: Ledger, R: Wait + Abort>(
     rt: &R,
     cache: &Cache<K, A, B>,
     arena: &ArenaLock,
@@ -339,8 +371,9 @@ fn take_some<K: Kind, A: Ledger, B: Ledger, R: Wait>(
     ensures { vec_len held.new ≤ vec_len held.old + count }
 {
     for _taken in 0..count {
-        if let Ok(object) = hand.take(rt, cache, arena) {
-            held.push_reserved(object);
+        match hand.take(rt, cache, arena) {
+            Ok(object) => held.push_reserved(object),
+            Err(fault) => holds(rt, matches!(fault, TakeFault::NoMemory)),
         }
     }
 }

@@ -5,7 +5,7 @@ ghost use Rattle.owners_table.specs.Owning.{fresh};
 ghost use Rattle.owners_table.specs.Drawing.{IsOf, fresh as new_seat};
 
 use crate::facts::holds;
-use owners_table::mark::Mark;
+use owners_table::mark::{Mark, Owner};
 use owners_table::owners::{OwnerSeat, Owners, Taken};
 use owners_table::tickets::{TicketSeat, Tickets};
 use std::alloc::{AllocError, Global};
@@ -77,11 +77,15 @@ fn a_seat_that_is_gone_leaves_its_slots_owned(rt: HostRuntime) {
     assert!(&rt; matches!(words.as_slice(), [0, 4099]));
 }
 
-// The claim found that mark.
+// The claim found that the run of the mark owns the slot, by the call of the mark.
 fn is_taken(claim: Result<(), Taken>, mark: Mark) -> bool {
     match claim {
         Ok(()) => false,
-        Err(Taken { owner }) => owner.run == mark.run && owner.at == mark.at,
+        Err(
+            Taken {
+                owner: Owner::Run(owner),
+            },
+        ) => owner.run == mark.run && owner.at == mark.at,
     }
 }
 

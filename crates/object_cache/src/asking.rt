@@ -1,34 +1,19 @@
 //! The parts of a depot, asked one after another.
 //!
-//! *The reason.* What may be done only where no part has a magazine to give wants refusals, which are made here alone, one for
-//! each part that was asked. So neither an object of the slabs nor a new magazine is got past the depot.
+//! *The reason.* What may be done only where no part has a magazine to give wants refusals. The parts alone make them, and the
+//! functions here gather one for each part that they ask. So neither an object of the slabs nor a new magazine is got past the
+//! depot.
 
 ghost use Rattle.std.specs.Prelude.{◌≡◌, ◌+◌, ◌<◌, ◌≤◌, ◌^◌, [], length, IfErr, OnOk, OnErr};
 ghost use Rattle.magazine.specs.LayerView.{rounds_of, IsEmpty, IsFull};
 ghost use Rattle.object_cache.specs.CacheView.{AreHomes};
 
 use crate::cache::Cache;
-use crate::part::Refusal;
+use crate::part::Refusals;
 use magazine::Layer;
 use slab_layer::Kind;
 use std::sync::Wait;
 use std::sync::ledger::{Ledger, Share};
-
-/// That parts, so many, were asked one after another, and each had nothing to give.
-#[derive(Drop)]
-pub struct Refusals {
-    count: usize,
-}
-
-impl Refusals {
-    // One more.
-    fn add(&mut self, _refusal: Refusal)
-        requires { self.old.count + 1 < 2 ^ 64 }
-        ensures { self.new.count ≡ self.old.count + 1 }
-    {
-        self.count += 1;
-    }
-}
 
 /// Gives a full magazine of any part to a layer that has no round. The answer is the number of the part.
 pub fn refill_anywhere<K: Kind, A: Ledger, B: Ledger, R: Wait>(
@@ -46,7 +31,7 @@ pub fn refill_anywhere<K: Kind, A: Ledger, B: Ledger, R: Wait>(
     ensures unchanged { OnErr result ((layer.new ≡ layer.old) × (share.new.amount ≡ share.old.amount)) }
 {
     let homes = cache.homes();
-    let mut refusals = Refusals { count: 0 };
+    let mut refusals = Refusals::none();
     for (number, part) in homes.iter().enumerate() {
         match part.lock(rt).refill(layer, share) {
             Ok(()) => return Ok(number),
@@ -74,7 +59,7 @@ pub fn relieve_anywhere<K: Kind, A: Ledger, B: Ledger, R: Wait>(
     ensures unchanged { OnErr result ((layer.new ≡ layer.old) × (share.new.amount ≡ share.old.amount)) }
 {
     let homes = cache.homes();
-    let mut refusals = Refusals { count: 0 };
+    let mut refusals = Refusals::none();
     for part in homes {
         match part.lock(rt).relieve(layer, share) {
             Ok(()) => return Ok(()),

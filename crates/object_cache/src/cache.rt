@@ -7,10 +7,10 @@
 //! *The reason.* No clause names what a lock holds between two calls, so each of these functions says what it does to the
 //! hand alone: to its rounds, and to its shares of the books. That is enough: what a share counts, a book counts too.
 
-ghost use Rattle.std.specs.Prelude.{◌≡◌, ◌+◌, ◌<◌, ◌≤◌, [], length, vec_len, sum_by, IfOk, OnOk, OnErr};
+ghost use Rattle.std.specs.Prelude.{◌≡◌, ◌⊎◌, ◌+◌, ◌<◌, ◌≤◌, [], length, vec_len, sum_by, IfOk, OnOk, OnErr};
 ghost use Rattle.magazine.specs.LayerView.{rounds_of, IsEmpty, IsFull};
 ghost use Rattle.object_cache.specs.CacheView.{AreHomes};
-ghost use Rattle.object_cache.specs.HandView.{fresh};
+ghost use Rattle.object_cache.specs.HandView.{fresh, refilled};
 
 use crate::arena_lock::ArenaLock;
 use crate::asking::{refill_anywhere, relieve_anywhere};
@@ -111,13 +111,10 @@ impl<K: Kind, A: Ledger, B: Ledger> Cache<K, A, B> {
         &self.parts[..count]
     }
 
-    // The part of the depot that a hand goes to first.
+    // The part of the depot that a hand of this number goes to first. Where there are more hands than parts, the parts are dealt
+    // to them in turn.
     fn home(&self, number: usize) -> &Mutex<Part<K, A, B>> {
-        if number < self.parts.len() {
-            &self.parts[number]
-        } else {
-            &self.parts[0]
-        }
+        &self.parts[number % self.parts.len()]
     }
 
     // Gives a hand whose layer has no round at least one. It stands apart, so that `Hand::take` stays short.
@@ -168,7 +165,7 @@ impl<K: Kind, A: Ledger, B: Ledger> Cache<K, A, B> {
                     self.bring_home(rt, other, number);
                     return Ok(());
                 }
-                Err(refusals) => inner.supply(rt, arena, outs, refusals)?,
+                Err(refusals) => inner.supply(rt, arena, outs, self, refusals)?,
             }
         };
         match layer.try_give(object.construct()) {
@@ -199,6 +196,7 @@ impl<K: Kind, A: Ledger, B: Ledger> Cache<K, A, B> {
         requires full { IsFull K.ROUNDS layer.old }
         requires parts { (0 < outs.old.parts) × (0 < ins.old.parts) }
         requires amount { K.ROUNDS ≤ outs.old.amount }
+        ensures layer { (layer.new ≡ refilled layer.old object.slot) ⊎ (layer.new ≡ layer.old) }
         ensures parts { (outs.new.parts ≡ outs.old.parts) × (ins.new.parts ≡ ins.old.parts) }
         ensures even { outs.new.amount + ins.old.amount + length (rounds_of layer.old) + 1 ≡ outs.old.amount + ins.new.amount + length (rounds_of layer.new) }
         ensures lent { ins.old.amount ≤ ins.new.amount }
@@ -215,6 +213,7 @@ impl<K: Kind, A: Ledger, B: Ledger> Cache<K, A, B> {
         requires full { IsFull K.ROUNDS layer.old }
         requires part { 0 < outs.old.parts }
         requires amount { K.ROUNDS ≤ outs.old.amount }
+        ensures layer { (layer.new ≡ record { loaded = []; previous = layer.old.loaded }) ⊎ (layer.new ≡ layer.old) }
         ensures parts { outs.new.parts ≡ outs.old.parts }
         ensures even { outs.new.amount + length (rounds_of layer.old) ≡ outs.old.amount + length (rounds_of layer.new) }
     {
@@ -223,7 +222,7 @@ impl<K: Kind, A: Ledger, B: Ledger> Cache<K, A, B> {
             return;
         }
         if let Err(refusals) = relieve_anywhere(rt, self, layer, outs) {
-            home.lock(rt).make_room(layer, outs, refusals);
+            home.lock(rt).make_room(layer, outs, self, refusals);
         }
     }
 
@@ -293,14 +292,6 @@ impl<K: Kind, A: Ledger, B: Ledger> Cache<K, A, B> {
         }
         hands.destroy_empty();
         inner.give_pages(rt, arena);
-        inner.audit(&mut all_outs, &mut all_ins);
-        let (missing, foreign) = inner.end();
-        Totals {
-            allocs,
-            frees,
-            nulls,
-            missing,
-            foreign,
-        }
+        Totals::new(inner.end(all_outs, all_ins), allocs, frees, nulls)
     }
 }

@@ -1,7 +1,8 @@
 //! Hands: what one worker takes objects with, and gives them back.
 //!
 //! *The idea* (Bonwick and Adams 2001, section 3.1). Each worker has a layer of its own, from which it takes and to
-//! which it gives without asking anybody. It goes to the cache's lock where the layer can't serve.
+//! which it gives without asking anybody. Where the layer can't serve it goes to a part of the cache's depot, and then
+//! to the cache's lock.
 //!
 //! *The invariant.* The objects that left the inside of the cache for this hand, and those that were given back to it,
 //! are as many as those that it sent in, those that it gave out, and its rounds.
@@ -10,9 +11,9 @@
 //! hand's shares of the cache's books, of which the inside knows the totals: so when a cache is closed, the counts of
 //! all hands can be compared with what is out of its slabs.
 
-ghost use Rattle.std.specs.Prelude.{◌≡◌, ℕ, ◌+◌, ◌∷◌, length, replicate, IsOk, IfOk, OnErr, MatchResult, IsPermutation};
-ghost use Rattle.magazine.specs.LayerView.{rounds_of, IsEmpty};
-ghost use Rattle.object_cache.specs.HandView.{HasRound, HasRoom};
+ghost use Rattle.std.specs.Prelude.{◌≡◌, ◌⊎◌, ◌≤◌, ℕ, ◌+◌, ◌^◌, ◌∷◌, length, replicate, IsOk, IfOk, OnErr, MatchResult, IsPermutation};
+ghost use Rattle.magazine.specs.LayerView.{rounds_of, IsEmpty, IsFull};
+ghost use Rattle.object_cache.specs.HandView.{HasRound, HasRoom, refilled};
 
 use crate::arena_lock::ArenaLock;
 use crate::cache::Cache;
@@ -50,6 +51,9 @@ impl<K: Kind, A: Ledger, B: Ledger> Hand<K, A, B> {
     /// Takes an object, with its image: a round of this hand; else one of a full magazine of the depot, which this hand
     /// then has; else one of the slabs, which grow by a page of the arena where none is home. It waits for the two
     /// locks, the arena's inside the cache's, and for ever past 2^56 calls. The cache is the one that made this hand.
+    ///
+    /// The parts of the depot are looked at one after another. While no other hand is at work, all of them are searched; else
+    /// a take may be refused although the depot had a full magazine at each moment.
     #[inline(always)]
     pub fn take<R: Wait>(
         &mut self,
@@ -97,11 +101,17 @@ impl<K: Kind, A: Ledger, B: Ledger> Hand<K, A, B> {
     /// Gives an object back, with its image restored: to this hand's layer; where that has no room, an empty magazine of
     /// the depot makes some, or a new one; where there is no memory for it, the object goes home to the slabs. It waits
     /// for the cache's lock, and for ever past 2^56 calls. The cache is the one that made this hand.
+    ///
+    /// While other hands are at work, a new magazine may be made although the depot had an empty one at each moment.
     #[inline(always)]
     pub fn give<R: Wait>(&mut self, rt: &R, cache: &Cache<K, A, B>, object: Obj<K, Held>)
         ensures frees { self.new.frees ≡ self.old.frees + 1 }
+        ensures few { self.new.frees ≤ 2 ^ 56 }
         ensures allocs { (self.new.allocs ≡ self.old.allocs) × (self.new.nulls ≡ self.old.nulls) }
         ensures given { HasRoom K.ROUNDS self.old.layer → IsPermutation (object.slot ∷ rounds_of self.old.layer) (rounds_of self.new.layer) }
+
+        // Where there is no room, the object becomes the one round of an empty magazine, or goes home.
+        ensures full { IsFull K.ROUNDS self.old.layer → (self.new.layer ≡ refilled self.old.layer object.slot) ⊎ (self.new.layer ≡ self.old.layer) }
     {
         if self.frees >= MOST {
             wait_for_ever(rt);

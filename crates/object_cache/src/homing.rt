@@ -4,6 +4,7 @@
 //! cache keeps does not hold in between. The steps here are on its parts, and each says how far they moved.
 
 ghost use Rattle.std.specs.Prelude.{◌≡◌, ℕ, ◌+◌, ◌/◌, ◌^◌, ◌≤◌, ◌↔◌, [], ◌∷◌, length};
+ghost use Rattle.slab_layer.specs.declared.kind.TheConstants.{SLOTS_OF_A_PAGE};
 ghost use Rattle.slab_layer.specs.Slots.{IsOut, Has, out_count, place_of};
 ghost use Rattle.object_cache.specs.Homing.{SendsHome};
 
@@ -54,9 +55,9 @@ pub fn give_pages<K: Kind>(slabs: &mut Slabs<K>, arena: &mut Arena) -> u32
     ensures pages { arena.new.pages ≡ arena.old.pages }
     ensures taken { result + length arena.new.out ≡ length arena.old.out }
     ensures out { (slot : ℕ) → IsOut slabs.new slot ↔ IsOut slabs.old slot }
-    ensures kept { (slot : ℕ) → Has slabs.new (slot / 256) → place_of slabs.new slot ≡ place_of slabs.old slot }
+    ensures kept { (slot : ℕ) → Has slabs.new (slot / SLOTS_OF_A_PAGE) → place_of slabs.new slot ≡ place_of slabs.old slot }
     ensures counted { out_count slabs.new ≡ out_count slabs.old }
-    ensures busy { (page : ℕ) → Has slabs.new page → (slot : ℕ) × (slot / 256 ≡ page) × IsOut slabs.new slot }
+    ensures busy { (page : ℕ) → Has slabs.new page → (slot : ℕ) × (slot / SLOTS_OF_A_PAGE ≡ page) × IsOut slabs.new slot }
 {
     let mut pages = 0;
     while let Some(span) = slabs.reap() {

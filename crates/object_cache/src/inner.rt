@@ -13,22 +13,49 @@
 
 ghost use Rattle.std.specs.Prelude.{◌≡◌, ℕ, ◌+◌, ◌/◌, ◌^◌, ◌<◌, ◌≤◌, ◌↔◌, ◌⊎◌, [], ◌∷◌, ◌++◌, length, false, None, Contains, IsTrue, IsSome, IsOk, IfOk, OnOk, OnErr, IfSome, IfNone, MatchOption, IsPermutation};
 ghost use Rattle.vmem_arena.specs.Spans.{AreFree};
-ghost use Rattle.slab_layer.specs.Slots.{IsHome, IsOut, Has, Moves, out_count};
+ghost use Rattle.slab_layer.specs.declared.kind.TheConstants.{SLOTS_OF_A_PAGE};
+ghost use Rattle.slab_layer.specs.Slots.{IsHome, IsOut, Has, Moves, out_count, place_of};
 ghost use Rattle.slab_layer.specs.declared.place.Place.TheVariants.{Out};
 ghost use Rattle.magazine.specs.LayerView.{rounds_of, IsEmpty};
+ghost use Rattle.object_cache.specs.CacheView.{AreHomes};
 ghost use Rattle.object_cache.specs.Growth.{GrowsBy, KeepsOut};
 ghost use Rattle.object_cache.specs.Homing.{TakesOut, SendsHome};
 
 use crate::arena_lock::ArenaLock;
-use crate::asking::Refusals;
+use crate::cache::Cache;
 use crate::fault::TakeFault;
 use crate::homing::{give_pages, go_home, unload};
+use crate::part::Refusals;
 use magazine::{Layer, Magazine};
 use slab_layer::{Home, Kind, Obj, Ready, Slabs};
 use std::alloc::Global;
 use std::sync::Wait;
 use std::sync::ledger::{Book, Ledger, Share};
 use vmem_arena::Arena;
+
+/// What an inside counted when it was ended, which nothing else makes: how many slots were out, and how many strangers had
+/// come home.
+#[derive(Clone, Copy)]
+pub struct Remains {
+    missing: u64,
+    foreign: u64,
+}
+
+impl Remains {
+    /// How many slots were out.
+    pub fn missing(self) -> u64
+        ensures { result ≡ self.missing }
+    {
+        self.missing
+    }
+
+    /// How many strangers had come home.
+    pub fn foreign(self) -> u64
+        ensures { result ≡ self.foreign }
+    {
+        self.foreign
+    }
+}
 
 /// Slabs and books.
 pub struct Inner<K: Kind, A: Ledger, B: Ledger> {
@@ -103,21 +130,24 @@ impl<K: Kind, A: Ledger, B: Ledger> Inner<K, A, B> {
         }
     }
 
-    /// Takes an object off the slabs, where no part of the depot had a full magazine. These grow by a page where none is
-    /// home; no other hand gets in between, since the arena's lock is taken inside the cache's.
+    /// Takes an object off the slabs, where as many parts of the cache's depot as are homes had no full magazine. These grow
+    /// by a page where none is home; no other hand gets in between, since the arena's lock is taken inside the cache's.
     pub fn supply<R: Wait>(
         &mut self,
         rt: &R,
         arena: &ArenaLock,
         share: &mut Share<A>,
+        _cache: &Cache<K, A, B>,
         _refusals: Refusals,
     ) -> Result<Obj<K, Home>, TakeFault>
-        requires { 0 < share.old.parts }
+        requires part { 0 < share.old.parts }
+        requires refused { AreHomes _cache.now.hands _refusals.count }
         ensures parts { share.new.parts ≡ share.old.parts }
         ensures amount { OnOk result (share.new.amount ≡ share.old.amount + 1) }
 
         // An object that is home goes before a page more.
         ensures home { (slot : ℕ) → IsHome self.old.slabs slot → IsOk result }
+        ensures kept { (slot : ℕ) → IsHome self.old.slabs slot → (x : ℕ) → place_of self.old.slabs x ≡ None → place_of self.new.slabs x ≡ None }
         ensures out { IfOk result (λ object. TakesOut self.old.slabs self.new.slabs object.slot) }
         ensures fault { OnErr result ((share.new.amount ≡ share.old.amount) × (self.new.slabs ≡ self.old.slabs)) }
     {
@@ -183,39 +213,28 @@ impl<K: Kind, A: Ledger, B: Ledger> Inner<K, A, B> {
     /// Gives each page with nothing out back to the arena; the answer is how many it took.
     pub fn give_pages<R: Wait>(&mut self, rt: &R, arena: &ArenaLock) -> u32
         ensures out { (slot : ℕ) → IsOut self.new.slabs slot ↔ IsOut self.old.slabs slot }
-        ensures busy { (page : ℕ) → Has self.new.slabs page → (slot : ℕ) × (slot / 256 ≡ page) × IsOut self.new.slabs slot }
+        ensures busy { (page : ℕ) → Has self.new.slabs page → (slot : ℕ) × (slot / SLOTS_OF_A_PAGE ≡ page) × IsOut self.new.slabs slot }
     {
         give_pages(&mut self.slabs, &mut *arena.arena.lock(rt))
     }
 
-    /// What the whole of both books says of the objects here.
-    pub fn audit(&mut self, outs: &mut Share<A>, ins: &mut Share<B>)
-        requires whole { (outs.old.parts ≡ A.parts) × (ins.old.parts ≡ B.parts) }
-        ensures even { out_count self.new.slabs + ins.old.amount ≡ outs.old.amount + self.new.foreign }
-        ensures slabs { (self.new.slabs ≡ self.old.slabs) × (self.new.foreign ≡ self.old.foreign) }
-    {
-        let Inner {
-            outs: out_book,
-            ins: in_book,
-            ..
-        } = self;
-        out_book.audit(outs);
-        in_book.audit(ins);
-    }
-
-    /// Ends the inside. The answers are how many slots are out, and how many strangers came home.
-    pub fn end(self) -> (u64, u64)
-        ensures missing { result.0 ≡ out_count self.slabs }
-        ensures foreign { result.1 ≡ self.foreign }
+    /// Ends the inside, with all shares of both books: so no hand and no part of the depot has one any more.
+    pub fn end(self, mut all_outs: Share<A>, mut all_ins: Share<B>) -> Remains
+        requires whole { (all_outs.parts ≡ A.parts) × (all_ins.parts ≡ B.parts) }
+        ensures missing { result.missing ≡ out_count self.slabs }
+        ensures foreign { result.foreign ≡ self.foreign }
+        ensures even { result.missing + all_ins.amount ≡ all_outs.amount + result.foreign }
     {
         let Inner {
             slabs,
-            outs: _,
-            ins: _,
+            mut outs,
+            mut ins,
             foreign,
         } = self;
+        outs.audit(&mut all_outs);
+        ins.audit(&mut all_ins);
         let missing = u64::from(slabs.out());
         slabs.end();
-        (missing, foreign)
+        Remains { missing, foreign }
     }
 }

@@ -8,7 +8,8 @@
 //!
 //! *The order.* To take: a round of the layer; else a full magazine of the depot; else an object of the slabs, which grow
 //! by a page where none is home. To give: to the layer; else an empty magazine of the depot for a full one, or a new one;
-//! else, where there is no memory for that, home to the slabs.
+//! else, where there is no memory for that, home to the slabs. The parts of the depot are looked at one after another, so what
+//! other hands exchange meanwhile may be missed.
 //!
 //! *The locks.* A hand locks its home alone, and lets go of it. The cache's lock comes before those of the other parts of
 //! the depot and the arena's, and nothing is locked inside these. From the moment that nothing is home until a new page's

@@ -18,9 +18,10 @@
 
 ghost use Rattle.std.specs.Prelude.{◌≡◌, ◌+◌, ◌^◌, ◌<◌, ◌≤◌, ◌↔◌, [], ◌++◌, length, false, vec_len, IsTrue, IsOk, IfSome, IfNone, OnOk, OnErr, IsPermutation};
 ghost use Rattle.magazine.specs.LayerView.{rounds_of, IsEmpty, IsFull};
+ghost use Rattle.object_cache.specs.CacheView.{AreHomes};
 ghost use Rattle.object_cache.specs.Homing.{SendsHome};
 
-use crate::asking::Refusals;
+use crate::cache::Cache;
 use crate::inner::Inner;
 use magazine::{Depot, Layer, Magazine};
 use slab_layer::Kind;
@@ -31,6 +32,29 @@ use std::sync::{Mutex, Wait};
 /// That a part had nothing to give when it was asked.
 #[derive(Drop)]
 pub struct Refusal(());
+
+/// That parts, so many, were asked one after another, and each had nothing to give. Only refusals add up to it.
+#[derive(Drop)]
+pub struct Refusals {
+    count: usize,
+}
+
+impl Refusals {
+    /// No part was asked.
+    pub fn none() -> Refusals
+        ensures { result.count ≡ 0 }
+    {
+        Refusals { count: 0 }
+    }
+
+    /// One more.
+    pub fn add(&mut self, _refusal: Refusal)
+        requires { self.old.count + 1 < 2 ^ 64 }
+        ensures { self.new.count ≡ self.old.count + 1 }
+    {
+        self.count += 1;
+    }
+}
 
 /// Full magazines and empty ones, with a share of each book.
 pub struct Part<K: Kind, A: Ledger, B: Ledger> {
@@ -141,17 +165,19 @@ impl<K: Kind, A: Ledger, B: Ledger> Part<K, A, B> {
         }
     }
 
-    /// Makes room in a layer that has none, where no part had an empty magazine: by one that came here since, or by a new
-    /// one. False only for want of memory.
+    /// Makes room in a layer that has none, where as many parts of the cache's depot as are homes had no empty magazine: by
+    /// one that came here since, or by a new one. False only for want of memory.
     pub fn make_room(
         &mut self,
         layer: &mut Layer<K>,
         share: &mut Share<A>,
+        _cache: &Cache<K, A, B>,
         _refusals: Refusals,
     ) -> bool
         requires full { IsFull K.ROUNDS layer.old }
         requires part { 0 < share.old.parts }
         requires amount { K.ROUNDS ≤ share.old.amount }
+        requires refused { AreHomes _cache.now.hands _refusals.count }
         ensures parts { share.new.parts ≡ share.old.parts }
         ensures empties { (0 < self.old.depot.empties) → IsTrue result }
         ensures made { IsTrue result → layer.new ≡ record { loaded = []; previous = layer.old.loaded } }

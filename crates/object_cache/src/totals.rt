@@ -1,5 +1,9 @@
 //! What all hands of a cache did.
 
+ghost use Rattle.std.specs.Prelude.{◌≡◌};
+
+use crate::inner::Remains;
+
 /// The sums over all hands of a cache that was closed, and what became of its objects. It always holds that
 /// `missing + frees == allocs + foreign`.
 #[derive(Clone, Copy)]
@@ -14,4 +18,24 @@ pub struct Totals {
     pub missing: u64,
     /// How many objects came home whose slot wasn't out of these slabs.
     pub foreign: u64,
+    // Only the end of the cache's inside makes it, so no other numbers are told.
+    remains: Remains,
+    ghost told: { (missing ≡ remains.missing) × (foreign ≡ remains.foreign) },
+}
+
+impl Totals {
+    /// The totals of a cache whose inside was ended, and whose hands did this often what each number counts.
+    pub(crate) fn new(remains: Remains, allocs: u64, frees: u64, nulls: u64) -> Totals
+        ensures hands { (result.allocs ≡ allocs) × (result.frees ≡ frees) × (result.nulls ≡ nulls) }
+        ensures remains { result.remains ≡ remains }
+    {
+        Totals {
+            allocs,
+            frees,
+            nulls,
+            missing: remains.missing(),
+            foreign: remains.foreign(),
+            remains,
+        }
+    }
 }

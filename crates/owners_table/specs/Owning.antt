@@ -6,12 +6,18 @@ use Rattle.atomic_table.specs.Table.{State, Me, Step}
 use Rattle.atomic_table.specs.Seated.{TableId}
 use Rattle.atomic_table.specs.declared.shared.Seat.{Seat}
 use Rattle.owners_table.specs.declared.owning.OwnerSheet.{OwnerSheet}
-use Rattle.owners_table.specs.Marking.{IsMarkWord}
+use Rattle.owners_table.specs.declared.mark.Owner.{Owner}
+use Rattle.owners_table.specs.declared.mark.Owner.TheVariants.{Run}
+use Rattle.owners_table.specs.Marking.{mark_word, IsMarkWord}
 use Rattle.owners_table.specs.Sheets.{tally, sheet_count, first_or}
 
 -- what the word of a slot can be
 abbrev pub IsSlotWord : ℕ → Type 0
 IsSlotWord w = 0 < w → IsMarkWord w
+
+-- the word of an owner
+abbrev pub owner_word : Owner → ℕ
+owner_word (Run mark) = mark_word mark.run mark.at
 
 -- the entries of the slot
 abbrev pub entries_of : ℕ → List (ℕ × ℕ) → List (ℕ × ℕ)

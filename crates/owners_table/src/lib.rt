@@ -5,7 +5,7 @@
 //! which one fetch-add draws.
 //!
 //! What it promises: two seats of one table never hold one slot; a claim is granted exactly where its exchange found the
-//! slot free, and is else told the mark that it found; where limit and seats add up to less than 2^64, no number is drawn
+//! slot free, and is else told the owner that it found; where limit and seats add up to less than 2^64, no number is drawn
 //! twice, and once a seat was told that there are no more, each was drawn. No call here waits for another thread, so none
 //! takes a handle.
 #![tactic(auto)]

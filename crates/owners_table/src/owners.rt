@@ -3,9 +3,9 @@
 ghost use Rattle.std.specs.Prelude.{◌≡◌, ◌+◌, ◌<◌, [], ◌∷◌, ◌++◌, ℕ, map, reverse, replicate, slice_index, vec_len, All, IfSome, IfNone, IfOk, OnOk, IfErr, IsErrAnd};
 ghost use Rattle.std.specs.Slots.{slots_items, slots_len, IsFull};
 ghost use Rattle.owners_table.specs.Marking.{mark_word};
-ghost use Rattle.owners_table.specs.Owning.{Holds, Apart, HasOneOwner, EachHasOneOwner, IsLeft, IsSlotWord, fresh, sheet, held_by, without, word_at};
+ghost use Rattle.owners_table.specs.Owning.{Holds, Apart, HasOneOwner, EachHasOneOwner, IsLeft, IsSlotWord, fresh, sheet, held_by, owner_word, without, word_at};
 
-use crate::mark::Mark;
+use crate::mark::{Mark, Owner};
 use crate::owning::{Claim, Look, OwnerSheet, Owning, Release, Size};
 use crate::sheets::Sheets;
 use atomic_table::{Closed, Seat, Table};
@@ -16,7 +16,7 @@ use std::marker::Model;
 /// A claim found that the slot has this owner.
 #[derive(Clone, Copy)]
 pub struct Taken {
-    pub owner: Mark,
+    pub owner: Owner,
 }
 
 /// A word for each slot, and one more that stays 0, with which seats are joined and parted.
@@ -93,9 +93,9 @@ impl Owners {
         ensures table { seat.new.table ≡ seat.old.table }
         ensures tries { seat.new.tries ≡ seat.old.tries + 1 }
         ensures ok { OnOk result ((seat.new.held ≡ (slot, mark_word mark.run mark.at) ∷ seat.old.held) × (seat.new.notes ≡ seat.old.notes ++ (slot, 0) ∷ [])) }
-        ensures taken { IfErr result (λ t. (seat.new.held ≡ seat.old.held) × (seat.new.notes ≡ seat.old.notes ++ (slot, mark_word t.owner.run t.owner.at) ∷ [])) }
-        // A seat that has the slot already is told its own mark.
-        ensures own { Holds slot seat.old.held → IsErrAnd result (λ t. mark_word t.owner.run t.owner.at ≡ word_at slot seat.old.held) }
+        ensures taken { IfErr result (λ t. (seat.new.held ≡ seat.old.held) × (seat.new.notes ≡ seat.old.notes ++ (slot, owner_word t.owner) ∷ [])) }
+        // A seat that has the slot already is told its own.
+        ensures own { Holds slot seat.old.held → IsErrAnd result (λ t. owner_word t.owner ≡ word_at slot seat.old.held) }
     {
         let found = self
             .table
@@ -105,7 +105,7 @@ impl Owners {
             return Ok(());
         }
         Err(Taken {
-            owner: Mark::of_word(found),
+            owner: Owner::Run(Mark::of_word(found)),
         })
     }
 

@@ -12,12 +12,15 @@
 //! | 2 | block | 512 | 0x5a | 2 | 8 |
 //!
 //! *The reason.* Code that is generic in the kind can rely on the table: a page has at least one object and at
-//! most 256, so that a slot's number fits `page * 256 + index`.
+//! most 256, so that each has a slot of its own among those of its page.
 
 ghost use Rattle.std.specs.Prelude.{◌≡◌, ◌≤◌, ◌<◌, ◌/◌, ℕ};
 
 /// The bytes of a page.
 pub const PAGE_BYTES: usize = 4096;
+
+/// How many slots a page has. The slot of its object with some index is `page * SLOTS_OF_A_PAGE + index`.
+pub const SLOTS_OF_A_PAGE: u32 = 256;
 
 /// A kind of object, which is a row of the table above.
 pub trait Kind {

@@ -73,7 +73,7 @@ pub struct Obj<K: Kind, S: State> {
 }
 
 impl<K: Kind, S: State> Obj<K, S> {
-    /// The number of the object's slot, `page * 256 + index`, below 65,536. It stays for the object's life.
+    /// The number of the object's slot, `page * SLOTS_OF_A_PAGE + index`, below 65,536. It stays for the object's life.
     pub fn slot(&self) -> u32
         ensures { result ≡ self.now.slot }
     {

@@ -1,9 +1,10 @@
 //! A slab: the objects of one page.
 //!
-//! *The idea* (Bonwick 1994, section 3.2). A slab is a page cut into objects of one size, with a list of those
-//! that are free and a count of those that aren't. To take an object is to take it off the list, to give it
+//! *The idea* (Bonwick 1994, section 3.2). A slab has objects of one size, as many as fit a page, with a list of
+//! those that are free and a count of those that aren't. To take an object is to take it off the list, to give it
 //! back is to put it on, and a slab whose objects are all on it can go back to the system whole. The objects
 //! at home stand in a stack here, and beside it a table says of each index whether its object is home or out.
+//! Their bytes lie in memory of their own: the page bounds how many objects there are, and gives them their slots.
 //!
 //! *The invariant.* The stack has exactly the slots that the table calls home, each once.
 //!
@@ -18,11 +19,12 @@ ghost use Rattle.std.specs.Prelude.{◌≡◌, ◌≤◌, ◌<◌, ◌+◌, ◌*
 ghost use Rattle.std.specs.Option.{ForSome};
 ghost use Rattle.slab_layer.specs.Stacks.{HasSame, selected};
 ghost use Rattle.slab_layer.specs.Slots.{is_home, has_home, outs_in};
+ghost use Rattle.slab_layer.specs.declared.kind.TheConstants.{SLOTS_OF_A_PAGE};
 ghost use Rattle.slab_layer.specs.declared.place.Place.TheVariants.{Home as HomePlace, Out};
 ghost use Rattle.vmem_arena.specs.Spans.{pages_of};
 ghost use Rattle.vmem_arena.specs.declared.arena.TheConstants.{MAX_PAGES};
 
-use crate::kind::{Kind, objects_of_a_page};
+use crate::kind::{Kind, SLOTS_OF_A_PAGE, objects_of_a_page};
 use crate::object::{Home, Obj};
 use crate::place::Place;
 use crate::room::Room;
@@ -39,7 +41,7 @@ pub struct Slab<K: Kind> {
     ghost whole: { length places.items ≡ (if is_some span then 4096 / K.SIZE else 0) },
     ghost own: { ForSome span (λ s. ((pages_of s).first ≡ page) × ((pages_of s).len ≡ 1)) },
     ghost room: { length places.items ≤ vec_capacity home },
-    ghost stacked: { HasSame (map (λ o. o.slot) home.items) (selected is_home (page * 256) places.items) },
+    ghost stacked: { HasSame (map (λ o. o.slot) home.items) (selected is_home (page * SLOTS_OF_A_PAGE) places.items) },
 }
 
 impl<K: Kind> Slab<K> {
@@ -73,7 +75,7 @@ impl<K: Kind> Slab<K> {
             let Some(own) = bytes.pop() else {
                 unreachable!();
             };
-            home.push_reserved(Obj::new(page * 256 + index as u32, own));
+            home.push_reserved(Obj::new(page * SLOTS_OF_A_PAGE + index as u32, own));
             places.push_reserved(Place::Home);
         }
         Slab {
@@ -116,26 +118,26 @@ impl<K: Kind> Slab<K> {
     pub fn take(&mut self) -> Obj<K, Home>
         requires { has_home self.old.places.items ≡ true }
         ensures page { self.new.page ≡ self.old.page }
-        ensures slot { result.slot / 256 ≡ self.old.page }
-        ensures was_home { slice_get self.old.places.items (result.slot % 256) ≡ Some HomePlace }
-        ensures out { self.new.places.items ≡ slice_set self.old.places.items (result.slot % 256) Out }
+        ensures slot { result.slot / SLOTS_OF_A_PAGE ≡ self.old.page }
+        ensures was_home { slice_get self.old.places.items (result.slot % SLOTS_OF_A_PAGE) ≡ Some HomePlace }
+        ensures out { self.new.places.items ≡ slice_set self.old.places.items (result.slot % SLOTS_OF_A_PAGE) Out }
     {
         let Some(object) = self.home.pop() else {
             unreachable!();
         };
-        let index = (object.slot() % 256) as usize;
+        let index = (object.slot() % SLOTS_OF_A_PAGE) as usize;
         self.places[index] = Place::Out;
         object
     }
 
     /// Takes an object back that is out of this slab.
     pub fn give(&mut self, object: Obj<K, Home>)
-        requires slot { object.slot / 256 ≡ self.old.page }
-        requires was_out { slice_get self.old.places.items (object.slot % 256) ≡ Some Out }
+        requires slot { object.slot / SLOTS_OF_A_PAGE ≡ self.old.page }
+        requires was_out { slice_get self.old.places.items (object.slot % SLOTS_OF_A_PAGE) ≡ Some Out }
         ensures page { self.new.page ≡ self.old.page }
-        ensures home { self.new.places.items ≡ slice_set self.old.places.items (object.slot % 256) HomePlace }
+        ensures home { self.new.places.items ≡ slice_set self.old.places.items (object.slot % SLOTS_OF_A_PAGE) HomePlace }
     {
-        let index = (object.slot() % 256) as usize;
+        let index = (object.slot() % SLOTS_OF_A_PAGE) as usize;
         self.home.push_reserved(object);
         self.places[index] = Place::Home;
     }

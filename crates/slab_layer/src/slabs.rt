@@ -10,20 +10,21 @@
 //! that are out is the sum over the slabs.
 //!
 //! *The reason.* To take an object is to look at the top of the stack, and to give one back is to divide its
-//! slot by 256: both are a few steps, however many objects and pages there are. A page comes onto the stack with
-//! its first object and leaves it with its last, so `take` answers None only where no slab has an object. A
-//! slab changes nothing for an object whose slot isn't out of it. An object has the number of its slot alone and
-//! doesn't know its slabs: one of other slabs of the kind, whose slot is out here, is taken in the place of the
-//! one that is. So each object goes back where it came from; the caches above keep to that.
+//! slot by the slots of a page: both are a few steps, however many objects and pages there are. A page comes
+//! onto the stack with its first object and leaves it with its last, so `take` answers None only where no slab
+//! has an object. A slab changes nothing for an object whose slot isn't out of it. An object has the number of
+//! its slot alone and doesn't know its slabs: one of other slabs of the kind, whose slot is out here, is taken
+//! in the place of the one that is. So each object goes back where it came from; the caches above keep to that.
 //!
 //! The table is made with the first page. All memory of a page is got before anything changes.
 
 ghost use Rattle.std.specs.Prelude.{◌≡◌, ◌≢◌, ℕ, ◌≤◌, ◌<◌, ◌+◌, ◌*◌, ◌/◌, ◌↔◌, ⊤, [], false, length, IsTrue, IfSome, IfNone, IfErr, OnOk, OnErr, OnSome};
 ghost use Rattle.slab_layer.specs.Slots.{IsHome, IsOut, Has, Moves, AddsPage, RemovesPage, out_count};
+ghost use Rattle.slab_layer.specs.declared.kind.TheConstants.{SLOTS_OF_A_PAGE};
 ghost use Rattle.slab_layer.specs.declared.place.Place.TheVariants.{Home as HomePlace, Out};
 ghost use Rattle.vmem_arena.specs.Spans.{pages_of};
 
-use crate::kind::Kind;
+use crate::kind::{Kind, SLOTS_OF_A_PAGE};
 use crate::object::{Home, Obj};
 use crate::room::Room;
 use crate::slab::Slab;
@@ -110,8 +111,8 @@ impl<K: Kind> Slabs<K> {
         ensures unchanged { result ≡ false → self.new ≡ self.old }
     {
         let slot = object.slot();
-        let at = (slot / 256) as usize;
-        let index = (slot % 256) as usize;
+        let at = (slot / SLOTS_OF_A_PAGE) as usize;
+        let index = (slot % SLOTS_OF_A_PAGE) as usize;
         if at >= self.slabs.len() || !self.slabs[at].is_out(index) {
             object.destroy();
             return false;
@@ -154,11 +155,11 @@ impl<K: Kind> Slabs<K> {
     pub fn reap(&mut self) -> Option<Span>
         ensures one_page { IfSome result (λ span. (pages_of span).len ≡ 1) }
         ensures had { IfSome result (λ span. Has self.old (pages_of span).first) }
-        ensures idle { IfSome result (λ span. (slot : ℕ) → slot / 256 ≡ (pages_of span).first → IsOut self.old slot → ⊥) }
-        ensures lowest { IfSome result (λ span. (page : ℕ) → page < (pages_of span).first → Has self.old page → (slot : ℕ) × (slot / 256 ≡ page) × IsOut self.old slot) }
+        ensures idle { IfSome result (λ span. (slot : ℕ) → slot / SLOTS_OF_A_PAGE ≡ (pages_of span).first → IsOut self.old slot → ⊥) }
+        ensures lowest { IfSome result (λ span. (page : ℕ) → page < (pages_of span).first → Has self.old page → (slot : ℕ) × (slot / SLOTS_OF_A_PAGE ≡ page) × IsOut self.old slot) }
         ensures removed { IfSome result (λ span. RemovesPage self.old self.new (pages_of span).first) }
         ensures counted { out_count self.new ≡ out_count self.old }
-        ensures none { IfNone result ((page : ℕ) → Has self.old page → (slot : ℕ) × (slot / 256 ≡ page) × IsOut self.old slot) }
+        ensures none { IfNone result ((page : ℕ) → Has self.old page → (slot : ℕ) × (slot / SLOTS_OF_A_PAGE ≡ page) × IsOut self.old slot) }
         ensures unchanged { IfNone result (self.new ≡ self.old) }
     {
         let Some(at) = idle_at(&self.slabs) else {

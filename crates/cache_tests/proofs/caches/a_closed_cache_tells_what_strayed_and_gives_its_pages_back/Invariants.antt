@@ -1,4 +1,4 @@
-use Rattle.cache_tests.proofs.caches.an_object_given_to_another_cache_is_missing_here_and_foreign_there.Given as goal
+use Rattle.cache_tests.proofs.caches.a_closed_cache_tells_what_strayed_and_gives_its_pages_back.Given as goal
 
 abbrev pub ghosts-strayed-A-Ledger : goal.ghosts-strayed-A-Ledger
 ghosts-strayed-A-Ledger g a = record { name = a.outs.name; parts = a.outs.parts }
