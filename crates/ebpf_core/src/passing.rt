@@ -113,21 +113,19 @@ impl<G: Ledger, N: Ledger> Objects for Passing<G, N> {
 
     type Held = Object;
 
-    ghost store = {
-        record {
-            kinds = known_kinds;
-            kind_of = λ o. o.kind;
-            slot_of = λ o. o.slot;
-            is_out = λ p o. IsOut p.object o;
-            bytes_of = λ p o. o.bytes.items;
-            can_grant = λ p kind at slot. Lends p.object kind at slot;
-            can_refuse = λ p kind. LendsNone p.object kind;
-            can_give = λ p. p.object ≡ None;
-            grants = λ p. p.grants.total;
-            nulls = λ p. p.nulls.total;
-            outs = λ p kind. out_of_kind p.object kind;
-        }
-    };
+    ghost store = { record {
+      kinds = known_kinds;
+      kind_of = λ o. o.kind;
+      slot_of = λ o. o.slot;
+      is_out = λ p o. IsOut p.object o;
+      bytes_of = λ p o. o.bytes.items;
+      can_grant = λ p kind at slot. Lends p.object kind at slot;
+      can_refuse = λ p kind. LendsNone p.object kind;
+      can_give = λ p. p.object ≡ None;
+      grants = λ p. p.grants.total;
+      nulls = λ p. p.nulls.total;
+      outs = λ p kind. out_of_kind p.object kind;
+    } };
 
     fn take(&mut self, kind: u8, _at: u16) -> Option<Object> {
         if is_of_kind(&self.object, kind) {
