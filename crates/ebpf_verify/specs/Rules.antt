@@ -1,5 +1,5 @@
 -- The rule of each instruction: the codes that refuse it, in order, and the states that it sends on. That the rules are sound for
--- the machine is ebpf_machine/proofs/Soundness.
+-- the machine is ebpf_machine/proofs/Rules/Soundness.
 use Rattle.std.specs.Prelude.{ℕ, ℤ, List, [], ◌∷◌, true, false, ◌||◌, nat_lt, Option, Some, None, length}
 use Rattle.ebpf_insn.specs.declared.register.Reg.{Reg}
 use Rattle.ebpf_insn.specs.declared.register.Reg.TheVariants.{R0}
