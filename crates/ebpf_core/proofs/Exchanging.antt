@@ -54,15 +54,6 @@ loan places (Slot slot) wants fine = by_place (place_at places slot) wants refl 
 lent_loan : (places : Places) (answer : Answer) (slot : ℕ) (o : Object) → answer ≡ Slot slot → place_at places slot ≡ Some (Home o) → lent_by answer places ≡ Some o
 lent_loan places answer slot o is at = ap (λ (a : Answer). lent_by a places) is ∙ ap object_home at
 
-pub lendable : (places : Places) (answer : Answer) (wants : Option ℕ) → code_by places answer wants ≡ None → IsLendable answer places
-lendable places Absent wants fine = tt
-lendable places Null wants fine = tt
-lendable places (Slot slot) wants fine = by (place_at places slot) fine where
-  by : (p : Option Place) → slot_code p wants ≡ None → IsHome p
-  by None fine = absurd (cc)
-  by (Some (Held run at)) fine = absurd (cc)
-  by (Some (Home o)) fine = tt
-
 -- ---- what a run holds is kept as held by it
 
 pub held_named : (r : RunState Object) (h : Holding Object) → Contains r.held h → Contains (slots_of r) (name_of h.object.slot h.call)

@@ -31,9 +31,6 @@ world_after_last : (programs : List Subject) (index : ℕ) (w : World) → world
 unfolding world_after_from
 world_after_last programs index w = refl
 
-pub underway_first : (programs : List Subject) (events : List Event) (kept : WorldState) → Shows first_world kept → kept.programs ≡ programs → IsUnderway programs events 0 kept
-underway_first programs events kept h same = record { world = first_world; shows = h; rest = refl; programs_stay = same }
-
 -- an event takes place
 pub underway_next : (programs : List Subject) (events : List Event) (index : ℕ) (old new : WorldState) (e : Event) → index < length events → e ≡ slice_index_or events index e → IsUnderway programs events index old → IsDone e old new → new.programs ≡ old.programs → IsUnderway programs events (index + 1) new
 underway_next programs events index old new e lt at h done same =

@@ -1,7 +1,10 @@
 -- What is said of a store of objects, and of the objects of a run that are out of it.
-use Rattle.std.specs.Prelude.{◌≡◌, ◌≢◌, ℕ, ◌==◌, List, All, AllPairs, Contains, count_by}
+use Rattle.std.specs.Prelude.{◌≡◌, ◌≢◌, ℕ, ◌==◌, List, map, All, AllPairs, Contains, count_by}
 use Rattle.ebpf_machine.specs.declared.holding.Holding.{Holding}
+use Rattle.ebpf_machine.specs.Effect.{Environment}
 use Rattle.ebpf_machine.specs.World.{Kind}
+use Rattle.ebpf_machine.specs.View.{ObjectView, environment_with}
+use Rattle.ebpf_machine.specs.RunState.{object_seen}
 
 -- a store in the states S, of objects H: the kinds that there are; the kind and the slot of an object; which objects are out, and
 -- their bytes; what a call of new for a kind, made at a slot of a program, may be answered, with an object in a slot or with none;
@@ -72,3 +75,11 @@ AreGone {H = H} o new held now = (h : Holding H) → Contains held h → All (λ
 -- everything else that is out stays so
 abbrev pub OthersStay : {S H : Type 0} → Store S H → S → S → (held : List (Holding H)) → Type 0
 OthersStay {H = H} o old new held = (other : H) → o.is_out old other → All (λ h. o.slot_of h.object ≢ o.slot_of other) held → Stays o old new other
+
+-- what a run sees of the objects that it holds, in a state of their store
+abbrev pub objects_in : {S H : Type 0} → Store S H → S → List (Holding H) → List ObjectView
+objects_in o s held = map (object_seen (o.bytes_of s)) held
+
+-- what it meets that has this context beside them, where there are so many kinds
+abbrev pub environment_in : {S H : Type 0} → Store S H → S → List (Holding H) → List ℕ → ℕ → Environment ℕ
+environment_in o s held context kinds = environment_with context kinds (objects_in o s held)

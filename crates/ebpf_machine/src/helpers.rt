@@ -1,14 +1,11 @@
 //! Calls of helpers (RFC 9669, section 4.3.1): each takes its argument in r1 and leaves its result in r0, and r1 to r5 are lost.
 
 ghost use Rattle.std.specs.Prelude.{◌≡◌, ◌<◌, ◌+◌, ◌++◌, ◌∷◌, ℕ, ℤ, pos, max, List, [], length, None, Some};
-ghost use Rattle.ebpf_insn.specs.declared.insn.Insn.{Insn};
 ghost use Rattle.ebpf_insn.specs.declared.program.TheConstants.{MAX_SLOTS};
-ghost use Rattle.ebpf_insn.specs.Program.{instructions, insn_at};
+ghost use Rattle.ebpf_insn.specs.Program.{instructions};
 ghost use Rattle.ebpf_verify.specs.declared.helper.Helper.{Helper};
-ghost use Rattle.ebpf_verify.specs.Calls.{helper_of};
-ghost use Rattle.ebpf_machine.specs.Effect.{with_result};
 ghost use Rattle.ebpf_machine.specs.Flows.{object_in};
-ghost use Rattle.ebpf_machine.specs.RunState.{frame_with};
+ghost use Rattle.ebpf_machine.specs.RunState.{Calls, gone_on, emitted, holding_too};
 ghost use Rattle.ebpf_machine.specs.Step.{IsFree};
 ghost use Rattle.ebpf_machine.specs.World.{kinds_of};
 ghost use Rattle.ebpf_machine.specs.Parts.{state_of, HasCapacity};
@@ -26,7 +23,7 @@ use ebpf_verify::helper::Helper;
 pub(crate) fn call<O: Objects>(parts: &mut Parts<'_, O::Held>, helper: Helper, objects: &mut O)
     requires kinds { O.store.kinds ≡ kinds_of parts.old.verified.now.rows }
     requires ready { IsReady O.store (state_of parts.old) objects.old }
-    requires at { (number : ℤ) × (insn_at parts.old.verified.now.program parts.old.pc ≡ Some (Insn.Call number)) × (helper_of number ≡ Some helper) }
+    requires at { Calls (state_of parts.old) helper }
     requires can_give { IsFree (Some helper) → O.store.can_give objects.old }
     requires room { HasCapacity parts.old }
     ensures advanced { IsAdvanced O.store (state_of parts.old) (state_of parts.new) objects.old objects.new }
@@ -43,7 +40,7 @@ pub(crate) fn call<O: Objects>(parts: &mut Parts<'_, O::Held>, helper: Helper, o
 fn ask<O: Objects>(parts: &mut Parts<'_, O::Held>, objects: &mut O)
     requires kinds { O.store.kinds ≡ kinds_of parts.old.verified.now.rows }
     requires ready { IsReady O.store (state_of parts.old) objects.old }
-    requires at { (number : ℤ) × (insn_at parts.old.verified.now.program parts.old.pc ≡ Some (Insn.Call number)) × (helper_of number ≡ Some Helper.New) }
+    requires at { Calls (state_of parts.old) Helper.New }
     requires room { HasCapacity parts.old }
     ensures advanced { IsAdvanced O.store (state_of parts.old) (state_of parts.new) objects.old objects.new }
     ensures room { HasCapacity parts.new }
@@ -68,7 +65,7 @@ fn hold<H>(parts: &mut Parts<'_, H>, holding: Holding<H>)
     requires held { length parts.old.held.items < parts.old.verified.now.decl.held }
     requires replies { length parts.old.replies.items < length (instructions parts.old.verified.now.program) }
     requires room { HasCapacity parts.old }
-    ensures state { state_of parts.new ≡ record (state_of parts.old) { held = parts.old.held.items ++ holding ∷ []; replies = parts.old.replies.items ++ Reply.Granted ∷ []; peak = max parts.old.peak (length parts.old.held.items + 1) } }
+    ensures state { state_of parts.new ≡ holding_too holding (state_of parts.old) }
     ensures room { HasCapacity parts.new }
 {
     parts.held.push_reserved(holding);
@@ -80,7 +77,7 @@ fn hold<H>(parts: &mut Parts<'_, H>, holding: Holding<H>)
 fn give_back<O: Objects>(parts: &mut Parts<'_, O::Held>, objects: &mut O)
     requires kinds { O.store.kinds ≡ kinds_of parts.old.verified.now.rows }
     requires ready { IsReady O.store (state_of parts.old) objects.old }
-    requires at { (number : ℤ) × (insn_at parts.old.verified.now.program parts.old.pc ≡ Some (Insn.Call number)) × (helper_of number ≡ Some Helper.Free) }
+    requires at { Calls (state_of parts.old) Helper.Free }
     requires can_give { O.store.can_give objects.old }
     requires room { HasCapacity parts.old }
     ensures advanced { IsAdvanced O.store (state_of parts.old) (state_of parts.new) objects.old objects.new }
@@ -97,15 +94,15 @@ fn give_back<O: Objects>(parts: &mut Parts<'_, O::Held>, objects: &mut O)
 }
 
 // Adds a number to the output, and goes on behind the call.
-fn emit<H>(parts: &mut Parts<'_, H>, emitted: u64)
+fn emit<H>(parts: &mut Parts<'_, H>, number: u64)
     requires output { length parts.old.output.items < length (instructions parts.old.verified.now.program) }
     requires few { parts.old.executed < MAX_SLOTS }
     requires inside { parts.old.pc < MAX_SLOTS }
     requires room { HasCapacity parts.old }
-    ensures state { state_of parts.new ≡ record (state_of parts.old) { output = parts.old.output.items ++ emitted ∷ []; pc = parts.old.pc + 1; registers = (with_result (frame_with parts.old.registers [] []) (Value.Number 0)).registers; executed = parts.old.executed + 1 } }
+    ensures state { state_of parts.new ≡ emitted number (state_of parts.old) }
     ensures room { HasCapacity parts.new }
 {
-    parts.output.push_reserved(emitted);
+    parts.output.push_reserved(number);
     answer(parts, Value::Number(0));
 }
 
@@ -114,7 +111,7 @@ fn answer<H>(parts: &mut Parts<'_, H>, value: Value<u16>)
     requires few { parts.old.executed < MAX_SLOTS }
     requires inside { parts.old.pc < MAX_SLOTS }
     requires room { HasCapacity parts.old }
-    ensures state { state_of parts.new ≡ record (state_of parts.old) { pc = parts.old.pc + 1; registers = (with_result (frame_with parts.old.registers [] []) value).registers; executed = parts.old.executed + 1 } }
+    ensures state { state_of parts.new ≡ gone_on value (state_of parts.old) }
     ensures room { HasCapacity parts.new }
 {
     parts.registers[1] = None;

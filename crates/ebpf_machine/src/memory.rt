@@ -3,16 +3,12 @@
 //! Nothing is tested: where the instruction does not trap, its bytes lie in the stack, in the context, or in an object that the run
 //! holds.
 
-ghost use Rattle.std.specs.Prelude.{◌≡◌, ◌==◌, ℕ, pos, negsuc, ◌+ℤ◌, ◌≤ℤ◌, ◌≤◌, nat_abs, true, length, map, is_ok, Some, Ok, FitsSigned};
+ghost use Rattle.std.specs.Prelude.{◌≡◌, ℕ, pos, negsuc, ◌+ℤ◌, ◌≤ℤ◌, nat_abs, true, is_ok, Ok, FitsSigned};
 ghost use Rattle.std.specs.Int.{w64};
-ghost use Rattle.ebpf_state.specs.Stack.{bytes_in, place_of};
 ghost use Rattle.ebpf_machine.specs.Values.{Trap};
-ghost use Rattle.ebpf_machine.specs.Cells.{place_in, loaded_at, read_at, stored_at};
-ghost use Rattle.ebpf_machine.specs.Effect.{loaded, read_object};
-ghost use Rattle.ebpf_machine.specs.View.{environment_with, object_at};
-ghost use Rattle.ebpf_machine.specs.RunState.{object_seen};
-ghost use Rattle.ebpf_machine.specs.Store.{AreOut};
-ghost use Rattle.ebpf_machine.specs.Flows.{IsResult};
+ghost use Rattle.ebpf_machine.specs.Effect.{loaded};
+ghost use Rattle.ebpf_machine.specs.Store.{AreOut, objects_in, environment_in};
+ghost use Rattle.ebpf_machine.specs.Flows.{IsResult, stored_from, found_on_stack, found_among, found_in_object};
 
 use crate::holding::{Holding, place_of};
 use crate::number::number_at;
@@ -39,8 +35,10 @@ pub(crate) fn load<O: Objects>(
     load: Loaded,
 ) -> Value<u16>
     requires out { AreOut O.store objects.now held.now }
-    requires loads { (kinds : ℕ) × IsResult (loaded (environment_with context.now kinds (map (object_seen (O.store.bytes_of objects.now)) held.now)) stack.now load.size load.signed load.offset address) }
-    ensures { (kinds : ℕ) → loaded (environment_with context.now kinds (map (object_seen (O.store.bytes_of objects.now)) held.now)) stack.now load.size load.signed load.offset address ≡ Ok result }
+    requires loads { (kinds : ℕ) × IsResult (loaded (environment_in O.store objects.now held.now context.now kinds)
+        stack.now load.size load.signed load.offset address) }
+    ensures { (kinds : ℕ) → loaded (environment_in O.store objects.now held.now context.now kinds)
+        stack.now load.size load.signed load.offset address ≡ Ok result }
 {
     match address {
         Some(Value::Pointer { base, offset: from }) => match base {
@@ -53,16 +51,16 @@ pub(crate) fn load<O: Objects>(
 }
 
 fn load_stack(stack: &Stack, from: i64, load: Loaded) -> Value<u16>
-    requires { IsResult (loaded_at (◌==◌) (place_of (from +ℤ load.offset) (bytes_in load.size)) (bytes_in load.size) load.signed stack.now) }
-    ensures { loaded_at (◌==◌) (place_of (from +ℤ load.offset) (bytes_in load.size)) (bytes_in load.size) load.signed stack.now ≡ Ok result }
+    requires { IsResult (found_on_stack from load stack.now) }
+    ensures { found_on_stack from load stack.now ≡ Ok result }
 {
     stack.load(stack_place(from, load.offset), load.size, load.signed)
 }
 
 // The number of the bytes of the context, or of an object.
 fn load_bytes(bytes: &[u8], from: i64, load: Loaded) -> u64
-    requires { (outside : Trap) × IsResult (read_at {N = ℕ} outside (place_in (length bytes.now) (from +ℤ load.offset) (bytes_in load.size)) (bytes_in load.size) load.signed bytes.now) }
-    ensures { (outside : Trap) → read_at {N = ℕ} outside (place_in (length bytes.now) (from +ℤ load.offset) (bytes_in load.size)) (bytes_in load.size) load.signed bytes.now ≡ Ok (Value.Number result) }
+    requires { (outside : Trap) × IsResult (found_among outside bytes.now from load) }
+    ensures { (outside : Trap) → found_among outside bytes.now from load ≡ Ok (Value.Number result) }
 {
     number_at(bytes, byte_place(from, load.offset), load.size, load.signed)
 }
@@ -75,8 +73,8 @@ fn load_object<O: Objects>(
     load: Loaded,
 ) -> u64
     requires out { AreOut O.store objects.now held.now }
-    requires loads { IsResult (read_object {N = ℕ} (object_at (map (object_seen (O.store.bytes_of objects.now)) held.now) call) (from +ℤ load.offset) (bytes_in load.size) load.signed) }
-    ensures { read_object {N = ℕ} (object_at (map (object_seen (O.store.bytes_of objects.now)) held.now) call) (from +ℤ load.offset) (bytes_in load.size) load.signed ≡ Ok (Value.Number result) }
+    requires loads { IsResult (found_in_object (objects_in O.store objects.now held.now) call from load) }
+    ensures { found_in_object (objects_in O.store objects.now held.now) call from load ≡ Ok (Value.Number result) }
 {
     let place = place_of(held, call);
     load_bytes(objects.bytes(&held[place].object), from, load)
@@ -84,8 +82,8 @@ fn load_object<O: Objects>(
 
 /// Stores the low bytes of a value on the stack, at an offset from a pointer to it.
 pub(crate) fn store(stack: &mut Stack, from: i64, size: Size, offset: i16, value: Value<u16>)
-    requires { is_ok (stored_at (place_of (from +ℤ offset) (bytes_in size)) (bytes_in size) value stack.old) ≡ true }
-    ensures { stored_at (place_of (from +ℤ offset) (bytes_in size)) (bytes_in size) value stack.old ≡ Ok stack.new }
+    requires { is_ok (stored_from from offset size value stack.old) ≡ true }
+    ensures { stored_from from offset size value stack.old ≡ Ok stack.new }
 {
     stack.store(stack_place(from, offset), size, value);
 }

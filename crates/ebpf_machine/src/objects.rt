@@ -58,5 +58,6 @@ pub trait Objects {
         ensures others { AllStayBut (store.slot_of held.old) store self.old self.new };
 
     /// An object that is out has its kind's size, and is of a kind that there is.
-    ghost has_size: { (o : Self) (h : Self.Held) → store.is_out o h → (length (store.bytes_of o h) ≡ length (image_at store.kinds (store.kind_of h))) × (store.kind_of h < length store.kinds) };
+    ghost has_size: { (o : Self) (h : Self.Held) → store.is_out o h →
+        (length (store.bytes_of o h) ≡ length (image_at store.kinds (store.kind_of h))) × (store.kind_of h < length store.kinds) };
 }

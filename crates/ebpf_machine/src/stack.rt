@@ -100,8 +100,10 @@ fn keep(pointers: &mut [Option<Value<u16>>; 64], word: usize, pointer: Value<u16
 // Some bytes of these words are overwritten, so what is left of a pointer in them is unset.
 fn forget(pointers: &mut [Option<Value<u16>>; 64], set: &mut [bool; 512], place: usize, size: Size)
     requires { place + bytes_in size ≤ 512 }
-    ensures pointers { (word : ℕ) → slice_index_or pointers.new word None ≡ (if touches place (bytes_in size) word then None else slice_index_or pointers.old word None) }
-    ensures set { (i : ℕ) → i < 512 → slice_index_or set.new i false ≡ (if touches place (bytes_in size) (i / 8) && is_some (slice_index_or pointers.old (i / 8) None) then false else slice_index_or set.old i false) }
+    ensures pointers { (word : ℕ) → slice_index_or pointers.new word None ≡
+        (if touches place (bytes_in size) word then None else slice_index_or pointers.old word None) }
+    ensures set { (i : ℕ) → i < 512 → slice_index_or set.new i false ≡
+        (if touches place (bytes_in size) (i / 8) && is_some (slice_index_or pointers.old (i / 8) None) then false else slice_index_or set.old i false) }
 {
     forget_word(pointers, set, place / 8);
     forget_word(pointers, set, (place + bytes_in(size) - 1) / 8);
@@ -111,7 +113,8 @@ fn forget(pointers: &mut [Option<Value<u16>>; 64], set: &mut [bool; 512], place:
 fn forget_word(pointers: &mut [Option<Value<u16>>; 64], set: &mut [bool; 512], word: usize)
     requires { word < 64 }
     ensures pointers { (other : ℕ) → slice_index_or pointers.new other None ≡ (if other == word then None else slice_index_or pointers.old other None) }
-    ensures set { (i : ℕ) → i < 512 → slice_index_or set.new i false ≡ (if i / 8 == word && is_some (slice_index_or pointers.old word None) then false else slice_index_or set.old i false) }
+    ensures set { (i : ℕ) → i < 512 → slice_index_or set.new i false ≡
+        (if i / 8 == word && is_some (slice_index_or pointers.old word None) then false else slice_index_or set.old i false) }
 {
     if pointers[word].is_some() {
         pointers[word] = None;
@@ -123,7 +126,8 @@ fn forget_word(pointers: &mut [Option<Value<u16>>; 64], set: &mut [bool; 512], w
 fn write(bytes: &mut [u8; 512], set: &mut [bool; 512], place: usize, size: Size, n: u64)
     requires { place + bytes_in size ≤ 512 }
     ensures long { length bytes.new ≡ 512 }
-    ensures bytes { (i : ℕ) → i < 512 → slice_index_or bytes.new i 0 ≡ (if is_among place (bytes_in size) i then byte_at (i - place) n else slice_index_or bytes.old i 0) }
+    ensures bytes { (i : ℕ) → i < 512 → slice_index_or bytes.new i 0 ≡
+        (if is_among place (bytes_in size) i then byte_at (i - place) n else slice_index_or bytes.old i 0) }
     ensures set { (i : ℕ) → i < 512 → slice_index_or set.new i false ≡ (if is_among place (bytes_in size) i then true else slice_index_or set.old i false) }
 {
     match size {
@@ -139,7 +143,8 @@ fn put(bytes: &mut [u8; 512], set: &mut [bool; 512], place: usize, count: usize,
     requires inside { place + count ≤ 512 }
     requires few { count ≤ 8 }
     ensures long { length bytes.new ≡ 512 }
-    ensures bytes { (i : ℕ) → i < 512 → slice_index_or bytes.new i 0 ≡ (if is_among place count i then byte_at (i - place) n else slice_index_or bytes.old i 0) }
+    ensures bytes { (i : ℕ) → i < 512 → slice_index_or bytes.new i 0 ≡
+        (if is_among place count i then byte_at (i - place) n else slice_index_or bytes.old i 0) }
     ensures set { (i : ℕ) → i < 512 → slice_index_or set.new i false ≡ (if is_among place count i then true else slice_index_or set.old i false) }
 {
     bytes[place..place + count].copy_from_slice(&n.to_le_bytes()[..count]);

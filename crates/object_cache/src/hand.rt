@@ -44,7 +44,8 @@ impl<K: Kind, A: Ledger, B: Ledger> Model for Hand<K, A, B> {
 
     ghost view = { λ h. record { layer = h.layer; allocs = h.allocs; frees = h.frees; nulls = h.nulls } };
 
-    ghost invariant = { λ h. IsHand (record { layer = h.layer; allocs = h.allocs; frees = h.frees; nulls = h.nulls }) h.outs.parts h.outs.amount h.ins.parts h.ins.amount };
+    ghost invariant = { λ h. IsHand (record { layer = h.layer; allocs = h.allocs; frees = h.frees; nulls = h.nulls })
+        h.outs.parts h.outs.amount h.ins.parts h.ins.amount };
 }
 
 impl<K: Kind, A: Ledger, B: Ledger> Hand<K, A, B> {

@@ -110,7 +110,8 @@ impl<K: Kind, A: Ledger, B: Ledger> Inner<K, A, B> {
         ensures pages { arena.new.pages ≡ arena.old.pages }
         ensures grown { OnOk result (GrowsBy self.old.slabs self.new.slabs arena.old arena.new (4096 / K.SIZE)) }
         ensures home { OnOk result ((slot : ℕ) × IsHome self.new.slabs slot) }
-        ensures no_page { result ≡ Err TakeFault.NoSpan → ((page : ℕ) → AreFree arena.old page 1 → Has self.old.slabs page → ⊥) → (page : ℕ) → AreFree arena.old page 1 → ⊥ }
+        ensures no_page { result ≡ Err TakeFault.NoSpan →
+            ((page : ℕ) → AreFree arena.old page 1 → Has self.old.slabs page → ⊥) → (page : ℕ) → AreFree arena.old page 1 → ⊥ }
         ensures unchanged { OnErr result ((self.new.slabs ≡ self.old.slabs) × KeepsOut arena.old arena.new) }
         ensures foreign { self.new.foreign ≡ self.old.foreign }
     {

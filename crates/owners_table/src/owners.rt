@@ -176,9 +176,11 @@ impl Owners {
         // Each is 0 or the word of a mark.
         ensures marks { IfOk result (λ ws. (slot : ℕ) → slot < self.slots → IsSlotWord (slice_index ws.items slot)) }
         // A slot that one of the seats holds has the word that its list says.
-        ensures held { IfOk result (λ ws. (slot : ℕ) → Holds slot (held_by seats.items) → (slot < self.slots) × (slice_index ws.items slot ≡ word_at slot (held_by seats.items))) }
+        ensures held { IfOk result (λ ws. (slot : ℕ) → Holds slot (held_by seats.items) →
+            (slot < self.slots) × (slice_index ws.items slot ≡ word_at slot (held_by seats.items))) }
         // Where these are all the seats that were made, each word is the one in their lists, and 0 where they have none.
-        ensures words { IfOk result (λ ws. vec_len seats ≡ self.seats → (slot : ℕ) → slot < self.slots → slice_index ws.items slot ≡ word_at slot (held_by seats.items)) }
+        ensures words { IfOk result (λ ws. vec_len seats ≡ self.seats → (slot : ℕ) → slot < self.slots →
+            slice_index ws.items slot ≡ word_at slot (held_by seats.items)) }
         ensures one { IfOk result (λ ws. vec_len seats ≡ self.seats → (slot : ℕ) → slot < self.slots → HasOneOwner ws.items (held_by seats.items) slot) }
         // Where besides they hold nothing, all slots are free.
         ensures free { IfOk result (λ ws. vec_len seats ≡ self.seats → All (λ s. s.held ≡ []) seats.items → ws.items ≡ replicate self.slots 0) }

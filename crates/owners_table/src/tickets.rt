@@ -88,8 +88,10 @@ impl Tickets {
     /// seat that was told `None` before.
     pub fn draw(&self, seat: &mut TicketSeat) -> Option<u64>
         requires { IsOf self.now seat.old }
-        ensures some { IfSome result (λ n. (n < self.now.limit) × (seat.old.passed ≡ false) × (seat.new ≡ record seat.old { drawn = seat.old.drawn ++ n ∷ [] })) }
-        ensures none { IfNone result (MatchBool seat.old.passed (seat.new ≡ seat.old) ((n : ℕ) × (self.now.limit ≤ n) × (seat.new ≡ record seat.old { drawn = seat.old.drawn ++ n ∷ []; passed = true }))) }
+        ensures some { IfSome result (λ n. (n < self.now.limit) × (seat.old.passed ≡ false) ×
+            (seat.new ≡ record seat.old { drawn = seat.old.drawn ++ n ∷ [] })) }
+        ensures none { IfNone result (MatchBool seat.old.passed (seat.new ≡ seat.old)
+            ((n : ℕ) × (self.now.limit ≤ n) × (seat.new ≡ record seat.old { drawn = seat.old.drawn ++ n ∷ []; passed = true }))) }
     {
         if seat.passed {
             return None;
@@ -125,7 +127,8 @@ impl Tickets {
     pub fn close(self, seats: Vec<TicketSeat>)
         requires { All (IsOf self) seats.items }
         ensures once { NeverWraps self.limit self.seats → (x : ℕ) → times_drawn x seats.items ≤ 1 }
-        ensures each { NeverWraps self.limit self.seats → vec_len seats ≡ self.seats → Any (λ s. s.passed ≡ true) seats.items → (x : ℕ) → x < self.limit → times_drawn x seats.items ≡ 1 }
+        ensures each { NeverWraps self.limit self.seats → vec_len seats ≡ self.seats →
+            Any (λ s. s.passed ≡ true) seats.items → (x : ℕ) → x < self.limit → times_drawn x seats.items ≡ 1 }
     {
         let joined = self.joined(seats);
         let Tickets { table, limit: _ } = self;

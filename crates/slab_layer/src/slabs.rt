@@ -156,7 +156,8 @@ impl<K: Kind> Slabs<K> {
         ensures one_page { IfSome result (λ span. (pages_of span).len ≡ 1) }
         ensures had { IfSome result (λ span. Has self.old (pages_of span).first) }
         ensures idle { IfSome result (λ span. (slot : ℕ) → slot / SLOTS_OF_A_PAGE ≡ (pages_of span).first → IsOut self.old slot → ⊥) }
-        ensures lowest { IfSome result (λ span. (page : ℕ) → page < (pages_of span).first → Has self.old page → (slot : ℕ) × (slot / SLOTS_OF_A_PAGE ≡ page) × IsOut self.old slot) }
+        ensures lowest { IfSome result (λ span. (page : ℕ) → page < (pages_of span).first →
+            Has self.old page → (slot : ℕ) × (slot / SLOTS_OF_A_PAGE ≡ page) × IsOut self.old slot) }
         ensures removed { IfSome result (λ span. RemovesPage self.old self.new (pages_of span).first) }
         ensures counted { out_count self.new ≡ out_count self.old }
         ensures none { IfNone result ((page : ℕ) → Has self.old page → (slot : ℕ) × (slot / SLOTS_OF_A_PAGE ≡ page) × IsOut self.old slot) }

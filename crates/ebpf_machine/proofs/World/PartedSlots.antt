@@ -41,10 +41,6 @@ parted_count w kind slot owned reapable =
 pub parted_away : (w : World) (kind slot : ℕ) → IsOwned w → IsReapable w kind slot → is_in_ledger (with_slot_left kind slot w) slot ≡ false
 parted_away w kind slot owned reapable = none_from_count (is_in slot) (with_slot_left kind slot w).ledgers (parted_count w kind slot owned reapable)
 
--- what the ledgers say of another slot
-pub parted_others : (w : World) (kind slot s : ℕ) → s ≢ slot → is_in_ledger (with_slot_left kind slot w) s ≡ is_in_ledger w s
-parted_others w kind slot s ne = other_ledger w kind (without_slot slot (ledger_of w kind)) s (others_in s slot (ledger_of w kind) ne)
-
 parted_change : (w : World) (kind slot : ℕ) → IsOwned w → IsReapable w kind slot → IsChange w kind slot (without_slot slot (ledger_of w kind)) w.bytes
 parted_change w kind slot owned reapable = record {
   nobodys = not-true (is_owned w slot) (and_parts (is_in_ledger w slot) (not (is_owned w slot)) reapable.home).1;

@@ -1,33 +1,28 @@
 use Rattle.std.proofs.Common.{◌≡◌, List, length, ap, ◌∙◌, refl, rules, arith}
 use Rattle.std.specs.Vec.{vec_len}
-use Rattle.ebpf_verify.specs.declared.helper.Helper.TheVariants.{New}
 use Rattle.ebpf_machine.specs.World.{Kind, image_at}
 use Rattle.ebpf_machine.specs.RunState.{RunState}
 use Rattle.ebpf_machine.specs.Parts.{state_of}
-use Rattle.ebpf_machine.proofs.Instructions.Advancing.{Calls, ready_few, ready_inside, ready_told}
+use Rattle.ebpf_machine.proofs.Instructions.Advancing.{ready_few, ready_inside, ready_told}
 use Rattle.ebpf_machine.proofs.Instructions.Granting.{asking, ask_finds, ask_known, asks_room, kind_fits, kind_there, granted_state, grant_advanced, null_advanced}
-use Rattle.ebpf_machine.proofs.helpers.ask.Given.{Over}
 use Rattle.ebpf_machine.proofs.helpers.ask.Goals.{Start, After-number-kind}
 use Rattle.ebpf_machine.proofs.helpers.ask.Goals as goal
 
-calls : (g : Over) (c : Start g) → Calls (state_of c.args.parts.now) New
-calls g c = record { number = c.requires.at.0; at = c.requires.at.1; is = c.requires.at.2 }
-
 pub number-kind-requires : goal.number-kind-requires
-number-kind-requires g c = ask_finds _ _ _ c.requires.ready (calls g (goal.at.number-kind-requires g c).Start)
+number-kind-requires g c = ask_finds _ _ _ c.requires.ready c.requires.at
 
 pub overflow_cast-kind : goal.overflow_cast-kind
-overflow_cast-kind g c = let fits = (kind_fits _ _ _ _ (asking _ _ _ _ c.requires.ready (calls g (goal.at.overflow_cast-kind g c).Start) c.number-kind.ensures)).1 in search rules
+overflow_cast-kind g c = let fits = (kind_fits _ _ _ _ (asking _ _ _ _ c.requires.ready c.requires.at c.number-kind.ensures)).1 in search rules
 
 pub take-requires-clause-at : goal.take-requires-clause-at
 take-requires-clause-at g c = ready_inside _ _ _ c.requires.ready
 
 pub take-requires-clause-kind : goal.take-requires-clause-kind
-take-requires-clause-kind g c = kind_there _ _ _ g.O.Objects.store.kinds _ (asking _ _ _ _ c.requires.ready (calls g (goal.at.take-requires-clause-kind g c).Start) c.number-kind.ensures) c.requires.kinds
+take-requires-clause-kind g c = kind_there _ _ _ g.O.Objects.store.kinds _ (asking _ _ _ _ c.requires.ready c.requires.at c.number-kind.ensures) c.requires.kinds
 
 pub hold-requires-clause-held : goal.hold-requires-clause-held
 hold-requires-clause-held g c =
-    let asks = asking _ _ _ _ c.requires.ready (calls g (goal.at.hold-requires-clause-held g c).Start) c.number-kind.ensures in
+    let asks = asking _ _ _ _ c.requires.ready c.requires.at c.number-kind.ensures in
     asks_room _ _ _ _ asks (ask_known _ _ _ _ asks)
 
 pub hold-requires-clause-replies : goal.hold-requires-clause-replies
@@ -53,12 +48,12 @@ answer-requires-in-None-clause-inside g c = ready_inside _ _ _ c.requires.ready
 
 pub returns-in-Some-clause-advanced : goal.returns-in-Some-clause-advanced
 returns-in-Some-clause-advanced g c =
-    let asks = asking _ _ _ _ c.requires.ready (calls g (goal.at.returns-in-Some-clause-advanced g c).Start) c.number-kind.ensures in
+    let asks = asking _ _ _ _ c.requires.ready c.requires.at c.number-kind.ensures in
     rw (granted_state (state_of c.args.parts.now) (state_of c.hold.new.parts) (state_of c.answer.new.parts) _ _ refl c.hold.ensures.state c.answer.ensures.state)
     (grant_advanced _ _ _ _ _ asks (ask_known _ _ _ _ asks) refl (record { can = c.in-Some.ensures.granted; out = c.in-Some.ensures.out; apart = c.in-Some.ensures.apart; image = c.in-Some.ensures.image ∙ ap (λ (ks : List Kind). image_at ks c.number-kind.result) c.requires.kinds; counts = c.in-Some.ensures.granted_count; outs = c.in-Some.ensures.outs_granted; kept = c.take.ensures.others }))
 
 pub returns-in-None-clause-advanced : goal.returns-in-None-clause-advanced
 returns-in-None-clause-advanced g c =
-    let asks = asking _ _ _ _ c.requires.ready (calls g (goal.at.returns-in-None-clause-advanced g c).Start) c.number-kind.ensures in
+    let asks = asking _ _ _ _ c.requires.ready c.requires.at c.number-kind.ensures in
     rw (c.answer-in-None.ensures.state, c.push_reserved.ensures.items)
     (null_advanced _ _ _ _ _ asks (ask_known _ _ _ _ asks) (record { can = c.in-None.ensures.refused; counts = c.in-None.ensures.refused_count; outs = c.in-None.ensures.outs_refused; kept = c.take.ensures.others }))

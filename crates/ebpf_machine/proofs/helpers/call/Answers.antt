@@ -1,13 +1,14 @@
 use Rattle.std.proofs.Common.{Some, ap, ◌∙◌}
 use Rattle.ebpf_verify.specs.declared.helper.Helper.TheVariants.{Emit}
+use Rattle.ebpf_machine.specs.RunState.{Calls}
 use Rattle.ebpf_machine.specs.Parts.{state_of}
-use Rattle.ebpf_machine.proofs.Instructions.Advancing.{Calls, ready_few, ready_inside, ready_emits, emit_finds, emit_advanced}
+use Rattle.ebpf_machine.proofs.Instructions.Advancing.{ready_few, ready_inside, ready_emits, emit_finds, emit_advanced}
 use Rattle.ebpf_machine.proofs.helpers.call.Given.{Over}
 use Rattle.ebpf_machine.proofs.helpers.call.Goals.{In-Emit}
 use Rattle.ebpf_machine.proofs.helpers.call.Goals as goal
 
 calls : (g : Over) (c : In-Emit g) → Calls (state_of c.args.parts.now) Emit
-calls g c = record { number = c.requires.at.0; at = c.requires.at.1; is = c.requires.at.2 ∙ ap Some c.in-Emit.is }
+calls g c = record { number = c.requires.at.number; at = c.requires.at.at; is = c.requires.at.is ∙ ap Some c.in-Emit.is }
 
 pub number-requires : goal.number-requires
 number-requires g c = emit_finds _ _ _ c.requires.ready (calls g (goal.at.number-requires g c).In-Emit)

@@ -1,22 +1,17 @@
 use Rattle.std.proofs.Common.{◌≡◌, ◌+◌, ◌<◌, List, length, get_or, ap, ◌∙◌, subst}
-use Rattle.ebpf_verify.specs.declared.helper.Helper.TheVariants.{Free}
 use Rattle.ebpf_machine.specs.declared.holding.Holding.{Holding}
 use Rattle.ebpf_machine.specs.declared.value.Value.TheVariants.{Number}
 use Rattle.ebpf_machine.specs.Parts.{state_of}
-use Rattle.ebpf_machine.proofs.Instructions.Advancing.{Calls, registers_answered, ready_few, ready_inside}
+use Rattle.ebpf_machine.proofs.Instructions.Advancing.{registers_answered, ready_few, ready_inside}
 use Rattle.ebpf_machine.proofs.Instructions.Returning.{free_object, free_held, free_here}
-use Rattle.ebpf_machine.proofs.helpers.give_back.Given.{Over}
 use Rattle.ebpf_machine.proofs.helpers.give_back.Goals.{Start}
 use Rattle.ebpf_machine.proofs.helpers.give_back.Goals as goal
 
-calls : (g : Over) (c : Start g) → Calls (state_of c.args.parts.now) Free
-calls g c = record { number = c.requires.at.0; at = c.requires.at.1; is = c.requires.at.2 }
-
 pub object-requires : goal.object-requires
-object-requires g c = free_object _ _ _ c.requires.ready (calls g (goal.at.object-requires g c).Start)
+object-requires g c = free_object _ _ _ c.requires.ready c.requires.at
 
 pub place_of-place-requires : goal.place_of-place-requires
-place_of-place-requires g c = free_held _ _ _ c.deref.result.now c.object.result c.requires.ready (calls g (goal.at.place_of-place-requires g c).Start) c.object.ensures c.deref.ensures.value
+place_of-place-requires g c = free_held _ _ _ c.deref.result.now c.object.result c.requires.ready c.requires.at c.object.ensures c.deref.ensures.value
 
 pub answer-requires-clause-few : goal.answer-requires-clause-few
 answer-requires-clause-few g c = ready_few _ _ _ c.requires.ready
@@ -29,5 +24,5 @@ returns-clause-advanced g c =
     let items = c.deref.ensures.value in
     let inside : c.place_of-place.result < length c.args.parts.now.held.items = subst (λ (hs : List (Holding _)). c.place_of-place.result < length hs) items c.place_of-place.ensures.inside in
     let named : (get_or c.args.parts.now.held.items c.place_of-place.result c.remove-kind.result).call ≡ c.object.result = subst (λ (hs : List (Holding _)). (get_or hs c.place_of-place.result c.remove-kind.result).call ≡ c.object.result) items (c.place_of-place.ensures.value c.remove-kind.result) in
-    free_here _ (state_of c.args.parts.now) (state_of c.answer.new.parts) c.place_of-place.result c.object.result c.remove-kind.result c.args.objects.now c.give.new.self c.requires.ready (calls g (goal.at.returns-clause-advanced g c).Start) c.object.ensures inside c.remove-kind.ensures.value named
+    free_here _ (state_of c.args.parts.now) (state_of c.answer.new.parts) c.place_of-place.result c.object.result c.remove-kind.result c.args.objects.now c.give.new.self c.requires.ready c.requires.at c.object.ensures inside c.remove-kind.ensures.value named
     (c.answer.ensures.state ∙ ap (λ (hs : List (Holding _)). record (state_of c.args.parts.now) { held = hs; pc = c.args.parts.now.pc + 1; registers = registers_answered c.args.parts.now.registers (Number 0); executed = c.args.parts.now.executed + 1 }) c.remove-kind.ensures.items) (record { back = c.give.ensures.back; others = c.give.ensures.others; counts = c.give.ensures.counts; outs = c.give.ensures.outs })
