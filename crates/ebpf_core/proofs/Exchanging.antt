@@ -6,7 +6,7 @@ use Rattle.std.proofs.lemmas.List.{length-map}
 use Rattle.std.proofs.lemmas.List.Elements.{All-contains}
 use Rattle.std.proofs.lemmas.List.Sums.{sum_by-cons}
 use Rattle.ebpf_machine.specs.declared.holding.Holding.{Holding}
-use Rattle.ebpf_machine.specs.World.{Name, World, Owner, Going, kind_in, ledger_of, is_in, held_by, name_of}
+use Rattle.ebpf_machine.specs.World.{Name, World, kind_in, ledger_of, is_in, name_of}
 use Rattle.ebpf_machine.specs.View.{ObjectView, stepped}
 use Rattle.ebpf_machine.specs.RunState.{RunState, object_seen, status_of}
 use Rattle.ebpf_machine.specs.Step as step
@@ -23,7 +23,7 @@ use Rattle.ebpf_core.specs.declared.place.Place.{Place}
 use Rattle.ebpf_core.specs.declared.place.Place.TheVariants.{Home, Held}
 use Rattle.ebpf_core.specs.Events.{answer_of}
 use Rattle.ebpf_core.specs.Passing.{IsOut, out_of_kind}
-use Rattle.ebpf_core.specs.Places.{Places, place_at, IsHome, IsLendable, object_home, lent_by, place_lent}
+use Rattle.ebpf_core.specs.Places.{Places, place_at, object_home, lent_by, place_lent}
 use Rattle.ebpf_core.specs.Shown.{WorldState, Shows, IsTended, ArePlaced, IsPlaced, IsAtHome, run_seen, slots_of}
 use Rattle.ebpf_core.specs.Stepping.{slot_code, code_by, IsNewObject, CanLend}
 use Rattle.ebpf_core.proofs.Executing.{IsInstruction, answered, executed_after, sized_tended}

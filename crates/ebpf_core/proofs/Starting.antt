@@ -16,7 +16,7 @@ use Rattle.ebpf_machine.specs.Sound.{IsSound}
 use Rattle.ebpf_machine.proofs.Lists.ListLemmas.{get_push, get_push_cases}
 use Rattle.ebpf_machine.proofs.World.Owned.{owned_started}
 use Rattle.ebpf_core.specs.declared.fault.ApplyCode.{ApplyCode}
-use Rattle.ebpf_core.specs.declared.fault.ApplyCode.TheVariants.{E9, E10}
+use Rattle.ebpf_core.specs.declared.fault.ApplyCode.TheVariants.{E10}
 use Rattle.ebpf_core.specs.declared.passing.Object.{Object}
 use Rattle.ebpf_core.specs.declared.place.Place.{Place}
 use Rattle.ebpf_core.specs.declared.place.Place.TheVariants.{Home, Held}

@@ -8,7 +8,7 @@ use Rattle.ebpf_machine.specs.Events.{Illegal}
 use Rattle.ebpf_core.specs.declared.event.Event.{Event}
 use Rattle.ebpf_core.specs.declared.fault.ApplyCode.{ApplyCode}
 use Rattle.ebpf_core.specs.declared.fault.ApplyFault.TheVariants.{Bad}
-use Rattle.ebpf_core.specs.Events.{first_world, happened}
+use Rattle.ebpf_core.specs.Events.{happened}
 use Rattle.ebpf_core.specs.Faults.{code_of}
 use Rattle.ebpf_core.specs.Shown.{WorldState, Shows, IsDone, IsRefused}
 use Rattle.ebpf_core.specs.Replay.{and_then, world_after_from, world_after, IsReplayed}

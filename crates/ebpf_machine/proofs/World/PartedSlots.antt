@@ -9,7 +9,7 @@ use Rattle.ebpf_machine.specs.Events.{without_slot, with_slot_left}
 use Rattle.ebpf_machine.specs.View.{view_of}
 use Rattle.ebpf_machine.specs.Sound.{IsOwned}
 use Rattle.ebpf_machine.proofs.Lists.ListLemmas.{none_from_count}
-use Rattle.ebpf_machine.proofs.World.LedgerChanges.{IsChange, other_ledger, owned_changed, view_changed}
+use Rattle.ebpf_machine.proofs.World.LedgerChanges.{IsChange, owned_changed, view_changed}
 
 -- ---- a ledger without a slot
 
