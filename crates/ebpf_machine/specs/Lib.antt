@@ -16,5 +16,6 @@ pub mod Sound
 pub mod Step
 pub mod Flows
 pub mod Turns
+pub mod Whole
 pub mod Parts
 pub mod Advance

@@ -5,7 +5,7 @@
 //! world of many runs, one event of it, and a run alone in a world of its own.
 //!
 //! To be read in this order: `value`, `kinds`, `objects`, `holding`, `number`, `stack`, `memory`, `execute`,
-//! `report`, `parts`, `helpers`, `advance`, `run`.
+//! `report`, `parts`, `helpers`, `advance`, `run`, `whole`.
 #![tactic(auto)]
 
 mod advance;
@@ -21,3 +21,4 @@ pub mod report;
 pub mod run;
 mod stack;
 pub mod value;
+pub mod whole;

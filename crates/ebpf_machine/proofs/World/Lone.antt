@@ -14,6 +14,7 @@ use Rattle.ebpf_machine.specs.Effect.{Nothing, Write, Ask, Free, Effect, Goes, E
 use Rattle.ebpf_machine.specs.World.{Answer, Absent, Null, Slot, World, Running, AnsweredCall, Status, Going, Exited, Trapped, is_in, is_in_ledger, held_by, holds_of, first_run}
 use Rattle.ebpf_machine.specs.Events.{Asking, Unasked, OfNoKind, OfKind, answer_fault, asking_of, with_slot_joined, exec}
 use Rattle.ebpf_machine.specs.Alone.{Alone, Fed, fed, fed_to, advanced, alone_first, alone_by, alone_next, alone_after, outcome_of, outcome_alone, Replies, replies_from, replies_of}
+use Rattle.ebpf_machine.specs.Whole.{answers_to, answers_in, told_alone}
 use Rattle.ebpf_machine.specs.View as view
 use Rattle.ebpf_machine.specs.View.{RunView, object_in, view_of, view_in, done_by, effect_of_view, stepped, CallResult, reply_in}
 use Rattle.ebpf_machine.specs.Step.{reply_of, asking_in}
@@ -418,16 +419,23 @@ ended_after (suc k) m subject context replies h n ended =
     let e : suc k + m ≡ suc (k + m) = omega arith in
     rw (e, before) (ended_next (alone_after m subject context replies) replies h n ended)
 
+-- the run alone is in the end where a run that exited is
+exited_after : (v : RunView) (n : ℕ) → IsSound v → IsAlone v → v.status ≡ Exited n
+    → alone_after (length (instructions v.subject.program)) v.subject v.context (replies_of v) ≡ alone_after v.executed v.subject v.context (replies_of v)
+exited_after v n sound alone ended =
+    let h = seen_alone v sound alone in
+    let few = bounded v sound in
+    let rest = length (instructions v.subject.program) - v.executed in
+    let all : length (instructions v.subject.program) ≡ rest + v.executed = omega (arith, few) in
+    ap (λ (m : ℕ). alone_after m v.subject v.context (replies_of v)) all ∙ ended_after rest v.executed v.subject v.context (replies_of v) h.lone n (alone_status v h (Exited n) ended)
+
 -- the outcome of the run alone is that of a run that exited, whatever replies are behind those that it was told
 pub outcome_exited : (v : RunView) (n : ℕ) → IsSound v → IsAlone v → v.status ≡ Exited n → (more : List Reply)
     → outcome_alone v.subject v.context (more_than (replies_of v) more) ≡ record { status = Exited n; output = v.frame.output; executed = v.executed; peak = (alone_after v.executed v.subject v.context (replies_of v)).peak }
 outcome_exited v n sound alone ended more =
     let h = seen_alone v sound alone in
     let a = alone_after v.executed v.subject v.context (replies_of v) in
-    let few = bounded v sound in
-    let rest = length (instructions v.subject.program) - v.executed in
-    let all : length (instructions v.subject.program) ≡ rest + v.executed = omega (arith, few) in
-    let stays = ap (λ (m : ℕ). alone_after m v.subject v.context (replies_of v)) all ∙ ended_after rest v.executed v.subject v.context (replies_of v) h.lone n (alone_status v h (Exited n) ended) in
+    let stays = exited_after v n sound alone ended in
     let fits : told_of (alone_after (length (instructions v.subject.program)) v.subject v.context (replies_of v)) ≤ length v.replies = omega (arith, ap told_of stays, all_told v alone) in
     ap outcome_of (after_unread (length (instructions v.subject.program)) v.subject v.context (replies_of v) more sound.accepted sound.context fits ∙ stays) ∙ outcome_seen a v n h.lone.run h.lone.only h.seen ended
   where
@@ -437,3 +445,9 @@ outcome_exited v n sound alone ended more =
         let output : r.frame.output ≡ v.frame.output = ap (λ (u : RunView). u.frame.output) same in
         let executed : r.executed ≡ v.executed = ap (λ (u : RunView). u.executed) same in
         rw (only, status, output, executed) refl
+
+-- it was told just the replies of that run
+pub told_exited : (v : RunView) (n : ℕ) → IsSound v → IsAlone v → v.status ≡ Exited n → told_alone v.subject v.context (replies_of v) ≡ v.replies
+told_exited v n sound alone ended =
+    let h = seen_alone v sound alone in
+    ap answers_in (exited_after v n sound alone ended) ∙ ap answers_to (there_is (alone_after v.executed v.subject v.context (replies_of v)) h.lone) ∙ ap (λ (u : RunView). u.replies) h.seen

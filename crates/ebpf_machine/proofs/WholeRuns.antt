@@ -1,0 +1,4 @@
+-- A whole run over a store: its start, what it is told on its way, and its end.
+pub mod Told
+pub mod Starts
+pub mod Ends

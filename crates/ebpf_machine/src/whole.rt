@@ -1,0 +1,43 @@
+//! A run as a whole, from its start to its exit.
+
+ghost use Rattle.std.specs.Prelude.{◌≡◌, ◌+◌, ℕ, length, IfOk, IfErr, OnOk, OnErr};
+ghost use Rattle.ebpf_machine.specs.World.{kinds_of};
+ghost use Rattle.ebpf_machine.specs.Turns.{IsStartFault};
+ghost use Rattle.ebpf_machine.specs.Whole.{IsReportOf, granted, refused};
+
+use crate::objects::Objects;
+use crate::report::Report;
+use crate::run::{Run, StartFault, Turn};
+use ebpf_verify::verified::Verified;
+use std::alloc::Global;
+
+/// Runs an accepted program on a context to its exit, with the objects of a store.
+///
+/// The store has to have room for an object in each of its states, since the run gives back what it took.
+///
+/// # Errors
+/// As [`Run::start`]: `ContextLength` where the context doesn't have the declared length; `NoMemory` where an allocation of
+/// the run failed. The context is gone then. A store that has no memory answers null.
+pub fn run_to_exit<O: Objects>(
+    alloc: Global,
+    verified: &Verified,
+    context: Vec<u8>,
+    objects: &mut O,
+) -> Result<Report, StartFault>
+    requires kinds { O.store.kinds ≡ kinds_of verified.now.rows }
+    requires room { (store : O) → O.store.can_give store }
+    // The report is that of the run alone with the report's answers, and it exited.
+    ensures report { IfOk result (IsReportOf verified.now context.items) }
+    // What the store granted and refused is what the report's answers say.
+    ensures granted { IfOk result (λ r. O.store.grants objects.new ≡ O.store.grants objects.old + granted r.answers) }
+    ensures nulls { IfOk result (λ r. O.store.nulls objects.new ≡ O.store.nulls objects.old + refused r.answers) }
+    // Of each kind as many are out as before.
+    ensures outs { (k : ℕ) → O.store.outs objects.new k ≡ O.store.outs objects.old k }
+    ensures length { OnOk result (length context.items ≡ verified.now.decl.context) }
+    ensures refused { IfErr result (IsStartFault (length context.items) verified.now.decl.context) }
+    ensures unchanged { OnErr result (objects.new ≡ objects.old) }
+{
+    let mut run = Run::<O::Held>::start(alloc, verified, context)?;
+    'running: while let Turn::Went = run.step(objects) {}
+    Ok(run.finish(objects))
+}
