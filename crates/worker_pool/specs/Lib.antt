@@ -1,0 +1,3 @@
+pub mod Object
+pub mod Claims
+pub mod Counts

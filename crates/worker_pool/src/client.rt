@@ -1,0 +1,59 @@
+//! The client of all caches that a worker is.
+
+ghost use Rattle.std.specs.Prelude.{◌≡◌, ◌≤◌, ◌+◌, ◌==◌, [], ℕ, count_by};
+ghost use Rattle.worker_pool.specs.Claims.{lost};
+
+use crate::before::Before;
+use object_cache::ArenaLock;
+use owners_table::owners::{OwnerSeat, Owners};
+use std::marker::PhantomData;
+use std::sync::Wait;
+
+/// What a worker needs to take objects of any kind, and to claim their slots for the job that it does.
+///
+/// The seat has each slot once at most. Of the claims that it noted, those found an owner that had done so before, and those
+/// that are counted as clashes.
+pub struct Client<'a, N: Before, R: Wait> {
+    pub(crate) rt: &'a R,
+    pub(crate) arena: &'a ArenaLock,
+    pub(crate) owners: &'a Owners,
+    pub(crate) seat: OwnerSeat,
+    /// The number of the job that is being done.
+    pub(crate) job: u32,
+    /// How many objects went back since their slots had an owner.
+    pub(crate) clashes: u64,
+    // A reference, since the borrow checker takes no `PhantomData<N>` beside a lifetime where a callee's signature names
+    // `'static`.
+    pub(crate) before: PhantomData<&'a N>,
+    ghost slots: { owners.now.slots ≡ 65536 },
+    ghost table: { seat.table ≡ owners.now.table },
+    ghost once: { (slot : ℕ) → count_by (λ e. e.0 == slot) seat.held ≤ 1 },
+    ghost clashed: { lost seat.notes ≡ N.lost + clashes },
+}
+
+impl<'a, N: Before, R: Wait> Client<'a, N, R> {
+    /// A client with a seat that holds nothing, before its first job.
+    pub(crate) fn new(
+        rt: &'a R,
+        arena: &'a ArenaLock,
+        owners: &'a Owners,
+        seat: OwnerSeat,
+    ) -> Client<'a, N, R>
+        requires slots { owners.now.slots ≡ 65536 }
+        requires table { seat.table ≡ owners.now.table }
+        requires empty { seat.held ≡ [] }
+        requires lost { lost seat.notes ≡ N.lost }
+        ensures seat { result.seat ≡ seat }
+        ensures none { result.clashes ≡ 0 }
+    {
+        Client {
+            rt,
+            arena,
+            owners,
+            seat,
+            job: 0,
+            clashes: 0,
+            before: PhantomData,
+        }
+    }
+}
