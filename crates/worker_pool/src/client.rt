@@ -25,8 +25,9 @@ pub struct Client<'a, N: Before, R: Wait> {
     // A reference, since the borrow checker takes no `PhantomData<N>` beside a lifetime where a callee's signature names
     // `'static`.
     pub(crate) before: PhantomData<&'a N>,
-    ghost slots: { owners.now.slots ≡ 65536 },
-    ghost table: { seat.table ≡ owners.now.table },
+    ghost slots: { 65536 ≤ owners.now.slots },
+    ghost table: { owners.now.table ≡ N.table },
+    ghost seated: { seat.table ≡ N.table },
     ghost once: { (slot : ℕ) → count_by (λ e. e.0 == slot) seat.held ≤ 1 },
     ghost clashed: { lost seat.notes ≡ N.lost + clashes },
 }
@@ -39,8 +40,9 @@ impl<'a, N: Before, R: Wait> Client<'a, N, R> {
         owners: &'a Owners,
         seat: OwnerSeat,
     ) -> Client<'a, N, R>
-        requires slots { owners.now.slots ≡ 65536 }
-        requires table { seat.table ≡ owners.now.table }
+        requires slots { 65536 ≤ owners.now.slots }
+        requires table { owners.now.table ≡ N.table }
+        requires seated { seat.table ≡ N.table }
         requires empty { seat.held ≡ [] }
         requires lost { lost seat.notes ≡ N.lost }
         ensures seat { result.seat ≡ seat }

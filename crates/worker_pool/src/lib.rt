@@ -19,5 +19,3 @@ mod count;
 mod object;
 mod stock;
 mod store;
-
-pub use object::Object;

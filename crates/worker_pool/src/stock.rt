@@ -32,8 +32,10 @@ impl<'a, K: Kind, A: Ledger, B: Ledger> Stock<'a, K, A, B> {
     ) -> Option<Obj<K, Held>>
         requires { at < WORDS_OF_A_RUN }
         ensures image { IfSome result (λ o. o.bytes.items ≡ replicate K.SIZE K.FILL) }
-        ensures granted { IfSome result (λ o. IsGranted o.slot (mark_word client.old.job at) self.old.hand self.new.hand client.old.seat client.new.seat client.old.clashes client.new.clashes) }
-        ensures refused { IfNone result (IsRefused self.old.hand self.new.hand client.old.seat client.new.seat client.old.clashes client.new.clashes) }
+        ensures granted { IfSome result (λ o. IsGranted o.slot (mark_word client.old.job at)
+            self.old.hand self.new.hand client.old.seat client.new.seat client.old.clashes client.new.clashes) }
+        ensures refused { IfNone result (IsRefused
+            self.old.hand self.new.hand client.old.seat client.new.seat client.old.clashes client.new.clashes) }
         ensures job { client.new.job ≡ client.old.job }
     {
         let object = match self.hand.take(client.rt, self.cache, client.arena) {
@@ -59,7 +61,8 @@ impl<'a, K: Kind, A: Ledger, B: Ledger> Stock<'a, K, A, B> {
         object: Obj<K, Held>,
     )
         requires { Holds object.slot client.old.seat.held }
-        ensures given { IsGiven object.slot self.old.hand self.new.hand client.old.seat client.new.seat client.old.clashes client.new.clashes }
+        ensures given { IsGiven object.slot
+            self.old.hand self.new.hand client.old.seat client.new.seat client.old.clashes client.new.clashes }
         ensures job { client.new.job ≡ client.old.job }
     {
         client.owners.release(&mut client.seat, object.slot());

@@ -8,7 +8,8 @@ invariant_of-client g c =
     let client = c.args.client.now in
     let after = released c.slot.result client.seat c.release.new.seat c.release.ensures in record {
       slots = client.slots;
-      table = after.0 ∙ client.table;
+      table = client.table;
+      seated = after.0 ∙ client.seated;
       once = once_released _ _ client.seat.held _ c.slot.ensures after.1.0 c.requires client.once;
       clashed = after.1.1 ∙ client.clashed;
     }

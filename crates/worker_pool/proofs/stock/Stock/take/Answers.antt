@@ -9,7 +9,8 @@ invariant_of-client g c =
     let client = c.args.client.now in
     let claim = c.in_default.ensures in record {
       slots = client.slots;
-      table = claim.table ∙ client.table;
+      table = client.table;
+      seated = claim.table ∙ client.seated;
       once = once_claimed _ _ client.seat.held _ claim.ok.0 claim.own client.once;
       clashed = ap lost claim.ok.1 ∙ (lost_as_before _ client.seat.notes ∙ client.clashed);
     }
@@ -24,7 +25,8 @@ invariant_of-client-2 g c =
     let client = c.args.client.now in
     let claim = c.in-Err-claim.ensures in record {
       slots = client.slots;
-      table = claim.table ∙ client.table;
+      table = client.table;
+      seated = claim.table ∙ client.seated;
       once = once_same client.seat.held _ claim.taken.0 client.once;
       clashed = lost_one_more _ _ _ _ _ client.seat.notes _ claim.taken.1 c.count.ensures client.clashed;
     }
