@@ -1,4 +1,7 @@
-pub mod Joins
-pub mod Tables
+pub mod Bits
+pub mod Places
+pub mod Tiling
+pub mod Outs
 pub mod Runs
+pub mod Listing
 pub mod Steps

@@ -1,28 +1,29 @@
-//! The arena: one list of segments.
+//! The arena: a table of tags, and the free segments by size.
 //!
 //! *The idea* (Bonwick and Adams 2001, "Vmem"). A resource of numbered pages is cut into segments: runs of
-//! pages that are all free, or that one span has. The segments stand in one list in the order of their pages,
-//! free ones and those that are out alike. To take a span is to cut it off an end of a free segment; to give
-//! one back is to mark its segment as free and to merge it with the neighbours in the list that are free. The
-//! neighbours are next in the list, so no search for them is needed.
+//! pages that are all free, or that one span has. To take a span is to cut it off the lower end of a free
+//! segment, found by its size; to give one back is to mark its segment as free and to merge it with the
+//! neighbours that are free, found by the tags at its ends.
 //!
 //! *The invariant.* The segments tile the arena: the first begins at page 0, each next one where the one
-//! before it ends, and the last ends with the last page. Each has a page at least. No two neighbours are free.
+//! before it ends, and the last ends with the last page. Each has a page at least, and its tag says how long
+//! the one before it is. No two neighbours are free. Each free segment is listed in the class of its length,
+//! and nothing else is.
 //!
 //! *The reason.* Since the segments tile the arena, a page is free or out and never both, and each span that
-//! is out stands in the list by itself: so the arena can tell by its pages whether a span is out. Since free
+//! is out is a segment by itself: so the arena can tell by its pages whether a span is out. Since free
 //! neighbours are merged at once, a run of free pages always lies inside one segment: so a span that would fit
-//! is found by looking at each segment alone, and a refusal means that it fits nowhere. Since each segment has
-//! a page, there are never more segments than pages: so a table made for as many never has to grow.
-//!
-//! Vmem keeps the free segments in lists by size as well, for arenas of millions of segments. With 256 at most
-//! one walk along the list costs less than keeping them.
+//! fits in a segment, and a refusal means that it fits nowhere. Since every free segment is in the class of its
+//! length, that segment is found without a walk over the others. The tables are as long as the arena from the
+//! first, so none has to grow.
 
 ghost use Rattle.std.specs.Prelude.{◌≡◌, ◌≢◌, ℕ, ◌+◌, ◌<◌, ◌≤◌, ◌↔◌, ◌⊎◌, [], ◌∷◌, true, false, Contains, IsPermutation, IfOk, IfErr, OnErr, OnOk, IsTrue};
 ghost use Rattle.vmem_arena.specs.Spans.{AreFree, pages_of};
 
+use crate::classes::Classes;
 use crate::fault::{ArenaFault, NoSpan};
-use crate::segment::{Segment, first_fit, insert_reserved, join, longest_free, place_out};
+use crate::fit::{fit, longest};
+use crate::segment::Table;
 use crate::span::Span;
 use std::alloc::Global;
 use std::marker::Model;
@@ -33,22 +34,23 @@ pub const MAX_PAGES: u32 = 256;
 /// Page numbers from 0 up, some of them in spans that are out.
 #[derive(Drop)]
 pub struct Arena {
-    segments: Vec<Segment>,
-    pages: u32,
+    table: Table,
+    classes: Classes,
 }
 
 impl Model for Arena {
-    ghost use Rattle.std.specs.Prelude.{◌≤◌, vec_capacity};
+    ghost use Rattle.std.specs.Prelude.{◌≤◌, length};
     ghost use Rattle.vmem_arena.specs.declared.arena.TheConstants.{MAX_PAGES};
     ghost use Rattle.vmem_arena.specs.Spans.{Spans};
 
     ghost Value = { Spans };
 
     ghost use Rattle.vmem_arena.specs.Segments.{outs, IsTable};
+    ghost use Rattle.vmem_arena.specs.Classes.{IsListed};
 
-    ghost view = { λ a. record { pages = a.pages; out = outs a.segments.items } };
+    ghost view = { λ a. record { pages = length a.table; out = outs 0 a.table } };
 
-    ghost invariant = { λ a. (IsTable a.segments.items a.pages) × (a.pages ≤ MAX_PAGES) × (a.pages ≤ vec_capacity a.segments) };
+    ghost invariant = { λ a. (IsTable a.table) × (IsListed a.classes a.table) × (length a.table ≤ MAX_PAGES) };
 }
 
 impl Arena {
@@ -60,19 +62,16 @@ impl Arena {
         if pages == 0 || pages > MAX_PAGES {
             return Err(ArenaFault::Pages);
         }
-        let Ok(mut segments) = Vec::with_capacity(alloc, pages as usize) else {
+        let Ok(table) = Table::new(alloc, pages) else {
             return Err(ArenaFault::NoMemory);
         };
-        segments.push_reserved(Segment {
-            first: 0,
-            len: pages,
-            is_free: true,
-        });
-        Ok(Arena { segments, pages })
+        let mut classes = Classes::new();
+        classes.insert(0, pages);
+        Ok(Arena { table, classes })
     }
 
-    /// Takes `n` neighbouring pages, off the lower end of the lowest free segment that has as many. It takes
-    /// no memory, and refuses exactly where no `n` neighbouring pages are free; then nothing changed.
+    /// Takes `n` neighbouring pages, off the lower end of a free segment that has as many. It takes no memory,
+    /// and refuses exactly where no `n` neighbouring pages are free; then nothing changed.
     pub fn take(&mut self, n: u32) -> Result<Span, NoSpan>
         requires { 0 < n }
         ensures pages { self.new.pages ≡ self.old.pages }
@@ -86,29 +85,14 @@ impl Arena {
         ensures none { OnErr result ((first : ℕ) → AreFree self.old first n → ⊥) }
         ensures unchanged { OnErr result (self.new ≡ self.old) }
     {
-        let Some(i) = first_fit(&self.segments, n) else {
+        let Some(first) = fit(&self.table, &self.classes, n) else {
             return Err(NoSpan);
         };
-        let segment = self.segments[i];
-        let span = Segment {
-            first: segment.first,
-            len: n,
-            is_free: false,
-        };
-        if segment.len == n {
-            self.segments[i] = span;
-        } else {
-            self.segments[i] = Segment {
-                first: segment.first + n,
-                len: segment.len - n,
-                is_free: true,
-            };
-            insert_reserved(&mut self.segments, i, span);
-        }
-        Ok(Span {
-            first: segment.first,
-            len: n,
-        })
+        let len = self.table.free_at(first as usize);
+        self.classes.remove(first, len);
+        self.table.cut(first as usize, n, len - n);
+        self.classes.insert(first + n, len - n);
+        Ok(Span { first, len: n })
     }
 
     /// Takes a span back: true exactly where it was out of this arena. Its pages are then free, one segment
@@ -120,18 +104,16 @@ impl Arena {
         ensures unchanged { result ≡ false → self.new ≡ self.old }
     {
         let Span { first, len } = span;
-        let Some(i) = place_out(&self.segments, first, len) else {
+        let at = first as usize;
+        if !self.table.is_out(at, len) {
             return false;
-        };
-        self.segments[i] = Segment {
-            first,
-            len,
-            is_free: true,
-        };
-        join(&mut self.segments, i);
-        if i > 0 {
-            join(&mut self.segments, i - 1);
         }
+        let low = self.table.free_at(at - self.table.before(at) as usize);
+        let high = self.table.free_at(at + len as usize);
+        self.classes.remove(first - low, low);
+        self.classes.remove(first + len, high);
+        self.table.merge(at, low, len, high);
+        self.classes.insert(first - low, low + len + high);
         true
     }
 
@@ -140,6 +122,6 @@ impl Arena {
         ensures reached { (first : ℕ) × AreFree self.now first result }
         ensures longest { (first n : ℕ) → AreFree self.now first n → n ≤ result }
     {
-        longest_free(&self.segments)
+        longest(&self.table, &self.classes)
     }
 }

@@ -9,9 +9,12 @@
 #![tactic(auto)]
 
 mod arena;
+mod classes;
 mod fault;
+mod fit;
 mod segment;
 mod span;
+mod word;
 
 pub use arena::{Arena, MAX_PAGES};
 pub use fault::{ArenaFault, NoSpan};

@@ -1,99 +1,145 @@
-//! Segments, and the four things that an arena does with a list of them.
+//! Segments, as the pages' tags tell of them.
 //!
-//! *The idea* (Bonwick and Adams 2001, "Vmem"). A segment is a run of pages that share one fate: all are free,
-//! or all are out in one span. The boundary between two segments is where a span begins or ends.
+//! *The idea* (Bonwick and Adams 2001, "Vmem": boundary tags). A segment is a run of pages that share one fate:
+//! all are free, or all are out in one span. The tag of its first page says how many pages it has, and how many
+//! the segment before it has. So from a segment its two neighbours are found with no walk.
 //!
-//! *The invariant.* Each function here keeps the pages of the list as they are: it looks, merges two
-//! neighbours, or puts one in. What the list as a whole keeps stands in the arena.
+//! *The invariant.* A page at which no segment begins has the tag [`INSIDE`]. What the table keeps as a whole
+//! stands in the arena.
 //!
-//! *The reason.* A look answers with a place in the list and not with a segment, so that the arena changes
-//! what was found where it stands.
+//! *The reason.* Since no tag is left over from an earlier segment, a tag answers alone whether a span is out.
 
-ghost use Rattle.std.specs.Prelude.{◌≡◌, ◌≢◌, ℕ, ◌+◌, ◌<◌, ◌≤◌, ◌^◌, ◌⊎◌, List, All, Any, Contains, length, get_or, slice_index_or, true, false, IfSome, IfNone, Option, vec_len, vec_capacity, insert};
-ghost use Rattle.vmem_arena.specs.Segments.{total, joined};
+ghost use Rattle.std.specs.Prelude.{◌≡◌, ℕ, ◌+◌, ◌-◌, ◌<◌, ◌≤◌, ◌↔◌, length, IsTrue, IfOk};
+ghost use Rattle.vmem_arena.specs.Segments.{tag_at, free_len, IsOut, whole, taken, freed};
 
-/// Neighbouring pages, all free or all of one span that is out.
+use std::alloc::{AllocError, Global};
+use std::marker::Model;
+
+/// What a page's tag says of the segment that begins there.
 #[derive(Clone, Copy)]
-pub struct Segment {
-    pub first: u32,
+pub struct Tag {
+    /// How many pages it has, 0 where none begins.
     pub len: u32,
-    pub is_free: bool,
+    /// How many pages the segment before it has.
+    pub before: u32,
+    /// Whether a span has its pages.
+    pub is_out: bool,
 }
 
-/// The place of the lowest free segment with n pages or more.
-pub fn first_fit(segments: &[Segment], n: u32) -> Option<usize>
-    ensures within { IfSome result (λ i. i < length segments.now) }
-    ensures fits { IfSome result (λ i. (d : _) → ((slice_index_or segments.now i d).is_free ≡ true) × (n ≤ (slice_index_or segments.now i d).len)) }
-    ensures none { IfNone result (All (λ s. s.is_free ≡ true → s.len < n) segments.now) }
-{
-    for (i, segment) in segments.iter().enumerate() {
-        if segment.is_free && segment.len >= n {
-            return Some(i);
+/// The tag of a page at which no segment begins.
+const INSIDE: Tag = Tag {
+    len: 0,
+    before: 0,
+    is_out: false,
+};
+
+/// The tags of all pages.
+#[derive(Drop)]
+pub struct Table {
+    tags: Vec<Tag>,
+}
+
+impl Model for Table {
+    ghost use Rattle.std.specs.Prelude.{List};
+    ghost use Rattle.vmem_arena.specs.declared.segment.Tag.{Tag};
+
+    ghost Value = { List Tag };
+
+    ghost view = { λ a. a.tags.items };
+}
+
+impl Table {
+    ghost use Rattle.vmem_arena.specs.Segments.{with_before};
+
+    /// So many pages, all in one free segment.
+    pub fn new(alloc: Global, pages: u32) -> Result<Table, AllocError>
+        requires { 0 < pages }
+        ensures { IfOk result (λ table. table ≡ whole pages) }
+    {
+        let mut tags = vec![in alloc; INSIDE; pages as usize]?;
+        tags[0].len = pages;
+        Ok(Table { tags })
+    }
+
+    /// How many pages the free segment has that begins at a page, 0 where none does.
+    pub fn free_at(&self, page: usize) -> u32
+        ensures { result ≡ free_len self.now page }
+    {
+        if page < self.tags.len() && !self.tags[page].is_out {
+            self.tags[page].len
+        } else {
+            0
         }
     }
-    None
-}
 
-/// The place of the segment that is out and has these pages.
-pub fn place_out(segments: &[Segment], first: u32, len: u32) -> Option<usize>
-    ensures within { IfSome result (λ i. i < length segments.now) }
-    ensures found { IfSome result (λ i. (d : _) → slice_index_or segments.now i d ≡ record { first = first; len = len; is_free = false }) }
-    ensures none { IfNone result (All (λ s. s ≢ record { first = first; len = len; is_free = false }) segments.now) }
-{
-    for (i, segment) in segments.iter().enumerate() {
-        if !segment.is_free && segment.first == first && segment.len == len {
-            return Some(i);
+    /// How many pages the segment before the one has that begins at a page.
+    pub fn before(&self, page: usize) -> u32
+        requires { page < length self.now }
+        ensures { result ≡ (tag_at self.now page).before }
+    {
+        self.tags[page].before
+    }
+
+    /// Whether a span of these pages is out.
+    pub fn is_out(&self, first: usize, len: u32) -> bool
+        ensures { IsTrue result ↔ IsOut self.now first len }
+    {
+        first < self.tags.len() && self.tags[first].is_out && self.tags[first].len == len
+    }
+
+    // Writes how many pages the segment before a page has, where there is such a page.
+    fn set_before(&mut self, page: usize, len: u32)
+        ensures { self.new ≡ with_before self.old page len }
+    {
+        if page < self.tags.len() {
+            self.tags[page].before = len;
         }
     }
-    None
-}
 
-/// The length of the longest free segment, 0 where none is free.
-pub fn longest_free(segments: &[Segment]) -> u32
-    ensures longest { All (λ s. s.is_free ≡ true → s.len ≤ result) segments.now }
-    ensures reached { (result ≡ 0) ⊎ Any (λ s. (s.is_free ≡ true) × (s.len ≡ result)) segments.now }
-{
-    let mut longest = 0;
-    for segment in segments {
-        if segment.is_free && segment.len > longest {
-            longest = segment.len;
-        }
-    }
-    longest
-}
-
-/// Merges the segments at `i` and `i + 1` where both are free.
-pub fn join(segments: &mut Vec<Segment>, i: usize)
-    requires place { i < vec_len segments.old }
-    requires few { total segments.old.items < 2 ^ 32 }
-    ensures joined { segments.new.items ≡ joined segments.old.items i }
-    ensures capacity { vec_capacity segments.new ≡ vec_capacity segments.old }
-{
-    let next = i + 1;
-    if next >= segments.len() {
-        return;
-    }
-    let low = segments[i];
-    let high = segments[next];
-    if low.is_free && high.is_free {
-        segments[i] = Segment {
-            first: low.first,
-            len: low.len + high.len,
-            is_free: true,
+    /// Takes the first n pages of a free segment out. The `rest` of its pages is a free segment after them.
+    pub fn cut(&mut self, first: usize, n: u32, rest: u32)
+        requires some { 0 < n }
+        requires within { first + n + rest ≤ length self.old }
+        requires short { length self.old ≤ 256 }
+        ensures { self.new ≡ taken self.old first n rest }
+    {
+        self.tags[first] = Tag {
+            len: n,
+            before: self.tags[first].before,
+            is_out: true,
         };
-        segments.remove(next);
+        if rest > 0 {
+            let next = first + n as usize;
+            self.tags[next] = Tag {
+                len: rest,
+                before: n,
+                is_out: false,
+            };
+            self.set_before(next + rest as usize, rest);
+        }
     }
-}
 
-/// Puts a segment in at `i`, where there is room for one more.
-pub fn insert_reserved(segments: &mut Vec<Segment>, i: usize, segment: Segment)
-    requires place { i ≤ vec_len segments.old }
-    requires room { vec_len segments.old < vec_capacity segments.old }
-    ensures items { segments.new.items ≡ insert segments.old.items i segment }
-    ensures capacity { vec_capacity segments.new ≡ vec_capacity segments.old }
-{
-    match segments.insert(i, segment) {
-        Ok(()) => {}
-        Err(_) => unreachable!(),
+    /// Frees the segment of `len` pages that begins at `first`, as one with the `low` free pages that end there
+    /// and the `high` free pages that begin at its end.
+    pub fn merge(&mut self, first: usize, low: u32, len: u32, high: u32)
+        requires low { low ≤ first }
+        requires some { 0 < len }
+        requires within { first + len + high ≤ length self.old }
+        requires short { length self.old ≤ 256 }
+        ensures { self.new ≡ freed self.old first low len high }
+    {
+        let at = first - low as usize;
+        let whole = low + len + high;
+        let before = self.tags[at].before;
+        if high > 0 {
+            self.tags[first + len as usize] = INSIDE;
+        }
+        self.tags[first] = INSIDE;
+        self.tags[at] = Tag {
+            len: whole,
+            before,
+            is_out: false,
+        };
+        self.set_before(at + whole as usize, whole);
     }
 }

@@ -1,107 +1,115 @@
-use Rattle.std.proofs.Common.{◌≡◌, ℕ, ◌<◌, ◌-◌, length, refl, arith, sym, subst}
+use Rattle.std.proofs.Common.{◌≡◌, ℕ, ◌+◌, ◌-◌, ◌≤◌, List, length, refl, sym, ap, subst, ◌∙◌, arith}
 use Rattle.std.specs.List.{Contains}
 use Rattle.std.proofs.lemmas.Bool.{false≢true}
+use Rattle.vmem_arena.specs.declared.segment.Tag.{Tag}
 use Rattle.vmem_arena.specs.Spans.{Spans, pages_of}
-use Rattle.vmem_arena.proofs.Steps.{out_of, found_read, few_freed, few_joined, given_at_first, given_later, first_back, later_back, found_out, not_out}
+use Rattle.vmem_arena.specs.Segments.{free_len, IsTable, IsOut, without, freed}
+use Rattle.vmem_arena.specs.Classes.{IsListed}
+use Rattle.vmem_arena.proofs.Outs.{outs_of, outs_has}
+use Rattle.vmem_arena.proofs.Listing.{free-without_other}
+use Rattle.vmem_arena.proofs.Steps.{low_read, high_within, length-freed, freed_table, freed_back, low_goes, whole_comes}
 use Rattle.vmem_arena.proofs.arena.Arena.give.Goals as goal
 
-pub returns-in_default-clause-known : goal.returns-in_default-clause-known
-returns-in_default-clause-known c =
-    let K : Spans → Type 0 = λ v. Contains v.out (pages_of c.args.span) in
-    (λ is. absurd (false≢true is), λ out. absurd (not_out c.deref.result.now c.self.inside.segments.items (pages_of c.args.span) c.deref.ensures.value c.in_default.ensures.none (subst K (sym c.self.view_is) out)))
+pub returns-then-not-is_out-clause-known : goal.returns-then-not-is_out-clause-known
+returns-then-not-is_out-clause-known c =
+    let K : Spans → Type 0 = λ v. Contains v.out (pages_of c.args.span) in (
+      λ is. absurd (false≢true is),
+      λ has.
+          let at = outs_of c.self.inside.table 0 c.args.span.first c.args.span.len (subst K (sym c.self.view_is) has) in
+          let P : ℕ → Type 0 = λ page. IsOut c.self.inside.table page c.args.span.len in
+          let same : at.0 ≡ c.args.span.first = omega (arith, at.1) in
+          let is = c.is_out.ensures.1 (subst P same at.2) in
+          absurd (false≢true (sym c.if-not-is_out.true ∙ is)),
+    )
 
-pub join-requires-clause-few : goal.join-requires-clause-few
-join-requires-clause-few c =
-    let xs = c.self.inside.segments.items in
-    let i = c.in-Some.i in
-    let s = out_of c.args.span.first c.args.span.len in
-    let read = found_read c.deref.result.now xs i c.args.span.first c.args.span.len c.deref.ensures.value c.in-Some.ensures.found in
-    omega (arith, c.self.invariant.1, few_freed xs i c.self.inside.pages s c.self.invariant.0 read)
+pub overflow_sub-at : goal.overflow_sub-at
+overflow_sub-at c =
+    let out = c.is_out.ensures.0 c.if-not-is_out.false in
+    (low_read c.self.inside.table c.args.span.first c.args.span.len c.before-2.result (free_len c.self.inside.table (c.args.span.first - c.before-2.result)) c.self.invariant.0 out c.args.span.some c.before-2.ensures refl).0
 
-pub join-requires-then-i-gt0-clause-place : goal.join-requires-then-i-gt0-clause-place
-join-requires-then-i-gt0-clause-place c =
-    let xs = c.self.inside.segments.items in
-    let i = c.in-Some.i in
-    let s = out_of c.args.span.first c.args.span.len in
-    let within : i < length xs = subst (λ (ys : _). i < length ys) c.deref.ensures.value c.in-Some.ensures.within in
-    let read = found_read c.deref.result.now xs i c.args.span.first c.args.span.len c.deref.ensures.value c.in-Some.ensures.found in
-    let long = (few_joined xs i c.self.inside.pages s c.self.invariant.0 within read).1 in
-    let longer : i < length c.join.new.segments.items = rw c.join.ensures.joined long in
-    place_below i _ _ longer c.join.new.segments.ok.0
-  where
-    place_below : (i long len : ℕ) → i < long → len ≡ long → i - 1 < len
-    place_below i long len within is = omega arith
+pub overflow_sub-first : goal.overflow_sub-first
+overflow_sub-first c =
+    let out = c.is_out.ensures.0 c.if-not-is_out.false in
+    (low_read c.self.inside.table c.args.span.first c.args.span.len c.before-2.result c.free_at-low.result c.self.invariant.0 out c.args.span.some c.before-2.ensures c.free_at-low.ensures).1.back
 
-pub join-requires-then-i-gt0-clause-few : goal.join-requires-then-i-gt0-clause-few
-join-requires-then-i-gt0-clause-few c =
-    let xs = c.self.inside.segments.items in
-    let i = c.in-Some.i in
-    let s = out_of c.args.span.first c.args.span.len in
-    let within : i < length xs = subst (λ (ys : _). i < length ys) c.deref.ensures.value c.in-Some.ensures.within in
-    let read = found_read c.deref.result.now xs i c.args.span.first c.args.span.len c.deref.ensures.value c.in-Some.ensures.found in
-    rw c.join.ensures.joined (omega (arith, c.self.invariant.1, (few_joined xs i c.self.inside.pages s c.self.invariant.0 within read).0))
+pub overflow_sub-first-2 : goal.overflow_sub-first-2
+overflow_sub-first-2 c =
+    let out = c.is_out.ensures.0 c.if-not-is_out.false in
+    (low_read c.self.inside.table c.args.span.first c.args.span.len c.before-2.result c.free_at-low.result c.self.invariant.0 out c.args.span.some c.before-2.ensures c.free_at-low.ensures).1.back
+
+pub merge-requires-clause-low : goal.merge-requires-clause-low
+merge-requires-clause-low c =
+    let out = c.is_out.ensures.0 c.if-not-is_out.false in
+    (low_read c.self.inside.table c.args.span.first c.args.span.len c.before-2.result c.free_at-low.result c.self.invariant.0 out c.args.span.some c.before-2.ensures c.free_at-low.ensures).1.back
+
+pub remove-requires : goal.remove-requires
+remove-requires c =
+    let out = c.is_out.ensures.0 c.if-not-is_out.false in
+    let low = (low_read c.self.inside.table c.args.span.first c.args.span.len c.before-2.result c.free_at-low.result c.self.invariant.0 out c.args.span.some c.before-2.ensures c.free_at-low.ensures).1.back in
+    omega (arith, c.args.span.within)
+
+pub merge-requires-clause-within : goal.merge-requires-clause-within
+merge-requires-clause-within c =
+    let out = c.is_out.ensures.0 c.if-not-is_out.false in
+    omega (arith, high_within c.self.inside.table c.args.span.first c.args.span.len c.self.invariant.0 out c.args.span.some, c.free_at-high.ensures)
+
+pub remove-requires-2 : goal.remove-requires-2
+remove-requires-2 c =
+    let out = c.is_out.ensures.0 c.if-not-is_out.false in
+    omega (arith, high_within c.self.inside.table c.args.span.first c.args.span.len c.self.invariant.0 out c.args.span.some, c.free_at-high.ensures, c.self.invariant.2)
+
+pub overflow_add-low : goal.overflow_add-low
+overflow_add-low c =
+    let out = c.is_out.ensures.0 c.if-not-is_out.false in
+    let low = (low_read c.self.inside.table c.args.span.first c.args.span.len c.before-2.result c.free_at-low.result c.self.invariant.0 out c.args.span.some c.before-2.ensures c.free_at-low.ensures).1.back in
+    omega (arith, c.args.span.within)
+
+pub overflow_add-low-2 : goal.overflow_add-low-2
+overflow_add-low-2 c =
+    let out = c.is_out.ensures.0 c.if-not-is_out.false in
+    let low = (low_read c.self.inside.table c.args.span.first c.args.span.len c.before-2.result c.free_at-low.result c.self.invariant.0 out c.args.span.some c.before-2.ensures c.free_at-low.ensures).1.back in
+    omega (arith, high_within c.self.inside.table c.args.span.first c.args.span.len c.self.invariant.0 out c.args.span.some, c.free_at-high.ensures, c.self.invariant.2)
+
+pub insert-requires : goal.insert-requires
+insert-requires c =
+    let out = c.is_out.ensures.0 c.if-not-is_out.false in
+    let low = (low_read c.self.inside.table c.args.span.first c.args.span.len c.before-2.result c.free_at-low.result c.self.invariant.0 out c.args.span.some c.before-2.ensures c.free_at-low.ensures).1.back in
+    omega (arith, high_within c.self.inside.table c.args.span.first c.args.span.len c.self.invariant.0 out c.args.span.some, c.free_at-high.ensures, c.self.invariant.2)
 
 pub invariant_of-self : goal.invariant_of-self
 invariant_of-self c =
-    let xs = c.self.inside.segments.items in
-    let i = c.in-Some.i in
-    let s = out_of c.args.span.first c.args.span.len in
-    let within : i < length xs = subst (λ (ys : _). i < length ys) c.deref.ensures.value c.in-Some.ensures.within in
-    let read = found_read c.deref.result.now xs i c.args.span.first c.args.span.len c.deref.ensures.value c.in-Some.ensures.found in
-    (rw (c.join-then-i-gt0.ensures.joined, c.join.ensures.joined) (given_later xs i (i - 1) c.self.inside.pages s c.self.invariant.0 within read (omega arith)), c.self.invariant.1, rw (c.join-then-i-gt0.ensures.capacity, c.join.ensures.capacity) c.self.invariant.2)
+    let ts = c.self.inside.table in
+    let first = c.args.span.first in
+    let len = c.args.span.len in
+    let low = c.free_at-low.result in
+    let high = c.free_at-high.result in
+    let out = c.is_out.ensures.0 c.if-not-is_out.false in
+    let below = (low_read ts first len c.before-2.result low c.self.invariant.0 out c.args.span.some c.before-2.ensures c.free_at-low.ensures).1 in
+    let above = sym c.free_at-high.ensures in
+    let apart = free-without_other ts (first - low) low (first + len) (omega (arith, c.args.span.some)) in
+    let us = without ts (first - low) low in
+    let goes = low_goes ts (first - low) low below.is in
+    let goes_too = low_goes us (first + len) high (apart ∙ above) in
+    let comes = whole_comes ts first low len high out c.args.span.some below above in
+    let listed = c.remove-2.ensures us (without us (first + len) high) (c.remove.ensures ts us c.self.invariant.1 below.is goes.0 goes.1) (apart ∙ above) goes_too.0 goes_too.1 in
+    let P : List Tag → Type 0 = λ vs. IsTable vs × IsListed c.insert.new.self vs × (length vs ≤ 256) in
+    subst P (sym c.merge.ensures) (
+      freed_table ts first low len high c.self.invariant.0 out c.args.span.some below above,
+      c.insert.ensures (without us (first + len) high) (freed ts first low len high) listed comes.0 comes.1 comes.2,
+      omega (arith, length-freed ts first low len high, c.self.invariant.2),
+    )
 
-pub returns-then-i-gt0-clause-known : goal.returns-then-i-gt0-clause-known
-returns-then-i-gt0-clause-known c =
-    let xs = c.self.inside.segments.items in
-    let i = c.in-Some.i in
-    let s = out_of c.args.span.first c.args.span.len in
-    let within : i < length xs = subst (λ (ys : _). i < length ys) c.deref.ensures.value c.in-Some.ensures.within in
-    let read = found_read c.deref.result.now xs i c.args.span.first c.args.span.len c.deref.ensures.value c.in-Some.ensures.found in
+pub returns-clause-pages : goal.returns-clause-pages
+returns-clause-pages c =
+    ap length c.merge.ensures ∙ length-freed c.self.inside.table c.args.span.first c.free_at-low.result c.args.span.len c.free_at-high.result ∙ ap (λ (v : Spans). v.pages) c.self.view_is
+
+pub returns-clause-known : goal.returns-clause-known
+returns-clause-known c =
     let K : Spans → Type 0 = λ v. Contains v.out (pages_of c.args.span) in
-    (λ _. subst K c.self.view_is (found_out xs i s within read refl), λ _. refl)
+    (λ _. subst K c.self.view_is (outs_has c.self.inside.table c.args.span.first c.args.span.len (c.is_out.ensures.0 c.if-not-is_out.false)), λ _. refl)
 
-pub returns-then-i-gt0-clause-back : goal.returns-then-i-gt0-clause-back
-returns-then-i-gt0-clause-back c =
-    let xs = c.self.inside.segments.items in
-    let i = c.in-Some.i in
-    let s = out_of c.args.span.first c.args.span.len in
-    let within : i < length xs = subst (λ (ys : _). i < length ys) c.deref.ensures.value c.in-Some.ensures.within in
-    let read = found_read c.deref.result.now xs i c.args.span.first c.args.span.len c.deref.ensures.value c.in-Some.ensures.found in
-    λ _. rw (← c.self.view_is, c.join-then-i-gt0.ensures.joined, c.join.ensures.joined) (later_back xs i (i - 1) s within read refl)
-
-pub index_mut-requires : goal.index_mut-requires
-index_mut-requires c = subst (λ n. c.in-Some.i < n) c.deref.ensures.len c.in-Some.ensures.within
-
-pub join-requires-clause-place : goal.join-requires-clause-place
-join-requires-clause-place c = subst (λ n. c.in-Some.i < n) c.deref.ensures.len c.in-Some.ensures.within
-
-pub overflow_sub-i : goal.overflow_sub-i
-overflow_sub-i c = c.if-i-gt0.true
-
-pub invariant_of-self-else-i-gt0 : goal.invariant_of-self-else-i-gt0
-invariant_of-self-else-i-gt0 c =
-    let xs = c.self.inside.segments.items in
-    let i = c.in-Some.i in
-    let s = out_of c.args.span.first c.args.span.len in
-    let within : i < length xs = subst (λ (ys : _). i < length ys) c.deref.ensures.value c.in-Some.ensures.within in
-    let read = found_read c.deref.result.now xs i c.args.span.first c.args.span.len c.deref.ensures.value c.in-Some.ensures.found in
-    (rw c.join.ensures.joined (given_at_first xs i c.self.inside.pages s c.self.invariant.0 within read c.if-i-gt0.false), c.self.invariant.1, rw c.join.ensures.capacity c.self.invariant.2)
-
-pub returns-else-i-gt0-clause-known : goal.returns-else-i-gt0-clause-known
-returns-else-i-gt0-clause-known c =
-    let xs = c.self.inside.segments.items in
-    let i = c.in-Some.i in
-    let s = out_of c.args.span.first c.args.span.len in
-    let within : i < length xs = subst (λ (ys : _). i < length ys) c.deref.ensures.value c.in-Some.ensures.within in
-    let read = found_read c.deref.result.now xs i c.args.span.first c.args.span.len c.deref.ensures.value c.in-Some.ensures.found in
-    let K : Spans → Type 0 = λ v. Contains v.out (pages_of c.args.span) in
-    (λ _. subst K c.self.view_is (found_out xs i s within read refl), λ _. refl)
-
-pub returns-else-i-gt0-clause-back : goal.returns-else-i-gt0-clause-back
-returns-else-i-gt0-clause-back c =
-    let xs = c.self.inside.segments.items in
-    let i = c.in-Some.i in
-    let s = out_of c.args.span.first c.args.span.len in
-    let within : i < length xs = subst (λ (ys : _). i < length ys) c.deref.ensures.value c.in-Some.ensures.within in
-    let read = found_read c.deref.result.now xs i c.args.span.first c.args.span.len c.deref.ensures.value c.in-Some.ensures.found in
-    λ _. rw (← c.self.view_is, c.join.ensures.joined) (first_back xs i s within read refl)
+pub returns-clause-back : goal.returns-clause-back
+returns-clause-back c =
+    let out = c.is_out.ensures.0 c.if-not-is_out.false in
+    let below = (low_read c.self.inside.table c.args.span.first c.args.span.len c.before-2.result c.free_at-low.result c.self.invariant.0 out c.args.span.some c.before-2.ensures c.free_at-low.ensures).1 in
+    λ _. rw (← c.self.view_is, c.merge.ensures) (freed_back c.self.inside.table c.args.span.first c.free_at-low.result c.args.span.len c.free_at-high.result c.self.invariant.0 out c.args.span.some below (sym c.free_at-high.ensures))

@@ -1,68 +1,60 @@
-use Rattle.std.proofs.Common.{◌≡◌, ◌<◌, ◌≤◌, true, length, arith, rules, sym, subst}
+use Rattle.std.proofs.Common.{◌≡◌, ◌+◌, ◌-◌, ◌≤◌, List, length, sym, ap, subst, ◌∙◌, arith}
+use Rattle.vmem_arena.specs.declared.segment.Tag.{Tag}
 use Rattle.vmem_arena.specs.Spans.{Spans, AreFree}
-use Rattle.vmem_arena.proofs.Steps.{read_as, read_ends, room, taken_whole, whole_out, taken_cut, cut_out, free_pages, no_run}
+use Rattle.vmem_arena.specs.Segments.{free_len, IsTable, taken}
+use Rattle.vmem_arena.specs.Classes.{IsListed}
+use Rattle.vmem_arena.proofs.Steps.{short, within_table, free_pages, no_run, with_span, length-taken, taken_table, taken_out, first_goes, rest_comes}
 use Rattle.vmem_arena.proofs.arena.Arena.take.Goals as goal
-use Rattle.vmem_arena.proofs.arena.Arena.take.Goals.{then-segment-n, else-segment-n}
+
+pub fit-requires-clause-short : goal.fit-requires-clause-short
+fit-requires-clause-short c = λ page. short c.self.inside.table page c.self.invariant.0 c.self.invariant.2
 
 pub returns-in_default-clause-none : goal.returns-in_default-clause-none
 returns-in_default-clause-none c = λ first free.
     let F : Spans → Type 0 = λ v. AreFree v first c.args.n in
-    no_run c.deref.result.now c.self.inside.segments.items c.self.inside.pages first c.args.n c.deref.ensures.value c.self.invariant.0 c.requires c.in_default.ensures.none (subst F (sym c.self.view_is) free)
+    let less = no_run c.self.inside.table first c.args.n (c.args.n - 1) c.self.invariant.0 (λ page. let below = c.in_default.ensures.none page in omega arith) (subst F (sym c.self.view_is) free) in
+    omega (arith, c.requires)
+
+pub remove-requires : goal.remove-requires
+remove-requires c = omega (arith, c.requires, c.in-Some.ensures.fits, short c.self.inside.table c.in-Some.first c.self.invariant.0 c.self.invariant.2)
+
+pub cut-requires-clause-within : goal.cut-requires-clause-within
+cut-requires-clause-within c = omega (arith, c.requires, c.in-Some.ensures.fits, within_table c.self.inside.table c.in-Some.first c.self.invariant.0)
+
+pub overflow_add-first : goal.overflow_add-first
+overflow_add-first c = omega (arith, c.requires, c.in-Some.ensures.fits, short c.self.inside.table c.in-Some.first c.self.invariant.0 c.self.invariant.2)
+
+pub insert-requires : goal.insert-requires
+insert-requires c = omega (arith, c.requires, c.in-Some.ensures.fits, short c.self.inside.table c.in-Some.first c.self.invariant.0 c.self.invariant.2)
+
+pub invariant_of-result : goal.invariant_of-result
+invariant_of-result c = record { some = c.requires; within = omega (arith, c.requires, c.in-Some.ensures.fits, short c.self.inside.table c.in-Some.first c.self.invariant.0 c.self.invariant.2) }
 
 pub invariant_of-self : goal.invariant_of-self
 invariant_of-self c =
-    (taken_whole c.self.inside.segments.items c.in-Some.i c.args.n c.self.inside.pages c.index-segment.result.now c.self.invariant.0 c.index-segment.ensures c.if-segment-n.true, c.self.invariant.1, c.self.invariant.2)
+    let ts = c.self.inside.table in
+    let first = c.in-Some.first in
+    let n = c.args.n in
+    let rest = c.free_at-len.result - n in
+    let whole : n + rest ≡ free_len ts first = omega (arith, c.in-Some.ensures.fits) in
+    let within = within_table ts first c.self.invariant.0 (omega (arith, c.requires)) in
+    let goes = first_goes ts first n (omega (arith, c.requires)) in
+    let comes = rest_comes ts first n rest c.self.invariant.0 c.requires whole in
+    let listed = c.insert.ensures (with_span ts first n) (taken ts first n rest) (c.remove.ensures ts (with_span ts first n) c.self.invariant.1 (sym c.free_at-len.ensures) goes.0 goes.1) comes.0 comes.1 comes.2 in
+    let P : List Tag → Type 0 = λ us. IsTable us × IsListed c.insert.new.self us × (length us ≤ 256) in
+    subst P (sym c.cut.ensures) (taken_table ts first n rest c.self.invariant.0 c.requires whole, listed, omega (arith, length-taken ts first n rest, c.self.invariant.2))
 
-pub overflow_add-segment : goal.overflow_add-segment
-overflow_add-segment c =
-    let s = c.index-segment.result.now in
-    let xs = c.self.inside.segments.items in
-    let within : c.in-Some.i < length xs = subst (λ ys. c.in-Some.i < length ys) c.deref.ensures.value c.in-Some.ensures.within in
-    let fits = read_as c.deref.result.now xs c.in-Some.i s (λ t. (t.is_free ≡ true) × (c.args.n ≤ t.len)) c.deref.ensures.value c.index-segment.ensures c.in-Some.ensures.fits in
-    omega (arith, fits.1, c.self.invariant.1, read_ends xs c.in-Some.i c.self.inside.pages s c.self.invariant.0 within c.index-segment.ensures)
-
-pub insert_reserved-requires-clause-room : goal.insert_reserved-requires-clause-room
-insert_reserved-requires-clause-room c =
-    let s = c.index-segment.result.now in
-    let xs = c.self.inside.segments.items in
-    let within : c.in-Some.i < length xs = subst (λ ys. c.in-Some.i < length ys) c.deref.ensures.value c.in-Some.ensures.within in
-    let fits = read_as c.deref.result.now xs c.in-Some.i s (λ t. (t.is_free ≡ true) × (c.args.n ≤ t.len)) c.deref.ensures.value c.index-segment.ensures c.in-Some.ensures.fits in
-    let short = room xs c.in-Some.i c.args.n c.self.inside.pages s c.self.invariant.0 within c.index-segment.ensures c.requires (omega (arith, fits.1)) in
-    let len : c.self.inside.segments.len ≡ length xs = search rules in
-    omega (arith, c.self.invariant.2)
-
-pub invariant_of-self-else-segment-n : goal.invariant_of-self-else-segment-n
-invariant_of-self-else-segment-n c =
-    let s = c.index-segment.result.now in
-    let xs = c.self.inside.segments.items in
-    let within : c.in-Some.i < length xs = subst (λ ys. c.in-Some.i < length ys) c.deref.ensures.value c.in-Some.ensures.within in
-    let fits = read_as c.deref.result.now xs c.in-Some.i s (λ t. (t.is_free ≡ true) × (c.args.n ≤ t.len)) c.deref.ensures.value c.index-segment.ensures c.in-Some.ensures.fits in
-    (rw c.insert_reserved.ensures.items (taken_cut xs c.in-Some.i c.args.n c.self.inside.pages s c.self.invariant.0 within c.index-segment.ensures fits.0 c.requires (omega (arith, fits.1))), c.self.invariant.1, rw c.insert_reserved.ensures.capacity c.self.invariant.2)
-
-pub invariant_of-result : goal.invariant_of-result
-invariant_of-result c =
-    let s = c.index-segment.result.now in
-    let xs = c.self.inside.segments.items in
-    let within : c.in-Some.i < length xs = subst (λ ys. c.in-Some.i < length ys) c.deref.ensures.value c.in-Some.ensures.within in
-    let fits = read_as c.deref.result.now xs c.in-Some.i s (λ t. (t.is_free ≡ true) × (c.args.n ≤ t.len)) c.deref.ensures.value c.index-segment.ensures c.in-Some.ensures.fits in
-    record { some = c.requires; within = omega (arith, fits.1, c.self.invariant.1, read_ends xs c.in-Some.i c.self.inside.pages s c.self.invariant.0 within c.index-segment.ensures) }
+pub returns-clause-pages : goal.returns-clause-pages
+returns-clause-pages c =
+    ap length c.cut.ensures ∙ length-taken c.self.inside.table c.in-Some.first c.args.n (c.free_at-len.result - c.args.n) ∙ ap (λ (v : Spans). v.pages) c.self.view_is
 
 pub returns-clause-free : goal.returns-clause-free
 returns-clause-free c =
-    let s = c.index-segment.result.now in
-    let xs = c.self.inside.segments.items in
-    let within : c.in-Some.i < length xs = subst (λ ys. c.in-Some.i < length ys) c.deref.ensures.value c.in-Some.ensures.within in
-    let fits = read_as c.deref.result.now xs c.in-Some.i s (λ t. (t.is_free ≡ true) × (c.args.n ≤ t.len)) c.deref.ensures.value c.index-segment.ensures c.in-Some.ensures.fits in
-    let F : Spans → Type 0 = λ v. AreFree v s.first c.args.n in
-    subst F c.self.view_is (free_pages xs c.in-Some.i c.args.n c.self.inside.pages s c.self.invariant.0 within c.index-segment.ensures fits.0 fits.1)
+    let F : Spans → Type 0 = λ v. AreFree v c.in-Some.first c.args.n in
+    subst F c.self.view_is (λ page. free_pages c.self.inside.table c.in-Some.first c.args.n page c.self.invariant.0 c.in-Some.ensures.fits)
 
 pub returns-clause-out : goal.returns-clause-out
 returns-clause-out c =
-    let s = c.index-segment.result.now in
-    let xs = c.self.inside.segments.items in
-    let within : c.in-Some.i < length xs = subst (λ ys. c.in-Some.i < length ys) c.deref.ensures.value c.in-Some.ensures.within in
-    let fits = read_as c.deref.result.now xs c.in-Some.i s (λ t. (t.is_free ≡ true) × (c.args.n ≤ t.len)) c.deref.ensures.value c.index-segment.ensures c.in-Some.ensures.fits in
-    elim c.if-segment-n.branch [
-      | then-segment-n w ↦ rw (← c.self.view_is, w.self-is) (whole_out xs c.in-Some.i c.args.n s within c.index-segment.ensures fits.0 w.if-segment-n.true)
-      | else-segment-n w ↦ rw (← c.self.view_is, w.self-is, w.insert_reserved.ensures.items) (cut_out xs c.in-Some.i c.args.n s within c.index-segment.ensures fits.0)
-    ]
+    let ts = c.self.inside.table in
+    let rest = c.free_at-len.result - c.args.n in
+    rw (← c.self.view_is, c.cut.ensures) (taken_out ts c.in-Some.first c.args.n rest c.self.invariant.0 c.requires (omega (arith, c.in-Some.ensures.fits)))

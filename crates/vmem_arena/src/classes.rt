@@ -1,0 +1,138 @@
+//! Classes: the free segments by size.
+//!
+//! *The idea* (Bonwick and Adams 2001, "Vmem"). Class c lists the free segments of `2^c` to `2^(c+1) - 1` pages.
+//! A list is a set of bits, one for each page that a segment may begin at, and the nine sets lie one after
+//! another in 36 words. Another word says which of the 36 have a bit set.
+//!
+//! *The invariant.* A bit of that word is set exactly where the word of its number is not 0.
+//!
+//! *The reason.* A place is `256 * class + page`, so the next place from a class on lies in the lowest class
+//! that has a segment, and no class is looked at by itself to find it. A segment comes or goes by one bit, with
+//! no list to follow. What the places stand for is the arena's business.
+
+ghost use Rattle.std.specs.Prelude.{◌≡◌, ◌≢◌, ℕ, ◌+◌, ◌*◌, ◌^◌, ◌<◌, ◌≤◌, List, IfSome, IfNone};
+ghost use Rattle.vmem_arena.specs.Classes.{bit_of, IsPlace, IsListed, SameBut};
+ghost use Rattle.vmem_arena.specs.Segments.{free_len};
+ghost use Rattle.vmem_arena.specs.declared.segment.Tag.{Tag};
+
+use crate::word::{highest, lowest_from, with_bit, without_bit};
+use std::marker::Model;
+
+/// How many places there are: nine classes of 256 pages.
+pub const PLACES: usize = 2304;
+
+// The place of a segment of so many pages that begins at this page.
+fn place(page: u32, len: u32) -> usize
+    requires page { page < 256 }
+    requires some { 0 < len }
+    requires within { len ≤ 256 }
+    ensures place { IsPlace page len result }
+    ensures below { result < PLACES }
+{
+    len.ilog2() as usize * 256 + page as usize
+}
+
+/// Places, some of which are taken.
+#[derive(Drop)]
+pub struct Classes {
+    words: [u64; 36],
+    filled: u64,
+}
+
+impl Model for Classes {
+    ghost use Rattle.std.specs.Prelude.{List, ℕ};
+
+    ghost Value = { List ℕ };
+
+    ghost use Rattle.vmem_arena.specs.Classes.{IsFilled};
+
+    ghost view = { λ a. a.words };
+
+    ghost invariant = { λ a. IsFilled a.words a.filled };
+}
+
+impl Classes {
+    /// No place is taken.
+    pub fn new() -> Classes
+        ensures { (i : ℕ) → bit_of result i ≡ 0 }
+    {
+        Classes {
+            words: [0; 36],
+            filled: 0,
+        }
+    }
+
+    // Takes a place.
+    fn set(&mut self, place: usize)
+        requires { place < PLACES }
+        ensures here { bit_of self.new place ≡ 1 }
+        ensures others { (i : ℕ) → i ≢ place → bit_of self.new i ≡ bit_of self.old i }
+    {
+        let at = place / 64;
+        self.words[at] = with_bit(self.words[at], (place % 64) as u32);
+        self.filled = with_bit(self.filled, at as u32);
+    }
+
+    // Gives a place up.
+    fn clear(&mut self, place: usize)
+        requires { place < PLACES }
+        ensures here { bit_of self.new place ≡ 0 }
+        ensures others { (i : ℕ) → i ≢ place → bit_of self.new i ≡ bit_of self.old i }
+    {
+        let at = place / 64;
+        let word = without_bit(self.words[at], (place % 64) as u32);
+        self.words[at] = word;
+        if word == 0 {
+            self.filled = without_bit(self.filled, at as u32);
+        }
+    }
+
+    /// Lists the free segment of `len` pages that begins at a page, and nothing where `len` is 0.
+    pub fn insert(&mut self, page: u32, len: u32)
+        requires { page + len ≤ 256 }
+        ensures { (old new : List Tag) → IsListed self.old old → free_len old page ≡ 0 → free_len new page ≡ len → SameBut page old new → IsListed self.new new }
+    {
+        if len > 0 {
+            self.set(place(page, len));
+        }
+    }
+
+    /// Strikes off the free segment of `len` pages that begins at a page, and nothing where `len` is 0.
+    pub fn remove(&mut self, page: u32, len: u32)
+        requires { page + len ≤ 256 }
+        ensures { (old new : List Tag) → IsListed self.old old → free_len old page ≡ len → free_len new page ≡ 0 → SameBut page old new → IsListed self.new new }
+    {
+        if len > 0 {
+            self.clear(place(page, len));
+        }
+    }
+
+    /// The lowest place that is taken, of those from `from` on.
+    pub fn next(&self, from: usize) -> Option<usize>
+        requires { from ≤ PLACES }
+        ensures found { IfSome result (λ i. (from ≤ i) × (i < PLACES) × (bit_of self.now i ≡ 1)) }
+        ensures lowest { IfSome result (λ i. (j : ℕ) → from ≤ j → j < i → bit_of self.now j ≡ 0) }
+        ensures none { IfNone result ((j : ℕ) → from ≤ j → bit_of self.now j ≡ 0) }
+    {
+        let filled = self.filled;
+        let at = from / 64;
+        if at == self.words.len() {
+            return None;
+        }
+        if let Some(bit) = lowest_from(self.words[at], (from % 64) as u32) {
+            return Some(64 * at + bit as usize);
+        }
+        let at = lowest_from(filled, at as u32 + 1)? as usize;
+        Some(64 * at + self.words[at].trailing_zeros() as usize)
+    }
+
+    /// The highest place that is taken.
+    pub fn last(&self) -> Option<usize>
+        ensures found { IfSome result (λ i. (i < PLACES) × (bit_of self.now i ≡ 1)) }
+        ensures highest { IfSome result (λ i. (j : ℕ) → i < j → bit_of self.now j ≡ 0) }
+        ensures none { IfNone result ((j : ℕ) → bit_of self.now j ≡ 0) }
+    {
+        let at = highest(self.filled)? as usize;
+        Some(64 * at + self.words[at].ilog2() as usize)
+    }
+}
