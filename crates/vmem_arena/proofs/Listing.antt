@@ -86,6 +86,11 @@ listed_still words tags new page listed here same = listed_same words tags new l
 pub listed_at : (words : List ℕ) (tags : List Tag) (i : ℕ) → IsListed words tags → bit_of words i ≡ 1 → (2 ^ (i / 256) ≤ free_len tags (i % 256)) × (free_len tags (i % 256) < 2 ^ (i / 256 + 1))
 listed_at words tags i listed one = in_class_is (i / 256) (free_len tags (i % 256)) (sym (listed i) ∙ one)
 
+pub place_is : (words : List ℕ) (tags : List Tag) (i : ℕ) → IsListed words tags → bit_of words i ≡ 1 → IsPlace (i % 256) (free_len tags (i % 256)) i
+place_is words tags i listed one =
+    let is = listed_at words tags i listed one in
+    record { least = is.0; most = is.1; page = refl }
+
 -- a free segment has its place
 pub record HasPlace (words : List ℕ) (page len : ℕ) : Type 0 where
   pub place : ℕ
@@ -107,7 +112,7 @@ place_of words tags page listed low some =
     }
 
 -- a segment of a class has as many pages as the request, where the class has
-pub fits_above : (words : List ℕ) (tags : List Tag) (n full i : ℕ) → IsListed words tags → bit_of words i ≡ 1 → n ≤ 2 ^ full → full * 256 ≤ i → n ≤ free_len tags (i % 256)
+pub fits_above : (words : List ℕ) (tags : List Tag) (n full i : ℕ) → IsListed words tags → bit_of words i ≡ 1 → n ≤ 2 ^ full → 256 * full ≤ i → n ≤ free_len tags (i % 256)
 fits_above words tags n full i listed one enough above =
     omega (arith, (listed_at words tags i listed one).0, pow_le full (i / 256) (omega arith))
 

@@ -85,11 +85,12 @@ impl Arena {
         ensures none { OnErr result ((first : ℕ) → AreFree self.old first n → ⊥) }
         ensures unchanged { OnErr result (self.new ≡ self.old) }
     {
-        let Some(first) = fit(&self.table, &self.classes, n) else {
+        let Some(place) = fit(&self.table, &self.classes, n) else {
             return Err(NoSpan);
         };
+        let first = (place % 256) as u32;
         let len = self.table.free_at(first as usize);
-        self.classes.remove(first, len);
+        self.classes.strike(place);
         self.table.cut(first as usize, n, len - n);
         self.classes.insert(first + n, len - n);
         Ok(Span { first, len: n })

@@ -10,7 +10,7 @@
 //! that has a segment, and no class is looked at by itself to find it. A segment comes or goes by one bit, with
 //! no list to follow. What the places stand for is the arena's business.
 
-ghost use Rattle.std.specs.Prelude.{◌≡◌, ◌≢◌, ℕ, ◌+◌, ◌*◌, ◌^◌, ◌<◌, ◌≤◌, List, IfSome, IfNone};
+ghost use Rattle.std.specs.Prelude.{◌≡◌, ◌≢◌, ℕ, ◌+◌, ◌*◌, ◌%◌, ◌^◌, ◌<◌, ◌≤◌, List, IfSome, IfNone};
 ghost use Rattle.vmem_arena.specs.Classes.{bit_of, IsPlace, IsListed, SameBut};
 ghost use Rattle.vmem_arena.specs.Segments.{free_len};
 ghost use Rattle.vmem_arena.specs.declared.segment.Tag.{Tag};
@@ -105,6 +105,25 @@ impl Classes {
         if len > 0 {
             self.clear(place(page, len));
         }
+    }
+
+    /// Strikes off the free segment that has a place.
+    pub fn strike(&mut self, place: usize)
+        requires below { place < PLACES }
+        requires listed { bit_of self.old place ≡ 1 }
+        ensures { (old new : List Tag) → IsListed self.old old → free_len new (place % 256) ≡ 0 → SameBut (place % 256) old new → IsListed self.new new }
+    {
+        self.clear(place);
+    }
+
+    /// A place that is taken, in the lowest class that has one, of this class and those above.
+    pub fn lowest(&self, class: u32) -> Option<usize>
+        requires { class ≤ 9 }
+        ensures found { IfSome result (λ i. (256 * class ≤ i) × (i < PLACES) × (bit_of self.now i ≡ 1)) }
+        ensures none { IfNone result ((j : ℕ) → 256 * class ≤ j → bit_of self.now j ≡ 0) }
+    {
+        let at = lowest_from(self.filled, 4 * class)? as usize;
+        Some(64 * at + self.words[at].trailing_zeros() as usize)
     }
 
     /// The lowest place that is taken, of those from `from` on.

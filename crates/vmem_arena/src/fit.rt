@@ -16,12 +16,13 @@ ghost use Rattle.vmem_arena.specs.Segments.{free_len};
 use crate::classes::{Classes, PLACES};
 use crate::segment::Table;
 
-/// The first page of a free segment that has n pages or more.
-pub fn fit(table: &Table, classes: &Classes, n: u32) -> Option<u32>
+/// The place of a free segment that has n pages or more.
+pub fn fit(table: &Table, classes: &Classes, n: u32) -> Option<usize>
     requires some { 0 < n }
     requires listed { IsListed classes.now table.now }
     requires short { (page : ℕ) → 0 < free_len table.now page → page + free_len table.now page ≤ 256 }
-    ensures fits { IfSome result (λ page. n ≤ free_len table.now page) }
+    ensures listed { IfSome result (λ place. (place < PLACES) × (bit_of classes.now place ≡ 1)) }
+    ensures fits { IfSome result (λ place. n ≤ free_len table.now (place % 256)) }
     ensures none { IfNone result ((page : ℕ) → free_len table.now page < n) }
 {
     if n > 256 {
@@ -29,23 +30,24 @@ pub fn fit(table: &Table, classes: &Classes, n: u32) -> Option<u32>
     }
     let class = n.ilog2();
     let full = if n == 1 << class { class } else { class + 1 };
-    match classes.next(full as usize * 256) {
-        Some(place) => Some((place % 256) as u32),
+    match classes.lowest(full) {
+        Some(place) => Some(place),
         None => walk(table, classes, class as usize * 256, n),
     }
 }
 
 /// The same, of the classes from a place on.
-fn walk(table: &Table, classes: &Classes, start: usize, n: u32) -> Option<u32>
+fn walk(table: &Table, classes: &Classes, start: usize, n: u32) -> Option<usize>
     requires start { start ≤ PLACES }
     requires listed { IsListed classes.now table.now }
-    ensures fits { IfSome result (λ page. n ≤ free_len table.now page) }
+    ensures listed { IfSome result (λ place. (place < PLACES) × (bit_of classes.now place ≡ 1)) }
+    ensures fits { IfSome result (λ place. n ≤ free_len table.now (place % 256)) }
     ensures none { IfNone result ((i : ℕ) → start ≤ i → bit_of classes.now i ≡ 1 → free_len table.now (i % 256) < n) }
 {
     let mut from = start;
     while let Some(place) = classes.next(from) {
         if table.free_at(place % 256) >= n {
-            return Some((place % 256) as u32);
+            return Some(place);
         }
         from = place + 1;
     }

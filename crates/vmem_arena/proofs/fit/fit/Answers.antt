@@ -4,8 +4,8 @@ use Rattle.vmem_arena.proofs.Listing.{class_low, pow_more, fits_above, none_fits
 use Rattle.vmem_arena.proofs.fit.fit.Goals as goal
 use Rattle.vmem_arena.proofs.fit.fit.Goals.{then-n-class, else-n-class}
 
-pub next-requires : goal.next-requires
-next-requires c =
+pub lowest-requires : goal.lowest-requires
+lowest-requires c =
     let low = class_low c.ilog2-class.result c.args.n c.ilog2-class.ensures.power_le c.if-n-gt256.false in
     elim c.if-n-class.branch [ then-n-class w ↦ omega arith | else-n-class w ↦ omega arith ]
 
