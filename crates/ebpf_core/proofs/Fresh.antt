@@ -4,7 +4,8 @@ use Rattle.ebpf_verify.specs.Subject.{Subject}
 use Rattle.ebpf_machine.specs.Kinds.{known_kinds}
 use Rattle.ebpf_machine.proofs.World.Owned.{owned_empty}
 use Rattle.ebpf_core.specs.Events.{first_world}
-use Rattle.ebpf_core.specs.Shown.{WorldState, AreKnown, Shows, IsTendedWorld}
+use Rattle.ebpf_core.specs.Shown.{WorldState, Shows, IsTendedWorld}
+use Rattle.ebpf_machine.specs.Kinds.{AreKnown}
 
 abbrev fresh : List Subject → WorldState
 fresh programs = record { programs = programs; runs = []; ledgers = [] ∷ [] ∷ [] ∷ []; places = [] }

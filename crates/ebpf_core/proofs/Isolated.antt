@@ -26,7 +26,8 @@ use Rattle.ebpf_core.specs.declared.event.Answer.{Answer}
 use Rattle.ebpf_core.specs.declared.event.Event.{Event}
 use Rattle.ebpf_core.specs.declared.event.Event.TheVariants.{Start, Exec, Grow, Reap}
 use Rattle.ebpf_core.specs.Events.{first_world, answer_of, happened}
-use Rattle.ebpf_core.specs.Shown.{AreKnown, run_seen}
+use Rattle.ebpf_core.specs.Shown.{run_seen}
+use Rattle.ebpf_machine.specs.Kinds.{AreKnown}
 use Rattle.ebpf_core.specs.Replay.{and_then, world_after_from}
 use Rattle.ebpf_core.specs.Isolation.{answers_to, answer_in, reply_by, replies_to, replies_to_new, IsUntrapped, IsWhereAlone, IsOutcomeOf, IsIsolated, IsSafe, IsAlwaysSafe}
 use Rattle.ebpf_core.proofs.LegalAnswers.{told_next}

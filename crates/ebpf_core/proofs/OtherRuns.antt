@@ -16,7 +16,7 @@ use Rattle.ebpf_machine.proofs.World.Execs.{IsNextWorld, next_world, ok_same}
 use Rattle.ebpf_core.specs.declared.event.Event.{Event}
 use Rattle.ebpf_core.specs.declared.event.Event.TheVariants.{Start, Exec, Grow, Reap}
 use Rattle.ebpf_core.specs.Events.{answer_of, happened}
-use Rattle.ebpf_core.specs.Shown.{AreKnown}
+use Rattle.ebpf_machine.specs.Kinds.{AreKnown}
 use Rattle.ebpf_core.proofs.Runs.{at_number, get_past}
 
 -- the run that an event is of; one that starts is the next by number

@@ -3,7 +3,7 @@ use Rattle.std.specs.Prelude.{◌≡◌, ◌<◌, ℕ, false, true, All, Contain
 use Rattle.std.specs.List.{list_any}
 use Rattle.ebpf_verify.specs.Subject.{Subject}
 use Rattle.ebpf_machine.specs.World.{Name, World, kinds_of, image_at, is_in, name_of}
-use Rattle.ebpf_machine.specs.Kinds.{known_kinds}
+use Rattle.ebpf_machine.specs.Kinds.{known_kinds, AreKnown}
 use Rattle.ebpf_machine.specs.View.{RunView, view_in, slots_in}
 use Rattle.ebpf_machine.specs.RunState.{RunState, seen, slots_kept}
 use Rattle.ebpf_machine.specs.Sound.{IsSound, IsAlone, IsOwned}
@@ -24,10 +24,6 @@ pub record WorldState : Type 0 where
   pub runs : List (RunState Object)
   pub ledgers : List (List ℕ)
   pub places : Places
-
--- programs that were verified with the known kinds
-abbrev pub AreKnown : List Subject → Type 0
-AreKnown programs = All (λ s. kinds_of s.rows ≡ known_kinds) programs
 
 -- what a run sees of itself
 abbrev pub run_seen : RunState Object → RunView

@@ -3,7 +3,7 @@
 ghost use Rattle.std.specs.Prelude.{◌≡◌, IfOk, IfErr, List};
 ghost use Rattle.ebpf_core.specs.Replay.{world_after, IsReplayed, IsReplayFault};
 ghost use Rattle.ebpf_core.specs.Isolation.{IsAlwaysSafe};
-ghost use Rattle.ebpf_core.specs.Shown.{AreKnown};
+ghost use Rattle.ebpf_machine.specs.Kinds.{AreKnown};
 
 use crate::event::Event;
 use crate::fault::{ApplyFault, ReplayFault};

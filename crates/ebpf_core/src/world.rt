@@ -17,16 +17,18 @@ ghost use Rattle.std.specs.Prelude.{◌≡◌, length, slice_get, option_map, On
 ghost use Rattle.ebpf_core.specs.Events.{first_world, happened};
 ghost use Rattle.ebpf_core.specs.declared.event.Event.TheVariants.{Start, Exec, Grow, Reap};
 ghost use Rattle.ebpf_core.specs.Faults.{IsMemoryDue};
-ghost use Rattle.ebpf_core.specs.Shown.{Shows, OfWorld, IsDone, IsRefused, AreKnown};
+ghost use Rattle.ebpf_core.specs.Shown.{Shows, OfWorld, IsDone, IsRefused};
+ghost use Rattle.ebpf_machine.specs.Kinds.{AreKnown};
 ghost use Rattle.ebpf_core.specs.Readers.{status_in, output_in, executed_in, owner_in, bytes_in, ledger_in};
 ghost use Rattle.ebpf_state.specs.Ascending.{IsAscending};
 
-use crate::event::{Answer, Context, Event};
+use crate::event::{Answer, Event};
 use crate::fault::{ApplyCode, ApplyFault};
 use crate::ledger::{Ledger, join, leave};
 use crate::passing::Object;
 use crate::place::{Place, is_home_of, lend, put};
 use crate::stepping::{answer_fault, start_fault, step_in};
+use ebpf_machine::context::Context;
 use ebpf_machine::run::{Run, StartFault};
 use ebpf_verify::verified::Verified;
 use std::alloc::{AllocError, Global};

@@ -4,11 +4,12 @@
 //! traps and none is tested at run time. What it computes is defined in specs/ by a machine that tests every access: the
 //! world of many runs, one event of it, and a run alone in a world of its own.
 //!
-//! To be read in this order: `value`, `kinds`, `objects`, `holding`, `number`, `stack`, `memory`, `execute`,
+//! To be read in this order: `value`, `kinds`, `context`, `objects`, `holding`, `number`, `stack`, `memory`, `execute`,
 //! `report`, `parts`, `helpers`, `advance`, `run`, `whole`.
 #![tactic(auto)]
 
 mod advance;
+pub mod context;
 mod execute;
 mod helpers;
 pub mod holding;

@@ -1,5 +1,7 @@
 //! The command line.
 
+ghost use Rattle.std.specs.Prelude.{◌≤◌};
+
 use clap::{Arg, ArgAction, ArgMatches, Command, value_parser};
 use std::alloc::{AllocError, Global};
 
@@ -17,6 +19,15 @@ const CHECK_EXAMPLE: &str =
 const REPLAY_EXAMPLE: &str =
     "Example: printf '%s\\n' 'program p 0 0 b7000000070000009500000000000000' 'start p -' 'exec 0' | ebpf_run replay";
 
+// Behind the help of `run`.
+const RUN_EXAMPLE: &str =
+    "Example: printf '%s\\n' 'program p 0 0 b7000000070000009500000000000000' 'run p -' | ebpf_run run";
+
+// The most workers, and the most passes of the reaper that an option asks for.
+const MAX_WORKERS: u32 = 64;
+
+const MAX_REAPS: u32 = 1000;
+
 /// What the command line asks for.
 #[derive(Clone, Copy)]
 pub enum Task<'a> {
@@ -24,6 +35,7 @@ pub enum Task<'a> {
     List,
     Check,
     Replay,
+    Run(RunOptions),
 }
 
 /// The options of `one`.
@@ -37,6 +49,17 @@ pub struct OneOptions<'a> {
     pub nulls: bool,
 }
 
+/// The options of `run`.
+#[derive(Clone, Copy)]
+pub struct RunOptions {
+    /// How many workers do the jobs, 1 to 64.
+    pub workers: u32,
+    /// How many passes the reaper makes beside those of the script, 0 to 1000.
+    pub reaps: u32,
+    ghost workers_fit: { (1 ≤ workers) × (workers ≤ 64) },
+    ghost reaps_fit: { reaps ≤ 1000 },
+}
+
 /// The commands with their options.
 pub fn command<'a>(alloc: Global) -> Result<Command<'a>, AllocError> {
     let one = one_command(alloc)?;
@@ -48,7 +71,8 @@ pub fn command<'a>(alloc: Global) -> Result<Command<'a>, AllocError> {
         .subcommand(one)?;
     all.subcommand(list_command(alloc))?
         .subcommand(check_command(alloc))?
-        .subcommand(replay_command(alloc))
+        .subcommand(replay_command(alloc))?
+        .subcommand(run_command(alloc)?)
 }
 
 fn one_command<'a>(alloc: Global) -> Result<Command<'a>, AllocError> {
@@ -102,6 +126,31 @@ fn replay_command<'a>(alloc: Global) -> Command<'a> {
         .after_help(REPLAY_EXAMPLE)
 }
 
+fn run_command<'a>(alloc: Global) -> Result<Command<'a>, AllocError> {
+    let run = Command::new(alloc, "run")
+        .about("Runs the script on standard input: programs, and jobs that workers do with them")
+        .after_help(RUN_EXAMPLE);
+    run.arg(workers_option(alloc))?.arg(reaps_option(alloc))
+}
+
+fn workers_option<'a>(alloc: Global) -> Arg<'a> {
+    Arg::new(alloc, "workers")
+        .long("workers")
+        .value_name("N")
+        .value_parser(value_parser!(u32).range(1..=64))
+        .default_value("1")
+        .help("How many workers do the jobs, 1 to 64")
+}
+
+fn reaps_option<'a>(alloc: Global) -> Arg<'a> {
+    Arg::new(alloc, "reaps")
+        .long("reaps")
+        .value_name("N")
+        .value_parser(value_parser!(u32).range(0..=1000))
+        .default_value("0")
+        .help("How many passes the reaper makes beside those of the script, 0 to 1000")
+}
+
 /// The task that the words of the command line ask for, where they are a command.
 pub fn task_of<'a>(matches: &ArgMatches<'a>) -> Option<Task<'a>> {
     match matches.subcommand() {
@@ -113,6 +162,18 @@ pub fn task_of<'a>(matches: &ArgMatches<'a>) -> Option<Task<'a>> {
         Some(("list", _)) => Some(Task::List),
         Some(("check", _)) => Some(Task::Check),
         Some(("replay", _)) => Some(Task::Replay),
+        Some(("run", given)) => Some(Task::Run(run_options(given)?)),
         _ => None,
     }
+}
+
+// The options of `run`. Each has a value within its bounds, since the parser refuses all others; but no clause says so of what is
+// read here, so the bounds are tested once more.
+fn run_options(given: &ArgMatches<'_>) -> Option<RunOptions> {
+    let workers = given.get_one::<u32>("workers")?;
+    let reaps = given.get_one::<u32>("reaps")?;
+    if workers < 1 || workers > MAX_WORKERS || reaps > MAX_REAPS {
+        return None;
+    }
+    Some(RunOptions { workers, reaps })
 }

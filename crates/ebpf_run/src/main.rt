@@ -2,7 +2,9 @@
 //!
 //! This crate reads the command line and has the standard streams. What a command writes is a function of what it reads and
 //! of its options, errors included, and it writes nothing else: that is the contract of [`ebpf_one::one::one`] and
-//! [`ebpf_one::list::list`], of [`ebpf_script::check::check`] and [`ebpf_script::replay::replay`], which are all that it calls.
+//! [`ebpf_one::list::list`], of [`ebpf_script::check::check`] and [`ebpf_script::replay::replay`]. What `run` writes is such a
+//! text for some outcome of the jobs, since threads decide which requests for objects are granted: that is the contract of
+//! [`ebpf_script::run::run`]. These are all that it calls.
 #![tactic(auto)]
 
 mod command;
@@ -15,8 +17,11 @@ use ebpf_one::list::list;
 use ebpf_one::one::one;
 use ebpf_script::check::check;
 use ebpf_script::replay::replay;
+use ebpf_script::run::run as run_script;
 use std::process::ExitCode;
 use std::rt::Env;
+use std::sync::Wait;
+use std::thread::Threads;
 use std::{env, io};
 
 // The command line can't be read, or asks for nothing that there is.
@@ -34,7 +39,9 @@ fn main(rt: HostRuntime) -> ExitCode {
 }
 
 // Does what the command line asks for, and gives the exit status.
-fn run<R: AllocGlobal + Env + Eprint + Input + Print>(rt: &R) -> Result<u8, EngineFault> {
+fn run<R: AllocGlobal + Env + Eprint + Input + Print + Threads + Wait + Sync>(
+    rt: &R,
+) -> Result<u8, EngineFault> {
     let alloc = rt.alloc();
     let words = match env::args(rt) {
         Ok(words) => words,
@@ -54,7 +61,10 @@ fn run<R: AllocGlobal + Env + Eprint + Input + Print>(rt: &R) -> Result<u8, Engi
 }
 
 // Does a task on the standard streams, and gives the exit status.
-fn perform<R: AllocGlobal + Input + Print>(rt: &R, task: Task<'_>) -> Result<u8, EngineFault> {
+fn perform<R: AllocGlobal + Input + Print + Threads + Wait + Sync>(
+    rt: &R,
+    task: Task<'_>,
+) -> Result<u8, EngineFault> {
     let alloc = rt.alloc();
     let mut reader = rt.reader();
     let mut writer = io::writer(rt);
@@ -70,6 +80,14 @@ fn perform<R: AllocGlobal + Input + Print>(rt: &R, task: Task<'_>) -> Result<u8,
         Task::List => list(alloc, &mut reader, &mut writer),
         Task::Check => check(alloc, &mut reader, &mut writer),
         Task::Replay => replay(alloc, &mut reader, &mut writer),
+        Task::Run(options) => run_script(
+            rt,
+            alloc,
+            &mut reader,
+            &mut writer,
+            options.workers,
+            options.reaps,
+        ),
     }?;
     Ok(match done {
         Done::Clean => 0,

@@ -4,4 +4,6 @@ pub mod ScriptLemmas
 pub mod LinesLemmas
 pub mod VerdictLemmas
 pub mod WorldLemmas
+pub mod RunnableLemmas
+pub mod PoolLemmas
 pub mod ScriptTextLemmas

@@ -5,20 +5,18 @@ use Rattle.std.proofs.lemmas.Bool.{lt-ltb}
 use Rattle.ebpf_command.specs.declared.done.FaultCode.{FaultCode}
 use Rattle.ebpf_command.specs.declared.done.FaultCode.TheVariants.{S1}
 use Rattle.ebpf_command.specs.Input.{read_of}
-use Rattle.ebpf_command.specs.Response.{Response}
 use Rattle.ebpf_command.proofs.Written.{CutsLong}
 use Rattle.ebpf_script.specs.declared.reader.script.Dialect.{Dialect}
 use Rattle.ebpf_script.specs.ParsedScript.{ParsedScript}
 use Rattle.ebpf_script.specs.Scripts.{parsed_text}
-use Rattle.ebpf_script.specs.ScriptText.{RespondsScript}
-use Rattle.ebpf_script.specs.Verdicts.{Verdict}
+use Rattle.ebpf_script.specs.ScriptText.{Doing, RespondsScript}
 
 parsed_text_long : (dialect : Dialect) (text : List ℕ) → 1048576 < length text → parsed_text dialect text ≡ Err (0, S1)
 unfolding parsed_text
 parsed_text_long dialect text long = rw (lt-ltb 1048576 (length text) long) refl
 
-pub script_cuts : (dialect : Dialect) (response_of : ParsedScript → List Verdict → Response) → CutsLong (λ text response. RespondsScript response_of (parsed_text dialect text) response)
-script_cuts dialect response_of input response long h =
+pub script_cuts : (dialect : Dialect) (Does : Doing) → CutsLong (λ text response. RespondsScript Does (parsed_text dialect text) response)
+script_cuts dialect Does input response long h =
     let cut : length (read_of input) ≡ 1048577 = length-take-le 1048577 input (omega (arith, long)) in
-    let P : Result ParsedScript (ℕ × FaultCode) → Type 0 = λ r. RespondsScript response_of r response in
+    let P : Result ParsedScript (ℕ × FaultCode) → Type 0 = λ r. RespondsScript Does r response in
     subst P (sym (parsed_text_long dialect input (omega (arith, long)))) (subst P (parsed_text_long dialect (read_of input) (omega (arith, cut))) h)

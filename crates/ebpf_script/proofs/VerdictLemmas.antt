@@ -10,11 +10,11 @@ use Rattle.ebpf_verify.specs.declared.decl.Decl.{Decl}
 use Rattle.ebpf_verify.specs.Subject.{Subject}
 use Rattle.ebpf_machine.specs.World.{kinds_of}
 use Rattle.ebpf_machine.specs.Kinds.{known_kinds}
-use Rattle.ebpf_core.specs.Shown.{AreKnown}
+use Rattle.ebpf_machine.specs.Kinds.{AreKnown}
 use Rattle.ebpf_command.specs.declared.judge.Judged.{Judged}
 use Rattle.ebpf_command.specs.declared.judge.Judged.TheVariants.{Accepted, Refused}
 use Rattle.ebpf_command.specs.Judging.{IsJudged}
-use Rattle.ebpf_command.proofs.JudgedRows.{accepted_rows}
+use Rattle.ebpf_command.proofs.JudgedRows.{accepted_decl, accepted_rows}
 use Rattle.ebpf_machine.proofs.Instructions.KindLemmas.{kinds_known}
 use Rattle.ebpf_script.specs.declared.verdicts.Verdicts.{Verdicts}
 use Rattle.ebpf_script.specs.ParsedScript.{Named}
@@ -61,3 +61,31 @@ known_of (v ∷ verdicts) = All-append (λ (s : Subject). kinds_of s.rows ≡ kn
 
 pub known_kept : (programs : List Named) (kept : Verdicts) → AreKept programs kept → AreKnown kept.accepted.items
 known_kept programs kept h = subst AreKnown (sym h.accepted) (known_of h.verdicts)
+
+-- ---- where none is refused, the programs that are accepted are all, in their order
+
+contexts_in : (bytes : List ℕ) (decl : Decl) (rows : List KindRow) (context : ℕ) (judged : Judged) → decl.context ≡ context → IsJudged bytes decl rows judged → is_refused judged ≡ false
+    → map (λ s. s.decl.context) (accepted_in judged) ≡ context ∷ []
+contexts_in bytes decl rows context (Refused code slot) same is none = absurd cc
+contexts_in bytes decl rows context (Accepted t) same is none =
+    ap (λ (n : ℕ). n ∷ []) (ap (λ (d : Decl). d.context) (accepted_decl bytes decl rows (Accepted t) t is refl) ∙ same)
+
+contexts_of : (verdicts : List Verdict) → is_any_refused verdicts ≡ false → map (λ s. s.decl.context) (accepted_of verdicts) ≡ map (λ p. p.context) (map (λ v. v.program) verdicts)
+contexts_of [] none = refl
+contexts_of (v ∷ verdicts) none =
+    map-append (λ (s : Subject). s.decl.context) (accepted_in v.judged) (accepted_of verdicts)
+    ∙ (ap (λ (ns : List ℕ). ns ++ map (λ (s : Subject). s.decl.context) (accepted_of verdicts)) (contexts_in v.program.bytes v.decl v.rows v.program.context v.judged v.context v.is (left _ _ none))
+    ∙ ap (λ (ns : List ℕ). v.program.context ∷ ns) (contexts_of verdicts (right _ _ none)))
+  where
+    left : (a b : Bool) → (a || b) ≡ false → a ≡ false
+    left true b h = h
+    left false b h = refl
+
+    right : (a b : Bool) → (a || b) ≡ false → b ≡ false
+    right true b h = absurd cc
+    right false b h = h
+
+-- they declare what the script says
+pub contexts_kept : (programs : List Named) (kept : Verdicts) → AreKept programs kept → kept.refused ≡ false → map (λ s. s.decl.context) kept.accepted.items ≡ map (λ p. p.context) programs
+contexts_kept programs kept h none =
+    ap (λ (ss : List Subject). map (λ (s : Subject). s.decl.context) ss) h.accepted ∙ (contexts_of h.verdicts (sym h.refused ∙ none) ∙ ap (λ (ps : List Named). map (λ (p : Named). p.context) ps) h.on)

@@ -6,11 +6,14 @@ pub mod Shapes
 pub mod ParsedScript
 pub mod LineFaults
 pub mod Scripts
+pub mod Runnable
 pub mod ReadScripts
 pub mod Verdicts
 pub mod VerdictsKept
 pub mod EventCodes
 pub mod WorldLines
+pub mod OutcomeLines
 pub mod ScriptText
 pub mod CheckText
 pub mod ReplayText
+pub mod RunText

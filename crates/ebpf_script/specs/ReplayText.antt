@@ -1,6 +1,6 @@
 -- The response of `replay` to a text: the fault of the script, or the verdict on each program and then, where none is refused,
 -- the world after the events.
-use Rattle.std.specs.Prelude.{ℕ, ◌++◌, List, Result, Ok, Err, codes, decimal}
+use Rattle.std.specs.Prelude.{◌≡◌, ℕ, ◌++◌, List, Result, Ok, Err, codes, decimal}
 use Rattle.ebpf_machine.specs.World.{World}
 use Rattle.ebpf_machine.specs.Events.{Illegal}
 use Rattle.ebpf_core.specs.Faults.{code_of}
@@ -9,10 +9,9 @@ use Rattle.ebpf_command.specs.Response.{Response, refused_response, clean_respon
 use Rattle.ebpf_command.specs.Writing.{Responding}
 use Rattle.ebpf_script.specs.declared.reader.script.Dialect.TheVariants.{Events}
 use Rattle.ebpf_script.specs.EventCodes.{apply_name}
-use Rattle.ebpf_script.specs.ParsedScript.{ParsedScript}
 use Rattle.ebpf_script.specs.Scripts.{parsed_text}
-use Rattle.ebpf_script.specs.ScriptText.{RespondsScript}
-use Rattle.ebpf_script.specs.Verdicts.{Verdict, verdict_lines, accepted_of}
+use Rattle.ebpf_script.specs.ScriptText.{Doing, RespondsScript}
+use Rattle.ebpf_script.specs.Verdicts.{verdict_lines, accepted_of}
 use Rattle.ebpf_script.specs.WorldLines.{world_lines}
 
 -- an event is not legal, for this cause; events count from 0
@@ -24,8 +23,8 @@ abbrev pub world_response : List ℕ → Result World (ℕ × Illegal) → Respo
 world_response verdicts (Ok w) = clean_response (verdicts ++ world_lines w)
 world_response verdicts (Err stop) = refused_response (verdicts ++ stopped_line stop.0 stop.1)
 
-abbrev pub replay_response : ParsedScript → List Verdict → Response
-replay_response parsed verdicts = world_response (verdict_lines verdicts) (world_after (accepted_of verdicts) parsed.events)
+abbrev pub DoesReplay : Doing
+DoesReplay parsed verdicts response = response ≡ world_response (verdict_lines verdicts) (world_after (accepted_of verdicts) parsed.events)
 
 abbrev pub RespondsReplay : Responding
-RespondsReplay text response = RespondsScript replay_response (parsed_text Events text) response
+RespondsReplay text response = RespondsScript DoesReplay (parsed_text Events text) response

@@ -3,7 +3,7 @@
 ghost use Rattle.std.specs.Prelude.{◌≡◌, ◌≢◌, Ok, IfOk, IfErr};
 ghost use Rattle.ebpf_command.specs.declared.done.EngineFault.TheVariants.{Output};
 ghost use Rattle.ebpf_command.specs.Writing.{Writes, WritesBeginning, Reads};
-ghost use Rattle.ebpf_script.specs.CheckText.{RespondsCheck, check_response};
+ghost use Rattle.ebpf_script.specs.CheckText.{RespondsCheck, DoesCheck};
 ghost use Rattle.ebpf_script.specs.ReadScripts.{parsed_script};
 ghost use Rattle.ebpf_script.specs.ScriptText.{RespondsScript};
 
@@ -47,7 +47,7 @@ fn answer_text(alloc: Global, text: &[u8]) -> Result<Answer, AllocError>
 
 // The response to a script.
 fn answer_script(alloc: Global, script: &Script) -> Result<Answer, AllocError>
-    ensures { IfOk result (RespondsScript check_response (Ok (parsed_script script.now))) }
+    ensures { IfOk result (RespondsScript DoesCheck (Ok (parsed_script script.now))) }
 {
     let verdicts = verdicts_on(alloc, &script.programs)?;
     let done = if verdicts.refused {

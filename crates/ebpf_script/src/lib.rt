@@ -1,14 +1,18 @@
-//! The commands over scripts: `check` judges a script's programs, and `replay` makes the world after its events as well.
+//! The commands over scripts: `check` judges a script's programs, `replay` makes the world after its events as well, and `run`
+//! does its jobs.
 //!
-//! What each writes is a function of what it reads, errors included, and it writes nothing else: that is the contract of
-//! [`check::check`] and of [`replay::replay`].
+//! What `check` and `replay` write is a function of what they read, errors included; of what `run` writes that much is open which
+//! calls of `new` found no object. They write nothing else: that is the contract of [`check::check`], [`replay::replay`] and
+//! [`run::run`].
 //!
-//! To be read in this order: `reader`, `verdicts`, `check`, `event_codes`, `world_text`, `replay`.
+//! To be read in this order: `reader`, `verdicts`, `check`, `event_codes`, `world_text`, `replay`, `outcome_text`, `run`.
 #![tactic(auto)]
 
 pub mod check;
 mod event_codes;
+mod outcome_text;
 pub mod reader;
 pub mod replay;
+pub mod run;
 mod verdicts;
 mod world_text;

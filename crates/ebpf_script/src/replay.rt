@@ -2,11 +2,11 @@
 
 ghost use Rattle.std.specs.Prelude.{◌≡◌, ◌≢◌, string_bytes, IfOk, IfErr};
 ghost use Rattle.ebpf_core.specs.Replay.{world_after};
-ghost use Rattle.ebpf_core.specs.Shown.{AreKnown};
+ghost use Rattle.ebpf_machine.specs.Kinds.{AreKnown};
 ghost use Rattle.ebpf_command.specs.declared.done.EngineFault.TheVariants.{Output};
 ghost use Rattle.ebpf_command.specs.Writing.{Writes, WritesBeginning, Reads};
 ghost use Rattle.ebpf_script.specs.ReadScripts.{parsed_script};
-ghost use Rattle.ebpf_script.specs.ReplayText.{RespondsReplay, replay_response, world_response};
+ghost use Rattle.ebpf_script.specs.ReplayText.{RespondsReplay, DoesReplay, world_response};
 ghost use Rattle.ebpf_script.specs.ScriptText.{RespondsScript};
 
 use crate::event_codes::apply_name;
@@ -55,7 +55,7 @@ fn answer_text(alloc: Global, text: &[u8]) -> Result<Answer, AllocError>
 
 // The response to a script.
 fn answer_script(alloc: Global, script: &Script) -> Result<Answer, AllocError>
-    ensures { IfOk result (RespondsScript replay_response (Ok (parsed_script script.now))) }
+    ensures { IfOk result (RespondsScript DoesReplay (Ok (parsed_script script.now))) }
 {
     let verdicts = verdicts_on(alloc, &script.programs)?;
     if verdicts.refused {

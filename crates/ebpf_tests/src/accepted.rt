@@ -3,7 +3,7 @@
 ghost use Rattle.std.specs.Prelude.{◌≡◌};
 ghost use Rattle.ebpf_machine.specs.World.{kinds_of};
 ghost use Rattle.ebpf_machine.specs.Kinds.{known_kinds};
-ghost use Rattle.ebpf_core.specs.Shown.{AreKnown};
+ghost use Rattle.ebpf_machine.specs.Kinds.{AreKnown};
 
 use crate::programs::holds;
 use ebpf_command::judge::{Judged, judge};

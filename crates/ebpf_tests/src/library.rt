@@ -1,10 +1,11 @@
 //! The library as its users call it. README shows this function.
 
 use crate::programs::{bytes_of, holds};
-use ebpf_core::event::{Answer, Context, Event};
+use ebpf_core::event::{Answer, Event};
 use ebpf_core::world::{Status, World};
 use ebpf_flow::check::check;
 use ebpf_insn::decode::decode;
+use ebpf_machine::context::Context;
 use ebpf_state::kinds::kinds;
 use ebpf_verify::decl::Decl;
 use ebpf_verify::verify::verify;

@@ -10,11 +10,12 @@ use ebpf_command::hex_text::{hex_bytes, hex_or_dash};
 use ebpf_command::text::fault_line;
 use ebpf_flow::fault::FlowCode;
 use ebpf_insn::fault::DecodeCode;
-use ebpf_script::reader::script::{Dialect, Job, ProgramText, Script};
+use ebpf_script::reader::script::{Dialect, ProgramText, Script};
 use ebpf_verify::fault::VerifyCode;
 use std::alloc::{AllocError, Global};
 use std::process::Abort;
 use std::test::*;
+use worker_pool::Job;
 
 const SCRIPT: &str = "# two programs\nprogram add 4 2 b7000000\n\tprogram Count-1_x 0 64 -\r\n\n\
 start add 00Ff\nstart Count-1_x -\n  # runs\nstart add -\n\

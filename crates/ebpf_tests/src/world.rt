@@ -1,14 +1,15 @@
 //! Worlds of small programs, each written as a script: what replay answers, which events are refused, and that no order
 //! matters.
 
-ghost use Rattle.ebpf_core.specs.Shown.{AreKnown};
+ghost use Rattle.ebpf_machine.specs.Kinds.{AreKnown};
 
 use crate::accepted::read;
 use crate::programs::{column, holds, is_told};
-use ebpf_core::event::{Answer, Context, Event};
+use ebpf_core::event::{Answer, Event};
 use ebpf_core::fault::{ApplyCode, ApplyFault, ReplayFault};
 use ebpf_core::replay::replay;
 use ebpf_core::world::{Status, World};
+use ebpf_machine::context::Context;
 use ebpf_verify::verified::Verified;
 use std::alloc::{AllocError, Global};
 use std::process::Abort;

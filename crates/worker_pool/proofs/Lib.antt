@@ -1,2 +1,13 @@
 pub mod Holding
 pub mod Claiming
+pub mod Sums
+pub mod Evens
+pub mod Placing
+pub mod PlacingAll
+pub mod Recruiting
+pub mod Turned
+pub mod Dismissing
+pub mod Shares
+pub mod Serving
+pub mod Admitted
+pub mod Outcoming

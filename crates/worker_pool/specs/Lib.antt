@@ -1,3 +1,10 @@
 pub mod Object
 pub mod Claims
 pub mod Counts
+pub mod Working
+pub mod Admission
+pub mod Outcomes
+pub mod Books
+pub mod Crews
+pub mod Places
+pub mod Serving

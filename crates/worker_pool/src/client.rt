@@ -1,6 +1,6 @@
 //! The client of all caches that a worker is.
 
-ghost use Rattle.std.specs.Prelude.{◌≡◌, ◌≤◌, ◌+◌, ◌==◌, [], ℕ, count_by};
+ghost use Rattle.std.specs.Prelude.{◌≡◌, ◌≤◌, ◌+◌, ◌^◌, ◌==◌, [], ℕ, count_by};
 ghost use Rattle.worker_pool.specs.Claims.{lost};
 
 use crate::before::Before;
@@ -29,6 +29,7 @@ pub struct Client<'a, N: Before, R: Wait> {
     ghost table: { owners.now.table ≡ N.table },
     ghost seated: { seat.table ≡ N.table },
     ghost once: { (slot : ℕ) → count_by (λ e. e.0 == slot) seat.held ≤ 1 },
+    ghost few: { clashes ≤ 2 ^ 56 },
     ghost clashed: { lost seat.notes ≡ N.lost + clashes },
 }
 
@@ -57,5 +58,22 @@ impl<'a, N: Before, R: Wait> Client<'a, N, R> {
             clashes: 0,
             before: PhantomData,
         }
+    }
+
+    /// The seat, back, and how many objects went back since their slots had an owner.
+    pub(crate) fn end(self) -> (OwnerSeat, u64)
+        ensures parts { result ≡ (self.entry.seat, self.entry.clashes) }
+        ensures few { result.1 ≤ 2 ^ 56 }
+    {
+        let Client {
+            rt: _,
+            arena: _,
+            owners: _,
+            seat,
+            job: _,
+            clashes,
+            before: _,
+        } = self;
+        (seat, clashes)
     }
 }

@@ -1,6 +1,6 @@
 //! Counts that stop at 2^56, as those of a hand do: a call that would pass the end waits for ever, which no host ever sees.
 
-ghost use Rattle.std.specs.Prelude.{◌≡◌, ◌+◌};
+ghost use Rattle.std.specs.Prelude.{◌≡◌, ◌≤◌, ◌+◌, ◌^◌};
 
 use std::sync::Wait;
 
@@ -9,7 +9,8 @@ const MOST: u64 = 1 << 56;
 
 /// Counts one more.
 pub fn count<R: Wait>(rt: &R, number: &mut u64)
-    ensures { number.new ≡ number.old + 1 }
+    ensures one_more { number.new ≡ number.old + 1 }
+    ensures few { number.new ≤ 2 ^ 56 }
 {
     if *number >= MOST {
         wait_for_ever(rt);

@@ -1,21 +1,44 @@
 //! Workers that run jobs, whose programs allocate from caches that all workers share.
 //!
-//! This part is the store of one worker: what answers the calls of `new` and `free` of the runs that it makes. It has a hand
-//! at the cache of each kind, and a seat at the table of owners. An object that a hand takes is a run's only once the seat
-//! has claimed its slot for the job. Where the table has another owner for it, the object goes back, the call is
-//! answered null, and the clash is counted. An object that a run frees is released before the hand has it back, so that
-//! nobody who takes it next finds its slot owned.
+//! A worker has a store, which answers the calls of `new` and `free` of the runs that it makes: a hand at the cache of each kind,
+//! and a seat at the table of owners. An object that a hand takes is a run's only once the seat has claimed its slot for the
+//! job. Where the table has another owner for it, the object goes back, the call is answered null, and the clash is counted. An
+//! object that a run frees is released before the hand has it back, so that nobody who takes it next finds its slot owned.
 //!
-//! What it promises: the store keeps the laws of `Objects` of ebpf_machine, so whatever is proved of a run over some store
-//! holds over this one; and each entry of the seat names the job that was being done and the call that was granted the
-//! object. `IsGranted`, `IsRefused` and `IsGiven` of specs/Claims say what each call does to the books.
+//! Workers run side by side, with the reaper beside them. Each draws the number of a job, runs it over its store and keeps the
+//! report, until there are no more. [`run_jobs`] makes all this and puts the reports in the order of the jobs.
 //!
-//! To be read in this order: `object`, `before`, `client`, `stock`, `store`.
+//! What it promises: each job is done once, and its report is that of its program alone; what the caches count is what the reports
+//! say, and all that went out came back. It stands on this: the store keeps the laws of `Objects` of ebpf_machine, so whatever
+//! is proved of a run over some store holds over this one; and each number is drawn once.
+//!
+//! To be read in this order: `object`, `before`, `client`, `stock`, `store`, `jobs`, `gate`, `shared`, `worker`, `team`,
+//! `outcome`, `fault`, `admission`, `room`, `handed`, `caches`, `crew`, `place`, `pool`.
 #![tactic(auto)]
 
+mod admission;
 mod before;
+mod caches;
 mod client;
 mod count;
+mod crew;
+mod fault;
+mod gate;
+mod handed;
+mod jobs;
 mod object;
+mod outcome;
+mod place;
+mod pool;
+mod room;
+mod shared;
 mod stock;
 mod store;
+mod team;
+mod worker;
+
+pub use fault::PoolFault;
+pub use gate::{Gate, NoGate, Point};
+pub use jobs::Job;
+pub use outcome::{Host, MAX_JOBS, MAX_WORKERS, Outcome, Reports};
+pub use pool::run_jobs;

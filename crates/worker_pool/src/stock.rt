@@ -23,6 +23,22 @@ pub struct Stock<'a, K: Kind, A: Ledger, B: Ledger> {
 }
 
 impl<'a, K: Kind, A: Ledger, B: Ledger> Stock<'a, K, A, B> {
+    /// A stock of a hand that gave nothing back yet.
+    pub(crate) fn new(cache: &'a Cache<K, A, B>, hand: Hand<K, A, B>) -> Stock<'a, K, A, B>
+        requires { hand.frees ≡ 0 }
+        ensures { result.hand ≡ hand }
+    {
+        Stock { cache, hand }
+    }
+
+    /// The hand, back.
+    pub(crate) fn end(self) -> Hand<K, A, B>
+        ensures { result ≡ self.entry.hand }
+    {
+        let Stock { cache: _, hand } = self;
+        hand
+    }
+
     /// Takes an object, and claims its slot for the job and for the call at this slot of its program. None where the cache
     /// has none, or where the slot has an owner: then the object goes back.
     pub(crate) fn take<N: Before, R: Wait>(

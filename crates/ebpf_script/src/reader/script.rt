@@ -3,9 +3,10 @@
 ghost use Rattle.std.specs.Prelude.{◌≡◌};
 
 use ebpf_command::done::{FaultCode, Stop};
-use ebpf_core::event::{Context, Event};
+use ebpf_core::event::Event;
 use ebpf_verify::decl::Decl;
 use indexmap::IndexMap;
+use worker_pool::Job;
 
 /// Which lines a script may have beside its programs.
 #[derive(Clone, Copy)]
@@ -21,13 +22,6 @@ pub enum Dialect {
 pub struct ProgramText {
     pub bytes: Vec<u8>,
     pub decl: Decl,
-}
-
-/// A run that a worker is to make: of the program of this number, on this context.
-#[derive(Drop)]
-pub struct Job {
-    pub program: usize,
-    pub context: Context,
 }
 
 /// The programs of a script by their names, in the order of their lines, and what its dialect has beside them.

@@ -9,12 +9,14 @@ ghost use Rattle.ebpf_script.specs.Shapes.{ProgramLine, StartLine, ExecLine, Ans
 
 use crate::reader::names::name_of;
 use crate::reader::numbers::{context_of, held_of, kind_of, pages_of, run_of, slot_of};
-use crate::reader::script::{Job, ProgramText, Script};
+use crate::reader::script::{ProgramText, Script};
 use ebpf_command::done::{FaultCode, Stop};
 use ebpf_command::hex_text::hex_or_dash;
-use ebpf_core::event::{Answer, Context, Event};
+use ebpf_core::event::{Answer, Event};
+use ebpf_machine::context::Context;
 use ebpf_verify::decl::Decl;
 use std::alloc::Global;
+use worker_pool::Job;
 
 /// Reads `program NAME CONTEXT HELD HEX`.
 pub(crate) fn read_program(

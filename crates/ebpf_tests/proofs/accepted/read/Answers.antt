@@ -3,7 +3,7 @@ use Rattle.std.proofs.lemmas.List.Elements.{All-push}
 use Rattle.ebpf_verify.specs.Subject.{Subject}
 use Rattle.ebpf_machine.specs.World.{kinds_of}
 use Rattle.ebpf_machine.specs.Kinds.{known_kinds}
-use Rattle.ebpf_core.specs.Shown.{AreKnown}
+use Rattle.ebpf_machine.specs.Kinds.{AreKnown}
 use Rattle.ebpf_tests.proofs.accepted.read.Goals as goal
 
 -- they are known where the push found memory, and where it didn't

@@ -1,4 +1,4 @@
-use Rattle.ebpf_core.specs.Shown.{AreKnown}
+use Rattle.ebpf_machine.specs.Kinds.{AreKnown}
 use Rattle.ebpf_tests.proofs.accepted.read.Given as goal
 
 abbrev pub invariant-loop-program : goal.invariant-loop-program

@@ -11,6 +11,7 @@ invariant_of-client g c =
       table = client.table;
       seated = after.0 ∙ client.seated;
       once = once_released _ _ client.seat.held _ c.slot.ensures after.1.0 c.requires client.once;
+      few = client.few;
       clashed = after.1.1 ∙ client.clashed;
     }
 

@@ -12,6 +12,7 @@ invariant_of-client g c =
       table = client.table;
       seated = claim.table ∙ client.seated;
       once = once_claimed _ _ client.seat.held _ claim.ok.0 claim.own client.once;
+      few = client.few;
       clashed = ap lost claim.ok.1 ∙ (lost_as_before _ client.seat.notes ∙ client.clashed);
     }
 
@@ -28,5 +29,6 @@ invariant_of-client-2 g c =
       table = client.table;
       seated = claim.table ∙ client.seated;
       once = once_same client.seat.held _ claim.taken.0 client.once;
-      clashed = lost_one_more _ _ _ _ _ client.seat.notes _ claim.taken.1 c.count.ensures client.clashed;
+      few = c.count.ensures.few;
+      clashed = lost_one_more _ _ _ _ _ client.seat.notes _ claim.taken.1 c.count.ensures.one_more client.clashed;
     }

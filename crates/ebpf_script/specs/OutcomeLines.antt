@@ -1,0 +1,40 @@
+-- The lines of an outcome: what each job did, and then what the cache of each kind did.
+use Rattle.std.specs.Prelude.{ℕ, ◌+◌, ◌++◌, List, [], ◌∷◌, codes, decimal, Option, Some, None}
+use Rattle.std.specs.List.{flat_map}
+use Rattle.ebpf_machine.specs.declared.report.Report.{Report}
+use Rattle.object_cache.specs.declared.totals.Totals.{Totals}
+use Rattle.worker_pool.specs.declared.outcome.Outcome.{Outcome}
+
+-- a number of a job's output
+abbrev pub job_emit_line : ℕ → ℕ → List ℕ
+job_emit_line job value = codes "emit " ++ (decimal job ++ (codes " " ++ (decimal value ++ codes "\n")))
+
+-- how a job ended, where it exited
+abbrev pub job_line : ℕ → Option ℕ → (executed peak : ℕ) → List ℕ
+job_line job None executed peak = []
+job_line job (Some exit) executed peak =
+    codes "job " ++ (decimal job ++ (codes " exit " ++ (decimal exit ++ (codes " executed " ++ (decimal executed ++
+    (codes " peak " ++ (decimal peak ++ codes "\n")))))))
+
+abbrev pub report_lines : ℕ → Report → List ℕ
+report_lines job r = flat_map (job_emit_line job) r.output ++ job_line job r.exit r.executed r.peak
+
+-- the reports of the jobs from this number on, in order
+abbrev pub reports_from : ℕ → List Report → List ℕ
+reports_from job [] = []
+reports_from job (r ∷ reports) = report_lines job r ++ reports_from (job + 1) reports
+
+-- what a cache was asked for, and what came back to it
+abbrev pub cache_line : List ℕ → Totals → List ℕ
+cache_line name t =
+    codes "cache " ++ (name ++ (codes " allocs " ++ (decimal t.allocs ++ (codes " frees " ++ (decimal t.frees ++
+    (codes " nulls " ++ (decimal t.nulls ++ (codes " missing " ++ (decimal t.missing ++ codes "\n")))))))))
+
+-- the kinds have these names, in the order of their numbers
+abbrev pub cache_lines : List Totals → List ℕ
+cache_lines (cells ∷ records ∷ blocks ∷ []) =
+    cache_line (codes "cell") cells ++ (cache_line (codes "record") records ++ cache_line (codes "block") blocks)
+cache_lines _ = []
+
+abbrev pub outcome_lines : Outcome → List ℕ
+outcome_lines o = reports_from 0 o.reports ++ cache_lines o.totals

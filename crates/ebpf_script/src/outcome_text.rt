@@ -1,0 +1,82 @@
+//! The lines of an outcome.
+
+ghost use Rattle.std.specs.Prelude.{◌≡◌, ◌++◌, string_bytes, OnOk};
+ghost use Rattle.std.specs.List.{flat_map};
+ghost use Rattle.ebpf_script.specs.OutcomeLines.{job_emit_line, report_lines, reports_from, cache_line, cache_lines, outcome_lines};
+
+use ebpf_machine::report::Report;
+use object_cache::Totals;
+use std::alloc::AllocError;
+use worker_pool::Outcome;
+
+/// Writes an outcome behind a text: each job in order, and then the cache of each kind. It fails only where an allocation
+/// fails.
+pub(crate) fn write_outcome(text: &mut String, outcome: &Outcome) -> Result<(), AllocError>
+    ensures { OnOk result (string_bytes text.new ≡ string_bytes text.old ++ outcome_lines outcome.now) }
+{
+    write_reports(text, &outcome.reports.reports)?;
+    write_caches(text, &outcome.totals)
+}
+
+// Writes what each job did.
+fn write_reports(text: &mut String, reports: &[Report]) -> Result<(), AllocError>
+    ensures { OnOk result (string_bytes text.new ≡ string_bytes text.old ++ reports_from 0 reports.now) }
+{
+    for job in 0..reports.len() {
+        write_report(text, job, &reports[job])?;
+    }
+    Ok(())
+}
+
+// Writes what a job did: what it added to its output, and how it ended.
+fn write_report(text: &mut String, job: usize, report: &Report) -> Result<(), AllocError>
+    ensures { OnOk result (string_bytes text.new ≡ string_bytes text.old ++ report_lines job report.now) }
+{
+    write_output(text, job, &report.output.numbers)?;
+    let Some(exit) = report.exit else {
+        return Ok(());
+    };
+    let executed = report.executed;
+    let peak = report.peak;
+    write!(
+        text,
+        "job {job} exit {exit} executed {executed} peak {peak}\n"
+    )
+}
+
+// Writes the output of a job.
+fn write_output(text: &mut String, job: usize, output: &[u64]) -> Result<(), AllocError>
+    ensures { OnOk result (string_bytes text.new ≡ string_bytes text.old ++ flat_map (job_emit_line job) output.now) }
+{
+    for value in output {
+        write!(text, "emit {job} {value}\n")?;
+    }
+    Ok(())
+}
+
+// Writes what the cache of each kind did.
+fn write_caches(text: &mut String, totals: &[Totals; 3]) -> Result<(), AllocError>
+    ensures { OnOk result (string_bytes text.new ≡ string_bytes text.old ++ cache_lines totals.now) }
+{
+    let [cells, records, blocks] = totals;
+    write_cache(text, "cell", cells)?;
+    write_cache(text, "record", records)?;
+    write_cache(text, "block", blocks)
+}
+
+// Writes what a cache did.
+fn write_cache(text: &mut String, name: &str, totals: &Totals) -> Result<(), AllocError>
+    ensures { OnOk result (string_bytes text.new ≡ string_bytes text.old ++ cache_line name.now totals.now) }
+{
+    let Totals {
+        allocs,
+        frees,
+        nulls,
+        missing,
+        ..
+    } = totals;
+    write!(
+        text,
+        "cache {name} allocs {allocs} frees {frees} nulls {nulls} missing {missing}\n"
+    )
+}

@@ -1,0 +1,144 @@
+//! The command `run`: programs, and jobs that workers do with them.
+
+ghost use Rattle.std.specs.Prelude.{◌≡◌, ◌≢◌, ◌+◌, ◌≤◌, ◌<◌, ◌^◌, None, Ok, IfOk, IfErr};
+ghost use Rattle.ebpf_machine.specs.Kinds.{AreKnown};
+ghost use Rattle.worker_pool.specs.Admission.{pool_fault};
+ghost use Rattle.ebpf_command.specs.declared.done.EngineFault.TheVariants.{Output};
+ghost use Rattle.ebpf_command.specs.Writing.{Writes, WritesBeginning, Reads};
+ghost use Rattle.ebpf_script.specs.ReadScripts.{parsed_script};
+ghost use Rattle.ebpf_script.specs.Runnable.{IsRunnable};
+ghost use Rattle.ebpf_script.specs.RunText.{RespondsRun, DoesRun, MayCome};
+ghost use Rattle.ebpf_script.specs.ScriptText.{RespondsScript};
+
+use crate::outcome_text::write_outcome;
+use crate::reader::read_script;
+use crate::reader::script::{Dialect, Script, ScriptStop};
+use crate::verdicts::verdicts_on;
+use ebpf_command::answer::{Answer, answer_fault, respond};
+use ebpf_command::done::{Done, EngineFault};
+use owners_table::owners::Owners;
+use std::alloc::{AllocError, Global};
+use std::io::{Read, Write};
+use std::sync::Wait;
+use std::thread::Threads;
+use worker_pool::{Host, Job, NoGate, Outcome, PoolFault, run_jobs};
+
+// The pages of the arena, where no line says how many.
+const PAGES: u32 = 256;
+
+// The slots of an arena of so many pages.
+const SLOTS: u32 = 65_536;
+
+/// Reads a script of jobs, judges its programs, has the jobs done by this many workers, and writes what came of each and of the
+/// caches. The reaper makes this many passes beside them, and those of the script's lines.
+///
+/// # Errors
+/// `Input` where a read failed and `NoMemory` where an allocation failed: nothing was written then. `Output` where a write
+/// failed or took nothing.
+pub fn run<R: Threads + Wait + Sync, I: Read, W: Write>(
+    rt: &R,
+    alloc: Global,
+    reader: &mut I,
+    writer: &mut W,
+    workers: u32,
+    reaps: u32,
+) -> Result<Done, EngineFault>
+    requires workers { (1 ≤ workers) × (workers ≤ 64) }
+    requires reaps { reaps ≤ 1000 }
+    // A text of the input is written, and nothing else.
+    ensures response { Writes RespondsRun (I.remaining reader.old) (W.contents writer.old) (W.contents writer.new) result }
+    ensures consumed { Reads (I.remaining reader.old) (I.remaining reader.new) result }
+    ensures untouched { IfErr result (λ fault. fault ≢ Output → writer.new ≡ writer.old) }
+    ensures beginning { WritesBeginning RespondsRun (I.remaining reader.old) (W.contents writer.old) (W.contents writer.new) result }
+{
+    respond(
+        alloc,
+        reader,
+        writer,
+        |input|
+            requires { (1 ≤ workers) × (workers ≤ 64) × (reaps ≤ 1000) }
+        { answer_text(rt, alloc, input, workers, reaps) },
+    )
+}
+
+// The response to a text.
+fn answer_text<R: Threads + Wait + Sync>(
+    rt: &R,
+    alloc: Global,
+    text: &[u8],
+    workers: u32,
+    reaps: u32,
+) -> Result<Answer, AllocError>
+    requires workers { (1 ≤ workers) × (workers ≤ 64) }
+    requires reaps { reaps ≤ 1000 }
+    ensures { IfOk result (RespondsRun text.now) }
+{
+    match read_script(alloc, Dialect::Jobs, text) {
+        Ok(script) => answer_script(rt, alloc, script, workers, reaps),
+        Err(ScriptStop::Fault(fault)) => answer_fault(alloc, fault.code, fault.line),
+        Err(ScriptStop::NoMemory) => Err(AllocError),
+    }
+}
+
+// The response to a script.
+fn answer_script<R: Threads + Wait + Sync>(
+    rt: &R,
+    alloc: Global,
+    script: Script,
+    workers: u32,
+    reaps: u32,
+) -> Result<Answer, AllocError>
+    requires workers { (1 ≤ workers) × (workers ≤ 64) }
+    requires reaps { reaps + script.passes < 2 ^ 32 }
+    requires runnable { IsRunnable (parsed_script script) }
+    ensures { IfOk result (RespondsScript DoesRun (Ok (parsed_script script))) }
+{
+    let verdicts = verdicts_on(alloc, &script.programs)?;
+    let mut text = verdicts.text;
+    if verdicts.refused {
+        return Ok(Answer {
+            text,
+            done: Done::Refused,
+        });
+    }
+    let host = Host {
+        pages: script.pages.unwrap_or(PAGES),
+        programs: verdicts.accepted,
+    };
+    let outcome = outcome_of(
+        rt,
+        alloc,
+        &host,
+        &script.jobs,
+        workers,
+        reaps + script.passes,
+    )?;
+    write_outcome(&mut text, &outcome)?;
+    Ok(Answer {
+        text,
+        done: Done::Clean,
+    })
+}
+
+// What comes of jobs that can be done.
+fn outcome_of<R: Threads + Wait + Sync>(
+    rt: &R,
+    alloc: Global,
+    host: &Host,
+    jobs: &[Job],
+    workers: u32,
+    reaps: u32,
+) -> Result<Outcome, AllocError>
+    requires known { AreKnown host.now.programs.items }
+    requires workers { 1 ≤ workers }
+    requires fine { pool_fault host.now workers jobs.now ≡ None }
+    ensures { IfOk result (MayCome host.now.programs.items jobs.now) }
+{
+    let (owners, seats) = Owners::new(alloc, SLOTS, workers)?;
+    let (_, result) = run_jobs(rt, alloc, host, &owners, seats, jobs, reaps, &NoGate);
+    match result {
+        Ok(outcome) => Ok(outcome),
+        Err(PoolFault::NoMemory) => Err(AllocError),
+        Err(_) => unreachable!(),
+    }
+}

@@ -1,0 +1,29 @@
+//! Tests of the pool of workers, as its user calls it.
+//!
+//! What `run_jobs` promises is proved where it stands. What is tried here is what no contract says: that jobs are done where
+//! memory is there, by workers that really run side by side; that the promises mean the numbers that a person expects; which fault
+//! is told where there are several; and that every want of memory is answered. Where there are many cases they are rows of one
+//! text. What a job reports is compared with its program run alone, over a store of the tests' own.
+//!
+//! The store is no test, since the definitions that speak of it are read without the tests too.
+#![tactic(auto)]
+
+#[cfg(test)]
+mod alone;
+#[cfg(test)]
+mod done;
+#[cfg(test)]
+mod facts;
+#[cfg(test)]
+mod gates;
+#[cfg(test)]
+mod jobs;
+#[cfg(test)]
+mod memory;
+#[cfg(test)]
+mod programs;
+#[cfg(test)]
+mod rows;
+mod store;
+#[cfg(test)]
+mod table;

@@ -1,0 +1,66 @@
+//! The table of owners, before the jobs and after them.
+
+ghost use Rattle.std.specs.Prelude.{◌≡◌, ◌≤◌, All, IfOk};
+ghost use Rattle.worker_pool.specs.Outcomes.{IsIdle};
+
+use crate::facts::holds;
+use owners_table::mark::Mark;
+use owners_table::owners::{OwnerSeat, Owners};
+use std::alloc::{AllocError, Global};
+use std::process::Abort;
+
+// A slot for each object of any arena.
+const SLOTS: u32 = 65_536;
+
+// A table with so many seats, 65 at most, and another one.
+pub(crate) fn table_of(
+    alloc: Global,
+    count: u32,
+) -> Result<(Owners, Vec<OwnerSeat>, OwnerSeat), AllocError>
+    ensures slots { IfOk result (λ r. 65536 ≤ r.0.slots) }
+    ensures seats { IfOk result (λ r. All (IsIdle r.0) r.1.items) }
+    ensures other { IfOk result (λ r. r.2.table ≡ r.0.table) }
+{
+    let (owners, mut seats) = Owners::new(alloc, SLOTS, count.min(65) + 1)?;
+    let Some(other) = seats.pop() else {
+        unreachable!()
+    };
+    Ok((owners, seats, other))
+}
+
+// The seat claims so many of the first slots.
+pub(crate) fn claim_first(rt: &impl Abort, owners: &Owners, seat: &mut OwnerSeat, count: u32)
+    requires table { seat.old.table ≡ owners.now.table }
+    requires slots { 65536 ≤ owners.now.slots }
+    ensures { seat.new.table ≡ owners.now.table }
+{
+    for slot in 0..count.min(SLOTS) {
+        let claim = owners.claim(seat, slot, Mark { run: 0, at: 0 });
+        holds(rt, "the slot was free", claim.is_ok());
+    }
+}
+
+// That so many of the first slots have an owner, and no others, once the table is closed.
+pub(crate) fn are_free(
+    rt: &impl Abort,
+    alloc: Global,
+    owners: Owners,
+    seats: Vec<OwnerSeat>,
+    other: OwnerSeat,
+    claimed: u32,
+) -> Result<(), AllocError>
+    requires seats { All (IsIdle owners) seats.items }
+    requires other { other.table ≡ owners.table }
+{
+    let mut seats = seats;
+    seats.push(other)?;
+    let words = owners.close(alloc, seats)?;
+    let owned = words.iter().take_while(|word| **word > 0).count();
+    let free = words.iter().filter(|word| **word == 0).count();
+    holds(
+        rt,
+        "the slots that were free are free",
+        owned == claimed as usize && owned + free == words.len(),
+    );
+    Ok(())
+}

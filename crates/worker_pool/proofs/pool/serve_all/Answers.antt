@@ -1,0 +1,24 @@
+use Rattle.std.proofs.Common.{rules, ◌≡◌, All, true, sum_by, length, map, reverse, sym, ap, subst, ◌∙◌, arith}
+use Rattle.worker_pool.specs.Crews.{ArePartsOf, seat_in, clashes_in}
+use Rattle.worker_pool.specs.Working.{IsFresh}
+use Rattle.worker_pool.proofs.Turned.{as_many, written_back}
+use Rattle.worker_pool.proofs.Serving.{all_served}
+use Rattle.worker_pool.proofs.pool.serve_all.Goals as goal
+
+pub returns-clause-served : goal.returns-clause-served
+returns-clause-served g c =
+    let olds = c.as_mut_slice.result.now in
+    let news = c.work_and_reap.new.workers in
+    let lent = c.as_mut_slice.ensures.value in
+    let fresh = subst (All (IsFresh c.args.shared.now.owners.now c.args.shared.now.tickets.now)) (sym lent) c.recruit.ensures.fresh in
+    let seats = ap (map seat_in) lent ∙ c.recruit.ensures.seats in
+    let len : length news ≡ length olds = search rules in
+    let all : c.recruit.new.workers.len ≡ length news = search rules in
+    let back = written_back c.recruit.new.workers.len news _ all in
+    let some = as_many seat_in olds c.args.parts.now.seats.items seats in
+    let d = c.dismiss.ensures in
+    all_served c.args.shared.now.programs.now c.args.shared.now.jobs.now c.args.shared.now.owners.now c.args.shared.now.tickets.now olds news len fresh c.work_and_reap.ensures c.args.parts.now.seats.items c.dismiss.new.parts c.dismiss.result
+    (omega (arith, some, c.requires.some.0)) seats
+    (subst (λ l. ArePartsOf (reverse l) c.dismiss.new.parts) back d.parts)
+    (d.clashes ∙ ap (sum_by clashes_in) back)
+    (λ e. subst (All (λ w. w.is_through ≡ true)) back (d.through e))

@@ -1,0 +1,49 @@
+use Rattle.std.proofs.Common.{◌≡◌, ◌<◌, length, ℕ, List, [], ◌∷◌, ◌++◌, refl, sym, ap, subst, ◌∙◌, rules}
+use Rattle.std.proofs.Math.ListN.{get_or}
+use Rattle.std.proofs.lemmas.Option.{slice_get_read}
+use Rattle.ebpf_verify.specs.Subject.{Subject}
+use Rattle.worker_pool.specs.declared.jobs.Job.{Job}
+use Rattle.worker_pool.specs.declared.jobs.Numbered.{Numbered}
+use Rattle.ebpf_machine.specs.Whole.{IsReportOf}
+use Rattle.worker_pool.specs.Working.{Answers}
+use Rattle.worker_pool.proofs.Evens.{evens}
+use Rattle.worker_pool.proofs.worker.answer.Goals as goal
+
+pub returns-clause-even : goal.returns-clause-even
+returns-clause-even g c =
+    let o = c.args.store.now in
+    let n = c.run_to_exit.new.objects in
+    evens o.cells.hand o.records.hand o.blocks.hand n.cells.hand n.records.hand n.blocks.hand o.cells.few o.records.few o.blocks.few n.cells.few n.records.few n.blocks.few c.run_to_exit.ensures.outs c.requires.even
+
+pub returns-clause-answered : goal.returns-clause-answered
+returns-clause-answered g c = (n, refl, answered, items, c.in-Ok.ensures.granted, c.in-Ok.ensures.nulls) where
+  n : Numbered
+  n = record { job = c.args.number; report = c.in-Ok.report }
+
+  items : c.push_reserved.new.self.items ≡ c.args.answered.now.items ++ n ∷ []
+  items = c.push_reserved.ensures.items ∙ ap (λ (l : List Numbered). l ++ n ∷ []) c.in_ok-reserve.ensures.items
+
+  -- the job that is read is the one of the number
+  program : c.job.inside.0.0 ≡ c.index-shared-number.result.program
+  program = ap (λ (j : Job). j.program) (c.job.view_is ∙ sym c.index-shared-number.is)
+
+  same : c.in_ok-context.context.items ≡ c.index-shared-number.result.context
+  same = let context = ap (λ (j : Job). j.context) (c.job.view_is ∙ sym c.index-shared-number.is) in search rules
+
+  inside : c.index-shared-number.result.program < length c.args.shared.now.programs.now
+  inside = subst (λ (j : Job). j.program < length c.args.shared.now.programs.now) (sym c.index-shared-number.is) (c.requires.can c.args.number c.index-shared-number.result c.requires.number).inside
+
+  report : IsReportOf c.index-shared-job.result c.in_ok-context.context.items c.in-Ok.report
+  report = subst (λ (v : Subject). IsReportOf v c.in_ok-context.context.items c.in-Ok.report) (sym c.index-shared-job.is) c.in-Ok.ensures.report
+
+  there : c.index-shared-job.result ≡ get_or c.args.shared.now.programs.now c.index-shared-number.result.program c.index-shared-job.result
+  there = subst (λ (p : ℕ). c.index-shared-job.result ≡ get_or c.args.shared.now.programs.now p c.index-shared-job.result) program c.index-shared-job.is
+
+  answered : Answers c.args.shared.now.programs.now c.args.shared.now.jobs.now n
+  answered = record {
+    job = c.index-shared-number.result;
+    job_is = slice_get_read _ _ _ _ refl c.requires.number c.index-shared-number.is;
+    subject = c.index-shared-job.result;
+    subject_is = slice_get_read c.args.shared.now.programs.now _ c.index-shared-number.result.program c.index-shared-job.result refl inside there;
+    report = subst (λ (l : List ℕ). IsReportOf c.index-shared-job.result l c.in-Ok.report) same report;
+  }

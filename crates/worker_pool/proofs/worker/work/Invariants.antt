@@ -1,0 +1,6 @@
+use Rattle.std.proofs.Common.{length}
+use Rattle.worker_pool.specs.Claims.{lost}
+use Rattle.worker_pool.proofs.worker.work.Given as goal
+
+abbrev pub ghosts-work_with : goal.ghosts-work_with
+ghosts-work_with g a = record { table = a.hands.seat.table; noted = length a.hands.seat.notes; lost = lost a.hands.seat.notes }

@@ -1,0 +1,110 @@
+-- Workers in the making, and what is left of them.
+use Rattle.std.specs.Prelude.{◌≡◌, ◌≤◌, ◌+◌, ◌^◌, ℕ, List, [], ◌∷◌, All, sum_by, length, map, Option, Some, None, vec_capacity}
+use Rattle.object_cache.specs.HandView.{HandView}
+use Rattle.object_cache.specs.HandView as hand
+use Rattle.owners_table.specs.Owning.{OwnersView, SeatView}
+use Rattle.owners_table.specs.Owning as owning
+use Rattle.owners_table.specs.Drawing.{TicketsView, TicketView}
+use Rattle.owners_table.specs.Drawing as drawing
+use Rattle.worker_pool.specs.Outcomes.{IsIdle}
+use Rattle.worker_pool.specs.declared.worker.Worker.{Worker}
+use Rattle.worker_pool.specs.declared.worker.Hands.{Hands}
+use Rattle.worker_pool.specs.declared.handed.HandedCache.{HandedCache}
+use Rattle.worker_pool.specs.declared.caches.Caches.{Caches}
+use Rattle.worker_pool.specs.declared.caches.FreeHands.{FreeHands}
+use Rattle.worker_pool.specs.declared.crew.Parts.{Parts}
+use Rattle.object_cache.specs.declared.totals.Totals.{Totals}
+
+-- so many hands, with which nothing was done
+pub record AreUnused (count : ℕ) (hands : List HandView) : Type 0 where
+  pub all : length hands ≡ count
+  pub unused : All (λ h. h ≡ hand.fresh) hands
+
+-- the cache made these hands and no others
+pub record IsHanded {K A B : Type 0} (count : ℕ) (c : HandedCache K A B) : Type 0 where
+  pub made : c.cache.hands ≡ count
+  pub hands : AreUnused count c.hands.items
+
+-- what a cache tells of these hands when it is closed
+pub record IsTotalOf (hands : List HandView) (t : Totals) : Type 0 where
+  pub allocs : t.allocs ≡ sum_by (λ h. h.allocs) hands
+  pub frees : t.frees ≡ sum_by (λ h. h.frees) hands
+  pub nulls : t.nulls ≡ sum_by (λ h. h.nulls) hands
+  pub balance : t.missing + t.frees ≡ t.allocs + t.foreign
+
+module _ {A0 B0 A1 B1 A2 B2 : Type 0} where
+  -- each cache made so many hands
+  pub record AreMade (count : ℕ) (c : Caches A0 B0 A1 B1 A2 B2) : Type 0 where
+    pub cells : c.cells.hands ≡ count
+    pub records : c.records.hands ≡ count
+    pub blocks : c.blocks.hands ≡ count
+
+  -- so many hands of each cache, with which nothing was done
+  pub record AreHands (count : ℕ) (h : FreeHands A0 B0 A1 B1 A2 B2) : Type 0 where
+    pub cells : AreUnused count h.cells.items
+    pub records : AreUnused count h.records.items
+    pub blocks : AreUnused count h.blocks.items
+
+  -- parts for so many workers, with which nothing was done
+  pub record AreFresh (o : OwnersView) (t : TicketsView) (count : ℕ) (p : Parts A0 B0 A1 B1 A2 B2) : Type 0 where
+    pub hands : AreHands count p.hands
+    pub seats : (length p.seats.items ≡ count) × All (IsIdle o) p.seats.items
+    pub drawers : (length p.drawers.items ≡ count) × All (λ s. s ≡ drawing.fresh t.table t.limit) p.drawers.items
+    pub answered : (length p.answered.items ≡ count) × All (λ l. l.items ≡ []) p.answered.items
+
+  -- no parts, and memory for the parts of so many workers
+  pub record AreNone (count : ℕ) (p : Parts A0 B0 A1 B1 A2 B2) : Type 0 where
+    pub cells : (p.hands.cells.items ≡ []) × (count ≤ vec_capacity p.hands.cells)
+    pub records : (p.hands.records.items ≡ []) × (count ≤ vec_capacity p.hands.records)
+    pub blocks : (p.hands.blocks.items ≡ []) × (count ≤ vec_capacity p.hands.blocks)
+    pub seats : (p.seats.items ≡ []) × (count ≤ vec_capacity p.seats)
+    pub drawers : (p.drawers.items ≡ []) × (count ≤ vec_capacity p.drawers)
+    pub answered : (p.answered.items ≡ []) × (count ≤ vec_capacity p.answered)
+
+  -- the hands of a worker; of one that has none, hands that belong to nobody
+  abbrev pub nobodys : Hands A0 B0 A1 B1 A2 B2
+  nobodys = record {
+    cells = hand.fresh;
+    records = hand.fresh;
+    blocks = hand.fresh;
+    seat = owning.fresh (record { words = 0; slots = 0; views_name = 0; atom = 0; block = 0; offset = 0; slot_names = [] });
+    clashes = 0;
+  }
+
+  abbrev pub hands_or : Option (Hands A0 B0 A1 B1 A2 B2) → Hands A0 B0 A1 B1 A2 B2
+  hands_or None = nobodys
+  hands_or (Some hands) = hands
+
+  abbrev pub hands_of : Worker A0 B0 A1 B1 A2 B2 → Hands A0 B0 A1 B1 A2 B2
+  hands_of w = hands_or w.hands
+
+  abbrev pub seat_in : Worker A0 B0 A1 B1 A2 B2 → SeatView
+  seat_in w = (hands_of w).seat
+
+  abbrev pub clashes_in : Worker A0 B0 A1 B1 A2 B2 → ℕ
+  clashes_in w = (hands_of w).clashes
+
+  -- the worker has its hands, and counted few clashes
+  pub record IsBack (w : Worker A0 B0 A1 B1 A2 B2) : Type 0 where
+    pub hands : Hands A0 B0 A1 B1 A2 B2
+    pub hands_are : w.hands ≡ Some hands
+    pub few : hands.clashes ≤ 2 ^ 56
+
+  -- these are the parts of the workers, in order
+  pub record ArePartsOf (ws : List (Worker A0 B0 A1 B1 A2 B2)) (p : Parts A0 B0 A1 B1 A2 B2) : Type 0 where
+    pub cells : p.hands.cells.items ≡ map (λ w. (hands_of w).cells) ws
+    pub records : p.hands.records.items ≡ map (λ w. (hands_of w).records) ws
+    pub blocks : p.hands.blocks.items ≡ map (λ w. (hands_of w).blocks) ws
+    pub seats : p.seats.items ≡ map seat_in ws
+    pub drawers : p.drawers.items ≡ map (λ w. w.ticket) ws
+    pub answered : p.answered.items ≡ map (λ w. w.answered) ws
+
+  -- what the caches tell of these hands when they are closed, in the order of the kinds' numbers
+  pub record AreTotalsOf (h : FreeHands A0 B0 A1 B1 A2 B2) (ts : List Totals) : Type 0 where
+    pub cells : Totals
+    pub records : Totals
+    pub blocks : Totals
+    pub are : ts ≡ cells ∷ records ∷ blocks ∷ []
+    pub of_cells : IsTotalOf h.cells.items cells
+    pub of_records : IsTotalOf h.records.items records
+    pub of_blocks : IsTotalOf h.blocks.items blocks

@@ -1,0 +1,64 @@
+//! What is asked of jobs before any worker is started.
+
+ghost use Rattle.std.specs.Prelude.{◌≡◌, ◌↔◌, ◌≤◌, ◌<◌, Ok, Err, All, length, slice_get, position, IfSome, IfNone, IfErr, IfOk, OnOk};
+ghost use Rattle.worker_pool.specs.Admission.{has_program, has_context, without_program, without_context, pool_fault};
+
+use crate::fault::PoolFault;
+use crate::jobs::Job;
+use crate::outcome::{Host, MAX_JOBS, MAX_WORKERS};
+use ebpf_verify::verified::Verified;
+use vmem_arena::MAX_PAGES;
+
+/// The first fault of the jobs, of what they are run with, or of the number of workers.
+#[tactic(auto, unfolding(crate::specs::Admission::pool_fault))]
+pub(crate) fn pool_fault(host: &Host, workers: usize, jobs: &[Job]) -> Option<PoolFault>
+    ensures { result ≡ pool_fault host.now workers jobs.now }
+{
+    if host.pages == 0 || host.pages > MAX_PAGES {
+        return Some(PoolFault::Pages);
+    }
+    if workers == 0 || workers > MAX_WORKERS {
+        return Some(PoolFault::Workers);
+    }
+    if jobs.len() as u64 > MAX_JOBS {
+        return Some(PoolFault::Jobs);
+    }
+    if let Some(job) = without_program(&host.programs, jobs) {
+        return Some(PoolFault::Program { job });
+    }
+    if let Some(job) = without_context(&host.programs, jobs) {
+        return Some(PoolFault::Context { job });
+    }
+    None
+}
+
+// The first job whose program isn't there.
+fn without_program(programs: &[Verified], jobs: &[Job]) -> Option<usize>
+    ensures { result ≡ without_program programs.now jobs.now }
+{
+    jobs.iter().position(|job| !has_program(programs, job))
+}
+
+// The first job whose context doesn't have the length that its program declares.
+fn without_context(programs: &[Verified], jobs: &[Job]) -> Option<usize>
+    ensures { result ≡ without_context programs.now jobs.now }
+{
+    jobs.iter().position(|job| !has_context(programs, job))
+}
+
+// Whether the job's program is there.
+fn has_program(programs: &[Verified], job: &Job) -> bool
+    ensures { result ≡ has_program programs.now job.now }
+{
+    job.program < programs.len()
+}
+
+// Whether the job's context has the length that its program declares.
+fn has_context(programs: &[Verified], job: &Job) -> bool
+    ensures { result ≡ has_context programs.now job.now }
+{
+    match programs.get(job.program) {
+        Some(verified) => job.context.bytes.len() == verified.decl().context as usize,
+        None => false,
+    }
+}

@@ -1,0 +1,18 @@
+//! Jobs and their reports.
+
+use ebpf_machine::context::Context;
+use ebpf_machine::report::Report;
+
+/// A program to be run, by its place in a list, and the context that it is run on.
+#[derive(Drop)]
+pub struct Job {
+    pub program: usize,
+    pub context: Context,
+}
+
+/// The report of the job of a number.
+#[derive(Drop)]
+pub(crate) struct Numbered {
+    pub(crate) job: u64,
+    pub(crate) report: Report,
+}

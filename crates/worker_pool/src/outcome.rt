@@ -1,0 +1,44 @@
+//! What jobs are run with, and what comes of them.
+
+use ebpf_machine::report::Report;
+use ebpf_verify::verified::Verified;
+use object_cache::Totals;
+use std::marker::Model;
+
+/// The most workers.
+pub const MAX_WORKERS: usize = 64;
+
+/// The most jobs: a mark has room for the number of each.
+pub const MAX_JOBS: u64 = 1 << 20;
+
+/// What all jobs share: the pages of the arena, 1 to [`vmem_arena::MAX_PAGES`], and the programs.
+#[derive(Drop)]
+pub struct Host {
+    pub pages: u32,
+    pub programs: Vec<Verified>,
+}
+
+/// A report for each job, in the order of the jobs. Contracts see it as the list.
+#[derive(Drop)]
+pub struct Reports {
+    pub reports: Vec<Report>,
+}
+
+impl Model for Reports {
+    ghost use Rattle.std.specs.Prelude.{List};
+    ghost use Rattle.ebpf_machine.specs.declared.report.Report.{Report};
+
+    ghost Value = { List Report };
+
+    ghost view = { λ r. r.reports.items };
+}
+
+/// What came of all jobs.
+#[derive(Drop)]
+pub struct Outcome {
+    pub reports: Reports,
+    /// What each cache did, in the order of the kinds' numbers.
+    pub totals: [Totals; 3],
+    /// How many objects went back to their cache since their slot had an owner.
+    pub clashes: u64,
+}

@@ -1,0 +1,42 @@
+//! Reports, each in the place of its job.
+
+ghost use Rattle.std.specs.Prelude.{◌≡◌, ◌⊎◌, Contains, map, ◌≤◌, ◌<◌, ◌+◌, ℕ, All, length, slice_get, vec_len, sum_by, Some};
+ghost use Rattle.worker_pool.specs.Places.{HasExit, filled, times_in, weight, weight_of, IsIn};
+
+use crate::jobs::Numbered;
+use ebpf_machine::report::Report;
+
+/// Puts all reports in the places of their jobs, which have none.
+pub(crate) fn place_all(places: &mut Vec<Report>, answered: Vec<Vec<Numbered>>)
+    requires inside { All (All (λ n. n.job < vec_len places.old)) (map (λ l. l.items) answered.items) }
+    requires exited { All (All (λ n. HasExit n.report)) (map (λ l. l.items) answered.items) }
+    requires once { (x : ℕ) → filled places.old.items x + sum_by (times_in x) (map (λ l. l.items) answered.items) ≤ 1 }
+    ensures len { vec_len places.new ≡ vec_len places.old }
+    ensures filled { (x : ℕ) → filled places.new.items x ≡ filled places.old.items x + sum_by (times_in x) (map (λ l. l.items) answered.items) }
+    ensures weight { (h : Report → ℕ) → weight h places.new.items ≡ weight h places.old.items + sum_by (weight_of h) (map (λ l. l.items) answered.items) }
+    ensures from { (x : ℕ) (r : Report) → slice_get places.new.items x ≡ Some r → HasExit r →
+        (slice_get places.old.items x ≡ Some r) ⊎ IsIn (record { job = x; report = r }) (map (λ l. l.items) answered.items) }
+{
+    let mut answered = answered;
+    while let Some(numbered) = answered.pop() {
+        place(places, numbered);
+    }
+}
+
+// Puts the reports of one worker in the places of their jobs.
+fn place(places: &mut Vec<Report>, answered: Vec<Numbered>)
+    requires inside { All (λ n. n.job < vec_len places.old) answered.items }
+    requires exited { All (λ n. HasExit n.report) answered.items }
+    requires once { (x : ℕ) → filled places.old.items x + times_in x answered.items ≤ 1 }
+    ensures len { vec_len places.new ≡ vec_len places.old }
+    ensures filled { (x : ℕ) → filled places.new.items x ≡ filled places.old.items x + times_in x answered.items }
+    ensures weight { (h : Report → ℕ) → weight h places.new.items ≡ weight h places.old.items + weight_of h answered.items }
+    ensures from { (x : ℕ) (r : Report) → slice_get places.new.items x ≡ Some r → HasExit r →
+        (slice_get places.old.items x ≡ Some r) ⊎ Contains answered.items (record { job = x; report = r }) }
+{
+    let mut answered = answered;
+    while let Some(numbered) = answered.pop() {
+        let Numbered { job, report } = numbered;
+        places[job as usize] = report;
+    }
+}

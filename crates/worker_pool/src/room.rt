@@ -1,0 +1,82 @@
+//! What jobs need beside the caches.
+
+ghost use Rattle.std.specs.Prelude.{◌≡◌, ◌≤◌, ◌<◌, [], None, All, length, vec_len, IfOk};
+ghost use Rattle.vmem_arena.specs.declared.arena.TheConstants.{MAX_PAGES};
+ghost use Rattle.owners_table.specs.Drawing.{fresh};
+
+use crate::jobs::Numbered;
+use ebpf_machine::report::{Answers, Output, Report};
+use object_cache::ArenaLock;
+use owners_table::tickets::{TicketSeat, Tickets};
+use std::alloc::{AllocError, Global};
+
+/// The arena, a ticket for each job, and for each worker a seat to draw them with and a list of reports; and a place for the
+/// report of each job, where a report that has no exit is none.
+#[derive(Drop)]
+pub(crate) struct Room {
+    pub(crate) arena: ArenaLock,
+    pub(crate) tickets: Tickets,
+    pub(crate) drawers: Vec<TicketSeat>,
+    pub(crate) answered: Vec<Vec<Numbered>>,
+    pub(crate) reports: Vec<Report>,
+}
+
+impl Room {
+    /// Room for so many workers and jobs.
+    pub(crate) fn new(
+        alloc: Global,
+        pages: u32,
+        workers: usize,
+        jobs: usize,
+    ) -> Result<Room, AllocError>
+        requires workers { (0 < workers) × (workers ≤ 64) }
+        ensures tickets { IfOk result (λ r. (r.tickets.limit ≡ jobs) × (r.tickets.seats ≡ workers)) }
+        ensures drawers { IfOk result (λ r. (length r.drawers.items ≡ workers) × All (λ s. s ≡ fresh r.tickets.table jobs) r.drawers.items) }
+        ensures answered { IfOk result (λ r. (length r.answered.items ≡ workers) × All (λ l. l.items ≡ []) r.answered.items) }
+        ensures reports { IfOk result (λ r. (length r.reports.items ≡ jobs) × All (λ p. p.exit ≡ None) r.reports.items) }
+    {
+        let Ok(arena) = ArenaLock::new(alloc, pages) else {
+            return Err(AllocError);
+        };
+        let (tickets, drawers) = Tickets::new(alloc, jobs as u64, workers as u32)?;
+        Ok(Room {
+            arena,
+            tickets,
+            drawers,
+            answered: blank_lists(alloc, workers)?,
+            reports: blank_reports(alloc, jobs)?,
+        })
+    }
+}
+
+// So many empty lists.
+fn blank_lists(alloc: Global, count: usize) -> Result<Vec<Vec<Numbered>>, AllocError>
+    ensures { IfOk result (λ v. (length v.items ≡ count) × All (λ l. l.items ≡ []) v.items) }
+{
+    let mut lists = Vec::with_capacity(alloc, count)?;
+    for _list in 0..count {
+        lists.push_reserved(Vec::new(alloc));
+    }
+    Ok(lists)
+}
+
+// So many reports of nothing.
+fn blank_reports(alloc: Global, count: usize) -> Result<Vec<Report>, AllocError>
+    ensures { IfOk result (λ v. (length v.items ≡ count) × All (λ p. p.exit ≡ None) v.items) }
+{
+    let mut reports = Vec::with_capacity(alloc, count)?;
+    for _report in 0..count {
+        reports.push_reserved(Report {
+            exit: None,
+            output: Output {
+                numbers: Vec::new(alloc),
+            },
+            executed: 0,
+            answers: Answers {
+                replies: Vec::new(alloc),
+            },
+            peak: 0,
+        });
+    }
+    Ok(reports)
+}

@@ -1,0 +1,245 @@
+//! A worker.
+//!
+//! *The idea.* A worker draws the number of a job, runs the job's program over its own store, keeps the report under that number,
+//! and draws again, until it is told that there are no more numbers.
+//!
+//! *The invariant.* The numbers that it drew are those of the reports that it keeps, in order. Each report is that of its job's
+//! program alone, with the answers that it reports. Its hands gave back all that they took, and what they took and were refused
+//! is what the reports say, clashes aside.
+//!
+//! *The reason.* A run over whatever store leaves as many objects of each kind out as there were, and its report's answers are
+//! what the store counts. Each number is drawn once, over all workers; so each job has one report.
+
+ghost use Rattle.std.specs.Prelude.{◌≡◌, ◌≤◌, ◌<◌, ◌+◌, ◌++◌, ◌∷◌, [], ℕ, All, length, map, true, false, OnOk, OnErr};
+ghost use Rattle.owners_table.specs.Drawing.{IsOf};
+ghost use Rattle.ebpf_machine.specs.Whole.{granted, refused};
+ghost use Rattle.worker_pool.specs.declared.outcome.TheConstants.{MAX_JOBS};
+ghost use Rattle.worker_pool.specs.Claims.{lost};
+ghost use Rattle.worker_pool.specs.Counts.{grants_of, nulls_of};
+ghost use Rattle.ebpf_machine.specs.Kinds.{AreKnown};
+ghost use Rattle.worker_pool.specs.Working.{IsFresh, IsUnused, IsEven, IsDone, IsServed, CanRun, Answers, granted_by, refused_by, number_of};
+
+use crate::before::Before;
+use crate::client::Client;
+use crate::gate::{Gate, Point};
+use crate::jobs::Numbered;
+use crate::shared::Shared;
+use crate::stock::Stock;
+use crate::store::Store;
+use ebpf_machine::whole::run_to_exit;
+use object_cache::Hand;
+use owners_table::owners::OwnerSeat;
+use owners_table::tickets::TicketSeat;
+use slab_layer::{BlockKind, CellKind, RecordKind};
+use std::alloc::AllocError;
+use std::marker::Brand;
+use std::sync::Wait;
+use std::sync::ledger::Ledger;
+
+/// What a worker owns of the caches, and its seat at the table of owners.
+pub(crate) struct Hands<A0: Ledger, B0: Ledger, A1: Ledger, B1: Ledger, A2: Ledger, B2: Ledger> {
+    pub(crate) cells: Hand<CellKind, A0, B0>,
+    pub(crate) records: Hand<RecordKind, A1, B1>,
+    pub(crate) blocks: Hand<BlockKind, A2, B2>,
+    pub(crate) seat: OwnerSeat,
+    pub(crate) clashes: u64,
+}
+
+/// A worker. While it works its hands are its store's, and not here.
+pub(crate) struct Worker<A0: Ledger, B0: Ledger, A1: Ledger, B1: Ledger, A2: Ledger, B2: Ledger> {
+    pub(crate) hands: Option<Hands<A0, B0, A1, B1, A2, B2>>,
+    pub(crate) ticket: TicketSeat,
+    pub(crate) answered: Vec<Numbered>,
+    /// Whether it was told that there are no more jobs; else memory ran out.
+    pub(crate) is_through: bool,
+}
+
+/// Does jobs until there are no more, or memory runs out.
+pub(crate) fn work<
+    'a,
+    A0: Ledger,
+    B0: Ledger,
+    A1: Ledger,
+    B1: Ledger,
+    A2: Ledger,
+    B2: Ledger,
+    G: Gate + 'a,
+    R: Wait + 'a,
+>(shared: &Shared<'a, A0, B0, A1, B1, A2, B2, G, R>, worker: &mut Worker<A0, B0, A1, B1, A2, B2>)
+    requires known { AreKnown shared.now.programs.now }
+    requires can { All (CanRun shared.now.programs.now) shared.now.jobs.now }
+    requires few { length shared.now.jobs.now ≤ MAX_JOBS }
+    requires fresh { IsFresh shared.now.owners.now shared.now.tickets.now worker.old }
+    ensures { IsDone shared.now.programs.now shared.now.jobs.now shared.now.tickets.now worker.old worker.new }
+{
+    let Some(hands) = worker.hands.take() else {
+        unreachable!()
+    };
+    let (left, is_through) = work_with::<A0, B0, A1, B1, A2, B2, Brand, G, R>(
+        shared,
+        hands,
+        &mut worker.ticket,
+        &mut worker.answered,
+    );
+    worker.is_through = is_through;
+    match worker.hands.replace(left) {
+        Some(_) => unreachable!(),
+        None => {}
+    }
+}
+
+// The same with a store of these hands, which are handed back. `N` says what the seat was before.
+fn work_with<
+    'a,
+    A0: Ledger,
+    B0: Ledger,
+    A1: Ledger,
+    B1: Ledger,
+    A2: Ledger,
+    B2: Ledger,
+    N: Before + 'a,
+    G: Gate + 'a,
+    R: Wait + 'a,
+>(
+    shared: &Shared<'a, A0, B0, A1, B1, A2, B2, G, R>,
+    hands: Hands<A0, B0, A1, B1, A2, B2>,
+    ticket: &mut TicketSeat,
+    answered: &mut Vec<Numbered>,
+) -> (Hands<A0, B0, A1, B1, A2, B2>, bool)
+    requires known { AreKnown shared.now.programs.now }
+    requires can { All (CanRun shared.now.programs.now) shared.now.jobs.now }
+    requires few { length shared.now.jobs.now ≤ MAX_JOBS }
+    requires unused { IsUnused shared.now.owners.now hands }
+    requires before { (hands.seat.table ≡ N.table) × (length hands.seat.notes ≡ N.noted) × (lost hands.seat.notes ≡ N.lost) }
+    requires table { IsOf shared.now.tickets.now ticket.old }
+    requires none { (ticket.old.drawn ≡ []) × (ticket.old.passed ≡ false) × (answered.old.items ≡ []) }
+    ensures { IsServed shared.now.programs.now shared.now.jobs.now shared.now.tickets.now hands result.0 ticket.new answered.new.items result.1 }
+{
+    let Hands {
+        cells,
+        records,
+        blocks,
+        seat,
+        clashes: _,
+    } = hands;
+    let client: Client<'a, N, R> = Client::new(shared.rt, shared.arena, shared.owners, seat);
+    let cells = Stock::new(shared.cells, cells);
+    let records = Stock::new(shared.records, records);
+    let blocks = Stock::new(shared.blocks, blocks);
+    let mut store: Store<'a, A0, B0, A1, B1, A2, B2, N, R> = Store::new(
+        client, cells, records, blocks,
+    );
+    let is_through = serve(shared, &mut store, ticket, answered);
+    let Store {
+        client,
+        cells,
+        records,
+        blocks,
+    } = store;
+    let (seat, clashes) = client.end();
+    let left = Hands {
+        cells: cells.end(),
+        records: records.end(),
+        blocks: blocks.end(),
+        seat,
+        clashes,
+    };
+    (left, is_through)
+}
+
+// Draws tickets and does their jobs. False where memory ran out.
+fn serve<
+    'a,
+    A0: Ledger,
+    B0: Ledger,
+    A1: Ledger,
+    B1: Ledger,
+    A2: Ledger,
+    B2: Ledger,
+    N: Before + 'a,
+    G: Gate + 'a,
+    R: Wait + 'a,
+>(
+    shared: &Shared<'a, A0, B0, A1, B1, A2, B2, G, R>,
+    store: &mut Store<'a, A0, B0, A1, B1, A2, B2, N, R>,
+    ticket: &mut TicketSeat,
+    answered: &mut Vec<Numbered>,
+) -> bool
+    requires known { AreKnown shared.now.programs.now }
+    requires can { All (CanRun shared.now.programs.now) shared.now.jobs.now }
+    requires few { length shared.now.jobs.now ≤ MAX_JOBS }
+    requires even { IsEven store.old.cells.hand store.old.records.hand store.old.blocks.hand }
+    requires table { IsOf shared.now.tickets.now ticket.old }
+    requires none { (ticket.old.drawn ≡ []) × (ticket.old.passed ≡ false) × (answered.old.items ≡ []) }
+    ensures even { IsEven store.new.cells.hand store.new.records.hand store.new.blocks.hand }
+    ensures table { IsOf shared.now.tickets.now ticket.new }
+    ensures good { All (Answers shared.now.programs.now shared.now.jobs.now) answered.new.items }
+    ensures drawn { result ≡ true → (ticket.new.passed ≡ true) × (n : ℕ) × (length shared.now.jobs.now ≤ n) ×
+        (ticket.new.drawn ≡ map number_of answered.new.items ++ n ∷ []) }
+    ensures granted { grants_of store.new.cells.hand store.new.records.hand store.new.blocks.hand store.new.client.clashes ≡
+        grants_of store.old.cells.hand store.old.records.hand store.old.blocks.hand store.old.client.clashes + granted_by answered.new.items }
+    ensures refused { nulls_of store.new.cells.hand store.new.records.hand store.new.blocks.hand store.new.client.clashes ≡
+        nulls_of store.old.cells.hand store.old.records.hand store.old.blocks.hand store.old.client.clashes + refused_by answered.new.items }
+{
+    for _ in shared.rt.forever() {
+        let Some(number) = shared.tickets.draw(ticket) else {
+            return true;
+        };
+        let Ok(()) = answer(shared, number, store, answered) else {
+            return false;
+        };
+    }
+    unreachable!()
+}
+
+// Does the job of a number, and keeps its report.
+fn answer<
+    'a,
+    A0: Ledger,
+    B0: Ledger,
+    A1: Ledger,
+    B1: Ledger,
+    A2: Ledger,
+    B2: Ledger,
+    N: Before + 'a,
+    G: Gate + 'a,
+    R: Wait + 'a,
+>(
+    shared: &Shared<'a, A0, B0, A1, B1, A2, B2, G, R>,
+    number: u64,
+    store: &mut Store<'a, A0, B0, A1, B1, A2, B2, N, R>,
+    answered: &mut Vec<Numbered>,
+) -> Result<(), AllocError>
+    requires known { AreKnown shared.now.programs.now }
+    requires can { All (CanRun shared.now.programs.now) shared.now.jobs.now }
+    requires few { length shared.now.jobs.now ≤ MAX_JOBS }
+    requires number { number < length shared.now.jobs.now }
+    requires even { IsEven store.old.cells.hand store.old.records.hand store.old.blocks.hand }
+    ensures even { IsEven store.new.cells.hand store.new.records.hand store.new.blocks.hand }
+    ensures answered { OnOk result ((n : Numbered) × (n.job ≡ number) × Answers shared.now.programs.now shared.now.jobs.now n ×
+        (answered.new.items ≡ answered.old.items ++ n ∷ []) ×
+        (grants_of store.new.cells.hand store.new.records.hand store.new.blocks.hand store.new.client.clashes ≡
+        grants_of store.old.cells.hand store.old.records.hand store.old.blocks.hand store.old.client.clashes + granted n.report.answers) ×
+        (nulls_of store.new.cells.hand store.new.records.hand store.new.blocks.hand store.new.client.clashes ≡
+        nulls_of store.old.cells.hand store.old.records.hand store.old.blocks.hand store.old.client.clashes + refused n.report.answers)) }
+    ensures failed { OnErr result ((answered.new.items ≡ answered.old.items) ×
+        (grants_of store.new.cells.hand store.new.records.hand store.new.blocks.hand store.new.client.clashes ≡
+        grants_of store.old.cells.hand store.old.records.hand store.old.blocks.hand store.old.client.clashes) ×
+        (nulls_of store.new.cells.hand store.new.records.hand store.new.blocks.hand store.new.client.clashes ≡
+        nulls_of store.old.cells.hand store.old.records.hand store.old.blocks.hand store.old.client.clashes)) }
+{
+    let job = &shared.jobs[number as usize];
+    answered.reserve(1)?;
+    let context = job.context.bytes.to_vec(shared.alloc)?;
+    shared.gate.at(number, Point::Begin);
+    store.client.job = number as u32;
+    let Ok(report) = run_to_exit(shared.alloc, &shared.programs[job.program], context, store) else {
+        return Err(AllocError);
+    };
+    answered.push_reserved(Numbered {
+        job: number,
+        report,
+    });
+    shared.gate.at(number, Point::Answered);
+    Ok(())
+}
