@@ -5,7 +5,7 @@
 //! world of many runs, one event of it, and a run alone in a world of its own.
 //!
 //! To be read in this order: `value`, `kinds`, `context`, `objects`, `holding`, `number`, `stack`, `memory`, `execute`,
-//! `report`, `parts`, `helpers`, `advance`, `run`, `whole`.
+//! `report`, `workspace`, `parts`, `helpers`, `advance`, `run`, `whole`.
 #![tactic(auto)]
 
 mod advance;
@@ -23,3 +23,4 @@ pub mod run;
 mod stack;
 pub mod value;
 pub mod whole;
+pub mod workspace;

@@ -49,6 +49,13 @@ impl Stack {
         }
     }
 
+    /// Forgets all that was stored.
+    pub(crate) fn clear(&mut self)
+        ensures { self.new ≡ empty_stack }
+    {
+        *self = Stack::new();
+    }
+
     /// The value of the bytes at a place: a pointer, where they are a word that holds one, else a number.
     pub(crate) fn load(&self, place: usize, size: Size, signed: bool) -> Value<u16>
         requires inside { place + bytes_in size ≤ 512 }

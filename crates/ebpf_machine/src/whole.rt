@@ -8,6 +8,7 @@ ghost use Rattle.ebpf_machine.specs.Whole.{IsReportOf, granted, refused};
 use crate::objects::Objects;
 use crate::report::Report;
 use crate::run::{Run, StartFault, Turn};
+use crate::workspace::Workspace;
 use ebpf_verify::verified::Verified;
 use std::alloc::Global;
 
@@ -37,7 +38,40 @@ pub fn run_to_exit<O: Objects>(
     ensures refused { IfErr result (IsStartFault (length context.items) verified.now.decl.context) }
     ensures unchanged { OnErr result (objects.new ≡ objects.old) }
 {
-    let mut run = Run::<O::Held>::start(alloc, verified, context)?;
+    if context.len() != verified.decl().context as usize {
+        return Err(StartFault::ContextLength);
+    }
+    let workspace = Workspace::new(alloc)?;
+    let (report, workspace) = run_in(alloc, workspace, verified, context, objects)?;
+    workspace.free();
+    Ok(report)
+}
+
+/// The same in the memory of a run that has ended, which is left for the next one.
+///
+/// # Errors
+/// As [`run_to_exit`]. The memory is freed then.
+pub fn run_in<O: Objects>(
+    alloc: Global,
+    workspace: Workspace<O::Held>,
+    verified: &Verified,
+    context: Vec<u8>,
+    objects: &mut O,
+) -> Result<(Report, Workspace<O::Held>), StartFault>
+    requires kinds { O.store.kinds ≡ kinds_of verified.now.rows }
+    requires room { (store : O) → O.store.can_give store }
+    // The report is that of the run alone with the report's answers, and it exited.
+    ensures report { IfOk result (λ r. IsReportOf verified.now context.items r.0) }
+    // What the store granted and refused is what the report's answers say.
+    ensures granted { IfOk result (λ r. O.store.grants objects.new ≡ O.store.grants objects.old + granted r.0.answers) }
+    ensures nulls { IfOk result (λ r. O.store.nulls objects.new ≡ O.store.nulls objects.old + refused r.0.answers) }
+    // Of each kind as many are out as before.
+    ensures outs { (k : ℕ) → O.store.outs objects.new k ≡ O.store.outs objects.old k }
+    ensures length { OnOk result (length context.items ≡ verified.now.decl.context) }
+    ensures refused { IfErr result (IsStartFault (length context.items) verified.now.decl.context) }
+    ensures unchanged { OnErr result (objects.new ≡ objects.old) }
+{
+    let mut run = Run::start_in(alloc, workspace, verified, context)?;
     'running: while let Turn::Went = run.step(objects) {}
-    Ok(run.finish(objects))
+    Ok(run.end(objects))
 }

@@ -10,7 +10,7 @@
 //! *The reason.* A run over whatever store leaves as many objects of each kind out as there were, and its report's answers are
 //! what the store counts. Each number is drawn once, over all workers; so each job has one report.
 
-ghost use Rattle.std.specs.Prelude.{◌≡◌, ◌≤◌, ◌<◌, ◌+◌, ◌++◌, ◌∷◌, [], ℕ, All, length, map, true, false, OnOk, OnErr};
+ghost use Rattle.std.specs.Prelude.{◌≡◌, ◌≤◌, ◌<◌, ◌+◌, ◌++◌, ◌∷◌, [], ℕ, All, length, map, true, false, vec_len, vec_capacity, IfOk, OnOk, OnErr};
 ghost use Rattle.owners_table.specs.Drawing.{IsOf};
 ghost use Rattle.ebpf_machine.specs.Whole.{granted, refused};
 ghost use Rattle.worker_pool.specs.declared.outcome.TheConstants.{MAX_JOBS};
@@ -23,15 +23,17 @@ use crate::before::Before;
 use crate::client::Client;
 use crate::gate::{Gate, Point};
 use crate::jobs::Numbered;
+use crate::object::Object;
 use crate::shared::Shared;
 use crate::stock::Stock;
 use crate::store::Store;
-use ebpf_machine::whole::run_to_exit;
+use ebpf_machine::whole::run_in;
+use ebpf_machine::workspace::Workspace;
 use object_cache::Hand;
 use owners_table::owners::OwnerSeat;
 use owners_table::tickets::TicketSeat;
 use slab_layer::{BlockKind, CellKind, RecordKind};
-use std::alloc::AllocError;
+use std::alloc::{AllocError, Global};
 use std::marker::Brand;
 use std::sync::Wait;
 use std::sync::ledger::Ledger;
@@ -181,13 +183,18 @@ fn serve<
     ensures refused { nulls_of store.new.cells.hand store.new.records.hand store.new.blocks.hand store.new.client.clashes ≡
         nulls_of store.old.cells.hand store.old.records.hand store.old.blocks.hand store.old.client.clashes + refused_by answered.new.items }
 {
+    let Ok(mut workspace) = Workspace::new(shared.alloc) else {
+        return false;
+    };
     for _ in shared.rt.forever() {
         let Some(number) = shared.tickets.draw(ticket) else {
+            workspace.free();
             return true;
         };
-        let Ok(()) = answer(shared, number, store, answered) else {
+        let Ok(left) = answer(shared, number, store, answered, workspace) else {
             return false;
         };
+        workspace = left;
     }
     unreachable!()
 }
@@ -209,7 +216,8 @@ fn answer<
     number: u64,
     store: &mut Store<'a, A0, B0, A1, B1, A2, B2, N, R>,
     answered: &mut Vec<Numbered>,
-) -> Result<(), AllocError>
+    workspace: Workspace<Object>,
+) -> Result<Workspace<Object>, AllocError>
     requires known { AreKnown shared.now.programs.now }
     requires can { All (CanRun shared.now.programs.now) shared.now.jobs.now }
     requires few { length shared.now.jobs.now ≤ MAX_JOBS }
@@ -229,11 +237,19 @@ fn answer<
         nulls_of store.old.cells.hand store.old.records.hand store.old.blocks.hand store.old.client.clashes)) }
 {
     let job = &shared.jobs[number as usize];
-    answered.reserve(1)?;
-    let context = job.context.bytes.to_vec(shared.alloc)?;
+    let Ok(context) = room_for(shared.alloc, answered, &job.context.bytes) else {
+        workspace.free();
+        return Err(AllocError);
+    };
     shared.gate.at(number, Point::Begin);
     store.client.job = number as u32;
-    let Ok(report) = run_to_exit(shared.alloc, &shared.programs[job.program], context, store) else {
+    let Ok((report, workspace)) = run_in(
+        shared.alloc,
+        workspace,
+        &shared.programs[job.program],
+        context,
+        store,
+    ) else {
         return Err(AllocError);
     };
     answered.push_reserved(Numbered {
@@ -241,5 +257,19 @@ fn answer<
         report,
     });
     shared.gate.at(number, Point::Answered);
-    Ok(())
+    Ok(workspace)
+}
+
+// Room for a report, and a context of these bytes.
+fn room_for(
+    alloc: Global,
+    answered: &mut Vec<Numbered>,
+    bytes: &[u8],
+) -> Result<Vec<u8>, AllocError>
+    ensures same { answered.new.items ≡ answered.old.items }
+    ensures context { IfOk result (λ v. v.items ≡ bytes.now) }
+    ensures room { OnOk result (vec_len answered.new < vec_capacity answered.new) }
+{
+    answered.reserve(1)?;
+    bytes.to_vec(alloc)
 }

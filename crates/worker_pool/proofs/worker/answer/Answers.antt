@@ -12,29 +12,29 @@ use Rattle.worker_pool.proofs.worker.answer.Goals as goal
 pub returns-clause-even : goal.returns-clause-even
 returns-clause-even g c =
     let o = c.args.store.now in
-    let n = c.run_to_exit.new.objects in
-    evens o.cells.hand o.records.hand o.blocks.hand n.cells.hand n.records.hand n.blocks.hand o.cells.few o.records.few o.blocks.few n.cells.few n.records.few n.blocks.few c.run_to_exit.ensures.outs c.requires.even
+    let n = c.run_in.new.objects in
+    evens o.cells.hand o.records.hand o.blocks.hand n.cells.hand n.records.hand n.blocks.hand o.cells.few o.records.few o.blocks.few n.cells.few n.records.few n.blocks.few c.run_in.ensures.outs c.requires.even
 
 pub returns-clause-answered : goal.returns-clause-answered
-returns-clause-answered g c = (n, refl, answered, items, c.in-Ok.ensures.granted, c.in-Ok.ensures.nulls) where
+returns-clause-answered g c = (n, refl, answered, items, c.in-Ok-run_in.ensures.granted, c.in-Ok-run_in.ensures.nulls) where
   n : Numbered
-  n = record { job = c.args.number; report = c.in-Ok.report }
+  n = record { job = c.args.number; report = c.in-Ok-run_in.report }
 
   items : c.push_reserved.new.self.items ≡ c.args.answered.now.items ++ n ∷ []
-  items = c.push_reserved.ensures.items ∙ ap (λ (l : List Numbered). l ++ n ∷ []) c.in_ok-reserve.ensures.items
+  items = c.push_reserved.ensures.items ∙ ap (λ (l : List Numbered). l ++ n ∷ []) c.in-Ok.ensures.same
 
   -- the job that is read is the one of the number
   program : c.job.inside.0.0 ≡ c.index-shared-number.result.program
   program = ap (λ (j : Job). j.program) (c.job.view_is ∙ sym c.index-shared-number.is)
 
-  same : c.in_ok-context.context.items ≡ c.index-shared-number.result.context
+  same : c.in-Ok.context.items ≡ c.index-shared-number.result.context
   same = let context = ap (λ (j : Job). j.context) (c.job.view_is ∙ sym c.index-shared-number.is) in search rules
 
   inside : c.index-shared-number.result.program < length c.args.shared.now.programs.now
   inside = subst (λ (j : Job). j.program < length c.args.shared.now.programs.now) (sym c.index-shared-number.is) (c.requires.can c.args.number c.index-shared-number.result c.requires.number).inside
 
-  report : IsReportOf c.index-shared-job.result c.in_ok-context.context.items c.in-Ok.report
-  report = subst (λ (v : Subject). IsReportOf v c.in_ok-context.context.items c.in-Ok.report) (sym c.index-shared-job.is) c.in-Ok.ensures.report
+  report : IsReportOf c.index-shared-job.result c.in-Ok.context.items c.in-Ok-run_in.report
+  report = subst (λ (v : Subject). IsReportOf v c.in-Ok.context.items c.in-Ok-run_in.report) (sym c.index-shared-job.is) c.in-Ok-run_in.ensures.report
 
   there : c.index-shared-job.result ≡ get_or c.args.shared.now.programs.now c.index-shared-number.result.program c.index-shared-job.result
   there = subst (λ (p : ℕ). c.index-shared-job.result ≡ get_or c.args.shared.now.programs.now p c.index-shared-job.result) program c.index-shared-job.is
@@ -45,5 +45,5 @@ returns-clause-answered g c = (n, refl, answered, items, c.in-Ok.ensures.granted
     job_is = slice_get_read _ _ _ _ refl c.requires.number c.index-shared-number.is;
     subject = c.index-shared-job.result;
     subject_is = slice_get_read c.args.shared.now.programs.now _ c.index-shared-number.result.program c.index-shared-job.result refl inside there;
-    report = subst (λ (l : List ℕ). IsReportOf c.index-shared-job.result l c.in-Ok.report) same report;
+    report = subst (λ (l : List ℕ). IsReportOf c.index-shared-job.result l c.in-Ok-run_in.report) same report;
   }

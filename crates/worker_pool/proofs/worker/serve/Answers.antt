@@ -11,7 +11,7 @@ pub loop-preserved : goal.loop-preserved
 loop-preserved g c =
     let i = c.loop.invariant in
     let some = c.in-Some-draw.ensures.some in
-    let a = c.in-Ok.ensures.answered in
+    let a = c.in-Ok-answer.ensures.answered in
     let before = c.loop.answered.items in record {
       even = c.answer.ensures.even;
       table = subst (λ (s : TicketView). IsOf c.args.shared.now.tickets.now s) (sym some.2) i.table;

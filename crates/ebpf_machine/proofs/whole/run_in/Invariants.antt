@@ -1,7 +1,7 @@
 use Rattle.std.proofs.Common.{◌-◌, length}
 use Rattle.ebpf_insn.specs.Program.{instructions}
 use Rattle.ebpf_machine.proofs.WholeRuns.Told.{IsUnderWay}
-use Rattle.ebpf_machine.proofs.whole.run_to_exit.Given as goal
+use Rattle.ebpf_machine.proofs.whole.run_in.Given as goal
 
 abbrev pub invariant-running : goal.invariant-running
 invariant-running g l = IsUnderWay g.O.Objects.store l.fn.objects l.objects l.fn.verified l.fn.context.items l.run
