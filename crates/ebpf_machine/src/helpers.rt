@@ -2,13 +2,12 @@
 
 ghost use Rattle.std.specs.Prelude.{◌≡◌, ◌<◌, ◌+◌, ◌++◌, ◌∷◌, ℕ, ℤ, pos, max, List, [], length, None, Some};
 ghost use Rattle.ebpf_insn.specs.declared.program.TheConstants.{MAX_SLOTS};
-ghost use Rattle.ebpf_insn.specs.Program.{instructions};
 ghost use Rattle.ebpf_verify.specs.declared.helper.Helper.{Helper};
 ghost use Rattle.ebpf_machine.specs.Flows.{object_in};
-ghost use Rattle.ebpf_machine.specs.RunState.{Calls, gone_on, emitted, holding_too};
+ghost use Rattle.ebpf_machine.specs.RunState.{Calls, IsCallThere, gone_on, emitted, holding_too};
 ghost use Rattle.ebpf_machine.specs.Step.{IsFree};
 ghost use Rattle.ebpf_machine.specs.World.{kinds_of};
-ghost use Rattle.ebpf_machine.specs.Parts.{state_of, HasCapacity};
+ghost use Rattle.ebpf_machine.specs.Parts.{state_of, HasCapacity, HasRoomAt};
 ghost use Rattle.ebpf_machine.specs.Advance.{IsReady, IsAdvanced};
 
 use crate::execute::number;
@@ -63,10 +62,10 @@ fn ask<O: Objects>(parts: &mut Parts<'_, O::Held>, objects: &mut O)
 // Holds an object that was granted.
 fn hold<H>(parts: &mut Parts<'_, H>, holding: Holding<H>)
     requires held { length parts.old.held.items < parts.old.verified.now.decl.held }
-    requires replies { length parts.old.replies.items < length (instructions parts.old.verified.now.program) }
+    requires called { IsCallThere (state_of parts.old) }
     requires room { HasCapacity parts.old }
     ensures state { state_of parts.new ≡ holding_too holding (state_of parts.old) }
-    ensures room { HasCapacity parts.new }
+    ensures room { HasRoomAt (parts.new.pc + 1) parts.new }
 {
     parts.held.push_reserved(holding);
     parts.replies.push_reserved(Reply::Granted);
@@ -95,7 +94,7 @@ fn give_back<O: Objects>(parts: &mut Parts<'_, O::Held>, objects: &mut O)
 
 // Adds a number to the output, and goes on behind the call.
 fn emit<H>(parts: &mut Parts<'_, H>, number: u64)
-    requires output { length parts.old.output.items < length (instructions parts.old.verified.now.program) }
+    requires called { IsCallThere (state_of parts.old) }
     requires few { parts.old.executed < MAX_SLOTS }
     requires inside { parts.old.pc < MAX_SLOTS }
     requires room { HasCapacity parts.old }
@@ -110,7 +109,7 @@ fn emit<H>(parts: &mut Parts<'_, H>, number: u64)
 fn answer<H>(parts: &mut Parts<'_, H>, value: Value<u16>)
     requires few { parts.old.executed < MAX_SLOTS }
     requires inside { parts.old.pc < MAX_SLOTS }
-    requires room { HasCapacity parts.old }
+    requires room { HasRoomAt (parts.old.pc + 1) parts.old }
     ensures state { state_of parts.new ≡ gone_on value (state_of parts.old) }
     ensures room { HasCapacity parts.new }
 {

@@ -5,3 +5,4 @@ pub mod Pointers
 pub mod Leading
 pub mod Entries
 pub mod Sends
+pub mod Counted

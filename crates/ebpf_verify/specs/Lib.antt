@@ -4,6 +4,7 @@ pub mod Operations
 pub mod Branches
 pub mod Memory
 pub mod Calls
+pub mod CallCount
 pub mod Rules
 pub mod Entry
 pub mod Verdict

@@ -4,11 +4,12 @@
 //! run that comes there. It refuses the lowest slot whose rule refuses what is known there; where it refuses none, it
 //! makes a [`verified::Verified`], and no run of that program traps.
 //!
-//! To be read in this order: `fault`, `decl`, `pointer`, `operations`, `branches`, `memory`, `helper`, `calls`, `rules`, `entry`,
+//! To be read in this order: `fault`, `decl`, `pointer`, `operations`, `branches`, `memory`, `helper`, `call_count`, `calls`, `rules`, `entry`,
 //! `propagate`, `verify`, `verified`.
 #![tactic(auto)]
 
 mod branches;
+mod call_count;
 mod calls;
 pub mod decl;
 mod entry;

@@ -25,6 +25,7 @@ ghost use Rattle.ebpf_insn.specs.Faults.{lowest};
 ghost use Rattle.ebpf_verify.specs.Entry.{first_entry, entry_in, after_visit};
 ghost use Rattle.ebpf_verify.specs.Verdict.{refusal_in, verdict, IsVerifyFault, AreRows, IsSlotFault};
 
+use crate::call_count::calls_in;
 use crate::decl::Decl;
 use crate::entry::EntryState;
 use crate::fault::{VerifyCode, VerifyFault, refused_at};
@@ -59,10 +60,12 @@ pub fn verify(
     for slot in 0..slots {
         visit(&flowed, decl, rows, slot, &mut entries)?;
     }
+    let calls = calls_in(flowed.program());
     Ok(Verified {
         flowed,
         decl,
         rows: kept,
+        calls,
     })
 }
 

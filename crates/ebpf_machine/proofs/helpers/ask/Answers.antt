@@ -1,9 +1,11 @@
-use Rattle.std.proofs.Common.{◌≡◌, List, length, ap, ◌∙◌, refl, rules, arith}
+use Rattle.std.proofs.Common.{◌≡◌, ◌+◌, List, length, ap, ◌∙◌, refl, rules, arith}
 use Rattle.std.specs.Vec.{vec_len}
 use Rattle.ebpf_machine.specs.World.{Kind, image_at}
 use Rattle.ebpf_machine.specs.RunState.{RunState}
 use Rattle.ebpf_machine.specs.Parts.{state_of}
-use Rattle.ebpf_machine.proofs.Instructions.Advancing.{ready_few, ready_inside, ready_told}
+use Rattle.ebpf_verify.specs.CallCount.{is_call_there}
+use Rattle.ebpf_machine.proofs.Instructions.Advancing.{ready_few, ready_inside}
+use Rattle.ebpf_machine.proofs.Instructions.CallsLeft.{behind, one_added, one_fits}
 use Rattle.ebpf_machine.proofs.Instructions.Granting.{asking, ask_finds, ask_known, asks_room, kind_fits, kind_there, granted_state, grant_advanced, null_advanced}
 use Rattle.ebpf_machine.proofs.helpers.ask.Goals.{Start, After-number-kind}
 use Rattle.ebpf_machine.proofs.helpers.ask.Goals as goal
@@ -25,8 +27,8 @@ hold-requires-clause-held g c =
     let asks = asking _ _ _ _ c.requires.ready c.requires.at c.number-kind.ensures in
     asks_room _ _ _ _ asks (ask_known _ _ _ _ asks)
 
-pub hold-requires-clause-replies : goal.hold-requires-clause-replies
-hold-requires-clause-replies g c = ready_told _ _ _ c.requires.ready
+pub hold-requires-clause-called : goal.hold-requires-clause-called
+hold-requires-clause-called g c = ap is_call_there c.requires.at.at
 
 pub answer-requires-clause-few : goal.answer-requires-clause-few
 answer-requires-clause-few g c = let few = ready_few _ _ _ c.requires.ready in let same = ap (λ (r : RunState _). r.executed) c.hold.ensures.state in omega (arith, few, same)
@@ -36,9 +38,9 @@ answer-requires-clause-inside g c = let inside = ready_inside _ _ _ c.requires.r
 
 pub push_reserved-requires : goal.push_reserved-requires
 push_reserved-requires g c =
-    let few = ready_told _ _ _ c.requires.ready in
+    let fits = one_fits c.args.parts.now.verified.now.program c.args.parts.now.pc _ _ (ap is_call_there c.requires.at.at) c.requires.room.replies in
     let long : length c.args.parts.now.replies.items ≡ vec_len c.args.parts.now.replies = search rules in
-    omega (arith, few, long, c.requires.room.replies)
+    omega (arith, fits, long)
 
 pub answer-requires-in-None-clause-few : goal.answer-requires-in-None-clause-few
 answer-requires-in-None-clause-few g c = ready_few _ _ _ c.requires.ready
@@ -57,3 +59,10 @@ returns-in-None-clause-advanced g c =
     let asks = asking _ _ _ _ c.requires.ready c.requires.at c.number-kind.ensures in
     rw (c.answer-in-None.ensures.state, c.push_reserved.ensures.items)
     (null_advanced _ _ _ _ _ asks (ask_known _ _ _ _ asks) (record { can = c.in-None.ensures.refused; counts = c.in-None.ensures.refused_count; outs = c.in-None.ensures.outs_refused; kept = c.take.ensures.others }))
+
+pub answer-requires-in-None-clause-room : goal.answer-requires-in-None-clause-room
+answer-requires-in-None-clause-room g c =
+    let room = c.requires.room in
+    let added = one_added c.args.parts.now.verified.now.program c.args.parts.now.pc _ _ (ap is_call_there c.requires.at.at) room.replies in
+    let long : length c.push_reserved.new.self.items ≡ length c.args.parts.now.replies.items + 1 = search rules in
+    record { output = behind c.args.parts.now.verified.now.program c.args.parts.now.pc _ _ room.output; replies = omega (arith, added, long, c.push_reserved.ensures.capacity); held = room.held }

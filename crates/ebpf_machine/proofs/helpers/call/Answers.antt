@@ -1,8 +1,9 @@
 use Rattle.std.proofs.Common.{Some, ap, ◌∙◌}
 use Rattle.ebpf_verify.specs.declared.helper.Helper.TheVariants.{Emit}
+use Rattle.ebpf_verify.specs.CallCount.{is_call_there}
 use Rattle.ebpf_machine.specs.RunState.{Calls}
 use Rattle.ebpf_machine.specs.Parts.{state_of}
-use Rattle.ebpf_machine.proofs.Instructions.Advancing.{ready_few, ready_inside, ready_emits, emit_finds, emit_advanced}
+use Rattle.ebpf_machine.proofs.Instructions.Advancing.{ready_few, ready_inside, emit_finds, emit_advanced}
 use Rattle.ebpf_machine.proofs.helpers.call.Given.{Over}
 use Rattle.ebpf_machine.proofs.helpers.call.Goals.{In-Emit}
 use Rattle.ebpf_machine.proofs.helpers.call.Goals as goal
@@ -13,8 +14,8 @@ calls g c = record { number = c.requires.at.number; at = c.requires.at.at; is = 
 pub number-requires : goal.number-requires
 number-requires g c = emit_finds _ _ _ c.requires.ready (calls g (goal.at.number-requires g c).In-Emit)
 
-pub emit-requires-clause-output : goal.emit-requires-clause-output
-emit-requires-clause-output g c = ready_emits _ _ _ c.requires.ready
+pub emit-requires-clause-called : goal.emit-requires-clause-called
+emit-requires-clause-called g c = ap is_call_there c.requires.at.at
 
 pub emit-requires-clause-few : goal.emit-requires-clause-few
 emit-requires-clause-few g c = ready_few _ _ _ c.requires.ready

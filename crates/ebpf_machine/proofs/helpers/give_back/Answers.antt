@@ -1,8 +1,9 @@
-use Rattle.std.proofs.Common.{◌≡◌, ◌+◌, ◌<◌, List, length, get_or, ap, ◌∙◌, subst}
+use Rattle.std.proofs.Common.{◌≡◌, ◌+◌, ◌<◌, List, length, get_or, ap, ◌∙◌, subst, rules}
 use Rattle.ebpf_machine.specs.declared.holding.Holding.{Holding}
 use Rattle.ebpf_machine.specs.declared.value.Value.TheVariants.{Number}
 use Rattle.ebpf_machine.specs.Parts.{state_of}
 use Rattle.ebpf_machine.proofs.Instructions.Advancing.{registers_answered, ready_few, ready_inside}
+use Rattle.ebpf_machine.proofs.Instructions.CallsLeft.{behind}
 use Rattle.ebpf_machine.proofs.Instructions.Returning.{free_object, free_held, free_here}
 use Rattle.ebpf_machine.proofs.helpers.give_back.Goals.{Start}
 use Rattle.ebpf_machine.proofs.helpers.give_back.Goals as goal
@@ -26,3 +27,8 @@ returns-clause-advanced g c =
     let named : (get_or c.args.parts.now.held.items c.place_of-place.result c.remove-kind.result).call ≡ c.object.result = subst (λ (hs : List (Holding _)). (get_or hs c.place_of-place.result c.remove-kind.result).call ≡ c.object.result) items (c.place_of-place.ensures.value c.remove-kind.result) in
     free_here _ (state_of c.args.parts.now) (state_of c.answer.new.parts) c.place_of-place.result c.object.result c.remove-kind.result c.args.objects.now c.give.new.self c.requires.ready c.requires.at c.object.ensures inside c.remove-kind.ensures.value named
     (c.answer.ensures.state ∙ ap (λ (hs : List (Holding _)). record (state_of c.args.parts.now) { held = hs; pc = c.args.parts.now.pc + 1; registers = registers_answered c.args.parts.now.registers (Number 0); executed = c.args.parts.now.executed + 1 }) c.remove-kind.ensures.items) (record { back = c.give.ensures.back; others = c.give.ensures.others; counts = c.give.ensures.counts; outs = c.give.ensures.outs })
+
+pub answer-requires-clause-room : goal.answer-requires-clause-room
+answer-requires-clause-room g c =
+    let room = c.requires.room in
+    record { output = behind c.args.parts.now.verified.now.program c.args.parts.now.pc _ _ room.output; replies = behind c.args.parts.now.verified.now.program c.args.parts.now.pc _ _ room.replies; held = search rules }
