@@ -13,6 +13,7 @@ use Rattle.worker_pool.specs.declared.handed.HandedCache.{HandedCache}
 use Rattle.worker_pool.specs.declared.caches.Caches.{Caches}
 use Rattle.worker_pool.specs.declared.caches.FreeHands.{FreeHands}
 use Rattle.worker_pool.specs.declared.crew.Parts.{Parts}
+use Rattle.worker_pool.specs.declared.plant.Plant.{Plant}
 use Rattle.object_cache.specs.declared.totals.Totals.{Totals}
 
 -- so many hands, with which nothing was done
@@ -108,3 +109,14 @@ module _ {A0 B0 A1 B1 A2 B2 : Type 0} where
     pub of_cells : IsTotalOf h.cells.items cells
     pub of_records : IsTotalOf h.records.items records
     pub of_blocks : IsTotalOf h.blocks.items blocks
+
+  -- all that so many workers and jobs need, with which nothing was done
+  pub record IsPrepared (count jobs : ℕ) (p : Plant A0 B0 A1 B1 A2 B2) : Type 0 where
+    pub limit : p.room.tickets.limit ≡ jobs
+    pub tickets : p.room.tickets.seats ≡ count
+    pub drawers : (length p.room.drawers.items ≡ count) × All (λ s. s ≡ drawing.fresh p.room.tickets.table jobs) p.room.drawers.items
+    pub answered : (length p.room.answered.items ≡ count) × All (λ l. l.items ≡ []) p.room.answered.items
+    pub reports : (length p.room.reports.items ≡ jobs) × All (λ r. r.exit ≡ None) p.room.reports.items
+    pub workers : (p.workers.items ≡ []) × (count ≤ vec_capacity p.workers)
+    pub made : AreMade count p.caches
+    pub hands : AreHands count p.hands

@@ -13,7 +13,7 @@
 //! is proved of a run over some store holds over this one; and each number is drawn once.
 //!
 //! To be read in this order: `object`, `before`, `client`, `stock`, `store`, `jobs`, `gate`, `shared`, `worker`, `team`,
-//! `outcome`, `fault`, `admission`, `room`, `handed`, `caches`, `crew`, `place`, `pool`.
+//! `outcome`, `fault`, `admission`, `room`, `handed`, `caches`, `plant`, `crew`, `place`, `pool`.
 #![tactic(auto)]
 
 mod admission;
@@ -29,6 +29,7 @@ mod jobs;
 mod object;
 mod outcome;
 mod place;
+mod plant;
 mod pool;
 mod room;
 mod shared;

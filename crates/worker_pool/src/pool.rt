@@ -18,14 +18,14 @@ ghost use Rattle.worker_pool.specs.Serving.{AreServed};
 ghost use Rattle.worker_pool.specs.Working.{CanRun};
 
 use crate::admission::pool_fault;
-use crate::caches::{Blanks, open};
+use crate::caches::Blanks;
 use crate::crew::{Done, Parts, dismiss, recruit};
 use crate::fault::PoolFault;
 use crate::gate::Gate;
 use crate::jobs::Job;
 use crate::outcome::{Host, Outcome, Reports};
 use crate::place::place_all;
-use crate::room::Room;
+use crate::plant::Plant;
 use crate::shared::Shared;
 use crate::team::work_and_reap;
 use crate::worker::Worker;
@@ -115,47 +115,39 @@ fn run_in<
     ensures done { IfOk result.1 (IsOutcome host.now.programs.items jobs.now seats.items result.0.items) }
     ensures seats { AreIdleAgain owners.now seats.items result.0.items }
 {
-    let count = seats.len();
-    let Ok(room) = Room::new(alloc, host.pages, count, jobs.len()) else {
-        return (seats, Err(AllocError));
-    };
-    let Ok(mut workers) = Vec::with_capacity(alloc, count) else {
-        return (seats, Err(AllocError));
-    };
-    let Ok((caches, hands)) = open::<A0, B0, A1, B1, A2, B2, R>(
+    let Ok(plant) = Plant::<A0, B0, A1, B1, A2, B2>::new(
         rt,
         alloc,
-        &room.arena,
-        count,
+        host.pages,
+        seats.len(),
+        jobs.len(),
         blanks,
     ) else {
-        workers.destroy_empty();
         return (seats, Err(AllocError));
     };
-    let Room {
-        arena,
-        tickets,
-        drawers,
-        answered,
-        mut reports,
-    } = room;
+    let Plant {
+        mut room,
+        mut workers,
+        caches,
+        hands,
+    } = plant;
     let mut parts = Parts {
         hands,
         seats,
-        drawers,
-        answered,
+        drawers: room.drawers,
+        answered: room.answered,
     };
     let shared = Shared {
         rt,
         alloc,
-        arena: &arena,
+        arena: &room.arena,
         owners,
         cells: &caches.cells,
         records: &caches.records,
         blocks: &caches.blocks,
         programs: &host.programs,
         jobs,
-        tickets: &tickets,
+        tickets: &room.tickets,
         gate,
     };
     let done = serve_all(&shared, reaps, &mut parts, &mut workers);
@@ -166,14 +158,16 @@ fn run_in<
         drawers,
         answered,
     } = parts;
-    let totals = caches.close(rt, &arena, hands);
-    tickets.close(drawers);
+    let totals = caches.close(rt, &room.arena, hands);
+    room.tickets.close(drawers);
     if !done.is_through {
         return (seats, Err(AllocError));
     }
-    place_all(&mut reports, answered);
+    place_all(&mut room.reports, answered);
     let outcome = Outcome {
-        reports: Reports { reports },
+        reports: Reports {
+            reports: room.reports,
+        },
         totals,
         clashes: done.clashes,
     };

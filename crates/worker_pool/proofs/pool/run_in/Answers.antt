@@ -9,11 +9,8 @@ use Rattle.worker_pool.proofs.Admitted.{admitted}
 use Rattle.worker_pool.proofs.Outcoming.{outcome, placed_once, answered_inside}
 use Rattle.worker_pool.proofs.pool.run_in.Goals as goal
 
-pub new-requires : goal.new-requires
-new-requires g c = let a = admitted _ _ _ c.requires.fine in let some = a.some in let few = a.few in search rules
-
-pub open-requires-clause-count : goal.open-requires-clause-count
-open-requires-clause-count g c = let a = admitted _ _ _ c.requires.fine in let few = a.few in search rules
+pub new-requires-clause-count : goal.new-requires-clause-count
+new-requires-clause-count g c = let a = admitted _ _ _ c.requires.fine in let some = a.some in let few = a.few in search rules
 
 pub serve_all-done-requires-clause-can : goal.serve_all-done-requires-clause-can
 serve_all-done-requires-clause-can g c κs within = let a = admitted _ _ _ c.requires.fine in subst (λ ps. All (CanRun ps) c.args.jobs.now) (sym c.deref.ensures.value) a.can
@@ -28,7 +25,7 @@ pub place_all-requires-clause-inside : goal.place_all-requires-clause-inside
 place_all-requires-clause-inside g c =
     let s = c.serve_all-done.ensures.served in
     let inside = answered_inside _ _ (reports_of c.serve_all-done.new.parts) s.good in
-    let len : length c.args.jobs.now ≡ vec_len c.in-Ok.room.reports = search rules in
+    let len : length c.args.jobs.now ≡ vec_len c.in-Ok.plant.room.reports = search rules in
     subst (λ (k : ℕ). All (All (λ (n : Numbered). n.job < k)) (reports_of c.serve_all-done.new.parts)) len inside
 
 pub place_all-requires-clause-once : goal.place_all-requires-clause-once
@@ -37,8 +34,8 @@ place_all-requires-clause-once g c =
     let few = a.few in
     let few_jobs = a.few_jobs in
     let through : c.serve_all-done.result.is_through ≡ true = search rules in
-    let fits : NeverWraps c.in-Ok.room.tickets.limit c.in-Ok.room.tickets.seats = search rules in
-    placed_once _ _ _ _ _ _ _ through c.serve_all-done.ensures.served (c.close.ensures.once fits) c.in-Ok.room.reports.items c.in-Ok.ensures.reports.1
+    let fits : NeverWraps c.in-Ok.plant.room.tickets.limit c.in-Ok.plant.room.tickets.seats = search rules in
+    placed_once _ _ _ _ _ _ _ through c.serve_all-done.ensures.served (c.close.ensures.once fits) c.in-Ok.plant.room.reports.items c.in-Ok.ensures.reports.1
 
 pub returns-clause-done : goal.returns-clause-done
 returns-clause-done g c =
@@ -47,14 +44,14 @@ returns-clause-done g c =
     let few_jobs = a.few_jobs in
     let s = c.serve_all-done.ensures.served in
     let through : c.serve_all-done.result.is_through ≡ true = search rules in
-    let fits : NeverWraps c.in-Ok.room.tickets.limit c.in-Ok.room.tickets.seats = search rules in
+    let fits : NeverWraps c.in-Ok.plant.room.tickets.limit c.in-Ok.plant.room.tickets.seats = search rules in
     let drawers = s.drawers_all in
-    let all : vec_len c.serve_all-done.new.parts.drawers ≡ c.in-Ok.room.tickets.seats = search rules in
+    let all : vec_len c.serve_all-done.new.parts.drawers ≡ c.in-Ok.plant.room.tickets.seats = search rules in
     let made : Outcome = record { reports = c.place_all.new.places.items; totals = c.close-totals.result; clashes = c.serve_all-done.result.clashes } in
-    let limit : c.in-Ok.room.tickets.limit ≡ length c.args.jobs.now = search rules in
+    let limit : c.in-Ok.plant.room.tickets.limit ≡ length c.args.jobs.now = search rules in
     let len : length c.place_all.new.places.items ≡ length c.args.jobs.now = search rules in
     let e = c.place_all.ensures in
     subst (λ ps. IsOutcome ps c.args.jobs.now c.args.seats.items c.serve_all-done.new.parts.seats.items made) c.deref.ensures.value
-    (outcome _ _ _ _ _ _ _ through s (c.close.ensures.once fits) c.in-Ok.room.reports.items c.in-Ok.ensures.reports.1
+    (outcome _ _ _ _ _ _ _ through s (c.close.ensures.once fits) c.in-Ok.plant.room.reports.items c.in-Ok.ensures.reports.1
     (λ x below. c.close.ensures.each fits all (s.through through) x (omega (arith, below, limit)))
     c.place_all.new.places.items len e.filled e.weight e.from c.close-totals.result c.close-totals.ensures made refl refl refl)
