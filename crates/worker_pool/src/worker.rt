@@ -35,6 +35,7 @@ use owners_table::tickets::TicketSeat;
 use slab_layer::{BlockKind, CellKind, RecordKind};
 use std::alloc::{AllocError, Global};
 use std::marker::Brand;
+use std::mem;
 use std::sync::Wait;
 use std::sync::ledger::Ledger;
 
@@ -77,12 +78,15 @@ pub(crate) fn work<
     let Some(hands) = worker.hands.take() else {
         unreachable!()
     };
+    // What a job writes to lies with the thread, not beside what another worker writes to.
+    let mut answered = mem::replace(&mut worker.answered, Vec::new(shared.alloc));
     let (left, is_through) = work_with::<A0, B0, A1, B1, A2, B2, Brand, G, R>(
         shared,
         hands,
         &mut worker.ticket,
-        &mut worker.answered,
+        &mut answered,
     );
+    worker.answered = answered;
     worker.is_through = is_through;
     match worker.hands.replace(left) {
         Some(_) => unreachable!(),
