@@ -11,11 +11,11 @@ loop-slot-preserved c =
     let inside : c.loop-slot.slot < length p = search rules in
     let there = c.is_call.ensures ∙ ap is_call_there c.at.ensures in
     elim c.if-is_call.branch [
-      then-is_call w ↦ record {
+      | then-is_call w ↦ record {
         counted = let more = counted_call p c.loop-slot.slot inside (sym there ∙ w.if-is_call.true) in omega (arith, more, w.calls-is, i.counted);
         few = omega (arith, w.calls-is, i.few);
       }
-    | else-is_call w ↦ record {
+      | else-is_call w ↦ record {
         counted = let same = counted_other p c.loop-slot.slot inside (sym there ∙ w.if-is_call.false) in omega (arith, same, w.calls-is, i.counted);
         few = omega (arith, w.calls-is, i.few);
       }
