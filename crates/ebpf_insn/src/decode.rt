@@ -6,6 +6,7 @@ ghost use Rattle.ebpf_insn.specs.declared.fault.DecodeFault.TheVariants.{NoMemor
 ghost use Rattle.ebpf_insn.specs.Program.{slots_in};
 ghost use Rattle.ebpf_insn.specs.Encoding.{slots_of, encoding, program_bytes, IsDefined, IsWellFormed, IsProgram};
 ghost use Rattle.ebpf_insn.specs.Decoding.{slot_fault, place_fault, decode_fault, second_at, second_of, is_second_half, IsDecodeFault};
+ghost use Rattle.ebpf_insn.specs.Opcodes.{form_of};
 ghost use Rattle.ebpf_insn.specs.Slot.{listed};
 
 use crate::decoded::insn_at_slot;
@@ -13,8 +14,10 @@ use crate::fault::{DecodeCode, DecodeFault};
 use crate::fields::{
     has_bad_second, has_defined_fields, has_left_out_source, lacks_second, leaves_unused_zero,
 };
-use crate::insn::Insn;
-use crate::opcode::{Form, form_of, is_left_out};
+use crate::insn::{Insn, Width};
+use crate::opcode::{
+    Form, Operand, alu_form, is_left_out, jump_form, load_form, store_form, wide_form,
+};
 use crate::program::{MAX_SLOTS, Program};
 use crate::register::Reg;
 use crate::slot::{Slot, read_slot};
@@ -87,11 +90,32 @@ fn decode_at(bytes: &[u8], slot: usize) -> Result<Insn, DecodeCode>
 // The instruction of the slot that the bytes begin with and, where it is a wide one, of the slot after it, or the first code
 // that applies: `I2` for an opcode that stands for no instruction, `I8` for a form that is left out, then `I3` to `I7` in this
 // order.
+#[inline(always)]
 fn decode_slot(slot: Slot, bytes: &[u8]) -> Result<Insn, DecodeCode>
     ensures found { IfOk result (λ i. IsDefined i × (slots_of i ≡ take (slots_in i) (slot ∷ listed (second_at bytes.now)))) }
     ensures fault { MatchResult result (λ _. slot_fault slot (second_at bytes.now) ≡ None) (λ code. slot_fault slot (second_at bytes.now) ≡ Some code) }
 {
-    let Some(form) = form_of(slot.opcode) else {
+    let code = slot.opcode;
+    match code % 8 {
+        0 => decode_form(wide_form(code), slot, bytes),
+        1 => decode_form(load_form(code), slot, bytes),
+        2 => decode_form(store_form(code, Operand::Immediate), slot, bytes),
+        3 => decode_form(store_form(code, Operand::Register), slot, bytes),
+        4 => decode_form(alu_form(code, Width::W32), slot, bytes),
+        5 => decode_form(jump_form(code, Width::W64), slot, bytes),
+        6 => decode_form(jump_form(code, Width::W32), slot, bytes),
+        _ => decode_form(alu_form(code, Width::W64), slot, bytes),
+    }
+}
+
+// The same, where this is the opcode's form. Each class has its own copy, in which little is left to be told apart.
+#[inline(always)]
+fn decode_form(form: Option<Form>, slot: Slot, bytes: &[u8]) -> Result<Insn, DecodeCode>
+    requires { form ≡ form_of slot.opcode }
+    ensures found { IfOk result (λ i. IsDefined i × (slots_of i ≡ take (slots_in i) (slot ∷ listed (second_at bytes.now)))) }
+    ensures fault { MatchResult result (λ _. slot_fault slot (second_at bytes.now) ≡ None) (λ code. slot_fault slot (second_at bytes.now) ≡ Some code) }
+{
+    let Some(form) = form else {
         return Err(if is_left_out(slot.opcode) {
             DecodeCode::I8
         } else {
@@ -121,6 +145,7 @@ fn decode_slot(slot: Slot, bytes: &[u8]) -> Result<Insn, DecodeCode>
 }
 
 // The slot after the one that the bytes begin with, where a form takes two. It is read only there, as few do.
+#[inline(always)]
 fn second_of(form: Form, bytes: &[u8]) -> Option<Slot>
     ensures { result ≡ second_of form bytes.now }
 {

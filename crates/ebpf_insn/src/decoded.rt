@@ -11,6 +11,7 @@ use crate::register::Reg;
 use crate::slot::Slot;
 
 // The instruction of a slot, whose form and registers these are; a wide one takes its upper half from the slot after it.
+#[inline(always)]
 pub(crate) fn insn_at_slot(form: Form, slot: Slot, second: Option<Slot>, dst: Reg, src: Reg) -> Insn
     requires { has_defined_fields form slot ≡ true }
     ensures { result ≡ insn_at_slot form slot second dst src }
@@ -55,6 +56,7 @@ pub(crate) fn insn_at_slot(form: Form, slot: Slot, second: Option<Slot>, dst: Re
 }
 
 // A branch.
+#[inline(always)]
 fn branch_at(width: Width, cond: Cond, operand: Operand, slot: Slot, left: Reg, src: Reg) -> Insn
     ensures { result ≡ insn_at_slot (form.Branch width cond operand) slot None left src }
 {
@@ -68,6 +70,7 @@ fn branch_at(width: Width, cond: Cond, operand: Operand, slot: Slot, left: Reg, 
 }
 
 // The upper half of a wide instruction's value.
+#[inline(always)]
 fn upper_half(second: Option<Slot>) -> u32
     ensures { result ≡ upper_half second }
 {
@@ -78,6 +81,7 @@ fn upper_half(second: Option<Slot>) -> u32
 }
 
 // An arithmetic instruction, whose offset may choose a signed operation or a sign-extending move.
+#[inline(always)]
 fn alu_at(width: Width, op: AluOp, operand: Operand, slot: Slot, dst: Reg, src: Reg) -> Insn
     requires { has_defined_fields (form.Alu width op operand) slot ≡ true }
     ensures { result ≡ alu_at width op operand slot dst src }
@@ -107,6 +111,7 @@ fn alu_at(width: Width, op: AluOp, operand: Operand, slot: Slot, dst: Reg, src: 
 }
 
 // The signed operation, where the offset says so.
+#[inline(always)]
 fn signed_by(offset: u16, op: AluOp) -> AluOp
     ensures { result ≡ signed_by offset op }
 {
@@ -118,6 +123,7 @@ fn signed_by(offset: u16, op: AluOp) -> AluOp
 }
 
 // The second operand.
+#[inline(always)]
 fn source_at(operand: Operand, slot: Slot, src: Reg) -> Source
     ensures { result ≡ source_at operand slot src }
 {

@@ -9,6 +9,7 @@ use crate::opcode::{Form, Operand};
 use crate::slot::Slot;
 
 // Whether the offset chooses among operations: the sign of a division or a remainder, and how far a move extends one.
+#[inline(always)]
 fn offset_chooses(op: AluOp, operand: Operand) -> bool
     ensures { result ≡ offset_chooses op operand }
 {
@@ -20,6 +21,7 @@ fn offset_chooses(op: AluOp, operand: Operand) -> bool
 }
 
 // Whether the fields that a form doesn't use are zero in the slot.
+#[inline(always)]
 pub(crate) fn leaves_unused_zero(form: Form, slot: Slot) -> bool
     ensures { result ≡ leaves_unused_zero form slot }
 {
@@ -40,6 +42,7 @@ pub(crate) fn leaves_unused_zero(form: Form, slot: Slot) -> bool
 }
 
 // Whether of src and the immediate the one is zero that isn't the second operand.
+#[inline(always)]
 fn leaves_source_zero(operand: Operand, slot: Slot) -> bool
     ensures { result ≡ ((takes_register operand || slot.src == 0) && (not (takes_register operand) || slot.imm == 0)) }
 {
@@ -51,6 +54,7 @@ fn leaves_source_zero(operand: Operand, slot: Slot) -> bool
 
 // Whether src makes a call or a wide load one of the forms that are left out: calls within a program and by the numbers of
 // BTF, and loads of what stands for a map, a variable or code.
+#[inline(always)]
 pub(crate) fn has_left_out_source(form: Form, src: u8) -> bool
     ensures { result ≡ has_left_out_source form src }
 {
@@ -62,6 +66,7 @@ pub(crate) fn has_left_out_source(form: Form, src: u8) -> bool
 }
 
 // Whether the offset and the immediate are ones that the operation has.
+#[inline(always)]
 pub(crate) fn has_defined_fields(form: Form, slot: Slot) -> bool
     ensures { result ≡ has_defined_fields form slot }
 {
@@ -82,6 +87,7 @@ pub(crate) fn has_defined_fields(form: Form, slot: Slot) -> bool
 }
 
 // Whether there is a sign-extending move of so many bits.
+#[inline(always)]
 fn is_move_of(width: Width, bits: u16) -> bool
     ensures { result ≡ is_move_of width bits }
 {
@@ -89,6 +95,7 @@ fn is_move_of(width: Width, bits: u16) -> bool
 }
 
 // Whether there is a byte swap of so many bits.
+#[inline(always)]
 fn is_swap_of(bits: u32) -> bool
     ensures { result ≡ is_swap_of bits }
 {
@@ -96,6 +103,7 @@ fn is_swap_of(bits: u32) -> bool
 }
 
 // Whether the slot is of a wide instruction, and no slot follows.
+#[inline(always)]
 pub(crate) fn lacks_second(form: Form, second: Option<Slot>) -> bool
     ensures { result ≡ lacks_second form second }
 {
@@ -103,6 +111,7 @@ pub(crate) fn lacks_second(form: Form, second: Option<Slot>) -> bool
 }
 
 // Whether the slot is of a wide instruction, and the one that follows holds more than an immediate.
+#[inline(always)]
 pub(crate) fn has_bad_second(form: Form, second: Option<Slot>) -> bool
     ensures { result ≡ has_bad_second form second }
 {
@@ -113,6 +122,7 @@ pub(crate) fn has_bad_second(form: Form, second: Option<Slot>) -> bool
 }
 
 // Whether a slot holds nothing but its immediate, as the second half of a wide instruction does.
+#[inline(always)]
 fn is_blank(slot: Slot) -> bool
     ensures { result ≡ is_blank slot }
 {

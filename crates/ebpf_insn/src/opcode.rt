@@ -59,24 +59,11 @@ pub(crate) enum Form {
     Exit,
 }
 
-// The form of an opcode, or `None` where it stands for no instruction of ours.
-pub(crate) fn form_of(opcode: u8) -> Option<Form>
-    ensures { result ≡ form_of opcode }
-{
-    match opcode % 8 {
-        0 => wide_form(opcode),
-        1 => load_form(opcode),
-        2 => store_form(opcode, Operand::Immediate),
-        3 => store_form(opcode, Operand::Register),
-        4 => alu_form(opcode, Width::W32),
-        5 => jump_form(opcode, Width::W64),
-        6 => jump_form(opcode, Width::W32),
-        _ => alu_form(opcode, Width::W64),
-    }
-}
+// The form of an opcode, by its class: `None` where it stands for no instruction of ours.
 
 // The class LD.
-fn wide_form(opcode: u8) -> Option<Form>
+#[inline(always)]
+pub(crate) fn wide_form(opcode: u8) -> Option<Form>
     requires { opcode % 8 ≡ 0 }
     ensures { result ≡ form_of opcode }
 {
@@ -88,7 +75,8 @@ fn wide_form(opcode: u8) -> Option<Form>
 }
 
 // The class LDX, with the modes of memory (3) and of memory with its sign (4).
-fn load_form(opcode: u8) -> Option<Form>
+#[inline(always)]
+pub(crate) fn load_form(opcode: u8) -> Option<Form>
     requires { opcode % 8 ≡ 1 }
     ensures { result ≡ form_of opcode }
 {
@@ -104,7 +92,8 @@ fn load_form(opcode: u8) -> Option<Form>
 }
 
 // The classes ST and STX, with the mode of memory (3).
-fn store_form(opcode: u8, operand: Operand) -> Option<Form>
+#[inline(always)]
+pub(crate) fn store_form(opcode: u8, operand: Operand) -> Option<Form>
     requires { opcode % 8 ≡ store_class operand }
     ensures { result ≡ form_of opcode }
 {
@@ -117,48 +106,53 @@ fn store_form(opcode: u8, operand: Operand) -> Option<Form>
 }
 
 // The classes ALU and ALU64.
-fn alu_form(opcode: u8, width: Width) -> Option<Form>
+#[inline(always)]
+pub(crate) fn alu_form(opcode: u8, width: Width) -> Option<Form>
     requires { opcode % 8 ≡ alu_class width }
     ensures { result ≡ form_of opcode }
 {
-    match opcode {
-        0x84 | 0x87 => Some(Form::Neg { width }),
-        0xd4 => Some(Form::Swap {
-            order: Order::Little,
+    match alu_op(opcode / 16) {
+        Some(op) => Some(Form::Alu {
+            width,
+            op,
+            operand: operand_at(opcode),
         }),
-        0xdc => Some(Form::Swap { order: Order::Big }),
-        0xd7 => Some(Form::Swap { order: Order::Flip }),
-        _ => {
-            let operand = operand_at(opcode);
-            let op = alu_op(opcode / 16)?;
-            Some(Form::Alu { width, op, operand })
-        }
+        None => match opcode {
+            0x84 | 0x87 => Some(Form::Neg { width }),
+            0xd4 => Some(Form::Swap {
+                order: Order::Little,
+            }),
+            0xdc => Some(Form::Swap { order: Order::Big }),
+            0xd7 => Some(Form::Swap { order: Order::Flip }),
+            _ => None,
+        },
     }
 }
 
 // The classes JMP and JMP32.
-fn jump_form(opcode: u8, width: Width) -> Option<Form>
+#[inline(always)]
+pub(crate) fn jump_form(opcode: u8, width: Width) -> Option<Form>
     requires { opcode % 8 ≡ jump_class width }
     ensures { result ≡ form_of opcode }
 {
-    match opcode {
-        0x05 => Some(Form::Jump),
-        0x06 => Some(Form::JumpFar),
-        0x85 => Some(Form::Call),
-        0x95 => Some(Form::Exit),
-        _ => {
-            let operand = operand_at(opcode);
-            let cond = condition(opcode / 16)?;
-            Some(Form::Branch {
-                width,
-                cond,
-                operand,
-            })
-        }
+    match condition(opcode / 16) {
+        Some(cond) => Some(Form::Branch {
+            width,
+            cond,
+            operand: operand_at(opcode),
+        }),
+        None => match opcode {
+            0x05 => Some(Form::Jump),
+            0x06 => Some(Form::JumpFar),
+            0x85 => Some(Form::Call),
+            0x95 => Some(Form::Exit),
+            _ => None,
+        },
     }
 }
 
 // The operation of an arithmetic code, of the signed and the unsigned one the unsigned.
+#[inline(always)]
 fn alu_op(code: u8) -> Option<AluOp>
     ensures { result ≡ alu_op_of code }
 {
@@ -180,6 +174,7 @@ fn alu_op(code: u8) -> Option<AluOp>
 }
 
 // The condition of a jump's code.
+#[inline(always)]
 fn condition(code: u8) -> Option<Cond>
     ensures { result ≡ condition_of code }
 {
@@ -200,6 +195,7 @@ fn condition(code: u8) -> Option<Cond>
 }
 
 // The size of a load's or a store's opcode.
+#[inline(always)]
 fn size(opcode: u8) -> Size
     ensures { size_code result ≡ opcode / 8 % 4 }
 {
@@ -212,6 +208,7 @@ fn size(opcode: u8) -> Size
 }
 
 // Where the second operand comes from, by the bit 0x08.
+#[inline(always)]
 fn operand_at(opcode: u8) -> Operand
     ensures { operand_bit result ≡ opcode / 8 % 2 }
 {

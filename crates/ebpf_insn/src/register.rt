@@ -23,6 +23,7 @@ impl Reg {
     ghost use Rattle.ebpf_insn.specs.Registers.{number_of, register_of};
 
     /// The register of a number, or `None` above 10, as a register nibble of a slot can hold.
+    #[inline(always)]
     pub(crate) fn new(number: u8) -> Option<Reg>
         ensures { result ≡ register_of number }
     {

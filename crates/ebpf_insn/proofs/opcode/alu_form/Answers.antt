@@ -6,8 +6,8 @@ use Rattle.ebpf_insn.specs.Opcodes.{alu_op_of}
 use Rattle.ebpf_insn.proofs.Opcodes.{form_found, alu_op_is, alu_none}
 use Rattle.ebpf_insn.proofs.opcode.alu_form.Goals as goal
 
-pub returns-in_err-op-in_default : goal.returns-in_err-op-in_default
-returns-in_err-op-in_default c = c.from_residual.ensures ∙ sym (alu_none c.args.opcode c.args.width (search rules) c.requires (grind (arith, nat_tests)) (sym c.alu_op.ensures ∙ c.in_err-op-in_default.was))
+pub returns-in_default : goal.returns-in_default
+returns-in_default c = sym (alu_none c.args.opcode c.args.width (search rules) c.requires (grind (arith, nat_tests)) (sym c.in-None.ensures))
 
 pub returns-in-132 : goal.returns-in-132
 returns-in-132 c =
@@ -22,8 +22,8 @@ returns-in-220 c = sym (form_found c.args.opcode (form.Swap Big) tt (sym c.in-22
 pub returns-in-215 : goal.returns-in-215
 returns-in-215 c = sym (form_found c.args.opcode (form.Swap Flip) tt (sym c.in-215.is))
 
-pub returns-in_ok-op-in_default : goal.returns-in_ok-op-in_default
-returns-in_ok-op-in_default c =
-    let found : alu_op_of (c.args.opcode / 16) ≡ Some c.in_ok-op-in_default.op = sym c.alu_op.ensures ∙ c.in_ok-op-in_default.was in
-    let known = alu_op_is (c.args.opcode / 16) c.in_ok-op-in_default.op found in
-    sym (form_found c.args.opcode (form.Alu c.args.width c.in_ok-op-in_default.op c.operand_at-operand.result) known.1 (omega (arith, known.0, c.operand_at-operand.ensures, c.requires)))
+pub returns-in-Some : goal.returns-in-Some
+returns-in-Some c =
+    let found : alu_op_of (c.args.opcode / 16) ≡ Some c.in-Some.op = sym c.in-Some.ensures in
+    let known = alu_op_is (c.args.opcode / 16) c.in-Some.op found in
+    sym (form_found c.args.opcode (form.Alu c.args.width c.in-Some.op c.operand_at.result) known.1 (omega (arith, known.0, c.operand_at.ensures, c.requires)))

@@ -5,8 +5,8 @@ use Rattle.ebpf_insn.specs.Opcodes.{condition_of}
 use Rattle.ebpf_insn.proofs.Opcodes.{form_found, condition_is, jump_none}
 use Rattle.ebpf_insn.proofs.opcode.jump_form.Goals as goal
 
-pub returns-in_err-cond-in_default : goal.returns-in_err-cond-in_default
-returns-in_err-cond-in_default c = c.from_residual.ensures ∙ sym (jump_none c.args.opcode c.args.width (search rules) c.requires (grind (arith, nat_tests)) (sym c.condition.ensures ∙ c.in_err-cond-in_default.was))
+pub returns-in_default : goal.returns-in_default
+returns-in_default c = sym (jump_none c.args.opcode c.args.width (search rules) c.requires (grind (arith, nat_tests)) (sym c.in-None.ensures))
 
 pub returns-in-5 : goal.returns-in-5
 returns-in-5 c = sym (form_found c.args.opcode form.Jump tt (sym c.in-5.is))
@@ -20,8 +20,8 @@ returns-in-133 c = sym (form_found c.args.opcode form.Call tt (sym c.in-133.is))
 pub returns-in-149 : goal.returns-in-149
 returns-in-149 c = sym (form_found c.args.opcode form.Exit tt (sym c.in-149.is))
 
-pub returns-in_ok-cond-in_default : goal.returns-in_ok-cond-in_default
-returns-in_ok-cond-in_default c =
-    let found : condition_of (c.args.opcode / 16) ≡ Some c.in_ok-cond-in_default.cond = sym c.condition.ensures ∙ c.in_ok-cond-in_default.was in
-    let known = condition_is (c.args.opcode / 16) c.in_ok-cond-in_default.cond found in
-    sym (form_found c.args.opcode (form.Branch c.args.width c.in_ok-cond-in_default.cond c.operand_at-operand.result) tt (omega (arith, known, c.operand_at-operand.ensures, c.requires)))
+pub returns-in-Some : goal.returns-in-Some
+returns-in-Some c =
+    let found : condition_of (c.args.opcode / 16) ≡ Some c.in-Some.cond = sym c.in-Some.ensures in
+    let known = condition_is (c.args.opcode / 16) c.in-Some.cond found in
+    sym (form_found c.args.opcode (form.Branch c.args.width c.in-Some.cond c.operand_at.result) tt (omega (arith, known, c.operand_at.ensures, c.requires)))
