@@ -48,6 +48,7 @@ fn first_reached(alloc: Global, slots: usize) -> Result<Vec<bool>, AllocError>
 }
 
 // The edges that leave a slot, or the first code that refuses it. The slots that they lead to are marked as reached.
+#[inline(always)]
 fn check_slot(program: &Program, slot: usize, reached: &mut Vec<bool>) -> Result<Edges, FlowFault>
     requires inside { slot < length program.now }
     requires few { length program.now ≤ MAX_SLOTS }
@@ -81,6 +82,7 @@ fn check_slot(program: &Program, slot: usize, reached: &mut Vec<bool>) -> Result
 }
 
 // Marks the slot that an edge leads to as reached.
+#[inline(always)]
 fn mark(reached: &mut Vec<bool>, edge: Option<u16>)
     requires { IfSome edge (λ to. to < length reached.old.items) }
     ensures len { length reached.new.items ≡ length reached.old.items }

@@ -21,6 +21,7 @@ pub struct Edges {
 }
 
 // The edges that leave the instruction at a slot, or the first code that refuses it.
+#[inline(always)]
 pub(crate) fn edges_from(
     program: &Program,
     slot: usize,
@@ -36,15 +37,18 @@ pub(crate) fn edges_from(
     ensures jump { IfOk result (λ e. LeadsForward program.now slot e.jump) }
     ensures refused { IfErr result (λ code. insn_fault program.now slot (Some insn) ≡ Some code) }
 {
-    let jump = match displacement_of(insn) {
-        Some(displacement) => Some(target_from(program, slot, displacement)?),
-        None => None,
+    // Most have no jump.
+    let Some(displacement) = displacement_of(insn) else {
+        let fall = fall_from(program, slot, insn, reaches)?;
+        return Ok(Edges { fall, jump: None });
     };
+    let jump = Some(target_from(program, slot, displacement)?);
     let fall = fall_from(program, slot, insn, reaches)?;
     Ok(Edges { fall, jump })
 }
 
 // How many slots past the next one an instruction may jump.
+#[inline(always)]
 fn displacement_of(insn: Insn) -> Option<i64>
     ensures value { result ≡ displacement_of insn }
     ensures low { IfSome result (λ z. negsuc 2147483647 ≤ℤ z) }
@@ -59,6 +63,7 @@ fn displacement_of(insn: Insn) -> Option<i64>
 }
 
 // The target of a jump by so many slots, or the first code that refuses it.
+#[inline(always)]
 fn target_from(program: &Program, slot: usize, displacement: i64) -> Result<u16, FlowCode>
     requires inside { slot < length program.now }
     requires low { negsuc 2147483647 ≤ℤ displacement }
@@ -84,6 +89,7 @@ fn target_from(program: &Program, slot: usize, displacement: i64) -> Result<u16,
 }
 
 // The slot after the instruction, or the first code that refuses going on.
+#[inline(always)]
 fn fall_from(
     program: &Program,
     slot: usize,
@@ -115,6 +121,7 @@ fn fall_from(
 }
 
 // The instruction goes on to the slot after it.
+#[inline(always)]
 fn falls(insn: Insn) -> bool
     ensures { result ≡ falls insn }
 {

@@ -59,9 +59,7 @@ pub(crate) enum Form {
     Exit,
 }
 
-// The form of an opcode, by its class: `None` where it stands for no instruction of ours.
-
-// The class LD.
+// The class LD. For each class this is the form of an opcode, or `None` where it stands for no instruction of ours.
 #[inline(always)]
 pub(crate) fn wide_form(opcode: u8) -> Option<Form>
     requires { opcode % 8 ≡ 0 }
