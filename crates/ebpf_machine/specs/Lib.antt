@@ -2,6 +2,7 @@ pub mod Layout
 pub mod Values
 pub mod Cells
 pub mod StackWords
+pub mod Tags
 pub mod Effect
 pub mod Bytes
 pub mod World

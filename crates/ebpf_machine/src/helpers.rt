@@ -10,12 +10,12 @@ ghost use Rattle.ebpf_machine.specs.World.{kinds_of};
 ghost use Rattle.ebpf_machine.specs.Parts.{state_of, HasCapacity, HasRoomAt};
 ghost use Rattle.ebpf_machine.specs.Advance.{IsReady, IsAdvanced};
 
-use crate::execute::number;
 use crate::holding::{Holding, place_of};
 use crate::objects::Objects;
 use crate::parts::Parts;
 use crate::report::Reply;
 use crate::value::{Base, Value};
+use ebpf_insn::register::Reg;
 use ebpf_verify::helper::Helper;
 
 /// Does a call of a helper.
@@ -31,7 +31,10 @@ pub(crate) fn call<O: Objects>(parts: &mut Parts<'_, O::Held>, helper: Helper, o
     match helper {
         Helper::New => ask(parts, objects),
         Helper::Free => give_back(parts, objects),
-        Helper::Emit => emit(parts, number(parts.registers[1])),
+        Helper::Emit => {
+            let number = parts.registers.number(Reg::R1);
+            emit(parts, number);
+        }
     }
 }
 
@@ -45,7 +48,7 @@ fn ask<O: Objects>(parts: &mut Parts<'_, O::Held>, objects: &mut O)
     ensures room { HasCapacity parts.new }
 {
     let call = parts.pc as u16;
-    let kind = number(parts.registers[1]) as u8;
+    let kind = parts.registers.number(Reg::R1) as u8;
     match objects.take(kind, call) {
         Some(object) => {
             hold(parts, Holding { call, kind, object });
@@ -82,7 +85,7 @@ fn give_back<O: Objects>(parts: &mut Parts<'_, O::Held>, objects: &mut O)
     ensures advanced { IsAdvanced O.store (state_of parts.old) (state_of parts.new) objects.old objects.new }
     ensures room { HasCapacity parts.new }
 {
-    let place = place_of(&parts.held, object(parts.registers[1]));
+    let place = place_of(&parts.held, object(parts.registers.get(Reg::R1)));
     let Holding {
         call: _,
         kind,
@@ -113,12 +116,7 @@ fn answer<H>(parts: &mut Parts<'_, H>, value: Value<u16>)
     ensures state { state_of parts.new ≡ gone_on value (state_of parts.old) }
     ensures room { HasCapacity parts.new }
 {
-    parts.registers[1] = None;
-    parts.registers[2] = None;
-    parts.registers[3] = None;
-    parts.registers[4] = None;
-    parts.registers[5] = None;
-    parts.registers[0] = Some(value);
+    parts.registers.answer(value);
     parts.pc += 1;
     parts.executed += 1;
 }

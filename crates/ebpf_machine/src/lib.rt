@@ -1,10 +1,10 @@
 //! Runs of accepted programs.
 //!
-//! A [`run::Run`] does one instruction at each [`run::Run::step`]. Its program is a `Verified`, so no instruction of it
-//! traps and none is tested at run time. What it computes is defined in specs/ by a machine that tests every access: the
-//! world of many runs, one event of it, and a run alone in a world of its own.
+//! A [`run::Run`] does one instruction at each [`run::Run::step`], and so many at each [`run::Run::run`]. Its program is a
+//! `Verified`, so no instruction of it traps and none is tested at run time. What it computes is defined in specs/ by a
+//! machine that tests every access: the world of many runs, one event of it, and a run alone in a world of its own.
 //!
-//! To be read in this order: `value`, `kinds`, `context`, `objects`, `holding`, `number`, `stack`, `memory`, `execute`,
+//! To be read in this order: `value`, `kinds`, `context`, `objects`, `holding`, `number`, `stack`, `memory`, `registers`, `execute`,
 //! `report`, `workspace`, `parts`, `helpers`, `advance`, `run`, `whole`.
 #![tactic(auto)]
 
@@ -18,6 +18,7 @@ mod memory;
 mod number;
 pub mod objects;
 mod parts;
+mod registers;
 pub mod report;
 pub mod run;
 mod stack;

@@ -26,6 +26,7 @@ pub(crate) struct Loaded {
 }
 
 /// The value of the bytes at an offset from an address.
+#[inline(always)]
 pub(crate) fn load<O: Objects>(
     stack: &Stack,
     context: &[u8],

@@ -16,7 +16,11 @@ pub(crate) fn number_at(bytes: &[u8], place: usize, size: Size, signed: bool) ->
     ensures { result ≡ extended (bytes_in size) signed (little_number (bytes_in size) (drop place bytes.now)) }
 {
     let low = low_number(bytes, place, size);
-    if signed { with_sign(low, size) } else { low }
+    match size {
+        Size::D => low,
+        _ if signed => with_sign(low, size),
+        _ => low,
+    }
 }
 
 fn low_number(bytes: &[u8], place: usize, size: Size) -> u64

@@ -1,9 +1,9 @@
 //! What a run is made of.
 
 use crate::holding::Holding;
+use crate::registers::Registers;
 use crate::report::Reply;
 use crate::stack::Stack;
-use crate::value::Value;
 use ebpf_verify::verified::Verified;
 
 /// A run's own, of which nothing is promised: `crate::run::Run` says what always holds of it.
@@ -12,7 +12,7 @@ pub(crate) struct Parts<'v, H> {
     pub(crate) verified: &'v Verified,
     pub(crate) context: Vec<u8>,
     pub(crate) pc: usize,
-    pub(crate) registers: [Option<Value<u16>>; 11],
+    pub(crate) registers: Registers,
     pub(crate) stack: Box<Stack>,
     pub(crate) output: Vec<u64>,
     pub(crate) held: Vec<Holding<H>>,

@@ -7,7 +7,7 @@ ghost use Rattle.ebpf_machine.specs.Whole.{IsReportOf, granted, refused};
 
 use crate::objects::Objects;
 use crate::report::Report;
-use crate::run::{Run, StartFault, Turn};
+use crate::run::{Run, StartFault};
 use crate::workspace::Workspace;
 use ebpf_verify::verified::Verified;
 use std::alloc::Global;
@@ -72,6 +72,7 @@ pub fn run_in<O: Objects>(
     ensures unchanged { OnErr result (objects.new ≡ objects.old) }
 {
     let mut run = Run::start_in(alloc, workspace, verified, context)?;
-    'running: while let Turn::Went = run.step(objects) {}
+    // No program has so many instructions: it exits.
+    run.run(objects, u64::MAX);
     Ok(run.end(objects))
 }

@@ -6,6 +6,7 @@ ghost use Rattle.ebpf_insn.specs.Arithmetic.{modulus, bits_of, operation, result
 use ebpf_insn::insn::{AluOp, Cond, Order, Width};
 
 /// What an operation gives on two numbers (RFC 9669, section 4.1). At 32 bits it reads their low halves.
+#[inline(always)]
 pub fn compute(op: AluOp, width: Width, a: u64, b: u64) -> u64
     ensures { result ≡ result_at op width a b }
 {
@@ -159,6 +160,7 @@ pub fn reorder(order: Order, bits: u8, n: u64) -> u64
 }
 
 /// Whether a condition holds of two numbers (RFC 9669, section 4.3). At 32 bits their low halves are compared.
+#[inline(always)]
 pub fn is_met(cond: Cond, width: Width, a: u64, b: u64) -> bool
     ensures { result ≡ is_met cond width a b }
 {

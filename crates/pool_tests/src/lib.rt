@@ -27,3 +27,5 @@ mod rows;
 mod store;
 #[cfg(test)]
 mod table;
+#[cfg(test)]
+mod turns;

@@ -1,12 +1,11 @@
 -- The end of a run that exited: its report, and what the store counts then.
-use Rattle.std.proofs.Common.{◌≡◌, ℕ, ◌+◌, ◌≤◌, List, [], ◌++◌, length, Option, Some, None, refl, sym, ◌∙◌, ap, subst, arith}
+use Rattle.std.proofs.Common.{◌≡◌, ℕ, ◌+◌, ◌≤◌, List, [], ◌++◌, length, Option, Some, sym, ◌∙◌, ap, subst, arith}
 use Rattle.std.specs.Prelude.{IfSome}
 use Rattle.std.proofs.lemmas.List.{append-nil}
 use Rattle.ebpf_insn.specs.Program.{instructions}
 use Rattle.ebpf_verify.specs.Subject.{Subject}
 use Rattle.ebpf_machine.specs.declared.report.Reply.{Reply}
 use Rattle.ebpf_machine.specs.declared.report.Report.{Report}
-use Rattle.ebpf_machine.specs.declared.run.Turn.TheVariants.{Went, Exited as Exits}
 use Rattle.ebpf_machine.specs.Alone.{outcome_alone, outcome_in_report, replies_from, replies_in}
 use Rattle.ebpf_machine.specs.World.{Exited}
 use Rattle.ebpf_machine.specs.View.{RunView}
@@ -14,20 +13,9 @@ use Rattle.ebpf_machine.specs.RunState.{RunState, status_of}
 use Rattle.ebpf_machine.specs.Sound.{IsSound, IsAlone}
 use Rattle.ebpf_machine.specs.Step.{seen_in}
 use Rattle.ebpf_machine.specs.Store.{Store, CountsStay, held_of_kind}
-use Rattle.ebpf_machine.specs.Turns.{turn_of}
 use Rattle.ebpf_machine.specs.Whole.{IsReportOf, granted, refused}
 use Rattle.ebpf_machine.proofs.World.Lone.{outcome_exited, told_exited}
 use Rattle.ebpf_machine.proofs.WholeRuns.Told.{IsCounted}
-
--- a run whose step tells that it went goes on
-pub still_going : (exit : Option ℕ) → Went ≡ turn_of exit → exit ≡ None
-still_going None e = refl
-still_going (Some n) e = let never : ⊥ = cc in absurd never
-
--- and one whose step tells its exit has exited
-pub exited_number : (exit : Option ℕ) (n : ℕ) → Exits n ≡ turn_of exit → exit ≡ Some n
-exited_number None n e = let never : ⊥ = cc in absurd never
-exited_number (Some m) n e = cc
 
 -- what is found out where a run ends
 pub record IsFinished {H : Type 0} (t : RunState H) (r : Report) : Type 0 where

@@ -28,7 +28,6 @@ starts {S} {H} o s subject context r first sound = subst Starting (sym first) fr
   from_first sound = record {
     subject_is = refl;
     context_is = refl;
-    going = refl;
     out = none_out o s;
     alone = first_alone (o.bytes_of s) subject context;
     sound = sound;

@@ -1,6 +1,6 @@
 -- What a store counts is what the run was told.
-use Rattle.std.proofs.Common.{◌≡◌, ℕ, ◌+◌, ◌≤◌, ◌<◌, Bool, cond, List, [], ◌∷◌, ◌++◌, length, get_or, Option, None, refl, sym, ap, ◌∙◌, subst, arith, inl, inr, ◌⊎◌}
-use Rattle.std.specs.Prelude.{count_by, IfNone}
+use Rattle.std.proofs.Common.{◌≡◌, ℕ, zero, suc, ◌+◌, ◌≤◌, ◌<◌, Bool, cond, List, [], ◌∷◌, ◌++◌, length, get_or, refl, sym, ap, ◌∙◌, arith, inl, inr, ◌⊎◌}
+use Rattle.std.specs.Prelude.{count_by}
 use Rattle.std.proofs.lemmas.List.{length_push}
 use Rattle.std.proofs.lemmas.List.Elements.{All-map}
 use Rattle.std.proofs.lemmas.List.Sums.{sum_by-append}
@@ -14,9 +14,9 @@ use Rattle.ebpf_machine.specs.RunState.{RunState, status_of, object_seen}
 use Rattle.ebpf_machine.specs.Sound.{AreSized, IsSound, IsAlone}
 use Rattle.ebpf_machine.specs.Step.{Served, Idle, Refused, Granted, MayAnswer, IsStepOver, result_of, granted_in, refused_in, asking_in, seen_in}
 use Rattle.ebpf_machine.specs.Store.{Store, AreOut, held_of_kind}
+use Rattle.ebpf_machine.specs.Turns.{IsTurn, AreTurns}
 use Rattle.ebpf_machine.specs.Whole.{is_granted, is_null, granted, refused}
 use Rattle.ebpf_machine.proofs.World.Asking.{AsksNew, next_asks}
-use Rattle.ebpf_machine.proofs.World.Lone.{one_on}
 use Rattle.ebpf_machine.proofs.World.Replies.{replies_kept, replies_added}
 use Rattle.ebpf_machine.proofs.World.Steps.{next_of}
 
@@ -87,31 +87,44 @@ sized_out o s r sizes known out =
     (λ k d few. let h = out.out k d few in
     (sizes (get_or r.held k d).object h.0).0 ∙ ap (λ (kind : ℕ). length (image_at o.kinds kind)) h.1 ∙ ap (λ (ks : List Kind). length (image_at ks (get_or r.held k d).kind)) known)
 
--- a run of this program on this context goes on, and the store counted for it since its first state
+-- a run of this program on this context, for which the store counted since its first state
 pub record IsUnderWay {S H : Type 0} (o : Store S H) (first now : S) (subject : Subject) (context : List ℕ) (r : RunState H) : Type 0 where
   pub subject_is : r.subject ≡ subject
   pub context_is : r.context ≡ context
-  pub going : r.exit ≡ None
   pub out : AreOut o now r.held
   pub alone : IsAlone (seen_in o now r)
   pub sound : IsSound (seen_in o now r)
   pub counted : IsCounted o first now r
 
 -- it is counted for after a step too
-pub counted_step : {S H : Type 0} (o : Store S H) (first old new : S) (subject : Subject) (context : List ℕ) (r t : RunState H) → HaveSizes o old → o.kinds ≡ kinds_of subject.rows → IsUnderWay o first old subject context r → IfNone r.exit (IsStepOver o r t old new) → IsCounted o first new t
-counted_step o first old new subject context r t sizes kinds was step =
+counted_turn : {S H : Type 0} (o : Store S H) (first old new : S) (subject : Subject) (context : List ℕ) (r t : RunState H) → HaveSizes o old → o.kinds ≡ kinds_of subject.rows → IsUnderWay o first old subject context r → IsTurn o r t old new → IsCounted o first new t
+counted_turn o first old new subject context r t sizes kinds was turn =
     let v = seen_in o old r in
-    let now : v.status ≡ Going = ap status_of was.going in
+    let now : v.status ≡ Going = ap status_of turn.going in
     let known : o.kinds ≡ kinds_of r.subject.rows = kinds ∙ ap (λ (s : Subject). kinds_of s.rows) (sym was.subject_is) in
-    let s : IsStepOver o r t old new = subst (λ (x : Option ℕ). IfNone x (IsStepOver o r t old new)) was.going step in
+    let s : IsStepOver o r t old new = turn.step in
     let next = told_next v s.0 (o.grants first) (o.nulls first) (o.grants old) (o.nulls old) (o.can_grant old) (o.can_refuse old) was.sound (sized_out o old r sizes known was.out) now s.1 was.counted.told in
     let replies : t.replies ≡ (stepped (result_of s.0) v).replies = ap (λ (u : RunView). u.replies) s.2.state in
-    let executed : t.executed ≡ r.executed + 1 = ap (λ (u : RunView). u.executed) s.2.state ∙ (one_on v (result_of s.0) now).executed in
     record {
       told = record {
         granted_are = s.2.counts.grants ∙ next.granted_are ∙ ap (λ (rs : List Reply). o.grants first + granted rs) (sym replies);
         refused_are = s.2.counts.nulls ∙ next.refused_are ∙ ap (λ (rs : List Reply). o.nulls first + refused rs) (sym replies);
-        few = omega (arith, next.few, ap (λ (rs : List Reply). length rs) replies, executed);
+        few = omega (arith, next.few, ap (λ (rs : List Reply). length rs) replies, turn.counted);
       };
       outs = λ k. let before = was.counted.outs k in let counts = s.2.counts.of_kind k in omega (arith, before, counts);
+    }
+
+-- and after so many
+pub under_way : {S H : Type 0} (o : Store S H) (first old new : S) (subject : Subject) (context : List ℕ) (number : ℕ) (r t : RunState H) → ((s : S) → HaveSizes o s) → o.kinds ≡ kinds_of subject.rows → IsUnderWay o first old subject context r → AreTurns o number r t old new → IsUnderWay o first new subject context t
+under_way o first old new subject context zero r t sizes kinds was turns = rw (turns.0, turns.1) was
+under_way o first old new subject context (suc number) r t sizes kinds was turns =
+    let before = under_way o first old turns.store subject context number r turns.run sizes kinds was turns.before in
+    let last = turns.last in
+    record {
+      subject_is = last.same.0 ∙ before.subject_is;
+      context_is = last.same.1 ∙ before.context_is;
+      out = last.out;
+      alone = last.alone;
+      sound = last.sound (o.bytes_of new);
+      counted = counted_turn o first turns.store new subject context turns.run t (sizes turns.store) kinds before last;
     }

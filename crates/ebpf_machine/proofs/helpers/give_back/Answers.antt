@@ -1,6 +1,7 @@
-use Rattle.std.proofs.Common.{◌≡◌, ◌+◌, ◌<◌, List, length, get_or, ap, ◌∙◌, subst, rules}
+use Rattle.std.proofs.Common.{◌≡◌, ◌+◌, ◌<◌, List, length, get_or, ap, sym, ◌∙◌, subst, rules}
 use Rattle.ebpf_machine.specs.declared.holding.Holding.{Holding}
 use Rattle.ebpf_machine.specs.declared.value.Value.TheVariants.{Number}
+use Rattle.ebpf_machine.specs.Flows.{object_in}
 use Rattle.ebpf_machine.specs.Parts.{state_of}
 use Rattle.ebpf_machine.proofs.Instructions.Advancing.{registers_answered, ready_few, ready_inside}
 use Rattle.ebpf_machine.proofs.Instructions.CallsLeft.{behind}
@@ -9,10 +10,10 @@ use Rattle.ebpf_machine.proofs.helpers.give_back.Goals.{Start}
 use Rattle.ebpf_machine.proofs.helpers.give_back.Goals as goal
 
 pub object-requires : goal.object-requires
-object-requires g c = free_object _ _ _ c.requires.ready c.requires.at
+object-requires g c = rw (c.get.ensures.value) (free_object _ _ _ c.requires.ready c.requires.at)
 
 pub place_of-place-requires : goal.place_of-place-requires
-place_of-place-requires g c = free_held _ _ _ c.deref.result.now c.object.result c.requires.ready c.requires.at c.object.ensures c.deref.ensures.value
+place_of-place-requires g c = free_held _ _ _ c.deref.result.now c.object.result c.requires.ready c.requires.at (ap object_in (sym c.get.ensures.value) ∙ c.object.ensures) c.deref.ensures.value
 
 pub answer-requires-clause-few : goal.answer-requires-clause-few
 answer-requires-clause-few g c = ready_few _ _ _ c.requires.ready
@@ -25,7 +26,7 @@ returns-clause-advanced g c =
     let items = c.deref.ensures.value in
     let inside : c.place_of-place.result < length c.args.parts.now.held.items = subst (λ (hs : List (Holding _)). c.place_of-place.result < length hs) items c.place_of-place.ensures.inside in
     let named : (get_or c.args.parts.now.held.items c.place_of-place.result c.remove-kind.result).call ≡ c.object.result = subst (λ (hs : List (Holding _)). (get_or hs c.place_of-place.result c.remove-kind.result).call ≡ c.object.result) items (c.place_of-place.ensures.value c.remove-kind.result) in
-    free_here _ (state_of c.args.parts.now) (state_of c.answer.new.parts) c.place_of-place.result c.object.result c.remove-kind.result c.args.objects.now c.give.new.self c.requires.ready c.requires.at c.object.ensures inside c.remove-kind.ensures.value named
+    free_here _ (state_of c.args.parts.now) (state_of c.answer.new.parts) c.place_of-place.result c.object.result c.remove-kind.result c.args.objects.now c.give.new.self c.requires.ready c.requires.at (ap object_in (sym c.get.ensures.value) ∙ c.object.ensures) inside c.remove-kind.ensures.value named
     (c.answer.ensures.state ∙ ap (λ (hs : List (Holding _)). record (state_of c.args.parts.now) { held = hs; pc = c.args.parts.now.pc + 1; registers = registers_answered c.args.parts.now.registers (Number 0); executed = c.args.parts.now.executed + 1 }) c.remove-kind.ensures.items) (record { back = c.give.ensures.back; others = c.give.ensures.others; counts = c.give.ensures.counts; outs = c.give.ensures.outs })
 
 pub answer-requires-clause-room : goal.answer-requires-clause-room

@@ -1,6 +1,7 @@
-use Rattle.std.proofs.Common.{◌∙◌, sym, arith}
-use Rattle.ebpf_machine.proofs.Instructions.StackWords.{forgotten_flag}
+use Rattle.std.proofs.Common.{get_or, false, ◌/◌}
+use Rattle.std.specs.Prelude.{◌==◌}
+use Rattle.ebpf_machine.proofs.Instructions.StackWords.{held_too}
 use Rattle.ebpf_machine.proofs.stack.forget_word.Goals as goal
 
-pub returns-then-is_some-clause-set : goal.returns-then-is_some-clause-set
-returns-then-is_some-clause-set c = λ i lt. forgotten_flag c.args.word c.args.set.now c.copy_from_slice.new.self _ i (sym c.is_some.ensures ∙ c.if-is_some.true) (let long = c.told-set in let room = c.requires in omega arith) c.copy_from_slice.ensures.after
+pub returns-then-pointing-word-clause-set : goal.returns-then-pointing-word-clause-set
+returns-then-pointing-word-clause-set c = λ i lt. held_too (i / 8 == c.args.word) _ _ (get_or c.args.set.now i false) c.if-pointing-word.true (c.unset_word.ensures.set i lt)

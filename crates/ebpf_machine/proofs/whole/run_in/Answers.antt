@@ -1,46 +1,39 @@
-use Rattle.std.proofs.Common.{sym, ◌∙◌}
+use Rattle.std.proofs.Common.{arith}
 use Rattle.ebpf_machine.proofs.WholeRuns.Starts.{starts}
-use Rattle.ebpf_machine.proofs.WholeRuns.Told.{counted_step}
-use Rattle.ebpf_machine.proofs.WholeRuns.Ends.{IsFinished, still_going, exited_number, report_of, report_with, granted_last, nulls_last, outs_last}
+use Rattle.ebpf_machine.proofs.WholeRuns.Told.{IsUnderWay, under_way}
+use Rattle.ebpf_machine.proofs.WholeRuns.Turning.{exits, few_instructions}
+use Rattle.ebpf_machine.proofs.WholeRuns.Ends.{IsFinished, report_of, report_with, granted_last, nulls_last, outs_last}
+use Rattle.ebpf_machine.proofs.whole.run_in.Given.{Over}
+use Rattle.ebpf_machine.proofs.whole.run_in.Goals.{After-end}
 use Rattle.ebpf_machine.proofs.whole.run_in.Goals as goal
 
-pub running-init : goal.running-init
-running-init g c = starts g.O.Objects.store c.args.objects.now _ _ c.in_ok-run.run' c.in_ok-run.ensures.started (c.in_ok-run.ensures.sound _)
+pub run-requires-clause-out : goal.run-requires-clause-out
+run-requires-clause-out g c = (starts g.O.Objects.store c.args.objects.now _ _ c.in_ok-run.run' c.in_ok-run.ensures.started (c.in_ok-run.ensures.sound _)).out
 
-pub running-preserved : goal.running-preserved
-running-preserved g c =
-    let was = c.running.invariant in
-    record {
-      subject_is = c.step.ensures.same.0 ∙ was.subject_is;
-      context_is = c.step.ensures.same.1 ∙ was.context_is;
-      going = still_going c.step.new.self.exit (sym c.in-Went.is ∙ c.step.ensures.turn);
-      out = c.step.ensures.out;
-      alone = c.step.ensures.alone;
-      sound = c.step.ensures.sound _;
-      counted = counted_step g.O.Objects.store _ _ _ _ _ _ c.step.new.self (g.met.O.Objects.has_size c.running.objects) c.requires.kinds was c.step.ensures.step;
-    }
+pub run-requires-clause-alone : goal.run-requires-clause-alone
+run-requires-clause-alone g c = (starts g.O.Objects.store c.args.objects.now _ _ c.in_ok-run.run' c.in_ok-run.ensures.started (c.in_ok-run.ensures.sound _)).alone
+
+-- what holds of the run where it has exited
+ran : (g : Over) (c : After-end g) → IsUnderWay g.O.Objects.store c.args.objects.now c.run.new.objects c.args.verified.now c.args.context.items c.run.new.self
+ran g c =
+    under_way g.O.Objects.store _ _ _ _ _ _ c.in_ok-run.run' c.run.new.self g.met.O.Objects.has_size c.requires.kinds
+    (starts g.O.Objects.store c.args.objects.now _ _ c.in_ok-run.run' c.in_ok-run.ensures.started (c.in_ok-run.ensures.sound _)) c.run.ensures.turns.turns
 
 pub returns-clause-report : goal.returns-clause-report
 returns-clause-report g c =
-    let was = c.running.invariant in
-    let counted = counted_step g.O.Objects.store _ _ _ _ _ _ c.step.new.self (g.met.O.Objects.has_size c.running.objects) c.requires.kinds was c.step.ensures.step in
-    let exited = exited_number c.step.new.self.exit c.in_default.field-0 (sym c.in_default.is ∙ c.step.ensures.turn) in
+    let was = ran g c in
+    let few = few_instructions (g.O.Objects.store.bytes_of c.run.new.objects) c.run.new.self was.sound in
+    let exited = exits g.O.Objects.store 18446744073709551615 _ c.run.new.self _ _ (omega (arith, few)) c.run.ensures.bounded c.run.ensures.turns in
     let end = c.end.ensures in
-    let finished : IsFinished c.step.new.self c.end.result.0 = record { exit = end.exit; executed = end.executed; answers = end.answers; bounded = end.bounded; declared = end.declared; alone = end.alone } in
-    report_with _ _ _ _ c.end.result.0 (c.step.ensures.same.0 ∙ was.subject_is) (c.step.ensures.same.1 ∙ was.context_is)
-    (report_of g.O.Objects.store c.step.new.objects c.step.new.self c.in_default.field-0 c.end.result.0 exited (c.step.ensures.sound _) c.step.ensures.alone counted.told.few finished)
+    let finished : IsFinished c.run.new.self c.end.result.0 = record { exit = end.exit; executed = end.executed; answers = end.answers; bounded = end.bounded; declared = end.declared; alone = end.alone } in
+    report_with _ _ _ _ c.end.result.0 was.subject_is was.context_is
+    (report_of g.O.Objects.store c.run.new.objects c.run.new.self exited.0 c.end.result.0 exited.1 was.sound was.alone was.counted.told.few finished)
 
 pub returns-clause-granted : goal.returns-clause-granted
-returns-clause-granted g c =
-    let counted = counted_step g.O.Objects.store _ _ _ _ _ _ c.step.new.self (g.met.O.Objects.has_size c.running.objects) c.requires.kinds c.running.invariant c.step.ensures.step in
-    granted_last g.O.Objects.store _ _ _ c.step.new.self _ counted c.end.ensures.counts c.end.ensures.answers
+returns-clause-granted g c = granted_last g.O.Objects.store _ _ _ c.run.new.self _ (ran g c).counted c.end.ensures.counts c.end.ensures.answers
 
 pub returns-clause-nulls : goal.returns-clause-nulls
-returns-clause-nulls g c =
-    let counted = counted_step g.O.Objects.store _ _ _ _ _ _ c.step.new.self (g.met.O.Objects.has_size c.running.objects) c.requires.kinds c.running.invariant c.step.ensures.step in
-    nulls_last g.O.Objects.store _ _ _ c.step.new.self _ counted c.end.ensures.counts c.end.ensures.answers
+returns-clause-nulls g c = nulls_last g.O.Objects.store _ _ _ c.run.new.self _ (ran g c).counted c.end.ensures.counts c.end.ensures.answers
 
 pub returns-clause-outs : goal.returns-clause-outs
-returns-clause-outs g c = λ k.
-    let counted = counted_step g.O.Objects.store _ _ _ _ _ _ c.step.new.self (g.met.O.Objects.has_size c.running.objects) c.requires.kinds c.running.invariant c.step.ensures.step in
-    outs_last g.O.Objects.store _ _ _ c.step.new.self k counted (c.end.ensures.outs k)
+returns-clause-outs g c = λ k. outs_last g.O.Objects.store _ _ _ c.run.new.self k (ran g c).counted (c.end.ensures.outs k)

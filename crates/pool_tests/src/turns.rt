@@ -1,0 +1,184 @@
+//! A run by single steps, and the same so many instructions at a time.
+
+ghost use Rattle.std.specs.Prelude.{◌≡◌};
+ghost use Rattle.ebpf_machine.specs.Kinds.{AreKnown, known_kinds};
+ghost use Rattle.ebpf_machine.specs.Sound.{IsAlone};
+ghost use Rattle.ebpf_machine.specs.Step.{seen_in};
+ghost use Rattle.ebpf_machine.specs.Store.{AreOut};
+ghost use Rattle.ebpf_machine.specs.World.{kinds_of};
+
+use crate::alone::tell;
+use crate::facts::is_told;
+use crate::programs::programs_of;
+use crate::store::Store;
+use ebpf_machine::objects::Objects;
+use ebpf_machine::report::Reply;
+use ebpf_machine::run::{Run, Turn};
+use ebpf_verify::verified::Verified;
+use std::alloc::Global;
+use std::marker::Brand;
+use std::process::Abort;
+use std::sync::ledger::{Blank, Ledger};
+
+// The most instructions that a program has.
+const MOST: u64 = 4096;
+
+// Does so many instructions at most, by one call or by a step each.
+fn go<O: Objects>(run: &mut Run<'_, O::Held>, objects: &mut O, limit: u64, by_steps: bool) -> Turn
+    requires kinds { O.store.kinds ≡ kinds_of run.old.subject.rows }
+    requires room { (store : O) → O.store.can_give store }
+    requires out { AreOut O.store objects.old run.old.held }
+    requires alone { IsAlone (seen_in O.store objects.old run.old) }
+    ensures out { AreOut O.store objects.new run.new.held }
+    ensures alone { IsAlone (seen_in O.store objects.new run.new) }
+    ensures same { run.new.subject ≡ run.old.subject }
+{
+    if !by_steps {
+        return run.run(objects, limit);
+    }
+    let mut turn = Turn::Went;
+    'steps: for _ in 0..limit.min(MOST) {
+        turn = run.step(objects);
+    }
+    turn
+}
+
+// What is read of a run after a turn: the turn, its exit, its pc, how many instructions it did, and its output.
+fn read<H>(rt: &impl Abort, told: &mut String, turn: Turn, run: &Run<'_, H>) {
+    let turn = match turn {
+        Turn::Went => None,
+        Turn::Exited(number) => Some(number),
+    };
+    let (exit, pc, executed, output) = (run.exit(), run.pc(), run.executed(), run.output());
+    write!(told, "{turn:?} {exit:?} {pc} {executed} {output:?}; ").expect(rt, "out of memory");
+}
+
+// Runs a program, so many instructions at a time, as often as it has instructions: what is read each time, and its report. The
+// bytes of the context are 5.
+fn trace_over<O: Objects>(
+    rt: &impl Abort,
+    alloc: Global,
+    verified: &Verified,
+    objects: &mut O,
+    limit: u64,
+    by_steps: bool,
+) -> String
+    requires kinds { O.store.kinds ≡ kinds_of verified.now.rows }
+    requires room { (store : O) → O.store.can_give store }
+{
+    let context = vec![in alloc; 5; verified.decl().context as usize].expect(rt, "out of memory");
+    let mut run = Run::start(alloc, verified, context).expect(rt, "out of memory");
+    let mut told = String::new(alloc);
+    'turns: for _ in 0..verified.len() {
+        let turn = go(&mut run, objects, limit, by_steps);
+        read(rt, &mut told, turn, &run);
+    }
+    let report = run.finish(objects);
+    let report = tell(alloc, &report).expect(rt, "out of memory");
+    write!(told, "{report}").expect(rt, "out of memory");
+    told
+}
+
+// The same over a store of its own, with a new ledger.
+fn trace_in<L: Ledger>(
+    rt: &impl Abort,
+    alloc: Global,
+    verified: &Verified,
+    answers: Vec<Reply>,
+    limit: u64,
+    by_steps: bool,
+    blank: Blank,
+) -> String
+    requires name { blank.name ≡ L.name }
+    requires parts { (blank.parts ≡ L.parts) × (L.parts ≡ 1) }
+    requires kinds { kinds_of verified.now.rows ≡ known_kinds }
+{
+    let (book, share) = blank.open::<L>();
+    let mut store = Store::<L>::new(alloc, answers, book, share);
+    trace_over(rt, alloc, verified, &mut store, limit, by_steps)
+}
+
+// The same, with an answer for each letter.
+fn trace(
+    rt: &impl Abort,
+    alloc: Global,
+    verified: &Verified,
+    letters: &str,
+    limit: u64,
+    by_steps: bool,
+) -> String
+    requires { kinds_of verified.now.rows ≡ known_kinds }
+{
+    let answers = replies(rt, alloc, letters);
+    let blank = Blank::new(1);
+    trace_in::<Brand>(rt, alloc, verified, answers, limit, by_steps, blank)
+}
+
+// The answers of letters.
+fn replies(rt: &impl Abort, alloc: Global, letters: &str) -> Vec<Reply> {
+    let mut replies = Vec::new(alloc);
+    for letter in letters.as_bytes() {
+        let reply = if *letter == b'g' {
+            Reply::Granted
+        } else {
+            Reply::Null
+        };
+        replies.push(reply).expect(rt, "out of memory");
+    }
+    replies
+}
+
+// That a program is run alike both ways.
+fn is_alike(rt: &impl Abort, alloc: Global, verified: &Verified, answers: &str)
+    requires { kinds_of verified.now.rows ≡ known_kinds }
+{
+    for limit in [1, 3, u64::MAX] {
+        let stepped = trace(rt, alloc, verified, answers, limit, true);
+        let run = trace(rt, alloc, verified, answers, limit, false);
+        is_told(rt, answers, run.as_str(), stepped.as_str());
+    }
+}
+
+#[test]
+fn a_run_is_its_steps(rt: HostRuntime) {
+    let programs = programs_of(rt.alloc()).expect(&rt, "out of memory");
+    for verified in &programs {
+        for answers in ["gg", "gn", "nn"] {
+            is_alike(&rt, rt.alloc(), verified, answers);
+        }
+    }
+}
+
+// A row: the place of a program, how many instructions at a time, and what is told.
+const ROWS: [(usize, u64, &str); 4] = [
+    (
+        4,
+        0,
+        "None None 0 0 []; None None 0 0 []; exit 0 executed 0 peak 0 output [] answers ",
+    ),
+    (
+        4,
+        1,
+        "None None 1 1 []; Some(7) Some(7) 1 2 []; exit 7 executed 2 peak 0 output [] answers ",
+    ),
+    (
+        6,
+        2,
+        "None None 2 2 []; Some(9) Some(9) 2 3 []; Some(9) Some(9) 2 3 []; exit 9 executed 3 peak 0 output [] answers ",
+    ),
+    (
+        6,
+        3,
+        "Some(9) Some(9) 2 3 []; Some(9) Some(9) 2 3 []; Some(9) Some(9) 2 3 []; exit 9 executed 3 peak 0 output [] answers ",
+    ),
+];
+
+#[test]
+fn a_run_stops_at_its_limit_and_at_its_exit(rt: HostRuntime) {
+    let programs = programs_of(rt.alloc()).expect(&rt, "out of memory");
+    for (program, limit, expected) in ROWS.iter().copied() {
+        let verified = programs.get(program).expect(&rt, "there is such a program");
+        let told = trace(&rt, rt.alloc(), verified, "", limit, false);
+        is_told(&rt, "a limit", told.as_str(), expected);
+    }
+}
