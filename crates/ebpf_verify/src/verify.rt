@@ -33,6 +33,7 @@ use crate::propagate::pass_on;
 use crate::verified::Verified;
 use ebpf_flow::edges::Edges;
 use ebpf_flow::flowed::Flowed;
+use ebpf_operation::translate::operations_of;
 use ebpf_state::kinds::KindRow;
 use ebpf_state::state::State;
 use std::alloc::{AllocError, Global};
@@ -60,12 +61,14 @@ pub fn verify(
     for slot in 0..slots {
         visit(&flowed, decl, rows, slot, &mut entries)?;
     }
+    let operations = operations_of(alloc, &flowed)?;
     let calls = calls_in(flowed.program());
     Ok(Verified {
         flowed,
         decl,
         rows: kept,
         calls,
+        operations,
     })
 }
 
