@@ -16,7 +16,9 @@ pub mod Concretization
 pub mod Sound
 pub mod Step
 pub mod Flows
+pub mod Operating
 pub mod Turns
 pub mod Whole
 pub mod Parts
 pub mod Advance
+pub mod Burst

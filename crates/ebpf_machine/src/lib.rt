@@ -4,11 +4,12 @@
 //! `Verified`, so no instruction of it traps and none is tested at run time. What it computes is defined in specs/ by a
 //! machine that tests every access: the world of many runs, one event of it, and a run alone in a world of its own.
 //!
-//! To be read in this order: `value`, `kinds`, `context`, `objects`, `holding`, `number`, `stack`, `memory`, `registers`, `execute`,
-//! `report`, `workspace`, `parts`, `helpers`, `advance`, `run`, `whole`.
+//! To be read in this order: `value`, `kinds`, `context`, `objects`, `holding`, `number`, `stack`, `memory`, `registers`, `execute`, `operate`,
+//! `report`, `workspace`, `parts`, `helpers`, `advance`, `burst`, `run`, `whole`.
 #![tactic(auto)]
 
 mod advance;
+mod burst;
 pub mod context;
 mod execute;
 mod helpers;
@@ -17,6 +18,7 @@ pub mod kinds;
 mod memory;
 mod number;
 pub mod objects;
+mod operate;
 mod parts;
 mod registers;
 pub mod report;
