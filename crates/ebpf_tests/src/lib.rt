@@ -31,6 +31,8 @@ mod objects;
 #[cfg(test)]
 mod one;
 #[cfg(test)]
+mod operation;
+#[cfg(test)]
 mod programs;
 #[cfg(test)]
 mod range;

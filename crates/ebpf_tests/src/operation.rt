@@ -1,0 +1,68 @@
+//! A program of a few slots, and what a run does at each.
+
+use crate::programs::{holds, program_of};
+use ebpf_flow::check::check;
+use ebpf_insn::insn::{AluOp, Cond};
+use ebpf_insn::register::Reg;
+use ebpf_operation::operation::Operation;
+use ebpf_operation::translate::operations_of;
+use ebpf_state::kinds::kinds;
+use ebpf_verify::decl::Decl;
+use ebpf_verify::verify::verify;
+use std::test::*;
+
+// r0 = the low half of -1, r0 += -1, to slot 4 where r0 is 5, r0 in the order of the network, r1 = 7 in two slots, exit
+const SLOTS: &str =
+    "b4000000ffffffff07000000ffffffff1500010005000000dc000000100000001801000007000000000000000000000095000000\
+00000000";
+
+// Whether these are the operations of the program.
+fn are_its(operations: &[Operation]) -> bool {
+    matches!(
+        operations,
+        [
+            Operation::MovImm {
+                dst: Reg::R0,
+                number: 0xffff_ffff
+            },
+            Operation::Alu64Imm {
+                op: AluOp::Add,
+                dst: Reg::R0,
+                number: 0xffff_ffff_ffff_ffff
+            },
+            Operation::Branch64Imm {
+                cond: Cond::Eq,
+                left: Reg::R0,
+                to: 4,
+                number: 5
+            },
+            Operation::Swap {
+                bits: 16,
+                dst: Reg::R0,
+                ..
+            },
+            Operation::Wide {
+                dst: Reg::R1,
+                number: 7
+            },
+            Operation::Other,
+            Operation::Other,
+        ]
+    )
+}
+
+#[test]
+fn each_slot_has_the_operation_of_its_instruction(rt: HostRuntime) {
+    let flowed = check(rt.alloc(), program_of(&rt, rt.alloc(), SLOTS)).expect(&rt, "it is refused");
+    let operations = operations_of(rt.alloc(), &flowed).expect(&rt, "out of memory");
+    holds(&rt, "each slot has its own", are_its(&operations));
+    let decl = Decl::new(0, 0).expect(&rt, "no context and no object can be declared");
+    match verify(rt.alloc(), flowed, decl, &kinds()) {
+        Ok(verified) => holds(
+            &rt,
+            "an accepted program keeps them",
+            are_its(verified.operations()),
+        ),
+        Err(_) => panic!(rt; "it is refused"),
+    }
+}
