@@ -217,4 +217,5 @@ executed_after w kept k answer r t freed h i = record { after = after; legal = n
     kinds = next.1.kinds ∙ h.kinds;
     ledgers = next.1.ledgers ∙ h.ledgers;
     owned = next.1.owned;
+    unshelved = next.1.unshelved h.unshelved;
   }

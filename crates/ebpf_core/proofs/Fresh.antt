@@ -18,6 +18,7 @@ fresh_shows programs = record {
   kinds = refl;
   ledgers = refl;
   owned = owned_empty known_kinds known_kinds refl;
+  unshelved = λ o among. absurd (omega (arith, among.1));
 }
 
 pub tended_fresh : (programs : List Subject) → AreKnown programs → IsTendedWorld (fresh programs)

@@ -3,7 +3,7 @@ use Rattle.std.proofs.Common.{◌≡◌, ℕ, suc, ◌+◌, Bool, true, false, c
 use Rattle.std.specs.Prelude.{slice_get, Contains, ◌==◌}
 use Rattle.std.specs.List.{list_any, find}
 use Rattle.std.proofs.lemmas.Bool.{eqb-true, eq-eqb}
-use Rattle.ebpf_machine.specs.World.{Name, World, Running, Owner, Holder, Run, is_in, is_in_ledger, is_run, kind_from, kind_in, ledger_of, held_by, name_of, IsOfKind}
+use Rattle.ebpf_machine.specs.World.{Name, World, Running, Owner, Holder, Run, Shelf, is_by_run, is_in, is_in_ledger, is_run, kind_from, kind_in, ledger_of, held_by, name_of, IsOfKind}
 use Rattle.ebpf_machine.specs.View.{call_of, slots_in}
 use Rattle.ebpf_machine.specs.Sound.{IsOwned}
 use Rattle.ebpf_machine.proofs.Lists.ListLemmas.{IsFound, find_is, Contains-head, Contains-kept, none_counted}
@@ -48,14 +48,15 @@ held_owns w run n among =
 pub owns_held : (w : World) (run : ℕ) (n : Name) → Contains w.owners (owner_of run n) → Contains (slots_in w run) n
 owns_held w run n among = Contains-mapped (λ (o : Owner). name_of o.slot (call_of o.holder)) (held_by w run) (owner_of run n) (Contains-kept (λ (o : Owner). is_run run o.holder) w.owners (owner_of run n) among (eq-eqb run run refl))
 
--- whoever has a slot is a run, which holds it
-pub owner_runs : (w : World) (o : Owner) → IsOwned w → Contains w.owners o → (run at : ℕ) × (r : Running) × (slice_get w.runs run ≡ Some r) × (o ≡ owner_of run (name_of o.slot at))
-owner_runs w o owned among = by o.holder refl where
+-- a run that has a slot is one of the world
+pub owner_runs : (w : World) (o : Owner) → IsOwned w → is_by_run o.holder ≡ true → Contains w.owners o → (run at : ℕ) × (r : Running) × (slice_get w.runs run ≡ Some r) × (o ≡ owner_of run (name_of o.slot at))
+owner_runs w o owned run among = by o.holder refl where
   by : (h : Holder) → o.holder ≡ h → (run at : ℕ) × (r : Running) × (slice_get w.runs run ≡ Some r) × (o ≡ owner_of run (name_of o.slot at))
   by (Run run at) is =
       let asker = subst (λ (h : Holder). IsOfKind w.runs h (kind_in w o.slot)) is (owned.runs.asked o among) in
       let same : o ≡ owner_of run (name_of o.slot at) = λ i. record { slot = o.slot; holder = is i } in
       (run, at, asker.asker, asker.there, same)
+  by (Shelf s) is = let none = ap is_by_run (sym is) ∙ run in absurd (cc)
 
 -- where there is no run of a number, nobody has a slot by it
 pub unheld : (w : World) (k : ℕ) → IsOwned w → slice_get w.runs k ≡ None → held_by w k ≡ []

@@ -34,7 +34,7 @@ run_kept w kept k run h there = by (slice_get kept.runs k) refl where
 -- an owned slot is kept as held
 pub owner_kept : (w : World) (kept : WorldState) (o : Owner) → Shows w kept → ArePlaced kept → Contains w.owners o → (run at : ℕ) × (place_at kept.places o.slot ≡ Some (Held run at)) × (o ≡ owner_of run (name_of o.slot at))
 owner_kept w kept o h placed among =
-    let (run, at, r, there, is) = owner_runs w o h.owned among in
+    let (run, at, r, there, is) = owner_runs w o h.owned (h.unshelved o among) among in
     let kept_run = run_kept w kept run r h there in
     let held = owns_held w run (name_of o.slot at) (subst (λ (p : Owner). Contains w.owners p) is among) in
     let here : Contains (slots_of kept_run.0) (name_of o.slot at) = subst (λ (ns : List Name). Contains ns (name_of o.slot at)) (h.slots run kept_run.0 kept_run.1) held in

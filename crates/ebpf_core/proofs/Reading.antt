@@ -2,6 +2,7 @@
 use Rattle.std.proofs.Common.{◌≡◌, ◌≢◌, ℕ, true, not, List, Option, Some, None, refl, sym, ap, ◌∙◌, subst}
 use Rattle.std.specs.Prelude.{Contains, ◌==◌, option_map, slice_get, slice_index_or}
 use Rattle.std.specs.List.{find}
+use Rattle.std.specs.Option.{option_and_then}
 use Rattle.std.proofs.lemmas.Bool.{eqb-true, eq-eqb, and_parts}
 use Rattle.std.proofs.lemmas.Option.{get_or_from_slice_get}
 use Rattle.ebpf_machine.specs.declared.holding.Holding.{Holding}
@@ -63,11 +64,11 @@ executed_some w kept k r h at =
 
 -- whoever has it
 pub owner_some : (w : World) (kept : WorldState) (slot run at : ℕ) → Shows w kept → ArePlaced kept → place_at kept.places slot ≡ Some (Held run at) → Some (run, at) ≡ owner_in w slot
-owner_some w kept slot run at h placed is = sym (ap (option_map (λ (o : Owner). run_of o.holder)) (owner_found w run at slot h.owned (held_kept w kept slot run at h placed is)))
+owner_some w kept slot run at h placed is = sym (ap (option_and_then (λ (o : Owner). run_of o.holder)) (owner_found w run at slot h.owned (held_kept w kept slot run at h placed is)))
 
 pub owner_none : (w : World) (kept : WorldState) (slot : ℕ) → Shows w kept → ArePlaced kept → ((run at : ℕ) → place_at kept.places slot ≢ Some (Held run at)) → None ≡ owner_in w slot
 owner_none w kept slot h placed free = by (find (λ (o : Owner). o.slot == slot) w.owners) (find_is (λ (o : Owner). o.slot == slot) w.owners) where
-  by : (f : Option Owner) → IsFound (λ (o : Owner). o.slot == slot) w.owners f → None ≡ option_map (λ (o : Owner). run_of o.holder) f
+  by : (f : Option Owner) → IsFound (λ (o : Owner). o.slot == slot) w.owners f → None ≡ option_and_then (λ (o : Owner). run_of o.holder) f
   by None none = refl
   by (Some o) found =
       let (run, at, held, is) = owner_kept w kept o h placed found.0 in

@@ -141,6 +141,7 @@ joined_shows w kept kind slot places h new = record {
   kinds = h.kinds;
   ledgers = ap (λ (ls : List (List ℕ)). slice_set ls kind (with_slot slot (slice_index_or ls kind []))) h.ledgers;
   owned = owned_joined w kind slot h.owned new;
+  unshelved = h.unshelved;
 }
 
 -- so the event is legal
@@ -261,6 +262,7 @@ parted_shows w kept kind slot places h reapable = record {
   kinds = h.kinds;
   ledgers = ap (λ (ls : List (List ℕ)). slice_set ls kind (without_slot slot (slice_index_or ls kind []))) h.ledgers;
   owned = owned_parted w kind slot h.owned reapable;
+  unshelved = h.unshelved;
 }
 
 pub reap_done : (w : World) (kept : WorldState) (kind slot : ℕ) (ledgers : List (List ℕ)) (places : Places) → Shows w kept → ArePlaced kept → IsReaped kept kind slot ledgers places

@@ -73,6 +73,7 @@ started_shows w kept s context kinds h = record {
   kinds = h.kinds;
   ledgers = h.ledgers;
   owned = owned_started w s context h.owned kinds;
+  unshelved = h.unshelved;
 }
 
 -- ---- what the event leads to

@@ -2,7 +2,7 @@
 use Rattle.std.specs.Prelude.{ℕ, ◌==◌, if◌then◌else◌, List, Option, Some, None, option_map, slice_get}
 use Rattle.std.specs.Option.{option_and_then}
 use Rattle.std.specs.List.{find}
-use Rattle.ebpf_machine.specs.World.{World, Running, Owner, Holder, Run, Going, Exited, Trapped, is_in_ledger, ledger_of}
+use Rattle.ebpf_machine.specs.World.{World, Running, Owner, Holder, Run, Shelf, Going, Exited, Trapped, is_in_ledger, ledger_of}
 use Rattle.ebpf_machine.specs.World as world
 use Rattle.ebpf_core.specs.declared.world.Status.{Status}
 use Rattle.ebpf_core.specs.declared.world.Status.TheVariants as status
@@ -23,12 +23,13 @@ output_in w run = option_map (λ r. r.frame.output) (slice_get w.runs run)
 abbrev pub executed_in : World → ℕ → Option ℕ
 executed_in w run = option_map (λ r. r.executed) (slice_get w.runs run)
 
--- the run that holds a slot, with the place of the call that was granted it
-abbrev pub run_of : Holder → ℕ × ℕ
-run_of (Run run at) = (run, at)
+-- the run that holds a slot, with the place of the call that was granted it; a shelf is none
+abbrev pub run_of : Holder → Option (ℕ × ℕ)
+run_of (Run run at) = Some (run, at)
+run_of (Shelf s) = None
 
 abbrev pub owner_in : World → ℕ → Option (ℕ × ℕ)
-owner_in w slot = option_map (λ o. run_of o.holder) (find (λ o. o.slot == slot) w.owners)
+owner_in w slot = option_and_then (λ o. run_of o.holder) (find (λ o. o.slot == slot) w.owners)
 
 -- the bytes of a slot of a ledger
 abbrev pub bytes_in : World → ℕ → Option (List ℕ)

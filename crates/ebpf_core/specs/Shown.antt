@@ -2,7 +2,7 @@
 use Rattle.std.specs.Prelude.{◌≡◌, ◌<◌, ℕ, false, true, All, Contains, List, [], length, Option, Some, None, Ok, option_map, slice_get, slice_index_or}
 use Rattle.std.specs.List.{list_any}
 use Rattle.ebpf_verify.specs.Subject.{Subject}
-use Rattle.ebpf_machine.specs.World.{Name, World, kinds_of, image_at, is_in, name_of}
+use Rattle.ebpf_machine.specs.World.{Name, World, Owner, is_by_run, kinds_of, image_at, is_in, name_of}
 use Rattle.ebpf_machine.specs.Kinds.{known_kinds, AreKnown}
 use Rattle.ebpf_machine.specs.View.{RunView, view_in, slots_in}
 use Rattle.ebpf_machine.specs.RunState.{RunState, seen, slots_kept}
@@ -68,6 +68,8 @@ pub record Shows (w : World) (kept : WorldState) : Type 0 where
   pub kinds : w.kinds ≡ known_kinds
   pub ledgers : w.ledgers ≡ kept.ledgers
   pub owned : IsOwned w
+  -- nothing stands on a shelf
+  pub unshelved : (o : Owner) → Contains w.owners o → is_by_run o.holder ≡ true
 
 pub record IsTendedWorld (kept : WorldState) : Type 0 where
   pub known : AreKnown kept.programs

@@ -1,5 +1,5 @@
 -- The world: ledgers, owners, object bytes and runs, and what it says of a slot.
-use Rattle.std.specs.Prelude.{◌≡◌, ◌<◌, ℕ, suc, ◌==◌, Bool, true, not, ◌&&◌, if◌then◌else◌, List, [], ◌∷◌, length, filter, map, replicate, pos, Option, Some, None, Result, Ok, Err, Contains, slice_get, slice_index_or}
+use Rattle.std.specs.Prelude.{◌≡◌, ◌<◌, ℕ, suc, ◌==◌, Bool, true, false, not, ◌&&◌, if◌then◌else◌, List, [], ◌∷◌, length, filter, map, replicate, pos, Option, Some, None, Result, Ok, Err, Contains, slice_get, slice_index_or}
 use Rattle.std.specs.List.{list_any}
 use Rattle.ebpf_state.specs.declared.kinds.KindRow.{KindRow}
 use Rattle.ebpf_verify.specs.Subject.{Subject}
@@ -39,9 +39,10 @@ pub record Running : Type 0 where
   pub executed : ℕ
   pub status : Status
 
--- who has a slot: a run, by the call at this place of its program
+-- who has a slot: a run, by the call at this place of its program; or a shelf, on which a run left it for another
 pub data Holder : Type 0 where
   Run : (run call : ℕ) → Holder
+  Shelf : (shelf : ℕ) → Holder
 
 pub record Owner : Type 0 where
   pub slot : ℕ
@@ -110,9 +111,11 @@ kind_in w slot = kind_from 0 w.ledgers slot
 
 abbrev pub is_run : ℕ → Holder → Bool
 is_run run (Run r call) = r == run
+is_run run (Shelf s) = false
 
 abbrev pub is_call : (run call : ℕ) → Holder → Bool
 is_call run call (Run r c) = (r == run) && (c == call)
+is_call run call (Shelf s) = false
 
 abbrev pub held_by : World → ℕ → List Owner
 held_by w run = filter (λ o. is_run run o.holder) w.owners
@@ -127,6 +130,7 @@ is_held_by w run name = list_any (λ o. (o.slot == name.slot) && is_call run nam
 
 abbrev pub is_by_run : Holder → Bool
 is_by_run (Run r call) = true
+is_by_run (Shelf s) = false
 
 -- another run has the slot, and this one has not
 abbrev pub is_anothers : World → ℕ → ℕ → Bool
@@ -173,6 +177,7 @@ pub record AskedFor (runs : List Running) (run at kind : ℕ) : Type 0 where
   pub got : IsGot reply
   pub told : Contains asker.calls (record { at = at; kind = kind; reply = reply })
 
--- whoever has a slot has it as one of this kind
+-- whoever has a slot has it as one of this kind: a run asked for one, and there is a shelf for each
 abbrev pub IsOfKind : List Running → Holder → ℕ → Type 0
 IsOfKind runs (Run run call) kind = AskedFor runs run call kind
+IsOfKind runs (Shelf s) kind = s ≡ kind

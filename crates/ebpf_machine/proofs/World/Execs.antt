@@ -1,16 +1,16 @@
 -- The next instruction of a sound run in its world: with an answer that fits what it asks it is legal, and the run goes on as it
 -- sees itself.
-use Rattle.std.proofs.Common.{◌≡◌, ◌≢◌, ℕ, ◌+◌, ◌<◌, ◌≤◌, Bool, true, false, arith, List, [], ◌∷◌, length, filter, Option, Some, None, Result, Ok, Err, refl, sym, ap, ◌∙◌, subst, inl, inr, length-set}
+use Rattle.std.proofs.Common.{◌≡◌, ◌≢◌, ℕ, ◌+◌, ◌<◌, ◌≤◌, Bool, true, false, arith, List, [], ◌∷◌, length, filter, Option, Some, None, Result, Ok, Err, refl, sym, ap, ◌∙◌, subst, inl, inr, ◌⊎◌, ◌++◌, length-set}
 use Rattle.std.specs.Prelude.{Contains, slice_get, ◌==◌, ◌&&◌, not, nat_le}
 use Rattle.std.proofs.lemmas.Bool.{cond_both}
 use Rattle.std.proofs.lemmas.Bool.Decides.{nat_tests}
 use Rattle.std.proofs.lemmas.List.{length-map}
-use Rattle.std.proofs.lemmas.List.Elements.{All-map}
+use Rattle.std.proofs.lemmas.List.Elements.{All-map, Contains-push_cases}
 use Rattle.ebpf_insn.specs.Program.{insn_at}
 use Rattle.ebpf_insn.specs.Faults.{first_of}
 use Rattle.ebpf_machine.specs.Values.{Frame}
 use Rattle.ebpf_machine.specs.Effect.{Act, Nothing, Write, Ask, Free, Effect, Goes, Ends, Traps}
-use Rattle.ebpf_machine.specs.World.{Name, Kind, World, Running, Owner, Going, Answer, Absent, Slot, environment, holds_of, held_by, is_home, is_in, kind_in, kinds_of, image_at, ledger_of}
+use Rattle.ebpf_machine.specs.World.{Name, Kind, World, Running, Owner, Run, Going, Answer, Absent, Slot, is_by_run, environment, holds_of, held_by, is_home, is_in, kind_in, kinds_of, image_at, ledger_of}
 use Rattle.ebpf_machine.specs.World as world
 use Rattle.ebpf_machine.specs.Events.{Illegal, SlotNotHome, SlotOfAnotherKind, Asking, OfKind, granted, done_by, effect_of_run, asking_of, answer_fault, exec}
 use Rattle.ebpf_machine.specs.View as view
@@ -18,7 +18,7 @@ use Rattle.ebpf_machine.specs.View.{ObjectView, RunView, object_in, view_of, vie
 use Rattle.ebpf_machine.specs.Step.{IsEvent, reply_of, served_by, Served, Idle, Refused, Granted, answer_for, result_of}
 use Rattle.ebpf_machine.specs.Advance.{slots_after}
 use Rattle.ebpf_machine.specs.Sound.{IsOwned, IsSound, AreSized}
-use Rattle.ebpf_machine.proofs.Lists.ListLemmas.{All-by_contains}
+use Rattle.ebpf_machine.proofs.Lists.ListLemmas.{All-by_contains, Contains-filter}
 use Rattle.ebpf_machine.proofs.World.Owners.{held_owner}
 use Rattle.ebpf_machine.proofs.World.ObjectsFound.{own_found, objects_found}
 use Rattle.ebpf_machine.proofs.World.Acts.{effect_seen, IsGrantable, IsOwnAct, IsOwnEffect, own_view, own_slots, others_view, others_slots}
@@ -27,6 +27,10 @@ use Rattle.ebpf_machine.proofs.World.Projection.{IsSeenAs, effect_at-seen}
 use Rattle.ebpf_machine.proofs.World.Pointing.{plain_goes}
 use Rattle.ebpf_machine.proofs.World.Asking.{IsThere, asked_by, asked_goes, there_goes}
 use Rattle.ebpf_machine.proofs.World.Steps.{IsNext, next_of}
+
+-- nothing stands on a shelf
+abbrev pub AreByRuns : World → Type 0
+AreByRuns w = (o : Owner) → Contains w.owners o → is_by_run o.holder ≡ true
 
 -- the world that the next instruction of a run leads to, with this answer
 pub record IsNextWorld (w : World) (run : ℕ) (r : Running) (answer : Answer) (after : World) : Type 0 where
@@ -40,6 +44,7 @@ pub record IsNextWorld (w : World) (run : ℕ) (r : Running) (answer : Answer) (
   pub kinds : after.kinds ≡ w.kinds
   pub ledgers : after.ledgers ≡ w.ledgers
   pub unowned : w.owners ≡ [] → reply_of answer ≡ view.Null → after.owners ≡ []
+  pub unshelved : AreByRuns w → AreByRuns after
 
 -- ---- what an effect leaves as it was
 
@@ -72,6 +77,25 @@ unowned_done w run r (Goes (Free name) to frame) answer none null = ap (filter _
 unowned_done w run r (Goes (Ask kind) to frame) Absent none null = none
 unowned_done w run r (Goes (Ask kind) to frame) world.Null none null = none
 unowned_done w run r (Goes (Ask kind) to frame) (Slot slot) none null = absurd (cc)
+
+-- an instruction leaves nothing on a shelf
+unshelved_granted : (w : World) (run : ℕ) (r : Running) (kind slot to : ℕ) (frame : Frame Name) → AreByRuns w → AreByRuns (granted slot w run r to frame kind)
+unshelved_granted w run r kind slot to frame plain = cond_both (nat_le r.subject.decl.held (holds_of w run)) _ _ AreByRuns (λ full. plain) (λ room. more) where
+  more : (o : Owner) → Contains (w.owners ++ record { slot = slot; holder = Run run r.pc } ∷ []) o → is_by_run o.holder ≡ true
+  more o among = by (Contains-push_cases w.owners (record { slot = slot; holder = Run run r.pc }) o among) where
+    by : Contains w.owners o ⊎ (record { slot = slot; holder = Run run r.pc } ≡ o) → is_by_run o.holder ≡ true
+    by (inl old) = plain o old
+    by (inr new) = ap (λ (p : Owner). is_by_run p.holder) (sym new)
+
+unshelved_done : (w : World) (run : ℕ) (r : Running) (e : Effect Name) (answer : Answer) → AreByRuns w → AreByRuns (done_by e answer w run r)
+unshelved_done w run r (Ends n) answer plain = plain
+unshelved_done w run r (Traps trap) answer plain = plain
+unshelved_done w run r (Goes Nothing to frame) answer plain = plain
+unshelved_done w run r (Goes (Write name at bytes) to frame) answer plain = plain
+unshelved_done w run r (Goes (Free name) to frame) answer plain = λ o among. plain o (Contains-filter _ w.owners o among).0
+unshelved_done w run r (Goes (Ask kind) to frame) Absent plain = plain
+unshelved_done w run r (Goes (Ask kind) to frame) world.Null plain = plain
+unshelved_done w run r (Goes (Ask kind) to frame) (Slot slot) plain = unshelved_granted w run r kind slot to frame plain
 
 -- ---- the effect in the world and the effect that is seen
 
@@ -173,6 +197,7 @@ next_world w run r answer owned there sound going fine =
         kinds = steady.kinds;
         ledgers = steady.ledgers;
         unowned = λ none null. unowned_done w run r e answer none null;
+        unshelved = λ plain. unshelved_done w run r e answer plain;
       },
     )
 

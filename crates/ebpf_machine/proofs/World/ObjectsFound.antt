@@ -5,7 +5,7 @@ use Rattle.std.specs.List.{find}
 use Rattle.std.proofs.lemmas.Bool.{eqb-true, eq-eqb, and_parts, and_from, false_from_ne_true}
 use Rattle.ebpf_machine.specs.Values.{Trap, UseAfterFree, AnotherRunsObject}
 use Rattle.ebpf_machine.specs.Effect.{Found}
-use Rattle.ebpf_machine.specs.World.{Name, World, Running, Owner, Holder, Run, is_call, is_run, held_by, kind_in, is_held_by, is_anothers, object_for}
+use Rattle.ebpf_machine.specs.World.{Name, World, Running, Owner, Holder, Run, Shelf, is_call, is_run, held_by, kind_in, is_held_by, is_anothers, object_for}
 use Rattle.ebpf_machine.specs.View.{ObjectView, call_of, object_in, found_in, object_at}
 use Rattle.ebpf_machine.specs.Sound.{IsOwned, HasPointer}
 use Rattle.ebpf_machine.proofs.Lists.ListLemmas.{IsFound, Contains-kept, any_from, any_one, find_is, find-map}
@@ -19,6 +19,7 @@ is_call-own run at (Run r a) e =
     let same_run = eqb-true r run parts.0 in
     let same_call = eqb-true a at parts.1 in
     λ i. Run (same_run i) (same_call i)
+is_call-own run at (Shelf s) e = absurd (cc)
 
 call_is : (run at : ℕ) (h : Holder) → h ≡ Run run at → is_call run at h ≡ true
 call_is run at h e = ap (is_call run at) e ∙ and_from (run == run) (at == at) (eq-eqb run run refl) (eq-eqb at at refl)

@@ -13,7 +13,7 @@ use Rattle.ebpf_machine.specs.declared.report.Reply.TheVariants as reply
 use Rattle.ebpf_machine.specs.Bytes.{patched}
 use Rattle.ebpf_machine.specs.Values.{Frame, TooManyObjects}
 use Rattle.ebpf_machine.specs.Effect.{Effect, Goes, Ends, Traps, Nothing, Write, Ask, Free}
-use Rattle.ebpf_machine.specs.World.{Name, Kind, World, Running, AnsweredCall, Owner, Run, Answer, Absent, Null, Slot, is_in, is_home, holds_of, ledger_of, kind_in, kinds_of, image_at, first_run, name_of, IsOfKind, AskedFor}
+use Rattle.ebpf_machine.specs.World.{Name, Kind, World, Running, AnsweredCall, Owner, Run, Shelf, Answer, Absent, Null, Slot, is_in, is_home, holds_of, ledger_of, kind_in, kinds_of, image_at, first_run, name_of, IsOfKind, AskedFor}
 use Rattle.ebpf_machine.specs.Events.{with_run, with_bytes, with_owner, moved_to, ended, trapped, replied, granted, done_by, started}
 use Rattle.ebpf_machine.specs.Alone.{alone_first}
 use Rattle.ebpf_machine.specs.Sound.{IsOwned, Names, HasPointer, HasOneSlot, IsTrue}
@@ -139,6 +139,7 @@ of_kind_started : (w v : World) (s : Subject) (context : List ℕ) (o : Owner) (
 of_kind_started w v s context o kind more h = in_runs o.holder h where
   in_runs : (holder : _) → IsOfKind w.runs holder kind → IsOfKind v.runs holder kind
   in_runs (Run run at) h = record { asker = h.asker; there = ap (λ (rs : List Running). slice_get rs run) more ∙ get_push w.runs run h.asker (first_run s context) h.there; behind = h.behind; reply = h.reply; got = h.got; told = h.told }
+  in_runs (Shelf s) h = h
 
 pub owned_started : (w : World) (subject : Subject) (context : List ℕ) → IsOwned w → kinds_of subject.rows ≡ w.kinds → IsOwned (started subject context w)
 owned_started w subject context owned kinds = record {

@@ -7,7 +7,7 @@ use Rattle.std.proofs.lemmas.List.Elements.{Contains-push_cases}
 use Rattle.std.proofs.lemmas.List.Folds.{list_any-append}
 use Rattle.std.proofs.lemmas.List.Sums.{sum_by_push}
 use Rattle.ebpf_verify.specs.Subject.{Subject}
-use Rattle.ebpf_machine.specs.World.{Name, World, Running, AnsweredCall, Owner, Holder, Run, is_in, is_in_ledger, is_owned, is_home, is_call, ledger_of, kinds_of, image_at, kind_in, name_of, IsOfKind, AskedFor}
+use Rattle.ebpf_machine.specs.World.{Name, World, Running, AnsweredCall, Owner, Holder, Run, Shelf, is_in, is_in_ledger, is_owned, is_home, is_call, ledger_of, kinds_of, image_at, kind_in, name_of, IsOfKind, AskedFor}
 use Rattle.ebpf_machine.specs.Events.{with_run, with_bytes, with_owner, without_owner}
 use Rattle.ebpf_machine.specs.View.{call_of}
 use Rattle.ebpf_machine.specs.Sound.{IsOwned, HasPointer, HasOneSlot, IsTrue}
@@ -43,6 +43,7 @@ of_kind_later w run r now (Run asker at) kind there later h = by (cases_eq asker
         told = later.told (record { at = at; kind = kind; reply = h.reply }) (subst (λ (x : Running). Contains x.calls (record { at = at; kind = kind; reply = h.reply })) same h.told);
       }
   by (inr ne) = record { asker = h.asker; there = get_set_other w.runs run asker now ne ∙ h.there; behind = h.behind; reply = h.reply; got = h.got; told = h.told }
+of_kind_later w run r now (Shelf s) kind there later h = h
 
 pub owned_running : (w : World) (run : ℕ) (r now : Running) → IsOwned w → slice_get w.runs run ≡ Some r → IsLater r now → ((n : Name) → HasPointer now.frame n → IsTrue w.owners run now n) → HasOneSlot now.frame → IsOwned (with_run w run now)
 owned_running w run r now owned there later true_now alike = record {

@@ -5,7 +5,7 @@ use Rattle.std.proofs.lemmas.Bool.{eqb-true, eq-eqb, ne_eqb, not-true, and_parts
 use Rattle.std.proofs.lemmas.List.{append-nil}
 use Rattle.std.proofs.lemmas.List.Elements.{filter-append}
 use Rattle.std.proofs.lemmas.List.Folds.{list_any_at}
-use Rattle.ebpf_machine.specs.World.{Name, World, Owner, Holder, Run, is_in, is_in_ledger, is_owned, is_home, is_run, is_call, held_by, ledger_of, kind_from, kind_in, name_of}
+use Rattle.ebpf_machine.specs.World.{Name, World, Owner, Holder, Run, Shelf, is_in, is_in_ledger, is_owned, is_home, is_run, is_call, held_by, ledger_of, kind_from, kind_in, name_of}
 use Rattle.ebpf_machine.specs.Events.{with_owner, without_owner}
 use Rattle.ebpf_machine.specs.View.{call_of}
 use Rattle.ebpf_machine.specs.Sound.{IsOwned}
@@ -19,15 +19,19 @@ owner_of run name = record { slot = name.slot; holder = Run run name.call }
 
 abbrev pub run_of : Holder → ℕ
 run_of (Run run at) = run
+run_of (Shelf s) = 0
 
 is_run-own : (run : ℕ) (h : Holder) → is_run run h ≡ true → h ≡ Run run (call_of h)
 is_run-own run (Run r at) e = ap (λ (n : ℕ). Run n at) (eqb-true r run e)
+is_run-own run (Shelf s) e = absurd (cc)
 
 is_run-other : (run other : ℕ) (h : Holder) → other ≢ run → is_run other h ≡ true → is_run run h ≡ false
 is_run-other run other (Run r at) ne e = ne_eqb r run (λ same. ne (sym (eqb-true r other e) ∙ same))
+is_run-other run other (Shelf s) ne e = refl
 
 is_call-parts : (run at : ℕ) (h : Holder) → is_call run at h ≡ (is_run run h && (call_of h == at))
 is_call-parts run at (Run r a) = refl
+is_call-parts run at (Shelf s) = refl
 
 -- who holds an object of a run is an owner
 pub held_owner : (w : World) (run : ℕ) (o : Owner) → Contains (held_by w run) o → Contains w.owners o × (o.holder ≡ Run run (call_of o.holder))
