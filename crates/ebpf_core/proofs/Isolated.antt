@@ -20,7 +20,7 @@ use Rattle.ebpf_machine.proofs.World.Asking.{asking_seen}
 use Rattle.ebpf_machine.proofs.World.Owned.{owned_empty}
 use Rattle.ebpf_machine.proofs.World.Steps.{going_of, bounded, first_sound, sound_stepped}
 use Rattle.ebpf_machine.proofs.World.Execs.{sized_in, shown_run}
-use Rattle.ebpf_machine.proofs.World.Lone.{alone_stepped, seen_alone, outcome_exited}
+use Rattle.ebpf_machine.proofs.World.Lone.{none_more, alone_stepped, seen_alone, outcome_exited}
 use Rattle.ebpf_core.specs.declared.passing.Object.{Object}
 use Rattle.ebpf_core.specs.declared.event.Answer.{Answer}
 use Rattle.ebpf_core.specs.declared.event.Event.{Event}
@@ -29,7 +29,7 @@ use Rattle.ebpf_core.specs.Events.{first_world, answer_of, happened}
 use Rattle.ebpf_core.specs.Shown.{run_seen}
 use Rattle.ebpf_machine.specs.Kinds.{AreKnown}
 use Rattle.ebpf_core.specs.Replay.{and_then, world_after_from}
-use Rattle.ebpf_core.specs.Isolation.{answers_to, answer_in, reply_by, replies_to, replies_to_new, IsUntrapped, IsWhereAlone, IsOutcomeOf, IsIsolated, IsSafe, IsAlwaysSafe}
+use Rattle.ebpf_core.specs.Isolation.{answers_to, answer_in, reply_by, replies_to, IsUntrapped, IsWhereAlone, IsOutcomeOf, IsIsolated, IsSafe, IsAlwaysSafe}
 use Rattle.ebpf_core.proofs.LegalAnswers.{told_next}
 use Rattle.ebpf_core.proofs.OtherRuns.{own_run, AreSound, IsEventOf, IsExec, start_next, exec_next, event_next}
 use Rattle.ebpf_core.proofs.OwnedSlots.{kind_there, owned_there, unheld}
@@ -233,7 +233,7 @@ alone_of w k run answers own =
 
 outcome_of_run : (w : World) (k : ℕ) (run : Running) (answers : List Reply) (n : ℕ) → IsOwn (view_of w k run) answers → run.status ≡ Exited n → IsOutcomeOf run n (outcome_alone run.subject run.context (replies_to run))
 outcome_of_run w k run answers n own ended =
-    let is = ap (λ (rs : List Reply). outcome_alone run.subject run.context (replies_from rs)) (sym (append-nil (replies_to_new run))) ∙ outcome_exited (view_of w k run) n own.sound own.alone ended [] in
+    let is = ap (outcome_alone run.subject run.context) (sym (none_more (replies_to run))) ∙ outcome_exited (view_of w k run) n own.sound own.alone ended (replies_from [] []) in
     record { status = ap (λ (o : Outcome). o.status) is; output = ap (λ (o : Outcome). o.output) is; executed = ap (λ (o : Outcome). o.executed) is }
 
 -- a run that exited holds nothing, and any other no more than it declared

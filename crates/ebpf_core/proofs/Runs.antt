@@ -53,7 +53,7 @@ same_number a b = ⊎_elim (λ (e : (eqb a b ≡ true) × (a ≡ b)). inl e.1) (
 -- ---- a run that is kept
 
 pub first_alone : (s : Subject) (context : List ℕ) → IsAlone (run_seen (first_state_of s context))
-first_alone s context = rw (after_none s context (replies_from [])) refl
+first_alone s context = rw (after_none s context (replies_from [] [])) refl
 
 pub tended_first : (s : Subject) (context : List ℕ) (r : RunState Object) → r ≡ first_state_of s context → IsSound (run_seen r) → kinds_of s.rows ≡ known_kinds → IsTended r
 tended_first s context r is sound kinds = record {

@@ -15,9 +15,9 @@ use Rattle.ebpf_core.specs.declared.event.Event.{Event}
 use Rattle.ebpf_core.specs.declared.event.Event.TheVariants.{Start, Exec, Grow, Reap}
 use Rattle.ebpf_core.specs.Replay.{world_after}
 
--- what the calls of a run were answered, in order
+-- what the calls of a run were told, in order
 abbrev pub replies_to : Running → Replies
-replies_to run = replies_from (map (λ c. c.reply) run.calls)
+replies_to run = replies_from (map (λ c. c.reply) run.calls) run.taken
 
 -- what its calls of new were answered
 abbrev pub replies_to_new : Running → List Reply

@@ -1,5 +1,5 @@
 -- The run alone: one run in a world of its own, fed with replies until it ends.
-use Rattle.std.specs.Prelude.{ℕ, zero, suc, max, List, [], ◌∷◌, length, map, Option, Some, None, Result, Ok, Err, slice_get}
+use Rattle.std.specs.Prelude.{ℕ, zero, suc, max, List, [], ◌∷◌, ◌++◌, length, map, Option, Some, None, Result, Ok, Err, slice_get}
 use Rattle.ebpf_insn.specs.Program.{instructions}
 use Rattle.ebpf_verify.specs.Subject.{Subject}
 use Rattle.ebpf_machine.specs.declared.report.Reply.{Reply}
@@ -37,19 +37,24 @@ abbrev pub advanced : Result World Illegal → Alone → Alone
 advanced (Ok w) a = record { world = w; peak = max a.peak (holds_of w 0) }
 advanced (Err why) a = a
 
--- what the calls of a run are answered, in their order
+-- what the calls of a run are told, in their order, and the bytes of what they take off shelves, one object after another
 pub record Replies : Type 0 where
   pub answers : List Reply
+  pub taken : List ℕ
 
-abbrev pub replies_from : List Reply → Replies
-replies_from answers = record { answers = answers }
+abbrev pub replies_from : List Reply → List ℕ → Replies
+replies_from answers taken = record { answers = answers; taken = taken }
+
+-- with more behind them
+abbrev pub more_than : Replies → Replies → Replies
+more_than replies more = replies_from (replies.answers ++ more.answers) (replies.taken ++ more.taken)
 
 -- a run's own, and those of a report
 abbrev pub replies_of : RunView → Replies
-replies_of v = replies_from v.replies
+replies_of v = replies_from v.replies v.taken
 
 abbrev pub replies_in : Report → Replies
-replies_in r = replies_from r.answers
+replies_in r = replies_from r.answers r.taken
 
 -- they are read by index: as many were used as the run made calls
 abbrev pub fed_to : World → Running → Replies → Fed

@@ -85,7 +85,7 @@ IsAlone v = view_in (alone_after v.executed v.subject v.context (replies_of v)).
 -- and no instruction told it more than one reply or added more than one number to its output
 pub record IsRun {H : Type 0} (r : RunState H) : Type 0 where
   pub sound : (bytes : H → List ℕ) → IsSound (seen bytes r)
-  pub peak : (alone_after r.executed r.subject r.context (replies_from r.replies)).peak ≡ r.peak
+  pub peak : (alone_after r.executed r.subject r.context (replies_from r.replies r.taken)).peak ≡ r.peak
   pub most : length r.held ≤ r.peak
   pub declared : r.peak ≤ r.subject.decl.held
   pub told : length r.replies ≤ r.executed

@@ -24,7 +24,8 @@ pub data Status : Type 0 where
   Exited : (result : ℕ) → Status
   Trapped : (trap : Trap) → Status
 
--- a call of new that a run made: where, for which kind, and what it was answered. A run keeps these, and no instruction reads them
+-- a call that a run made for an object: where, for which kind, and what it was told. A run keeps these, and the bytes of what it took
+-- off shelves, and no instruction reads them
 pub record AnsweredCall : Type 0 where
   pub at : ℕ
   pub kind : ℕ
@@ -36,6 +37,7 @@ pub record Running : Type 0 where
   pub pc : ℕ
   pub frame : Frame Name
   pub calls : List AnsweredCall
+  pub taken : List ℕ
   pub executed : ℕ
   pub status : Status
 
@@ -159,14 +161,16 @@ abbrev pub first_frame : {N : Type 0} → Frame N
 first_frame = record { registers = first_registers; stack = empty_stack; output = [] }
 
 abbrev pub first_run : Subject → List ℕ → Running
-first_run subject context = record { subject = subject; context = context; pc = 0; frame = first_frame; calls = []; executed = 0; status = Going }
+first_run subject context = record { subject = subject; context = context; pc = 0; frame = first_frame; calls = []; taken = []; executed = 0; status = Going }
 
 -- ---- what a call asked for
 
 -- a reply that brought an object
 abbrev pub IsGot : Reply → Type 0
 IsGot reply.Granted = Unit {0}
+IsGot reply.Shelf = Unit {0}
 IsGot reply.Null = ⊥
+IsGot reply.Empty = ⊥
 
 -- a call of the run, behind it, asked for an object of this kind and got one
 pub record AskedFor (runs : List Running) (run at kind : ℕ) : Type 0 where

@@ -17,6 +17,7 @@ pub(crate) struct Parts<'v, H> {
     pub(crate) output: Vec<u64>,
     pub(crate) held: Vec<Holding<H>>,
     pub(crate) replies: Vec<Reply>,
+    pub(crate) taken: Vec<u8>,
     pub(crate) exit: Option<u64>,
     pub(crate) executed: u64,
     pub(crate) peak: u64,

@@ -16,16 +16,20 @@ impl Model for Output {
     ghost view = { λ o. o.numbers.items };
 }
 
-/// What a call of `new` was answered.
+/// What a call of `new` or of `swap` was told.
 #[derive(Clone, Copy)]
 pub enum Reply {
-    /// No object.
+    /// A call of `new`: no object.
     Null,
-    /// An object of the kind that it asked for.
+    /// A call of `new`: an object of the kind that it asked for.
     Granted,
+    /// A call of `swap`: nothing stood on the shelf.
+    Empty,
+    /// A call of `swap`: what stood on the shelf.
+    Shelf,
 }
 
-/// What each call of `new` that a run made was answered, in order. Contracts see it as the list.
+/// What each call of `new` and of `swap` that a run made was told, in order. Contracts see it as the list.
 #[derive(Drop)]
 pub struct Answers {
     pub replies: Vec<Reply>,
@@ -40,6 +44,20 @@ impl Model for Answers {
     ghost view = { λ a. a.replies.items };
 }
 
+/// The bytes of what a run took off shelves, one object after another in the order of its calls. Contracts see it as the list.
+#[derive(Drop)]
+pub struct Taken {
+    pub bytes: Vec<u8>,
+}
+
+impl Model for Taken {
+    ghost use Rattle.std.specs.Prelude.{List, ℕ};
+
+    ghost Value = { List ℕ };
+
+    ghost view = { λ t. t.bytes.items };
+}
+
 /// What a run did until it exited, or until it was given up.
 #[derive(Drop)]
 pub struct Report {
@@ -49,8 +67,10 @@ pub struct Report {
     pub output: Output,
     /// How many instructions it did.
     pub executed: u64,
-    /// What its calls of `new` were answered.
+    /// What its calls of `new` and of `swap` were told.
     pub answers: Answers,
+    /// The bytes of each object that a call of `swap` was told, as they stood on the shelf.
+    pub taken: Taken,
     /// The most objects that it held at one time.
     pub peak: u64,
 }

@@ -5,7 +5,7 @@ ghost use Rattle.vmem_arena.specs.declared.arena.TheConstants.{MAX_PAGES};
 ghost use Rattle.owners_table.specs.Drawing.{fresh};
 
 use crate::jobs::Numbered;
-use ebpf_machine::report::{Answers, Output, Report};
+use ebpf_machine::report::{Answers, Output, Report, Taken};
 use object_cache::ArenaLock;
 use owners_table::tickets::{TicketSeat, Tickets};
 use std::alloc::{AllocError, Global};
@@ -74,6 +74,9 @@ fn blank_reports(alloc: Global, count: usize) -> Result<Vec<Report>, AllocError>
             executed: 0,
             answers: Answers {
                 replies: Vec::new(alloc),
+            },
+            taken: Taken {
+                bytes: Vec::new(alloc),
             },
             peak: 0,
         });

@@ -31,7 +31,7 @@ use Rattle.ebpf_machine.specs.declared.value.Base.TheVariants.{Stack, Context, O
 use Rattle.ebpf_machine.specs.Values.{Frame, TooManyObjects, read}
 use Rattle.ebpf_machine.specs.declared.report.Reply.TheVariants as reply
 use Rattle.ebpf_machine.specs.Effect.{Found, Ask, Free, Goes, effect, with_value, without_arguments, with_zero, with_output, effect_of_new, effect_of_free, effect_of_emit, effect_of_call}
-use Rattle.ebpf_machine.specs.View.{ObjectView, RunView, environment_of_view, object_at, new_object, trapped, replied, acted, CallResult, Null, Granted}
+use Rattle.ebpf_machine.specs.View.{ObjectView, RunView, environment_of_view, object_at, new_object, trapped, replied, acted, CallResult, Null, Granted, Empty, Shelved}
 use Rattle.ebpf_machine.specs.Concretization.{IsOf, AreOf, Arrives, calls_of}
 use Rattle.ebpf_machine.specs.Sound.{FitsValue, IsSound}
 use Rattle.ebpf_machine.proofs.Rules.Operations.{none_first}
@@ -178,6 +178,8 @@ new_next v number s h =
 
     answered : (kind : ℕ) → IsNew v number s kind → (reply : CallResult) → IsSound (acted (Ask kind) reply (v.pc + 1) (without_arguments v.frame) v)
     answered kind new Null = told_null v number s kind new
+    answered kind new Empty = told_null v number s kind new
+    answered kind new (Shelved bytes) = told_null v number s kind new
     answered kind new Granted = is_granted v number s kind new
 
 -- ---- free

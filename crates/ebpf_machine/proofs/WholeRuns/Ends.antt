@@ -1,20 +1,19 @@
 -- The end of a run that exited: its report, and what the store counts then.
-use Rattle.std.proofs.Common.{◌≡◌, ℕ, ◌+◌, ◌≤◌, List, [], ◌++◌, length, Option, Some, sym, ◌∙◌, ap, subst, arith}
+use Rattle.std.proofs.Common.{◌≡◌, ℕ, ◌+◌, ◌≤◌, List, [], length, Option, Some, sym, ◌∙◌, ap, subst, arith}
 use Rattle.std.specs.Prelude.{IfSome}
-use Rattle.std.proofs.lemmas.List.{append-nil}
 use Rattle.ebpf_insn.specs.Program.{instructions}
 use Rattle.ebpf_verify.specs.Subject.{Subject}
 use Rattle.ebpf_machine.specs.declared.report.Reply.{Reply}
 use Rattle.ebpf_machine.specs.declared.report.Report.{Report}
-use Rattle.ebpf_machine.specs.Alone.{outcome_alone, outcome_in_report, replies_from, replies_in}
+use Rattle.ebpf_machine.specs.Alone.{Replies, outcome_alone, outcome_in_report, more_than, replies_from, replies_in, replies_of}
 use Rattle.ebpf_machine.specs.World.{Exited}
 use Rattle.ebpf_machine.specs.View.{RunView}
 use Rattle.ebpf_machine.specs.RunState.{RunState, status_of}
 use Rattle.ebpf_machine.specs.Sound.{IsSound, IsAlone}
 use Rattle.ebpf_machine.specs.Step.{seen_in}
 use Rattle.ebpf_machine.specs.Store.{Store, CountsStay, held_of_kind}
-use Rattle.ebpf_machine.specs.Whole.{IsReportOf, granted, refused}
-use Rattle.ebpf_machine.proofs.World.Lone.{outcome_exited, told_exited}
+use Rattle.ebpf_machine.specs.Whole.{IsReportOf, AreUnshelved, told_alone, granted, refused}
+use Rattle.ebpf_machine.proofs.World.Lone.{none_more, outcome_exited, told_exited}
 use Rattle.ebpf_machine.proofs.WholeRuns.Told.{IsCounted}
 
 -- what is found out where a run ends
@@ -22,23 +21,25 @@ pub record IsFinished {H : Type 0} (t : RunState H) (r : Report) : Type 0 where
   pub exit : r.exit ≡ t.exit
   pub executed : r.executed ≡ t.executed
   pub answers : r.answers ≡ t.replies
+  pub taken : r.taken ≡ t.taken
   pub bounded : r.executed ≤ length (instructions t.subject.program)
   pub declared : r.peak ≤ t.subject.decl.held
   pub alone : IfSome t.exit (λ n. outcome_alone t.subject t.context (replies_in r) ≡ outcome_in_report n r)
 
 -- the report of a run that exited with this number
-pub report_of : {S H : Type 0} (o : Store S H) (s : S) (t : RunState H) (n : ℕ) (r : Report) → t.exit ≡ Some n → IsSound (seen_in o s t) → IsAlone (seen_in o s t) → length t.replies ≤ t.executed → IsFinished t r → IsReportOf t.subject t.context r
-report_of o s t n r exited sound alone few is = record {
+pub report_of : {S H : Type 0} (o : Store S H) (s : S) (t : RunState H) (n : ℕ) (r : Report) → t.exit ≡ Some n → IsSound (seen_in o s t) → IsAlone (seen_in o s t) → length t.replies ≤ t.executed → AreUnshelved (replies_from t.replies t.taken) → IsFinished t r → IsReportOf t.subject t.context r
+report_of o s t n r exited sound alone few unshelved is = record {
   exit = n;
   exited = is.exit ∙ exited;
   same = same;
-  told = rw is.answers (told_exited v n sound alone ended);
+  told = subst (λ (rs : Replies). told_alone t.subject t.context rs ≡ rs) (sym replies) (told_exited v n sound alone ended);
   only = λ more.
-      ap (λ (rs : List Reply). outcome_alone t.subject t.context (replies_from (rs ++ more))) is.answers
+      ap (λ (rs : Replies). outcome_alone t.subject t.context (more_than rs more)) replies
       ∙ outcome_exited v n sound alone ended more
-      ∙ sym (outcome_exited v n sound alone ended [])
-      ∙ ap (λ (rs : List Reply). outcome_alone t.subject t.context (replies_from rs)) (append-nil t.replies ∙ sym is.answers)
+      ∙ sym (outcome_exited v n sound alone ended (replies_from [] []))
+      ∙ ap (outcome_alone t.subject t.context) (none_more (replies_of v) ∙ sym replies)
       ∙ same;
+  unshelved = subst AreUnshelved (sym replies) unshelved;
   few = omega (arith, few, is.executed, ap (λ (rs : List Reply). length rs) is.answers);
   bounded = is.bounded;
   declared = is.declared;
@@ -46,6 +47,9 @@ report_of o s t n r exited sound alone few is = record {
   where
     v : RunView
     v = seen_in o s t
+
+    replies : replies_in r ≡ replies_of v
+    replies = λ i. replies_from (is.answers i) (is.taken i)
 
     ended : v.status ≡ Exited n
     ended = ap status_of exited

@@ -1,5 +1,5 @@
 -- What a store counts is what the run was told.
-use Rattle.std.proofs.Common.{◌≡◌, ℕ, zero, suc, ◌+◌, ◌≤◌, ◌<◌, Bool, cond, List, [], ◌∷◌, ◌++◌, length, get_or, refl, sym, ap, ◌∙◌, arith, inl, inr, ◌⊎◌}
+use Rattle.std.proofs.Common.{◌≡◌, ℕ, zero, suc, ◌+◌, ◌≤◌, ◌<◌, Bool, cond, List, [], ◌∷◌, ◌++◌, length, get_or, refl, sym, ap, ◌∙◌, subst, arith, inl, inr, ◌⊎◌}
 use Rattle.std.specs.Prelude.{count_by}
 use Rattle.std.proofs.lemmas.List.{length_push}
 use Rattle.std.proofs.lemmas.List.Elements.{All-map}
@@ -7,17 +7,19 @@ use Rattle.std.proofs.lemmas.List.Sums.{sum_by-append}
 use Rattle.ebpf_verify.specs.Subject.{Subject}
 use Rattle.ebpf_machine.specs.declared.report.Reply.{Reply}
 use Rattle.ebpf_machine.specs.declared.report.Reply.TheVariants as reply
+use Rattle.ebpf_machine.specs.Alone.{Replies, more_than, replies_from, replies_of}
 use Rattle.ebpf_machine.specs.World.{Kind, Going, kinds_of, image_at}
 use Rattle.ebpf_machine.specs.Events.{Asking, Unasked, OfNoKind, OfKind}
-use Rattle.ebpf_machine.specs.View.{ObjectView, RunView, stepped, reply_in}
+use Rattle.ebpf_machine.specs.View as view
+use Rattle.ebpf_machine.specs.View.{ObjectView, RunView, CallResult, Null, Empty, Shelved, stepped, reply_in}
 use Rattle.ebpf_machine.specs.RunState.{RunState, status_of, object_seen}
 use Rattle.ebpf_machine.specs.Sound.{AreSized, IsSound, IsAlone}
 use Rattle.ebpf_machine.specs.Step.{Served, Idle, Refused, Granted, MayAnswer, IsStepOver, result_of, granted_in, refused_in, asking_in, seen_in}
 use Rattle.ebpf_machine.specs.Store.{Store, AreOut, held_of_kind}
 use Rattle.ebpf_machine.specs.Turns.{IsTurn, AreTurns}
-use Rattle.ebpf_machine.specs.Whole.{is_granted, is_null, granted, refused}
+use Rattle.ebpf_machine.specs.Whole.{is_granted, is_null, is_to_swap, granted, refused, AreUnshelved}
 use Rattle.ebpf_machine.proofs.World.Asking.{AsksNew, next_asks}
-use Rattle.ebpf_machine.proofs.World.Replies.{replies_kept, replies_added}
+use Rattle.ebpf_machine.proofs.World.Replies.{heard_by_new, one_told, replies_kept, replies_added}
 use Rattle.ebpf_machine.proofs.World.Steps.{next_of}
 
 -- a store that had counted g and n has granted and refused since then what the replies say, and each reply was to an instruction
@@ -45,13 +47,13 @@ told_push replies told g n grants nulls executed granted_more refused_more one o
 -- the replies after an instruction that was served so
 after_answer : (asked : Asking) (served : Served) (replies now : List Reply) (g n grants nulls executed at : ℕ) (can_grant : (kind at slot : ℕ) → Type 0) (can_refuse : ℕ → Type 0) →
     MayAnswer can_grant can_refuse at asked served →
-    (asked ≡ Unasked → now ≡ replies) → ((kind : ℕ) → asked ≡ OfKind kind → now ≡ replies ++ reply_in (result_of served) ∷ []) →
+    (asked ≡ Unasked → now ≡ replies) → ((kind : ℕ) → asked ≡ OfKind kind → now ≡ replies ++ reply_in (heard_by_new (result_of served)) ∷ []) →
     AreTold replies g n grants nulls executed → AreTold now g n (grants + granted_in served) (nulls + refused_in served) (executed + 1)
 after_answer Unasked served replies now g n grants nulls executed at can_grant can_refuse may kept added told =
     let none : served ≡ Idle = may in
     rw (none, kept refl) (record { granted_are = omega (arith, told.granted_are); refused_are = omega (arith, told.refused_are); few = omega (arith, told.few) })
 after_answer (OfKind kind) served replies now g n grants nulls executed at can_grant can_refuse may kept added told = by served may (added kind refl) where
-  by : (s : Served) → MayAnswer can_grant can_refuse at (OfKind kind) s → now ≡ replies ++ reply_in (result_of s) ∷ [] → AreTold now g n (grants + granted_in s) (nulls + refused_in s) (executed + 1)
+  by : (s : Served) → MayAnswer can_grant can_refuse at (OfKind kind) s → now ≡ replies ++ reply_in (heard_by_new (result_of s)) ∷ [] → AreTold now g n (grants + granted_in s) (nulls + refused_in s) (executed + 1)
   by (Granted slot) may e = rw e (told_push replies reply.Granted g n grants nulls executed 1 0 refl refl told)
   by Refused may e = rw e (told_push replies reply.Null g n grants nulls executed 0 1 refl refl told)
   by Idle may e = absurd may
@@ -61,20 +63,40 @@ told_next : (v : RunView) (served : Served) (g n grants nulls : ℕ) (can_grant 
     MayAnswer can_grant can_refuse v.pc (asking_in v) served → AreTold v.replies g n grants nulls v.executed →
     AreTold (stepped (result_of served) v).replies g n (grants + granted_in served) (nulls + refused_in served) (v.executed + 1)
 told_next v served g n grants nulls can_grant can_refuse sound sized going may told =
-    after_answer (asking_in v) served v.replies (stepped (result_of served) v).replies g n grants nulls v.executed v.pc can_grant can_refuse may (replies_kept v (result_of served) going) added told
+    after_answer (asking_in v) served v.replies (stepped (result_of served) v).replies g n grants nulls v.executed v.pc can_grant can_refuse may kept added told
   where
+    kept : asking_in v ≡ Unasked → (stepped (result_of served) v).replies ≡ v.replies
+    kept unasked = ap (λ (rs : Replies). rs.answers) (replies_kept v (result_of served) going unasked)
+
     asked_new : (kind : ℕ) → asking_in v ≡ OfKind kind → (asking_in v ≡ Unasked) ⊎ ((k : ℕ) × (asking_in v ≡ OfKind k) × AsksNew v k) → (k : ℕ) × AsksNew v k
     asked_new kind asked (inl unasked) = absurd cc
     asked_new kind asked (inr (k, is, new)) = (k, new)
 
-    added : (kind : ℕ) → asking_in v ≡ OfKind kind → (stepped (result_of served) v).replies ≡ v.replies ++ reply_in (result_of served) ∷ []
-    added kind asked = let new = asked_new kind asked (next_asks v (next_of v sound sized going)) in replies_added v (result_of served) new.0 going new.1
+    added : (kind : ℕ) → asking_in v ≡ OfKind kind → (stepped (result_of served) v).replies ≡ v.replies ++ reply_in (heard_by_new (result_of served)) ∷ []
+    added kind asked = let new = asked_new kind asked (next_asks v (next_of v sound sized going)) in ap (λ (rs : Replies). rs.answers) (replies_added v (result_of served) new.0 going new.1)
+
+-- ---- no call reaches a shelf
+
+unshelved_more : (replies : Replies) (result : CallResult) → AreUnshelved replies → AreUnshelved (more_than replies (one_told result))
+unshelved_more replies result was = (counted_push is_to_swap replies.answers (reply_in (heard_by_new result)) ∙ to_new result, ap (λ (bytes : List ℕ). bytes ++ []) was.1) where
+  to_new : (result : CallResult) → count_by is_to_swap replies.answers + cond (is_to_swap (reply_in (heard_by_new result))) 1 0 ≡ 0
+  to_new Null = omega (arith, was.0)
+  to_new view.Granted = omega (arith, was.0)
+  to_new Empty = omega (arith, was.0)
+  to_new (Shelved bytes) = omega (arith, was.0)
+
+unshelved_next : (v : RunView) (result : CallResult) → IsSound v → AreSized v → v.status ≡ Going → AreUnshelved (replies_of v) → AreUnshelved (replies_of (stepped result v))
+unshelved_next v result sound sized going was = by (next_asks v (next_of v sound sized going)) where
+  by : (asking_in v ≡ Unasked) ⊎ ((kind : ℕ) × (asking_in v ≡ OfKind kind) × AsksNew v kind) → AreUnshelved (replies_of (stepped result v))
+  by (inl unasked) = subst AreUnshelved (sym (replies_kept v result going unasked)) was
+  by (inr (kind, asked, new)) = subst AreUnshelved (sym (replies_added v result kind going new)) (unshelved_more (replies_of v) result was)
 
 -- ---- a run over a store
 
 -- since the first state of the store: it counts what the run was told, and has as many more out as the run holds
 pub record IsCounted {S H : Type 0} (o : Store S H) (first now : S) (r : RunState H) : Type 0 where
   pub told : AreTold r.replies (o.grants first) (o.nulls first) (o.grants now) (o.nulls now) r.executed
+  pub unshelved : AreUnshelved (replies_from r.replies r.taken)
   pub outs : (k : ℕ) → o.outs now k ≡ o.outs first k + held_of_kind r.held k
 
 -- objects that are out have the size of their kind
@@ -111,6 +133,7 @@ counted_turn o first old new subject context r t sizes kinds was turn =
         refused_are = s.2.counts.nulls ∙ next.refused_are ∙ ap (λ (rs : List Reply). o.nulls first + refused rs) (sym replies);
         few = omega (arith, next.few, ap (λ (rs : List Reply). length rs) replies, turn.counted);
       };
+      unshelved = subst AreUnshelved (ap replies_of (sym s.2.state)) (unshelved_next v (result_of s.0) was.sound (sized_out o old r sizes known was.out) now was.counted.unshelved);
       outs = λ k. let before = was.counted.outs k in let counts = s.2.counts.of_kind k in omega (arith, before, counts);
     }
 

@@ -3,7 +3,7 @@ use Rattle.std.proofs.Common.{◌≡◌, ℕ, zero, suc, ◌+◌, ◌-◌, ◌<�
 use Rattle.std.specs.Prelude.{slice_get, nat_le}
 use Rattle.std.specs.List.{list_any}
 use Rattle.std.proofs.lemmas.Bool.{cond_both, false_from_ne_true}
-use Rattle.std.proofs.lemmas.List.{length-map, length_push}
+use Rattle.std.proofs.lemmas.List.{length-map, length_push, append-nil}
 use Rattle.ebpf_insn.specs.Program.{instructions}
 use Rattle.ebpf_insn.proofs.ListLemmas.{slice_get-append_left, slice_get-push}
 use Rattle.ebpf_verify.specs.Subject.{Subject}
@@ -13,8 +13,8 @@ use Rattle.ebpf_machine.specs.declared.report.Reply.TheVariants as reply
 use Rattle.ebpf_machine.specs.Effect.{Nothing, Write, Ask, Free, Effect, Goes, Ends, Traps}
 use Rattle.ebpf_machine.specs.World.{Answer, Absent, Null, Slot, World, Running, AnsweredCall, Status, Going, Exited, Trapped, is_in, is_in_ledger, held_by, holds_of, first_run}
 use Rattle.ebpf_machine.specs.Events.{Asking, Unasked, OfNoKind, OfKind, answer_fault, asking_of, with_slot_joined, exec}
-use Rattle.ebpf_machine.specs.Alone.{Alone, Fed, fed, fed_to, advanced, alone_first, alone_by, alone_next, alone_after, outcome_of, outcome_alone, Replies, replies_from, replies_of}
-use Rattle.ebpf_machine.specs.Whole.{answers_to, answers_in, told_alone}
+use Rattle.ebpf_machine.specs.Alone.{Alone, Fed, fed, fed_to, advanced, alone_first, alone_by, alone_next, alone_after, outcome_of, outcome_alone, Replies, replies_from, replies_of, more_than}
+use Rattle.ebpf_machine.specs.Whole.{told_to, told_alone}
 use Rattle.ebpf_machine.specs.View as view
 use Rattle.ebpf_machine.specs.View.{RunView, object_in, view_of, view_in, done_by, effect_of_view, stepped, CallResult, reply_in}
 use Rattle.ebpf_machine.specs.Step.{reply_of, asking_in}
@@ -22,7 +22,7 @@ use Rattle.ebpf_machine.specs.Sound.{IsOwned, IsSound, IsAlone, IsWellStated}
 use Rattle.ebpf_machine.proofs.World.Asking.{AsksNew, next_asks, asking_seen}
 use Rattle.ebpf_machine.proofs.World.Owned.{owned_first}
 use Rattle.ebpf_machine.proofs.World.NewSlots.{IsNew, joined_home, joined_in, joined_cases, owned_joined, view_joined}
-use Rattle.ebpf_machine.proofs.World.Replies.{stepped_going, stepped_any, replies_kept, replies_added}
+use Rattle.ebpf_machine.proofs.World.Replies.{heard_by_new, one_told, stepped_going, stepped_any, stepped_heard, replies_kept, replies_added}
 use Rattle.ebpf_machine.proofs.World.Steps.{next_of, sound_stepped, bounded, first_sound}
 use Rattle.ebpf_machine.proofs.World.Execs.{kinds_alike, next_world, sized_in, shown_run}
 
@@ -40,6 +40,8 @@ one_by v reply (Goes Nothing to after) = record { subject = refl; context = refl
 one_by v reply (Goes (Write name at bytes) to after) = record { subject = refl; context = refl; executed = refl }
 one_by v reply (Goes (Free name) to after) = record { subject = refl; context = refl; executed = refl }
 one_by v view.Null (Goes (Ask kind) to after) = record { subject = refl; context = refl; executed = refl }
+one_by v view.Empty (Goes (Ask kind) to after) = record { subject = refl; context = refl; executed = refl }
+one_by v (view.Shelved bytes) (Goes (Ask kind) to after) = record { subject = refl; context = refl; executed = refl }
 one_by v view.Granted (Goes (Ask kind) to after) =
     cond_both (nat_le v.subject.decl.held (length v.objects)) _ _ (IsOneOn v) (λ e. record { subject = refl; context = refl; executed = refl }) (λ e. record { subject = refl; context = refl; executed = refl })
 
@@ -71,14 +73,14 @@ abbrev used : Option Reply → CallResult
 used None = view.Null
 used (Some reply.Null) = view.Null
 used (Some reply.Granted) = view.Granted
+used (Some reply.Empty) = view.Null
+used (Some reply.Shelf) = view.Null
 
-used_kept : (told : CallResult) → used (Some (reply_in told)) ≡ told
+used_kept : (told : CallResult) → used (Some (reply_in (heard_by_new told))) ≡ heard_by_new told
 used_kept view.Null = refl
 used_kept view.Granted = refl
-
--- replies with more behind them
-abbrev pub more_than : Replies → List Reply → Replies
-more_than replies more = replies_from (replies.answers ++ more)
+used_kept view.Empty = refl
+used_kept (view.Shelved bytes) = refl
 
 -- the world before the instruction, and the answer, where the run is to be told this reply
 record IsFed (w : World) (r : Running) (told : CallResult) (f : Fed) : Type 0 where
@@ -93,7 +95,7 @@ fed_nothing : (a : Alone) (h : IsLone a) (told : CallResult) → h.run.status �
 fed_nothing a h told going unasked =
     let v = view_of a.world 0 h.run in
     let asked : asking_in v ≡ Unasked = sym (asking_seen a.world 0 h.run h.owned (there_is a h)) ∙ unasked in
-    let kept : length (stepped told v).replies ≡ length h.run.calls = ap (λ (rs : List Reply). length rs) (replies_kept v told going asked) ∙ length-map h.run.calls _ in
+    let kept : length (stepped told v).replies ≡ length h.run.calls = ap (λ (rs : Replies). length rs.answers) (replies_kept v told going asked) ∙ length-map h.run.calls _ in
     record {
       owned = h.owned;
       runs = refl;
@@ -107,7 +109,7 @@ fed_nothing a h told going unasked =
 one_more : (a : Alone) (h : IsLone a) (told : CallResult) (kind : ℕ) → h.run.status ≡ Going → AsksNew (view_of a.world 0 h.run) kind → length (stepped told (view_of a.world 0 h.run)).replies ≡ length h.run.calls + 1
 one_more a h told kind going new =
     let v = view_of a.world 0 h.run in
-    ap (λ (rs : List Reply). length rs) (replies_added v told kind going new) ∙ length_push v.replies (reply_in told) ∙ ap (λ (n : ℕ). n + 1) (length-map h.run.calls (λ (t : AnsweredCall). t.reply))
+    ap (λ (rs : Replies). length rs.answers) (replies_added v told kind going new) ∙ length_push v.replies (reply_in (heard_by_new told)) ∙ ap (λ (n : ℕ). n + 1) (length-map h.run.calls (λ (t : AnsweredCall). t.reply))
 
 fed_null : (a : Alone) (h : IsLone a) (kind : ℕ) → h.run.status ≡ Going → asking_of a.world h.run ≡ OfKind kind → AsksNew (view_of a.world 0 h.run) kind → IsFed a.world h.run view.Null (record { world = a.world; answer = Null })
 fed_null a h kind going asked new = record {
@@ -158,6 +160,8 @@ fed_is a replies h going = by (asks a h going) (slice_get replies.answers i) whe
   by : (asking_of a.world h.run ≡ Unasked) ⊎ ((kind : ℕ) × (asking_of a.world h.run ≡ OfKind kind) × AsksNew (view_of a.world 0 h.run) kind) → (o : Option Reply) → IsFed a.world h.run (used o) (fed (asking_of a.world h.run) o i a.world)
   by (inl unasked) o = subst (λ (asking : Asking). IsFed a.world h.run (used o) (fed asking o i a.world)) (sym unasked) (fed_nothing a h (used o) going unasked)
   by (inr (kind, asked, new)) None = subst (λ (asking : Asking). IsFed a.world h.run view.Null (fed asking None i a.world)) (sym asked) (fed_null a h kind going asked new)
+  by (inr (kind, asked, new)) (Some reply.Empty) = subst (λ (asking : Asking). IsFed a.world h.run view.Null (fed asking (Some reply.Empty) i a.world)) (sym asked) (fed_null a h kind going asked new)
+  by (inr (kind, asked, new)) (Some reply.Shelf) = subst (λ (asking : Asking). IsFed a.world h.run view.Null (fed asking (Some reply.Shelf) i a.world)) (sym asked) (fed_null a h kind going asked new)
   by (inr (kind, asked, new)) (Some reply.Null) = subst (λ (asking : Asking). IsFed a.world h.run view.Null (fed asking (Some reply.Null) i a.world)) (sym asked) (fed_null a h kind going asked new)
   by (inr (kind, asked, new)) (Some reply.Granted) = subst (λ (asking : Asking). IsFed a.world h.run view.Granted (fed asking (Some reply.Granted) i a.world)) (sym asked) (fed_slot a h kind going asked new)
 
@@ -207,6 +211,8 @@ fed_runs Unasked told i w = refl
 fed_runs OfNoKind told i w = refl
 fed_runs (OfKind kind) None i w = refl
 fed_runs (OfKind kind) (Some reply.Null) i w = refl
+fed_runs (OfKind kind) (Some reply.Empty) i w = refl
+fed_runs (OfKind kind) (Some reply.Shelf) i w = refl
 fed_runs (OfKind kind) (Some reply.Granted) i w = refl
 
 ended_stays : (w : World) (answer : Answer) (r : Running) (n : ℕ) (a : Alone) → slice_get w.runs 0 ≡ Some r → r.status ≡ Exited n → advanced (exec w 0 answer) a ≡ a
@@ -255,6 +261,9 @@ after_none subject context replies = refl
 
 -- ---- replies that are not read
 
+pub none_more : (replies : Replies) → more_than replies (replies_from [] []) ≡ replies
+none_more replies = λ i. replies_from (append-nil replies.answers i) (append-nil replies.taken i)
+
 abbrev told_in : Option Running → ℕ
 told_in None = 0
 told_in (Some r) = length r.calls
@@ -284,7 +293,7 @@ fed_unasked : (asked : Asking) (o other : Option Reply) (i : ℕ) (w : World) �
 fed_unasked asked o other i w unasked = rw unasked refl
 
 -- replies behind those that it was told are not read
-unread_next : (a : Alone) (replies : Replies) (more : List Reply) (h : IsLone a) → h.run.status ≡ Going → told_of (alone_next replies a) ≤ length replies.answers → (told_of a ≤ length replies.answers) × (alone_next (more_than replies more) a ≡ alone_next replies a)
+unread_next : (a : Alone) (replies more : Replies) (h : IsLone a) → h.run.status ≡ Going → told_of (alone_next replies a) ≤ length replies.answers → (told_of a ≤ length replies.answers) × (alone_next (more_than replies more) a ≡ alone_next replies a)
 unread_next a replies more h going fits = by (asks a h going) where
   i : ℕ
   i = length h.run.calls
@@ -294,13 +303,13 @@ unread_next a replies more h going fits = by (asks a h going) where
       let v = view_of a.world 0 h.run in
       let asked : asking_in v ≡ Unasked = sym (asking_seen a.world 0 h.run h.owned (there_is a h)) ∙ unasked in
       let kept = replies_kept v (used (slice_get replies.answers i)) going asked in
-      (omega (arith, fits, told_is a h, told_next a replies h going, ap (λ (rs : List Reply). length rs) kept, length-map h.run.calls (λ (t : AnsweredCall). t.reply)), fed_alike a h (more_than replies more) replies (fed_unasked (asking_of a.world h.run) (slice_get (replies.answers ++ more) i) (slice_get replies.answers i) i a.world unasked))
+      (omega (arith, fits, told_is a h, told_next a replies h going, ap (λ (rs : Replies). length rs.answers) kept, length-map h.run.calls (λ (t : AnsweredCall). t.reply)), fed_alike a h (more_than replies more) replies (fed_unasked (asking_of a.world h.run) (slice_get (replies.answers ++ more.answers) i) (slice_get replies.answers i) i a.world unasked))
   by (inr (kind, asked, new)) =
       let grown = one_more a h (used (slice_get replies.answers i)) kind going new in
       let before : i < length replies.answers = omega (arith, fits, told_next a replies h going, grown) in
-      (omega (arith, before, told_is a h), fed_alike a h (more_than replies more) replies (ap (λ (o : Option Reply). fed (asking_of a.world h.run) o i a.world) (slice_get-append_left replies.answers more i reply.Null before)))
+      (omega (arith, before, told_is a h), fed_alike a h (more_than replies more) replies (ap (λ (o : Option Reply). fed (asking_of a.world h.run) o i a.world) (slice_get-append_left replies.answers more.answers i reply.Null before)))
 
-after_unread : (n : ℕ) (subject : Subject) (context : List ℕ) (replies : Replies) (more : List Reply) → IsAccepted subject → length context ≡ subject.decl.context → told_of (alone_after n subject context replies) ≤ length replies.answers
+after_unread : (n : ℕ) (subject : Subject) (context : List ℕ) (replies more : Replies) → IsAccepted subject → length context ≡ subject.decl.context → told_of (alone_after n subject context replies) ≤ length replies.answers
     → alone_after n subject context (more_than replies more) ≡ alone_after n subject context replies
 unfolding alone_after
 after_unread zero subject context replies more accepted long fits = refl
@@ -364,17 +373,17 @@ stepped_alone v told sound alone going = by (asks a h.lone now) where
   -- the replies are those of the run, and one more
   added : (kind : ℕ) → AsksNew v kind → (world : World) × IsSteppedAlone v told world
   added kind new =
-      let replies = replies_from (v.replies ++ reply_in told ∷ []) in
+      let replies = more_than (replies_of v) (one_told told) in
       let n = next_alone a replies h.lone now in
       let fits : told_of a ≤ length v.replies = omega (arith, all_told v alone) in
-      let last : slice_get replies.answers i ≡ Some (reply_in told) = slice_get-push v.replies (reply_in told) i (sym (all_told v alone) ∙ told_is a h.lone) in (
+      let last : slice_get replies.answers i ≡ Some (reply_in (heard_by_new told)) = slice_get-push v.replies (reply_in (heard_by_new told)) i (sym (all_told v alone) ∙ told_is a h.lone) in (
         n.0,
         record {
-          is = ap (λ (rs : List Reply). alone_after (v.executed + 1) v.subject v.context (replies_from rs)) (replies_added v told kind going new)
+          is = ap (alone_after (v.executed + 1) v.subject v.context) (replies_added v told kind going new)
               ∙ after_more v.executed v.subject v.context replies
-              ∙ ap (alone_next replies) (after_unread v.executed v.subject v.context (replies_of v) (reply_in told ∷ []) sound.accepted sound.context fits)
+              ∙ ap (alone_next replies) (after_unread v.executed v.subject v.context (replies_of v) (one_told told) sound.accepted sound.context fits)
               ∙ n.1.is;
-          seen = n.1.seen ∙ ap (λ (u : RunView). Some (stepped (used (slice_get replies.answers i)) u)) h.seen ∙ ap (λ (o : Option Reply). Some (stepped (used o) v)) last ∙ ap (λ (r : CallResult). Some (stepped r v)) (used_kept told);
+          seen = n.1.seen ∙ ap (λ (u : RunView). Some (stepped (used (slice_get replies.answers i)) u)) h.seen ∙ ap (λ (o : Option Reply). Some (stepped (used o) v)) last ∙ ap (λ (r : CallResult). Some (stepped r v)) (used_kept told) ∙ ap Some (stepped_heard v told kind going new);
         },
       )
 
@@ -383,7 +392,7 @@ stepped_alone v told sound alone going = by (asks a h.lone now) where
       let n = next_alone a (replies_of v) h.lone now in (
         n.0,
         record {
-          is = ap (λ (rs : List Reply). alone_after (v.executed + 1) v.subject v.context (replies_from rs)) (replies_kept v told going unasked) ∙ after_more v.executed v.subject v.context (replies_of v) ∙ n.1.is;
+          is = ap (alone_after (v.executed + 1) v.subject v.context) (replies_kept v told going unasked) ∙ after_more v.executed v.subject v.context (replies_of v) ∙ n.1.is;
           seen = n.1.seen ∙ ap (λ (u : RunView). Some (stepped (used (slice_get v.replies i)) u)) h.seen ∙ ap Some (stepped_any v (used (slice_get v.replies i)) told going unasked);
         },
       )
@@ -430,7 +439,7 @@ exited_after v n sound alone ended =
     ap (λ (m : ℕ). alone_after m v.subject v.context (replies_of v)) all ∙ ended_after rest v.executed v.subject v.context (replies_of v) h.lone n (alone_status v h (Exited n) ended)
 
 -- the outcome of the run alone is that of a run that exited, whatever replies are behind those that it was told
-pub outcome_exited : (v : RunView) (n : ℕ) → IsSound v → IsAlone v → v.status ≡ Exited n → (more : List Reply)
+pub outcome_exited : (v : RunView) (n : ℕ) → IsSound v → IsAlone v → v.status ≡ Exited n → (more : Replies)
     → outcome_alone v.subject v.context (more_than (replies_of v) more) ≡ record { status = Exited n; output = v.frame.output; executed = v.executed; peak = (alone_after v.executed v.subject v.context (replies_of v)).peak }
 outcome_exited v n sound alone ended more =
     let h = seen_alone v sound alone in
@@ -447,7 +456,7 @@ outcome_exited v n sound alone ended more =
         rw (only, status, output, executed) refl
 
 -- it was told just the replies of that run
-pub told_exited : (v : RunView) (n : ℕ) → IsSound v → IsAlone v → v.status ≡ Exited n → told_alone v.subject v.context (replies_of v) ≡ v.replies
+pub told_exited : (v : RunView) (n : ℕ) → IsSound v → IsAlone v → v.status ≡ Exited n → told_alone v.subject v.context (replies_of v) ≡ replies_of v
 told_exited v n sound alone ended =
     let h = seen_alone v sound alone in
-    ap answers_in (exited_after v n sound alone ended) ∙ ap answers_to (there_is (alone_after v.executed v.subject v.context (replies_of v)) h.lone) ∙ ap (λ (u : RunView). u.replies) h.seen
+    ap (λ (a : Alone). told_to (slice_get a.world.runs 0)) (exited_after v n sound alone ended) ∙ ap told_to (there_is (alone_after v.executed v.subject v.context (replies_of v)) h.lone) ∙ ap replies_of h.seen

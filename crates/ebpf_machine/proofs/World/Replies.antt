@@ -1,12 +1,16 @@
 -- The replies that a run was told: an instruction that asks for an object adds its own, and no other instruction reads or adds one.
-use Rattle.std.proofs.Common.{◌≡◌, ℕ, ◌<◌, false, [], ◌∷◌, ◌++◌, length, refl, sym, ap, ◌∙◌, arith}
+use Rattle.std.proofs.Common.{◌≡◌, ℕ, ◌<◌, false, List, [], ◌∷◌, ◌++◌, length, refl, sym, ap, ◌∙◌, arith}
 use Rattle.std.specs.Prelude.{nat_le}
 use Rattle.std.proofs.lemmas.Bool.Decides.{nat_tests}
+use Rattle.std.proofs.lemmas.List.{append-nil}
 use Rattle.ebpf_insn.specs.Program.{insn_at}
+use Rattle.ebpf_machine.specs.declared.report.Reply.{Reply}
+use Rattle.ebpf_machine.specs.declared.report.Reply.TheVariants as reply
 use Rattle.ebpf_machine.specs.Effect.{Nothing, Write, Ask, Free, Effect, Goes, Ends, Traps}
 use Rattle.ebpf_machine.specs.World.{Status, Going}
 use Rattle.ebpf_machine.specs.Events.{Unasked}
-use Rattle.ebpf_machine.specs.View.{RunView, environment_of_view, done_by, effect_of_view, stepped_from, stepped, answered, CallResult, Null, Granted, reply_in}
+use Rattle.ebpf_machine.specs.Alone.{Replies, replies_from, replies_of, more_than}
+use Rattle.ebpf_machine.specs.View.{RunView, environment_of_view, done_by, effect_of_view, stepped_from, stepped, answered, CallResult, Null, Granted, Empty, Shelved, reply_in}
 use Rattle.ebpf_machine.specs.Step.{asking_in}
 use Rattle.ebpf_machine.proofs.World.Asking.{AsksNew, asked_goes}
 
@@ -18,7 +22,7 @@ stepped_going v result going = ap (λ (s : Status). stepped_from s result v) goi
 -- what it does, whatever the result, and it leaves the replies as they are
 record IsDeaf (v : RunView) (e : Effect ℕ) : Type 0 where
   same : (result other : CallResult) → done_by e result v ≡ done_by e other v
-  replies : (result : CallResult) → (done_by e result v).replies ≡ v.replies
+  replies : (result : CallResult) → replies_of (done_by e result v) ≡ replies_of v
 
 deaf : (v : RunView) (e : Effect ℕ) → effect_of_view v ≡ e → asking_in v ≡ Unasked → IsDeaf v e
 deaf v (Ends n) is unasked = record { same = λ result other. refl; replies = λ result. refl }
@@ -31,16 +35,43 @@ deaf v (Goes (Ask kind) to after) is unasked = let asked = asked_goes (insn_at v
 pub stepped_any : (v : RunView) (result other : CallResult) → v.status ≡ Going → asking_in v ≡ Unasked → stepped result v ≡ stepped other v
 stepped_any v result other going unasked = stepped_going v result going ∙ (deaf v (effect_of_view v) refl unasked).same result other ∙ sym (stepped_going v other going)
 
-pub replies_kept : (v : RunView) (result : CallResult) → v.status ≡ Going → asking_in v ≡ Unasked → (stepped result v).replies ≡ v.replies
-replies_kept v result going unasked = ap (λ (u : RunView). u.replies) (stepped_going v result going) ∙ (deaf v (effect_of_view v) refl unasked).replies result
+pub replies_kept : (v : RunView) (result : CallResult) → v.status ≡ Going → asking_in v ≡ Unasked → replies_of (stepped result v) ≡ replies_of v
+replies_kept v result going unasked = ap replies_of (stepped_going v result going) ∙ (deaf v (effect_of_view v) refl unasked).replies result
 
 -- ---- an instruction that asks for an object
 
-pub replies_added : (v : RunView) (result : CallResult) (kind : ℕ) → v.status ≡ Going → AsksNew v kind → (stepped result v).replies ≡ v.replies ++ reply_in result ∷ []
-replies_added v result kind going new = ap (λ (u : RunView). u.replies) (stepped_going v result going ∙ ap (λ (e : Effect ℕ). done_by e result v) new.does) ∙ told result where
+-- what a call of new makes of what it is told
+abbrev pub heard_by_new : CallResult → CallResult
+heard_by_new Granted = Granted
+heard_by_new Null = Null
+heard_by_new Empty = Null
+heard_by_new (Shelved bytes) = Null
+
+pub stepped_heard : (v : RunView) (result : CallResult) (kind : ℕ) → v.status ≡ Going → AsksNew v kind → stepped (heard_by_new result) v ≡ stepped result v
+stepped_heard v result kind going new = does (heard_by_new result) ∙ heard result ∙ sym (does result) where
+  does : (r : CallResult) → stepped r v ≡ answered r new.to new.after kind v
+  does r = stepped_going v r going ∙ ap (λ (e : Effect ℕ). done_by e r v) new.does
+
+  heard : (r : CallResult) → answered (heard_by_new r) new.to new.after kind v ≡ answered r new.to new.after kind v
+  heard Granted = refl
+  heard Null = refl
+  heard Empty = refl
+  heard (Shelved bytes) = refl
+
+-- a reply that is told to new
+abbrev pub one_told : CallResult → Replies
+one_told result = replies_from (reply_in (heard_by_new result) ∷ []) []
+
+pub replies_added : (v : RunView) (result : CallResult) (kind : ℕ) → v.status ≡ Going → AsksNew v kind → replies_of (stepped result v) ≡ more_than (replies_of v) (one_told result)
+replies_added v result kind going new = ap replies_of (stepped_going v result going ∙ ap (λ (e : Effect ℕ). done_by e result v) new.does) ∙ told result where
+  nothing_taken : (answers : List Reply) → replies_from answers v.taken ≡ replies_from answers (v.taken ++ [])
+  nothing_taken answers = ap (replies_from answers) (sym (append-nil v.taken))
+
   few : (declared held : ℕ) → held < declared → nat_le declared held ≡ false
   few declared held lt = grind (arith, nat_tests)
 
-  told : (result : CallResult) → (answered result new.to new.after kind v).replies ≡ v.replies ++ reply_in result ∷ []
-  told Null = refl
-  told Granted = let room = few v.subject.decl.held (length v.objects) new.room in rw room refl
+  told : (result : CallResult) → replies_of (answered result new.to new.after kind v) ≡ more_than (replies_of v) (one_told result)
+  told Null = nothing_taken (v.replies ++ reply.Null ∷ [])
+  told Empty = nothing_taken (v.replies ++ reply.Null ∷ [])
+  told (Shelved bytes) = nothing_taken (v.replies ++ reply.Null ∷ [])
+  told Granted = let room = few v.subject.decl.held (length v.objects) new.room in rw room (nothing_taken (v.replies ++ reply.Granted ∷ []))
