@@ -9,11 +9,12 @@ use Rattle.ebpf_machine.specs.Events.{Illegal, NoSuchRun, RunEnded, Asking, answ
 use Rattle.ebpf_machine.specs.Kinds.{known_kinds}
 use Rattle.ebpf_machine.specs.View.{ObjectView, RunView, view_of, view_in, slots_in, effect_of_view}
 use Rattle.ebpf_machine.specs.RunState.{RunState, object_seen, status_of}
-use Rattle.ebpf_machine.specs.Step.{MayAnswer, asking_in, wanted, Served, Idle, Refused, Granted, answer_for, served_by}
+use Rattle.ebpf_machine.specs.Step.{MayAnswer, asking_in, wanted, Served, Idle, Refused, Granted, Empty, Fetched, answer_for, served_by, served_in}
 use Rattle.ebpf_machine.specs.Advance.{slots_after}
 use Rattle.ebpf_machine.specs.Sound.{AreSized, IsSound}
 use Rattle.ebpf_machine.proofs.Lists.ListLemmas.{get_set_same, get_set_other}
-use Rattle.ebpf_machine.proofs.World.Execs.{IsNextWorld, next_world}
+use Rattle.ebpf_machine.proofs.World.Asking.{asking_seen}
+use Rattle.ebpf_machine.proofs.World.Execs.{IsNextWorld, served_to, next_world, may_serve}
 use Rattle.ebpf_core.specs.declared.event.Answer.{Answer}
 use Rattle.ebpf_core.specs.declared.event.Answer.TheVariants.{Absent, Null, Slot}
 use Rattle.ebpf_core.specs.declared.fault.ApplyCode.{ApplyCode}
@@ -52,12 +53,16 @@ answer_given places Absent (Some kind) pc given theirs fine may = absurd (cc)
 answer_given places Null None pc given theirs fine may = absurd (cc)
 answer_given places Null (Some kind) pc Idle theirs fine may = absurd may
 answer_given places Null (Some kind) pc Refused theirs fine may = refl
+answer_given places Null (Some kind) pc Empty theirs fine may = absurd may
+answer_given places Null (Some kind) pc (Fetched other bytes) theirs fine may = absurd may
 answer_given places Null (Some kind) pc (Granted slot) theirs fine may = absurd may
 answer_given places (Slot slot) wants pc given theirs fine may = by_place (place_at places slot) wants refl fine may where
   of_kind : (o : Object) (kind : ℕ) (given : Served) (t : Bool) → (o.kind == kind) ≡ t → place_at places slot ≡ Some (Home o) → cond t None (Some E4) ≡ None → MayAnswer (Lends (Some o)) (LendsNone (Some o)) pc (asked_as (Some kind)) given → given ≡ Granted slot
   of_kind o kind given false is at fine may = absurd (cc)
   of_kind o kind Idle true is at fine may = absurd may
   of_kind o kind Refused true is at fine may = absurd (cc)
+  of_kind o kind Empty true is at fine may = absurd may
+  of_kind o kind (Fetched other bytes) true is at fine may = absurd may
   of_kind o kind (Granted s) true is at fine may = ap Granted (sym may.1 ∙ theirs slot o at)
 
   by_place : (p : Option Place) (wants : Option ℕ) → place_at places slot ≡ p → slot_code p wants ≡ None → MayAnswer (Lends (object_home p)) (LendsNone (object_home p)) pc (asked_as wants) given → given ≡ Granted slot
@@ -181,17 +186,31 @@ executed_after w kept k answer r t freed h i = record { after = after; legal = n
   after : World
   after = next.0
 
+  -- the world serves what the store answered
+  serves : served_in w (asking_in (run_seen r)) (answer_for i.step.served) ≡ i.step.served
+  serves = may_serve w (Lends (lent_by answer kept.places)) (LendsNone (lent_by answer kept.places)) r.pc (asking_in (run_seen r)) i.step.served i.step.may
+
+  given : i.step.served ≡ served_by (answer_of answer)
+  given = answered kept k answer r t freed i
+
+  -- which is what the answer serves
+  served : served_to w here.run (answer_of answer) ≡ served_by (answer_of answer)
+  served =
+      ap (λ (asked : Asking). served_in w asked (answer_of answer)) (asking_seen w k here.run h.owned here.there ∙ ap asking_in here.seen)
+      ∙ ap (served_in w (asking_in (run_seen r))) (sym (ap answer_for given ∙ answer_back (answer_of answer)))
+      ∙ serves
+      ∙ given
+
   -- what the step says of the world that is shown
   event : (view_in after k ≡ Some (run_seen t)) × (slots_in after k ≡ slots_of t)
   event =
       let view : view_in w k ≡ Some (run_seen r) = h.views k ∙ ap (option_map run_seen) i.at in
-      let given = answered kept k answer r t freed i in
-      i.step.event w after k h.owned view (h.slots k r i.at) (ap (λ (served : Served). exec w k (answer_for served)) given ∙ ap (exec w k) (answer_back (answer_of answer)) ∙ next.1.legal)
+      i.step.event w after k h.owned view (h.slots k r i.at) serves (ap (λ (served : Served). exec w k (answer_for served)) given ∙ ap (exec w k) (answer_back (answer_of answer)) ∙ next.1.legal)
 
   slots : slots_of t ≡ slots_after (effect_of_view (run_seen r)) (served_by (answer_of answer)) r.subject.decl.held r.pc (slots_of r)
   slots =
       let subject = ap (λ (v : RunView). slots_after (effect_of_view v) (served_by (answer_of answer)) v.subject.decl.held v.pc (slots_in w k)) here.seen in
-      sym event.1 ∙ next.1.slots ∙ subject ∙ ap (slots_after (effect_of_view (run_seen r)) (served_by (answer_of answer)) r.subject.decl.held r.pc) (h.slots k r i.at)
+      sym event.1 ∙ next.1.slots ∙ ap (λ (s : Served). slots_after (effect_of_view (view_of w k here.run)) s here.run.subject.decl.held here.run.pc (slots_in w k)) served ∙ subject ∙ ap (slots_after (effect_of_view (run_seen r)) (served_by (answer_of answer)) r.subject.decl.held r.pc) (h.slots k r i.at)
 
   runs : List (RunState Object)
   runs = slice_set kept.runs k t

@@ -14,7 +14,7 @@ use Rattle.ebpf_machine.specs.Events.{Illegal, Asking, answer_fault, started}
 use Rattle.ebpf_machine.specs.Alone.{Outcome, outcome_alone, replies_from}
 use Rattle.ebpf_machine.specs.View.{ObjectView, RunView, object_in, view_of, view_in, stepped}
 use Rattle.ebpf_machine.specs.RunState.{first_state_of}
-use Rattle.ebpf_machine.specs.Step.{reply_of, asking_in}
+use Rattle.ebpf_machine.specs.Step.{Served, result_of, served_in, asking_in}
 use Rattle.ebpf_machine.specs.Sound.{IsSound, IsAlone, IsOwned, IsWellStated, AreSized}
 use Rattle.ebpf_machine.proofs.World.Asking.{asking_seen}
 use Rattle.ebpf_machine.proofs.World.Owned.{owned_empty}
@@ -109,10 +109,10 @@ started_own w events s context bytes program run accepted long h there =
 
 -- ---- a run does an instruction
 
-own_next : (w : World) (v : RunView) (answers : List Reply) (answer : Answer) → IsOwn v answers → AreSized v → v.status ≡ Going → answer_fault w (asking_in v) (answer_of answer) ≡ None → IsOwn (stepped (reply_of (answer_of answer)) v) (answers ++ reply_by answer)
+own_next : (w : World) (v : RunView) (answers : List Reply) (answer : Answer) → IsOwn v answers → AreSized v → v.status ≡ Going → answer_fault w (asking_in v) (answer_of answer) ≡ None → IsOwn (stepped (result_of (served_in w (asking_in v) (answer_of answer))) v) (answers ++ reply_by answer)
 own_next w v answers answer own sized going fine = record {
-  sound = sound_stepped v (reply_of (answer_of answer)) own.sound sized going;
-  alone = alone_stepped v (reply_of (answer_of answer)) own.sound own.alone going;
+  sound = sound_stepped v (result_of (served_in w (asking_in v) (answer_of answer))) own.sound sized going;
+  alone = alone_stepped v (result_of (served_in w (asking_in v) (answer_of answer))) own.sound own.alone going;
   told = told_next w v answer own.sound sized going fine ∙ ap (λ (rs : List Reply). rs ++ reply_by answer) own.told;
 }
 
@@ -120,11 +120,13 @@ stepped_own : (w v : World) (events : List Event) (number : ℕ) (answer : Answe
 stepped_own w v events number answer run h exec there =
     let u = view_of w number exec.r in
     let seen : view_in v number ≡ Some (view_of v number run) = rw there refl in
-    let fine = subst (λ (asked : Asking). answer_fault w asked (answer_of answer) ≡ None) (asking_seen w number exec.r h.owned exec.there) exec.fine in
+    let asks = asking_seen w number exec.r h.owned exec.there in
+    let fine = subst (λ (asked : Asking). answer_fault w asked (answer_of answer) ≡ None) asks exec.fine in
+    let served = ap (λ (asked : Asking). Some (stepped (result_of (served_in w asked (answer_of answer))) u)) asks in
     let next = own_next w u (answers_to number events) answer (h.runs number exec.r exec.there) (sized_in w number exec.r h.owned exec.there) exec.going fine in
     let answers : answers_to number events ++ reply_by answer ≡ answers_to number (events ++ Exec number answer ∷ []) =
     ap (λ (more : List Reply). answers_to number events ++ more) (sym (answer_own number answer)) ∙ sym (answers_more number events (Exec number answer)) in
-    subst (IsOwn (view_of v number run)) answers (subst (λ (x : RunView). IsOwn x (answers_to number events ++ reply_by answer)) (same_of _ _ _ exec.next.seen seen) next)
+    subst (IsOwn (view_of v number run)) answers (subst (λ (x : RunView). IsOwn x (answers_to number events ++ reply_by answer)) (same_of _ _ _ (exec.next.seen ∙ served) seen) next)
 
 -- ---- every event
 

@@ -8,7 +8,7 @@ use Rattle.ebpf_machine.specs.World as world
 use Rattle.ebpf_machine.specs.Alone.{Replies}
 use Rattle.ebpf_machine.specs.Events.{SlotNotHome, SlotOfAnotherKind, AnswerUnasked, AnswerMissing, Asking, Unasked, OfKind, is_asked, is_answer, is_away, is_of_another_kind, answer_fault, asking_of}
 use Rattle.ebpf_machine.specs.View.{RunView, view_of, stepped}
-use Rattle.ebpf_machine.specs.Step.{reply_of, asking_in, wanted}
+use Rattle.ebpf_machine.specs.Step.{result_of, served_in, asking_in, wanted}
 use Rattle.ebpf_machine.specs.Sound.{AreSized, IsSound, IsOwned}
 use Rattle.ebpf_machine.proofs.World.Asking.{AsksNew, asking_seen, next_asks, asked_next}
 use Rattle.ebpf_machine.proofs.World.Execs.{sized_in}
@@ -97,12 +97,12 @@ asked_fits w asked answer fine = by (is_away w answer) (is_of_another_kind w ask
   by false false false true fine = absurd (cc)
 
 -- a run is told just what a legal answer brings
-pub told_next : (w : World) (v : RunView) (answer : Answer) → IsSound v → AreSized v → v.status ≡ Going → answer_fault w (asking_in v) (answer_of answer) ≡ None → (stepped (reply_of (answer_of answer)) v).replies ≡ v.replies ++ reply_by answer
+pub told_next : (w : World) (v : RunView) (answer : Answer) → IsSound v → AreSized v → v.status ≡ Going → answer_fault w (asking_in v) (answer_of answer) ≡ None → (stepped (result_of (served_in w (asking_in v) (answer_of answer))) v).replies ≡ v.replies ++ reply_by answer
 told_next w v answer sound sized going fine = by (next_asks v (next_of v sound sized going)) answer (asked_fits w (asking_in v) (answer_of answer) fine) where
-  by : (asking_in v ≡ Unasked) ⊎ ((kind : ℕ) × (asking_in v ≡ OfKind kind) × AsksNew v kind) → (given : Answer) → is_asked (asking_in v) ≡ is_answer (answer_of given) → (stepped (reply_of (answer_of given)) v).replies ≡ v.replies ++ reply_by given
+  by : (asking_in v ≡ Unasked) ⊎ ((kind : ℕ) × (asking_in v ≡ OfKind kind) × AsksNew v kind) → (given : Answer) → is_asked (asking_in v) ≡ is_answer (answer_of given) → (stepped (result_of (served_in w (asking_in v) (answer_of given))) v).replies ≡ v.replies ++ reply_by given
   by (inl unasked) Absent fits = ap (λ (rs : Replies). rs.answers) (replies_kept v _ going unasked) ∙ sym (append-nil v.replies)
   by (inl unasked) Null fits = let bad = ap is_asked unasked in absurd (cc)
   by (inl unasked) (Slot slot) fits = let bad = ap is_asked unasked in absurd (cc)
   by (inr (kind, asked, new)) Absent fits = let bad = ap is_asked asked in absurd (cc)
-  by (inr (kind, asked, new)) Null fits = ap (λ (rs : Replies). rs.answers) (replies_added v _ kind going new)
-  by (inr (kind, asked, new)) (Slot slot) fits = ap (λ (rs : Replies). rs.answers) (replies_added v _ kind going new)
+  by (inr (kind, asked, new)) Null fits = rw asked (ap (λ (rs : Replies). rs.answers) (replies_added v _ kind going new))
+  by (inr (kind, asked, new)) (Slot slot) fits = rw asked (ap (λ (rs : Replies). rs.answers) (replies_added v _ kind going new))

@@ -8,7 +8,7 @@ use Rattle.std.proofs.lemmas.List.Sums.{sum_by-cons}
 use Rattle.ebpf_insn.specs.Program.{insn_at}
 use Rattle.ebpf_machine.specs.Bytes.{patched}
 use Rattle.ebpf_machine.specs.Values.{Frame}
-use Rattle.ebpf_machine.specs.Effect.{Found, Act, Nothing, Write, Ask, Free}
+use Rattle.ebpf_machine.specs.Effect.{Found, Act, Nothing, Write, Ask, Free, Exchange}
 use Rattle.ebpf_machine.specs.World.{Name, Going, name_of}
 use Rattle.ebpf_machine.specs.Events.{Unasked, OfKind}
 use Rattle.ebpf_machine.specs.View.{ObjectView, RunView, found_in, object_at, patched_at, environment_of_view, effect_of_view, acted, stepped}
@@ -17,7 +17,7 @@ use Rattle.ebpf_machine.specs.Step.{Served, result_of, asking_in}
 use Rattle.ebpf_machine.specs.Advance.{slots_acted, slots_after}
 use Rattle.ebpf_machine.specs.Sound.{IsSound, AreSized}
 use Rattle.ebpf_machine.proofs.World.Asking.{asked_by, asked_goes, asked_ends, there_goes}
-use Rattle.ebpf_machine.proofs.Lists.ListLemmas.{IsFound, find_is, count_by-filter-le, counted_once, counted_less}
+use Rattle.ebpf_machine.proofs.Lists.ListLemmas.{IsFound, find_is, fewer_dropped}
 use Rattle.ebpf_machine.proofs.World.Steps.{GoesOn, IsNext, next_of, stepped_goes, stepped_ends}
 
 -- how many of the objects are of a kind
@@ -78,19 +78,6 @@ kinds_added kind (x ∷ objects) o =
     let before = counted (λ (y : ObjectView). kind == y.kind) x objects in
     omega (arith, here, before, kinds_added kind objects o)
 
--- what is dropped is no more counted
-fewer_dropped : {X : Type 0} (p q : X → Bool) (xs : List X) (x : X) → Contains xs x → p x ≡ true → q x ≡ false → count_by p (filter q xs) < count_by p xs
-fewer_dropped p q [] x (k, lt, e) counts drops = absurd (omega (arith, lt))
-fewer_dropped {X} p q (y ∷ xs) x (zero, lt, e) counts drops =
-    let away = ap q e ∙ drops in
-    let one = counted_once p y xs (ap p e ∙ counts) in
-    let few = count_by-filter-le p q xs in
-    subst (λ (t : Bool). count_by p (cond t (y ∷ filter q xs) (filter q xs)) < count_by p (y ∷ xs)) (sym away) (omega (arith, one, few))
-fewer_dropped {X} p q (y ∷ xs) x (suc k, lt, e) counts drops = by (q y) (fewer_dropped p q xs x (k, omega (arith, lt), e) counts drops) where
-  by : (t : Bool) → count_by p (filter q xs) < count_by p xs → count_by p (cond t (y ∷ filter q xs) (filter q xs)) < count_by p (y ∷ xs)
-  by true rest = let here = counted p y (filter q xs) in let before = counted p y xs in omega (arith, rest, here, before)
-  by false rest = omega (arith, rest, counted_less p y xs)
-
 -- ---- each act
 
 room_for : (declared held : ℕ) → held < declared → nat_le declared held ≡ false
@@ -119,6 +106,8 @@ freed v to after call served slots o unasked there same = record {
 taken : (v : RunView) (to : ℕ) (after : Frame ℕ) (kind : ℕ) (served : Served) (slots : List Name) → asking_in v ≡ OfKind kind → length v.objects < v.subject.decl.held → length slots ≡ length v.objects
     → IsOutcome v (acted (Ask kind) (result_of served) to after v) served slots (slots_acted (Ask kind) served v.subject.decl.held v.pc slots)
 taken v to after kind step.Idle slots asked room many = Kept (record { unasked = λ slot e. absurd (cc); slots_are = refl; kinds = λ k. refl })
+taken v to after kind step.Empty slots asked room many = Kept (record { unasked = λ slot e. absurd (cc); slots_are = refl; kinds = λ k. refl })
+taken v to after kind (step.Fetched other bytes) slots asked room many = Kept (record { unasked = λ slot e. absurd (cc); slots_are = refl; kinds = λ k. refl })
 taken v to after kind step.Refused slots asked room many = Kept (record { unasked = λ slot e. absurd (cc); slots_are = refl; kinds = λ k. refl })
 taken v to after kind (step.Granted slot) slots asked room many =
     let few = room_for v.subject.decl.held (length v.objects) room in
@@ -140,6 +129,7 @@ outcome_acted : (v : RunView) (act : Act ℕ) (to : ℕ) (after : Frame ℕ) (se
     → IsOutcome v (acted act (result_of served) to after v) served slots (slots_acted act served v.subject.decl.held v.pc slots)
 outcome_acted v Nothing to after served slots g many = Kept (record { unasked = λ slot e. asks_for v Nothing to after g; slots_are = refl; kinds = λ k. refl })
 outcome_acted v (Write call at bytes) to after served slots g many = Kept (record { unasked = λ slot e. asks_for v (Write call at bytes) to after g; slots_are = refl; kinds = λ k. kinds_patched k call at bytes v.objects })
+outcome_acted v (Exchange shelf given) to after served slots g many = absurd g.room
 outcome_acted v (Ask kind) to after served slots g many = taken v to after kind served slots (asks_for v (Ask kind) to after g) g.room.1 many
 outcome_acted v (Free call) to after served slots g many =
     let there = there_goes (insn_at v.subject.program v.pc) v.pc (environment_of_view v) v.frame (Free call) to after g.does in

@@ -7,7 +7,7 @@ use Rattle.ebpf_machine.specs.Events.{Unasked}
 use Rattle.ebpf_machine.specs.Kinds.{known_kinds}
 use Rattle.ebpf_machine.specs.View.{stepped}
 use Rattle.ebpf_machine.specs.RunState.{RunState}
-use Rattle.ebpf_machine.specs.Step.{Served, MayAnswer, IsEvent, asking_in, answer_for, result_of}
+use Rattle.ebpf_machine.specs.Step.{Served, MayAnswer, IsEvent, asking_in, result_of}
 use Rattle.ebpf_machine.specs.Store.{AreOutBy, held_of_kind}
 use Rattle.ebpf_core.specs.declared.event.Answer.{Answer}
 use Rattle.ebpf_core.specs.declared.event.Answer.TheVariants.{Absent, Null, Slot}
@@ -52,7 +52,7 @@ pub record IsStepped (lent freed : Option Object) (r t : RunState Object) : Type
   pub served : Served
   pub may : MayAnswer (Lends lent) (LendsNone lent) r.pc (asking_in (run_seen r)) served
   pub state : run_seen t ≡ stepped (result_of served) (run_seen r)
-  pub event : IsEvent (answer_for served) (run_seen r) (run_seen t) (slots_of r) (slots_of t)
+  pub event : IsEvent served (run_seen r) (run_seen t) (slots_of r) (slots_of t)
   pub of_kind : (kind : ℕ) → out_of_kind freed kind + held_of_kind r.held kind ≡ out_of_kind lent kind + held_of_kind t.held kind
   pub gone : (h : Holding Object) → Contains r.held h → All (λ k. k.object.slot ≢ h.object.slot) t.held → IsOut freed h.object → ⊥
   pub image : IfSome freed IsNewObject

@@ -3,9 +3,11 @@ pub mod Owners
 pub mod ObjectsSeen
 pub mod TrapsSeen
 pub mod ObjectsFound
-pub mod Acts
+pub mod Moves
+pub mod Exchanges
 pub mod ObjectPointers
 pub mod OwnedParts
+pub mod Acts
 pub mod Owned
 pub mod CellsSeen
 pub mod Projection

@@ -1,13 +1,13 @@
 -- The run alone: one run in a world of its own, fed with replies until it ends.
-use Rattle.std.specs.Prelude.{ℕ, zero, suc, max, List, [], ◌∷◌, ◌++◌, length, map, Option, Some, None, Result, Ok, Err, slice_get}
+use Rattle.std.specs.Prelude.{ℕ, zero, suc, max, List, [], ◌∷◌, ◌++◌, length, take, drop, map, Option, Some, None, Result, Ok, Err, slice_get}
 use Rattle.ebpf_insn.specs.Program.{instructions}
 use Rattle.ebpf_verify.specs.Subject.{Subject}
 use Rattle.ebpf_machine.specs.declared.report.Reply.{Reply}
-use Rattle.ebpf_machine.specs.declared.report.Reply.TheVariants.{Granted}
+use Rattle.ebpf_machine.specs.declared.report.Reply.TheVariants as reply
 use Rattle.ebpf_machine.specs.declared.report.Report.{Report}
 use Rattle.ebpf_machine.specs.View.{RunView}
-use Rattle.ebpf_machine.specs.World.{World, Running, Status, Going, Exited, Answer, Absent, Null, Slot, kinds_of, first_run, holds_of}
-use Rattle.ebpf_machine.specs.Events.{Illegal, Asking, Unasked, OfKind, asking_of, with_slot_joined, exec}
+use Rattle.ebpf_machine.specs.World.{World, Running, Status, Going, Exited, Owner, Shelf, Answer, Absent, Null, Slot, kinds_of, image_at, kind_in, standing, first_run, holds_of}
+use Rattle.ebpf_machine.specs.Events.{Illegal, Asking, Unasked, OfKind, AtShelf, asking_of, with_bytes, with_owner, without_shelved, with_slot_joined, with_slot_left, exec}
 
 -- the world of one run, and the most objects that it held at one time
 pub record Alone : Type 0 where
@@ -26,12 +26,27 @@ pub record Fed : Type 0 where
   pub world : World
   pub answer : Answer
 
--- the i-th call of new, where it is to be granted, is granted slot i, which joins the ledger just before: any slot that is in no
--- ledger would do
-abbrev pub fed : Asking → Option Reply → ℕ → World → Fed
-fed Unasked reply i w = record { world = w; answer = Absent }
-fed (OfKind kind) (Some Granted) i w = record { world = with_slot_joined kind i w; answer = Slot i }
-fed _ reply i w = record { world = w; answer = Null }
+-- what stands on a shelf is taken from there, and its slot leaves the ledger
+abbrev pub cleared_of : Option Owner → ℕ → World → World
+cleared_of None shelf w = w
+cleared_of (Some o) shelf w = with_slot_left shelf o.slot (with_bytes o.slot (image_at w.kinds (kind_in w o.slot)) (without_shelved shelf w))
+
+abbrev pub cleared : ℕ → World → World
+cleared shelf w = cleared_of (standing w shelf) shelf w
+
+-- a slot joins the ledger of the shelf's kind, and stands there with these bytes
+abbrev pub shelved : ℕ → ℕ → List ℕ → World → World
+shelved shelf slot bytes w = with_owner slot (Shelf shelf) (with_bytes slot bytes (with_slot_joined shelf slot w))
+
+-- the call of number i that is to get an object gets it in slot i, which joins the ledger just before: any slot that is in no ledger
+-- would do. A call of new is granted it; before a call of swap it stands on the shelf, with the bytes that come next, in place of what
+-- the run left there
+abbrev pub fed : Asking → Option Reply → List ℕ → ℕ → World → Fed
+fed Unasked reply bytes i w = record { world = w; answer = Absent }
+fed (OfKind kind) (Some reply.Granted) bytes i w = record { world = with_slot_joined kind i w; answer = Slot i }
+fed (AtShelf shelf) (Some reply.Shelf) bytes i w = record { world = shelved shelf i (take (length (image_at w.kinds shelf)) bytes) (cleared shelf w); answer = Absent }
+fed (AtShelf shelf) reply bytes i w = record { world = cleared shelf w; answer = Absent }
+fed _ reply bytes i w = record { world = w; answer = Null }
 
 abbrev pub advanced : Result World Illegal → Alone → Alone
 advanced (Ok w) a = record { world = w; peak = max a.peak (holds_of w 0) }
@@ -56,9 +71,9 @@ replies_of v = replies_from v.replies v.taken
 abbrev pub replies_in : Report → Replies
 replies_in r = replies_from r.answers r.taken
 
--- they are read by index: as many were used as the run made calls
+-- they are read by index: as many were used as the run made calls, and as many bytes as it took off shelves
 abbrev pub fed_to : World → Running → Replies → Fed
-fed_to w r replies = fed (asking_of w r) (slice_get replies.answers (length r.calls)) (length r.calls) w
+fed_to w r replies = fed (asking_of w r) (slice_get replies.answers (length r.calls)) (drop (length r.taken) replies.taken) (length r.calls) w
 
 abbrev pub alone_by : Option Running → Replies → Alone → Alone
 alone_by None replies a = a
@@ -68,7 +83,7 @@ alone_by (Some r) replies a = let f = fed_to a.world r replies in advanced (exec
 abbrev pub alone_next : Replies → Alone → Alone
 alone_next replies a = alone_by (slice_get a.world.runs 0) replies a
 
--- after so many instructions, with these replies to the calls of new in their order
+-- after so many instructions, with these replies to the calls of new and of swap in their order
 unfoldable pub alone_after : ℕ → Subject → List ℕ → Replies → Alone
 alone_after zero subject context replies = alone_first subject context
 alone_after (suc n) subject context replies = alone_next replies (alone_after n subject context replies)

@@ -16,8 +16,8 @@ use Rattle.ebpf_machine.specs.declared.report.Reply.TheVariants as reply
 use Rattle.ebpf_machine.specs.Layout.{helper_of}
 use Rattle.ebpf_machine.specs.Bytes.{patched}
 use Rattle.ebpf_machine.specs.Values.{Trap, TooManyObjects, Frame, read}
-use Rattle.ebpf_machine.specs.Effect.{Act, Nothing, Write, Ask, Free, Effect, Goes, Ends, Traps, effect_at, with_value}
-use Rattle.ebpf_machine.specs.World.{Name, World, Running, Status, Going, Exited, Trapped, Holder, Run, Answer, Absent, Null, Slot, is_in, is_in_ledger, is_home, is_call, ledger_of, kind_in, image_at, holds_of, environment, first_run, name_of}
+use Rattle.ebpf_machine.specs.Effect.{Act, Nothing, Write, Ask, Free, Exchange, Effect, Goes, Ends, Traps, effect_at, with_value}
+use Rattle.ebpf_machine.specs.World.{Name, World, Running, Status, Going, Exited, Trapped, Owner, Holder, Run, Shelf, Answer, Absent, Null, Slot, is_in, is_in_ledger, is_home, is_call, is_shelf, standing, ledger_of, kind_in, image_at, holds_of, environment, first_run, name_of}
 
 -- why an event is not legal. The causes are tested in this order, but for an event that names a kind: there an unknown one
 -- goes before what is wrong with the slot.
@@ -48,6 +48,10 @@ with_owner slot holder w = record w { owners = w.owners ++ record { slot = slot;
 abbrev pub without_owner : ℕ → Name → World → World
 without_owner run name w = record w { owners = filter (λ o. not ((o.slot == name.slot) && is_call run name.call o.holder)) w.owners }
 
+-- nothing stands on the shelf
+abbrev pub without_shelved : ℕ → World → World
+without_shelved shelf w = record w { owners = filter (λ o. not (is_shelf shelf o.holder)) w.owners }
+
 -- ---- Start: one more run of an accepted program, on a context of the length that it declares
 
 abbrev pub started : Subject → List ℕ → World → World
@@ -69,7 +73,7 @@ ended n r = record r { status = Exited n; executed = r.executed + 1 }
 abbrev pub trapped : Trap → Running → Running
 trapped trap r = record r { status = Trapped trap; executed = r.executed + 1 }
 
--- a call of new goes on with what it is answered, in r0
+-- a call goes on with what it is told, in r0
 abbrev pub replied : ℕ → Reply → Value Name → ℕ → Frame Name → Running → Running
 replied kind reply v to frame r = record (moved_to to (with_value frame R0 v) r) { calls = r.calls ++ record { at = r.pc; kind = kind; reply = reply } ∷ [] }
 
@@ -86,24 +90,46 @@ answered (Slot slot) w run r to frame kind = granted slot w run r to frame kind
 answered Null w run r to frame kind = with_run w run (replied kind reply.Null (Number 0) to frame r)
 answered Absent w run r to frame kind = with_run w run (replied kind reply.Null (Number 0) to frame r)
 
+-- what a run gives goes onto the shelf, with its bytes as they are
+abbrev pub put_on : Option Name → (shelf run : ℕ) → World → World
+put_on None shelf run w = w
+put_on (Some name) shelf run w = with_owner name.slot (Shelf shelf) (without_owner run name w)
+
+-- what stands on a shelf is the run's, by this call
+abbrev pub fetched : Owner → (shelf run call : ℕ) → World → World
+fetched o shelf run call w = with_owner o.slot (Run run call) (without_shelved shelf w)
+
+-- a call of swap goes on with the bytes of what stood on the shelf, and a pointer to it
+abbrev pub shelf_told : (slot : ℕ) (bytes : List ℕ) (shelf to : ℕ) → Frame Name → Running → Running
+shelf_told slot bytes shelf to frame r = record (replied shelf reply.Shelf (Pointer (Object (name_of slot r.pc)) (pos 0)) to frame r) { taken = r.taken ++ bytes }
+
+-- what stood on the shelf is the run's, unless it holds as many as it declared once what it gives is gone
+abbrev pub exchanged : Option Owner → World → ℕ → Running → ℕ → Frame Name → ℕ → Option Name → World
+exchanged None w run r to frame shelf given = put_on given shelf run (with_run w run (replied shelf reply.Empty (Number 0) to frame r))
+exchanged (Some o) w run r to frame shelf given =
+    if nat_le r.subject.decl.held (holds_of (put_on given shelf run w) run) then with_run w run (trapped TooManyObjects r) else
+    put_on given shelf run (fetched o shelf run r.pc (with_run w run (shelf_told o.slot (w.bytes o.slot) shelf to frame r)))
+
 -- what an instruction that goes on asks of the world; an object that is freed gets its image
 abbrev pub acted : Act Name → Answer → World → ℕ → Running → ℕ → Frame Name → World
 acted Nothing answer w run r to frame = with_run w run (moved_to to frame r)
 acted (Write name at bytes) answer w run r to frame = with_bytes name.slot (patched (w.bytes name.slot) at bytes) (with_run w run (moved_to to frame r))
 acted (Ask kind) answer w run r to frame = answered answer w run r to frame kind
 acted (Free name) answer w run r to frame = with_bytes name.slot (image_at w.kinds (kind_in w name.slot)) (without_owner run name (with_run w run (moved_to to frame r)))
+acted (Exchange shelf given) answer w run r to frame = exchanged (standing w shelf) w run r to frame shelf given
 
 abbrev pub done_by : Effect Name → Answer → World → ℕ → Running → World
 done_by (Goes act to frame) answer w run r = acted act answer w run r to frame
 done_by (Ends n) answer w run r = with_run w run (ended n r)
 done_by (Traps trap) answer w run r = with_run w run (trapped trap r)
 
--- what the instruction at a slot asks of whoever answers: nothing; an object of no kind that there is; or one of the kind that
--- r1 names
+-- what the instruction at a slot asks for: nothing; an object of no kind that there is, or one of the kind that r1 names, of whoever
+-- answers; or what stands on the shelf that r1 names, of the world
 pub data Asking : Type 0 where
   Unasked : Asking
   OfNoKind : Asking
   OfKind : (kind : ℕ) → Asking
+  AtShelf : (shelf : ℕ) → Asking
 
 abbrev pub asking_for : {N : Type 0} → Option (Value N) → ℕ → Asking
 asking_for (Some (Number kind)) kinds = if nat_lt kind kinds then OfKind kind else OfNoKind
@@ -119,9 +145,12 @@ abbrev pub asking : {N : Type 0} → Option Insn → ℕ → Frame N → Asking
 asking (Some (insn.Call number)) kinds frame = asking_helper (helper_of number) kinds frame
 asking _ kinds frame = Unasked
 
+-- an answer is asked for
 abbrev pub is_asked : Asking → Bool
 is_asked Unasked = false
-is_asked _ = true
+is_asked (AtShelf shelf) = false
+is_asked OfNoKind = true
+is_asked (OfKind kind) = true
 
 abbrev pub is_answer : Answer → Bool
 is_answer Absent = false

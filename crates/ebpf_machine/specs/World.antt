@@ -1,6 +1,6 @@
 -- The world: ledgers, owners, object bytes and runs, and what it says of a slot.
 use Rattle.std.specs.Prelude.{◌≡◌, ◌<◌, ℕ, suc, ◌==◌, Bool, true, false, not, ◌&&◌, if◌then◌else◌, List, [], ◌∷◌, length, filter, map, replicate, pos, Option, Some, None, Result, Ok, Err, Contains, slice_get, slice_index_or}
-use Rattle.std.specs.List.{list_any}
+use Rattle.std.specs.List.{list_any, find}
 use Rattle.ebpf_state.specs.declared.kinds.KindRow.{KindRow}
 use Rattle.ebpf_verify.specs.Subject.{Subject}
 use Rattle.ebpf_machine.specs.declared.value.Value.{Value}
@@ -133,6 +133,14 @@ is_held_by w run name = list_any (λ o. (o.slot == name.slot) && is_call run nam
 abbrev pub is_by_run : Holder → Bool
 is_by_run (Run r call) = true
 is_by_run (Shelf s) = false
+
+abbrev pub is_shelf : ℕ → Holder → Bool
+is_shelf shelf (Run r call) = false
+is_shelf shelf (Shelf s) = s == shelf
+
+-- what stands on a shelf
+abbrev pub standing : World → ℕ → Option Owner
+standing w shelf = find (λ o. is_shelf shelf o.holder) w.owners
 
 -- another run has the slot, and this one has not
 abbrev pub is_anothers : World → ℕ → ℕ → Bool

@@ -108,6 +108,19 @@ counted_once p x xs passes = sum_by-cons (λ y. cond (p y) 1 0) x xs ∙ ap (λ 
 pub counted_less : {X : Type 0} (p : X → Bool) (x : X) (xs : List X) → count_by p xs ≤ count_by p (x ∷ xs)
 counted_less p x xs = omega (arith, sum_by-cons (λ y. cond (p y) 1 0) x xs)
 
+-- what is dropped is no more counted
+pub fewer_dropped : {X : Type 0} (p q : X → Bool) (xs : List X) (x : X) → Contains xs x → p x ≡ true → q x ≡ false → count_by p (filter q xs) < count_by p xs
+fewer_dropped p q [] x (k, lt, e) counts drops = absurd (omega (arith, lt))
+fewer_dropped {X} p q (y ∷ xs) x (zero, lt, e) counts drops =
+    let away = ap q e ∙ drops in
+    let one = counted_once p y xs (ap p e ∙ counts) in
+    let few = count_by-filter-le p q xs in
+    subst (λ (t : Bool). count_by p (cond t (y ∷ filter q xs) (filter q xs)) < count_by p (y ∷ xs)) (sym away) (omega (arith, one, few))
+fewer_dropped {X} p q (y ∷ xs) x (suc k, lt, e) counts drops = by (q y) (fewer_dropped p q xs x (k, omega (arith, lt), e) counts drops) where
+  by : (t : Bool) → count_by p (filter q xs) < count_by p xs → count_by p (cond t (y ∷ filter q xs) (filter q xs)) < count_by p (y ∷ xs)
+  by true rest = let here = sum_by-cons (λ z. cond (p z) 1 0) y (filter q xs) in let before = sum_by-cons (λ z. cond (p z) 1 0) y xs in omega (arith, rest, here, before)
+  by false rest = omega (arith, rest, counted_less p y xs)
+
 counted : {X : Type 0} (p : X → Bool) (xs : List X) (k : ℕ) (x : X) → k < length xs → get_or xs k x ≡ x → p x ≡ true → 1 ≤ count_by p xs
 counted p [] k x lt e passes = absurd (omega arith)
 counted p (y ∷ xs) zero x lt e passes = omega (arith, counted_once p y xs (ap p e ∙ passes))

@@ -14,7 +14,7 @@ use Rattle.ebpf_verify.specs.Rules.{refusal}
 use Rattle.ebpf_verify.specs.Entry.{entry_of}
 use Rattle.ebpf_machine.specs.declared.report.Reply.{Reply}
 use Rattle.ebpf_machine.specs.Values.{Frame}
-use Rattle.ebpf_machine.specs.Effect.{Act, Nothing, Ask, Goes, Ends, effect, effect_at}
+use Rattle.ebpf_machine.specs.Effect.{Act, Nothing, Write, Ask, Free, Exchange, Goes, Ends, effect, effect_at}
 use Rattle.ebpf_machine.specs.World.{Status, Going}
 use Rattle.ebpf_machine.specs.View.{ObjectView, RunView, environment_of_view, effect_of_view, acted, CallResult}
 use Rattle.ebpf_machine.specs.Concretization.{AreOf, Arrives, calls_of}
@@ -23,10 +23,13 @@ use Rattle.ebpf_verify.proofs.Bounded.{IsFull}
 use Rattle.ebpf_machine.proofs.Rules.Entries.{AreDefined}
 use Rattle.ebpf_machine.proofs.Rules.Registers.{IsFrame}
 
--- what is asked for has room
+-- what is asked for has room; no accepted program reaches a shelf yet
 abbrev pub HasRoom : RunView → Act ℕ → Type 0
 HasRoom v (Ask kind) = (kind < length v.subject.rows) × (length v.objects < v.subject.decl.held)
-HasRoom v _ = Unit {0}
+HasRoom v (Exchange shelf given) = ⊥
+HasRoom v Nothing = Unit {0}
+HasRoom v (Write name at bytes) = Unit {0}
+HasRoom v (Free name) = Unit {0}
 
 -- an instruction that goes on: whatever is answered, the run is sound after it
 pub record GoesOn (v : RunView) (act : Act ℕ) (to : ℕ) (after : Frame ℕ) : Type 0 where

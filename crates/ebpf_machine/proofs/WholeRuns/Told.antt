@@ -9,11 +9,12 @@ use Rattle.ebpf_machine.specs.declared.report.Reply.{Reply}
 use Rattle.ebpf_machine.specs.declared.report.Reply.TheVariants as reply
 use Rattle.ebpf_machine.specs.Alone.{Replies, more_than, replies_from, replies_of}
 use Rattle.ebpf_machine.specs.World.{Kind, Going, kinds_of, image_at}
-use Rattle.ebpf_machine.specs.Events.{Asking, Unasked, OfNoKind, OfKind}
+use Rattle.ebpf_machine.specs.Events.{Asking, Unasked, OfNoKind, OfKind, AtShelf}
 use Rattle.ebpf_machine.specs.View as view
 use Rattle.ebpf_machine.specs.View.{ObjectView, RunView, CallResult, Null, Empty, Shelved, stepped, reply_in}
 use Rattle.ebpf_machine.specs.RunState.{RunState, status_of, object_seen}
 use Rattle.ebpf_machine.specs.Sound.{AreSized, IsSound, IsAlone}
+use Rattle.ebpf_machine.specs.Step as step
 use Rattle.ebpf_machine.specs.Step.{Served, Idle, Refused, Granted, MayAnswer, IsStepOver, result_of, granted_in, refused_in, asking_in, seen_in}
 use Rattle.ebpf_machine.specs.Store.{Store, AreOut, held_of_kind}
 use Rattle.ebpf_machine.specs.Turns.{IsTurn, AreTurns}
@@ -57,6 +58,9 @@ after_answer (OfKind kind) served replies now g n grants nulls executed at can_g
   by (Granted slot) may e = rw e (told_push replies reply.Granted g n grants nulls executed 1 0 refl refl told)
   by Refused may e = rw e (told_push replies reply.Null g n grants nulls executed 0 1 refl refl told)
   by Idle may e = absurd may
+  by step.Empty may e = absurd may
+  by (step.Fetched other bytes) may e = absurd may
+after_answer (AtShelf shelf) served replies now g n grants nulls executed at can_grant can_refuse may kept added told = absurd may
 after_answer OfNoKind served replies now g n grants nulls executed at can_grant can_refuse may kept added told = absurd may
 
 told_next : (v : RunView) (served : Served) (g n grants nulls : ℕ) (can_grant : (kind at slot : ℕ) → Type 0) (can_refuse : ℕ → Type 0) → IsSound v → AreSized v → v.status ≡ Going →

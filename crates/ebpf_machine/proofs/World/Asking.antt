@@ -27,9 +27,9 @@ use Rattle.ebpf_machine.specs.declared.value.Value.TheVariants.{Number, Pointer}
 use Rattle.ebpf_machine.specs.declared.value.Cell.{Cell}
 use Rattle.ebpf_machine.specs.Values.{Trap, BadCall, FramePointerWritten, Leak, Frame, read, source_value}
 use Rattle.ebpf_machine.specs.Cells.{place_in, stored_at}
-use Rattle.ebpf_machine.specs.Effect.{Found, Environment, Act, Nothing, Write, Ask, Free, Effect, Goes, Ends, Traps, effect_at, effect, unary, alu_value, with_value, written, is_taken, loaded, rewritten, written_at, writes_object, effect_of_store, without_arguments, with_zero, effect_of_new, effect_of_freeing, effect_of_free, effect_of_emit, effect_of_call, effect_of_jump, effect_of_branch, effect_of_exit, result_number}
+use Rattle.ebpf_machine.specs.Effect.{Found, Environment, Act, Nothing, Write, Ask, Free, Exchange, Effect, Goes, Ends, Traps, effect_at, effect, unary, alu_value, with_value, written, is_taken, loaded, rewritten, written_at, writes_object, effect_of_store, without_arguments, with_zero, effect_of_new, effect_of_freeing, effect_of_free, effect_of_emit, effect_of_call, effect_of_jump, effect_of_branch, effect_of_exit, result_number}
 use Rattle.ebpf_machine.specs.World.{Name, Kind, World, Running, Going}
-use Rattle.ebpf_machine.specs.Events.{Asking, Unasked, OfNoKind, OfKind, asking_for, asking_helper, asking, asking_of}
+use Rattle.ebpf_machine.specs.Events.{Asking, Unasked, OfNoKind, OfKind, AtShelf, asking_for, asking_helper, asking, asking_of}
 use Rattle.ebpf_machine.specs.View.{RunView, register_seen, frame_seen, view_of, environment_of_view, effect_of_view}
 use Rattle.ebpf_machine.specs.Step.{asking_in}
 use Rattle.ebpf_machine.specs.Sound.{AreSized, IsSound, IsOwned}
@@ -38,14 +38,23 @@ use Rattle.ebpf_machine.proofs.World.Steps.{GoesOn, IsNext, next_of}
 
 abbrev pub asked_by : {N : Type 0} → Act N → Asking
 asked_by (Ask kind) = OfKind kind
-asked_by _ = Unasked
+asked_by (Exchange shelf given) = AtShelf shelf
+asked_by Nothing = Unasked
+asked_by (Write name at bytes) = Unasked
+asked_by (Free name) = Unasked
 
--- bytes that are written lie in an object that is found, one that is given back is found, and there is the kind that is asked for
+-- an object that is given for what stands on a shelf is found, and is of the shelf's kind
+abbrev pub IsGivenThere : {N : Type 0} → Environment N → ℕ → Option N → Type 0
+IsGivenThere a shelf None = Unit {0}
+IsGivenThere a shelf (Some name) = (found : Found) × (a.object name ≡ Ok found) × (found.kind ≡ shelf)
+
+-- bytes that are written lie in an object that is found, one that is freed is found, and there is the kind that is asked for
 abbrev pub IsThere : {N : Type 0} → Environment N → Act N → Type 0
 IsThere a Nothing = Unit {0}
 IsThere a (Write name at bytes) = (found : Found) × (a.object name ≡ Ok found) × (at + length bytes ≤ length found.bytes)
 IsThere a (Ask kind) = kind < a.kinds
 IsThere a (Free name) = (found : Found) × (a.object name ≡ Ok found)
+IsThere a (Exchange shelf given) = (shelf < a.kinds) × IsGivenThere a shelf given
 
 -- an effect that goes on, or ends the run, asks for this
 abbrev AsksFor : {N : Type 0} → Environment N → Asking → Effect N → Type 0
@@ -216,6 +225,7 @@ next_asks v (inl (act, to, after, g)) = by act g (asked_goes (insn_at v.subject.
   by Nothing g asked = inl asked
   by (Write name at bytes) g asked = inl asked
   by (Free name) g asked = inl asked
+  by (Exchange shelf given) g asked = absurd g.room
   by (Ask kind) g asked = inr (kind, asked, record { to = to; after = after; does = g.does; kind_is = g.room.0; room = g.room.1 })
 
 pub asked_next : (v : RunView) → IsSound v → AreSized v → v.status ≡ Going → (asking_in v ≡ Unasked) ⊎ ((kind : ℕ) × (asking_in v ≡ OfKind kind) × (kind < length v.subject.rows) × (length v.objects < v.subject.decl.held))

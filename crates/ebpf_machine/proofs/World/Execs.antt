@@ -9,41 +9,45 @@ use Rattle.std.proofs.lemmas.List.Elements.{All-map, Contains-push_cases}
 use Rattle.ebpf_insn.specs.Program.{insn_at}
 use Rattle.ebpf_insn.specs.Faults.{first_of}
 use Rattle.ebpf_machine.specs.Values.{Frame}
-use Rattle.ebpf_machine.specs.Effect.{Act, Nothing, Write, Ask, Free, Effect, Goes, Ends, Traps}
-use Rattle.ebpf_machine.specs.World.{Name, Kind, World, Running, Owner, Run, Going, Answer, Absent, Slot, is_by_run, environment, holds_of, held_by, is_home, is_in, kind_in, kinds_of, image_at, ledger_of}
+use Rattle.ebpf_machine.specs.Effect.{Act, Nothing, Write, Ask, Free, Exchange, Effect, Goes, Ends, Traps}
+use Rattle.ebpf_machine.specs.World.{Name, Kind, World, Running, Owner, Run, Going, Answer, Absent, Slot, is_by_run, standing, environment, holds_of, held_by, is_home, is_in, kind_in, kinds_of, image_at, ledger_of}
 use Rattle.ebpf_machine.specs.World as world
-use Rattle.ebpf_machine.specs.Events.{Illegal, SlotNotHome, SlotOfAnotherKind, Asking, OfKind, granted, done_by, effect_of_run, asking_of, answer_fault, exec}
+use Rattle.ebpf_machine.specs.Events.{Illegal, SlotNotHome, SlotOfAnotherKind, Asking, Unasked, OfNoKind, OfKind, AtShelf, put_on, fetched, with_run, exchanged, granted, done_by, effect_of_run, asking_of, answer_fault, exec}
 use Rattle.ebpf_machine.specs.View as view
 use Rattle.ebpf_machine.specs.View.{ObjectView, RunView, object_in, view_of, view_in, slots_in, environment_of_view, effect_of_view, stepped}
-use Rattle.ebpf_machine.specs.Step.{IsEvent, reply_of, served_by, Served, Idle, Refused, Granted, answer_for, result_of}
+use Rattle.ebpf_machine.specs.Step.{IsEvent, MayAnswer, Served, Idle, Refused, Granted, Empty, Fetched, served_by, served_in, answer_for, result_of, asking_in}
 use Rattle.ebpf_machine.specs.Advance.{slots_after}
 use Rattle.ebpf_machine.specs.Sound.{IsOwned, IsSound, AreSized}
 use Rattle.ebpf_machine.proofs.Lists.ListLemmas.{All-by_contains, Contains-filter}
 use Rattle.ebpf_machine.proofs.World.Owners.{held_owner}
 use Rattle.ebpf_machine.proofs.World.ObjectsFound.{own_found, objects_found}
-use Rattle.ebpf_machine.proofs.World.Acts.{effect_seen, IsGrantable, IsOwnAct, IsOwnEffect, own_view, own_slots, others_view, others_slots}
+use Rattle.ebpf_machine.proofs.World.Exchanges.{IsOwnGiven}
+use Rattle.ebpf_machine.proofs.World.Acts.{act_seen, effect_seen, served_act, served_effect, IsGrantable, IsOwnAct, IsOwnEffect, own_view, own_slots, others_view, others_slots}
 use Rattle.ebpf_machine.proofs.World.Owned.{IsForward, owned_done}
 use Rattle.ebpf_machine.proofs.World.Projection.{IsSeenAs, effect_at-seen}
 use Rattle.ebpf_machine.proofs.World.Pointing.{plain_goes}
-use Rattle.ebpf_machine.proofs.World.Asking.{IsThere, asked_by, asked_goes, there_goes}
-use Rattle.ebpf_machine.proofs.World.Steps.{IsNext, next_of}
+use Rattle.ebpf_machine.proofs.World.Asking.{IsThere, IsGivenThere, asked_by, asked_goes, asked_ends, asking_seen, there_goes}
+use Rattle.ebpf_machine.proofs.World.Steps.{HasRoom, IsNext, next_of}
 
 -- nothing stands on a shelf
 abbrev pub AreByRuns : World → Type 0
 AreByRuns w = (o : Owner) → Contains w.owners o → is_by_run o.holder ≡ true
+
+-- what the next instruction of a run is served by its world, with this answer
+abbrev pub served_to : World → Running → Answer → Served
+served_to w r answer = served_in w (asking_of w r) answer
 
 -- the world that the next instruction of a run leads to, with this answer
 pub record IsNextWorld (w : World) (run : ℕ) (r : Running) (answer : Answer) (after : World) : Type 0 where
   pub legal : exec w run answer ≡ Ok after
   pub owned : IsOwned after
   pub as_many : length after.runs ≡ length w.runs
-  pub seen : view_in after run ≡ Some (stepped (reply_of answer) (view_of w run r))
-  pub slots : slots_in after run ≡ slots_after (effect_of_view (view_of w run r)) (served_by answer) r.subject.decl.held r.pc (slots_in w run)
+  pub seen : view_in after run ≡ Some (stepped (result_of (served_to w r answer)) (view_of w run r))
+  pub slots : slots_in after run ≡ slots_after (effect_of_view (view_of w run r)) (served_to w r answer) r.subject.decl.held r.pc (slots_in w run)
   pub others : (other : ℕ) → other ≢ run → view_in after other ≡ view_in w other
   pub others_slots : (other : ℕ) → other ≢ run → slots_in after other ≡ slots_in w other
   pub kinds : after.kinds ≡ w.kinds
   pub ledgers : after.ledgers ≡ w.ledgers
-  pub unowned : w.owners ≡ [] → reply_of answer ≡ view.Null → after.owners ≡ []
   pub unshelved : AreByRuns w → AreByRuns after
 
 -- ---- what an effect leaves as it was
@@ -57,26 +61,41 @@ steady_granted : (w : World) (run : ℕ) (r : Running) (slot to kind : ℕ) (fra
 steady_granted w run r slot to kind frame =
     cond_both (nat_le r.subject.decl.held (holds_of w run)) _ _ (IsSteady w) (λ e. record { as_many = length-set w.runs run _; kinds = refl; ledgers = refl }) (λ e. record { as_many = length-set w.runs run _; kinds = refl; ledgers = refl })
 
+steady_put : (w v : World) (run shelf : ℕ) (given : Option Name) → IsSteady w v → IsSteady w (put_on given shelf run v)
+steady_put w v run shelf None same = same
+steady_put w v run shelf (Some name) same = record { as_many = same.as_many; kinds = same.kinds; ledgers = same.ledgers }
+
+steady_exchanged : (w : World) (run : ℕ) (r : Running) (shelf to : ℕ) (given : Option Name) (frame : Frame Name) → IsSteady w (exchanged (standing w shelf) w run r to frame shelf given)
+steady_exchanged w run r shelf to given frame = by (standing w shelf) where
+  by : (o : Option Owner) → IsSteady w (exchanged o w run r to frame shelf given)
+  by None = steady_put w (with_run w run _) run shelf given (record { as_many = length-set w.runs run _; kinds = refl; ledgers = refl })
+  by (Some o) =
+      cond_both (nat_le r.subject.decl.held (holds_of (put_on given shelf run w) run)) _ _ (IsSteady w) (λ e. record { as_many = length-set w.runs run _; kinds = refl; ledgers = refl })
+      (λ e. steady_put w (fetched o shelf run r.pc (with_run w run _)) run shelf given (record { as_many = length-set w.runs run _; kinds = refl; ledgers = refl }))
+
 steady_done : (w : World) (run : ℕ) (r : Running) (e : Effect Name) (answer : Answer) → IsSteady w (done_by e answer w run r)
 steady_done w run r (Ends n) answer = record { as_many = length-set w.runs run _; kinds = refl; ledgers = refl }
 steady_done w run r (Traps trap) answer = record { as_many = length-set w.runs run _; kinds = refl; ledgers = refl }
 steady_done w run r (Goes Nothing to frame) answer = record { as_many = length-set w.runs run _; kinds = refl; ledgers = refl }
 steady_done w run r (Goes (Write name at bytes) to frame) answer = record { as_many = length-set w.runs run _; kinds = refl; ledgers = refl }
 steady_done w run r (Goes (Free name) to frame) answer = record { as_many = length-set w.runs run _; kinds = refl; ledgers = refl }
+steady_done w run r (Goes (Exchange shelf given) to frame) answer = steady_exchanged w run r shelf to given frame
 steady_done w run r (Goes (Ask kind) to frame) Absent = record { as_many = length-set w.runs run _; kinds = refl; ledgers = refl }
 steady_done w run r (Goes (Ask kind) to frame) world.Null = record { as_many = length-set w.runs run _; kinds = refl; ledgers = refl }
 steady_done w run r (Goes (Ask kind) to frame) (Slot slot) = steady_granted w run r slot to kind frame
 
--- nobody has a slot then either, where none was granted
-unowned_done : (w : World) (run : ℕ) (r : Running) (e : Effect Name) (answer : Answer) → w.owners ≡ [] → reply_of answer ≡ view.Null → (done_by e answer w run r).owners ≡ []
-unowned_done w run r (Ends n) answer none null = none
-unowned_done w run r (Traps trap) answer none null = none
-unowned_done w run r (Goes Nothing to frame) answer none null = none
-unowned_done w run r (Goes (Write name at bytes) to frame) answer none null = none
-unowned_done w run r (Goes (Free name) to frame) answer none null = ap (filter _) none
-unowned_done w run r (Goes (Ask kind) to frame) Absent none null = none
-unowned_done w run r (Goes (Ask kind) to frame) world.Null none null = none
-unowned_done w run r (Goes (Ask kind) to frame) (Slot slot) none null = absurd (cc)
+-- it is no exchange: no accepted program reaches a shelf yet
+abbrev IsUnshelving : {N : Type 0} → Act N → Type 0
+IsUnshelving Nothing = Unit {0}
+IsUnshelving (Write name at bytes) = Unit {0}
+IsUnshelving (Ask kind) = Unit {0}
+IsUnshelving (Free name) = Unit {0}
+IsUnshelving (Exchange shelf given) = ⊥
+
+abbrev LeavesShelves : Effect Name → Type 0
+LeavesShelves (Goes act to frame) = IsUnshelving act
+LeavesShelves (Ends n) = Unit {0}
+LeavesShelves (Traps trap) = Unit {0}
 
 -- an instruction leaves nothing on a shelf
 unshelved_granted : (w : World) (run : ℕ) (r : Running) (kind slot to : ℕ) (frame : Frame Name) → AreByRuns w → AreByRuns (granted slot w run r to frame kind)
@@ -87,15 +106,16 @@ unshelved_granted w run r kind slot to frame plain = cond_both (nat_le r.subject
     by (inl old) = plain o old
     by (inr new) = ap (λ (p : Owner). is_by_run p.holder) (sym new)
 
-unshelved_done : (w : World) (run : ℕ) (r : Running) (e : Effect Name) (answer : Answer) → AreByRuns w → AreByRuns (done_by e answer w run r)
-unshelved_done w run r (Ends n) answer plain = plain
-unshelved_done w run r (Traps trap) answer plain = plain
-unshelved_done w run r (Goes Nothing to frame) answer plain = plain
-unshelved_done w run r (Goes (Write name at bytes) to frame) answer plain = plain
-unshelved_done w run r (Goes (Free name) to frame) answer plain = λ o among. plain o (Contains-filter _ w.owners o among).0
-unshelved_done w run r (Goes (Ask kind) to frame) Absent plain = plain
-unshelved_done w run r (Goes (Ask kind) to frame) world.Null plain = plain
-unshelved_done w run r (Goes (Ask kind) to frame) (Slot slot) plain = unshelved_granted w run r kind slot to frame plain
+unshelved_done : (w : World) (run : ℕ) (r : Running) (e : Effect Name) (answer : Answer) → LeavesShelves e → AreByRuns w → AreByRuns (done_by e answer w run r)
+unshelved_done w run r (Ends n) answer leaves plain = plain
+unshelved_done w run r (Traps trap) answer leaves plain = plain
+unshelved_done w run r (Goes Nothing to frame) answer leaves plain = plain
+unshelved_done w run r (Goes (Write name at bytes) to frame) answer leaves plain = plain
+unshelved_done w run r (Goes (Exchange shelf given) to frame) answer leaves plain = absurd leaves
+unshelved_done w run r (Goes (Free name) to frame) answer leaves plain = λ o among. plain o (Contains-filter _ w.owners o among).0
+unshelved_done w run r (Goes (Ask kind) to frame) Absent leaves plain = plain
+unshelved_done w run r (Goes (Ask kind) to frame) world.Null leaves plain = plain
+unshelved_done w run r (Goes (Ask kind) to frame) (Slot slot) leaves plain = unshelved_granted w run r kind slot to frame plain
 
 -- ---- the effect in the world and the effect that is seen
 
@@ -157,12 +177,23 @@ own_act w run r answer (Write name at bytes) there fine =
     (own.0, subst (λ (old : List ℕ). at + length bytes ≤ length old) own.1 there.2)
 own_act w run r answer (Ask kind) there fine = (there, grantable w kind answer fine)
 own_act w run r answer (Free name) there fine = (own_found w run name there.0 there.1).0
+own_act w run r answer (Exchange shelf given) there fine = (there.0, given_own given there.1) where
+  given_own : (given : Option Name) → IsGivenThere (environment w run r) shelf given → IsOwnGiven w run shelf given
+  given_own None found = tt
+  given_own (Some name) found = let own = own_found w run name found.0 found.1 in (own.0, sym own.2 ∙ found.2)
 
 abbrev IsOwnNext : World → ℕ → Running → Answer → Effect Name → Type 0
-IsOwnNext w run r answer e = IsOwnEffect w run answer e × IsForward r.frame r.pc e
+IsOwnNext w run r answer e = IsOwnEffect w run answer e × IsForward r.frame r.pc e × LeavesShelves e
+
+unshelving : (v : RunView) (act : Act Name) (seen : Act ℕ) → act_seen act ≡ seen → HasRoom v seen → IsUnshelving act
+unshelving v Nothing seen e room = tt
+unshelving v (Write name at bytes) seen e room = tt
+unshelving v (Ask kind) seen e room = tt
+unshelving v (Free name) seen e room = tt
+unshelving v (Exchange shelf given) seen e room = absurd (subst (HasRoom v) (sym e) room)
 
 own_next : (w : World) (run : ℕ) (r : Running) (answer : Answer) (e : Effect Name) → answer_fault w (asking_of w r) answer ≡ None → effect_of_run w run r ≡ e → effect_seen e ≡ effect_of_view (view_of w run r) → IsNext (view_of w run r) → IsOwnNext w run r answer e
-own_next w run r answer (Ends n) fine is seen next = (tt, tt)
+own_next w run r answer (Ends n) fine is seen next = (tt, tt, tt)
 own_next w run r answer (Traps trap) fine is seen (inl (act, to, after, g)) = let does = g.does in absurd (cc)
 own_next w run r answer (Traps trap) fine is seen (inr (n, ends)) = let does = ends.does in absurd (cc)
 own_next w run r answer (Goes act to frame) fine is seen (inr (n, ends)) = let does = ends.does in absurd (cc)
@@ -171,10 +202,26 @@ own_next w run r answer (Goes act to frame) fine is seen (inl (same, where_to, a
     let a = environment w run r in
     let does = g.does in
     let there : where_to ≡ to = cc in
+    let acts : act_seen act ≡ same = cc in
     let asked = asked_goes o r.pc a r.frame act to frame is in (
       own_act w run r answer act (there_goes o r.pc a r.frame act to frame is) (subst (λ (asking : Asking). answer_fault w asking answer ≡ None) asked fine),
       (subst (λ (k : ℕ). r.pc < k) there g.forward, plain_goes o r.pc a r.frame act to frame is),
+      unshelving (view_of w run r) act same acts g.room,
     )
+
+-- ---- what it is served
+
+served_alike : (w : World) (act : Act Name) (answer : Answer) → served_in w (asked_by act) answer ≡ served_act w act answer
+served_alike w Nothing answer = refl
+served_alike w (Write name at bytes) answer = refl
+served_alike w (Ask kind) answer = refl
+served_alike w (Free name) answer = refl
+served_alike w (Exchange shelf given) answer = refl
+
+served_fits : (w : World) (run : ℕ) (r : Running) (e : Effect Name) (answer : Answer) → effect_of_run w run r ≡ e → IsOwnEffect w run answer e → served_to w r answer ≡ served_effect w e answer
+served_fits w run r (Goes act to frame) answer is own = ap (λ (asked : Asking). served_in w asked answer) (asked_goes (insn_at r.subject.program r.pc) r.pc (environment w run r) r.frame act to frame is) ∙ served_alike w act answer
+served_fits w run r (Ends n) answer is own = ap (λ (asked : Asking). served_in w asked answer) (asked_ends (insn_at r.subject.program r.pc) r.pc (environment w run r) r.frame n is)
+served_fits w run r (Traps trap) answer is own = absurd own
 
 -- ---- the next world
 
@@ -184,20 +231,20 @@ next_world w run r answer owned there sound going fine =
     let e = effect_of_run w run r in
     let seen = seen_effect w run r owned there in
     let own = own_next w run r answer e fine refl seen (next_of v sound (sized_in w run r owned there) going) in
-    let steady = steady_done w run r e answer in (
+    let steady = steady_done w run r e answer in
+    let served = served_fits w run r e answer refl own.0 in (
       done_by e answer w run r,
       record {
         legal = rw (there, going, fine) refl;
         owned = owned_done w run r e answer owned there own.0 own.1;
         as_many = steady.as_many;
-        seen = own_view w run r e answer owned there own.0 ∙ rw (seen, going) refl;
-        slots = own_slots w run r e answer owned own.0 ∙ ap (λ (x : Effect ℕ). slots_after x (served_by answer) r.subject.decl.held r.pc (slots_in w run)) seen;
+        seen = own_view w run r e answer owned there own.0 ∙ rw (seen, going, served) refl;
+        slots = own_slots w run r e answer owned there own.0 ∙ rw (seen, served) refl;
         others = λ other ne. others_view w run other r e answer owned own.0 ne;
         others_slots = λ other ne. others_slots w run other r e answer owned own.0 ne;
         kinds = steady.kinds;
         ledgers = steady.ledgers;
-        unowned = λ none null. unowned_done w run r e answer none null;
-        unshelved = λ plain. unshelved_done w run r e answer plain;
+        unshelved = λ plain. unshelved_done w run r e answer own.2 plain;
       },
     )
 
@@ -221,18 +268,29 @@ legal_answer w after run r answer there going does = by (answer_fault w (asking_
   by None fault = refl
   by (Some why) fault = let illegal : exec w run answer ≡ Err why = rw (there, going, fault) refl in absurd (cc)
 
-pub step_event : (v : RunView) (answer : Answer) (held : List Name) → IsSound v → v.status ≡ Going → IsEvent answer v (stepped (reply_of answer) v) held (slots_after (effect_of_view v) (served_by answer) v.subject.decl.held v.pc held)
-step_event v answer held sound going w after run owned shows slots does =
+pub step_event : (v : RunView) (served : Served) (held : List Name) → IsSound v → v.status ≡ Going → IsEvent served v (stepped (result_of served) v) held (slots_after (effect_of_view v) served v.subject.decl.held v.pc held)
+step_event v served held sound going w after run owned shows slots serves does =
     let r = shown_run w run v shows in
     let goes : r.0.status ≡ Going = ap (λ (u : RunView). u.status) r.2 ∙ going in
-    let next = next_world w run r.0 answer owned r.1 (subst IsSound (sym r.2) sound) goes (legal_answer w after run r.0 answer r.1 goes does) in
-    let same : next.0 ≡ after = ok_same next.0 after (exec w run answer) next.1.legal does in
-    let now = ap (λ (u : RunView). slots_after (effect_of_view u) (served_by answer) u.subject.decl.held u.pc (slots_in w run)) r.2 ∙ ap (slots_after (effect_of_view v) (served_by answer) v.subject.decl.held v.pc) slots in
-    subst (λ (u : World). (view_in u run ≡ Some (stepped (reply_of answer) v)) × (slots_in u run ≡ slots_after (effect_of_view v) (served_by answer) v.subject.decl.held v.pc held)) same
-    (next.1.seen ∙ ap (λ (u : RunView). Some (stepped (reply_of answer) u)) r.2, next.1.slots ∙ now)
+    let next = next_world w run r.0 (answer_for served) owned r.1 (subst IsSound (sym r.2) sound) goes (legal_answer w after run r.0 (answer_for served) r.1 goes does) in
+    let same : next.0 ≡ after = ok_same next.0 after (exec w run (answer_for served)) next.1.legal does in
+    let asked : asking_of w r.0 ≡ asking_in v = asking_seen w run r.0 owned r.1 ∙ ap asking_in r.2 in
+    let is : served_to w r.0 (answer_for served) ≡ served = ap (λ (a : Asking). served_in w a (answer_for served)) asked ∙ serves in
+    let seen : view_in next.0 run ≡ Some (stepped (result_of served) v) = next.1.seen ∙ ap (λ (s : Served). Some (stepped (result_of s) (view_of w run r.0))) is ∙ ap (λ (u : RunView). Some (stepped (result_of served) u)) r.2 in
+    let now : slots_in next.0 run ≡ slots_after (effect_of_view v) served v.subject.decl.held v.pc held =
+        next.1.slots
+        ∙ ap (λ (s : Served). slots_after (effect_of_view (view_of w run r.0)) s r.0.subject.decl.held r.0.pc (slots_in w run)) is
+        ∙ ap (λ (u : RunView). slots_after (effect_of_view u) served u.subject.decl.held u.pc (slots_in w run)) r.2
+        ∙ ap (slots_after (effect_of_view v) served v.subject.decl.held v.pc) slots in
+    subst (λ (u : World). (view_in u run ≡ Some (stepped (result_of served) v)) × (slots_in u run ≡ slots_after (effect_of_view v) served v.subject.decl.held v.pc held)) same (seen, now)
 
--- and one step with a store's answer is the event with the answer that it makes
-pub served_event : (v : RunView) (served : Served) (held : List Name) → IsSound v → v.status ≡ Going → IsEvent (answer_for served) v (stepped (result_of served) v) held (slots_after (effect_of_view v) served v.subject.decl.held v.pc held)
-served_event v Idle held sound going = step_event v Absent held sound going
-served_event v Refused held sound going = step_event v world.Null held sound going
-served_event v (Granted slot) held sound going = step_event v (Slot slot) held sound going
+-- where a store may answer so, the event with this answer serves so
+pub may_serve : (w : World) (can_grant : (kind at slot : ℕ) → Type 0) (can_refuse : ℕ → Type 0) (at : ℕ) (asked : Asking) (served : Served) → MayAnswer can_grant can_refuse at asked served → served_in w asked (answer_for served) ≡ served
+may_serve w can_grant can_refuse at Unasked served may = ap (λ (s : Served). served_by (answer_for s)) may ∙ sym may
+may_serve w can_grant can_refuse at OfNoKind served may = absurd may
+may_serve w can_grant can_refuse at (AtShelf shelf) served may = absurd may
+may_serve w can_grant can_refuse at (OfKind kind) Idle may = absurd may
+may_serve w can_grant can_refuse at (OfKind kind) Refused may = refl
+may_serve w can_grant can_refuse at (OfKind kind) (Granted slot) may = refl
+may_serve w can_grant can_refuse at (OfKind kind) Empty may = absurd may
+may_serve w can_grant can_refuse at (OfKind kind) (Fetched slot bytes) may = absurd may

@@ -1,6 +1,6 @@
 -- The run alone goes on as the run does, and stays once it has ended.
 use Rattle.std.proofs.Common.{◌≡◌, ℕ, zero, suc, ◌+◌, ◌-◌, ◌<◌, ◌≤◌, max, true, false, List, [], ◌∷◌, ◌++◌, length, map, Option, Some, None, Ok, refl, sym, ap, ◌∙◌, subst, arith, inl, inr, ◌⊎◌, add-one}
-use Rattle.std.specs.Prelude.{slice_get, nat_le}
+use Rattle.std.specs.Prelude.{slice_get, nat_le, drop}
 use Rattle.std.specs.List.{list_any}
 use Rattle.std.proofs.lemmas.Bool.{cond_both, false_from_ne_true}
 use Rattle.std.proofs.lemmas.List.{length-map, length_push, append-nil}
@@ -10,21 +10,21 @@ use Rattle.ebpf_verify.specs.Subject.{Subject}
 use Rattle.ebpf_verify.specs.Verdict.{IsAccepted}
 use Rattle.ebpf_machine.specs.declared.report.Reply.{Reply}
 use Rattle.ebpf_machine.specs.declared.report.Reply.TheVariants as reply
-use Rattle.ebpf_machine.specs.Effect.{Nothing, Write, Ask, Free, Effect, Goes, Ends, Traps}
-use Rattle.ebpf_machine.specs.World.{Answer, Absent, Null, Slot, World, Running, AnsweredCall, Status, Going, Exited, Trapped, is_in, is_in_ledger, held_by, holds_of, first_run}
-use Rattle.ebpf_machine.specs.Events.{Asking, Unasked, OfNoKind, OfKind, answer_fault, asking_of, with_slot_joined, exec}
-use Rattle.ebpf_machine.specs.Alone.{Alone, Fed, fed, fed_to, advanced, alone_first, alone_by, alone_next, alone_after, outcome_of, outcome_alone, Replies, replies_from, replies_of, more_than}
+use Rattle.ebpf_machine.specs.Effect.{Nothing, Write, Ask, Free, Exchange, Effect, Goes, Ends, Traps}
+use Rattle.ebpf_machine.specs.World.{Answer, Absent, Null, Slot, World, Running, AnsweredCall, Owner, Status, Going, Exited, Trapped, standing, is_in, is_in_ledger, held_by, holds_of, first_run}
+use Rattle.ebpf_machine.specs.Events.{Asking, Unasked, OfNoKind, OfKind, AtShelf, answer_fault, asking_of, with_slot_joined, exec}
+use Rattle.ebpf_machine.specs.Alone.{Alone, Fed, cleared_of, fed, fed_to, advanced, alone_first, alone_by, alone_next, alone_after, outcome_of, outcome_alone, Replies, replies_from, replies_of, more_than}
 use Rattle.ebpf_machine.specs.Whole.{told_to, told_alone}
 use Rattle.ebpf_machine.specs.View as view
-use Rattle.ebpf_machine.specs.View.{RunView, object_in, view_of, view_in, done_by, effect_of_view, stepped, CallResult, reply_in}
-use Rattle.ebpf_machine.specs.Step.{reply_of, asking_in}
+use Rattle.ebpf_machine.specs.View.{RunView, object_in, view_of, view_in, without_given, done_by, effect_of_view, stepped, CallResult, reply_in}
+use Rattle.ebpf_machine.specs.Step.{result_of, asking_in}
 use Rattle.ebpf_machine.specs.Sound.{IsOwned, IsSound, IsAlone, IsWellStated}
 use Rattle.ebpf_machine.proofs.World.Asking.{AsksNew, next_asks, asking_seen}
 use Rattle.ebpf_machine.proofs.World.Owned.{owned_first}
 use Rattle.ebpf_machine.proofs.World.NewSlots.{IsNew, joined_home, joined_in, joined_cases, owned_joined, view_joined}
 use Rattle.ebpf_machine.proofs.World.Replies.{heard_by_new, one_told, stepped_going, stepped_any, stepped_heard, replies_kept, replies_added}
 use Rattle.ebpf_machine.proofs.World.Steps.{next_of, sound_stepped, bounded, first_sound}
-use Rattle.ebpf_machine.proofs.World.Execs.{kinds_alike, next_world, sized_in, shown_run}
+use Rattle.ebpf_machine.proofs.World.Execs.{served_to, kinds_alike, next_world, sized_in, shown_run}
 
 -- ---- what an instruction leaves of a view
 
@@ -39,6 +39,11 @@ one_by v reply (Traps trap) = record { subject = refl; context = refl; executed 
 one_by v reply (Goes Nothing to after) = record { subject = refl; context = refl; executed = refl }
 one_by v reply (Goes (Write name at bytes) to after) = record { subject = refl; context = refl; executed = refl }
 one_by v reply (Goes (Free name) to after) = record { subject = refl; context = refl; executed = refl }
+one_by v view.Null (Goes (Exchange shelf given) to after) = record { subject = refl; context = refl; executed = refl }
+one_by v view.Empty (Goes (Exchange shelf given) to after) = record { subject = refl; context = refl; executed = refl }
+one_by v view.Granted (Goes (Exchange shelf given) to after) = record { subject = refl; context = refl; executed = refl }
+one_by v (view.Shelved bytes) (Goes (Exchange shelf given) to after) =
+    cond_both (nat_le v.subject.decl.held (length (without_given given v.objects))) _ _ (IsOneOn v) (λ e. record { subject = refl; context = refl; executed = refl }) (λ e. record { subject = refl; context = refl; executed = refl })
 one_by v view.Null (Goes (Ask kind) to after) = record { subject = refl; context = refl; executed = refl }
 one_by v view.Empty (Goes (Ask kind) to after) = record { subject = refl; context = refl; executed = refl }
 one_by v (view.Shelved bytes) (Goes (Ask kind) to after) = record { subject = refl; context = refl; executed = refl }
@@ -88,7 +93,7 @@ record IsFed (w : World) (r : Running) (told : CallResult) (f : Fed) : Type 0 wh
   runs : f.world.runs ≡ w.runs
   seen : view_of f.world 0 r ≡ view_of w 0 r
   fine : answer_fault f.world (asking_of f.world r) f.answer ≡ None
-  steps : stepped (reply_of f.answer) (view_of w 0 r) ≡ stepped told (view_of w 0 r)
+  steps : stepped (result_of (served_to f.world r f.answer)) (view_of w 0 r) ≡ stepped told (view_of w 0 r)
   below : (slot : ℕ) → is_in_ledger f.world slot ≡ true → slot < length (stepped told (view_of w 0 r)).replies
 
 fed_nothing : (a : Alone) (h : IsLone a) (told : CallResult) → h.run.status ≡ Going → asking_of a.world h.run ≡ Unasked → IsFed a.world h.run told (record { world = a.world; answer = Absent })
@@ -101,7 +106,7 @@ fed_nothing a h told going unasked =
       runs = refl;
       seen = refl;
       fine = rw unasked refl;
-      steps = stepped_any v view.Null told going asked;
+      steps = stepped_any v (result_of (served_to a.world h.run Absent)) told going asked;
       below = λ slot there. omega (arith, h.below slot there, kept);
     }
 
@@ -117,7 +122,7 @@ fed_null a h kind going asked new = record {
   runs = refl;
   seen = refl;
   fine = rw asked refl;
-  steps = refl;
+  steps = rw asked refl;
   below = λ slot there. omega (arith, h.below slot there, one_more a h view.Null kind going new);
 }
 
@@ -134,7 +139,7 @@ fed_slot a h kind going asked new =
       runs = refl;
       seen = view_joined w 0 kind slot h.run h.owned fresh;
       fine = rw (asked, home, its) refl;
-      steps = refl;
+      steps = rw asked refl;
       below = λ s there. within s (joined_cases w kind slot s there);
     }
   where
@@ -154,16 +159,19 @@ asks a h going = by (next_asks v (next_of v h.sound (sized_in a.world 0 h.run h.
 
 fed_is : (a : Alone) (replies : Replies) (h : IsLone a) → h.run.status ≡ Going → IsFed a.world h.run (used (slice_get replies.answers (length h.run.calls))) (fed_to a.world h.run replies)
 fed_is a replies h going = by (asks a h going) (slice_get replies.answers i) where
+  bytes : List ℕ
+  bytes = drop (length h.run.taken) replies.taken
+
   i : ℕ
   i = length h.run.calls
 
-  by : (asking_of a.world h.run ≡ Unasked) ⊎ ((kind : ℕ) × (asking_of a.world h.run ≡ OfKind kind) × AsksNew (view_of a.world 0 h.run) kind) → (o : Option Reply) → IsFed a.world h.run (used o) (fed (asking_of a.world h.run) o i a.world)
-  by (inl unasked) o = subst (λ (asking : Asking). IsFed a.world h.run (used o) (fed asking o i a.world)) (sym unasked) (fed_nothing a h (used o) going unasked)
-  by (inr (kind, asked, new)) None = subst (λ (asking : Asking). IsFed a.world h.run view.Null (fed asking None i a.world)) (sym asked) (fed_null a h kind going asked new)
-  by (inr (kind, asked, new)) (Some reply.Empty) = subst (λ (asking : Asking). IsFed a.world h.run view.Null (fed asking (Some reply.Empty) i a.world)) (sym asked) (fed_null a h kind going asked new)
-  by (inr (kind, asked, new)) (Some reply.Shelf) = subst (λ (asking : Asking). IsFed a.world h.run view.Null (fed asking (Some reply.Shelf) i a.world)) (sym asked) (fed_null a h kind going asked new)
-  by (inr (kind, asked, new)) (Some reply.Null) = subst (λ (asking : Asking). IsFed a.world h.run view.Null (fed asking (Some reply.Null) i a.world)) (sym asked) (fed_null a h kind going asked new)
-  by (inr (kind, asked, new)) (Some reply.Granted) = subst (λ (asking : Asking). IsFed a.world h.run view.Granted (fed asking (Some reply.Granted) i a.world)) (sym asked) (fed_slot a h kind going asked new)
+  by : (asking_of a.world h.run ≡ Unasked) ⊎ ((kind : ℕ) × (asking_of a.world h.run ≡ OfKind kind) × AsksNew (view_of a.world 0 h.run) kind) → (o : Option Reply) → IsFed a.world h.run (used o) (fed (asking_of a.world h.run) o bytes i a.world)
+  by (inl unasked) o = subst (λ (asking : Asking). IsFed a.world h.run (used o) (fed asking o bytes i a.world)) (sym unasked) (fed_nothing a h (used o) going unasked)
+  by (inr (kind, asked, new)) None = subst (λ (asking : Asking). IsFed a.world h.run view.Null (fed asking None bytes i a.world)) (sym asked) (fed_null a h kind going asked new)
+  by (inr (kind, asked, new)) (Some reply.Empty) = subst (λ (asking : Asking). IsFed a.world h.run view.Null (fed asking (Some reply.Empty) bytes i a.world)) (sym asked) (fed_null a h kind going asked new)
+  by (inr (kind, asked, new)) (Some reply.Shelf) = subst (λ (asking : Asking). IsFed a.world h.run view.Null (fed asking (Some reply.Shelf) bytes i a.world)) (sym asked) (fed_null a h kind going asked new)
+  by (inr (kind, asked, new)) (Some reply.Null) = subst (λ (asking : Asking). IsFed a.world h.run view.Null (fed asking (Some reply.Null) bytes i a.world)) (sym asked) (fed_null a h kind going asked new)
+  by (inr (kind, asked, new)) (Some reply.Granted) = subst (λ (asking : Asking). IsFed a.world h.run view.Granted (fed asking (Some reply.Granted) bytes i a.world)) (sym asked) (fed_slot a h kind going asked new)
 
 -- ---- one instruction more
 
@@ -187,7 +195,7 @@ next_alone a replies h going =
     let is = fed_is a replies h going in
     let there : slice_get f.world.runs 0 ≡ Some h.run = ap (λ (rs : List Running). slice_get rs 0) is.runs ∙ there_is a h in
     let next = next_world f.world 0 h.run f.answer is.owned there (subst IsSound (sym is.seen) h.sound) going is.fine in
-    let seen : view_in next.0 0 ≡ Some (stepped told v) = next.1.seen ∙ ap (λ (u : RunView). Some (stepped (reply_of f.answer) u)) is.seen ∙ ap Some is.steps in
+    let seen : view_in next.0 0 ≡ Some (stepped told v) = next.1.seen ∙ ap (λ (u : RunView). Some (stepped (result_of (served_to f.world h.run f.answer)) u)) is.seen ∙ ap Some is.steps in
     let r = shown_run next.0 0 (stepped told v) seen in
     let one : length next.0.runs ≡ 1 = next.1.as_many ∙ ap (λ (rs : List Running). length rs) (is.runs ∙ h.only) in
     let as_told : length r.0.calls ≡ length (stepped told v).replies = sym (length-map r.0.calls (λ (t : AnsweredCall). t.reply)) ∙ ap (λ (u : RunView). length u.replies) r.2 in (
@@ -206,14 +214,23 @@ next_alone a replies h going =
     )
 
 -- what is fed to a run leaves the runs as they are
-fed_runs : (asked : Asking) (told : Option Reply) (i : ℕ) (w : World) → (fed asked told i w).world.runs ≡ w.runs
-fed_runs Unasked told i w = refl
-fed_runs OfNoKind told i w = refl
-fed_runs (OfKind kind) None i w = refl
-fed_runs (OfKind kind) (Some reply.Null) i w = refl
-fed_runs (OfKind kind) (Some reply.Empty) i w = refl
-fed_runs (OfKind kind) (Some reply.Shelf) i w = refl
-fed_runs (OfKind kind) (Some reply.Granted) i w = refl
+cleared_runs : (o : Option Owner) (shelf : ℕ) (w : World) → (cleared_of o shelf w).runs ≡ w.runs
+cleared_runs None shelf w = refl
+cleared_runs (Some o) shelf w = refl
+
+fed_runs : (asked : Asking) (told : Option Reply) (bytes : List ℕ) (i : ℕ) (w : World) → (fed asked told bytes i w).world.runs ≡ w.runs
+fed_runs Unasked told bytes i w = refl
+fed_runs OfNoKind told bytes i w = refl
+fed_runs (OfKind kind) None bytes i w = refl
+fed_runs (OfKind kind) (Some reply.Null) bytes i w = refl
+fed_runs (OfKind kind) (Some reply.Empty) bytes i w = refl
+fed_runs (OfKind kind) (Some reply.Shelf) bytes i w = refl
+fed_runs (OfKind kind) (Some reply.Granted) bytes i w = refl
+fed_runs (AtShelf shelf) None bytes i w = cleared_runs (standing w shelf) shelf w
+fed_runs (AtShelf shelf) (Some reply.Null) bytes i w = cleared_runs (standing w shelf) shelf w
+fed_runs (AtShelf shelf) (Some reply.Empty) bytes i w = cleared_runs (standing w shelf) shelf w
+fed_runs (AtShelf shelf) (Some reply.Shelf) bytes i w = cleared_runs (standing w shelf) shelf w
+fed_runs (AtShelf shelf) (Some reply.Granted) bytes i w = cleared_runs (standing w shelf) shelf w
 
 ended_stays : (w : World) (answer : Answer) (r : Running) (n : ℕ) (a : Alone) → slice_get w.runs 0 ≡ Some r → r.status ≡ Exited n → advanced (exec w 0 answer) a ≡ a
 ended_stays w answer r n a there ended = rw (there, ended) refl
@@ -222,7 +239,7 @@ ended_stays w answer r n a there ended = rw (there, ended) refl
 pub ended_next : (a : Alone) (replies : Replies) (h : IsLone a) (n : ℕ) → h.run.status ≡ Exited n → alone_next replies a ≡ a
 ended_next a replies h n ended =
     let f = fed_to a.world h.run replies in
-    let same : f.world.runs ≡ a.world.runs = fed_runs (asking_of a.world h.run) (slice_get replies.answers (length h.run.calls)) (length h.run.calls) a.world in
+    let same : f.world.runs ≡ a.world.runs = fed_runs (asking_of a.world h.run) (slice_get replies.answers (length h.run.calls)) (drop (length h.run.taken) replies.taken) (length h.run.calls) a.world in
     let there : slice_get f.world.runs 0 ≡ Some h.run = ap (λ (rs : List Running). slice_get rs 0) same ∙ there_is a h in
     rw (there_is a h) (ended_stays f.world f.answer h.run n a there ended)
 
@@ -289,8 +306,18 @@ fed_alike a h replies others alike =
     ∙ ap (λ (f : Fed). advanced (exec f.world 0 f.answer) a) alike
     ∙ sym (ap (λ (o : Option Running). alone_by o others a) (there_is a h))
 
-fed_unasked : (asked : Asking) (o other : Option Reply) (i : ℕ) (w : World) → asked ≡ Unasked → fed asked o i w ≡ fed asked other i w
-fed_unasked asked o other i w unasked = rw unasked refl
+fed_unasked : (asked : Asking) (o other : Option Reply) (bytes more : List ℕ) (i : ℕ) (w : World) → asked ≡ Unasked → fed asked o bytes i w ≡ fed asked other more i w
+fed_unasked asked o other bytes more i w unasked = rw unasked refl
+
+-- a call of new reads no bytes
+fed_new : (asked : Asking) (kind : ℕ) (o : Option Reply) (bytes more : List ℕ) (i : ℕ) (w : World) → asked ≡ OfKind kind → fed asked o bytes i w ≡ fed asked o more i w
+fed_new asked kind o bytes more i w is = rw is (by o) where
+  by : (o : Option Reply) → fed (OfKind kind) o bytes i w ≡ fed (OfKind kind) o more i w
+  by None = refl
+  by (Some reply.Null) = refl
+  by (Some reply.Granted) = refl
+  by (Some reply.Empty) = refl
+  by (Some reply.Shelf) = refl
 
 -- replies behind those that it was told are not read
 unread_next : (a : Alone) (replies more : Replies) (h : IsLone a) → h.run.status ≡ Going → told_of (alone_next replies a) ≤ length replies.answers → (told_of a ≤ length replies.answers) × (alone_next (more_than replies more) a ≡ alone_next replies a)
@@ -303,11 +330,11 @@ unread_next a replies more h going fits = by (asks a h going) where
       let v = view_of a.world 0 h.run in
       let asked : asking_in v ≡ Unasked = sym (asking_seen a.world 0 h.run h.owned (there_is a h)) ∙ unasked in
       let kept = replies_kept v (used (slice_get replies.answers i)) going asked in
-      (omega (arith, fits, told_is a h, told_next a replies h going, ap (λ (rs : Replies). length rs.answers) kept, length-map h.run.calls (λ (t : AnsweredCall). t.reply)), fed_alike a h (more_than replies more) replies (fed_unasked (asking_of a.world h.run) (slice_get (replies.answers ++ more.answers) i) (slice_get replies.answers i) i a.world unasked))
+      (omega (arith, fits, told_is a h, told_next a replies h going, ap (λ (rs : Replies). length rs.answers) kept, length-map h.run.calls (λ (t : AnsweredCall). t.reply)), fed_alike a h (more_than replies more) replies (fed_unasked (asking_of a.world h.run) (slice_get (replies.answers ++ more.answers) i) (slice_get replies.answers i) (drop (length h.run.taken) (replies.taken ++ more.taken)) (drop (length h.run.taken) replies.taken) i a.world unasked))
   by (inr (kind, asked, new)) =
       let grown = one_more a h (used (slice_get replies.answers i)) kind going new in
       let before : i < length replies.answers = omega (arith, fits, told_next a replies h going, grown) in
-      (omega (arith, before, told_is a h), fed_alike a h (more_than replies more) replies (ap (λ (o : Option Reply). fed (asking_of a.world h.run) o i a.world) (slice_get-append_left replies.answers more.answers i reply.Null before)))
+      (omega (arith, before, told_is a h), fed_alike a h (more_than replies more) replies (ap (λ (o : Option Reply). fed (asking_of a.world h.run) o (drop (length h.run.taken) (replies.taken ++ more.taken)) i a.world) (slice_get-append_left replies.answers more.answers i reply.Null before) ∙ fed_new (asking_of a.world h.run) kind (slice_get replies.answers i) _ _ i a.world asked))
 
 after_unread : (n : ℕ) (subject : Subject) (context : List ℕ) (replies more : Replies) → IsAccepted subject → length context ≡ subject.decl.context → told_of (alone_after n subject context replies) ≤ length replies.answers
     → alone_after n subject context (more_than replies more) ≡ alone_after n subject context replies

@@ -13,7 +13,7 @@ use Rattle.ebpf_machine.proofs.World.Owners.{owner_of, held_owner}
 use Rattle.ebpf_machine.proofs.World.ObjectsSeen.{objects_of}
 use Rattle.ebpf_machine.proofs.World.TrapsSeen.{found_seen}
 
-is_call-own : (run at : ℕ) (h : Holder) → is_call run at h ≡ true → h ≡ Run run at
+pub is_call-own : (run at : ℕ) (h : Holder) → is_call run at h ≡ true → h ≡ Run run at
 is_call-own run at (Run r a) e =
     let parts = and_parts (r == run) (a == at) e in
     let same_run = eqb-true r run parts.0 in
@@ -21,34 +21,34 @@ is_call-own run at (Run r a) e =
     λ i. Run (same_run i) (same_call i)
 is_call-own run at (Shelf s) e = absurd (cc)
 
-call_is : (run at : ℕ) (h : Holder) → h ≡ Run run at → is_call run at h ≡ true
+pub call_is : (run at : ℕ) (h : Holder) → h ≡ Run run at → is_call run at h ≡ true
 call_is run at h e = ap (is_call run at) e ∙ and_from (run == run) (at == at) (eq-eqb run run refl) (eq-eqb at at refl)
 
 run_is : (run at : ℕ) (h : Holder) → h ≡ Run run at → is_run run h ≡ true
 run_is run at h e = ap (is_run run) e ∙ eq-eqb run run refl
 
 -- the run has the slot by the call of the name
-abbrev has_name : ℕ → Name → Owner → Bool
+abbrev pub has_name : ℕ → Name → Owner → Bool
 has_name run n o = (o.slot == n.slot) && is_call run n.call o.holder
 
-its_owner : (run : ℕ) (n : Name) (o : Owner) → has_name run n o ≡ true → o ≡ owner_of run n
+pub its_owner : (run : ℕ) (n : Name) (o : Owner) → has_name run n o ≡ true → o ≡ owner_of run n
 its_owner run n o e =
     let parts = and_parts (o.slot == n.slot) (is_call run n.call o.holder) e in
     let slot = eqb-true o.slot n.slot parts.0 in
     let holder = is_call-own run n.call o.holder parts.1 in
     λ i. record { slot = slot i; holder = holder i }
 
-ok_bytes : (a b : Found) (the : Result Found Trap) → the ≡ Ok a → the ≡ Ok b → b.bytes ≡ a.bytes
-ok_bytes a b the e f = let same : b ≡ a = cc in ap (λ (found : Found). found.bytes) same
+ok_same : (a b : Found) (the : Result Found Trap) → the ≡ Ok a → the ≡ Ok b → b ≡ a
+ok_same a b the e f = cc
 
 -- what a run finds, it holds
-pub own_found : (w : World) (run : ℕ) (n : Name) (found : Found) → object_for w run n ≡ Ok found → Contains w.owners (owner_of run n) × (found.bytes ≡ w.bytes n.slot)
+pub own_found : (w : World) (run : ℕ) (n : Name) (found : Found) → object_for w run n ≡ Ok found → Contains w.owners (owner_of run n) × (found.bytes ≡ w.bytes n.slot) × (found.kind ≡ kind_in w n.slot)
 own_found w run n found e = by (is_held_by w run n) (is_anothers w run n.slot) refl e where
   its : Found
   its = record { kind = kind_in w n.slot; bytes = w.bytes n.slot }
 
-  by : (t u : Bool) → is_held_by w run n ≡ t → cond t (Ok its) (cond u (Err AnotherRunsObject) (Err UseAfterFree)) ≡ Ok found → Contains w.owners (owner_of run n) × (found.bytes ≡ w.bytes n.slot)
-  by true u held e = let one = any_one (has_name run n) w.owners held in (subst (Contains w.owners) (its_owner run n one.0 one.2) one.1, ok_bytes its found (Ok its) refl e)
+  by : (t u : Bool) → is_held_by w run n ≡ t → cond t (Ok its) (cond u (Err AnotherRunsObject) (Err UseAfterFree)) ≡ Ok found → Contains w.owners (owner_of run n) × (found.bytes ≡ w.bytes n.slot) × (found.kind ≡ kind_in w n.slot)
+  by true u held e = let one = any_one (has_name run n) w.owners held in (subst (Contains w.owners) (its_owner run n one.0 one.2) one.1, ap (λ (f : Found). f.bytes) (ok_same its found (Ok its) refl e), ap (λ (f : Found). f.kind) (ok_same its found (Ok its) refl e))
   by false true held e = absurd (cc)
   by false false held e = absurd (cc)
 

@@ -56,7 +56,7 @@ others_written w run other name bytes owned own ne =
 pub objects_given : (w : World) (run : ℕ) (name : Name) (bytes : List ℕ) → IsOwned w → Contains w.owners (owner_of run name)
     → objects_of (with_bytes name.slot bytes (without_owner run name w)) run ≡ filter (λ (o : ObjectView). not (o.call == name.call)) (objects_of w run)
 objects_given w run name bytes owned own =
-    ap (map (object_in (with_bytes name.slot bytes w))) (held_given w run name owned own)
+    ap (map (object_in (with_bytes name.slot bytes w))) (held_given w run name (λ o among e. slot_of_call w run name o owned own among e))
     ∙ map_agree (object_in (with_bytes name.slot bytes w)) (object_in w) (filter stays (held_by w run)) (λ o among. kept o among)
     ∙ sym (filter-map (λ (o : ObjectView). not (o.call == name.call)) (object_in w) (held_by w run))
   where

@@ -1,10 +1,11 @@
 -- Owners, ledgers and pointers still fit together after an event.
-use Rattle.std.proofs.Common.{◌≡◌, ◌≢◌, ◌⊎◌, inl, inr, ℕ, ◌+◌, ◌<◌, ◌≤◌, pos, Bool, true, false, cond, List, [], ◌∷◌, ◌++◌, length, Some, refl, sym, ap, ◌∙◌, subst, arith}
-use Rattle.std.specs.Prelude.{Contains, slice_get, nat_le, map, count_by, ◌&&◌}
+use Rattle.std.proofs.Common.{◌≡◌, ◌≢◌, ◌⊎◌, inl, inr, ℕ, ◌+◌, ◌<◌, ◌≤◌, pos, Bool, true, false, cond, List, [], ◌∷◌, ◌++◌, length, Option, Some, None, refl, sym, ap, ◌∙◌, subst, arith}
+use Rattle.std.specs.Prelude.{Contains, slice_get, nat_le, map, count_by, ◌==◌, ◌&&◌, not}
 use Rattle.std.specs.List.{list_any}
 use Rattle.std.proofs.lemmas.List.{length-append, length-take, length-drop, length-map}
 use Rattle.std.proofs.lemmas.List.Elements.{Contains-append_left, Contains-push}
 use Rattle.ebpf_verify.specs.Subject.{Subject}
+use Rattle.ebpf_insn.specs.declared.register.Reg.TheVariants.{R0}
 use Rattle.ebpf_machine.specs.declared.value.Value.{Value}
 use Rattle.ebpf_machine.specs.declared.value.Value.TheVariants.{Number, Pointer}
 use Rattle.ebpf_machine.specs.declared.value.Base.TheVariants.{Object}
@@ -12,15 +13,18 @@ use Rattle.ebpf_machine.specs.declared.report.Reply.{Reply}
 use Rattle.ebpf_machine.specs.declared.report.Reply.TheVariants as reply
 use Rattle.ebpf_machine.specs.Bytes.{patched}
 use Rattle.ebpf_machine.specs.Values.{Frame, TooManyObjects}
-use Rattle.ebpf_machine.specs.Effect.{Effect, Goes, Ends, Traps, Nothing, Write, Ask, Free}
-use Rattle.ebpf_machine.specs.World.{Name, Kind, World, Running, AnsweredCall, Owner, Run, Shelf, Answer, Absent, Null, Slot, is_in, is_home, holds_of, ledger_of, kind_in, kinds_of, image_at, first_run, name_of, IsOfKind, AskedFor}
-use Rattle.ebpf_machine.specs.Events.{with_run, with_bytes, with_owner, moved_to, ended, trapped, replied, granted, done_by, started}
+use Rattle.ebpf_machine.specs.Effect.{Effect, Goes, Ends, Traps, Nothing, Write, Ask, Free, Exchange, with_value}
+use Rattle.ebpf_machine.specs.World.{Name, Kind, World, Running, AnsweredCall, Owner, Run, Shelf, Answer, Absent, Null, Slot, is_in, is_home, holds_of, ledger_of, kind_in, kinds_of, image_at, is_call, is_shelf, standing, first_run, name_of, IsGot, IsOfKind, AskedFor}
+use Rattle.ebpf_machine.specs.Events.{with_run, with_bytes, with_owner, moved_to, ended, trapped, replied, granted, put_on, fetched, shelf_told, exchanged, done_by, started}
 use Rattle.ebpf_machine.specs.Alone.{alone_first}
+use Rattle.ebpf_machine.specs.View.{call_of}
 use Rattle.ebpf_machine.specs.Sound.{IsOwned, Names, HasPointer, HasOneSlot, IsTrue}
-use Rattle.ebpf_machine.proofs.Lists.ListLemmas.{get_set_same, get_push, get_push_cases}
-use Rattle.ebpf_machine.proofs.World.Owners.{owner_of}
+use Rattle.ebpf_machine.proofs.Lists.ListLemmas.{IsFound, get_set_same, get_push, get_push_cases}
+use Rattle.ebpf_machine.proofs.World.Owners.{owner_of, run_of}
 use Rattle.ebpf_machine.proofs.World.ObjectPointers.{pointer_written, no_first_pointer}
-use Rattle.ebpf_machine.proofs.World.OwnedParts.{IsLater, same_run, owned_running, owned_bytes, owned_given, owned_granted}
+use Rattle.ebpf_machine.proofs.World.OwnedParts.{IsLater, same_run, nothing_yet, owned_running, owned_bytes, owned_given, owned_granted}
+use Rattle.ebpf_machine.proofs.World.Moves.{MayHold, owned_moved}
+use Rattle.ebpf_machine.proofs.World.Exchanges.{IsOwnGiven, StandsOn, stands, standing_there, off_shelf, shelf_is_no_run, kind_on_shelf, shelf_dropped, given_dropped, given_with_run, given_fetched, fetched_off}
 use Rattle.ebpf_machine.proofs.World.Acts.{IsOwnEffect}
 
 -- an instruction leads forward, and makes no pointer to an object that its run had none to
@@ -48,10 +52,11 @@ owned_gone w run r to frame owned there forward fewer =
 later_replied : (r : Running) (kind to : ℕ) (told : Reply) (v : Value Name) (frame : Frame Name) → r.pc < to → IsLater r (replied kind told v to frame r)
 later_replied r kind to told v frame forward = record { subject = refl; pc = omega arith; told = λ t among. Contains-append_left r.calls (record { at = r.pc; kind = kind; reply = told } ∷ []) t among }
 
-owned_null : (w : World) (run : ℕ) (r : Running) (kind to : ℕ) (frame : Frame Name) → IsOwned w → slice_get w.runs run ≡ Some r → r.pc < to → ((n : Name) → HasPointer frame n → HasPointer r.frame n) → IsOwned (with_run w run (replied kind reply.Null (Number 0) to frame r))
-owned_null w run r kind to frame owned there forward fewer = owned_running w run r now owned there (later_replied r kind to reply.Null (Number 0) frame forward) (λ n has. by n (pointer_written frame (Number 0) n has)) (λ n m has too e. alike n m (pointer_written frame (Number 0) n has) (pointer_written frame (Number 0) m too) e) where
+-- a call goes on with 0
+pub owned_told : (w : World) (run : ℕ) (r : Running) (told : Reply) (kind to : ℕ) (frame : Frame Name) → IsOwned w → slice_get w.runs run ≡ Some r → r.pc < to → ((n : Name) → HasPointer frame n → HasPointer r.frame n) → IsOwned (with_run w run (replied kind told (Number 0) to frame r))
+owned_told w run r told kind to frame owned there forward fewer = owned_running w run r now owned there (later_replied r kind to told (Number 0) frame forward) (λ n has. by n (pointer_written frame (Number 0) n has)) (λ n m has too e. alike n m (pointer_written frame (Number 0) n has) (pointer_written frame (Number 0) m too) e) where
   now : Running
-  now = replied kind reply.Null (Number 0) to frame r
+  now = replied kind told (Number 0) to frame r
 
   by : (n : Name) → HasPointer frame n ⊎ Names (Some (Number 0)) n → IsTrue w.owners run now n
   by n (inl has) = true_later w run r now n (omega arith) (owned.runs.pointers run r there n (fewer n has))
@@ -64,59 +69,111 @@ owned_null w run r kind to frame owned there forward fewer = owned_running w run
 
 -- ---- an object is granted
 
--- the call at which a run is holds nothing
-nothing_yet : (w : World) (run : ℕ) (r : Running) (o : Owner) → IsOwned w → slice_get w.runs run ≡ Some r → Contains w.owners o → o.holder ≢ Run run r.pc
-nothing_yet w run r o owned there among e =
-    let asked : AskedFor w.runs run r.pc (kind_in w o.slot) = subst (λ h. IsOfKind w.runs h (kind_in w o.slot)) e (owned.runs.asked o among) in
-    let same = same_run w run r asked.asker there asked.there in
-    absurd (omega (arith, asked.behind, ap (λ (x : Running). x.pc) same))
+-- the run goes on with a pointer to this slot by its call: all that points to what that call got is to this slot
+record IsHanded (w : World) (run : ℕ) (r now : Running) (slot : ℕ) : Type 0 where
+  owned : IsOwned (with_run w run now)
+  points : (x : Running) (n : Name) → slice_get (with_run w run now).runs run ≡ Some x → HasPointer x.frame n → n.call ≡ r.pc → n.slot ≡ slot
+
+handed : (w : World) (run : ℕ) (r now : Running) (slot : ℕ) (frame : Frame Name) → IsOwned w → slice_get w.runs run ≡ Some r → now.frame ≡ with_value frame R0 (Pointer (Object (name_of slot r.pc)) (pos 0)) → IsLater r now → r.pc < now.pc → ((n : Name) → HasPointer frame n → HasPointer r.frame n) → IsHanded w run r now slot
+handed w run r now slot frame owned there is later forward fewer = record {
+  owned = owned_running w run r now owned there later (λ n has. true_now n (cases n has)) (λ n m has too e. alike n m (cases n has) (cases m too) e);
+  points = λ x n at has e.
+      let same = same_run (with_run w run now) run now x (get_set_same w.runs run r now there) at in
+      to_slot n (cases n (subst (λ (y : Running). HasPointer y.frame n) same has)) e;
+}
+  where
+    -- a pointer that the run has then is an older one, or the new one
+    cases : (n : Name) → HasPointer now.frame n → (HasPointer r.frame n) ⊎ (name_of slot r.pc ≡ n)
+    cases n has = old_or_new (pointer_written frame (Pointer (Object (name_of slot r.pc)) (pos 0)) n (subst (λ (f : Frame Name). HasPointer f n) is has)) where
+      old_or_new : HasPointer frame n ⊎ Names (Some (Pointer (Object (name_of slot r.pc)) (pos 0))) n → (HasPointer r.frame n) ⊎ (name_of slot r.pc ≡ n)
+      old_or_new (inl old) = inl (fewer n old)
+      old_or_new (inr new) = inr new
+
+    true_now : (n : Name) → (HasPointer r.frame n) ⊎ (name_of slot r.pc ≡ n) → IsTrue w.owners run now n
+    true_now n (inl old) = true_later w run r now n (omega arith) (owned.runs.pointers run r there n old)
+    true_now n (inr new) =
+        let call : r.pc ≡ n.call = ap (λ (m : Name). m.call) new in
+        record { behind = omega arith; slot = λ o among e. absurd (nothing_yet w run r o owned there among (e ∙ ap (λ (k : ℕ). Run run k) (sym call))) }
+
+    alike : (n m : Name) → (HasPointer r.frame n) ⊎ (name_of slot r.pc ≡ n) → (HasPointer r.frame m) ⊎ (name_of slot r.pc ≡ m) → n.call ≡ m.call → n.slot ≡ m.slot
+    alike n m (inl old) (inl older) e = owned.runs.one_slot run r there n m old older e
+    alike n m (inl old) (inr new) e = let behind = (owned.runs.pointers run r there n old).behind in let call : r.pc ≡ m.call = ap (λ (x : Name). x.call) new in absurd (omega arith)
+    alike n m (inr new) (inl old) e = let behind = (owned.runs.pointers run r there m old).behind in let call : r.pc ≡ n.call = ap (λ (x : Name). x.call) new in absurd (omega arith)
+    alike n m (inr new) (inr newer) e = ap (λ (x : Name). x.slot) (sym new ∙ newer)
+
+    to_slot : (n : Name) → (HasPointer r.frame n) ⊎ (name_of slot r.pc ≡ n) → n.call ≡ r.pc → n.slot ≡ slot
+    to_slot n (inl old) e = let behind = (owned.runs.pointers run r there n old).behind in absurd (omega (arith, e))
+    to_slot n (inr new) e = ap (λ (m : Name). m.slot) (sym new)
+
+-- what it was told is that it got one of this kind
+asked_now : (w : World) (run : ℕ) (r now : Running) (kind : ℕ) (told : Reply) → slice_get w.runs run ≡ Some r → r.pc < now.pc → now.calls ≡ r.calls ++ record { at = r.pc; kind = kind; reply = told } ∷ [] → IsGot told → AskedFor (with_run w run now).runs run r.pc kind
+asked_now w run r now kind told there forward is got = record {
+  asker = now;
+  there = get_set_same w.runs run r now there;
+  behind = forward;
+  reply = told;
+  got = got;
+  told = subst (λ (calls : List AnsweredCall). Contains calls (record { at = r.pc; kind = kind; reply = told })) (sym is) (Contains-push r.calls (record { at = r.pc; kind = kind; reply = told }));
+}
 
 owned_taken : (w : World) (run : ℕ) (r : Running) (slot kind to : ℕ) (frame : Frame Name) → IsOwned w → slice_get w.runs run ≡ Some r → is_home w slot ≡ true → is_in slot (ledger_of w kind) ≡ true → r.pc < to → ((n : Name) → HasPointer frame n → HasPointer r.frame n)
     → IsOwned (granted slot w run r to frame kind)
 owned_taken w run r slot kind to frame owned there home of_kind forward fewer = by (nat_le r.subject.decl.held (holds_of w run)) where
+  pointer : Value Name
+  pointer = Pointer (Object (name_of slot r.pc)) (pos 0)
+
   now : Running
-  now = replied kind reply.Granted (Pointer (Object (name_of slot r.pc)) (pos 0)) to frame r
+  now = replied kind reply.Granted pointer to frame r
 
-  next : World
-  next = with_run w run now
-
-  -- a pointer that the run has then is an older one, or the new one
-  cases : (n : Name) → HasPointer now.frame n → (HasPointer r.frame n) ⊎ ((name_of slot r.pc) ≡ n)
-  cases n has = old_or_new n (pointer_written frame (Pointer (Object (name_of slot r.pc)) (pos 0)) n has) where
-    old_or_new : (n : Name) → HasPointer frame n ⊎ Names (Some (Pointer (Object (name_of slot r.pc)) (pos 0))) n → (HasPointer r.frame n) ⊎ ((name_of slot r.pc) ≡ n)
-    old_or_new n (inl old) = inl (fewer n old)
-    old_or_new n (inr new) = inr new
-
-  true_now : (n : Name) → (HasPointer r.frame n) ⊎ ((name_of slot r.pc) ≡ n) → IsTrue w.owners run now n
-  true_now n (inl old) = true_later w run r now n (omega arith) (owned.runs.pointers run r there n old)
-  true_now n (inr new) =
-      let call : r.pc ≡ n.call = ap (λ (m : Name). m.call) new in
-      record { behind = omega arith; slot = λ o among e. absurd (nothing_yet w run r o owned there among (e ∙ ap (λ (k : ℕ). Run run k) (sym call))) }
-
-  alike : (n m : Name) → (HasPointer r.frame n) ⊎ ((name_of slot r.pc) ≡ n) → (HasPointer r.frame m) ⊎ ((name_of slot r.pc) ≡ m) → n.call ≡ m.call → n.slot ≡ m.slot
-  alike n m (inl old) (inl older) e = owned.runs.one_slot run r there n m old older e
-  alike n m (inl old) (inr new) e = let behind = (owned.runs.pointers run r there n old).behind in let call : r.pc ≡ m.call = ap (λ (x : Name). x.call) new in absurd (omega arith)
-  alike n m (inr new) (inl old) e = let behind = (owned.runs.pointers run r there m old).behind in let call : r.pc ≡ n.call = ap (λ (x : Name). x.call) new in absurd (omega arith)
-  alike n m (inr new) (inr newer) e = ap (λ (x : Name). x.slot) (sym new ∙ newer)
-
-  points : (n : Name) → (HasPointer r.frame n) ⊎ ((name_of slot r.pc) ≡ n) → n.call ≡ r.pc → n.slot ≡ slot
-  points n (inl old) e = let behind = (owned.runs.pointers run r there n old).behind in absurd (omega (arith, e))
-  points n (inr new) e = ap (λ (m : Name). m.slot) (sym new)
-
-  points_in : (x : Running) (n : Name) → slice_get next.runs run ≡ Some x → HasPointer x.frame n → n.call ≡ r.pc → n.slot ≡ slot
-  points_in x n at has e =
-      let same = same_run next run now x (get_set_same w.runs run r now there) at in
-      points n (cases n (subst (λ (y : Running). HasPointer y.frame n) same has)) e
-
-  asked : AskedFor next.runs run r.pc kind
-  asked = record { asker = now; there = get_set_same w.runs run r now there; behind = forward; reply = reply.Granted; got = tt; told = Contains-push r.calls (record { at = r.pc; kind = kind; reply = reply.Granted }) }
-
-  owned_next : IsOwned next
-  owned_next = owned_running w run r now owned there (later_replied r kind to reply.Granted (Pointer (Object (name_of slot r.pc)) (pos 0)) frame forward) (λ n has. true_now n (cases n has)) (λ n m has too e. alike n m (cases n has) (cases m too) e)
+  next : IsHanded w run r now slot
+  next = handed w run r now slot frame owned there refl (later_replied r kind to reply.Granted pointer frame forward) forward fewer
 
   by : (t : Bool) → IsOwned (cond t (with_run w run (trapped TooManyObjects r)) (with_owner slot (Run run r.pc) (with_bytes slot (image_at w.kinds kind) (with_run w run now))))
   by true = owned_stays w run r (trapped TooManyObjects r) owned there refl refl refl refl
-  by false = owned_granted next run r.pc slot kind owned_next home of_kind asked (λ o among. nothing_yet w run r o owned there among) points_in
+  by false = owned_granted (with_run w run now) run r.pc slot kind next.owned home of_kind (asked_now w run r now kind reply.Granted there forward refl tt) (λ o among. nothing_yet w run r o owned there among) next.points
+
+-- ---- what stands on a shelf is exchanged
+
+-- what a run gives goes onto a shelf on which nothing stands
+owned_put : (w : World) (run shelf : ℕ) (given : Option Name) → IsOwned w → IsOwnGiven w run shelf given → ((p : Owner) → Contains w.owners p → p.holder ≢ Shelf shelf) → IsOwned (put_on given shelf run w)
+owned_put w run shelf None owned own nobody = owned
+owned_put w run shelf (Some name) owned own nobody =
+    owned_moved w (owner_of run name) (λ p. not ((p.slot == name.slot) && is_call run name.call p.holder)) (Shelf shelf) owned (given_dropped w run name own.0) (record { nothing = nobody; asked = sym own.1; points = λ k x n at has e. absurd (shelf_is_no_run shelf k n.call e) })
+
+owned_exchanged : (w : World) (run : ℕ) (r : Running) (to : ℕ) (frame : Frame Name) (shelf : ℕ) (given : Option Name) → IsOwned w → slice_get w.runs run ≡ Some r → IsOwnGiven w run shelf given → r.pc < to → ((n : Name) → HasPointer frame n → HasPointer r.frame n)
+    → IsOwned (exchanged (standing w shelf) w run r to frame shelf given)
+owned_exchanged w run r to frame shelf given owned there own forward fewer = by (standing w shelf) (stands w shelf) where
+  by : (o : Option Owner) → IsFound (λ p. is_shelf shelf p.holder) w.owners o → IsOwned (exchanged o w run r to frame shelf given)
+  by None none = owned_put (with_run w run (replied shelf reply.Empty (Number 0) to frame r)) run shelf given (owned_told w run r reply.Empty shelf to frame owned there forward fewer) (given_with_run w run shelf given (replied shelf reply.Empty (Number 0) to frame r) own) (λ p among. off_shelf shelf p (none p among))
+  by (Some o) found = chosen (nat_le r.subject.decl.held (holds_of (put_on given shelf run w) run)) where
+    on : StandsOn w shelf o
+    on = standing_there w shelf o found
+
+    now : Running
+    now = shelf_told o.slot (w.bytes o.slot) shelf to frame r
+
+    next : IsHanded w run r now o.slot
+    next = handed w run r now o.slot frame owned there refl (record { subject = refl; pc = omega arith; told = (later_replied r shelf to reply.Shelf (Pointer (Object (name_of o.slot r.pc)) (pos 0)) frame forward).told }) forward fewer
+
+    kind_is : shelf ≡ kind_in w o.slot
+    kind_is = kind_on_shelf w shelf o owned on
+
+    may : MayHold (with_run w run now) o.slot (Run run r.pc)
+    may = record {
+      nothing = λ p among. nothing_yet w run r p owned there among;
+      asked = subst (λ (kind : ℕ). AskedFor (with_run w run now).runs run r.pc kind) kind_is (asked_now w run r now shelf reply.Shelf there forward refl tt);
+      points = λ k x n at has e.
+          let its_run : run ≡ k = ap run_of e in
+          let its_call : r.pc ≡ n.call = ap call_of e in
+          sym (next.points x n (ap (λ (m : ℕ). slice_get (with_run w run now).runs m) its_run ∙ at) has (sym its_call));
+    }
+
+    owned_fetched : IsOwned (fetched o shelf run r.pc (with_run w run now))
+    owned_fetched = owned_moved (with_run w run now) o (λ p. not (is_shelf shelf p.holder)) (Run run r.pc) next.owned (shelf_dropped (with_run w run now) shelf o next.owned (record { among = on.among; holder = on.holder })) may
+
+    chosen : (t : Bool) → IsOwned (cond t (with_run w run (trapped TooManyObjects r)) (put_on given shelf run (fetched o shelf run r.pc (with_run w run now))))
+    chosen true = owned_stays w run r (trapped TooManyObjects r) owned there refl refl refl refl
+    chosen false = owned_put (fetched o shelf run r.pc (with_run w run now)) run shelf given owned_fetched (given_fetched w run r.pc shelf o given now own) (λ p among. fetched_off (with_run w run now) run r.pc shelf o p among)
 
 -- ---- every event
 
@@ -131,8 +188,9 @@ owned_done w run r (Goes Nothing to frame) answer owned there own forward = owne
 owned_done w run r (Goes (Write name at bytes) to frame) answer owned there own forward =
     owned_bytes (with_run w run (moved_to to frame r)) name.slot (patched (w.bytes name.slot) at bytes) (owner_of run name) (owned_gone w run r to frame owned there forward.0 forward.1) own.0 refl (patched_long (w.bytes name.slot) bytes at own.1)
 owned_done w run r (Goes (Free name) to frame) answer owned there own forward = owned_given (with_run w run (moved_to to frame r)) run name (owned_gone w run r to frame owned there forward.0 forward.1) own
-owned_done w run r (Goes (Ask kind) to frame) Absent owned there own forward = owned_null w run r kind to frame owned there forward.0 forward.1
-owned_done w run r (Goes (Ask kind) to frame) Null owned there own forward = owned_null w run r kind to frame owned there forward.0 forward.1
+owned_done w run r (Goes (Exchange shelf given) to frame) answer owned there own forward = owned_exchanged w run r to frame shelf given owned there own.1 forward.0 forward.1
+owned_done w run r (Goes (Ask kind) to frame) Absent owned there own forward = owned_told w run r reply.Null kind to frame owned there forward.0 forward.1
+owned_done w run r (Goes (Ask kind) to frame) Null owned there own forward = owned_told w run r reply.Null kind to frame owned there forward.0 forward.1
 owned_done w run r (Goes (Ask kind) to frame) (Slot slot) owned there own forward = owned_taken w run r slot kind to frame owned there own.1.0 own.1.1 forward.0 forward.1
 
 of_kind_started : (w v : World) (s : Subject) (context : List ℕ) (o : Owner) (kind : ℕ) → v.runs ≡ w.runs ++ first_run s context ∷ [] → IsOfKind w.runs o.holder kind → IsOfKind v.runs o.holder kind

@@ -235,3 +235,10 @@ owned_granted w run at slot kind owned home there asked nothing points = record 
             let its_call : at ≡ n.call = ap call_of held in
             let seen_here : slice_get w.runs run ≡ Some x = ap (λ (m : ℕ). slice_get w.runs m) its_run ∙ seen in
             ap (λ (q : Owner). q.slot) (sym same) ∙ sym (points x n seen_here has (sym its_call))
+
+-- the call at which a run is holds nothing
+pub nothing_yet : (w : World) (run : ℕ) (r : Running) (o : Owner) → IsOwned w → slice_get w.runs run ≡ Some r → Contains w.owners o → o.holder ≢ Run run r.pc
+nothing_yet w run r o owned there among e =
+    let asked : AskedFor w.runs run r.pc (kind_in w o.slot) = subst (λ h. IsOfKind w.runs h (kind_in w o.slot)) e (owned.runs.asked o among) in
+    let same = same_run w run r asked.asker there asked.there in
+    absurd (omega (arith, asked.behind, ap (λ (x : Running). x.pc) same))

@@ -85,15 +85,19 @@ others_bits true true false t h = refl
 others_bits true false c t h = refl
 others_bits false r c t h = refl
 
-pub held_given : (w : World) (run : ℕ) (name : Name) → IsOwned w → Contains w.owners (owner_of run name)
+-- what the run has by the call of the name is in the slot of the name
+abbrev pub IsInItsSlot : World → ℕ → Name → Type 0
+IsInItsSlot w run name = (o : Owner) → Contains w.owners o → o.holder ≡ Run run name.call → o.slot ≡ name.slot
+
+pub held_given : (w : World) (run : ℕ) (name : Name) → IsInItsSlot w run name
     → held_by (without_owner run name w) run ≡ filter (λ (o : Owner). not (call_of o.holder == name.call)) (held_by w run)
-held_given w run name owned own =
+held_given w run name its =
     filter-filter (λ (o : Owner). is_run run o.holder) (λ (o : Owner). not ((o.slot == name.slot) && is_call run name.call o.holder)) w.owners
     ∙ filter_same _ _ w.owners (λ o among. alike o among)
     ∙ sym (filter-filter (λ (o : Owner). not (call_of o.holder == name.call)) (λ (o : Owner). is_run run o.holder) w.owners)
   where
     is_its : (o : Owner) → Contains w.owners o → is_run run o.holder ≡ true → (call_of o.holder == name.call) ≡ true → (o.slot == name.slot) ≡ true
-    is_its o among mine named = eq-eqb o.slot name.slot (slot_of_call w run name o owned own among (is_run-own run o.holder mine ∙ ap (λ (n : ℕ). Run run n) (eqb-true (call_of o.holder) name.call named)))
+    is_its o among mine named = eq-eqb o.slot name.slot (its o among (is_run-own run o.holder mine ∙ ap (λ (n : ℕ). Run run n) (eqb-true (call_of o.holder) name.call named)))
 
     alike : (o : Owner) → Contains w.owners o → (not ((o.slot == name.slot) && is_call run name.call o.holder) && is_run run o.holder) ≡ (is_run run o.holder && not (call_of o.holder == name.call))
     alike o among =

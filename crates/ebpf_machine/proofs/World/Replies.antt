@@ -6,7 +6,7 @@ use Rattle.std.proofs.lemmas.List.{append-nil}
 use Rattle.ebpf_insn.specs.Program.{insn_at}
 use Rattle.ebpf_machine.specs.declared.report.Reply.{Reply}
 use Rattle.ebpf_machine.specs.declared.report.Reply.TheVariants as reply
-use Rattle.ebpf_machine.specs.Effect.{Nothing, Write, Ask, Free, Effect, Goes, Ends, Traps}
+use Rattle.ebpf_machine.specs.Effect.{Nothing, Write, Ask, Free, Exchange, Effect, Goes, Ends, Traps}
 use Rattle.ebpf_machine.specs.World.{Status, Going}
 use Rattle.ebpf_machine.specs.Events.{Unasked}
 use Rattle.ebpf_machine.specs.Alone.{Replies, replies_from, replies_of, more_than}
@@ -30,6 +30,7 @@ deaf v (Traps trap) is unasked = record { same = λ result other. refl; replies 
 deaf v (Goes Nothing to after) is unasked = record { same = λ result other. refl; replies = λ result. refl }
 deaf v (Goes (Write name at bytes) to after) is unasked = record { same = λ result other. refl; replies = λ result. refl }
 deaf v (Goes (Free name) to after) is unasked = record { same = λ result other. refl; replies = λ result. refl }
+deaf v (Goes (Exchange shelf given) to after) is unasked = let asked = asked_goes (insn_at v.subject.program v.pc) v.pc (environment_of_view v) v.frame (Exchange shelf given) to after is in absurd (cc)
 deaf v (Goes (Ask kind) to after) is unasked = let asked = asked_goes (insn_at v.subject.program v.pc) v.pc (environment_of_view v) v.frame (Ask kind) to after is in absurd (cc)
 
 pub stepped_any : (v : RunView) (result other : CallResult) → v.status ≡ Going → asking_in v ≡ Unasked → stepped result v ≡ stepped other v
