@@ -57,6 +57,8 @@ pub(crate) fn tell(alloc: Global, report: &Report) -> Result<String, AllocError>
         told.push(match reply {
             Reply::Granted => 'g',
             Reply::Null => 'n',
+            Reply::Empty => 'e',
+            Reply::Shelf => 's',
         })?;
     }
     Ok(told)
