@@ -278,10 +278,10 @@ step_event v served held sound going w after run owned shows slots serves does =
     let is : served_to w r.0 (answer_for served) ≡ served = ap (λ (a : Asking). served_in w a (answer_for served)) asked ∙ serves in
     let seen : view_in next.0 run ≡ Some (stepped (result_of served) v) = next.1.seen ∙ ap (λ (s : Served). Some (stepped (result_of s) (view_of w run r.0))) is ∙ ap (λ (u : RunView). Some (stepped (result_of served) u)) r.2 in
     let now : slots_in next.0 run ≡ slots_after (effect_of_view v) served v.subject.decl.held v.pc held =
-        next.1.slots
-        ∙ ap (λ (s : Served). slots_after (effect_of_view (view_of w run r.0)) s r.0.subject.decl.held r.0.pc (slots_in w run)) is
-        ∙ ap (λ (u : RunView). slots_after (effect_of_view u) served u.subject.decl.held u.pc (slots_in w run)) r.2
-        ∙ ap (slots_after (effect_of_view v) served v.subject.decl.held v.pc) slots in
+    next.1.slots
+    ∙ ap (λ (s : Served). slots_after (effect_of_view (view_of w run r.0)) s r.0.subject.decl.held r.0.pc (slots_in w run)) is
+    ∙ ap (λ (u : RunView). slots_after (effect_of_view u) served u.subject.decl.held u.pc (slots_in w run)) r.2
+    ∙ ap (slots_after (effect_of_view v) served v.subject.decl.held v.pc) slots in
     subst (λ (u : World). (view_in u run ≡ Some (stepped (result_of served) v)) × (slots_in u run ≡ slots_after (effect_of_view v) served v.subject.decl.held v.pc held)) same (seen, now)
 
 -- where a store may answer so, the event with this answer serves so
