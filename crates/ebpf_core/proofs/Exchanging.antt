@@ -28,7 +28,7 @@ use Rattle.ebpf_core.specs.Shown.{WorldState, Shows, IsTended, ArePlaced, IsPlac
 use Rattle.ebpf_core.specs.Stepping.{slot_code, code_by, IsNewObject, CanLend}
 use Rattle.ebpf_core.proofs.Executing.{IsInstruction, answered, executed_after, sized_tended}
 use Rattle.ebpf_core.proofs.Outcomes.{of_kind, IsGranted, IsFreed, IsOutcome, Kept, Granted, Freed, outcome_of}
-use Rattle.ebpf_core.proofs.OwnedSlots.{kind_there, owned_there}
+use Rattle.ebpf_machine.proofs.World.Owners.{kind_there, owned_there}
 use Rattle.ebpf_core.proofs.Placing.{object_kept}
 
 -- ---- what a legal answer lends: nothing, or the object of its slot, of the kind that is wanted

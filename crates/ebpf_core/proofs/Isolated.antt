@@ -20,7 +20,7 @@ use Rattle.ebpf_machine.proofs.World.Asking.{asking_seen}
 use Rattle.ebpf_machine.proofs.World.Owned.{owned_empty}
 use Rattle.ebpf_machine.proofs.World.Steps.{going_of, bounded, first_sound, sound_stepped}
 use Rattle.ebpf_machine.proofs.World.Execs.{sized_in, shown_run}
-use Rattle.ebpf_machine.proofs.World.Lone.{none_more, alone_stepped, seen_alone, outcome_exited}
+use Rattle.ebpf_machine.proofs.World.Lone.{FitsShelf, served_fits_shelf, none_more, alone_stepped, seen_alone, outcome_exited}
 use Rattle.ebpf_core.specs.declared.passing.Object.{Object}
 use Rattle.ebpf_core.specs.declared.event.Answer.{Answer}
 use Rattle.ebpf_core.specs.declared.event.Event.{Event}
@@ -32,7 +32,8 @@ use Rattle.ebpf_core.specs.Replay.{and_then, world_after_from}
 use Rattle.ebpf_core.specs.Isolation.{answers_to, answer_in, reply_by, replies_to, IsUntrapped, IsWhereAlone, IsOutcomeOf, IsIsolated, IsSafe, IsAlwaysSafe}
 use Rattle.ebpf_core.proofs.LegalAnswers.{told_next}
 use Rattle.ebpf_core.proofs.OtherRuns.{own_run, AreSound, IsEventOf, IsExec, start_next, exec_next, event_next}
-use Rattle.ebpf_core.proofs.OwnedSlots.{kind_there, owned_there, unheld}
+use Rattle.ebpf_machine.proofs.World.Owners.{kind_there, owned_there}
+use Rattle.ebpf_core.proofs.OwnedSlots.{unheld}
 use Rattle.ebpf_core.proofs.Runs.{at_number, same_number, get_last, first_alone}
 
 -- what every event keeps: the world fits together, each run is sound, is where the run alone is, and was told what the events
@@ -109,10 +110,10 @@ started_own w events s context bytes program run accepted long h there =
 
 -- ---- a run does an instruction
 
-own_next : (w : World) (v : RunView) (answers : List Reply) (answer : Answer) → IsOwn v answers → AreSized v → v.status ≡ Going → answer_fault w (asking_in v) (answer_of answer) ≡ None → IsOwn (stepped (result_of (served_in w (asking_in v) (answer_of answer))) v) (answers ++ reply_by answer)
-own_next w v answers answer own sized going fine = record {
+own_next : (w : World) (v : RunView) (answers : List Reply) (answer : Answer) → IsOwn v answers → AreSized v → v.status ≡ Going → answer_fault w (asking_in v) (answer_of answer) ≡ None → FitsShelf v (result_of (served_in w (asking_in v) (answer_of answer))) → IsOwn (stepped (result_of (served_in w (asking_in v) (answer_of answer))) v) (answers ++ reply_by answer)
+own_next w v answers answer own sized going fine fits = record {
   sound = sound_stepped v (result_of (served_in w (asking_in v) (answer_of answer))) own.sound sized going;
-  alone = alone_stepped v (result_of (served_in w (asking_in v) (answer_of answer))) own.sound own.alone going;
+  alone = alone_stepped v (result_of (served_in w (asking_in v) (answer_of answer))) own.sound own.alone going fits;
   told = told_next w v answer own.sound sized going fine ∙ ap (λ (rs : List Reply). rs ++ reply_by answer) own.told;
 }
 
@@ -123,7 +124,7 @@ stepped_own w v events number answer run h exec there =
     let asks = asking_seen w number exec.r h.owned exec.there in
     let fine = subst (λ (asked : Asking). answer_fault w asked (answer_of answer) ≡ None) asks exec.fine in
     let served = ap (λ (asked : Asking). Some (stepped (result_of (served_in w asked (answer_of answer))) u)) asks in
-    let next = own_next w u (answers_to number events) answer (h.runs number exec.r exec.there) (sized_in w number exec.r h.owned exec.there) exec.going fine in
+    let next = own_next w u (answers_to number events) answer (h.runs number exec.r exec.there) (sized_in w number exec.r h.owned exec.there) exec.going fine (served_fits_shelf w u (answer_of answer) h.owned (h.owned.runs.kinds_are number exec.r exec.there)) in
     let answers : answers_to number events ++ reply_by answer ≡ answers_to number (events ++ Exec number answer ∷ []) =
     ap (λ (more : List Reply). answers_to number events ++ more) (sym (answer_own number answer)) ∙ sym (answers_more number events (Exec number answer)) in
     subst (IsOwn (view_of v number run)) answers (subst (λ (x : RunView). IsOwn x (answers_to number events ++ reply_by answer)) (same_of _ _ _ (exec.next.seen ∙ served) seen) next)

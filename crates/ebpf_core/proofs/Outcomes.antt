@@ -129,7 +129,7 @@ outcome_acted : (v : RunView) (act : Act ℕ) (to : ℕ) (after : Frame ℕ) (se
     → IsOutcome v (acted act (result_of served) to after v) served slots (slots_acted act served v.subject.decl.held v.pc slots)
 outcome_acted v Nothing to after served slots g many = Kept (record { unasked = λ slot e. asks_for v Nothing to after g; slots_are = refl; kinds = λ k. refl })
 outcome_acted v (Write call at bytes) to after served slots g many = Kept (record { unasked = λ slot e. asks_for v (Write call at bytes) to after g; slots_are = refl; kinds = λ k. kinds_patched k call at bytes v.objects })
-outcome_acted v (Exchange shelf given) to after served slots g many = absurd g.room
+outcome_acted v (Exchange shelf given) to after served slots g many = absurd g.unshelving
 outcome_acted v (Ask kind) to after served slots g many = taken v to after kind served slots (asks_for v (Ask kind) to after g) g.room.1 many
 outcome_acted v (Free call) to after served slots g many =
     let there = there_goes (insn_at v.subject.program v.pc) v.pc (environment_of_view v) v.frame (Free call) to after g.does in

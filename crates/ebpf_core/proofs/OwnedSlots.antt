@@ -1,36 +1,14 @@
 -- What a world in which owners, ledgers and pointers fit together says of a slot: its ledger, and who has it.
-use Rattle.std.proofs.Common.{◌≡◌, ℕ, suc, ◌+◌, Bool, true, false, cond, List, [], ◌∷◌, get_or, Option, Some, None, refl, sym, ap, ◌∙◌, subst, arith}
+use Rattle.std.proofs.Common.{◌≡◌, ℕ, true, List, [], ◌∷◌, Option, Some, None, refl, sym, ap, ◌∙◌, subst}
 use Rattle.std.specs.Prelude.{slice_get, Contains, ◌==◌}
-use Rattle.std.specs.List.{list_any, find}
+use Rattle.std.specs.List.{find}
 use Rattle.std.proofs.lemmas.Bool.{eqb-true, eq-eqb}
-use Rattle.ebpf_machine.specs.World.{Name, World, Running, Owner, Holder, Run, Shelf, is_by_run, is_in, is_in_ledger, is_run, kind_from, kind_in, ledger_of, held_by, name_of, IsOfKind}
+use Rattle.ebpf_machine.specs.World.{Name, World, Running, Owner, Holder, Run, Shelf, is_by_run, is_run, kind_in, held_by, name_of, IsOfKind}
 use Rattle.ebpf_machine.specs.View.{call_of, slots_in}
 use Rattle.ebpf_machine.specs.Sound.{IsOwned}
-use Rattle.ebpf_machine.proofs.Lists.ListLemmas.{IsFound, find_is, Contains-head, Contains-kept, none_counted}
+use Rattle.ebpf_machine.proofs.Lists.ListLemmas.{IsFound, find_is, Contains-head, Contains-kept}
 use Rattle.ebpf_machine.proofs.Lists.Mapped.{Contains-mapped, Contains-unmapped}
 use Rattle.ebpf_machine.proofs.World.Owners.{owner_of, held_owner, same_slot}
-
--- a slot of some ledger is in that of its kind
-in_its_ledger : (base : ℕ) (ledgers : List (List ℕ)) (slot : ℕ) → list_any (is_in slot) ledgers ≡ true → (k : ℕ) × (kind_from base ledgers slot ≡ base + k) × (is_in slot (get_or ledgers k []) ≡ true)
-unfolding kind_from
-in_its_ledger base [] slot there = absurd (cc)
-in_its_ledger base (slots ∷ ledgers) slot there = by (is_in slot slots) refl (in_its_ledger (suc base) ledgers slot) where
-  by : (t : Bool) → is_in slot slots ≡ t → (list_any (is_in slot) ledgers ≡ true → (k : ℕ) × (kind_from (suc base) ledgers slot ≡ suc base + k) × (is_in slot (get_or ledgers k []) ≡ true))
-      → (k : ℕ) × (cond t base (kind_from (suc base) ledgers slot) ≡ base + k) × (is_in slot (get_or (slots ∷ ledgers) k []) ≡ true)
-  by true here later = (0, omega arith, here)
-  by false away later =
-      let rest = later (sym (rw away refl) ∙ there) in
-      (suc rest.0, rest.1 ∙ omega arith, rest.2)
-
-pub kind_there : (w : World) (slot : ℕ) → is_in_ledger w slot ≡ true → is_in slot (ledger_of w (kind_in w slot)) ≡ true
-kind_there w slot there = let at = in_its_ledger 0 w.ledgers slot there in subst (λ (k : ℕ). is_in slot (ledger_of w k) ≡ true) (sym (at.1 ∙ omega arith)) at.2
-
--- an owned slot is in a ledger
-pub owned_there : (w : World) (o : Owner) → IsOwned w → Contains w.owners o → is_in_ledger w o.slot ≡ true
-owned_there w o owned among = by (is_in_ledger w o.slot) refl where
-  by : (t : Bool) → is_in_ledger w o.slot ≡ t → t ≡ true
-  by true e = refl
-  by false e = absurd (omega (arith, owned.holders.in_ledger o among, none_counted (is_in o.slot) w.ledgers e))
 
 -- ---- runs and owners
 

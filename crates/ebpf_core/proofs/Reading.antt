@@ -12,7 +12,7 @@ use Rattle.ebpf_machine.specs.View.{ObjectView, RunView}
 use Rattle.ebpf_machine.specs.RunState.{RunState, status_of}
 use Rattle.ebpf_machine.proofs.Lists.ListLemmas.{IsFound, find_is}
 use Rattle.ebpf_machine.proofs.Lists.Mapped.{Contains-unmapped}
-use Rattle.ebpf_machine.proofs.World.Owners.{owner_of, kind_in-ledger}
+use Rattle.ebpf_machine.proofs.World.Owners.{owner_of, kind_in-ledger, owned_there}
 use Rattle.ebpf_core.specs.declared.passing.Object.{Object}
 use Rattle.ebpf_core.specs.declared.place.Place.TheVariants.{Home, Held}
 use Rattle.ebpf_core.specs.declared.world.Status.TheVariants as status
@@ -21,7 +21,7 @@ use Rattle.ebpf_core.specs.Shown.{WorldState, Shows, ArePlaced, IsAtHome, IsPlac
 use Rattle.ebpf_core.specs.Readers.{run_of, status_in, output_in, executed_in, owner_in, bytes_in}
 use Rattle.ebpf_core.proofs.Runs.{run_shown, none_shown}
 use Rattle.ebpf_core.proofs.LegalAnswers.{IsKeptIn}
-use Rattle.ebpf_core.proofs.OwnedSlots.{owned_there, owner_found, owns_held}
+use Rattle.ebpf_core.proofs.OwnedSlots.{owner_found, owns_held}
 use Rattle.ebpf_core.proofs.Placing.{kept_in, owner_kept, held_kept, object_kept}
 
 -- ---- of a run

@@ -14,7 +14,7 @@ use Rattle.ebpf_machine.specs.RunState.{RunState}
 use Rattle.ebpf_machine.proofs.World.LedgerChanges.{any-set}
 use Rattle.ebpf_machine.proofs.World.NewSlots.{IsNew, joined_in, owned_joined, view_joined}
 use Rattle.ebpf_machine.proofs.World.NewSlots as new_slots
-use Rattle.ebpf_machine.proofs.World.Owners.{owner_of, kind_in-ledger}
+use Rattle.ebpf_machine.proofs.World.Owners.{owner_of, kind_in-ledger, owned_there}
 use Rattle.ebpf_machine.proofs.World.PartedSlots.{IsReapable, owned_parted, parted_away, view_parted}
 use Rattle.ebpf_machine.proofs.World.PartedSlots as parted_slots
 use Rattle.ebpf_core.specs.declared.passing.Object.{Object}
@@ -24,7 +24,6 @@ use Rattle.ebpf_core.specs.Places.{Places, place_at, is_home_of}
 use Rattle.ebpf_core.specs.Shown.{WorldState, Shows, ArePlaced, IsPlaced, IsTendedWorld, slots_of}
 use Rattle.ebpf_core.proofs.Ledgers.{parted_joined}
 use Rattle.ebpf_core.proofs.LegalAnswers.{IsKeptIn}
-use Rattle.ebpf_core.proofs.OwnedSlots.{owned_there}
 use Rattle.ebpf_core.proofs.Placing.{kept_in, held_kept}
 
 -- ---- what is said on one of two answers

@@ -54,6 +54,7 @@ free_unasked (Some (insn.Call number)) kinds frame free = by (helper_of number) 
   by (Some helper.New) free = absurd free
   by (Some helper.Free) free = refl
   by (Some helper.Emit) free = absurd free
+  by (Some helper.Swap) free = absurd free
 free_unasked (Some _) kinds frame free = absurd free
 free_unasked None kinds frame free = absurd free
 

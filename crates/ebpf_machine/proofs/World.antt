@@ -18,5 +18,7 @@ pub mod Execs
 pub mod LedgerChanges
 pub mod NewSlots
 pub mod PartedSlots
+pub mod Shelving
 pub mod Replies
+pub mod Feeding
 pub mod Lone

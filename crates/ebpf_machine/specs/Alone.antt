@@ -6,7 +6,7 @@ use Rattle.ebpf_machine.specs.declared.report.Reply.{Reply}
 use Rattle.ebpf_machine.specs.declared.report.Reply.TheVariants as reply
 use Rattle.ebpf_machine.specs.declared.report.Report.{Report}
 use Rattle.ebpf_machine.specs.View.{RunView}
-use Rattle.ebpf_machine.specs.World.{World, Running, Status, Going, Exited, Owner, Shelf, Answer, Absent, Null, Slot, kinds_of, image_at, kind_in, standing, first_run, holds_of}
+use Rattle.ebpf_machine.specs.World.{World, Running, Status, Going, Exited, Owner, Shelf, Kind, Answer, Absent, Null, Slot, kinds_of, image_at, kind_in, standing, first_run, holds_of}
 use Rattle.ebpf_machine.specs.Events.{Illegal, Asking, Unasked, OfKind, AtShelf, asking_of, with_bytes, with_owner, without_shelved, with_slot_joined, with_slot_left, exec}
 
 -- the world of one run, and the most objects that it held at one time
@@ -34,6 +34,10 @@ cleared_of (Some o) shelf w = with_slot_left shelf o.slot (with_bytes o.slot (im
 abbrev pub cleared : ℕ → World → World
 cleared shelf w = cleared_of (standing w shelf) shelf w
 
+-- the first of these bytes, as many as an object of the shelf's kind has; where there are too few, those of its image go on
+abbrev pub bytes_for : List Kind → ℕ → List ℕ → List ℕ
+bytes_for kinds shelf bytes = take (length (image_at kinds shelf)) (bytes ++ image_at kinds shelf)
+
 -- a slot joins the ledger of the shelf's kind, and stands there with these bytes
 abbrev pub shelved : ℕ → ℕ → List ℕ → World → World
 shelved shelf slot bytes w = with_owner slot (Shelf shelf) (with_bytes slot bytes (with_slot_joined shelf slot w))
@@ -44,7 +48,7 @@ shelved shelf slot bytes w = with_owner slot (Shelf shelf) (with_bytes slot byte
 abbrev pub fed : Asking → Option Reply → List ℕ → ℕ → World → Fed
 fed Unasked reply bytes i w = record { world = w; answer = Absent }
 fed (OfKind kind) (Some reply.Granted) bytes i w = record { world = with_slot_joined kind i w; answer = Slot i }
-fed (AtShelf shelf) (Some reply.Shelf) bytes i w = record { world = shelved shelf i (take (length (image_at w.kinds shelf)) bytes) (cleared shelf w); answer = Absent }
+fed (AtShelf shelf) (Some reply.Shelf) bytes i w = record { world = shelved shelf i (bytes_for w.kinds shelf bytes) (cleared shelf w); answer = Absent }
 fed (AtShelf shelf) reply bytes i w = record { world = cleared shelf w; answer = Absent }
 fed _ reply bytes i w = record { world = w; answer = Null }
 

@@ -135,10 +135,15 @@ abbrev pub asking_for : {N : Type 0} → Option (Value N) → ℕ → Asking
 asking_for (Some (Number kind)) kinds = if nat_lt kind kinds then OfKind kind else OfNoKind
 asking_for _ kinds = OfNoKind
 
+abbrev pub asking_shelf : {N : Type 0} → Option (Value N) → ℕ → Asking
+asking_shelf (Some (Number shelf)) kinds = if nat_lt shelf kinds then AtShelf shelf else Unasked
+asking_shelf _ kinds = Unasked
+
 abbrev pub asking_helper : {N : Type 0} → Option Helper → ℕ → Frame N → Asking
 asking_helper (Some helper.New) kinds frame = asking_for (read frame R1) kinds
 asking_helper (Some helper.Free) kinds frame = Unasked
 asking_helper (Some helper.Emit) kinds frame = Unasked
+asking_helper (Some helper.Swap) kinds frame = asking_shelf (read frame R1) kinds
 asking_helper None kinds frame = Unasked
 
 abbrev pub asking : {N : Type 0} → Option Insn → ℕ → Frame N → Asking

@@ -35,6 +35,8 @@ pub(crate) fn call<O: Objects>(parts: &mut Parts<'_, O::Held>, helper: Helper, o
             let number = parts.registers.number(Reg::R1);
             emit(parts, number);
         }
+        // No accepted program calls it.
+        Helper::Swap => unreachable!(),
     }
 }
 

@@ -35,7 +35,7 @@ use Rattle.ebpf_verify.specs.Memory.{value_or_unset, loaded_value, state_after, 
 use Rattle.ebpf_insn.specs.declared.register.Reg.TheVariants.{R0, R1, R2, R3, R4, R5}
 use Rattle.ebpf_state.specs.References.{holding, forgotten}
 use Rattle.ebpf_verify.specs.declared.helper.Helper.{Helper}
-use Rattle.ebpf_verify.specs.declared.helper.Helper.TheVariants.{New, Free, Emit}
+use Rattle.ebpf_verify.specs.declared.helper.Helper.TheVariants.{New, Free, Emit, Swap}
 use Rattle.ebpf_verify.specs.Calls.{helper_of, without_arguments, with_result, after_new, after_free, after_call}
 use Rattle.ebpf_verify.specs.Rules.{after_operation, after_fall, after_jump}
 use Rattle.ebpf_verify.proofs.Bounded.{IsBoundedValue, IsFull, IsBoundedLoad, IsFullStore, register_bounded, full_weaker, with_register-full, settled-full, forgotten-full, loaded-bounded, context_bounded, stored-full}
@@ -189,6 +189,7 @@ state_weaker slot (Some s) h = full_weaker slot (suc slot) s (omega arith) h
 
 call_full : (slot : ℕ) (helper : Option Helper) (s : StateView) → IsFull slot s → IsFullState (suc slot) (after_call slot helper s)
 call_full slot None s h = tt
+call_full slot (Some Swap) s h = tt
 call_full slot (Some New) s h = new_full slot (register_of s R1) s h
 call_full slot (Some Free) s h = state_weaker slot (after_free (register_of s R1) s) (free_full slot (register_of s R1) s h)
 call_full slot (Some Emit) s h = full_weaker slot (suc slot) (with_result (Num (constant 0)) s) (omega arith) (with_result-full slot (Num (constant 0)) s h zero_bounded)

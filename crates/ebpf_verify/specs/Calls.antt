@@ -16,7 +16,7 @@ use Rattle.ebpf_verify.specs.declared.decl.Decl.{Decl}
 use Rattle.ebpf_verify.specs.declared.fault.VerifyCode.{VerifyCode}
 use Rattle.ebpf_verify.specs.declared.fault.VerifyCode.TheVariants.{V1, V11, V14, V15, V16}
 use Rattle.ebpf_verify.specs.declared.helper.Helper.{Helper}
-use Rattle.ebpf_verify.specs.declared.helper.Helper.TheVariants.{New, Free, Emit}
+use Rattle.ebpf_verify.specs.declared.helper.Helper.TheVariants.{New, Free, Emit, Swap}
 use Rattle.ebpf_verify.specs.Memory.{is_number}
 
 -- the helper of a number
@@ -24,6 +24,7 @@ abbrev pub helper_of : ℤ → Option Helper
 helper_of (pos (suc zero)) = Some New
 helper_of (pos (suc (suc zero))) = Some Free
 helper_of (pos (suc (suc (suc zero)))) = Some Emit
+helper_of (pos (suc (suc (suc (suc zero))))) = Some Swap
 helper_of _ = None
 
 -- ---- what each asks of its argument
@@ -64,6 +65,8 @@ call_refusal decl rows None s = Some V14
 call_refusal decl rows (Some New) s = new_refusal decl (length rows) (length s.held) (register_of s R1)
 call_refusal decl rows (Some Free) s = free_refusal (register_of s R1)
 call_refusal decl rows (Some Emit) s = emit_refusal (register_of s R1)
+-- no run has a shelf in reach yet
+call_refusal decl rows (Some Swap) s = Some V14
 
 -- ---- what is known after it
 
@@ -86,4 +89,5 @@ abbrev pub after_call : ℕ → Option Helper → StateView → Option StateView
 after_call slot (Some New) s = after_new slot (register_of s R1) s
 after_call slot (Some Free) s = after_free (register_of s R1) s
 after_call slot (Some Emit) s = Some (with_result (Num (constant 0)) s)
+after_call slot (Some Swap) s = None
 after_call slot None s = None

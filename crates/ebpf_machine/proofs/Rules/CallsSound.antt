@@ -171,7 +171,7 @@ new_next v number s h =
     let room = has_room (length v.objects) (length s.held) v.subject.decl.held few full.0 in
     let sends = ap (λ (a : Abs). after_new v.pc a s) it.known_is ∙ ap (λ (kind : ℕ). Some (with_result (May v.pc) (holding v.pc kind s))) it.low in
     let new : IsNew v number s it.kind = record { call = h; sends = sends; room = room } in
-    goes_on v i s (Ask it.kind) (v.pc + 1) (without_arguments v.frame) here (h.does ∙ asks v (v.pc + 1) it.kind (read v.frame R1) it.is it.few) (inl refl) (IsFrame-lost v.frame (frame_of v here.sound)).fit (it.few, room) (answered it.kind new)
+    goes_on v i s (Ask it.kind) (v.pc + 1) (without_arguments v.frame) here (h.does ∙ asks v (v.pc + 1) it.kind (read v.frame R1) it.is it.few) (inl refl) (IsFrame-lost v.frame (frame_of v here.sound)).fit (it.few, room) tt (answered it.kind new)
   where
     has_room : (objects held declared : ℕ) → objects ≤ held → nat_le declared held ≡ false → objects < declared
     has_room objects held declared few none = grind (arith, nat_tests)
@@ -244,7 +244,7 @@ free_next v number s h =
     let found = held_found v s it.call here.sized here.state.held it.among in
     let sends = ap (λ (a : Abs). after_free a s) it.known_is in
     let there = freed_there v number s it.call h sends in
-    goes_on v i s (Free it.call) (v.pc + 1) (with_zero v.frame) here (h.does ∙ gives_back v (v.pc + 1) it.call (read v.frame R1) found.found it.is found.is) (inl refl) there.frame.fit tt
+    goes_on v i s (Free it.call) (v.pc + 1) (with_zero v.frame) here (h.does ∙ gives_back v (v.pc + 1) it.call (read v.frame R1) found.found it.is found.is) (inl refl) there.frame.fit tt tt
     (λ reply. there_sound v i s (v.pc + 1) (with_zero v.frame) (without it.call v.objects) v.replies here (inl refl) there)
 
 -- ---- emit
@@ -282,6 +282,9 @@ call_next v number s here = by (helper_of number) refl where
   refused : helper_of number ≡ None → ⊥
   refused is = let fine = sym (ap (λ (o : Option Helper). call_refusal v.subject.decl v.subject.rows o s) is) ∙ here.fine in cc
 
+  no_swap : helper_of number ≡ Some helper.Swap → ⊥
+  no_swap is = let fine = sym (ap (λ (o : Option Helper). call_refusal v.subject.decl v.subject.rows o s) is) ∙ here.fine in cc
+
   called : (helper : Helper) → helper_of number ≡ Some helper → IsCall v number s helper
   called helper is = record {
     here = here;
@@ -295,3 +298,4 @@ call_next v number s here = by (helper_of number) refl where
   by (Some helper.New) is = new_next v number s (called helper.New is)
   by (Some helper.Free) is = free_next v number s (called helper.Free is)
   by (Some helper.Emit) is = emit_next v number s (called helper.Emit is)
+  by (Some helper.Swap) is = absurd (no_swap is)

@@ -16,20 +16,28 @@ use Rattle.ebpf_machine.specs.declared.report.Reply.{Reply}
 use Rattle.ebpf_machine.specs.Values.{Frame}
 use Rattle.ebpf_machine.specs.Effect.{Act, Nothing, Write, Ask, Free, Exchange, Goes, Ends, effect, effect_at}
 use Rattle.ebpf_machine.specs.World.{Status, Going}
-use Rattle.ebpf_machine.specs.View.{ObjectView, RunView, environment_of_view, effect_of_view, acted, CallResult}
+use Rattle.ebpf_machine.specs.View.{ObjectView, RunView, environment_of_view, effect_of_view, without_given, acted, CallResult}
 use Rattle.ebpf_machine.specs.Concretization.{AreOf, Arrives, calls_of}
 use Rattle.ebpf_machine.specs.Sound.{FitsFrame, AreSized, IsGoing, IsWellStated, IsSound}
 use Rattle.ebpf_verify.proofs.Bounded.{IsFull}
 use Rattle.ebpf_machine.proofs.Rules.Entries.{AreDefined}
 use Rattle.ebpf_machine.proofs.Rules.Registers.{IsFrame}
 
--- what is asked for has room; no accepted program reaches a shelf yet
+-- what is asked for has room
 abbrev pub HasRoom : RunView → Act ℕ → Type 0
 HasRoom v (Ask kind) = (kind < length v.subject.rows) × (length v.objects < v.subject.decl.held)
-HasRoom v (Exchange shelf given) = ⊥
+HasRoom v (Exchange shelf given) = (shelf < length v.subject.rows) × (length (without_given given v.objects) < v.subject.decl.held)
 HasRoom v Nothing = Unit {0}
 HasRoom v (Write name at bytes) = Unit {0}
 HasRoom v (Free name) = Unit {0}
+
+-- it is no exchange: no accepted program makes one yet
+abbrev pub IsUnshelving : {N : Type 0} → Act N → Type 0
+IsUnshelving Nothing = Unit {0}
+IsUnshelving (Write name at bytes) = Unit {0}
+IsUnshelving (Ask kind) = Unit {0}
+IsUnshelving (Free name) = Unit {0}
+IsUnshelving (Exchange shelf given) = ⊥
 
 -- an instruction that goes on: whatever is answered, the run is sound after it
 pub record GoesOn (v : RunView) (act : Act ℕ) (to : ℕ) (after : Frame ℕ) : Type 0 where
@@ -38,6 +46,7 @@ pub record GoesOn (v : RunView) (act : Act ℕ) (to : ℕ) (after : Frame ℕ) :
   pub edge : (i : Insn) × (insn_at v.subject.program v.pc ≡ Some i) × ((fall_of i v.pc ≡ Some to) ⊎ (jump_of i v.pc ≡ Some to))
   pub fit : FitsFrame after
   pub room : HasRoom v act
+  pub unshelving : IsUnshelving act
   pub sound : (reply : CallResult) → IsSound (acted act reply to after v)
 
 -- one that ends the run
@@ -129,12 +138,12 @@ there_sound v i s to after objects replies here edge there =
 -- ---- what goes on
 
 -- an instruction that goes on, where the run is sound after it
-pub goes_on : (v : RunView) (i : Insn) (s : StateView) (act : Act ℕ) (to : ℕ) (after : Frame ℕ) → IsHere v i s → effect i v.pc (environment_of_view v) v.frame ≡ Goes act to after → Leads i v.pc to → FitsFrame after → HasRoom v act → ((reply : CallResult) → IsSound (acted act reply to after v)) → IsNext v
-goes_on v i s act to after here does edge fit room sound =
-    inl (act, to, after, record { does = effect_here v i s here ∙ does; forward = (leads_forward v i to here.sound here.at edge).0; edge = (i, here.at, edge); fit = fit; room = room; sound = sound })
+pub goes_on : (v : RunView) (i : Insn) (s : StateView) (act : Act ℕ) (to : ℕ) (after : Frame ℕ) → IsHere v i s → effect i v.pc (environment_of_view v) v.frame ≡ Goes act to after → Leads i v.pc to → FitsFrame after → HasRoom v act → IsUnshelving act → ((reply : CallResult) → IsSound (acted act reply to after v)) → IsNext v
+goes_on v i s act to after here does edge fit room unshelving sound =
+    inl (act, to, after, record { does = effect_here v i s here ∙ does; forward = (leads_forward v i to here.sound here.at edge).0; edge = (i, here.at, edge); fit = fit; room = room; unshelving = unshelving; sound = sound })
 
 -- one that asks for nothing
 pub goes_quietly : (v : RunView) (i : Insn) (s : StateView) (to : ℕ) (after : Frame ℕ) → IsHere v i s → effect i v.pc (environment_of_view v) v.frame ≡ Goes Nothing to after → Leads i v.pc to → IsFrame after → Arrives (entry_of v.subject.program to) after v.objects → IsNext v
 goes_quietly v i s to after here does edge frame state =
     let forward = (leads_forward v i to here.sound here.at edge).0 in
-    goes_on v i s Nothing to after here does edge frame.fit tt (λ reply. there_sound v i s to after v.objects v.replies here edge (stays_there v i s to after here forward frame state))
+    goes_on v i s Nothing to after here does edge frame.fit tt tt (λ reply. there_sound v i s to after v.objects v.replies here edge (stays_there v i s to after here forward frame state))

@@ -1,14 +1,14 @@
 -- What an instruction asks of whoever answers is what its effect asks, and what its run sees of it; and what it writes to or gives
 -- back is there.
 use Rattle.std.proofs.Common.{◌≡◌, ℕ, ◌+◌, ◌<◌, ◌≤◌, ℤ, pos, negsuc, ◌+ℤ◌, Bool, true, false, cond, List, length, Option, Some, None, Result, Ok, Err, refl, sym, ap, ◌∙◌, subst, arith, rules, inl, inr, ◌⊎◌}
-use Rattle.std.specs.Prelude.{slice_get, nat_lt, nat_abs, int_le, ◌&&◌}
+use Rattle.std.specs.Prelude.{slice_get, nat_lt, nat_abs, int_le, ◌&&◌, ◌==◌}
 use Rattle.std.specs.Ordering.{int_eq}
-use Rattle.std.proofs.lemmas.Bool.{ltb-true}
+use Rattle.std.proofs.lemmas.Bool.{ltb-true, eqb-true, and_parts}
 use Rattle.std.proofs.lemmas.Int.{ints}
 use Rattle.std.proofs.lemmas.List.{length-map}
 use Rattle.byteorder.specs.Numbers.{length-bytes_low_first}
 use Rattle.ebpf_insn.specs.declared.register.Reg.{Reg}
-use Rattle.ebpf_insn.specs.declared.register.Reg.TheVariants.{R0, R1}
+use Rattle.ebpf_insn.specs.declared.register.Reg.TheVariants.{R0, R1, R2}
 use Rattle.ebpf_insn.specs.declared.insn.Insn.{Insn}
 use Rattle.ebpf_insn.specs.declared.insn.Insn.TheVariants as insn
 use Rattle.ebpf_insn.specs.declared.insn.Size.{Size}
@@ -27,10 +27,10 @@ use Rattle.ebpf_machine.specs.declared.value.Value.TheVariants.{Number, Pointer}
 use Rattle.ebpf_machine.specs.declared.value.Cell.{Cell}
 use Rattle.ebpf_machine.specs.Values.{Trap, BadCall, FramePointerWritten, Leak, Frame, read, source_value}
 use Rattle.ebpf_machine.specs.Cells.{place_in, stored_at}
-use Rattle.ebpf_machine.specs.Effect.{Found, Environment, Act, Nothing, Write, Ask, Free, Exchange, Effect, Goes, Ends, Traps, effect_at, effect, unary, alu_value, with_value, written, is_taken, loaded, rewritten, written_at, writes_object, effect_of_store, without_arguments, with_zero, effect_of_new, effect_of_freeing, effect_of_free, effect_of_emit, effect_of_call, effect_of_jump, effect_of_branch, effect_of_exit, result_number}
+use Rattle.ebpf_machine.specs.Effect.{Found, Environment, Act, Nothing, Write, Ask, Free, Exchange, Effect, Goes, Ends, Traps, effect_at, effect, unary, alu_value, with_value, written, is_taken, loaded, rewritten, written_at, writes_object, effect_of_store, without_arguments, with_zero, effect_of_new, effect_of_freeing, effect_of_free, effect_of_emit, exchanges, effect_of_giving, effect_of_swapping, effect_of_swap, effect_of_call, effect_of_jump, effect_of_branch, effect_of_exit, result_number}
 use Rattle.ebpf_machine.specs.World.{Name, Kind, World, Running, Going}
-use Rattle.ebpf_machine.specs.Events.{Asking, Unasked, OfNoKind, OfKind, AtShelf, asking_for, asking_helper, asking, asking_of}
-use Rattle.ebpf_machine.specs.View.{RunView, register_seen, frame_seen, view_of, environment_of_view, effect_of_view}
+use Rattle.ebpf_machine.specs.Events.{Asking, Unasked, OfNoKind, OfKind, AtShelf, asking_for, asking_shelf, asking_helper, asking, asking_of}
+use Rattle.ebpf_machine.specs.View.{RunView, without_given, register_seen, frame_seen, view_of, environment_of_view, effect_of_view}
 use Rattle.ebpf_machine.specs.Step.{asking_in}
 use Rattle.ebpf_machine.specs.Sound.{AreSized, IsSound, IsOwned}
 use Rattle.ebpf_machine.proofs.World.Projection.{read-seen}
@@ -146,11 +146,36 @@ emits_asks a to frame None = tt
 emits_asks a to frame (Some (Number n)) = (refl, tt)
 emits_asks a to frame (Some (Pointer base k)) = tt
 
+-- an exchange, where it is allowed
+exchanges_asks : {N : Type 0} (a : Environment N) (to : ℕ) (frame : Frame N) (asked : Asking) (shelf : ℕ) (given : Option N) (allowed : Bool) → (allowed ≡ true → (asked ≡ AtShelf shelf) × IsThere a (Exchange shelf given)) → AsksFor a asked (exchanges to frame shelf given allowed)
+exchanges_asks a to frame asked shelf given true h = h refl
+exchanges_asks a to frame asked shelf given false h = tt
+
+giving_asks : {N : Type 0} (a : Environment N) (to : ℕ) (frame : Frame N) (asked : Asking) (known : Bool) (shelf : ℕ) (name : N) (r : Result Found Trap) (k : ℤ) → a.object name ≡ r → (known ≡ true → (asked ≡ AtShelf shelf) × (shelf < a.kinds)) → AsksFor a asked (effect_of_giving to frame known shelf name r k)
+giving_asks a to frame asked known shelf name (Err trap) k is h = tt
+giving_asks a to frame asked known shelf name (Ok found) k is h = exchanges_asks a to frame asked shelf (Some name) (known && ((found.kind == shelf) && int_eq k (pos 0))) (λ allowed.
+    let parts = and_parts known ((found.kind == shelf) && int_eq k (pos 0)) allowed in
+    let at = h parts.0 in
+    (at.0, (at.1, (found, is, eqb-true found.kind shelf (and_parts (found.kind == shelf) (int_eq k (pos 0)) parts.1).0))))
+
+swapping_asks : {N : Type 0} (a : Environment N) (to : ℕ) (frame : Frame N) (asked : Asking) (known : Bool) (shelf : ℕ) (given : Value N) → (known ≡ true → (asked ≡ AtShelf shelf) × (shelf < a.kinds)) → AsksFor a asked (effect_of_swapping to a frame known shelf given)
+swapping_asks a to frame asked known shelf (Number n) h = exchanges_asks a to frame asked shelf None (known && (n == 0)) (λ allowed. let at = h (and_parts known (n == 0) allowed).0 in (at.0, (at.1, tt)))
+swapping_asks a to frame asked known shelf (Pointer Stack k) h = tt
+swapping_asks a to frame asked known shelf (Pointer Context k) h = tt
+swapping_asks a to frame asked known shelf (Pointer (Object name) k) h = giving_asks a to frame asked known shelf name (a.object name) k refl h
+
+swaps_asks : {N : Type 0} (to : ℕ) (a : Environment N) (frame : Frame N) (x y : Option (Value N)) → AsksFor a (asking_shelf x a.kinds) (effect_of_swap to a frame x y)
+swaps_asks to a frame None y = tt
+swaps_asks to a frame (Some shelf) None = tt
+swaps_asks {N} to a frame (Some (Number shelf)) (Some given) = swapping_asks a to frame (asking_shelf {N = N} (Some (Number shelf)) a.kinds) (nat_lt shelf a.kinds) shelf given (λ known. (ap (λ (t : Bool). cond t (AtShelf shelf) Unasked) known, ltb-true shelf a.kinds known))
+swaps_asks to a frame (Some (Pointer base k)) (Some given) = swapping_asks a to frame Unasked false 0 given (λ known. absurd (cc))
+
 calls_asks : {N : Type 0} (helper : Option Helper) (to : ℕ) (a : Environment N) (frame : Frame N) → AsksFor a (asking_helper helper a.kinds frame) (effect_of_call helper to a frame)
 calls_asks None to a frame = tt
 calls_asks (Some helper.New) to a frame = news_asks to a frame (read frame R1)
 calls_asks (Some helper.Free) to a frame = frees_asks to a frame (read frame R1)
 calls_asks (Some helper.Emit) to a frame = emits_asks a to frame (read frame R1)
+calls_asks (Some helper.Swap) to a frame = swaps_asks to a frame (read frame R1) (read frame R2)
 
 effect_asks : {N : Type 0} (i : Insn) (pc : ℕ) (a : Environment N) (frame : Frame N) → AsksFor a (asking (Some i) a.kinds frame) (effect i pc a frame)
 effect_asks (insn.Alu width o dst src) pc a frame = written_asks a _ frame dst (alu_value width o (read frame dst) (source_value frame width src))
@@ -187,11 +212,17 @@ register_asks None kinds = refl
 register_asks (Some (Number n)) kinds = refl
 register_asks (Some (Pointer base k)) kinds = refl
 
+shelf_asks : (x : Option (Value Name)) (kinds : ℕ) → asking_shelf (register_seen x) kinds ≡ asking_shelf x kinds
+shelf_asks None kinds = refl
+shelf_asks (Some (Number n)) kinds = refl
+shelf_asks (Some (Pointer base k)) kinds = refl
+
 helper_asks : (helper : Option Helper) (kinds : ℕ) (frame : Frame Name) → asking_helper helper kinds (frame_seen frame) ≡ asking_helper helper kinds frame
 helper_asks None kinds frame = refl
 helper_asks (Some helper.New) kinds frame = ap (λ (x : Option (Value ℕ)). asking_for x kinds) (read-seen frame R1) ∙ register_asks (read frame R1) kinds
 helper_asks (Some helper.Free) kinds frame = refl
 helper_asks (Some helper.Emit) kinds frame = refl
+helper_asks (Some helper.Swap) kinds frame = ap (λ (x : Option (Value ℕ)). asking_shelf x kinds) (read-seen frame R1) ∙ shelf_asks (read frame R1) kinds
 
 insn_asks : (i : Insn) (kinds : ℕ) (frame : Frame Name) → asking (Some i) kinds (frame_seen frame) ≡ asking (Some i) kinds frame
 insn_asks (insn.Call number) kinds frame = helper_asks (helper_of number) kinds frame
@@ -217,7 +248,32 @@ pub record AsksNew (v : RunView) (kind : ℕ) : Type 0 where
   pub kind_is : kind < length v.subject.rows
   pub room : length v.objects < v.subject.decl.held
 
--- it asks for nothing, or so
+-- it asks for what stands on a shelf, and the run has room for it
+pub record AsksShelf (v : RunView) (shelf : ℕ) : Type 0 where
+  pub given : Option ℕ
+  pub to : ℕ
+  pub after : Frame ℕ
+  pub does : effect_of_view v ≡ Goes (Exchange shelf given) to after
+  pub shelf_is : shelf < length v.subject.rows
+  pub room : length (without_given given v.objects) < v.subject.decl.held
+
+-- what it asks for, whatever that is
+pub data Asks (v : RunView) : Type 0 where
+  ForNothing : asking_in v ≡ Unasked → Asks v
+  ForObject : (kind : ℕ) → asking_in v ≡ OfKind kind → AsksNew v kind → Asks v
+  ForShelf : (shelf : ℕ) → asking_in v ≡ AtShelf shelf → AsksShelf v shelf → Asks v
+
+pub asks_of : (v : RunView) → IsNext v → Asks v
+asks_of v (inr (n, e)) = ForNothing (asked_ends (insn_at v.subject.program v.pc) v.pc (environment_of_view v) v.frame n e.does)
+asks_of v (inl (act, to, after, g)) = by act g (asked_goes (insn_at v.subject.program v.pc) v.pc (environment_of_view v) v.frame act to after g.does) where
+  by : (act : Act ℕ) → GoesOn v act to after → asking_in v ≡ asked_by act → Asks v
+  by Nothing g asked = ForNothing asked
+  by (Write name at bytes) g asked = ForNothing asked
+  by (Free name) g asked = ForNothing asked
+  by (Ask kind) g asked = ForObject kind asked (record { to = to; after = after; does = g.does; kind_is = g.room.0; room = g.room.1 })
+  by (Exchange shelf given) g asked = ForShelf shelf asked (record { given = given; to = to; after = after; does = g.does; shelf_is = g.room.0; room = g.room.1 })
+
+-- it asks for nothing, or so: no accepted program reaches a shelf yet
 pub next_asks : (v : RunView) → IsNext v → (asking_in v ≡ Unasked) ⊎ ((kind : ℕ) × (asking_in v ≡ OfKind kind) × AsksNew v kind)
 next_asks v (inr (n, e)) = inl (asked_ends (insn_at v.subject.program v.pc) v.pc (environment_of_view v) v.frame n e.does)
 next_asks v (inl (act, to, after, g)) = by act g (asked_goes (insn_at v.subject.program v.pc) v.pc (environment_of_view v) v.frame act to after g.does) where
@@ -225,7 +281,7 @@ next_asks v (inl (act, to, after, g)) = by act g (asked_goes (insn_at v.subject.
   by Nothing g asked = inl asked
   by (Write name at bytes) g asked = inl asked
   by (Free name) g asked = inl asked
-  by (Exchange shelf given) g asked = absurd g.room
+  by (Exchange shelf given) g asked = absurd g.unshelving
   by (Ask kind) g asked = inr (kind, asked, record { to = to; after = after; does = g.does; kind_is = g.room.0; room = g.room.1 })
 
 pub asked_next : (v : RunView) → IsSound v → AreSized v → v.status ≡ Going → (asking_in v ≡ Unasked) ⊎ ((kind : ℕ) × (asking_in v ≡ OfKind kind) × (kind < length v.subject.rows) × (length v.objects < v.subject.decl.held))

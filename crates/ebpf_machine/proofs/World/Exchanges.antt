@@ -1,7 +1,7 @@
 -- What stands on a shelf is exchanged: what the runs of a world hold then, and what they see of it.
-use Rattle.std.proofs.Common.{◌≡◌, ◌≢◌, ◌⊎◌, inl, inr, ℕ, Bool, true, false, cond, not, ◌&&◌, List, [], ◌∷◌, ◌++◌, length, map, filter, Option, Some, None, option_map, refl, sym, ap, ◌∙◌, subst}
+use Rattle.std.proofs.Common.{◌≡◌, ◌≢◌, ◌⊎◌, inl, inr, ℕ, Bool, true, false, cond, not, ◌&&◌, List, [], ◌∷◌, ◌++◌, map, filter, Option, Some, None, option_map, refl, sym, ap, ◌∙◌, subst}
 use Rattle.std.specs.Prelude.{Contains, ◌==◌}
-use Rattle.std.proofs.lemmas.Bool.{eqb-true, eq-eqb, ne_eqb, and_from, not-false, not-true, not_from_false}
+use Rattle.std.proofs.lemmas.Bool.{eqb-true, eq-eqb, ne_eqb, and_from, not-false, not-true}
 use Rattle.std.proofs.lemmas.List.{append-nil}
 use Rattle.std.proofs.lemmas.List.Elements.{filter-append, Contains-append_left, Contains-push_cases}
 use Rattle.ebpf_machine.specs.World.{Name, World, Running, Owner, Holder, Run, Shelf, is_run, is_call, is_shelf, standing, held_by, kind_in, name_of, IsOfKind}
@@ -102,10 +102,10 @@ and_false : (t : Bool) → (t && false) ≡ false
 and_false true = refl
 and_false false = refl
 
-held_shelved : (w : World) (run slot shelf : ℕ) → held_by (with_owner slot (Shelf shelf) w) run ≡ held_by w run
+pub held_shelved : (w : World) (run slot shelf : ℕ) → held_by (with_owner slot (Shelf shelf) w) run ≡ held_by w run
 held_shelved w run slot shelf = filter-append (λ (o : Owner). is_run run o.holder) w.owners (record { slot = slot; holder = Shelf shelf } ∷ []) ∙ append-nil (held_by w run)
 
-held_unshelved : (w : World) (run shelf : ℕ) → held_by (without_shelved shelf w) run ≡ held_by w run
+pub held_unshelved : (w : World) (run shelf : ℕ) → held_by (without_shelved shelf w) run ≡ held_by w run
 held_unshelved w run shelf =
     filter-filter (λ (o : Owner). is_run run o.holder) (λ (o : Owner). not (is_shelf shelf o.holder)) w.owners
     ∙ filter_same _ _ w.owners (λ o among. alike o.holder)

@@ -27,7 +27,7 @@ use Rattle.ebpf_machine.proofs.World.Owned.{IsForward, owned_done}
 use Rattle.ebpf_machine.proofs.World.Projection.{IsSeenAs, effect_at-seen}
 use Rattle.ebpf_machine.proofs.World.Pointing.{plain_goes}
 use Rattle.ebpf_machine.proofs.World.Asking.{IsThere, IsGivenThere, asked_by, asked_goes, asked_ends, asking_seen, there_goes}
-use Rattle.ebpf_machine.proofs.World.Steps.{HasRoom, IsNext, next_of}
+use Rattle.ebpf_machine.proofs.World.Steps.{IsUnshelving, IsNext, next_of}
 
 -- nothing stands on a shelf
 abbrev pub AreByRuns : World → Type 0
@@ -84,14 +84,7 @@ steady_done w run r (Goes (Ask kind) to frame) Absent = record { as_many = lengt
 steady_done w run r (Goes (Ask kind) to frame) world.Null = record { as_many = length-set w.runs run _; kinds = refl; ledgers = refl }
 steady_done w run r (Goes (Ask kind) to frame) (Slot slot) = steady_granted w run r slot to kind frame
 
--- it is no exchange: no accepted program reaches a shelf yet
-abbrev IsUnshelving : {N : Type 0} → Act N → Type 0
-IsUnshelving Nothing = Unit {0}
-IsUnshelving (Write name at bytes) = Unit {0}
-IsUnshelving (Ask kind) = Unit {0}
-IsUnshelving (Free name) = Unit {0}
-IsUnshelving (Exchange shelf given) = ⊥
-
+-- it is no exchange
 abbrev LeavesShelves : Effect Name → Type 0
 LeavesShelves (Goes act to frame) = IsUnshelving act
 LeavesShelves (Ends n) = Unit {0}
@@ -185,12 +178,12 @@ own_act w run r answer (Exchange shelf given) there fine = (there.0, given_own g
 abbrev IsOwnNext : World → ℕ → Running → Answer → Effect Name → Type 0
 IsOwnNext w run r answer e = IsOwnEffect w run answer e × IsForward r.frame r.pc e × LeavesShelves e
 
-unshelving : (v : RunView) (act : Act Name) (seen : Act ℕ) → act_seen act ≡ seen → HasRoom v seen → IsUnshelving act
-unshelving v Nothing seen e room = tt
-unshelving v (Write name at bytes) seen e room = tt
-unshelving v (Ask kind) seen e room = tt
-unshelving v (Free name) seen e room = tt
-unshelving v (Exchange shelf given) seen e room = absurd (subst (HasRoom v) (sym e) room)
+unshelving : (act : Act Name) (seen : Act ℕ) → act_seen act ≡ seen → IsUnshelving seen → IsUnshelving act
+unshelving Nothing seen e plain = tt
+unshelving (Write name at bytes) seen e plain = tt
+unshelving (Ask kind) seen e plain = tt
+unshelving (Free name) seen e plain = tt
+unshelving (Exchange shelf given) seen e plain = absurd (subst IsUnshelving (sym e) plain)
 
 own_next : (w : World) (run : ℕ) (r : Running) (answer : Answer) (e : Effect Name) → answer_fault w (asking_of w r) answer ≡ None → effect_of_run w run r ≡ e → effect_seen e ≡ effect_of_view (view_of w run r) → IsNext (view_of w run r) → IsOwnNext w run r answer e
 own_next w run r answer (Ends n) fine is seen next = (tt, tt, tt)
@@ -206,7 +199,7 @@ own_next w run r answer (Goes act to frame) fine is seen (inl (same, where_to, a
     let asked = asked_goes o r.pc a r.frame act to frame is in (
       own_act w run r answer act (there_goes o r.pc a r.frame act to frame is) (subst (λ (asking : Asking). answer_fault w asking answer ≡ None) asked fine),
       (subst (λ (k : ℕ). r.pc < k) there g.forward, plain_goes o r.pc a r.frame act to frame is),
-      unshelving (view_of w run r) act same acts g.room,
+      unshelving act same acts g.unshelving,
     )
 
 -- ---- what it is served

@@ -1,9 +1,10 @@
 -- The run alone goes on as the run does, and stays once it has ended.
-use Rattle.std.proofs.Common.{◌≡◌, ℕ, zero, suc, ◌+◌, ◌-◌, ◌<◌, ◌≤◌, max, true, false, List, [], ◌∷◌, ◌++◌, length, map, Option, Some, None, Ok, refl, sym, ap, ◌∙◌, subst, arith, inl, inr, ◌⊎◌, add-one}
-use Rattle.std.specs.Prelude.{slice_get, nat_le, drop}
+use Rattle.std.proofs.Common.{◌≡◌, ℕ, zero, suc, ◌+◌, ◌-◌, ◌<◌, ◌≤◌, max, false, List, [], ◌∷◌, ◌++◌, length, map, Option, Some, None, Ok, refl, sym, ap, ◌∙◌, subst, append_assoc, arith, add-one}
+use Rattle.std.specs.Prelude.{slice_get, nat_le, take, drop}
 use Rattle.std.specs.List.{list_any}
-use Rattle.std.proofs.lemmas.Bool.{cond_both, false_from_ne_true}
-use Rattle.std.proofs.lemmas.List.{length-map, length_push, append-nil}
+use Rattle.std.proofs.Math.Seq.{drop-append_seam, take-append_seam}
+use Rattle.std.proofs.lemmas.Bool.{cond_both}
+use Rattle.std.proofs.lemmas.List.{length-map, length-append, length-drop, append-nil, drop-append-le, take-append-le}
 use Rattle.ebpf_insn.specs.Program.{instructions}
 use Rattle.ebpf_insn.proofs.ListLemmas.{slice_get-append_left, slice_get-push}
 use Rattle.ebpf_verify.specs.Subject.{Subject}
@@ -11,20 +12,23 @@ use Rattle.ebpf_verify.specs.Verdict.{IsAccepted}
 use Rattle.ebpf_machine.specs.declared.report.Reply.{Reply}
 use Rattle.ebpf_machine.specs.declared.report.Reply.TheVariants as reply
 use Rattle.ebpf_machine.specs.Effect.{Nothing, Write, Ask, Free, Exchange, Effect, Goes, Ends, Traps}
-use Rattle.ebpf_machine.specs.World.{Answer, Absent, Null, Slot, World, Running, AnsweredCall, Owner, Status, Going, Exited, Trapped, standing, is_in, is_in_ledger, held_by, holds_of, first_run}
-use Rattle.ebpf_machine.specs.Events.{Asking, Unasked, OfNoKind, OfKind, AtShelf, answer_fault, asking_of, with_slot_joined, exec}
-use Rattle.ebpf_machine.specs.Alone.{Alone, Fed, cleared_of, fed, fed_to, advanced, alone_first, alone_by, alone_next, alone_after, outcome_of, outcome_alone, Replies, replies_from, replies_of, more_than}
+use Rattle.ebpf_machine.specs.World.{Answer, Absent, Null, Slot, World, Running, Kind, AnsweredCall, Owner, Status, Going, Exited, Trapped, standing, is_shelf, is_in, held_by, holds_of, first_run, image_at, kinds_of}
+use Rattle.ebpf_machine.specs.Events.{Asking, Unasked, OfNoKind, OfKind, AtShelf, asking_of, exec}
+use Rattle.ebpf_machine.specs.Alone.{Alone, Fed, cleared, bytes_for, shelved, fed, fed_to, advanced, alone_first, alone_by, alone_next, alone_after, outcome_of, outcome_alone, Replies, replies_from, replies_of, more_than}
 use Rattle.ebpf_machine.specs.Whole.{told_to, told_alone}
 use Rattle.ebpf_machine.specs.View as view
 use Rattle.ebpf_machine.specs.View.{RunView, object_in, view_of, view_in, without_given, done_by, effect_of_view, stepped, CallResult, reply_in}
-use Rattle.ebpf_machine.specs.Step.{result_of, asking_in}
+use Rattle.ebpf_machine.specs.Step.{MayAnswer, Served, Idle, Refused, Granted, Empty, Fetched, served_by, served_from, served_in, result_of, asking_in}
 use Rattle.ebpf_machine.specs.Sound.{IsOwned, IsSound, IsAlone, IsWellStated}
-use Rattle.ebpf_machine.proofs.World.Asking.{AsksNew, next_asks, asking_seen}
+use Rattle.ebpf_machine.proofs.World.Asking.{AsksNew, AsksShelf, Asks, ForNothing, ForObject, ForShelf}
+use Rattle.ebpf_machine.proofs.Lists.ListLemmas.{IsFound}
+use Rattle.ebpf_machine.proofs.World.Exchanges.{stands, standing_there, kind_on_shelf}
 use Rattle.ebpf_machine.proofs.World.Owned.{owned_first}
-use Rattle.ebpf_machine.proofs.World.NewSlots.{IsNew, joined_home, joined_in, joined_cases, owned_joined, view_joined}
-use Rattle.ebpf_machine.proofs.World.Replies.{heard_by_new, one_told, stepped_going, stepped_any, stepped_heard, replies_kept, replies_added}
-use Rattle.ebpf_machine.proofs.World.Steps.{next_of, sound_stepped, bounded, first_sound}
-use Rattle.ebpf_machine.proofs.World.Execs.{served_to, kinds_alike, next_world, sized_in, shown_run}
+use Rattle.ebpf_machine.proofs.World.Shelving.{bytes_long}
+use Rattle.ebpf_machine.proofs.World.Replies.{heard_by_new, heard_by_swap, bytes_told, one_told, one_swapped, stepped_going, stepped_any, stepped_heard, shelf_heard, replies_kept, replies_added, replies_swapped}
+use Rattle.ebpf_machine.proofs.World.Steps.{sound_stepped, bounded, first_sound}
+use Rattle.ebpf_machine.proofs.World.Execs.{served_to, next_world, sized_in, shown_run}
+use Rattle.ebpf_machine.proofs.World.Feeding.{IsLone, only_run, there_is, used, used_kept, used_at_shelf, used_by, cleared_runs, asks, asking_is, bytes_left, told_now, fed_is}
 
 -- ---- what an instruction leaves of a view
 
@@ -53,126 +57,6 @@ one_by v view.Granted (Goes (Ask kind) to after) =
 pub one_on : (v : RunView) (reply : CallResult) → v.status ≡ Going → IsOneOn v (stepped reply v)
 one_on v reply going = subst (IsOneOn v) (sym (stepped_going v reply going)) (one_by v reply (effect_of_view v))
 
--- ---- a sound run that is alone
-
--- the slots are those of the calls of new that it made
-pub record IsLone (a : Alone) : Type 0 where
-  pub run : Running
-  pub only : a.world.runs ≡ run ∷ []
-  pub owned : IsOwned a.world
-  pub sound : IsSound (view_of a.world 0 run)
-  pub below : (slot : ℕ) → is_in_ledger a.world slot ≡ true → slot < length run.calls
-
-only_run : (rs : List Running) (r : Running) → length rs ≡ 1 → slice_get rs 0 ≡ Some r → rs ≡ r ∷ []
-only_run [] r one there = absurd (cc)
-only_run (x ∷ []) r one there = let same : x ≡ r = cc in ap (λ (y : Running). y ∷ []) same
-only_run (x ∷ y ∷ rs) r one there = absurd (omega (arith, one))
-
-there_is : (a : Alone) (h : IsLone a) → slice_get a.world.runs 0 ≡ Some h.run
-there_is a h = ap (λ (rs : List Running). slice_get rs 0) h.only
-
--- ---- what is fed to it
-
--- the reply of this number; where there is none, null
-abbrev used : Option Reply → CallResult
-used None = view.Null
-used (Some reply.Null) = view.Null
-used (Some reply.Granted) = view.Granted
-used (Some reply.Empty) = view.Null
-used (Some reply.Shelf) = view.Null
-
-used_kept : (told : CallResult) → used (Some (reply_in (heard_by_new told))) ≡ heard_by_new told
-used_kept view.Null = refl
-used_kept view.Granted = refl
-used_kept view.Empty = refl
-used_kept (view.Shelved bytes) = refl
-
--- the world before the instruction, and the answer, where the run is to be told this reply
-record IsFed (w : World) (r : Running) (told : CallResult) (f : Fed) : Type 0 where
-  owned : IsOwned f.world
-  runs : f.world.runs ≡ w.runs
-  seen : view_of f.world 0 r ≡ view_of w 0 r
-  fine : answer_fault f.world (asking_of f.world r) f.answer ≡ None
-  steps : stepped (result_of (served_to f.world r f.answer)) (view_of w 0 r) ≡ stepped told (view_of w 0 r)
-  below : (slot : ℕ) → is_in_ledger f.world slot ≡ true → slot < length (stepped told (view_of w 0 r)).replies
-
-fed_nothing : (a : Alone) (h : IsLone a) (told : CallResult) → h.run.status ≡ Going → asking_of a.world h.run ≡ Unasked → IsFed a.world h.run told (record { world = a.world; answer = Absent })
-fed_nothing a h told going unasked =
-    let v = view_of a.world 0 h.run in
-    let asked : asking_in v ≡ Unasked = sym (asking_seen a.world 0 h.run h.owned (there_is a h)) ∙ unasked in
-    let kept : length (stepped told v).replies ≡ length h.run.calls = ap (λ (rs : Replies). length rs.answers) (replies_kept v told going asked) ∙ length-map h.run.calls _ in
-    record {
-      owned = h.owned;
-      runs = refl;
-      seen = refl;
-      fine = rw unasked refl;
-      steps = stepped_any v (result_of (served_to a.world h.run Absent)) told going asked;
-      below = λ slot there. omega (arith, h.below slot there, kept);
-    }
-
--- a call of new tells one reply more
-one_more : (a : Alone) (h : IsLone a) (told : CallResult) (kind : ℕ) → h.run.status ≡ Going → AsksNew (view_of a.world 0 h.run) kind → length (stepped told (view_of a.world 0 h.run)).replies ≡ length h.run.calls + 1
-one_more a h told kind going new =
-    let v = view_of a.world 0 h.run in
-    ap (λ (rs : Replies). length rs.answers) (replies_added v told kind going new) ∙ length_push v.replies (reply_in (heard_by_new told)) ∙ ap (λ (n : ℕ). n + 1) (length-map h.run.calls (λ (t : AnsweredCall). t.reply))
-
-fed_null : (a : Alone) (h : IsLone a) (kind : ℕ) → h.run.status ≡ Going → asking_of a.world h.run ≡ OfKind kind → AsksNew (view_of a.world 0 h.run) kind → IsFed a.world h.run view.Null (record { world = a.world; answer = Null })
-fed_null a h kind going asked new = record {
-  owned = h.owned;
-  runs = refl;
-  seen = refl;
-  fine = rw asked refl;
-  steps = rw asked refl;
-  below = λ slot there. omega (arith, h.below slot there, one_more a h view.Null kind going new);
-}
-
--- a slot that is to be granted is new
-fed_slot : (a : Alone) (h : IsLone a) (kind : ℕ) → h.run.status ≡ Going → asking_of a.world h.run ≡ OfKind kind → AsksNew (view_of a.world 0 h.run) kind → IsFed a.world h.run view.Granted (record { world = with_slot_joined kind (length h.run.calls) a.world; answer = Slot (length h.run.calls) })
-fed_slot a h kind going asked new =
-    let w = a.world in
-    let slot = length h.run.calls in
-    let fresh : IsNew w kind slot = record { kind_is = omega (arith, kinds_alike w 0 h.run h.owned (there_is a h), new.kind_is); fresh = false_from_ne_true (is_in_ledger w slot) (λ there. absurd (omega (arith, h.below slot there))) } in
-    let home = joined_home w kind slot h.owned fresh in
-    let its = joined_in w kind slot h.owned fresh in
-    record {
-      owned = owned_joined w kind slot h.owned fresh;
-      runs = refl;
-      seen = view_joined w 0 kind slot h.run h.owned fresh;
-      fine = rw (asked, home, its) refl;
-      steps = rw asked refl;
-      below = λ s there. within s (joined_cases w kind slot s there);
-    }
-  where
-    within : (s : ℕ) → (s ≡ length h.run.calls) ⊎ (is_in_ledger a.world s ≡ true) → s < length (stepped view.Granted (view_of a.world 0 h.run)).replies
-    within s (inl e) = omega (arith, e, one_more a h view.Granted kind going new)
-    within s (inr there) = omega (arith, h.below s there, one_more a h view.Granted kind going new)
-
--- what the run asks for
-asks : (a : Alone) (h : IsLone a) → h.run.status ≡ Going → (asking_of a.world h.run ≡ Unasked) ⊎ ((kind : ℕ) × (asking_of a.world h.run ≡ OfKind kind) × AsksNew (view_of a.world 0 h.run) kind)
-asks a h going = by (next_asks v (next_of v h.sound (sized_in a.world 0 h.run h.owned (there_is a h)) going)) where
-  v : RunView
-  v = view_of a.world 0 h.run
-
-  by : (asking_in v ≡ Unasked) ⊎ ((kind : ℕ) × (asking_in v ≡ OfKind kind) × AsksNew v kind) → (asking_of a.world h.run ≡ Unasked) ⊎ ((kind : ℕ) × (asking_of a.world h.run ≡ OfKind kind) × AsksNew v kind)
-  by (inl unasked) = inl (asking_seen a.world 0 h.run h.owned (there_is a h) ∙ unasked)
-  by (inr (kind, asked, new)) = inr (kind, asking_seen a.world 0 h.run h.owned (there_is a h) ∙ asked, new)
-
-fed_is : (a : Alone) (replies : Replies) (h : IsLone a) → h.run.status ≡ Going → IsFed a.world h.run (used (slice_get replies.answers (length h.run.calls))) (fed_to a.world h.run replies)
-fed_is a replies h going = by (asks a h going) (slice_get replies.answers i) where
-  bytes : List ℕ
-  bytes = drop (length h.run.taken) replies.taken
-
-  i : ℕ
-  i = length h.run.calls
-
-  by : (asking_of a.world h.run ≡ Unasked) ⊎ ((kind : ℕ) × (asking_of a.world h.run ≡ OfKind kind) × AsksNew (view_of a.world 0 h.run) kind) → (o : Option Reply) → IsFed a.world h.run (used o) (fed (asking_of a.world h.run) o bytes i a.world)
-  by (inl unasked) o = subst (λ (asking : Asking). IsFed a.world h.run (used o) (fed asking o bytes i a.world)) (sym unasked) (fed_nothing a h (used o) going unasked)
-  by (inr (kind, asked, new)) None = subst (λ (asking : Asking). IsFed a.world h.run view.Null (fed asking None bytes i a.world)) (sym asked) (fed_null a h kind going asked new)
-  by (inr (kind, asked, new)) (Some reply.Empty) = subst (λ (asking : Asking). IsFed a.world h.run view.Null (fed asking (Some reply.Empty) bytes i a.world)) (sym asked) (fed_null a h kind going asked new)
-  by (inr (kind, asked, new)) (Some reply.Shelf) = subst (λ (asking : Asking). IsFed a.world h.run view.Null (fed asking (Some reply.Shelf) bytes i a.world)) (sym asked) (fed_null a h kind going asked new)
-  by (inr (kind, asked, new)) (Some reply.Null) = subst (λ (asking : Asking). IsFed a.world h.run view.Null (fed asking (Some reply.Null) bytes i a.world)) (sym asked) (fed_null a h kind going asked new)
-  by (inr (kind, asked, new)) (Some reply.Granted) = subst (λ (asking : Asking). IsFed a.world h.run view.Granted (fed asking (Some reply.Granted) bytes i a.world)) (sym asked) (fed_slot a h kind going asked new)
-
 -- ---- one instruction more
 
 abbrev peaked : Alone → World → Alone
@@ -181,7 +65,7 @@ peaked a w = record { world = w; peak = max a.peak (holds_of w 0) }
 -- the run goes on with the reply of its number
 pub record IsNextAlone (a : Alone) (replies : Replies) (h : IsLone a) (world : World) : Type 0 where
   pub is : alone_next replies a ≡ peaked a world
-  pub seen : view_in world 0 ≡ Some (stepped (used (slice_get replies.answers (length h.run.calls))) (view_of a.world 0 h.run))
+  pub seen : view_in world 0 ≡ Some (stepped (told_now a h.run replies) (view_of a.world 0 h.run))
   pub lone : IsLone (peaked a world)
 
 advanced_to : (a : Alone) (replies : Replies) (r : Running) (after : World) → slice_get a.world.runs 0 ≡ Some r → exec (fed_to a.world r replies).world 0 (fed_to a.world r replies).answer ≡ Ok after → alone_next replies a ≡ peaked a after
@@ -190,7 +74,7 @@ advanced_to a replies r after there legal = rw (there, legal) refl
 pub next_alone : (a : Alone) (replies : Replies) (h : IsLone a) → h.run.status ≡ Going → (world : World) × IsNextAlone a replies h world
 next_alone a replies h going =
     let v = view_of a.world 0 h.run in
-    let told = used (slice_get replies.answers (length h.run.calls)) in
+    let told = told_now a h.run replies in
     let f = fed_to a.world h.run replies in
     let is = fed_is a replies h going in
     let there : slice_get f.world.runs 0 ≡ Some h.run = ap (λ (rs : List Running). slice_get rs 0) is.runs ∙ there_is a h in
@@ -214,10 +98,6 @@ next_alone a replies h going =
     )
 
 -- what is fed to a run leaves the runs as they are
-cleared_runs : (o : Option Owner) (shelf : ℕ) (w : World) → (cleared_of o shelf w).runs ≡ w.runs
-cleared_runs None shelf w = refl
-cleared_runs (Some o) shelf w = refl
-
 fed_runs : (asked : Asking) (told : Option Reply) (bytes : List ℕ) (i : ℕ) (w : World) → (fed asked told bytes i w).world.runs ≡ w.runs
 fed_runs Unasked told bytes i w = refl
 fed_runs OfNoKind told bytes i w = refl
@@ -226,11 +106,11 @@ fed_runs (OfKind kind) (Some reply.Null) bytes i w = refl
 fed_runs (OfKind kind) (Some reply.Empty) bytes i w = refl
 fed_runs (OfKind kind) (Some reply.Shelf) bytes i w = refl
 fed_runs (OfKind kind) (Some reply.Granted) bytes i w = refl
-fed_runs (AtShelf shelf) None bytes i w = cleared_runs (standing w shelf) shelf w
-fed_runs (AtShelf shelf) (Some reply.Null) bytes i w = cleared_runs (standing w shelf) shelf w
-fed_runs (AtShelf shelf) (Some reply.Empty) bytes i w = cleared_runs (standing w shelf) shelf w
-fed_runs (AtShelf shelf) (Some reply.Shelf) bytes i w = cleared_runs (standing w shelf) shelf w
-fed_runs (AtShelf shelf) (Some reply.Granted) bytes i w = cleared_runs (standing w shelf) shelf w
+fed_runs (AtShelf shelf) None bytes i w = cleared_runs w shelf
+fed_runs (AtShelf shelf) (Some reply.Null) bytes i w = cleared_runs w shelf
+fed_runs (AtShelf shelf) (Some reply.Empty) bytes i w = cleared_runs w shelf
+fed_runs (AtShelf shelf) (Some reply.Shelf) bytes i w = cleared_runs w shelf
+fed_runs (AtShelf shelf) (Some reply.Granted) bytes i w = cleared_runs w shelf
 
 ended_stays : (w : World) (answer : Answer) (r : Running) (n : ℕ) (a : Alone) → slice_get w.runs 0 ≡ Some r → r.status ≡ Exited n → advanced (exec w 0 answer) a ≡ a
 ended_stays w answer r n a there ended = rw (there, ended) refl
@@ -281,23 +161,27 @@ after_none subject context replies = refl
 pub none_more : (replies : Replies) → more_than replies (replies_from [] []) ≡ replies
 none_more replies = λ i. replies_from (append-nil replies.answers i) (append-nil replies.taken i)
 
-abbrev told_in : Option Running → ℕ
-told_in None = 0
-told_in (Some r) = length r.calls
+-- what it was told
+abbrev told_of : Alone → Replies
+told_of a = told_to (slice_get a.world.runs 0)
 
--- how many replies it was told
-abbrev told_of : Alone → ℕ
-told_of a = told_in (slice_get a.world.runs 0)
+told_is : (a : Alone) (h : IsLone a) → told_of a ≡ replies_of (view_of a.world 0 h.run)
+told_is a h = ap told_to (there_is a h)
 
-told_is : (a : Alone) (h : IsLone a) → told_of a ≡ length h.run.calls
-told_is a h = ap told_in (there_is a h)
+-- it is what the run sees
+told_seen : (w : World) (v : RunView) → view_in w 0 ≡ Some v → told_to (slice_get w.runs 0) ≡ replies_of v
+told_seen w v seen = let r = shown_run w 0 v seen in ap told_to r.1 ∙ ap replies_of r.2
 
--- as many as the run sees
-told_seen : (w : World) (v : RunView) → view_in w 0 ≡ Some v → told_in (slice_get w.runs 0) ≡ length v.replies
-told_seen w v seen = let r = shown_run w 0 v seen in ap told_in r.1 ∙ sym (length-map r.0.calls (λ (t : AnsweredCall). t.reply)) ∙ ap (λ (u : RunView). length u.replies) r.2
-
-told_next : (a : Alone) (replies : Replies) (h : IsLone a) → h.run.status ≡ Going → told_of (alone_next replies a) ≡ length (stepped (used (slice_get replies.answers (length h.run.calls))) (view_of a.world 0 h.run)).replies
+told_next : (a : Alone) (replies : Replies) (h : IsLone a) → h.run.status ≡ Going → told_of (alone_next replies a) ≡ replies_of (stepped (told_now a h.run replies) (view_of a.world 0 h.run))
 told_next a replies h going = let n = next_alone a replies h going in ap told_of n.1.is ∙ told_seen n.0 _ n.1.seen
+
+-- these replies are no more than those
+pub record IsWithin (told replies : Replies) : Type 0 where
+  pub answers : length told.answers ≤ length replies.answers
+  pub taken : length told.taken ≤ length replies.taken
+
+within_less : (told more replies : Replies) → IsWithin (more_than told more) replies → IsWithin told replies
+within_less told more replies h = record { answers = omega (arith, h.answers, length-append told.answers more.answers); taken = omega (arith, h.taken, length-append told.taken more.taken) }
 
 -- what is fed to a run is all that it has of the replies
 fed_alike : (a : Alone) (h : IsLone a) (replies others : Replies) → fed_to a.world h.run replies ≡ fed_to a.world h.run others → alone_next replies a ≡ alone_next others a
@@ -319,24 +203,85 @@ fed_new asked kind o bytes more i w is = rw is (by o) where
   by (Some reply.Empty) = refl
   by (Some reply.Shelf) = refl
 
+-- bytes behind those that a call of swap takes are not read
+bytes_unread : (kinds : List Kind) (shelf n : ℕ) (taken more : List ℕ) → n + length (image_at kinds shelf) ≤ length taken → bytes_for kinds shelf (drop n (taken ++ more)) ≡ bytes_for kinds shelf (drop n taken)
+bytes_unread kinds shelf n taken more few =
+    let image = image_at kinds shelf in
+    let left = drop n taken in
+    let enough : length image ≤ length left = omega (arith, few, length-drop n taken) in
+    ap (λ (bytes : List ℕ). take (length image) (bytes ++ image)) (drop-append-le n taken more (omega (arith, few)))
+    ∙ ap (take (length image)) (append_assoc left more image)
+    ∙ take-append-le (length image) left (more ++ image) enough
+    ∙ sym (take-append-le (length image) left image enough)
+
+-- a call of swap reads the bytes that it takes
+fed_at_shelf : (asked : Asking) (shelf : ℕ) (o : Option Reply) (n i : ℕ) (taken more : List ℕ) (w : World) → asked ≡ AtShelf shelf → n + length (bytes_told (used_at_shelf (bytes_for w.kinds shelf (drop n taken)) o)) ≤ length taken → fed asked o (drop n (taken ++ more)) i w ≡ fed asked o (drop n taken) i w
+fed_at_shelf asked shelf o n i taken more w is few = rw is (by o few) where
+  by : (o : Option Reply) → n + length (bytes_told (used_at_shelf (bytes_for w.kinds shelf (drop n taken)) o)) ≤ length taken → fed (AtShelf shelf) o (drop n (taken ++ more)) i w ≡ fed (AtShelf shelf) o (drop n taken) i w
+  by None few = refl
+  by (Some reply.Null) few = refl
+  by (Some reply.Granted) few = refl
+  by (Some reply.Empty) few = refl
+  by (Some reply.Shelf) few =
+      let enough : n + length (image_at w.kinds shelf) ≤ length taken = omega (arith, few, bytes_long w.kinds shelf (drop n taken)) in
+      ap (λ (bytes : List ℕ). let f : Fed = record { world = shelved shelf i bytes (cleared shelf w); answer = Absent } in f) (bytes_unread w.kinds shelf n taken more enough)
+
 -- replies behind those that it was told are not read
-unread_next : (a : Alone) (replies more : Replies) (h : IsLone a) → h.run.status ≡ Going → told_of (alone_next replies a) ≤ length replies.answers → (told_of a ≤ length replies.answers) × (alone_next (more_than replies more) a ≡ alone_next replies a)
+record IsUnread (a : Alone) (replies more : Replies) : Type 0 where
+  within : IsWithin (told_of a) replies
+  same : alone_next (more_than replies more) a ≡ alone_next replies a
+
+unread_next : (a : Alone) (replies more : Replies) (h : IsLone a) → h.run.status ≡ Going → IsWithin (told_of (alone_next replies a)) replies → IsUnread a replies more
 unread_next a replies more h going fits = by (asks a h going) where
+  v : RunView
+  v = view_of a.world 0 h.run
+
   i : ℕ
   i = length h.run.calls
 
-  by : (asking_of a.world h.run ≡ Unasked) ⊎ ((kind : ℕ) × (asking_of a.world h.run ≡ OfKind kind) × AsksNew (view_of a.world 0 h.run) kind) → (told_of a ≤ length replies.answers) × (alone_next (more_than replies more) a ≡ alone_next replies a)
-  by (inl unasked) =
-      let v = view_of a.world 0 h.run in
-      let asked : asking_in v ≡ Unasked = sym (asking_seen a.world 0 h.run h.owned (there_is a h)) ∙ unasked in
-      let kept = replies_kept v (used (slice_get replies.answers i)) going asked in
-      (omega (arith, fits, told_is a h, told_next a replies h going, ap (λ (rs : Replies). length rs.answers) kept, length-map h.run.calls (λ (t : AnsweredCall). t.reply)), fed_alike a h (more_than replies more) replies (fed_unasked (asking_of a.world h.run) (slice_get (replies.answers ++ more.answers) i) (slice_get replies.answers i) (drop (length h.run.taken) (replies.taken ++ more.taken)) (drop (length h.run.taken) replies.taken) i a.world unasked))
-  by (inr (kind, asked, new)) =
-      let grown = one_more a h (used (slice_get replies.answers i)) kind going new in
-      let before : i < length replies.answers = omega (arith, fits, told_next a replies h going, grown) in
-      (omega (arith, before, told_is a h), fed_alike a h (more_than replies more) replies (ap (λ (o : Option Reply). fed (asking_of a.world h.run) o (drop (length h.run.taken) (replies.taken ++ more.taken)) i a.world) (slice_get-append_left replies.answers more.answers i reply.Null before) ∙ fed_new (asking_of a.world h.run) kind (slice_get replies.answers i) _ _ i a.world asked))
+  calls : length v.replies ≡ i
+  calls = length-map h.run.calls (λ (t : AnsweredCall). t.reply)
 
-after_unread : (n : ℕ) (subject : Subject) (context : List ℕ) (replies more : Replies) → IsAccepted subject → length context ≡ subject.decl.context → told_of (alone_after n subject context replies) ≤ length replies.answers
+  -- where the reply is among those that it has
+  same_reply : i < length replies.answers → slice_get (replies.answers ++ more.answers) i ≡ slice_get replies.answers i
+  same_reply few = slice_get-append_left replies.answers more.answers i reply.Null few
+
+  -- after the instruction it was told so much more
+  after : (told : Replies) → replies_of (stepped (told_now a h.run replies) v) ≡ more_than (replies_of v) told → IsWithin (more_than (replies_of v) told) replies
+  after told is = subst (λ (rs : Replies). IsWithin rs replies) (told_next a replies h going ∙ is) fits
+
+  before : (told : Replies) → replies_of (stepped (told_now a h.run replies) v) ≡ more_than (replies_of v) told → IsWithin (told_of a) replies
+  before told is = subst (λ (rs : Replies). IsWithin rs replies) (sym (told_is a h)) (within_less (replies_of v) told replies (after told is))
+
+  one : (told : Replies) → replies_of (stepped (told_now a h.run replies) v) ≡ more_than (replies_of v) told → length told.answers ≡ 1 → i < length replies.answers
+  one told is long = omega (arith, (after told is).answers, length-append v.replies told.answers, long, calls)
+
+  by : Asks v → IsUnread a replies more
+  by (ForNothing unasked) = record {
+    within = subst (λ (rs : Replies). IsWithin rs replies) (told_next a replies h going ∙ replies_kept v (told_now a h.run replies) going unasked ∙ sym (told_is a h)) fits;
+    same = fed_alike a h (more_than replies more) replies (fed_unasked (asking_of a.world h.run) (slice_get (replies.answers ++ more.answers) i) (slice_get replies.answers i) (drop (length h.run.taken) (replies.taken ++ more.taken)) (drop (length h.run.taken) replies.taken) i a.world (asking_is a h ∙ unasked));
+  }
+  by (ForObject kind asked new) =
+      let added = replies_added v (told_now a h.run replies) kind going new in
+      record {
+        within = before (one_told (told_now a h.run replies)) added;
+        same = fed_alike a h (more_than replies more) replies
+            (ap (λ (o : Option Reply). fed (asking_of a.world h.run) o (drop (length h.run.taken) (replies.taken ++ more.taken)) i a.world) (same_reply (one (one_told (told_now a h.run replies)) added refl))
+            ∙ fed_new (asking_of a.world h.run) kind (slice_get replies.answers i) _ _ i a.world (asking_is a h ∙ asked));
+      }
+  by (ForShelf shelf asked new) =
+      let told = told_now a h.run replies in
+      let added = replies_swapped v told shelf going new in
+      let is : told ≡ used_at_shelf (bytes_for a.world.kinds shelf (bytes_left h.run replies)) (slice_get replies.answers i) = ap (λ (k : Asking). used_by k a.world.kinds (slice_get replies.answers i) (bytes_left h.run replies)) (asking_is a h ∙ asked) in
+      let few : length h.run.taken + length (bytes_told told) ≤ length replies.taken = omega (arith, (after (one_swapped told) added).taken, length-append h.run.taken (bytes_told told)) in
+      record {
+        within = before (one_swapped told) added;
+        same = fed_alike a h (more_than replies more) replies
+            (ap (λ (o : Option Reply). fed (asking_of a.world h.run) o (drop (length h.run.taken) (replies.taken ++ more.taken)) i a.world) (same_reply (one (one_swapped told) added refl))
+            ∙ fed_at_shelf (asking_of a.world h.run) shelf (slice_get replies.answers i) (length h.run.taken) i replies.taken more.taken a.world (asking_is a h ∙ asked) (subst (λ (t : CallResult). length h.run.taken + length (bytes_told t) ≤ length replies.taken) is few));
+      }
+
+after_unread : (n : ℕ) (subject : Subject) (context : List ℕ) (replies more : Replies) → IsAccepted subject → length context ≡ subject.decl.context → IsWithin (told_of (alone_after n subject context replies)) replies
     → alone_after n subject context (more_than replies more) ≡ alone_after n subject context replies
 unfolding alone_after
 after_unread zero subject context replies more accepted long fits = refl
@@ -347,10 +292,10 @@ after_unread (suc n) subject context replies more accepted long fits = by_status
   h : IsLone a
   h = lone_after n subject context replies accepted long
 
-  by_status : (s : Status) → h.run.status ≡ s → (told_of a ≤ length replies.answers → alone_after n subject context (more_than replies more) ≡ a) → alone_next (more_than replies more) (alone_after n subject context (more_than replies more)) ≡ alone_next replies a
-  by_status Going e before = let u = unread_next a replies more h e fits in ap (alone_next (more_than replies more)) (before u.0) ∙ u.1
+  by_status : (s : Status) → h.run.status ≡ s → (IsWithin (told_of a) replies → alone_after n subject context (more_than replies more) ≡ a) → alone_next (more_than replies more) (alone_after n subject context (more_than replies more)) ≡ alone_next replies a
+  by_status Going e before = let u = unread_next a replies more h e fits in ap (alone_next (more_than replies more)) (before u.within) ∙ u.same
   by_status (Exited m) e before =
-      let few = subst (λ (b : Alone). told_of b ≤ length replies.answers) (ended_next a replies h m e) fits in
+      let few = subst (λ (b : Alone). IsWithin (told_of b) replies) (ended_next a replies h m e) fits in
       ap (alone_next (more_than replies more)) (before few) ∙ ended_next a (more_than replies more) h m e ∙ sym (ended_next a replies h m e)
   by_status (Trapped trap) e before = absurd (subst (λ (s : Status). IsWellStated s (view_of a.world 0 h.run)) e h.sound.stated)
 
@@ -375,16 +320,63 @@ alone_status : (v : RunView) (h : IsSeenAlone v) (s : Status) → v.status ≡ s
 alone_status v h s e = ap (λ (u : RunView). u.status) h.seen ∙ e
 
 -- it used all the replies of the run
-all_told : (v : RunView) → IsAlone v → told_of (alone_after v.executed v.subject v.context (replies_of v)) ≡ length v.replies
+all_told : (v : RunView) → IsAlone v → told_of (alone_after v.executed v.subject v.context (replies_of v)) ≡ replies_of v
 all_told v alone = told_seen (alone_after v.executed v.subject v.context (replies_of v)).world v alone
+
+all_within : (v : RunView) → IsAlone v → IsWithin (told_of (alone_after v.executed v.subject v.context (replies_of v))) (replies_of v)
+all_within v alone = subst (λ (rs : Replies). IsWithin rs (replies_of v)) (sym (all_told v alone)) (record { answers = omega arith; taken = omega arith })
+
+-- the bytes that a call of swap is told are as many as an object of the shelf's kind has
+abbrev pub FitsShelf : RunView → CallResult → Type 0
+FitsShelf v (view.Shelved bytes) = (shelf : ℕ) → asking_in v ≡ AtShelf shelf → length bytes ≡ length (image_at (kinds_of v.subject.rows) shelf)
+FitsShelf v view.Null = Unit {0}
+FitsShelf v view.Granted = Unit {0}
+FitsShelf v view.Empty = Unit {0}
+
+-- a store tells no call of swap anything yet
+pub may_fit : (v : RunView) (can_grant : (kind at slot : ℕ) → Type 0) (can_refuse : ℕ → Type 0) (at : ℕ) (asked : Asking) (served : Served) → MayAnswer can_grant can_refuse at asked served → FitsShelf v (result_of served)
+may_fit v can_grant can_refuse at Unasked served may = subst (λ (s : Served). FitsShelf v (result_of s)) (sym may) tt
+may_fit v can_grant can_refuse at OfNoKind served may = absurd may
+may_fit v can_grant can_refuse at (AtShelf shelf) served may = absurd may
+may_fit v can_grant can_refuse at (OfKind kind) Idle may = tt
+may_fit v can_grant can_refuse at (OfKind kind) Refused may = tt
+may_fit v can_grant can_refuse at (OfKind kind) (Granted slot) may = tt
+may_fit v can_grant can_refuse at (OfKind kind) Empty may = tt
+may_fit v can_grant can_refuse at (OfKind kind) (Fetched slot bytes) may = absurd may
+
+-- what an event serves is so long too
+pub served_fits_shelf : (w : World) (v : RunView) (answer : Answer) → IsOwned w → kinds_of v.subject.rows ≡ w.kinds → FitsShelf v (result_of (served_in w (asking_in v) answer))
+served_fits_shelf w v answer owned kinds = by (asking_in v) refl where
+  by_answer : (answer : Answer) → FitsShelf v (result_of (served_by answer))
+  by_answer Absent = tt
+  by_answer Null = tt
+  by_answer (Slot slot) = tt
+
+  from_shelf : (s : ℕ) → asking_in v ≡ AtShelf s → (o : Option Owner) → IsFound (λ (p : Owner). is_shelf s p.holder) w.owners o → FitsShelf v (result_of (served_from w o))
+  from_shelf s asked None none = tt
+  from_shelf s asked (Some o) found = λ shelf e.
+      let same : s ≡ shelf = shelf_number s shelf (sym asked ∙ e) in
+      let on = standing_there w s o found in
+      owned.holders.sized o on.among
+      ∙ ap (λ (k : ℕ). length (image_at w.kinds k)) (sym (kind_on_shelf w s o owned on) ∙ same)
+      ∙ ap (λ (ks : List Kind). length (image_at ks shelf)) (sym kinds)
+    where
+      shelf_number : (a b : ℕ) → AtShelf a ≡ AtShelf b → a ≡ b
+      shelf_number a b e = cc
+
+  by : (asked : Asking) → asking_in v ≡ asked → FitsShelf v (result_of (served_in w asked answer))
+  by Unasked e = by_answer answer
+  by OfNoKind e = by_answer answer
+  by (OfKind kind) e = by_answer answer
+  by (AtShelf s) e = from_shelf s e (standing w s) (stands w s)
 
 -- after one instruction more, with one reply more where it asks for an object
 record IsSteppedAlone (v : RunView) (told : CallResult) (world : World) : Type 0 where
   is : alone_after (v.executed + 1) v.subject v.context (replies_of (stepped told v)) ≡ peaked (alone_after v.executed v.subject v.context (replies_of v)) world
   seen : view_in world 0 ≡ Some (stepped told v)
 
-stepped_alone : (v : RunView) (told : CallResult) → IsSound v → IsAlone v → v.status ≡ Going → (world : World) × IsSteppedAlone v told world
-stepped_alone v told sound alone going = by (asks a h.lone now) where
+stepped_alone : (v : RunView) (told : CallResult) → IsSound v → IsAlone v → v.status ≡ Going → FitsShelf v told → (world : World) × IsSteppedAlone v told world
+stepped_alone v told sound alone going fits = by (asks a h.lone now) where
   h : IsSeenAlone v
   h = seen_alone v sound alone
 
@@ -397,22 +389,32 @@ stepped_alone v told sound alone going = by (asks a h.lone now) where
   i : ℕ
   i = length h.lone.run.calls
 
-  -- the replies are those of the run, and one more
-  added : (kind : ℕ) → AsksNew v kind → (world : World) × IsSteppedAlone v told world
-  added kind new =
-      let replies = more_than (replies_of v) (one_told told) in
-      let n = next_alone a replies h.lone now in
-      let fits : told_of a ≤ length v.replies = omega (arith, all_told v alone) in
-      let last : slice_get replies.answers i ≡ Some (reply_in (heard_by_new told)) = slice_get-push v.replies (reply_in (heard_by_new told)) i (sym (all_told v alone) ∙ told_is a h.lone) in (
+  calls : i ≡ length v.replies
+  calls = sym (length-map h.lone.run.calls (λ (t : AnsweredCall). t.reply)) ∙ ap (λ (u : RunView). length u.replies) h.seen
+
+  asked_as : asking_of a.world h.lone.run ≡ asking_in v
+  asked_as = asking_is a h.lone ∙ ap asking_in h.seen
+
+  -- the replies are those of the run, and more
+  IsTold : Replies → Type 0
+  IsTold more = stepped (told_now a h.lone.run (more_than (replies_of v) more)) v ≡ stepped told v
+
+  added : (more : Replies) → replies_of (stepped told v) ≡ more_than (replies_of v) more → IsTold more → (world : World) × IsSteppedAlone v told world
+  added more is hears =
+      let replies = more_than (replies_of v) more in
+      let n = next_alone a replies h.lone now in (
         n.0,
         record {
-          is = ap (alone_after (v.executed + 1) v.subject v.context) (replies_added v told kind going new)
+          is = ap (alone_after (v.executed + 1) v.subject v.context) is
               ∙ after_more v.executed v.subject v.context replies
-              ∙ ap (alone_next replies) (after_unread v.executed v.subject v.context (replies_of v) (one_told told) sound.accepted sound.context fits)
+              ∙ ap (alone_next replies) (after_unread v.executed v.subject v.context (replies_of v) more sound.accepted sound.context (all_within v alone))
               ∙ n.1.is;
-          seen = n.1.seen ∙ ap (λ (u : RunView). Some (stepped (used (slice_get replies.answers i)) u)) h.seen ∙ ap (λ (o : Option Reply). Some (stepped (used o) v)) last ∙ ap (λ (r : CallResult). Some (stepped r v)) (used_kept told) ∙ ap Some (stepped_heard v told kind going new);
+          seen = n.1.seen ∙ ap (λ (u : RunView). Some (stepped (told_now a h.lone.run replies) u)) h.seen ∙ ap Some hears;
         },
       )
+
+  last : (told : Reply) → slice_get (v.replies ++ told ∷ []) i ≡ Some told
+  last told = slice_get-push v.replies told i (sym calls)
 
   kept : asking_in v ≡ Unasked → (world : World) × IsSteppedAlone v told world
   kept unasked =
@@ -420,27 +422,65 @@ stepped_alone v told sound alone going = by (asks a h.lone now) where
         n.0,
         record {
           is = ap (alone_after (v.executed + 1) v.subject v.context) (replies_kept v told going unasked) ∙ after_more v.executed v.subject v.context (replies_of v) ∙ n.1.is;
-          seen = n.1.seen ∙ ap (λ (u : RunView). Some (stepped (used (slice_get v.replies i)) u)) h.seen ∙ ap Some (stepped_any v (used (slice_get v.replies i)) told going unasked);
+          seen = n.1.seen ∙ ap (λ (u : RunView). Some (stepped (told_now a h.lone.run (replies_of v)) u)) h.seen ∙ ap Some (stepped_any v (told_now a h.lone.run (replies_of v)) told going unasked);
         },
       )
 
-  by : (asking_of a.world h.lone.run ≡ Unasked) ⊎ ((kind : ℕ) × (asking_of a.world h.lone.run ≡ OfKind kind) × AsksNew (view_of a.world 0 h.lone.run) kind) → (world : World) × IsSteppedAlone v told world
-  by (inl unasked) = kept (ap asking_in (sym h.seen) ∙ sym (asking_seen a.world 0 h.lone.run h.lone.owned (there_is a h.lone)) ∙ unasked)
-  by (inr (kind, asked, new)) = added kind (subst (λ (u : RunView). AsksNew u kind) h.seen new)
+  hears_new : (kind : ℕ) → asking_in v ≡ OfKind kind → AsksNew v kind → IsTold (one_told told)
+  hears_new kind asked new =
+      let replies = more_than (replies_of v) (one_told told) in
+      ap (λ (k : Asking). stepped (used_by k a.world.kinds (slice_get replies.answers i) (bytes_left h.lone.run replies)) v) (asked_as ∙ asked)
+      ∙ ap (λ (o : Option Reply). stepped (used o) v) (last (reply_in (heard_by_new told)))
+      ∙ ap (λ (r : CallResult). stepped r v) (used_kept told)
+      ∙ stepped_heard v told kind going new
+
+  -- what it takes off the shelf is what it is told
+  hears_swap : (shelf : ℕ) → asking_in v ≡ AtShelf shelf → AsksShelf v shelf → IsTold (one_swapped told)
+  hears_swap shelf asked new =
+      let replies = more_than (replies_of v) (one_swapped told) in
+      ap (λ (k : Asking). stepped (used_by k a.world.kinds (slice_get replies.answers i) (bytes_left h.lone.run replies)) v) (asked_as ∙ asked)
+      ∙ ap (λ (o : Option Reply). stepped (used_at_shelf (bytes_for a.world.kinds shelf (bytes_left h.lone.run replies)) o) v) (last (reply_in (heard_by_swap told)))
+      ∙ ap (λ (r : CallResult). stepped r v) (heard told fits)
+      ∙ shelf_heard v told shelf going new
+    where
+      kinds : kinds_of v.subject.rows ≡ a.world.kinds
+      kinds = ap (λ (u : RunView). kinds_of u.subject.rows) (sym h.seen) ∙ h.lone.owned.runs.kinds_are 0 h.lone.run (there_is a h.lone)
+
+      taken : h.lone.run.taken ≡ v.taken
+      taken = ap (λ (u : RunView). u.taken) h.seen
+
+      heard : (told : CallResult) → FitsShelf v told → used_at_shelf (bytes_for a.world.kinds shelf (drop (length h.lone.run.taken) (v.taken ++ bytes_told told))) (Some (reply_in (heard_by_swap told))) ≡ heard_by_swap told
+      heard (view.Shelved bytes) fits =
+          let image = image_at a.world.kinds shelf in
+          let long : length bytes ≡ length image = fits shelf asked ∙ ap (λ (ks : List Kind). length (image_at ks shelf)) kinds in
+          ap view.Shelved (ap (λ (bs : List ℕ). take (length image) (drop (length bs) (v.taken ++ bytes) ++ image)) taken
+          ∙ ap (λ (bs : List ℕ). take (length image) (bs ++ image)) (drop-append_seam v.taken bytes)
+          ∙ ap (λ (n : ℕ). take n (bytes ++ image)) (sym long)
+          ∙ take-append_seam bytes image)
+      heard view.Null fits = refl
+      heard view.Granted fits = refl
+      heard view.Empty fits = refl
+
+  by : Asks (view_of a.world 0 h.lone.run) → (world : World) × IsSteppedAlone v told world
+  by asked = of_view (subst Asks h.seen asked) where
+    of_view : Asks v → (world : World) × IsSteppedAlone v told world
+    of_view (ForNothing unasked) = kept unasked
+    of_view (ForObject kind asked new) = added (one_told told) (replies_added v told kind going new) (hears_new kind asked new)
+    of_view (ForShelf shelf asked new) = added (one_swapped told) (replies_swapped v told shelf going new) (hears_swap shelf asked new)
 
 -- it still is after one instruction more
-pub alone_stepped : (v : RunView) (reply : CallResult) → IsSound v → IsAlone v → v.status ≡ Going → IsAlone (stepped reply v)
-alone_stepped v reply sound alone going =
-    let n = stepped_alone v reply sound alone going in
+pub alone_stepped : (v : RunView) (reply : CallResult) → IsSound v → IsAlone v → v.status ≡ Going → FitsShelf v reply → IsAlone (stepped reply v)
+alone_stepped v reply sound alone going fits =
+    let n = stepped_alone v reply sound alone going fits in
     let on = one_on v reply going in
     let here : view_in (alone_after (v.executed + 1) v.subject v.context (replies_of (stepped reply v))).world 0 ≡ Some (stepped reply v) = ap (λ (b : Alone). view_in b.world 0) n.1.is ∙ n.1.seen in
     rw (on.executed, on.subject, on.context) here
 
 -- and its peak is the most that it held so far
-pub peak_stepped : (v : RunView) (reply : CallResult) → IsSound v → IsAlone v → v.status ≡ Going
+pub peak_stepped : (v : RunView) (reply : CallResult) → IsSound v → IsAlone v → v.status ≡ Going → FitsShelf v reply
     → (alone_after (v.executed + 1) v.subject v.context (replies_of (stepped reply v))).peak ≡ max (alone_after v.executed v.subject v.context (replies_of v)).peak (length (stepped reply v).objects)
-peak_stepped v reply sound alone going =
-    let n = stepped_alone v reply sound alone going in
+peak_stepped v reply sound alone going fits =
+    let n = stepped_alone v reply sound alone going fits in
     let r = shown_run n.0 0 (stepped reply v) n.1.seen in
     let held : holds_of n.0 0 ≡ length (stepped reply v).objects = sym (length-map (held_by n.0 0) (object_in n.0)) ∙ ap (λ (u : RunView). length u.objects) r.2 in
     ap (λ (b : Alone). b.peak) n.1.is ∙ ap (max (alone_after v.executed v.subject v.context (replies_of v)).peak) held
@@ -472,7 +512,7 @@ outcome_exited v n sound alone ended more =
     let h = seen_alone v sound alone in
     let a = alone_after v.executed v.subject v.context (replies_of v) in
     let stays = exited_after v n sound alone ended in
-    let fits : told_of (alone_after (length (instructions v.subject.program)) v.subject v.context (replies_of v)) ≤ length v.replies = omega (arith, ap told_of stays, all_told v alone) in
+    let fits = subst (λ (b : Alone). IsWithin (told_of b) (replies_of v)) (sym stays) (all_within v alone) in
     ap outcome_of (after_unread (length (instructions v.subject.program)) v.subject v.context (replies_of v) more sound.accepted sound.context fits ∙ stays) ∙ outcome_seen a v n h.lone.run h.lone.only h.seen ended
   where
     outcome_seen : (a : Alone) (v : RunView) (n : ℕ) (r : Running) → a.world.runs ≡ r ∷ [] → view_of a.world 0 r ≡ v → v.status ≡ Exited n → outcome_of a ≡ record { status = Exited n; output = v.frame.output; executed = v.executed; peak = a.peak }

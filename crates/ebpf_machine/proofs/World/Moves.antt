@@ -1,8 +1,7 @@
 -- A slot passes from one holder to another: owners, ledgers and pointers still fit together.
-use Rattle.std.proofs.Common.{◌≡◌, ◌≢◌, ◌⊎◌, inl, inr, ℕ, zero, suc, ◌+◌, ◌<◌, ◌≤◌, Bool, true, false, cond, not, List, [], ◌∷◌, ◌++◌, length, filter, count_by, Some, refl, sym, ap, ◌∙◌, subst, arith}
+use Rattle.std.proofs.Common.{◌≡◌, ◌≢◌, ◌⊎◌, inl, inr, ℕ, ◌+◌, ◌≤◌, Bool, true, false, cond, not, List, [], ◌∷◌, ◌++◌, length, filter, count_by, Some, refl, sym, ap, ◌∙◌, subst, arith}
 use Rattle.std.specs.Prelude.{Contains, slice_get, ◌==◌}
-use Rattle.std.specs.List.{list_any}
-use Rattle.std.proofs.lemmas.Bool.{cases_eq, eqb-true, eq-eqb, ne_eqb, and_parts, and_from, not-true, not_from_false, false_from_ne_true}
+use Rattle.std.proofs.lemmas.Bool.{cases_eq, eq-eqb, ne_eqb, and_parts, and_from, not-true, not_from_false, false_from_ne_true}
 use Rattle.std.proofs.lemmas.List.Elements.{Contains-append_left, Contains-push, Contains-push_cases}
 use Rattle.std.proofs.lemmas.List.Sums.{sum_by_push}
 use Rattle.ebpf_machine.specs.World.{Name, World, Running, Owner, Holder, Run, is_in, is_in_ledger, is_owned, is_home, image_at, kind_in, IsOfKind}
@@ -15,12 +14,15 @@ pub record IsDropped (w : World) (o : Owner) (stays : Owner → Bool) : Type 0 w
   pub drops : stays o ≡ false
   pub only : (p : Owner) → Contains w.owners p → stays p ≡ false → p ≡ o
 
--- its slot has this holder then
-abbrev pub held_anew : Owner → Holder → Owner
-held_anew o holder = record { slot = o.slot; holder = holder }
+abbrev pub owned_by : ℕ → Holder → Owner
+owned_by slot holder = record { slot = slot; holder = holder }
 
+abbrev pub with_owners : List Owner → World → World
+with_owners owners w = record w { owners = owners }
+
+-- its slot has this holder then
 abbrev pub moved : World → Owner → (Owner → Bool) → Holder → World
-moved w o stays holder = record w { owners = filter stays w.owners ++ held_anew o holder ∷ [] }
+moved w o stays holder = with_owners (filter stays w.owners ++ owned_by o.slot holder ∷ []) w
 
 -- the holder has nothing yet, may have what is of this kind, and the pointers of its call are to this slot
 pub record MayHold (w : World) (slot : ℕ) (holder : Holder) : Type 0 where
@@ -46,7 +48,7 @@ owned_moved w o stays holder owned drop may = record {
 }
   where
     new : Owner
-    new = held_anew o holder
+    new = owned_by o.slot holder
 
     left : List Owner
     left = filter stays w.owners

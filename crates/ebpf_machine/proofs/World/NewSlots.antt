@@ -64,7 +64,7 @@ joined_once w kind slot owned new =
     let one = ap (λ (b : Bool). cond {A = ℕ} b 1 0) (itself_in slot (ledger_of w kind)) in
     omega (arith, none, one, sum_by-set (λ slots. cond (is_in slot slots) 1 0) w.ledgers kind (with_slot slot (ledger_of w kind)) [] (room w kind slot owned new))
 
-joined_kind : (w : World) (kind slot : ℕ) → IsOwned w → IsNew w kind slot → kind_in (with_slot_joined kind slot w) slot ≡ kind
+pub joined_kind : (w : World) (kind slot : ℕ) → IsOwned w → IsNew w kind slot → kind_in (with_slot_joined kind slot w) slot ≡ kind
 joined_kind w kind slot owned new = kind_from-ledger 0 (with_slot_joined kind slot w).ledgers kind slot (joined_in w kind slot owned new) (joined_once w kind slot owned new) ∙ omega arith
 
 pub joined_home : (w : World) (kind slot : ℕ) → IsOwned w → IsNew w kind slot → is_home (with_slot_joined kind slot w) slot ≡ true

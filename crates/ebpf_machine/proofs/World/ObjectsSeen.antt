@@ -19,7 +19,7 @@ objects_of w run = map (object_in w) (held_by w run)
 -- ---- a write
 
 -- an object in another slot
-object_kept : (w : World) (slot : ℕ) (bytes : List ℕ) (o : Owner) → o.slot ≢ slot → object_in (with_bytes slot bytes w) o ≡ object_in w o
+pub object_kept : (w : World) (slot : ℕ) (bytes : List ℕ) (o : Owner) → o.slot ≢ slot → object_in (with_bytes slot bytes w) o ≡ object_in w o
 object_kept w slot bytes o ne = let apart = ne_eqb o.slot slot ne in rw apart refl
 
 -- an object of the run, where the bytes of one are patched
@@ -76,7 +76,7 @@ others_given_back w run other name bytes owned own ne =
 
 -- ---- an object is granted
 
-objects_kept : (w : World) (run slot : ℕ) (bytes : List ℕ) → is_home w slot ≡ true → objects_of (with_bytes slot bytes w) run ≡ objects_of w run
+pub objects_kept : (w : World) (run slot : ℕ) (bytes : List ℕ) → is_home w slot ≡ true → objects_of (with_bytes slot bytes w) run ≡ objects_of w run
 objects_kept w run slot bytes home =
     map_agree (object_in (with_bytes slot bytes w)) (object_in w) (held_by w run) (λ o among. object_kept w slot bytes o (not_home w o slot home (held_owner w run o among).0))
 

@@ -20,9 +20,9 @@ use Rattle.ebpf_machine.specs.Alone.{alone_first}
 use Rattle.ebpf_machine.specs.View.{call_of}
 use Rattle.ebpf_machine.specs.Sound.{IsOwned, Names, HasPointer, HasOneSlot, IsTrue}
 use Rattle.ebpf_machine.proofs.Lists.ListLemmas.{IsFound, get_set_same, get_push, get_push_cases}
-use Rattle.ebpf_machine.proofs.World.Owners.{owner_of, run_of}
+use Rattle.ebpf_machine.proofs.World.Owners.{owner_of, run_of, kind_in-ledger}
 use Rattle.ebpf_machine.proofs.World.ObjectPointers.{pointer_written, no_first_pointer}
-use Rattle.ebpf_machine.proofs.World.OwnedParts.{IsLater, same_run, nothing_yet, owned_running, owned_bytes, owned_given, owned_granted}
+use Rattle.ebpf_machine.proofs.World.OwnedParts.{IsLater, same_run, nothing_yet, owned_running, owned_bytes, owned_freed, owned_granted}
 use Rattle.ebpf_machine.proofs.World.Moves.{MayHold, owned_moved}
 use Rattle.ebpf_machine.proofs.World.Exchanges.{IsOwnGiven, StandsOn, stands, standing_there, off_shelf, shelf_is_no_run, kind_on_shelf, shelf_dropped, given_dropped, given_with_run, given_fetched, fetched_off}
 use Rattle.ebpf_machine.proofs.World.Acts.{IsOwnEffect}
@@ -116,6 +116,17 @@ asked_now w run r now kind told there forward is got = record {
   told = subst (λ (calls : List AnsweredCall). Contains calls (record { at = r.pc; kind = kind; reply = told })) (sym is) (Contains-push r.calls (record { at = r.pc; kind = kind; reply = told }));
 }
 
+-- so the call may hold it
+may_hold : (w : World) (run : ℕ) (r now : Running) (slot : ℕ) → IsOwned w → slice_get w.runs run ≡ Some r → IsHanded w run r now slot → AskedFor (with_run w run now).runs run r.pc (kind_in w slot) → MayHold (with_run w run now) slot (Run run r.pc)
+may_hold w run r now slot owned there next asked = record {
+  nothing = λ p among. nothing_yet w run r p owned there among;
+  asked = asked;
+  points = λ k x n at has e.
+      let its_run : run ≡ k = ap run_of e in
+      let its_call : r.pc ≡ n.call = ap call_of e in
+      sym (next.points x n (ap (λ (m : ℕ). slice_get (with_run w run now).runs m) its_run ∙ at) has (sym its_call));
+}
+
 owned_taken : (w : World) (run : ℕ) (r : Running) (slot kind to : ℕ) (frame : Frame Name) → IsOwned w → slice_get w.runs run ≡ Some r → is_home w slot ≡ true → is_in slot (ledger_of w kind) ≡ true → r.pc < to → ((n : Name) → HasPointer frame n → HasPointer r.frame n)
     → IsOwned (granted slot w run r to frame kind)
 owned_taken w run r slot kind to frame owned there home of_kind forward fewer = by (nat_le r.subject.decl.held (holds_of w run)) where
@@ -130,7 +141,10 @@ owned_taken w run r slot kind to frame owned there home of_kind forward fewer = 
 
   by : (t : Bool) → IsOwned (cond t (with_run w run (trapped TooManyObjects r)) (with_owner slot (Run run r.pc) (with_bytes slot (image_at w.kinds kind) (with_run w run now))))
   by true = owned_stays w run r (trapped TooManyObjects r) owned there refl refl refl refl
-  by false = owned_granted (with_run w run now) run r.pc slot kind next.owned home of_kind (asked_now w run r now kind reply.Granted there forward refl tt) (λ o among. nothing_yet w run r o owned there among) next.points
+  by false =
+      let kind_is : kind ≡ kind_in w slot = sym (kind_in-ledger w kind slot owned of_kind) in
+      let asked = subst (λ (k : ℕ). AskedFor (with_run w run now).runs run r.pc k) kind_is (asked_now w run r now kind reply.Granted there forward refl tt) in
+      owned_granted (with_run w run now) slot kind (Run run r.pc) (image_at w.kinds kind) next.owned home of_kind refl (may_hold w run r now slot owned there next asked)
 
 -- ---- what stands on a shelf is exchanged
 
@@ -159,14 +173,7 @@ owned_exchanged w run r to frame shelf given owned there own forward fewer = by 
     kind_is = kind_on_shelf w shelf o owned on
 
     may : MayHold (with_run w run now) o.slot (Run run r.pc)
-    may = record {
-      nothing = λ p among. nothing_yet w run r p owned there among;
-      asked = subst (λ (kind : ℕ). AskedFor (with_run w run now).runs run r.pc kind) kind_is (asked_now w run r now shelf reply.Shelf there forward refl tt);
-      points = λ k x n at has e.
-          let its_run : run ≡ k = ap run_of e in
-          let its_call : r.pc ≡ n.call = ap call_of e in
-          sym (next.points x n (ap (λ (m : ℕ). slice_get (with_run w run now).runs m) its_run ∙ at) has (sym its_call));
-    }
+    may = may_hold w run r now o.slot owned there next (subst (λ (kind : ℕ). AskedFor (with_run w run now).runs run r.pc kind) kind_is (asked_now w run r now shelf reply.Shelf there forward refl tt))
 
     owned_fetched : IsOwned (fetched o shelf run r.pc (with_run w run now))
     owned_fetched = owned_moved (with_run w run now) o (λ p. not (is_shelf shelf p.holder)) (Run run r.pc) next.owned (shelf_dropped (with_run w run now) shelf o next.owned (record { among = on.among; holder = on.holder })) may
@@ -187,7 +194,8 @@ owned_done w run r (Traps trap) answer owned there own forward = absurd own
 owned_done w run r (Goes Nothing to frame) answer owned there own forward = owned_gone w run r to frame owned there forward.0 forward.1
 owned_done w run r (Goes (Write name at bytes) to frame) answer owned there own forward =
     owned_bytes (with_run w run (moved_to to frame r)) name.slot (patched (w.bytes name.slot) at bytes) (owner_of run name) (owned_gone w run r to frame owned there forward.0 forward.1) own.0 refl (patched_long (w.bytes name.slot) bytes at own.1)
-owned_done w run r (Goes (Free name) to frame) answer owned there own forward = owned_given (with_run w run (moved_to to frame r)) run name (owned_gone w run r to frame owned there forward.0 forward.1) own
+owned_done w run r (Goes (Free name) to frame) answer owned there own forward =
+    owned_freed (with_run w run (moved_to to frame r)) (owner_of run name) (λ p. not ((p.slot == name.slot) && is_call run name.call p.holder)) (owned_gone w run r to frame owned there forward.0 forward.1) (given_dropped (with_run w run (moved_to to frame r)) run name own)
 owned_done w run r (Goes (Exchange shelf given) to frame) answer owned there own forward = owned_exchanged w run r to frame shelf given owned there own.1 forward.0 forward.1
 owned_done w run r (Goes (Ask kind) to frame) Absent owned there own forward = owned_told w run r reply.Null kind to frame owned there forward.0 forward.1
 owned_done w run r (Goes (Ask kind) to frame) Null owned there own forward = owned_told w run r reply.Null kind to frame owned there forward.0 forward.1

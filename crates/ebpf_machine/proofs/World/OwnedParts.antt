@@ -1,18 +1,18 @@
 -- Owners, ledgers and pointers still fit together where one part of a world changes: a run, the bytes of a slot, or who owns one.
-use Rattle.std.proofs.Common.{◌≡◌, ◌≢◌, ◌⊎◌, inl, inr, ℕ, ◌+◌, ◌<◌, ◌≤◌, Bool, true, false, cond, not, ◌&&◌, List, [], ◌∷◌, ◌++◌, length, filter, count_by, Some, refl, sym, ap, ◌∙◌, subst, arith}
+use Rattle.std.proofs.Common.{◌≡◌, ◌≢◌, ◌⊎◌, inl, inr, ℕ, ◌+◌, ◌<◌, ◌≤◌, Bool, true, false, cond, not, List, [], ◌∷◌, ◌++◌, length, filter, count_by, Some, refl, sym, ap, ◌∙◌, subst, arith}
 use Rattle.std.specs.Prelude.{Contains, slice_get, ◌==◌}
 use Rattle.std.specs.List.{list_any}
-use Rattle.std.proofs.lemmas.Bool.{cases_eq, eqb-true, eqb-false, eq-eqb, ne_eqb, and_parts, and_from, not-true, not_from_false, or_parts}
+use Rattle.std.proofs.lemmas.Bool.{cases_eq, eqb-true, eqb-false, eq-eqb, ne_eqb, and_parts, and_from, not-true, not_from_false, or_parts, false_from_ne_true}
 use Rattle.std.proofs.lemmas.List.Elements.{Contains-push_cases}
 use Rattle.std.proofs.lemmas.List.Folds.{list_any-append}
 use Rattle.std.proofs.lemmas.List.Sums.{sum_by_push}
 use Rattle.ebpf_verify.specs.Subject.{Subject}
-use Rattle.ebpf_machine.specs.World.{Name, World, Running, AnsweredCall, Owner, Holder, Run, Shelf, is_in, is_in_ledger, is_owned, is_home, is_call, ledger_of, kinds_of, image_at, kind_in, name_of, IsOfKind, AskedFor}
-use Rattle.ebpf_machine.specs.Events.{with_run, with_bytes, with_owner, without_owner}
-use Rattle.ebpf_machine.specs.View.{call_of}
+use Rattle.ebpf_machine.specs.World.{Name, World, Running, AnsweredCall, Owner, Holder, Run, Shelf, is_in, is_in_ledger, is_owned, is_home, ledger_of, kinds_of, image_at, kind_in, IsOfKind, AskedFor}
+use Rattle.ebpf_machine.specs.Events.{with_run, with_bytes, with_owner}
 use Rattle.ebpf_machine.specs.Sound.{IsOwned, HasPointer, HasOneSlot, IsTrue}
-use Rattle.ebpf_machine.proofs.Lists.ListLemmas.{get_set_same, get_set_other, get_set_cases, Contains-filter, count_by-filter-le, list_any-filter, none_counted}
-use Rattle.ebpf_machine.proofs.World.Owners.{owner_of, run_of, not_home, holder_of_slot, kind_in-ledger, in_one_ledger}
+use Rattle.ebpf_machine.proofs.Lists.ListLemmas.{get_set_same, get_set_other, get_set_cases, Contains-filter, Contains-kept, count_by-filter-le, any_from, any_one, none_counted}
+use Rattle.ebpf_machine.proofs.World.Owners.{not_home, same_slot, kind_in-ledger, in_one_ledger}
+use Rattle.ebpf_machine.proofs.World.Moves.{IsDropped, MayHold, owned_by, with_owners}
 
 -- a pointer stays true where no more is owned
 pub true_fewer : (owners fewer : List Owner) (run : ℕ) (r : Running) (n : Name) → ((o : Owner) → Contains fewer o → Contains owners o) → IsTrue owners run r n → IsTrue fewer run r n
@@ -92,70 +92,70 @@ owned_bytes w slot bytes p owned own is as_long = record {
     long o among (inl e) = let here = eq-eqb o.slot slot e in rw here (as_long ∙ ap (λ (s : ℕ). length (w.bytes s)) (sym e) ∙ owned.holders.sized o among)
     long o among (inr ne) = let apart = ne_eqb o.slot slot ne in rw apart (owned.holders.sized o among)
 
--- ---- an object is given back
+-- ---- an object is nobody's any more, and gets its image
 
-pub owned_given : (w : World) (run : ℕ) (name : Name) → IsOwned w → Contains w.owners (owner_of run name) → IsOwned (with_bytes name.slot (image_at w.kinds (kind_in w name.slot)) (without_owner run name w))
-owned_given w run name owned own = record {
-  ledgers = record { as_many = owned.ledgers.as_many; apart = owned.ledgers.apart; imaged = λ s home. image s home (cases_eq s name.slot) };
+pub owned_freed : (w : World) (o : Owner) (stays : Owner → Bool) → IsOwned w → IsDropped w o stays → IsOwned (with_bytes o.slot (image_at w.kinds (kind_in w o.slot)) (with_owners (filter stays w.owners) w))
+owned_freed w o stays owned drop = record {
+  ledgers = record { as_many = owned.ledgers.as_many; apart = owned.ledgers.apart; imaged = λ s home. image s home (cases_eq s o.slot) };
   holders = record {
-    once = λ slot. omega (arith, count_by-filter-le (λ (o : Owner). o.slot == slot) stays w.owners, owned.holders.once slot);
-    in_ledger = λ o among. owned.holders.in_ledger o (was o among);
-    one_a_call = λ o p among here e. owned.holders.one_a_call o p (was o among) (was p here) e;
-    sized = λ o among. let apart = ne_eqb o.slot name.slot (other o among) in rw apart (owned.holders.sized o (was o among));
+    once = λ slot. omega (arith, count_by-filter-le (λ (p : Owner). p.slot == slot) stays w.owners, owned.holders.once slot);
+    in_ledger = λ p among. owned.holders.in_ledger p (was p among);
+    one_a_call = λ p q among here e. owned.holders.one_a_call p q (was p among) (was q here) e;
+    sized = λ p among. let apart = ne_eqb p.slot o.slot (other p among) in rw apart (owned.holders.sized p (was p among));
   };
   runs = record {
     kinds_are = owned.runs.kinds_are;
-    asked = λ o among. owned.runs.asked o (was o among);
+    asked = λ p among. owned.runs.asked p (was p among);
     pointers = λ k x at n has. true_fewer w.owners (filter stays w.owners) k x n was (owned.runs.pointers k x at n has);
     one_slot = owned.runs.one_slot;
   };
 }
   where
-    stays : Owner → Bool
-    stays o = not ((o.slot == name.slot) && is_call run name.call o.holder)
-
     after : World
-    after = with_bytes name.slot (image_at w.kinds (kind_in w name.slot)) (without_owner run name w)
+    after = with_owners (filter stays w.owners) w
 
-    was : (o : Owner) → Contains (filter stays w.owners) o → Contains w.owners o
-    was o among = (Contains-filter stays w.owners o among).0
+    was : (p : Owner) → Contains (filter stays w.owners) p → Contains w.owners p
+    was p among = (Contains-filter stays w.owners p among).0
 
-    named : (h : Holder) → h ≡ Run run name.call → is_call run name.call h ≡ true
-    named h e = ap (is_call run name.call) e ∙ and_from (run == run) (name.call == name.call) (eq-eqb run run refl) (eq-eqb name.call name.call refl)
-
-    other : (o : Owner) → Contains (filter stays w.owners) o → o.slot ≢ name.slot
-    other o among e =
-        let here = eq-eqb o.slot name.slot e in
-        let its = named o.holder (holder_of_slot w run name o owned own (was o among) e) in
-        let stayed : not ((o.slot == name.slot) && is_call run name.call o.holder) ≡ true = (Contains-filter stays w.owners o among).1 in
-        let gone : not ((o.slot == name.slot) && is_call run name.call o.holder) ≡ false = rw (here, its) refl in
+    other : (p : Owner) → Contains (filter stays w.owners) p → p.slot ≢ o.slot
+    other p among e =
+        let same = ap stays (same_slot w p o owned (was p among) drop.among e) in
+        let stayed = (Contains-filter stays w.owners p among).1 in
+        let gone = drop.drops in
         absurd (cc)
 
-    still : (s : ℕ) → s ≢ name.slot → is_home after s ≡ true → is_home w s ≡ true
+    -- whoever had another slot has it still
+    still_owned : (s : ℕ) → s ≢ o.slot → is_owned w s ≡ true → is_owned after s ≡ true
+    still_owned s ne owns = by (any_one (λ (p : Owner). p.slot == s) w.owners owns) where
+      by : (p : Owner) × Contains w.owners p × ((p.slot == s) ≡ true) → is_owned after s ≡ true
+      by (p, among, its) = stayed (stays p) refl where
+        stayed : (t : Bool) → stays p ≡ t → is_owned after s ≡ true
+        stayed true e = any_from (λ (q : Owner). q.slot == s) (filter stays w.owners) p (Contains-kept stays w.owners p among e) its
+        stayed false e = absurd (ne (sym (eqb-true p.slot s its) ∙ ap (λ (q : Owner). q.slot) (drop.only p among e)))
+
+    still : (s : ℕ) → s ≢ o.slot → is_home after s ≡ true → is_home w s ≡ true
     still s ne home =
         let parts = and_parts (is_in_ledger w s) (not (is_owned after s)) home in
-        let same : is_owned after s ≡ is_owned w s = list_any-filter (λ (o : Owner). o.slot == s) stays w.owners (λ o here. stays_there s ne o here) in
-        and_from (is_in_ledger w s) (not (is_owned w s)) parts.0 (ap not (sym same) ∙ parts.1)
-      where
-        stays_there : (s : ℕ) → s ≢ name.slot → (o : Owner) → (o.slot == s) ≡ true → stays o ≡ true
-        stays_there s ne o here = let apart = ne_eqb o.slot name.slot (λ e. ne (sym (eqb-true o.slot s here) ∙ e)) in rw apart refl
+        let nobodys = not-true (is_owned after s) parts.1 in
+        let was = false_from_ne_true (is_owned w s) (λ owns. let owns_still = still_owned s ne owns in absurd (cc)) in
+        and_from (is_in_ledger w s) (not (is_owned w s)) parts.0 (not_from_false (is_owned w s) was)
 
-    image : (s : ℕ) → is_home after s ≡ true → (s ≡ name.slot) ⊎ (s ≢ name.slot) → cond (s == name.slot) (image_at w.kinds (kind_in w name.slot)) (w.bytes s) ≡ image_at w.kinds (kind_in w s)
-    image s home (inl e) = let here = eq-eqb s name.slot e in rw here (ap (λ (m : ℕ). image_at w.kinds (kind_in w m)) (sym e))
-    image s home (inr ne) = let apart = ne_eqb s name.slot ne in rw apart (owned.ledgers.imaged s (still s ne home))
+    image : (s : ℕ) → is_home after s ≡ true → (s ≡ o.slot) ⊎ (s ≢ o.slot) → cond (s == o.slot) (image_at w.kinds (kind_in w o.slot)) (w.bytes s) ≡ image_at w.kinds (kind_in w s)
+    image s home (inl e) = let here = eq-eqb s o.slot e in rw here (ap (λ (m : ℕ). image_at w.kinds (kind_in w m)) (sym e))
+    image s home (inr ne) = let apart = ne_eqb s o.slot ne in rw apart (owned.ledgers.imaged s (still s ne home))
 
--- ---- an object is granted
+-- ---- a slot that is home gets a holder
 
-added : (w : World) (run at slot : ℕ) (o : Owner) → Contains (w.owners ++ owner_of run (name_of slot at) ∷ []) o → Contains w.owners o ⊎ (owner_of run (name_of slot at) ≡ o)
-added w run at slot o among = Contains-push_cases w.owners (owner_of run (name_of slot at)) o among
+added : (w : World) (slot : ℕ) (holder : Holder) (o : Owner) → Contains (with_owner slot holder w).owners o → Contains w.owners o ⊎ (owned_by slot holder ≡ o)
+added w slot holder o among = Contains-push_cases w.owners (owned_by slot holder) o among
 
 unowned : (w : World) (slot : ℕ) → is_home w slot ≡ true → is_owned w slot ≡ false
 unowned w slot home = not-true (is_owned w slot) (and_parts (is_in_ledger w slot) (not (is_owned w slot)) home).1
 
--- a slot is home after it, where it was so before and isn't the one that was granted
-still_home : (w : World) (run at slot s : ℕ) → is_home (with_owner slot (Run run at) w) s ≡ true → (is_home w s ≡ true) × (s ≢ slot)
-still_home w run at slot s home =
-    let new = owner_of run (name_of slot at) ∷ [] in
+-- a slot is home after it, where it was so before and isn't that one
+still_home : (w : World) (slot : ℕ) (holder : Holder) (s : ℕ) → is_home (with_owner slot holder w) s ≡ true → (is_home w s ≡ true) × (s ≢ slot)
+still_home w slot holder s home =
+    let new = owned_by slot holder ∷ [] in
     let parts = and_parts (is_in_ledger w s) (not (list_any (λ (o : Owner). o.slot == s) (w.owners ++ new))) home in
     let none = sym (list_any-append (λ (o : Owner). o.slot == s) w.owners new) ∙ not-true _ parts.1 in
     let both = or_parts (is_owned w s) (list_any (λ (o : Owner). o.slot == s) new) none in (
@@ -163,12 +163,12 @@ still_home w run at slot s home =
       λ e. eqb-false slot s (or_parts (slot == s) false both.1).0 (sym e),
     )
 
-counted_more : (w : World) (run at slot s : ℕ) → IsOwned w → is_home w slot ≡ true → count_by (λ (o : Owner). o.slot == s) (w.owners ++ owner_of run (name_of slot at) ∷ []) ≤ 1
-counted_more w run at slot s owned home = by (cases_eq slot s) where
-  more : count_by (λ (o : Owner). o.slot == s) (w.owners ++ owner_of run (name_of slot at) ∷ []) ≡ count_by (λ (o : Owner). o.slot == s) w.owners + cond (slot == s) 1 0
-  more = sum_by_push (λ (o : Owner). cond (o.slot == s) 1 0) w.owners (owner_of run (name_of slot at))
+counted_more : (w : World) (slot : ℕ) (holder : Holder) (s : ℕ) → IsOwned w → is_home w slot ≡ true → count_by (λ (o : Owner). o.slot == s) (with_owner slot holder w).owners ≤ 1
+counted_more w slot holder s owned home = by (cases_eq slot s) where
+  more : count_by (λ (o : Owner). o.slot == s) (with_owner slot holder w).owners ≡ count_by (λ (o : Owner). o.slot == s) w.owners + cond (slot == s) 1 0
+  more = sum_by_push (λ (o : Owner). cond (o.slot == s) 1 0) w.owners (owned_by slot holder)
 
-  by : (slot ≡ s) ⊎ (slot ≢ s) → count_by (λ (o : Owner). o.slot == s) (w.owners ++ owner_of run (name_of slot at) ∷ []) ≤ 1
+  by : (slot ≡ s) ⊎ (slot ≢ s) → count_by (λ (o : Owner). o.slot == s) (with_owner slot holder w).owners ≤ 1
   by (inl e) =
       let here = more ∙ ap (λ (b : Bool). count_by (λ (o : Owner). o.slot == s) w.owners + cond b 1 0) (eq-eqb slot s e) in
       omega (arith, here, none_counted (λ (o : Owner). o.slot == s) w.owners (ap (is_owned w) (sym e) ∙ unowned w slot home))
@@ -176,65 +176,58 @@ counted_more w run at slot s owned home = by (cases_eq slot s) where
       let here = more ∙ ap (λ (b : Bool). count_by (λ (o : Owner). o.slot == s) w.owners + cond b 1 0) (ne_eqb slot s ne) in
       omega (arith, here, owned.holders.once s)
 
--- where the call that it is granted to holds nothing yet, and all that points to what that call was granted points to this slot
-pub owned_granted : (w : World) (run at slot kind : ℕ) → IsOwned w → is_home w slot ≡ true → is_in slot (ledger_of w kind) ≡ true → AskedFor w.runs run at kind
-    → ((o : Owner) → Contains w.owners o → o.holder ≢ Run run at)
-    → ((r : Running) (n : Name) → slice_get w.runs run ≡ Some r → HasPointer r.frame n → n.call ≡ at → n.slot ≡ slot)
-    → IsOwned (with_owner slot (Run run at) (with_bytes slot (image_at w.kinds kind) w))
-owned_granted w run at slot kind owned home there asked nothing points = record {
-  ledgers = record { as_many = owned.ledgers.as_many; apart = owned.ledgers.apart; imaged = λ s h. image s (still_home w run at slot s h) };
+-- and bytes of its kind's length
+pub owned_granted : (w : World) (slot kind : ℕ) (holder : Holder) (bytes : List ℕ) → IsOwned w → is_home w slot ≡ true → is_in slot (ledger_of w kind) ≡ true → length bytes ≡ length (image_at w.kinds kind) → MayHold w slot holder
+    → IsOwned (with_owner slot holder (with_bytes slot bytes w))
+owned_granted w slot kind holder bytes owned home there as_long may = record {
+  ledgers = record { as_many = owned.ledgers.as_many; apart = owned.ledgers.apart; imaged = λ s h. image s (still_home w slot holder s h) };
   holders = record {
-    once = λ s. counted_more w run at slot s owned home;
-    in_ledger = λ o among. in_one o (added w run at slot o among);
-    one_a_call = λ o p among here e. one o p (added w run at slot o among) (added w run at slot p here) e;
-    sized = λ o among. long o (added w run at slot o among);
+    once = λ s. counted_more w slot holder s owned home;
+    in_ledger = λ o among. in_one o (added w slot holder o among);
+    one_a_call = λ o p among here e. one o p (added w slot holder o among) (added w slot holder p here) e;
+    sized = λ o among. long o (added w slot holder o among);
   };
   runs = record {
     kinds_are = owned.runs.kinds_are;
-    asked = λ o among. of_kind o (added w run at slot o among);
+    asked = λ o among. of_kind o (added w slot holder o among);
     pointers = λ k x seen n has. true_in k x n seen has (owned.runs.pointers k x seen n has);
     one_slot = owned.runs.one_slot;
   };
 }
   where
-    in_one : (o : Owner) → Contains w.owners o ⊎ (owner_of run (name_of slot at) ≡ o) → count_by (is_in o.slot) w.ledgers ≡ 1
+    new : Owner
+    new = owned_by slot holder
+
+    in_one : (o : Owner) → Contains w.owners o ⊎ (new ≡ o) → count_by (is_in o.slot) w.ledgers ≡ 1
     in_one o (inl among) = owned.holders.in_ledger o among
     in_one o (inr e) = ap (λ (p : Owner). count_by (is_in p.slot) w.ledgers) (sym e) ∙ in_one_ledger w kind slot owned there
 
-    image : (s : ℕ) → (is_home w s ≡ true) × (s ≢ slot) → cond (s == slot) (image_at w.kinds kind) (w.bytes s) ≡ image_at w.kinds (kind_in w s)
+    image : (s : ℕ) → (is_home w s ≡ true) × (s ≢ slot) → cond (s == slot) bytes (w.bytes s) ≡ image_at w.kinds (kind_in w s)
     image s h = let apart = ne_eqb s slot h.1 in rw apart (owned.ledgers.imaged s h.0)
 
-    new_long : length (cond (slot == slot) (image_at w.kinds kind) (w.bytes slot)) ≡ length (image_at w.kinds (kind_in w slot))
-    new_long = let here = eq-eqb slot slot refl in let of_its = kind_in-ledger w kind slot owned there in rw (here, of_its) refl
+    new_long : length (cond (slot == slot) bytes (w.bytes slot)) ≡ length (image_at w.kinds (kind_in w slot))
+    new_long = let here = eq-eqb slot slot refl in let of_its = kind_in-ledger w kind slot owned there in rw (here, of_its) as_long
 
-    long : (o : Owner) → Contains w.owners o ⊎ (owner_of run (name_of slot at) ≡ o) → length (cond (o.slot == slot) (image_at w.kinds kind) (w.bytes o.slot)) ≡ length (image_at w.kinds (kind_in w o.slot))
+    long : (o : Owner) → Contains w.owners o ⊎ (new ≡ o) → length (cond (o.slot == slot) bytes (w.bytes o.slot)) ≡ length (image_at w.kinds (kind_in w o.slot))
     long o (inl among) = let apart = ne_eqb o.slot slot (not_home w o slot home among) in rw apart (owned.holders.sized o among)
-    long o (inr e) = subst (λ (p : Owner). length (cond (p.slot == slot) (image_at w.kinds kind) (w.bytes p.slot)) ≡ length (image_at w.kinds (kind_in w p.slot))) e new_long
+    long o (inr e) = subst (λ (p : Owner). length (cond (p.slot == slot) bytes (w.bytes p.slot)) ≡ length (image_at w.kinds (kind_in w p.slot))) e new_long
 
-    one : (o p : Owner) → Contains w.owners o ⊎ (owner_of run (name_of slot at) ≡ o) → Contains w.owners p ⊎ (owner_of run (name_of slot at) ≡ p) → o.holder ≡ p.holder → o ≡ p
+    one : (o p : Owner) → Contains w.owners o ⊎ (new ≡ o) → Contains w.owners p ⊎ (new ≡ p) → o.holder ≡ p.holder → o ≡ p
     one o p (inl among) (inl here) e = owned.holders.one_a_call o p among here e
-    one o p (inl among) (inr same) e = absurd (nothing o among (e ∙ ap (λ (q : Owner). q.holder) (sym same)))
-    one o p (inr same) (inl here) e = absurd (nothing p here (sym e ∙ ap (λ (q : Owner). q.holder) (sym same)))
+    one o p (inl among) (inr same) e = absurd (may.nothing o among (e ∙ ap (λ (q : Owner). q.holder) (sym same)))
+    one o p (inr same) (inl here) e = absurd (may.nothing p here (sym e ∙ ap (λ (q : Owner). q.holder) (sym same)))
     one o p (inr same) (inr alike) e = sym same ∙ alike
 
-    new_asked : AskedFor w.runs run at (kind_in w slot)
-    new_asked = subst (λ (k : ℕ). AskedFor w.runs run at k) (sym (kind_in-ledger w kind slot owned there)) asked
-
-    of_kind : (o : Owner) → Contains w.owners o ⊎ (owner_of run (name_of slot at) ≡ o) → IsOfKind w.runs o.holder (kind_in w o.slot)
+    of_kind : (o : Owner) → Contains w.owners o ⊎ (new ≡ o) → IsOfKind w.runs o.holder (kind_in w o.slot)
     of_kind o (inl among) = owned.runs.asked o among
-    of_kind o (inr e) = subst (λ (p : Owner). IsOfKind w.runs p.holder (kind_in w p.slot)) e new_asked
+    of_kind o (inr e) = subst (λ (p : Owner). IsOfKind w.runs p.holder (kind_in w p.slot)) e may.asked
 
-    true_in : (k : ℕ) (x : Running) (n : Name) → slice_get w.runs k ≡ Some x → HasPointer x.frame n → IsTrue w.owners k x n → IsTrue (w.owners ++ owner_of run (name_of slot at) ∷ []) k x n
-    true_in k x n seen has h = record { behind = h.behind; slot = λ o among e. to o (added w run at slot o among) e }
+    true_in : (k : ℕ) (x : Running) (n : Name) → slice_get w.runs k ≡ Some x → HasPointer x.frame n → IsTrue w.owners k x n → IsTrue (with_owner slot holder w).owners k x n
+    true_in k x n seen has h = record { behind = h.behind; slot = λ o among e. to o (added w slot holder o among) e }
       where
-        to : (o : Owner) → Contains w.owners o ⊎ (owner_of run (name_of slot at) ≡ o) → o.holder ≡ Run k n.call → o.slot ≡ n.slot
+        to : (o : Owner) → Contains w.owners o ⊎ (new ≡ o) → o.holder ≡ Run k n.call → o.slot ≡ n.slot
         to o (inl among) e = h.slot o among e
-        to o (inr same) e =
-            let held : Run run at ≡ Run k n.call = ap (λ (q : Owner). q.holder) same ∙ e in
-            let its_run : run ≡ k = ap run_of held in
-            let its_call : at ≡ n.call = ap call_of held in
-            let seen_here : slice_get w.runs run ≡ Some x = ap (λ (m : ℕ). slice_get w.runs m) its_run ∙ seen in
-            ap (λ (q : Owner). q.slot) (sym same) ∙ sym (points x n seen_here has (sym its_call))
+        to o (inr same) e = ap (λ (q : Owner). q.slot) (sym same) ∙ may.points k x n seen has (ap (λ (q : Owner). q.holder) same ∙ e)
 
 -- the call at which a run is holds nothing
 pub nothing_yet : (w : World) (run : ℕ) (r : Running) (o : Owner) → IsOwned w → slice_get w.runs run ≡ Some r → Contains w.owners o → o.holder ≢ Run run r.pc

@@ -1,6 +1,7 @@
 -- Owners of a world in which owners, ledgers and pointers fit together: each is known by its slot, and by its call.
-use Rattle.std.proofs.Common.{◌≡◌, ◌≢◌, ℕ, zero, suc, ◌+◌, ◌≤◌, Bool, true, false, cond, not, ◌&&◌, List, [], ◌∷◌, ◌++◌, filter, count_by, get_or, refl, sym, ap, ◌∙◌, arith}
+use Rattle.std.proofs.Common.{◌≡◌, ◌≢◌, ℕ, zero, suc, ◌+◌, ◌≤◌, Bool, true, false, cond, not, ◌&&◌, List, [], ◌∷◌, ◌++◌, filter, count_by, get_or, refl, sym, ap, ◌∙◌, subst, arith}
 use Rattle.std.specs.Prelude.{Contains, ◌==◌}
+use Rattle.std.specs.List.{list_any}
 use Rattle.std.proofs.lemmas.Bool.{eqb-true, eq-eqb, ne_eqb, not-true, and_parts, false_from_ne_true}
 use Rattle.std.proofs.lemmas.List.{append-nil}
 use Rattle.std.proofs.lemmas.List.Elements.{filter-append}
@@ -9,7 +10,7 @@ use Rattle.ebpf_machine.specs.World.{Name, World, Owner, Holder, Run, Shelf, is_
 use Rattle.ebpf_machine.specs.Events.{with_owner, without_owner}
 use Rattle.ebpf_machine.specs.View.{call_of}
 use Rattle.ebpf_machine.specs.Sound.{IsOwned}
-use Rattle.ebpf_machine.proofs.Lists.ListLemmas.{Contains-filter, counted_at, counted_less, counted_once, only_one, filter_same, filter-filter}
+use Rattle.ebpf_machine.proofs.Lists.ListLemmas.{Contains-filter, none_counted, counted_at, counted_less, counted_once, only_one, filter_same, filter-filter}
 
 -- the owner of the object of a name
 abbrev pub owner_of : ℕ → Name → Owner
@@ -145,3 +146,25 @@ kind_in-ledger w kind slot owned there = kind_from-ledger 0 w.ledgers kind slot 
 
 pub in_one_ledger : (w : World) (kind slot : ℕ) → IsOwned w → is_in slot (ledger_of w kind) ≡ true → count_by (is_in slot) w.ledgers ≡ 1
 in_one_ledger w kind slot owned there = omega (arith, owned.ledgers.apart slot, counted_at (is_in slot) w.ledgers kind [] refl there)
+
+-- a slot of some ledger is in that of its kind
+in_its_ledger : (base : ℕ) (ledgers : List (List ℕ)) (slot : ℕ) → list_any (is_in slot) ledgers ≡ true → (k : ℕ) × (kind_from base ledgers slot ≡ base + k) × (is_in slot (get_or ledgers k []) ≡ true)
+unfolding kind_from
+in_its_ledger base [] slot there = absurd (cc)
+in_its_ledger base (slots ∷ ledgers) slot there = by (is_in slot slots) refl (in_its_ledger (suc base) ledgers slot) where
+  by : (t : Bool) → is_in slot slots ≡ t → (list_any (is_in slot) ledgers ≡ true → (k : ℕ) × (kind_from (suc base) ledgers slot ≡ suc base + k) × (is_in slot (get_or ledgers k []) ≡ true))
+      → (k : ℕ) × (cond t base (kind_from (suc base) ledgers slot) ≡ base + k) × (is_in slot (get_or (slots ∷ ledgers) k []) ≡ true)
+  by true here later = (0, omega arith, here)
+  by false away later =
+      let rest = later (sym (rw away refl) ∙ there) in
+      (suc rest.0, rest.1 ∙ omega arith, rest.2)
+
+pub kind_there : (w : World) (slot : ℕ) → is_in_ledger w slot ≡ true → is_in slot (ledger_of w (kind_in w slot)) ≡ true
+kind_there w slot there = let at = in_its_ledger 0 w.ledgers slot there in subst (λ (k : ℕ). is_in slot (ledger_of w k) ≡ true) (sym (at.1 ∙ omega arith)) at.2
+
+-- an owned slot is in a ledger
+pub owned_there : (w : World) (o : Owner) → IsOwned w → Contains w.owners o → is_in_ledger w o.slot ≡ true
+owned_there w o owned among = by (is_in_ledger w o.slot) refl where
+  by : (t : Bool) → is_in_ledger w o.slot ≡ t → t ≡ true
+  by true e = refl
+  by false e = let none = none_counted (is_in o.slot) w.ledgers e in let one = owned.holders.in_ledger o among in absurd (omega (arith, none, one))

@@ -1,6 +1,6 @@
 -- An instruction makes no pointer to an object that its run had none to.
 use Rattle.std.proofs.Common.{◌≡◌, ℕ, zero, suc, ◌<◌, ℤ, pos, Bool, true, false, cond, List, [], ◌∷◌, length, get_or, set, Option, Some, None, Result, Ok, Err, refl, sym, subst, arith, inl, inr, ◌⊎◌, ◌+◌, ◌-◌, ◌/◌, ◌+ℤ◌, not}
-use Rattle.std.specs.Prelude.{Contains, nat_lt, map, ◌&&◌}
+use Rattle.std.specs.Prelude.{Contains, nat_lt, map, ◌&&◌, ◌==◌}
 use Rattle.std.specs.Ordering.{int_eq}
 use Rattle.ebpf_insn.specs.declared.register.Reg.{Reg}
 use Rattle.ebpf_insn.specs.declared.register.Reg.TheVariants.{R0, R1, R2, R3, R4, R5}
@@ -24,7 +24,7 @@ use Rattle.ebpf_machine.specs.declared.value.Value.TheVariants.{Number, Pointer}
 use Rattle.ebpf_machine.specs.declared.value.Base.{Base}
 use Rattle.ebpf_machine.specs.declared.value.Base.TheVariants.{Stack, Context, Object}
 use Rattle.ebpf_machine.specs.Values.{Trap, ContextAccess, ObjectBounds, PointerMisuse, BadCall, FramePointerWritten, Leak, Frame, read, source_value}
-use Rattle.ebpf_machine.specs.Effect.{Found, Environment, Act, Nothing, Ask, Free, Effect, Goes, Traps, effect_at, effect, unary, copied, moved_on_left, moved_on_right, pointer_to, computed, binary, alu_value, with_value, written, is_taken, read_object, loaded, rewritten, written_at, writes_object, effect_of_store_through, effect_of_store, unset, without_arguments, with_zero, effect_of_new, effect_of_freeing, effect_of_free, with_output, effect_of_emit, effect_of_call, effect_of_jump, effect_of_branch, effect_of_exit, result_number}
+use Rattle.ebpf_machine.specs.Effect.{Found, Environment, Act, Nothing, Ask, Free, Exchange, Effect, Goes, Traps, effect_at, effect, unary, copied, moved_on_left, moved_on_right, pointer_to, computed, binary, alu_value, with_value, written, is_taken, read_object, loaded, rewritten, written_at, writes_object, effect_of_store_through, effect_of_store, unset, without_arguments, with_zero, effect_of_new, effect_of_freeing, effect_of_free, with_output, effect_of_emit, is_shelf_number, number_in, exchanges, effect_of_giving, effect_of_swapping, effect_of_swap, effect_of_call, effect_of_jump, effect_of_branch, effect_of_exit, result_number}
 use Rattle.ebpf_machine.specs.World.{Name}
 use Rattle.std.specs.List.{enumerate_from}
 use Rattle.std.proofs.lemmas.Bool.{cond_both}
@@ -301,11 +301,30 @@ emits_plain to frame None = tt
 emits_plain to frame (Some (Number m)) = λ n h. zero_plain frame n (output_plain m (with_zero frame) n h)
 emits_plain to frame (Some (Pointer base k)) = tt
 
+exchanges_plain : (to : ℕ) (frame : Frame Name) (shelf : ℕ) (given : Option Name) (allowed : Bool) → IsPlainEffect frame (exchanges to frame shelf given allowed)
+exchanges_plain to frame shelf given allowed = or_bad_plain frame allowed (Exchange shelf given) to (without_arguments frame) (arguments_plain frame)
+
+giving_plain : (to : ℕ) (frame : Frame Name) (known : Bool) (shelf : ℕ) (name : Name) (r : Result Found Trap) (k : ℤ) → IsPlainEffect frame (effect_of_giving to frame known shelf name r k)
+giving_plain to frame known shelf name (Err trap) k = tt
+giving_plain to frame known shelf name (Ok found) k = exchanges_plain to frame shelf (Some name) (known && ((found.kind == shelf) && int_eq k (pos 0)))
+
+swapping_plain : (to : ℕ) (a : Environment Name) (frame : Frame Name) (known : Bool) (shelf : ℕ) (given : Value Name) → IsPlainEffect frame (effect_of_swapping to a frame known shelf given)
+swapping_plain to a frame known shelf (Number n) = exchanges_plain to frame shelf None (known && (n == 0))
+swapping_plain to a frame known shelf (Pointer Stack k) = tt
+swapping_plain to a frame known shelf (Pointer Context k) = tt
+swapping_plain to a frame known shelf (Pointer (Object name) k) = giving_plain to frame known shelf name (a.object name) k
+
+swaps_plain : (to : ℕ) (a : Environment Name) (frame : Frame Name) (x y : Option (Value Name)) → IsPlainEffect frame (effect_of_swap to a frame x y)
+swaps_plain to a frame None y = tt
+swaps_plain to a frame (Some shelf) None = tt
+swaps_plain to a frame (Some shelf) (Some given) = swapping_plain to a frame (is_shelf_number a.kinds shelf) (number_in shelf) given
+
 calls_plain : (helper : Option Helper) (to : ℕ) (a : Environment Name) (frame : Frame Name) → IsPlainEffect frame (effect_of_call helper to a frame)
 calls_plain None to a frame = tt
 calls_plain (Some helper.New) to a frame = news_plain to a frame (read frame R1)
 calls_plain (Some helper.Free) to a frame = frees_plain to a frame (read frame R1)
 calls_plain (Some helper.Emit) to a frame = emits_plain to frame (read frame R1)
+calls_plain (Some helper.Swap) to a frame = swaps_plain to a frame (read frame R1) (read frame R2)
 
 -- ---- every instruction
 

@@ -1,6 +1,6 @@
 -- An instruction does to what a run sees what it does to the run in the world.
 use Rattle.std.proofs.Common.{◌≡◌, ℕ, zero, suc, ◌+◌, ℤ, pos, ◌+ℤ◌, Bool, true, false, cond, List, [], ◌∷◌, length, get_or, set, Option, Some, None, Result, Ok, Err, refl, sym, ap, ◌∙◌}
-use Rattle.std.specs.Prelude.{map, nat_lt}
+use Rattle.std.specs.Prelude.{map, nat_lt, ◌&&◌, ◌==◌}
 use Rattle.std.specs.Ordering.{int_eq}
 use Rattle.std.proofs.lemmas.List.{map-set}
 use Rattle.ebpf_insn.specs.declared.register.Reg.{Reg}
@@ -31,11 +31,12 @@ use Rattle.ebpf_machine.specs.declared.value.Value.TheVariants.{Number, Pointer}
 use Rattle.ebpf_machine.specs.declared.value.Cell.{Cell}
 use Rattle.ebpf_machine.specs.Values.{Trap, ContextAccess, ObjectBounds, PointerMisuse, BadCall, FramePointerWritten, Leak, Frame, read, source_value}
 use Rattle.ebpf_machine.specs.Cells.{loaded_at, place_in, read_at, stored_at}
-use Rattle.ebpf_machine.specs.Effect.{Found, Environment, Act, Nothing, Ask, Free, Effect, Goes, Traps, effect_at, effect, unary, copied, moved_on_left, moved_on_right, pointer_to, computed, binary, alu_value, with_value, written, is_inequality, compared, is_taken, read_object, loaded, rewritten, written_at, writes_object, effect_of_store_through, effect_of_store, unset, without_arguments, with_zero, effect_of_new, effect_of_freeing, effect_of_free, with_output, effect_of_emit, effect_of_call, effect_of_jump, effect_of_branch, effect_of_exit, result_number}
+use Rattle.ebpf_machine.specs.Effect.{Found, Environment, Act, Nothing, Ask, Free, Exchange, Effect, Goes, Traps, effect_at, effect, unary, copied, moved_on_left, moved_on_right, pointer_to, computed, binary, alu_value, with_value, written, is_inequality, compared, is_taken, read_object, loaded, rewritten, written_at, writes_object, effect_of_store_through, effect_of_store, unset, without_arguments, with_zero, effect_of_new, effect_of_freeing, effect_of_free, with_output, effect_of_emit, exchanges, effect_of_giving, effect_of_swapping, effect_of_swap, effect_of_call, effect_of_jump, effect_of_branch, effect_of_exit, result_number}
 use Rattle.ebpf_machine.specs.World.{Name}
 use Rattle.ebpf_machine.specs.View.{base_seen, value_seen, register_seen, cell_seen, frame_seen}
 use Rattle.ebpf_machine.specs.Sound.{Names, HasPointer}
 use Rattle.ebpf_machine.proofs.World.TrapsSeen.{trap_seen, found_seen}
+use Rattle.ebpf_machine.proofs.World.Exchanges.{call_given}
 use Rattle.ebpf_machine.proofs.World.Acts.{act_seen, effect_seen}
 use Rattle.ebpf_machine.proofs.World.CellsSeen.{result_seen, stack_seen, loaded_at-seen, read_at-seen, stored_at-seen, cell_points}
 use Rattle.ebpf_machine.proofs.World.Pointing.{read_points}
@@ -244,11 +245,33 @@ effect_of_emit-seen to frame None = refl
 effect_of_emit-seen to frame (Some (Number n)) = goes-seen Nothing to (with_output n (with_zero frame)) (with_output n (with_zero (frame_seen frame))) (ap (with_output n) (zero-seen frame))
 effect_of_emit-seen to frame (Some (Pointer base k)) = refl
 
+exchanges-seen : (to : ℕ) (frame : Frame Name) (shelf : ℕ) (given : Option Name) (allowed : Bool) → exchanges to (frame_seen frame) shelf (call_given given) allowed ≡ effect_seen (exchanges to frame shelf given allowed)
+exchanges-seen to frame shelf given allowed = rw (goes-seen (Exchange shelf given) to (without_arguments frame) (without_arguments (frame_seen frame)) (arguments-seen frame)) (or_bad-seen allowed (Goes (Exchange shelf given) to (without_arguments frame)))
+
+giving-seen : (to : ℕ) (frame : Frame Name) (known : Bool) (shelf : ℕ) (name : Name) (r : Result Found Trap) (k : ℤ) → effect_of_giving to (frame_seen frame) known shelf name.call (found_seen r) k ≡ effect_seen (effect_of_giving to frame known shelf name r k)
+giving-seen to frame known shelf name (Err trap) k = refl
+giving-seen to frame known shelf name (Ok found) k = exchanges-seen to frame shelf (Some name) (known && ((found.kind == shelf) && int_eq k (pos 0)))
+
+swapping-seen : (to : ℕ) (a : Environment Name) (b : Environment ℕ) (frame : Frame Name) (known : Bool) (shelf : ℕ) (given : Value Name) → IsSeenAs a b frame → ((n : Name) → Names (Some given) n → HasPointer frame n)
+    → effect_of_swapping to b (frame_seen frame) known shelf (value_seen given) ≡ effect_seen (effect_of_swapping to a frame known shelf given)
+swapping-seen to a b frame known shelf (Number n) same has = exchanges-seen to frame shelf None (known && (n == 0))
+swapping-seen to a b frame known shelf (Pointer Stack k) same has = refl
+swapping-seen to a b frame known shelf (Pointer Context k) same has = refl
+swapping-seen to a b frame known shelf (Pointer (Object name) k) same has = rw (same.objects name (has name refl)) (giving-seen to frame known shelf name (a.object name) k)
+
+effect_of_swap-seen : (to : ℕ) (a : Environment Name) (b : Environment ℕ) (frame : Frame Name) (x y : Option (Value Name)) → IsSeenAs a b frame → ((n : Name) → Names y n → HasPointer frame n)
+    → effect_of_swap to b (frame_seen frame) (register_seen x) (register_seen y) ≡ effect_seen (effect_of_swap to a frame x y)
+effect_of_swap-seen to a b frame None y same has = refl
+effect_of_swap-seen to a b frame (Some shelf) None same has = refl
+effect_of_swap-seen to a b frame (Some (Number n)) (Some given) same has = rw same.kinds (swapping-seen to a b frame (nat_lt n a.kinds) n given same has)
+effect_of_swap-seen to a b frame (Some (Pointer base k)) (Some given) same has = swapping-seen to a b frame false 0 given same has
+
 effect_of_call-seen : (helper : Option Helper) (to : ℕ) (a : Environment Name) (b : Environment ℕ) (frame : Frame Name) → IsSeenAs a b frame → effect_of_call helper to b (frame_seen frame) ≡ effect_seen (effect_of_call helper to a frame)
 effect_of_call-seen None to a b frame same = refl
 effect_of_call-seen (Some helper.New) to a b frame same = rw (read-seen frame R1) (effect_of_new-seen to a b frame (read frame R1) same.kinds)
 effect_of_call-seen (Some helper.Free) to a b frame same = rw (read-seen frame R1) (effect_of_free-seen to a b frame (read frame R1) same (read_points frame R1))
 effect_of_call-seen (Some helper.Emit) to a b frame same = rw (read-seen frame R1) (effect_of_emit-seen to frame (read frame R1))
+effect_of_call-seen (Some helper.Swap) to a b frame same = rw (read-seen frame R1, read-seen frame R2) (effect_of_swap-seen to a b frame (read frame R1) (read frame R2) same (read_points frame R2))
 
 -- an effect of the run is the effect as it sees itself
 effect-seen : (i : Insn) (pc : ℕ) (a : Environment Name) (b : Environment ℕ) (frame : Frame Name) → IsSeenAs a b frame → effect i pc b (frame_seen frame) ≡ effect_seen (effect i pc a frame)

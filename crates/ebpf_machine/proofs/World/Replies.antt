@@ -10,9 +10,9 @@ use Rattle.ebpf_machine.specs.Effect.{Nothing, Write, Ask, Free, Exchange, Effec
 use Rattle.ebpf_machine.specs.World.{Status, Going}
 use Rattle.ebpf_machine.specs.Events.{Unasked}
 use Rattle.ebpf_machine.specs.Alone.{Replies, replies_from, replies_of, more_than}
-use Rattle.ebpf_machine.specs.View.{RunView, environment_of_view, done_by, effect_of_view, stepped_from, stepped, answered, CallResult, Null, Granted, Empty, Shelved, reply_in}
+use Rattle.ebpf_machine.specs.View.{RunView, environment_of_view, done_by, effect_of_view, stepped_from, stepped, answered, exchanged, without_given, CallResult, Null, Granted, Empty, Shelved, reply_in}
 use Rattle.ebpf_machine.specs.Step.{asking_in}
-use Rattle.ebpf_machine.proofs.World.Asking.{AsksNew, asked_goes}
+use Rattle.ebpf_machine.proofs.World.Asking.{AsksNew, AsksShelf, asked_goes}
 
 pub stepped_going : (v : RunView) (result : CallResult) → v.status ≡ Going → stepped result v ≡ done_by (effect_of_view v) result v
 stepped_going v result going = ap (λ (s : Status). stepped_from s result v) going
@@ -76,3 +76,48 @@ replies_added v result kind going new = ap replies_of (stepped_going v result go
   told Empty = nothing_taken (v.replies ++ reply.Null ∷ [])
   told (Shelved bytes) = nothing_taken (v.replies ++ reply.Null ∷ [])
   told Granted = let room = few v.subject.decl.held (length v.objects) new.room in rw room (nothing_taken (v.replies ++ reply.Granted ∷ []))
+
+-- ---- an instruction that asks for what stands on a shelf
+
+-- what a call of swap makes of what it is told
+abbrev pub heard_by_swap : CallResult → CallResult
+heard_by_swap (Shelved bytes) = Shelved bytes
+heard_by_swap Empty = Empty
+heard_by_swap Null = Empty
+heard_by_swap Granted = Empty
+
+-- the bytes that it is told
+abbrev pub bytes_told : CallResult → List ℕ
+bytes_told (Shelved bytes) = bytes
+bytes_told Empty = []
+bytes_told Null = []
+bytes_told Granted = []
+
+-- a reply that is told to swap
+abbrev pub one_swapped : CallResult → Replies
+one_swapped result = replies_from (reply_in (heard_by_swap result) ∷ []) (bytes_told result)
+
+pub shelf_heard : (v : RunView) (result : CallResult) (shelf : ℕ) → v.status ≡ Going → AsksShelf v shelf → stepped (heard_by_swap result) v ≡ stepped result v
+shelf_heard v result shelf going asks = does (heard_by_swap result) ∙ heard result ∙ sym (does result) where
+  does : (r : CallResult) → stepped r v ≡ exchanged r asks.to asks.after shelf asks.given v
+  does r = stepped_going v r going ∙ ap (λ (e : Effect ℕ). done_by e r v) asks.does
+
+  heard : (r : CallResult) → exchanged (heard_by_swap r) asks.to asks.after shelf asks.given v ≡ exchanged r asks.to asks.after shelf asks.given v
+  heard (Shelved bytes) = refl
+  heard Empty = refl
+  heard Null = refl
+  heard Granted = refl
+
+pub replies_swapped : (v : RunView) (result : CallResult) (shelf : ℕ) → v.status ≡ Going → AsksShelf v shelf → replies_of (stepped result v) ≡ more_than (replies_of v) (one_swapped result)
+replies_swapped v result shelf going asks = ap replies_of (stepped_going v result going ∙ ap (λ (e : Effect ℕ). done_by e result v) asks.does) ∙ told result where
+  nothing_taken : (answers : List Reply) → replies_from answers v.taken ≡ replies_from answers (v.taken ++ [])
+  nothing_taken answers = ap (replies_from answers) (sym (append-nil v.taken))
+
+  few : (declared held : ℕ) → held < declared → nat_le declared held ≡ false
+  few declared held lt = grind (arith, nat_tests)
+
+  told : (result : CallResult) → replies_of (exchanged result asks.to asks.after shelf asks.given v) ≡ more_than (replies_of v) (one_swapped result)
+  told Null = nothing_taken (v.replies ++ reply.Empty ∷ [])
+  told Granted = nothing_taken (v.replies ++ reply.Empty ∷ [])
+  told Empty = nothing_taken (v.replies ++ reply.Empty ∷ [])
+  told (Shelved bytes) = let room = few v.subject.decl.held (length (without_given asks.given v.objects)) asks.room in rw room refl
