@@ -32,7 +32,7 @@ use Rattle.ebpf_core.specs.Replay.{and_then, world_after_from}
 use Rattle.ebpf_core.specs.Isolation.{answers_to, answer_in, reply_by, replies_to, IsUntrapped, IsWhereAlone, IsOutcomeOf, IsIsolated, IsSafe, IsAlwaysSafe}
 use Rattle.ebpf_core.proofs.LegalAnswers.{told_next}
 use Rattle.ebpf_core.proofs.OtherRuns.{own_run, AreSound, IsEventOf, IsExec, start_next, exec_next, event_next}
-use Rattle.ebpf_machine.proofs.World.Owners.{kind_there, owned_there}
+use Rattle.ebpf_machine.proofs.World.Owners.{kind_there, owned_there, shelf_once}
 use Rattle.ebpf_core.proofs.OwnedSlots.{unheld}
 use Rattle.ebpf_core.proofs.Runs.{at_number, same_number, get_last, first_alone}
 
@@ -269,6 +269,7 @@ safe_kept : (w : World) (events : List Event) → IsKept w events → IsSafe w e
 safe_kept w events h = record {
   runs = λ k run at. isolated w events k run h at;
   held_once = h.owned.holders.once;
+  shelved_once = λ shelf. shelf_once w shelf h.owned;
   in_ledger = λ o among. record { once = h.owned.holders.in_ledger o among; there = kind_there w o.slot (owned_there w o h.owned among); asked = h.owned.runs.asked o among };
   imaged = h.owned.ledgers.imaged;
 }

@@ -1,13 +1,13 @@
 -- The main theorem: for every legal list of events no run traps, each computes what it computes alone with the same
 -- answers and executes at most as many instructions as its program has, none holds more objects than it declared or exits
--- holding one, and no object is held twice or missing from the ledger of its kind.
+-- holding one, and no object is held twice, no shelf has two, and none is missing from the ledger of its kind.
 use Rattle.std.specs.Prelude.{◌≡◌, ◌≤◌, ℕ, ◌==◌, if◌then◌else◌, true, List, [], ◌∷◌, length, map, take, count_by, Contains, Some, Ok, slice_get}
 use Rattle.std.specs.List.{flat_map}
 use Rattle.ebpf_insn.specs.Program.{instructions}
 use Rattle.ebpf_verify.specs.Subject.{Subject}
 use Rattle.ebpf_machine.specs.declared.report.Reply.{Reply}
 use Rattle.ebpf_machine.specs.declared.report.Reply.TheVariants as reply
-use Rattle.ebpf_machine.specs.World.{World, Running, Owner, IsOfKind, Going, Exited, Trapped, Status, is_in, is_home, ledger_of, kind_in, image_at, holds_of}
+use Rattle.ebpf_machine.specs.World.{World, Running, Owner, IsOfKind, Going, Exited, Trapped, Status, is_in, is_home, is_shelf, ledger_of, kind_in, image_at, holds_of}
 use Rattle.ebpf_machine.specs.Alone.{Replies, Outcome, replies_from, alone_after, outcome_alone}
 use Rattle.ebpf_core.specs.declared.event.Answer.{Answer}
 use Rattle.ebpf_core.specs.declared.event.Answer.TheVariants.{Absent, Null, Slot}
@@ -80,6 +80,7 @@ pub record IsInLedger (w : World) (o : Owner) : Type 0 where
 pub record IsSafe (w : World) (events : List Event) : Type 0 where
   pub runs : (k : ℕ) (run : Running) → slice_get w.runs k ≡ Some run → IsIsolated w k run (answers_to k events)
   pub held_once : (slot : ℕ) → count_by (λ o. o.slot == slot) w.owners ≤ 1
+  pub shelved_once : (shelf : ℕ) → count_by (λ o. is_shelf shelf o.holder) w.owners ≤ 1
   pub in_ledger : (o : Owner) → Contains w.owners o → IsInLedger w o
   pub imaged : (slot : ℕ) → is_home w slot ≡ true → w.bytes slot ≡ image_at w.kinds (kind_in w slot)
 

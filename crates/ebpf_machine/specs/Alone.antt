@@ -29,7 +29,7 @@ pub record Fed : Type 0 where
 -- what stands on a shelf is taken from there, and its slot leaves the ledger
 abbrev pub cleared_of : Option Owner → ℕ → World → World
 cleared_of None shelf w = w
-cleared_of (Some o) shelf w = with_slot_left shelf o.slot (with_bytes o.slot (image_at w.kinds (kind_in w o.slot)) (without_shelved shelf w))
+cleared_of (Some o) shelf w = with_slot_left shelf o.slot (with_bytes o.slot (image_at w.kinds (kind_in w o.slot)) (without_shelved o.slot shelf w))
 
 abbrev pub cleared : ℕ → World → World
 cleared shelf w = cleared_of (standing w shelf) shelf w

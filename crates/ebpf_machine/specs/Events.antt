@@ -48,9 +48,9 @@ with_owner slot holder w = record w { owners = w.owners ++ record { slot = slot;
 abbrev pub without_owner : ℕ → Name → World → World
 without_owner run name w = record w { owners = filter (λ o. not ((o.slot == name.slot) && is_call run name.call o.holder)) w.owners }
 
--- nothing stands on the shelf
-abbrev pub without_shelved : ℕ → World → World
-without_shelved shelf w = record w { owners = filter (λ o. not (is_shelf shelf o.holder)) w.owners }
+-- the slot stands on the shelf no more
+abbrev pub without_shelved : (slot shelf : ℕ) → World → World
+without_shelved slot shelf w = record w { owners = filter (λ o. not ((o.slot == slot) && is_shelf shelf o.holder)) w.owners }
 
 -- ---- Start: one more run of an accepted program, on a context of the length that it declares
 
@@ -97,7 +97,7 @@ put_on (Some name) shelf run w = with_owner name.slot (Shelf shelf) (without_own
 
 -- what stands on a shelf is the run's, by this call
 abbrev pub fetched : Owner → (shelf run call : ℕ) → World → World
-fetched o shelf run call w = with_owner o.slot (Run run call) (without_shelved shelf w)
+fetched o shelf run call w = with_owner o.slot (Run run call) (without_shelved o.slot shelf w)
 
 -- a call of swap goes on with the bytes of what stood on the shelf, and a pointer to it
 abbrev pub shelf_told : (slot : ℕ) (bytes : List ℕ) (shelf to : ℕ) → Frame Name → Running → Running

@@ -105,6 +105,9 @@ count_by-filter-le p q xs = omega (arith, sum_by-filter_both q (λ x. not (q x))
 pub counted_once : {X : Type 0} (p : X → Bool) (x : X) (xs : List X) → p x ≡ true → count_by p (x ∷ xs) ≡ 1 + count_by p xs
 counted_once p x xs passes = sum_by-cons (λ y. cond (p y) 1 0) x xs ∙ ap (λ b. cond b 1 0 + count_by p xs) passes
 
+pub counted_not : {X : Type 0} (p : X → Bool) (x : X) (xs : List X) → p x ≡ false → count_by p (x ∷ xs) ≡ count_by p xs
+counted_not p x xs fails = omega (arith, sum_by-cons (λ y. cond (p y) 1 0) x xs, ap (λ b. cond {A = ℕ} b 1 0) fails)
+
 pub counted_less : {X : Type 0} (p : X → Bool) (x : X) (xs : List X) → count_by p xs ≤ count_by p (x ∷ xs)
 counted_less p x xs = omega (arith, sum_by-cons (λ y. cond (p y) 1 0) x xs)
 

@@ -1,7 +1,7 @@
 -- What stands on a shelf is exchanged: what the runs of a world hold then, and what they see of it.
 use Rattle.std.proofs.Common.{◌≡◌, ◌≢◌, ◌⊎◌, inl, inr, ℕ, Bool, true, false, cond, not, ◌&&◌, List, [], ◌∷◌, ◌++◌, map, filter, Option, Some, None, option_map, refl, sym, ap, ◌∙◌, subst}
 use Rattle.std.specs.Prelude.{Contains, ◌==◌}
-use Rattle.std.proofs.lemmas.Bool.{eqb-true, eq-eqb, ne_eqb, and_from, not-false, not-true}
+use Rattle.std.proofs.lemmas.Bool.{eq-eqb, ne_eqb, and_from, not-false, and_parts}
 use Rattle.std.proofs.lemmas.List.{append-nil}
 use Rattle.std.proofs.lemmas.List.Elements.{filter-append, Contains-append_left, Contains-push_cases}
 use Rattle.ebpf_machine.specs.World.{Name, World, Running, Owner, Holder, Run, Shelf, is_run, is_call, is_shelf, standing, held_by, kind_in, name_of, IsOfKind}
@@ -10,15 +10,15 @@ use Rattle.ebpf_machine.specs.View.{ObjectView, call_of, object_in, without_give
 use Rattle.ebpf_machine.specs.Advance.{slots_without}
 use Rattle.ebpf_machine.specs.Sound.{IsOwned}
 use Rattle.ebpf_machine.proofs.Lists.ListLemmas.{IsFound, Contains-filter, Contains-kept, filter_same, filter-map, filter-filter, find_is}
-use Rattle.ebpf_machine.proofs.World.Owners.{owner_of, IsInItsSlot, slot_of_call, held_given, held_granted, others_given, others_granted}
+use Rattle.ebpf_machine.proofs.World.Owners.{owner_of, is_shelf-own, IsInItsSlot, slot_of_call, held_given, held_granted, others_given, others_granted}
 use Rattle.ebpf_machine.proofs.World.ObjectsFound.{call_is, has_name, its_owner}
 use Rattle.ebpf_machine.proofs.World.Moves.{IsDropped}
 
--- ---- what stands on a shelf
+pub and_false : (t : Bool) → (t && false) ≡ false
+and_false true = refl
+and_false false = refl
 
-is_shelf-own : (shelf : ℕ) (h : Holder) → is_shelf shelf h ≡ true → h ≡ Shelf shelf
-is_shelf-own shelf (Run r at) e = absurd (cc)
-is_shelf-own shelf (Shelf s) e = ap Shelf (eqb-true s shelf e)
+-- ---- what stands on a shelf
 
 shelf_is : (shelf : ℕ) (h : Holder) → h ≡ Shelf shelf → is_shelf shelf h ≡ true
 shelf_is shelf h e = ap (is_shelf shelf) e ∙ eq-eqb shelf shelf refl
@@ -43,12 +43,27 @@ standing_there w shelf o found = record { among = found.0; holder = is_shelf-own
 pub kind_on_shelf : (w : World) (shelf : ℕ) (o : Owner) → IsOwned w → StandsOn w shelf o → shelf ≡ kind_in w o.slot
 kind_on_shelf w shelf o owned on = subst (λ (h : Holder). IsOfKind w.runs h (kind_in w o.slot)) on.holder (owned.runs.asked o on.among)
 
-pub shelf_dropped : (w : World) (shelf : ℕ) (o : Owner) → IsOwned w → StandsOn w shelf o → IsDropped w o (λ p. not (is_shelf shelf p.holder))
+-- all but what stands in this slot on a shelf
+abbrev pub stays_off : (slot shelf : ℕ) → Owner → Bool
+stays_off slot shelf p = not ((p.slot == slot) && is_shelf shelf p.holder)
+
+pub shelf_dropped : (w : World) (shelf : ℕ) (o : Owner) → IsOwned w → StandsOn w shelf o → IsDropped w o (stays_off o.slot shelf)
 shelf_dropped w shelf o owned on = record {
   among = on.among;
-  drops = ap not (shelf_is shelf o.holder on.holder);
-  only = λ p among e. owned.holders.one_a_call p o among on.among (is_shelf-own shelf p.holder (not-false (is_shelf shelf p.holder) e) ∙ sym on.holder);
+  drops = ap not (and_from (o.slot == o.slot) (is_shelf shelf o.holder) (eq-eqb o.slot o.slot refl) (shelf_is shelf o.holder on.holder));
+  only = λ p among e.
+      let parts = and_parts (p.slot == o.slot) (is_shelf shelf p.holder) (not-false ((p.slot == o.slot) && is_shelf shelf p.holder) e) in
+      owned.holders.one_a_call p o among on.among (is_shelf-own shelf p.holder parts.1 ∙ sym on.holder);
 }
+
+-- nothing else stands there
+pub nothing_else : (w : World) (shelf : ℕ) (o p : Owner) → IsOwned w → StandsOn w shelf o → Contains (filter (stays_off o.slot shelf) w.owners) p → p.holder ≢ Shelf shelf
+nothing_else w shelf o p owned on among e =
+    let parts = Contains-filter (stays_off o.slot shelf) w.owners p among in
+    let same = ap (stays_off o.slot shelf) (owned.holders.one_a_call p o parts.0 on.among (e ∙ sym on.holder)) in
+    let stays = parts.1 in
+    let gone = (shelf_dropped w shelf o owned on).drops in
+    absurd (cc)
 
 -- ---- what a run gives
 
@@ -72,19 +87,16 @@ given_with_run w run shelf (Some name) now own = own
 pub given_fetched : (w : World) (run at shelf : ℕ) (o : Owner) (given : Option Name) (now : Running) → IsOwnGiven w run shelf given → IsOwnGiven (fetched o shelf run at (with_run w run now)) run shelf given
 given_fetched w run at shelf o None now own = tt
 given_fetched w run at shelf o (Some name) now own =
-    (Contains-append_left (filter (λ (p : Owner). not (is_shelf shelf p.holder)) w.owners) _ (owner_of run name) (Contains-kept (λ (p : Owner). not (is_shelf shelf p.holder)) w.owners (owner_of run name) own.0 refl), own.1)
+    (Contains-append_left (filter (stays_off o.slot shelf) w.owners) _ (owner_of run name) (Contains-kept (stays_off o.slot shelf) w.owners (owner_of run name) own.0 (ap not (and_false (name.slot == o.slot)))), own.1)
 
 -- nothing stands on the shelf then
-pub fetched_off : (w : World) (run at shelf : ℕ) (o p : Owner) → Contains (fetched o shelf run at w).owners p → p.holder ≢ Shelf shelf
-fetched_off w run at shelf o p among = by (Contains-push_cases (filter stays w.owners) new p among) where
-  stays : Owner → Bool
-  stays q = not (is_shelf shelf q.holder)
-
+pub fetched_off : (w : World) (run at shelf : ℕ) (o p : Owner) → IsOwned w → StandsOn w shelf o → Contains (fetched o shelf run at w).owners p → p.holder ≢ Shelf shelf
+fetched_off w run at shelf o p owned on among = by (Contains-push_cases (filter (stays_off o.slot shelf) w.owners) new p among) where
   new : Owner
   new = owner_of run (name_of o.slot at)
 
-  by : Contains (filter stays w.owners) p ⊎ (new ≡ p) → p.holder ≢ Shelf shelf
-  by (inl old) = off_shelf shelf p (not-true (is_shelf shelf p.holder) (Contains-filter stays w.owners p old).1)
+  by : Contains (filter (stays_off o.slot shelf) w.owners) p ⊎ (new ≡ p) → p.holder ≢ Shelf shelf
+  by (inl old) = nothing_else w shelf o p owned on old
   by (inr same) = λ e. shelf_is_no_run shelf run at (sym (ap (λ (q : Owner). q.holder) same ∙ e))
 
 -- what a run has by the call that it gives away is in the slot that it gives
@@ -98,24 +110,20 @@ given_slot w run shelf (Some name) owned own = λ o among e. slot_of_call w run 
 
 -- ---- what runs hold
 
-and_false : (t : Bool) → (t && false) ≡ false
-and_false true = refl
-and_false false = refl
-
 pub held_shelved : (w : World) (run slot shelf : ℕ) → held_by (with_owner slot (Shelf shelf) w) run ≡ held_by w run
 held_shelved w run slot shelf = filter-append (λ (o : Owner). is_run run o.holder) w.owners (record { slot = slot; holder = Shelf shelf } ∷ []) ∙ append-nil (held_by w run)
 
-pub held_unshelved : (w : World) (run shelf : ℕ) → held_by (without_shelved shelf w) run ≡ held_by w run
-held_unshelved w run shelf =
-    filter-filter (λ (o : Owner). is_run run o.holder) (λ (o : Owner). not (is_shelf shelf o.holder)) w.owners
-    ∙ filter_same _ _ w.owners (λ o among. alike o.holder)
+pub held_unshelved : (w : World) (run slot shelf : ℕ) → held_by (without_shelved slot shelf w) run ≡ held_by w run
+held_unshelved w run slot shelf =
+    filter-filter (λ (o : Owner). is_run run o.holder) (stays_off slot shelf) w.owners
+    ∙ filter_same _ _ w.owners (λ o among. alike (o.slot == slot) o.holder)
   where
-    alike : (h : Holder) → (not (is_shelf shelf h) && is_run run h) ≡ is_run run h
-    alike (Run r at) = refl
-    alike (Shelf s) = and_false (not (s == shelf))
+    alike : (here : Bool) (h : Holder) → (not (here && is_shelf shelf h) && is_run run h) ≡ is_run run h
+    alike here (Run r at) = ap (λ (t : Bool). not t && (r == run)) (and_false here)
+    alike here (Shelf s) = and_false (not (here && (s == shelf)))
 
 pub held_fetched : (w : World) (run at shelf : ℕ) (o : Owner) → held_by (fetched o shelf run at w) run ≡ held_by w run ++ owner_of run (name_of o.slot at) ∷ []
-held_fetched w run at shelf o = held_granted (without_shelved shelf w) run at o.slot ∙ ap (λ (os : List Owner). os ++ owner_of run (name_of o.slot at) ∷ []) (held_unshelved w run shelf)
+held_fetched w run at shelf o = held_granted (without_shelved o.slot shelf w) run at o.slot ∙ ap (λ (os : List Owner). os ++ owner_of run (name_of o.slot at) ∷ []) (held_unshelved w run o.slot shelf)
 
 -- the owners but for what is given away
 abbrev pub held_without : Option Name → List Owner → List Owner
@@ -131,7 +139,7 @@ others_put w run other shelf None ne = refl
 others_put w run other shelf (Some name) ne = held_shelved (without_owner run name w) other name.slot shelf ∙ others_given w run other name ne
 
 pub others_fetched : (w : World) (run other at shelf : ℕ) (o : Owner) → other ≢ run → held_by (fetched o shelf run at w) other ≡ held_by w other
-others_fetched w run other at shelf o ne = others_granted (without_shelved shelf w) run other at o.slot ne ∙ held_unshelved w other shelf
+others_fetched w run other at shelf o ne = others_granted (without_shelved o.slot shelf w) run other at o.slot ne ∙ held_unshelved w other o.slot shelf
 
 -- by their calls
 abbrev pub call_given : Option Name → Option ℕ
@@ -163,9 +171,9 @@ left_push (Some name) run at slot owners ne =
 -- a call that is given away is another than this one
 given_slot_fetched : (w : World) (run at shelf : ℕ) (o : Owner) (given : Option Name) (now : Running) → IsOwned w → IsOwnGiven w run shelf given → IsNotGiven given at → IsGivenSlot (fetched o shelf run at (with_run w run now)) run given
 given_slot_fetched w run at shelf o None now owned own ne = tt
-given_slot_fetched w run at shelf o (Some name) now owned own ne = λ p among e. by p (Contains-push_cases (filter (λ (q : Owner). not (is_shelf shelf q.holder)) w.owners) (owner_of run (name_of o.slot at)) p among) e where
-  by : (p : Owner) → Contains (filter (λ (q : Owner). not (is_shelf shelf q.holder)) w.owners) p ⊎ (owner_of run (name_of o.slot at) ≡ p) → p.holder ≡ Run run name.call → p.slot ≡ name.slot
-  by p (inl old) e = slot_of_call w run name p owned own.0 (Contains-filter (λ (q : Owner). not (is_shelf shelf q.holder)) w.owners p old).0 e
+given_slot_fetched w run at shelf o (Some name) now owned own ne = λ p among e. by p (Contains-push_cases (filter (stays_off o.slot shelf) w.owners) (owner_of run (name_of o.slot at)) p among) e where
+  by : (p : Owner) → Contains (filter (stays_off o.slot shelf) w.owners) p ⊎ (owner_of run (name_of o.slot at) ≡ p) → p.holder ≡ Run run name.call → p.slot ≡ name.slot
+  by p (inl old) e = slot_of_call w run name p owned own.0 (Contains-filter (stays_off o.slot shelf) w.owners p old).0 e
   by p (inr same) e = absurd (ne (sym (ap call_of (ap (λ (q : Owner). q.holder) same ∙ e))))
 
 -- what a run holds that got what stood on the shelf by this call

@@ -163,7 +163,7 @@ fed_cleared a h shelf going asked asks =
       runs = cleared_runs w shelf;
       seen = view_cleared w shelf 0 h.run h.owned;
       fine = rw is refl;
-      steps = rw (is, nothing_standing w shelf) refl;
+      steps = rw (is, nothing_standing w shelf h.owned) refl;
       below = λ s there. omega (arith, h.below s (cleared_ledgers w shelf s h.owned there), one_swapped_more a h view.Empty shelf going asks);
     }
 
@@ -191,7 +191,7 @@ fed_shelved a h shelf bytes long going asked asks = record {
     room : IsRoom (cleared shelf w) shelf slot
     room = record {
       owned = owned_cleared w shelf h.owned;
-      off = λ p among. cleared_off w shelf p among;
+      off = λ p among. cleared_off w shelf p h.owned among;
       new = record {
         kind_is = let few = asks.shelf_is in let many = kinds_alike w 0 h.run h.owned (there_is a h) in let same = ap (λ (ks : List Kind). length ks) (cleared_kinds w shelf) in omega (arith, few, many, same);
         fresh = false_from_ne_true (is_in_ledger (cleared shelf w) slot) (λ there. absurd (omega (arith, h.below slot (cleared_ledgers w shelf slot h.owned there))));

@@ -24,7 +24,7 @@ use Rattle.ebpf_machine.proofs.World.Owners.{owner_of, run_of, kind_in-ledger}
 use Rattle.ebpf_machine.proofs.World.ObjectPointers.{pointer_written, no_first_pointer}
 use Rattle.ebpf_machine.proofs.World.OwnedParts.{IsLater, same_run, nothing_yet, owned_running, owned_bytes, owned_freed, owned_granted}
 use Rattle.ebpf_machine.proofs.World.Moves.{MayHold, owned_moved}
-use Rattle.ebpf_machine.proofs.World.Exchanges.{IsOwnGiven, StandsOn, stands, standing_there, off_shelf, shelf_is_no_run, kind_on_shelf, shelf_dropped, given_dropped, given_with_run, given_fetched, fetched_off}
+use Rattle.ebpf_machine.proofs.World.Exchanges.{stays_off, IsOwnGiven, StandsOn, stands, standing_there, off_shelf, shelf_is_no_run, kind_on_shelf, shelf_dropped, given_dropped, given_with_run, given_fetched, fetched_off}
 use Rattle.ebpf_machine.proofs.World.Acts.{IsOwnEffect}
 
 -- an instruction leads forward, and makes no pointer to an object that its run had none to
@@ -176,11 +176,11 @@ owned_exchanged w run r to frame shelf given owned there own forward fewer = by 
     may = may_hold w run r now o.slot owned there next (subst (λ (kind : ℕ). AskedFor (with_run w run now).runs run r.pc kind) kind_is (asked_now w run r now shelf reply.Shelf there forward refl tt))
 
     owned_fetched : IsOwned (fetched o shelf run r.pc (with_run w run now))
-    owned_fetched = owned_moved (with_run w run now) o (λ p. not (is_shelf shelf p.holder)) (Run run r.pc) next.owned (shelf_dropped (with_run w run now) shelf o next.owned (record { among = on.among; holder = on.holder })) may
+    owned_fetched = owned_moved (with_run w run now) o (stays_off o.slot shelf) (Run run r.pc) next.owned (shelf_dropped (with_run w run now) shelf o next.owned (record { among = on.among; holder = on.holder })) may
 
     chosen : (t : Bool) → IsOwned (cond t (with_run w run (trapped TooManyObjects r)) (put_on given shelf run (fetched o shelf run r.pc (with_run w run now))))
     chosen true = owned_stays w run r (trapped TooManyObjects r) owned there refl refl refl refl
-    chosen false = owned_put (fetched o shelf run r.pc (with_run w run now)) run shelf given owned_fetched (given_fetched w run r.pc shelf o given now own) (λ p among. fetched_off (with_run w run now) run r.pc shelf o p among)
+    chosen false = owned_put (fetched o shelf run r.pc (with_run w run now)) run shelf given owned_fetched (given_fetched w run r.pc shelf o given now own) (λ p among. fetched_off (with_run w run now) run r.pc shelf o p next.owned (record { among = on.among; holder = on.holder }) among)
 
 -- ---- every event
 

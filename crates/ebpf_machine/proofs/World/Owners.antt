@@ -6,11 +6,11 @@ use Rattle.std.proofs.lemmas.Bool.{eqb-true, eq-eqb, ne_eqb, not-true, and_parts
 use Rattle.std.proofs.lemmas.List.{append-nil}
 use Rattle.std.proofs.lemmas.List.Elements.{filter-append}
 use Rattle.std.proofs.lemmas.List.Folds.{list_any_at}
-use Rattle.ebpf_machine.specs.World.{Name, World, Owner, Holder, Run, Shelf, is_in, is_in_ledger, is_owned, is_home, is_run, is_call, held_by, ledger_of, kind_from, kind_in, name_of}
+use Rattle.ebpf_machine.specs.World.{Name, World, Owner, Holder, Run, Shelf, is_in, is_in_ledger, is_owned, is_home, is_run, is_call, is_shelf, held_by, ledger_of, kind_from, kind_in, name_of}
 use Rattle.ebpf_machine.specs.Events.{with_owner, without_owner}
 use Rattle.ebpf_machine.specs.View.{call_of}
 use Rattle.ebpf_machine.specs.Sound.{IsOwned}
-use Rattle.ebpf_machine.proofs.Lists.ListLemmas.{Contains-filter, none_counted, counted_at, counted_less, counted_once, only_one, filter_same, filter-filter}
+use Rattle.ebpf_machine.proofs.Lists.ListLemmas.{Contains-head, Contains-tail, Contains-filter, any_from, any_one, none_from_count, none_counted, counted_not, counted_at, counted_less, counted_once, only_one, filter_same, filter-filter}
 
 -- the owner of the object of a name
 abbrev pub owner_of : ℕ → Name → Owner
@@ -29,6 +29,10 @@ is_run-own run (Shelf s) e = absurd (cc)
 is_run-other : (run other : ℕ) (h : Holder) → other ≢ run → is_run other h ≡ true → is_run run h ≡ false
 is_run-other run other (Run r at) ne e = ne_eqb r run (λ same. ne (sym (eqb-true r other e) ∙ same))
 is_run-other run other (Shelf s) ne e = refl
+
+pub is_shelf-own : (shelf : ℕ) (h : Holder) → is_shelf shelf h ≡ true → h ≡ Shelf shelf
+is_shelf-own shelf (Run r at) e = absurd (cc)
+is_shelf-own shelf (Shelf s) e = ap Shelf (eqb-true s shelf e)
 
 is_call-parts : (run at : ℕ) (h : Holder) → is_call run at h ≡ (is_run run h && (call_of h == at))
 is_call-parts run at (Run r a) = refl
@@ -168,3 +172,31 @@ owned_there w o owned among = by (is_in_ledger w o.slot) refl where
   by : (t : Bool) → is_in_ledger w o.slot ≡ t → t ≡ true
   by true e = refl
   by false e = let none = none_counted (is_in o.slot) w.ledgers e in let one = owned.holders.in_ledger o among in absurd (omega (arith, none, one))
+
+-- ---- no shelf has two slots
+
+-- owners that answer alike are one, and it stands in the list once
+once_by : (p : Owner → Bool) (owners : List Owner) → ((o q : Owner) → Contains owners o → Contains owners q → p o ≡ true → p q ≡ true → o ≡ q) → ((slot : ℕ) → count_by (λ (o : Owner). o.slot == slot) owners ≤ 1) → count_by p owners ≤ 1
+once_by p [] one once = omega arith
+once_by p (o ∷ owners) one once =
+    by (p o) refl (once_by p owners (λ a b here there. one a b (Contains-tail o a owners here) (Contains-tail o b owners there)) (λ slot. omega (arith, once slot, counted_less (λ (q : Owner). q.slot == slot) o owners)))
+  where
+    none_later : p o ≡ true → list_any p owners ≡ false
+    none_later passes = false_from_ne_true (list_any p owners) (λ some. twice (any_one p owners some)) where
+      twice : (q : Owner) × Contains owners q × (p q ≡ true) → ⊥
+      twice (q, among, too) =
+          let same = one o q (Contains-head o owners) (Contains-tail o q owners among) passes too in
+          let here = counted_once (λ (x : Owner). x.slot == o.slot) o owners (eq-eqb o.slot o.slot refl) in
+          let there : list_any (λ (x : Owner). x.slot == o.slot) owners ≡ true = any_from (λ (x : Owner). x.slot == o.slot) owners q among (eq-eqb q.slot o.slot (ap (λ (x : Owner). x.slot) (sym same))) in
+          more (count_by (λ (x : Owner). x.slot == o.slot) owners) refl here there
+        where
+          more : (n : ℕ) → count_by (λ (x : Owner). x.slot == o.slot) owners ≡ n → count_by (λ (x : Owner). x.slot == o.slot) (o ∷ owners) ≡ 1 + count_by (λ (x : Owner). x.slot == o.slot) owners → list_any (λ (x : Owner). x.slot == o.slot) owners ≡ true → ⊥
+          more zero e here there = let no = none_from_count (λ (x : Owner). x.slot == o.slot) owners e in absurd (cc)
+          more (suc n) e here there = omega (arith, e, here, once o.slot)
+
+    by : (t : Bool) → p o ≡ t → count_by p owners ≤ 1 → count_by p (o ∷ owners) ≤ 1
+    by true e later = omega (arith, counted_once p o owners e, none_counted p owners (none_later e))
+    by false e later = omega (arith, later, counted_not p o owners e)
+
+pub shelf_once : (w : World) (shelf : ℕ) → IsOwned w → count_by (λ (o : Owner). is_shelf shelf o.holder) w.owners ≤ 1
+shelf_once w shelf owned = once_by (λ (o : Owner). is_shelf shelf o.holder) w.owners (λ o q here there a b. owned.holders.one_a_call o q here there (is_shelf-own shelf o.holder a ∙ sym (is_shelf-own shelf q.holder b))) owned.holders.once

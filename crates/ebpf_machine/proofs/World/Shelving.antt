@@ -1,9 +1,9 @@
 -- Before an exchange of the run alone its shelf is cleared, and has what the run is to get: owners, ledgers and pointers still fit
 -- together, and the run sees what it saw.
 use Rattle.std.proofs.Common.{◌≡◌, ◌≢◌, ◌⊎◌, inl, inr, ℕ, ◌+◌, Bool, true, false, not, List, [], ◌∷◌, ◌++◌, length, map, filter, Option, Some, None, refl, sym, ap, ◌∙◌, arith}
-use Rattle.std.specs.Prelude.{Contains, ◌==◌}
+use Rattle.std.specs.Prelude.{Contains, ◌==◌, ◌&&◌}
 use Rattle.std.specs.List.{find}
-use Rattle.std.proofs.lemmas.Bool.{cases_eq, eqb-true, eq-eqb, and_from, not-true, not_from_false, false_from_ne_true}
+use Rattle.std.proofs.lemmas.Bool.{cases_eq, eqb-true, eq-eqb, and_from, not_from_false, false_from_ne_true}
 use Rattle.std.proofs.lemmas.List.{length-append, length-take}
 use Rattle.ebpf_machine.specs.World.{World, Running, Kind, Owner, Holder, Shelf, is_in, is_in_ledger, is_owned, is_shelf, standing, held_by, ledger_of, kind_in, image_at}
 use Rattle.ebpf_machine.specs.Events.{with_bytes, without_shelved, without_slot, with_slot_joined}
@@ -11,10 +11,10 @@ use Rattle.ebpf_machine.specs.Alone.{cleared_of, cleared, bytes_for, shelved}
 use Rattle.ebpf_machine.specs.View.{ObjectView, object_in, view_of}
 use Rattle.ebpf_machine.specs.Sound.{IsOwned}
 use Rattle.ebpf_machine.proofs.Lists.ListLemmas.{IsFound, Contains-head, Contains-tail, Contains-filter, map_agree, any_one, find_is}
-use Rattle.ebpf_machine.proofs.World.Owners.{held_owner, same_slot, kind_there, owned_there}
+use Rattle.ebpf_machine.proofs.World.Owners.{is_shelf-own, held_owner, same_slot, kind_there, owned_there}
 use Rattle.ebpf_machine.proofs.World.ObjectsSeen.{objects_of, object_kept, objects_kept}
 use Rattle.ebpf_machine.proofs.World.Moves.{owned_by}
-use Rattle.ebpf_machine.proofs.World.Exchanges.{StandsOn, stands, standing_there, off_shelf, shelf_is_no_run, kind_on_shelf, shelf_dropped, held_shelved, held_unshelved}
+use Rattle.ebpf_machine.proofs.World.Exchanges.{and_false, stays_off, nothing_else, StandsOn, stands, standing_there, off_shelf, shelf_is_no_run, kind_on_shelf, shelf_dropped, held_shelved, held_unshelved}
 use Rattle.ebpf_machine.proofs.World.OwnedParts.{owned_freed, owned_granted}
 use Rattle.ebpf_machine.proofs.World.LedgerChanges.{other_ledger}
 use Rattle.ebpf_machine.proofs.World.NewSlots.{IsNew, joined_home, joined_in, joined_kind, owned_joined, view_joined}
@@ -24,18 +24,15 @@ use Rattle.ebpf_machine.proofs.World.PartedSlots.{IsReapable, others_in, owned_p
 
 -- what stood there is nobody's, with its image
 abbrev emptied : World → ℕ → Owner → World
-emptied w shelf o = with_bytes o.slot (image_at w.kinds (kind_in w o.slot)) (without_shelved shelf w)
-
-abbrev stays_off : ℕ → Owner → Bool
-stays_off shelf p = not (is_shelf shelf p.holder)
+emptied w shelf o = with_bytes o.slot (image_at w.kinds (kind_in w o.slot)) (without_shelved o.slot shelf w)
 
 owned_emptied : (w : World) (shelf : ℕ) (o : Owner) → IsOwned w → StandsOn w shelf o → IsOwned (emptied w shelf o)
-owned_emptied w shelf o owned on = owned_freed w o (stays_off shelf) owned (shelf_dropped w shelf o owned on)
+owned_emptied w shelf o owned on = owned_freed w o (stays_off o.slot shelf) owned (shelf_dropped w shelf o owned on)
 
 -- another owner has another slot
-apart_from_it : (w : World) (shelf : ℕ) (o p : Owner) → IsOwned w → StandsOn w shelf o → Contains w.owners p → stays_off shelf p ≡ true → p.slot ≢ o.slot
+apart_from_it : (w : World) (shelf : ℕ) (o p : Owner) → IsOwned w → StandsOn w shelf o → Contains w.owners p → stays_off o.slot shelf p ≡ true → p.slot ≢ o.slot
 apart_from_it w shelf o p owned on among stays e =
-    let same = ap (stays_off shelf) (same_slot w p o owned among on.among e) in
+    let same = ap (stays_off o.slot shelf) (same_slot w p o owned among on.among e) in
     let gone = (shelf_dropped w shelf o owned on).drops in
     absurd (cc)
 
@@ -47,10 +44,10 @@ emptied_home w shelf o owned on = record {
 }
   where
     nobodys : is_owned (emptied w shelf o) o.slot ≡ false
-    nobodys = false_from_ne_true (is_owned (emptied w shelf o) o.slot) (λ owns. somebodys (any_one (λ (p : Owner). p.slot == o.slot) (filter (stays_off shelf) w.owners) owns)) where
-      somebodys : (p : Owner) × Contains (filter (stays_off shelf) w.owners) p × ((p.slot == o.slot) ≡ true) → ⊥
+    nobodys = false_from_ne_true (is_owned (emptied w shelf o) o.slot) (λ owns. somebodys (any_one (λ (p : Owner). p.slot == o.slot) (filter (stays_off o.slot shelf) w.owners) owns)) where
+      somebodys : (p : Owner) × Contains (filter (stays_off o.slot shelf) w.owners) p × ((p.slot == o.slot) ≡ true) → ⊥
       somebodys (p, among, its) =
-          let parts = Contains-filter (stays_off shelf) w.owners p among in
+          let parts = Contains-filter (stays_off o.slot shelf) w.owners p among in
           apart_from_it w shelf o p owned on parts.0 parts.1 (eqb-true p.slot o.slot its)
 
 pub owned_cleared : (w : World) (shelf : ℕ) → IsOwned w → IsOwned (cleared shelf w)
@@ -63,11 +60,11 @@ owned_cleared w shelf owned = by (standing w shelf) (stands w shelf) where
 view_emptied : (w : World) (shelf : ℕ) (o : Owner) (run : ℕ) (r : Running) → IsOwned w → StandsOn w shelf o → view_of (emptied w shelf o) run r ≡ view_of w run r
 view_emptied w shelf o run r owned on = ap (λ (objects : List ObjectView). record (view_of w run r) { objects = objects }) same where
   apart : (p : Owner) → Contains (held_by w run) p → p.slot ≢ o.slot
-  apart p among = let held = held_owner w run p among in apart_from_it w shelf o p owned on held.0 (ap (λ (h : Holder). not (is_shelf shelf h)) held.1)
+  apart p among = let held = held_owner w run p among in apart_from_it w shelf o p owned on held.0 (ap (λ (h : Holder). not ((p.slot == o.slot) && is_shelf shelf h)) held.1 ∙ ap not (and_false (p.slot == o.slot)))
 
   same : objects_of (emptied w shelf o) run ≡ objects_of w run
   same =
-      ap (λ (os : List Owner). map (object_in (emptied w shelf o)) os) (held_unshelved w run shelf)
+      ap (λ (os : List Owner). map (object_in (emptied w shelf o)) os) (held_unshelved w run o.slot shelf)
       ∙ map_agree (object_in (emptied w shelf o)) (object_in w) (held_by w run) (λ p among. object_kept w o.slot (image_at w.kinds (kind_in w o.slot)) p (apart p among))
 
 pub view_cleared : (w : World) (shelf run : ℕ) (r : Running) → IsOwned w → view_of (cleared shelf w) run r ≡ view_of w run r
@@ -85,14 +82,14 @@ none_found p xs none = by (find p xs) (find_is p xs) where
   by None h = refl
   by (Some x) h = let no = none x h.0 in let yes = h.1 in absurd (cc)
 
-pub cleared_off : (w : World) (shelf : ℕ) (p : Owner) → Contains (cleared shelf w).owners p → is_shelf shelf p.holder ≡ false
-cleared_off w shelf p = by (standing w shelf) (stands w shelf) where
+pub cleared_off : (w : World) (shelf : ℕ) (p : Owner) → IsOwned w → Contains (cleared shelf w).owners p → is_shelf shelf p.holder ≡ false
+cleared_off w shelf p owned = by (standing w shelf) (stands w shelf) where
   by : (o : Option Owner) → IsFound (λ (q : Owner). is_shelf shelf q.holder) w.owners o → Contains (cleared_of o shelf w).owners p → is_shelf shelf p.holder ≡ false
   by None none among = none p among
-  by (Some o) found among = not-true (is_shelf shelf p.holder) (Contains-filter (stays_off shelf) w.owners p among).1
+  by (Some o) found among = false_from_ne_true (is_shelf shelf p.holder) (λ e. nothing_else w shelf o p owned (standing_there w shelf o found) among (is_shelf-own shelf p.holder e))
 
-pub nothing_standing : (w : World) (shelf : ℕ) → standing (cleared shelf w) shelf ≡ None
-nothing_standing w shelf = none_found (λ (p : Owner). is_shelf shelf p.holder) (cleared shelf w).owners (λ p among. cleared_off w shelf p among)
+pub nothing_standing : (w : World) (shelf : ℕ) → IsOwned w → standing (cleared shelf w) shelf ≡ None
+nothing_standing w shelf owned = none_found (λ (p : Owner). is_shelf shelf p.holder) (cleared shelf w).owners (λ p among. cleared_off w shelf p owned among)
 
 -- and no slot joined a ledger by it
 pub cleared_ledgers : (w : World) (shelf s : ℕ) → IsOwned w → is_in_ledger (cleared shelf w) s ≡ true → is_in_ledger w s ≡ true
