@@ -20,5 +20,6 @@ pub mod Operating
 pub mod Turns
 pub mod Whole
 pub mod Parts
+pub mod Parting
 pub mod Advance
 pub mod Burst

@@ -1,5 +1,5 @@
 -- What is said of a store of objects, and of the objects of a run that are out of it.
-use Rattle.std.specs.Prelude.{◌≡◌, ◌≢◌, ℕ, ◌==◌, List, map, All, AllPairs, Contains, count_by}
+use Rattle.std.specs.Prelude.{◌≡◌, ◌≢◌, ℕ, ◌==◌, if◌then◌else◌, List, map, All, AllPairs, Contains, count_by, Option, Some, None, IfSome}
 use Rattle.ebpf_machine.specs.declared.holding.Holding.{Holding}
 use Rattle.ebpf_machine.specs.Effect.{Environment}
 use Rattle.ebpf_machine.specs.World.{Kind}
@@ -8,7 +8,8 @@ use Rattle.ebpf_machine.specs.RunState.{object_seen}
 
 -- a store in the states S, of objects H: the kinds that there are; the kind and the slot of an object; which objects are out, and
 -- their bytes; what a call of new for a kind, made at a slot of a program, may be answered, with an object in a slot or with none;
--- whether an object may come back; how often it granted and refused; and how many objects of each kind are out
+-- what may come off a shelf, in which slot and with which bytes, and whether nothing may; whether an object may come back; how often
+-- it granted an object, refused one, gave one from a shelf and had none there; and how many objects of each kind are out
 pub record Store (S H : Type 0) : Type 1 where
   pub kinds : List Kind
   pub kind_of : H → ℕ
@@ -17,9 +18,13 @@ pub record Store (S H : Type 0) : Type 1 where
   pub bytes_of : S → H → List ℕ
   pub can_grant : (s : S) (kind at slot : ℕ) → Type 0
   pub can_refuse : (s : S) (kind : ℕ) → Type 0
+  pub can_fetch : (s : S) (shelf slot : ℕ) (bytes : List ℕ) → Type 0
+  pub can_miss : (s : S) (shelf : ℕ) → Type 0
   pub can_give : S → Type 0
   pub grants : S → ℕ
   pub nulls : S → ℕ
+  pub gets : S → ℕ
+  pub misses : S → ℕ
   pub outs : S → ℕ → ℕ
 
 -- ---- what it counts
@@ -27,14 +32,28 @@ pub record Store (S H : Type 0) : Type 1 where
 pub record Counts : Type 0 where
   pub grants : ℕ
   pub nulls : ℕ
+  pub gets : ℕ
+  pub misses : ℕ
   pub outs : ℕ → ℕ
 
 abbrev pub counts_of : {S H : Type 0} → Store S H → S → Counts
-counts_of o s = record { grants = o.grants s; nulls = o.nulls s; outs = o.outs s }
+counts_of o s = record { grants = o.grants s; nulls = o.nulls s; gets = o.gets s; misses = o.misses s; outs = o.outs s }
 
--- it granted and refused as often as before
+-- it answered calls of new as often as before
+abbrev pub TakesStay : {S H : Type 0} → Store S H → S → S → Type 0
+TakesStay o old new = (o.grants new ≡ o.grants old) × (o.nulls new ≡ o.nulls old)
+
+-- and calls of swap
+abbrev pub SwapsStay : {S H : Type 0} → Store S H → S → S → Type 0
+SwapsStay o old new = (o.gets new ≡ o.gets old) × (o.misses new ≡ o.misses old)
+
 abbrev pub CountsStay : {S H : Type 0} → Store S H → S → S → Type 0
-CountsStay o old new = (o.grants new ≡ o.grants old) × (o.nulls new ≡ o.nulls old)
+CountsStay o old new = TakesStay o old new × SwapsStay o old new
+
+-- 1 where it is an object, and of this kind
+abbrev pub one_of : {H : Type 0} → Option H → (kind k : ℕ) → ℕ
+one_of None kind k = 0
+one_of (Some h) kind k = if k == kind then 1 else 0
 
 -- how many of the objects of a run are of a kind
 abbrev pub held_of_kind : {H : Type 0} → List (Holding H) → ℕ → ℕ
@@ -53,6 +72,10 @@ AllStayBut {H = H} slot o old new = (other : H) → o.is_out old other → o.slo
 -- every object that is out stays so
 abbrev pub AllStay : {S H : Type 0} → Store S H → S → S → Type 0
 AllStay {H = H} o old new = (other : H) → o.is_out old other → Stays o old new other
+
+-- every object that is out stays so, but for this one, if it is one
+abbrev pub OthersStayThan : {S H : Type 0} → Option H → Store S H → S → S → Type 0
+OthersStayThan {H = H} given o old new = (other : H) → o.is_out old other → IfSome given (λ g. o.slot_of other ≢ o.slot_of g) → Stays o old new other
 
 -- no object that is out is in this slot
 abbrev pub IsNobodys : {S H : Type 0} → ℕ → Store S H → S → Type 0

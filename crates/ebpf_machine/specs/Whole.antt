@@ -22,23 +22,31 @@ is_null Granted = false
 is_null Empty = false
 is_null Shelf = false
 
--- a reply to a call of swap
-abbrev pub is_to_swap : Reply → Bool
-is_to_swap Empty = true
-is_to_swap Shelf = true
-is_to_swap Null = false
-is_to_swap Granted = false
+abbrev pub is_fetched : Reply → Bool
+is_fetched Shelf = true
+is_fetched Empty = false
+is_fetched Null = false
+is_fetched Granted = false
 
--- how many of the answers are objects, and how many are null
+abbrev pub is_empty : Reply → Bool
+is_empty Empty = true
+is_empty Shelf = false
+is_empty Null = false
+is_empty Granted = false
+
+-- how many of the answers to calls of new are objects, and how many are null
 abbrev pub granted : List Reply → ℕ
 granted replies = count_by is_granted replies
 
 abbrev pub refused : List Reply → ℕ
 refused replies = count_by is_null replies
 
--- no call reached a shelf: no instruction does yet
-abbrev pub AreUnshelved : Replies → Type 0
-AreUnshelved replies = (count_by is_to_swap replies.answers ≡ 0) × (replies.taken ≡ [])
+-- how many of the answers to calls of swap are objects, and how many say that nothing stood on the shelf
+abbrev pub fetched : List Reply → ℕ
+fetched replies = count_by is_fetched replies
+
+abbrev pub missed : List Reply → ℕ
+missed replies = count_by is_empty replies
 
 -- ---- the report
 
@@ -58,7 +66,6 @@ pub record IsReportOf (s : Subject) (context : List ℕ) (r : Report) : Type 0 w
   pub same : outcome_alone s context (replies_in r) ≡ outcome_in_report exit r
   pub told : told_alone s context (replies_in r) ≡ replies_in r
   pub only : (more : Replies) → outcome_alone s context (more_than (replies_in r) more) ≡ outcome_in_report exit r
-  pub unshelved : AreUnshelved (replies_in r)
   pub few : length r.answers ≤ r.executed
   pub bounded : r.executed ≤ length (instructions s.program)
   pub declared : r.peak ≤ s.decl.held

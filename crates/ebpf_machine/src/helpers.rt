@@ -1,13 +1,15 @@
-//! Calls of helpers (RFC 9669, section 4.3.1): each takes its argument in r1 and leaves its result in r0, and r1 to r5 are lost.
+//! Calls of helpers (RFC 9669, section 4.3.1): each takes its arguments in r1 and r2 and leaves its result in r0, and r1 to r5 are
+//! lost.
 
-ghost use Rattle.std.specs.Prelude.{◌≡◌, ◌<◌, ◌+◌, ◌++◌, ◌∷◌, ℕ, ℤ, pos, max, List, [], length, None, Some};
+ghost use Rattle.std.specs.Prelude.{◌≡◌, ◌≤◌, ◌<◌, ◌+◌, ◌++◌, ◌∷◌, ℕ, ℤ, pos, max, map, Contains, List, [], length, None, Some, IfSome, slice_index_or};
 ghost use Rattle.ebpf_insn.specs.declared.program.TheConstants.{MAX_SLOTS};
 ghost use Rattle.ebpf_verify.specs.declared.helper.Helper.{Helper};
 ghost use Rattle.ebpf_machine.specs.Flows.{object_in};
-ghost use Rattle.ebpf_machine.specs.RunState.{Calls, IsCallThere, gone_on, emitted, holding_too};
+ghost use Rattle.ebpf_machine.specs.RunState.{Calls, IsCallThere, IsSwapThere, gone_on, emitted, holding_too, with_taken};
+ghost use Rattle.ebpf_machine.specs.Parting.{HasParted};
 ghost use Rattle.ebpf_machine.specs.Step.{IsFree};
 ghost use Rattle.ebpf_machine.specs.World.{kinds_of};
-ghost use Rattle.ebpf_machine.specs.Parts.{state_of, HasCapacity, HasRoomAt};
+ghost use Rattle.ebpf_machine.specs.Parts.{state_of, largest, HasCapacity, HasRoomAt, HasRoomFrom};
 ghost use Rattle.ebpf_machine.specs.Advance.{IsReady, IsAdvanced};
 
 use crate::holding::{Holding, place_of};
@@ -35,8 +37,7 @@ pub(crate) fn call<O: Objects>(parts: &mut Parts<'_, O::Held>, helper: Helper, o
             let number = parts.registers.number(Reg::R1);
             emit(parts, number);
         }
-        // No accepted program calls it.
-        Helper::Swap => unreachable!(),
+        Helper::Swap => swap(parts, objects),
     }
 }
 
@@ -53,7 +54,7 @@ fn ask<O: Objects>(parts: &mut Parts<'_, O::Held>, objects: &mut O)
     let kind = parts.registers.number(Reg::R1) as u8;
     match objects.take(kind, call) {
         Some(object) => {
-            hold(parts, Holding { call, kind, object });
+            hold(parts, Holding { call, kind, object }, Reply::Granted);
             let base = Base::Object(call);
             answer(parts, Value::Pointer { base, offset: 0 });
         }
@@ -64,16 +65,16 @@ fn ask<O: Objects>(parts: &mut Parts<'_, O::Held>, objects: &mut O)
     }
 }
 
-// Holds an object that was granted.
-fn hold<H>(parts: &mut Parts<'_, H>, holding: Holding<H>)
+// Holds an object that a call got with this reply.
+fn hold<H>(parts: &mut Parts<'_, H>, holding: Holding<H>, reply: Reply)
     requires held { length parts.old.held.items < parts.old.verified.now.decl.held }
     requires called { IsCallThere (state_of parts.old) }
-    requires room { HasCapacity parts.old }
-    ensures state { state_of parts.new ≡ holding_too holding (state_of parts.old) }
+    requires room { HasRoomFrom parts.old.pc (parts.old.pc + 1) parts.old }
+    ensures state { state_of parts.new ≡ holding_too holding reply (state_of parts.old) }
     ensures room { HasRoomAt (parts.new.pc + 1) parts.new }
 {
     parts.held.push_reserved(holding);
-    parts.replies.push_reserved(Reply::Granted);
+    parts.replies.push_reserved(reply);
     parts.peak = parts.peak.max(parts.held.len() as u64);
 }
 
@@ -95,6 +96,65 @@ fn give_back<O: Objects>(parts: &mut Parts<'_, O::Held>, objects: &mut O)
     } = parts.held.remove(place);
     objects.give(kind, object);
     answer(parts, Value::Number(0));
+}
+
+// Exchanges what stands on the shelf in r1 for the object in r2, or for nothing.
+fn swap<O: Objects>(parts: &mut Parts<'_, O::Held>, objects: &mut O)
+    requires kinds { O.store.kinds ≡ kinds_of parts.old.verified.now.rows }
+    requires ready { IsReady O.store (state_of parts.old) objects.old }
+    requires at { Calls (state_of parts.old) Helper.Swap }
+    requires room { HasCapacity parts.old }
+    ensures advanced { IsAdvanced O.store (state_of parts.old) (state_of parts.new) objects.old objects.new }
+    ensures room { HasCapacity parts.new }
+{
+    let call = parts.pc as u16;
+    let shelf = parts.registers.number(Reg::R1) as u8;
+    let given = part_with(parts);
+    match objects.swap(shelf, given, call) {
+        Some(object) => {
+            keep(parts, objects.bytes(&object));
+            let kind = shelf;
+            hold(parts, Holding { call, kind, object }, Reply::Shelf);
+            let base = Base::Object(call);
+            answer(parts, Value::Pointer { base, offset: 0 });
+        }
+        None => {
+            parts.replies.push_reserved(Reply::Empty);
+            answer(parts, Value::Number(0));
+        }
+    }
+}
+
+// Takes the object in r2 from the run, where there is one.
+fn part_with<H>(parts: &mut Parts<'_, H>) -> Option<H>
+    requires held { IfSome (object_in (slice_index_or parts.old.registers 2 None)) (λ call. Contains (map (λ h. h.call) parts.old.held.items) call) }
+    requires room { HasCapacity parts.old }
+    ensures parted { HasParted result (state_of parts.old) (state_of parts.new) }
+    ensures room { HasCapacity parts.new }
+{
+    let Some(call) = object_at(parts.registers.get(Reg::R2)) else {
+        return None;
+    };
+    let place = place_of(&parts.held, call);
+    let Holding {
+        call: _,
+        kind: _,
+        object,
+    } = parts.held.remove(place);
+    Some(object)
+}
+
+// Keeps the bytes of an object that stood on a shelf.
+fn keep<H>(parts: &mut Parts<'_, H>, bytes: &[u8])
+    requires few { length bytes.now ≤ largest parts.old.verified.now.rows }
+    requires called { IsSwapThere (state_of parts.old) }
+    requires room { HasCapacity parts.old }
+    ensures state { state_of parts.new ≡ with_taken bytes.now (state_of parts.old) }
+    ensures room { HasRoomFrom parts.new.pc (parts.new.pc + 1) parts.new }
+{
+    let Ok(()) = parts.taken.extend_from_slice(bytes) else {
+        unreachable!()
+    };
 }
 
 // Adds a number to the output, and goes on behind the call.
@@ -123,10 +183,20 @@ fn answer<H>(parts: &mut Parts<'_, H>, value: Value<u16>)
     parts.executed += 1;
 }
 
-// The call that was granted the object to which a register is a pointer.
+// The call that got the object to which a register is a pointer.
 fn object(value: Option<Value<u16>>) -> u16
     requires { (call : ℕ) × (k : ℤ) × (value ≡ Some (Value.Pointer (Base.Object call) k)) }
     ensures { object_in value ≡ Some result }
+{
+    match object_at(value) {
+        Some(call) => call,
+        None => unreachable!(),
+    }
+}
+
+// The same where the register may hold something else.
+fn object_at(value: Option<Value<u16>>) -> Option<u16>
+    ensures { result ≡ object_in value }
 {
     match value {
         Some(
@@ -134,7 +204,7 @@ fn object(value: Option<Value<u16>>) -> u16
                 base: Base::Object(call),
                 ..
             },
-        ) => call,
-        _ => unreachable!(),
+        ) => Some(call),
+        _ => None,
     }
 }

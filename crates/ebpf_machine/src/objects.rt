@@ -1,12 +1,12 @@
 //! Where the objects of a run come from.
 
-ghost use Rattle.std.specs.Prelude.{◌≡◌, ◌≢◌, ◌≤◌, ◌<◌, ◌+◌, ◌==◌, if◌then◌else◌, ℕ, length, IfSome, IfNone};
+ghost use Rattle.std.specs.Prelude.{◌≡◌, ◌≢◌, ◌≤◌, ◌<◌, ◌+◌, ◌==◌, if◌then◌else◌, ℕ, length, Option, IfSome, IfNone};
 ghost use Rattle.ebpf_insn.specs.declared.program.TheConstants.{MAX_SLOTS};
 ghost use Rattle.ebpf_machine.specs.Bytes.{patched};
 ghost use Rattle.ebpf_machine.specs.World.{image_at};
-ghost use Rattle.ebpf_machine.specs.Store.{Store, Stays, AllStay, AllStayBut, IsNobodys, CountsStay};
+ghost use Rattle.ebpf_machine.specs.Store.{Store, AllStay, AllStayBut, OthersStayThan, IsNobodys, TakesStay, SwapsStay, CountsStay, one_of};
 
-/// A store of objects: it answers calls of `new` and `free`, and keeps the bytes of the objects that are out.
+/// A store of objects: it answers calls of `new`, `free` and `swap`, and keeps the bytes of the objects that are out.
 ///
 /// What an implementation promises is said by one ghost member, `store`, which is no code: specs/Store says what it tells of
 /// the store in each of its states.
@@ -28,6 +28,7 @@ pub trait Objects {
         ensures image { IfSome result (λ h. store.bytes_of self.new h ≡ image_at store.kinds kind) }
         ensures granted_count { IfSome result (λ _. (store.grants self.new ≡ store.grants self.old + 1) × (store.nulls self.new ≡ store.nulls self.old)) }
         ensures refused_count { IfNone result ((store.nulls self.new ≡ store.nulls self.old + 1) × (store.grants self.new ≡ store.grants self.old)) }
+        ensures swaps { SwapsStay store self.old self.new }
         ensures outs_granted { IfSome result (λ _. (k : ℕ) → store.outs self.new k ≡ store.outs self.old k + (if k == kind then 1 else 0)) }
         ensures outs_refused { IfNone result ((k : ℕ) → store.outs self.new k ≡ store.outs self.old k) }
         ensures others { AllStay store self.old self.new };
@@ -41,6 +42,23 @@ pub trait Objects {
         ensures outs { (k : ℕ) → store.outs self.new k + (if k == kind then 1 else 0) ≡ store.outs self.old k }
         ensures back { (other : Self.Held) → store.is_out self.new other → store.is_out self.old other × (store.slot_of other ≢ store.slot_of object) }
         ensures others { AllStayBut (store.slot_of object) store self.old self.new };
+
+    /// Answers a call of `swap`, made by the instruction at the slot `at`: takes an object of the shelf's kind, or nothing, onto
+    /// the shelf in place of what stood there, which is out from then on, with the bytes that it had. What is taken is out no more.
+    fn swap(&mut self, shelf: u8, given: Option<Self::Held>, at: u16) -> Option<Self::Held>
+        requires shelf { shelf < length store.kinds }
+        requires at { at < MAX_SLOTS }
+        requires given { IfSome given (λ g. store.is_out self.old g × (store.kind_of g ≡ shelf)) }
+        ensures fetched { IfSome result (λ h. store.can_fetch self.old shelf (store.slot_of h) (store.bytes_of self.new h)) }
+        ensures missed { IfNone result (store.can_miss self.old shelf) }
+        ensures out { IfSome result (λ h. store.is_out self.new h × (store.kind_of h ≡ shelf)) }
+        ensures apart { IfSome result (λ h. IsNobodys (store.slot_of h) store self.old) }
+        ensures takes { TakesStay store self.old self.new }
+        ensures fetched_count { IfSome result (λ _. (store.gets self.new ≡ store.gets self.old + 1) × (store.misses self.new ≡ store.misses self.old)) }
+        ensures missed_count { IfNone result ((store.misses self.new ≡ store.misses self.old + 1) × (store.gets self.new ≡ store.gets self.old)) }
+        ensures outs { (k : ℕ) → store.outs self.new k + one_of given shelf k ≡ store.outs self.old k + one_of result shelf k }
+        ensures gone { IfSome given (λ g. store.is_out self.new g → ⊥) }
+        ensures others { OthersStayThan given store self.old self.new };
 
     /// The bytes of an object.
     fn bytes<'a>(&'a self, held: &'a Self::Held) -> &'a [u8]

@@ -3,7 +3,7 @@
 ghost use Rattle.std.specs.Prelude.{◌≡◌, ◌+◌, ℕ, length, IfOk, IfErr, OnOk, OnErr};
 ghost use Rattle.ebpf_machine.specs.World.{kinds_of};
 ghost use Rattle.ebpf_machine.specs.Turns.{IsStartFault};
-ghost use Rattle.ebpf_machine.specs.Whole.{IsReportOf, granted, refused};
+ghost use Rattle.ebpf_machine.specs.Whole.{IsReportOf, granted, refused, fetched, missed};
 
 use crate::objects::Objects;
 use crate::report::Report;
@@ -29,9 +29,11 @@ pub fn run_to_exit<O: Objects>(
     requires room { (store : O) → O.store.can_give store }
     // The report is that of the run alone with the report's answers, and it exited.
     ensures report { IfOk result (IsReportOf verified.now context.items) }
-    // What the store granted and refused is what the report's answers say.
+    // What the store granted and refused, and what it gave from its shelves, is what the report's answers say.
     ensures granted { IfOk result (λ r. O.store.grants objects.new ≡ O.store.grants objects.old + granted r.answers) }
     ensures nulls { IfOk result (λ r. O.store.nulls objects.new ≡ O.store.nulls objects.old + refused r.answers) }
+    ensures gets { IfOk result (λ r. O.store.gets objects.new ≡ O.store.gets objects.old + fetched r.answers) }
+    ensures misses { IfOk result (λ r. O.store.misses objects.new ≡ O.store.misses objects.old + missed r.answers) }
     // Of each kind as many are out as before.
     ensures outs { (k : ℕ) → O.store.outs objects.new k ≡ O.store.outs objects.old k }
     ensures length { OnOk result (length context.items ≡ verified.now.decl.context) }
@@ -62,9 +64,11 @@ pub fn run_in<O: Objects>(
     requires room { (store : O) → O.store.can_give store }
     // The report is that of the run alone with the report's answers, and it exited.
     ensures report { IfOk result (λ r. IsReportOf verified.now context.items r.0) }
-    // What the store granted and refused is what the report's answers say.
+    // What the store granted and refused, and what it gave from its shelves, is what the report's answers say.
     ensures granted { IfOk result (λ r. O.store.grants objects.new ≡ O.store.grants objects.old + granted r.0.answers) }
     ensures nulls { IfOk result (λ r. O.store.nulls objects.new ≡ O.store.nulls objects.old + refused r.0.answers) }
+    ensures gets { IfOk result (λ r. O.store.gets objects.new ≡ O.store.gets objects.old + fetched r.0.answers) }
+    ensures misses { IfOk result (λ r. O.store.misses objects.new ≡ O.store.misses objects.old + missed r.0.answers) }
     // Of each kind as many are out as before.
     ensures outs { (k : ℕ) → O.store.outs objects.new k ≡ O.store.outs objects.old k }
     ensures length { OnOk result (length context.items ≡ verified.now.decl.context) }

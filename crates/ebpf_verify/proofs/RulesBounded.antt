@@ -36,7 +36,7 @@ use Rattle.ebpf_insn.specs.declared.register.Reg.TheVariants.{R0, R1, R2, R3, R4
 use Rattle.ebpf_state.specs.References.{holding, forgotten}
 use Rattle.ebpf_verify.specs.declared.helper.Helper.{Helper}
 use Rattle.ebpf_verify.specs.declared.helper.Helper.TheVariants.{New, Free, Emit, Swap}
-use Rattle.ebpf_verify.specs.Calls.{helper_of, without_arguments, with_result, after_new, after_free, after_call}
+use Rattle.ebpf_verify.specs.Calls.{helper_of, without_arguments, with_result, without_given, after_new, after_free, after_swap, after_call}
 use Rattle.ebpf_verify.specs.Rules.{after_operation, after_fall, after_jump}
 use Rattle.ebpf_verify.proofs.Bounded.{IsBoundedValue, IsFull, IsBoundedLoad, IsFullStore, register_bounded, full_weaker, with_register-full, settled-full, forgotten-full, loaded-bounded, context_bounded, stored-full}
 
@@ -183,14 +183,25 @@ free_full : (slot : ℕ) (object : Abs) (s : StateView) → IsFull slot s → Is
 free_full slot (Ob call a b) s h = with_result-full slot (Num (constant 0)) (forgotten call s) (forgotten-full slot call s h) zero_bounded
 free_full slot _ s h = tt
 
+given_full : (slot : ℕ) (given : Abs) (s : StateView) → IsFull slot s → IsFull slot (without_given given s)
+given_full slot (Ob call a b) s h = forgotten-full slot call s h
+given_full slot _ s h = h
+
+-- the answer of a call of swap is one of a call below the slot after it
+swap_full : (slot : ℕ) (shelf given : Abs) (s : StateView) → IsFull slot s → IsFullState (suc slot) (after_swap slot shelf given s)
+swap_full slot (Num a) given s h =
+    let left = full_weaker slot (suc slot) (without_given given s) (omega arith) (given_full slot given s h) in
+    with_result-full (suc slot) (May slot) (holding slot a.lo (without_given given s)) (holding-full (suc slot) slot a.lo (without_given given s) left) (omega arith)
+swap_full slot _ given s h = tt
+
 state_weaker : (slot : ℕ) (o : Option StateView) → IsFullState slot o → IsFullState (suc slot) o
 state_weaker slot None h = tt
 state_weaker slot (Some s) h = full_weaker slot (suc slot) s (omega arith) h
 
 call_full : (slot : ℕ) (helper : Option Helper) (s : StateView) → IsFull slot s → IsFullState (suc slot) (after_call slot helper s)
 call_full slot None s h = tt
-call_full slot (Some Swap) s h = tt
 call_full slot (Some New) s h = new_full slot (register_of s R1) s h
+call_full slot (Some Swap) s h = swap_full slot (register_of s R1) (register_of s R2) s h
 call_full slot (Some Free) s h = state_weaker slot (after_free (register_of s R1) s) (free_full slot (register_of s R1) s h)
 call_full slot (Some Emit) s h = full_weaker slot (suc slot) (with_result (Num (constant 0)) s) (omega arith) (with_result-full slot (Num (constant 0)) s h zero_bounded)
 

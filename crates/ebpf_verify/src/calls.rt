@@ -7,7 +7,7 @@ ghost use Rattle.ebpf_range.specs.Interval.{constant};
 ghost use Rattle.ebpf_state.specs.declared.value.Abs.{Abs};
 ghost use Rattle.ebpf_state.specs.Abstract.{IsProper};
 ghost use Rattle.ebpf_state.specs.States.{register_of};
-ghost use Rattle.ebpf_verify.specs.Calls.{helper_of, new_refusal, free_refusal, emit_refusal, call_refusal, with_result, after_new, after_free, after_call};
+ghost use Rattle.ebpf_verify.specs.Calls.{helper_of, new_refusal, free_refusal, emit_refusal, is_that, swap_refusal, call_refusal, with_result, after_new, after_free, after_swap, after_call};
 ghost use Rattle.ebpf_verify.specs.Verdict.{IsSlotFault};
 
 use crate::decl::Decl;
@@ -39,8 +39,8 @@ pub(crate) fn call(
         Some(Helper::New) => call_new(decl, rows.len(), slot, state),
         Some(Helper::Free) => call_free(slot, state),
         Some(Helper::Emit) => call_emit(slot, state),
-        // No run has a shelf in reach yet.
-        Some(Helper::Swap) | None => Err(refused_at(slot, VerifyCode::V14)),
+        Some(Helper::Swap) => call_swap(decl, rows.len(), slot, state),
+        None => Err(refused_at(slot, VerifyCode::V14)),
     }
 }
 
@@ -102,6 +102,33 @@ fn call_emit(slot: usize, state: &mut State) -> Result<(), VerifyFault>
     }
 }
 
+// A call that exchanges what stands on a shelf for an object of its kind, or for nothing.
+fn call_swap(decl: Decl, kinds: usize, slot: usize, state: &mut State) -> Result<(), VerifyFault>
+    requires inside { slot < MAX_SLOTS }
+    requires few { kinds ≤ 8 }
+    ensures fine { OnOk result (swap_refusal decl kinds state.old (register_of state.old Reg.R1) (register_of state.old Reg.R2) ≡ None) }
+    ensures known { OnOk result (after_swap slot (register_of state.old Reg.R1) (register_of state.old Reg.R2) state.old ≡ Some state.new) }
+    ensures refused { IfErr result (IsSlotFault slot (swap_refusal decl kinds state.old (register_of state.old Reg.R1) (register_of state.old Reg.R2))) }
+{
+    let shelf = match (state.reg(Reg::R1), state.reg(Reg::R2)) {
+        (Abs::Unset, _) | (_, Abs::Unset) => return Err(refused_at(slot, VerifyCode::V1)),
+        (_, Abs::May(_)) => return Err(refused_at(slot, VerifyCode::V11)),
+        (Abs::Num(shelf), _) if shelf.lo == shelf.hi && shelf.lo < kinds as u64 => shelf.lo as u8,
+        _ => return Err(refused_at(slot, VerifyCode::V15)),
+    };
+    match state.reg(Reg::R2) {
+        Abs::Num(given) if given.lo == 0 && given.hi == 0 => {}
+        Abs::Ob(call, 0, 0) if is_kind(state.kind(call), shelf) => state.forget(call),
+        _ => return Err(refused_at(slot, VerifyCode::V15)),
+    }
+    if state.held() >= decl.held as usize {
+        return Err(refused_at(slot, VerifyCode::V16));
+    }
+    state.hold(slot as u16, shelf)?;
+    set_result(state, Abs::May(slot as u16));
+    Ok(())
+}
+
 // Says what is known of the result of a call, and that r1 to r5 are lost.
 fn set_result(state: &mut State, value: Abs)
     requires { IsProper value }
@@ -113,4 +140,14 @@ fn set_result(state: &mut State, value: Abs)
     state.set(Reg::R4, Abs::Unset);
     state.set(Reg::R5, Abs::Unset);
     state.set(Reg::R0, value);
+}
+
+// The kind that is held is this one.
+fn is_kind(held: Option<u8>, kind: u8) -> bool
+    ensures { result ≡ is_that kind held }
+{
+    match held {
+        Some(held) => held == kind,
+        None => false,
+    }
 }

@@ -25,7 +25,7 @@ ghost use Rattle.ebpf_insn.specs.Faults.{lowest};
 ghost use Rattle.ebpf_verify.specs.Entry.{first_entry, entry_in, after_visit};
 ghost use Rattle.ebpf_verify.specs.Verdict.{refusal_in, verdict, IsVerifyFault, AreRows, IsSlotFault};
 
-use crate::call_count::calls_in;
+use crate::call_count::{Counted, calls_in};
 use crate::decl::Decl;
 use crate::entry::EntryState;
 use crate::fault::{VerifyCode, VerifyFault, refused_at};
@@ -62,12 +62,14 @@ pub fn verify(
         visit(&flowed, decl, rows, slot, &mut entries)?;
     }
     let operations = operations_of(alloc, &flowed)?;
-    let calls = calls_in(flowed.program());
+    let calls = calls_in(flowed.program(), Counted::Calls);
+    let swaps = calls_in(flowed.program(), Counted::Swaps);
     Ok(Verified {
         flowed,
         decl,
         rows: kept,
         calls,
+        swaps,
         operations,
     })
 }

@@ -1,14 +1,15 @@
 -- Calls that are not refused.
 use Rattle.std.proofs.Common.{◌≡◌, ℕ, ◌+◌, ◌<◌, ◌≤◌, ℤ, pos, ◌≤ℤ◌, true, false, not, List, [], ◌∷◌, ◌++◌, length, Option, Some, None, Ok, refl, sym, ap, ◌∙◌, subst, inl, arith, rules}
-use Rattle.std.specs.Prelude.{All, Contains, ◌==◌, nat_lt, nat_le}
+use Rattle.std.specs.Prelude.{All, Contains, ◌==◌, ◌&&◌, nat_lt, nat_le}
 use Rattle.std.specs.Ordering.{int_eq}
-use Rattle.std.proofs.lemmas.Bool.{and_parts, not-false, eqb-true, lt-ltb, cond-false}
+use Rattle.std.proofs.lemmas.Bool.{and_parts, not-false, eqb-true, eq-eqb, lt-ltb, cond-false}
 use Rattle.std.proofs.lemmas.Bool.Decides.{nat_tests}
 use Rattle.std.proofs.lemmas.Int.{ints}
 use Rattle.std.proofs.lemmas.List.{length_push, map-append}
 use Rattle.std.proofs.lemmas.List.Elements.{All-map, All-contains, All-filter, All-push, Contains-push}
 use Rattle.std.proofs.lemmas.List.Filters.{length-filter_both}
-use Rattle.ebpf_insn.specs.declared.register.Reg.TheVariants.{R0, R1}
+use Rattle.ebpf_insn.specs.declared.register.Reg.{Reg}
+use Rattle.ebpf_insn.specs.declared.register.Reg.TheVariants.{R0, R1, R2}
 use Rattle.ebpf_insn.specs.declared.insn.Insn.TheVariants as insn
 use Rattle.ebpf_range.specs.declared.range.Range.{Range}
 use Rattle.ebpf_range.specs.Interval.{constant}
@@ -16,13 +17,14 @@ use Rattle.ebpf_state.specs.declared.value.Abs.{Abs}
 use Rattle.ebpf_state.specs.declared.value.Abs.TheVariants.{Unset, Num, Stk, Ctx, Ob, May}
 use Rattle.ebpf_state.specs.Abstract.{is_unset, is_may}
 use Rattle.ebpf_state.specs.Ascending.{IsAscending}
-use Rattle.ebpf_state.specs.References.{holding, forgotten}
+use Rattle.ebpf_state.specs.References.{holding, forgotten, kind_held}
 use Rattle.ebpf_state.specs.StateView.{StateView}
 use Rattle.ebpf_state.specs.States.{register_of}
 use Rattle.ebpf_verify.specs.declared.helper.Helper.{Helper}
 use Rattle.ebpf_verify.specs.declared.helper.Helper.TheVariants as helper
 use Rattle.ebpf_verify.specs.Memory.{is_number}
-use Rattle.ebpf_verify.specs.Calls.{helper_of, names_kind, is_whole_object, call_refusal, with_result, after_new, after_free, after_call}
+use Rattle.ebpf_verify.specs.Calls.{helper_of, names_kind, is_whole_object, constant_in, is_that, fits_shelf, call_refusal, with_result, after_new, after_free, after_swap, after_call}
+use Rattle.ebpf_verify.specs.Calls as calls
 use Rattle.ebpf_verify.specs.Rules.{after_fall}
 use Rattle.ebpf_verify.specs.Entry.{entry_of}
 use Rattle.ebpf_machine.specs.declared.value.Value.{Value}
@@ -30,12 +32,12 @@ use Rattle.ebpf_machine.specs.declared.value.Value.TheVariants.{Number, Pointer}
 use Rattle.ebpf_machine.specs.declared.value.Base.TheVariants.{Stack, Context, Object}
 use Rattle.ebpf_machine.specs.Values.{Frame, TooManyObjects, read}
 use Rattle.ebpf_machine.specs.declared.report.Reply.TheVariants as reply
-use Rattle.ebpf_machine.specs.Effect.{Found, Ask, Free, Goes, effect, with_value, without_arguments, with_zero, with_output, effect_of_new, effect_of_free, effect_of_emit, effect_of_call}
-use Rattle.ebpf_machine.specs.View.{ObjectView, RunView, environment_of_view, object_at, new_object, trapped, replied, acted, CallResult, Null, Granted, Empty, Shelved}
+use Rattle.ebpf_machine.specs.Effect.{Found, Ask, Free, Exchange, Goes, effect, with_value, without_arguments, with_zero, with_output, effect_of_new, effect_of_free, effect_of_emit, effect_of_swap, effect_of_call}
+use Rattle.ebpf_machine.specs.View.{ObjectView, RunView, environment_of_view, object_at, new_object, shelved_object, without_given, trapped, replied, acted, CallResult, Null, Granted, Empty, Shelved}
 use Rattle.ebpf_machine.specs.Concretization.{IsOf, AreOf, Arrives, calls_of}
-use Rattle.ebpf_machine.specs.Sound.{FitsValue, IsSound}
+use Rattle.ebpf_machine.specs.Sound.{FitsValue, AreSized, IsGoing, IsSound}
 use Rattle.ebpf_machine.proofs.Rules.Operations.{none_first}
-use Rattle.ebpf_verify.proofs.Bounded.{forgotten-full}
+use Rattle.ebpf_verify.proofs.Bounded.{IsFull, forgotten-full}
 use Rattle.ebpf_verify.proofs.Ascents.{ascending_push, ascending_kept}
 use Rattle.ebpf_machine.proofs.Rules.Referred.{objects_few}
 use Rattle.ebpf_machine.proofs.Rules.Entries.{fall_arrives}
@@ -52,9 +54,9 @@ record IsCall (v : RunView) (number : ℤ) (s : StateView) (helper : Helper) : T
   does : effect (insn.Call number) v.pc (environment_of_view v) v.frame ≡ effect_of_call (Some helper) (v.pc + 1) (environment_of_view v) v.frame
   sends : after_fall v.pc (insn.Call number) s ≡ after_call v.pc (Some helper) s
 
--- what the argument is known to be, and is
-argument_holds : (v : RunView) (number : ℤ) (s : StateView) (helper : Helper) → IsCall v number s helper → IsOf (calls_of v.objects) (register_of s R1) (read v.frame R1)
-argument_holds v number s helper h = register_holds v (insn.Call number) s R1 h.here
+-- what an argument is known to be, and is
+argument_holds : (v : RunView) (number : ℤ) (s : StateView) (helper : Helper) (r : Reg) → IsCall v number s helper → IsOf (calls_of v.objects) (register_of s r) (read v.frame r)
+argument_holds v number s helper r h = register_holds v (insn.Call number) s r h.here
 
 -- what a call sends comes to the slot after it
 call_arrives : (v : RunView) (number : ℤ) (s after : StateView) (helper : Helper) (frame : Frame ℕ) (objects : List ObjectView) → IsCall v number s helper → after_call v.pc (Some helper) s ≡ Some after → AreOf after frame objects → Arrives (entry_of v.subject.program (v.pc + 1)) frame objects
@@ -65,9 +67,9 @@ call_arrives v number s after helper frame objects h sends state =
 zero_known : (known : List ℕ) → IsOf known (Num (constant 0)) (Some (Number 0))
 zero_known known = ((omega arith, omega arith), omega arith)
 
--- ---- new
+-- ---- a kind, or a shelf
 
--- the kind that new asks for
+-- the number of a kind, which new or swap is given
 record IsAsked (kinds : ℕ) (known : Abs) (x : Option (Value ℕ)) : Type 0 where
   kind : ℕ
   range : Range
@@ -95,67 +97,93 @@ asked_kind held kinds (Ctx a b) x set names h = absurd (cc)
 asked_kind held kinds (Ob call a b) x set names h = absurd (cc)
 asked_kind held kinds (May call) x set names h = absurd (cc)
 
-asks : (v : RunView) (to kind : ℕ) (x : Option (Value ℕ)) → x ≡ Some (Number kind) → kind < length v.subject.rows → effect_of_new to (environment_of_view v) v.frame x ≡ Goes (Ask kind) to (without_arguments v.frame)
-asks v to kind x is few = rw (is, lt-ltb kind (length v.subject.rows) few) refl
+-- ---- what a call is told
 
 -- none of the objects is of a call at the run's own slot
-not_yet : (v : RunView) → All (λ o. o.call < v.pc) v.objects → Contains (calls_of v.objects) v.pc → ⊥
-not_yet v behind among =
-    let below = All-contains (λ (c : ℕ). c < v.pc) (calls_of v.objects) v.pc (All-map (λ (c : ℕ). c < v.pc) (λ (o : ObjectView). o.call) v.objects behind) among in
+not_yet : (slot : ℕ) (objects : List ObjectView) → All (λ o. o.call < slot) objects → Contains (calls_of objects) slot → ⊥
+not_yet slot objects behind among =
+    let below = All-contains (λ (c : ℕ). c < slot) (calls_of objects) slot (All-map (λ (c : ℕ). c < slot) (λ (o : ObjectView). o.call) objects behind) among in
     omega (arith, below)
 
--- a call of new, the kind that it asks for, and what it sends
-record IsNew (v : RunView) (number : ℤ) (s : StateView) (kind : ℕ) : Type 0 where
-  call : IsCall v number s helper.New
-  sends : after_call v.pc (Some helper.New) s ≡ Some (with_result (May v.pc) (holding v.pc kind s))
-  room : length v.objects < v.subject.decl.held
+-- what is known of a run and of the objects that it has left, once it gave what it gives
+record IsParted (v : RunView) (t : StateView) (left : List ObjectView) : Type 0 where
+  full : IsFull v.pc t
+  state : AreOf t v.frame left
+  behind : All (λ o. o.call < v.pc) left
+  ascending : IsAscending (calls_of left)
 
--- the run is told null
-told_null : (v : RunView) (number : ℤ) (s : StateView) (kind : ℕ) → IsNew v number s kind → IsSound (acted (Ask kind) Null (v.pc + 1) (without_arguments v.frame) v)
-told_null v number s kind h =
-    let here = h.call.here in
-    let frame = frame_of v here.sound in
-    let was = going_of v here.sound here.going in
-    let after = with_value (without_arguments v.frame) R0 (Number 0) in
-    let state = AreOf-result (holding v.pc kind s) v.frame v.objects (May v.pc) (Number 0) here.full.whole frame.whole (null_state v.pc kind s v.frame v.objects was.behind here.state) (refl, not_yet v was.behind) in
-    there_sound v (insn.Call number) s (v.pc + 1) after v.objects (v.replies ++ reply.Null ∷ []) here (inl refl)
-    (stays_there v (insn.Call number) s (v.pc + 1) after here (omega arith) (IsFrame-result v.frame (Number 0) tt frame) (call_arrives v number s (with_result (May v.pc) (holding v.pc kind s)) helper.New after v.objects h.call h.sends state))
+-- a call that may get an object of a kind, with what it sends
+record IsAsking (v : RunView) (number : ℤ) (s : StateView) (helper : Helper) (t : StateView) (left : List ObjectView) (kind : ℕ) : Type 0 where
+  call : IsCall v number s helper
+  sends : after_call v.pc (Some helper) s ≡ Some (with_result (May v.pc) (holding v.pc kind t))
+  left_is : IsParted v t left
+  room : length left < v.subject.decl.held
 
--- the run is granted an object
-granted_there : (v : RunView) (number : ℤ) (s : StateView) (kind : ℕ) → IsNew v number s kind → IsThere v (v.pc + 1) (with_value (without_arguments v.frame) R0 (Pointer (Object v.pc) (pos 0))) (v.objects ++ new_object v kind ∷ [])
-granted_there v number s kind h =
-    let here = h.call.here in
-    let frame = frame_of v here.sound in
-    let was = going_of v here.sound here.going in
-    let new = new_object v kind in
-    let objects = v.objects ++ new ∷ [] in
+-- the run is told that it gets none
+none_there : (v : RunView) (number : ℤ) (s : StateView) (helper : Helper) (t : StateView) (left : List ObjectView) (kind : ℕ) → IsAsking v number s helper t left kind → IsThere v (v.pc + 1) (with_zero v.frame) left
+none_there v number s helper t left kind h =
+    let frame = frame_of v h.call.here.sound in
+    let l = h.left_is in
+    let room = h.room in
+    let state = AreOf-result (holding v.pc kind t) v.frame left (May v.pc) (Number 0) l.full.whole frame.whole (null_state v.pc kind t v.frame left l.behind l.state) (refl, not_yet v.pc left l.behind) in
+    record {
+      frame = IsFrame-result v.frame (Number 0) tt frame;
+      state = call_arrives v number s (with_result (May v.pc) (holding v.pc kind t)) helper (with_zero v.frame) left h.call h.sends state;
+      behind = λ k d lt. let before = l.behind k d lt in omega (arith, before);
+      ascending = l.ascending;
+      declared = omega (arith, room);
+    }
+
+-- the run is told that it gets an object
+object_there : (v : RunView) (number : ℤ) (s : StateView) (helper : Helper) (t : StateView) (left : List ObjectView) (new : ObjectView) → new.call ≡ v.pc → IsAsking v number s helper t left new.kind → IsThere v (v.pc + 1) (with_value (without_arguments v.frame) R0 (Pointer (Object v.pc) (pos 0))) (left ++ new ∷ [])
+object_there v number s helper t left new is h =
+    let frame = frame_of v h.call.here.sound in
+    let l = h.left_is in
+    let objects = left ++ new ∷ [] in
     let result = Pointer (Object v.pc) (pos 0) in
     let room = h.room in
-    let long = length_push v.objects new in
-    let names : calls_of objects ≡ calls_of v.objects ++ v.pc ∷ [] = map-append (λ (o : ObjectView). o.call) v.objects (new ∷ []) in
-    let among : Contains (calls_of objects) v.pc = subst (λ (ns : List ℕ). Contains ns v.pc) (sym names) (Contains-push (calls_of v.objects) v.pc) in
-    let state = AreOf-result (holding v.pc kind s) v.frame objects (May v.pc) result here.full.whole frame.whole (granted_state v.pc s v.frame v.objects new refl here.full was.behind here.state) (refl, refl, among) in
+    let long = length_push left new in
+    let names : calls_of objects ≡ calls_of left ++ v.pc ∷ [] = map-append (λ (o : ObjectView). o.call) left (new ∷ []) ∙ ap (λ (n : ℕ). calls_of left ++ n ∷ []) is in
+    let among : Contains (calls_of objects) v.pc = subst (λ (ns : List ℕ). Contains ns v.pc) (sym names) (Contains-push (calls_of left) v.pc) in
+    let state = AreOf-result (holding v.pc new.kind t) v.frame objects (May v.pc) result l.full.whole frame.whole (granted_state v.pc t v.frame left new is l.full l.behind l.state) (refl, refl, among) in
     record {
       frame = IsFrame-result v.frame result zero_fits frame;
-      state = call_arrives v number s (with_result (May v.pc) (holding v.pc kind s)) helper.New (with_value (without_arguments v.frame) R0 result) objects h.call h.sends state;
-      behind = All-push (λ (o : ObjectView). o.call < v.pc + 1) v.objects new (λ k d lt. let before = was.behind k d lt in omega (arith, before)) (omega arith);
-      ascending = subst IsAscending (sym names) (ascending_push v.pc (calls_of v.objects) (All-map (λ (c : ℕ). c < v.pc) (λ (o : ObjectView). o.call) v.objects was.behind) was.ascending);
+      state = call_arrives v number s (with_result (May v.pc) (holding v.pc new.kind t)) helper (with_value (without_arguments v.frame) R0 result) objects h.call h.sends state;
+      behind = All-push (λ (o : ObjectView). o.call < v.pc + 1) left new (λ k d lt. let before = l.behind k d lt in omega (arith, before)) (omega (arith, is));
+      ascending = subst IsAscending (sym names) (ascending_push v.pc (calls_of left) (All-map (λ (c : ℕ). c < v.pc) (λ (o : ObjectView). o.call) left l.behind) l.ascending);
       declared = omega (arith, long, room);
     }
   where
     zero_fits : FitsValue (Pointer (Object v.pc) (pos 0))
     zero_fits = search (rules, ints)
 
-is_granted : (v : RunView) (number : ℤ) (s : StateView) (kind : ℕ) → IsNew v number s kind → IsSound (acted (Ask kind) Granted (v.pc + 1) (without_arguments v.frame) v)
-is_granted v number s kind h =
-    let after = without_arguments v.frame in
-    let result = Pointer (Object v.pc) (pos 0) in
-    let now = record (replied Granted result (v.pc + 1) after v) { objects = v.objects ++ new_object v kind ∷ [] } in
-    subst IsSound (sym (cond-false (nat_le v.subject.decl.held (length v.objects)) (trapped TooManyObjects v) now (below (length v.objects) v.subject.decl.held h.room)))
-    (there_sound v (insn.Call number) s (v.pc + 1) (with_value after R0 result) (v.objects ++ new_object v kind ∷ []) (v.replies ++ reply.Granted ∷ []) h.call.here (inl refl) (granted_there v number s kind h))
-  where
-    below : (n m : ℕ) → n < m → nat_le m n ≡ false
-    below n m lt = grind (arith, nat_tests)
+not_full : (n m : ℕ) → n < m → nat_le m n ≡ false
+not_full n m lt = grind (arith, nat_tests)
+
+has_room : (objects held declared : ℕ) → objects ≤ held → nat_le declared held ≡ false → objects < declared
+has_room objects held declared few none = grind (arith, nat_tests)
+
+-- ---- new
+
+asks : (v : RunView) (to kind : ℕ) (x : Option (Value ℕ)) → x ≡ Some (Number kind) → kind < length v.subject.rows → effect_of_new to (environment_of_view v) v.frame x ≡ Goes (Ask kind) to (without_arguments v.frame)
+asks v to kind x is few = rw (is, lt-ltb kind (length v.subject.rows) few) refl
+
+new_told : (v : RunView) (number : ℤ) (s : StateView) (kind : ℕ) → IsAsking v number s helper.New s v.objects kind → (result : CallResult) → IsSound (acted (Ask kind) result (v.pc + 1) (without_arguments v.frame) v)
+new_told v number s kind h = by where
+  null : IsSound (acted (Ask kind) Null (v.pc + 1) (without_arguments v.frame) v)
+  null = there_sound v (insn.Call number) s (v.pc + 1) (with_zero v.frame) v.objects (v.replies ++ reply.Null ∷ []) v.taken h.call.here (inl refl) (none_there v number s helper.New s v.objects kind h)
+
+  by : (result : CallResult) → IsSound (acted (Ask kind) result (v.pc + 1) (without_arguments v.frame) v)
+  by Null = null
+  by Empty = null
+  by (Shelved bytes) = null
+  by Granted =
+      let after = without_arguments v.frame in
+      let result = Pointer (Object v.pc) (pos 0) in
+      let objects = v.objects ++ new_object v kind ∷ [] in
+      let now = record (replied Granted result (v.pc + 1) after v) { objects = objects } in
+      subst IsSound (sym (cond-false (nat_le v.subject.decl.held (length v.objects)) (trapped TooManyObjects v) now (not_full (length v.objects) v.subject.decl.held h.room)))
+      (there_sound v (insn.Call number) s (v.pc + 1) (with_value after R0 result) objects (v.replies ++ reply.Granted ∷ []) v.taken h.call.here (inl refl) (object_there v number s helper.New s v.objects (new_object v kind) refl h))
 
 new_next : (v : RunView) (number : ℤ) (s : StateView) → IsCall v number s helper.New → IsNext v
 new_next v number s h =
@@ -165,22 +193,14 @@ new_next v number s h =
     let unset = none_first (is_unset known) _ _ h.fine in
     let names = none_first (not (names_kind (length v.subject.rows) known)) _ _ unset.1 in
     let full = none_first (nat_le v.subject.decl.held (length s.held)) _ _ names.1 in
-    let it = asked_kind (calls_of v.objects) (length v.subject.rows) known (read v.frame R1) unset.0 names.0 (argument_holds v number s helper.New h) in
+    let it = asked_kind (calls_of v.objects) (length v.subject.rows) known (read v.frame R1) unset.0 names.0 (argument_holds v number s helper.New R1 h) in
     let was = going_of v here.sound here.going in
     let few = objects_few v.objects s.held was.ascending here.state.held in
     let room = has_room (length v.objects) (length s.held) v.subject.decl.held few full.0 in
+    let left : IsParted v s v.objects = record { full = here.full; state = here.state; behind = was.behind; ascending = was.ascending } in
     let sends = ap (λ (a : Abs). after_new v.pc a s) it.known_is ∙ ap (λ (kind : ℕ). Some (with_result (May v.pc) (holding v.pc kind s))) it.low in
-    let new : IsNew v number s it.kind = record { call = h; sends = sends; room = room } in
-    goes_on v i s (Ask it.kind) (v.pc + 1) (without_arguments v.frame) here (h.does ∙ asks v (v.pc + 1) it.kind (read v.frame R1) it.is it.few) (inl refl) (IsFrame-lost v.frame (frame_of v here.sound)).fit (it.few, room) tt (answered it.kind new)
-  where
-    has_room : (objects held declared : ℕ) → objects ≤ held → nat_le declared held ≡ false → objects < declared
-    has_room objects held declared few none = grind (arith, nat_tests)
-
-    answered : (kind : ℕ) → IsNew v number s kind → (reply : CallResult) → IsSound (acted (Ask kind) reply (v.pc + 1) (without_arguments v.frame) v)
-    answered kind new Null = told_null v number s kind new
-    answered kind new Empty = told_null v number s kind new
-    answered kind new (Shelved bytes) = told_null v number s kind new
-    answered kind new Granted = is_granted v number s kind new
+    let asking : IsAsking v number s helper.New s v.objects it.kind = record { call = h; sends = sends; left_is = left; room = room } in
+    goes_on v i s (Ask it.kind) (v.pc + 1) (without_arguments v.frame) here (h.does ∙ asks v (v.pc + 1) it.kind (read v.frame R1) it.is it.few) (inl refl) (IsFrame-lost v.frame (frame_of v here.sound)).fit (it.few, room) (new_told v number s it.kind asking)
 
 -- ---- free
 
@@ -193,18 +213,21 @@ record IsGiven (held : List ℕ) (known : Abs) (x : Option (Value ℕ)) : Type 0
   known_is : known ≡ Ob call low high
   among : Contains held call
 
+-- a pointer to an object at its first byte
+at_first_byte : (held : List ℕ) (call : ℕ) (low high : ℤ) (x : Option (Value ℕ)) → int_eq low (pos 0) ≡ true → int_eq high (pos 0) ≡ true → IsOf held (Ob call low high) x → (x ≡ Some (Pointer (Object call) (pos 0))) × Contains held call
+at_first_byte held call low high (Some (Pointer (Object at) w)) from to h = (ap (λ (n : ℕ). Some (Pointer (Object n) w)) h.0 ∙ ap (λ (z : ℤ). Some (Pointer (Object call) z)) (only low high w from to h.1 h.2), h.3) where
+  only : (low high w : ℤ) → int_eq low (pos 0) ≡ true → int_eq high (pos 0) ≡ true → low ≤ℤ w → w ≤ℤ high → w ≡ pos 0
+  only low high w a b l h = grind (arith, ints)
+at_first_byte held call low high None from to h = absurd h
+at_first_byte held call low high (Some (Number n)) from to h = absurd h
+at_first_byte held call low high (Some (Pointer Stack w)) from to h = absurd h
+at_first_byte held call low high (Some (Pointer Context w)) from to h = absurd h
+
 given_object : (held : List ℕ) (known : Abs) (x : Option (Value ℕ)) → is_unset known ≡ false → not (is_whole_object known) ≡ false → IsOf held known x → IsGiven held known x
-given_object held (Ob call low high) (Some (Pointer (Object at) w)) set whole h =
+given_object held (Ob call low high) x set whole h =
     let parts = and_parts (int_eq low (pos 0)) (int_eq high (pos 0)) (not-false (is_whole_object (Ob call low high)) whole) in
-    let first : w ≡ pos 0 = only low high w parts.0 parts.1 h.1 h.2 in
-    record { call = call; low = low; high = high; is = ap (λ (n : ℕ). Some (Pointer (Object n) w)) h.0 ∙ ap (λ (z : ℤ). Some (Pointer (Object call) z)) first; known_is = refl; among = h.3 }
-  where
-    only : (low high w : ℤ) → int_eq low (pos 0) ≡ true → int_eq high (pos 0) ≡ true → low ≤ℤ w → w ≤ℤ high → w ≡ pos 0
-    only low high w a b l h = grind (arith, ints)
-given_object held (Ob call low high) None set whole h = absurd h
-given_object held (Ob call low high) (Some (Number n)) set whole h = absurd h
-given_object held (Ob call low high) (Some (Pointer Stack w)) set whole h = absurd h
-given_object held (Ob call low high) (Some (Pointer Context w)) set whole h = absurd h
+    let first = at_first_byte held call low high x parts.0 parts.1 h in
+    record { call = call; low = low; high = high; is = first.0; known_is = refl; among = first.1 }
 given_object held Unset x set whole h = absurd (cc)
 given_object held (Num a) x set whole h = absurd (cc)
 given_object held (Stk k) x set whole h = absurd (cc)
@@ -214,6 +237,15 @@ given_object held (May call) x set whole h = absurd (cc)
 gives_back : (v : RunView) (to call : ℕ) (x : Option (Value ℕ)) (found : Found) → x ≡ Some (Pointer (Object call) (pos 0)) → object_at v.objects call ≡ Ok found → effect_of_free to (environment_of_view v) v.frame x ≡ Goes (Free call) to (with_zero v.frame)
 gives_back v to call x found is there = rw (is, there) refl
 
+-- what is known once an object is given away
+given_away : (v : RunView) (s : StateView) (call : ℕ) → IsGoing v → IsFull v.pc s → AreOf s v.frame v.objects → IsParted v (forgotten call s) (without call v.objects)
+given_away v s call was full state = record {
+  full = forgotten-full v.pc call s full;
+  state = forgotten_state v.pc call s v.frame v.objects full state;
+  behind = All-filter (λ (o : ObjectView). not (o.call == call)) (λ (o : ObjectView). o.call < v.pc) v.objects was.behind;
+  ascending = subst IsAscending (sym (calls_without call v.objects)) (ascending_kept (λ (c : ℕ). not (c == call)) (calls_of v.objects) was.ascending);
+}
+
 freed_there : (v : RunView) (number : ℤ) (s : StateView) (call : ℕ) → IsCall v number s helper.Free → after_call v.pc (Some helper.Free) s ≡ Some (with_result (Num (constant 0)) (forgotten call s)) → IsThere v (v.pc + 1) (with_zero v.frame) (without call v.objects)
 freed_there v number s call h sends =
     let here = h.here in
@@ -222,13 +254,13 @@ freed_there v number s call h sends =
     let objects = without call v.objects in
     let few = length-filter_both (λ (o : ObjectView). not (o.call == call)) (λ (o : ObjectView). not (not (o.call == call))) (λ o. refl) v.objects in
     let declared = was.declared in
-    let whole = (forgotten-full v.pc call s here.full).whole in
-    let state = AreOf-result (forgotten call s) v.frame objects (Num (constant 0)) (Number 0) whole frame.whole (forgotten_state v.pc call s v.frame v.objects here.full here.state) (zero_known (calls_of objects)) in
+    let parted = given_away v s call was here.full here.state in
+    let state = AreOf-result (forgotten call s) v.frame objects (Num (constant 0)) (Number 0) parted.full.whole frame.whole parted.state (zero_known (calls_of objects)) in
     record {
       frame = IsFrame-result v.frame (Number 0) tt frame;
       state = call_arrives v number s (with_result (Num (constant 0)) (forgotten call s)) helper.Free (with_zero v.frame) objects h sends state;
-      behind = All-filter (λ (o : ObjectView). not (o.call == call)) (λ (o : ObjectView). o.call < v.pc + 1) v.objects (λ k d lt. let before = was.behind k d lt in omega (arith, before));
-      ascending = subst IsAscending (sym (calls_without call v.objects)) (ascending_kept (λ (c : ℕ). not (c == call)) (calls_of v.objects) was.ascending);
+      behind = λ k d lt. let before = parted.behind k d lt in omega (arith, before);
+      ascending = parted.ascending;
       declared = omega (arith, few, declared);
     }
 
@@ -240,12 +272,12 @@ free_next v number s h =
     let unset = none_first (is_unset known) _ _ h.fine in
     let may = none_first (is_may known) _ _ unset.1 in
     let whole = none_first (not (is_whole_object known)) _ _ may.1 in
-    let it = given_object (calls_of v.objects) known (read v.frame R1) unset.0 whole.0 (argument_holds v number s helper.Free h) in
+    let it = given_object (calls_of v.objects) known (read v.frame R1) unset.0 whole.0 (argument_holds v number s helper.Free R1 h) in
     let found = held_found v s it.call here.sized here.state.held it.among in
     let sends = ap (λ (a : Abs). after_free a s) it.known_is in
     let there = freed_there v number s it.call h sends in
-    goes_on v i s (Free it.call) (v.pc + 1) (with_zero v.frame) here (h.does ∙ gives_back v (v.pc + 1) it.call (read v.frame R1) found.found it.is found.is) (inl refl) there.frame.fit tt tt
-    (λ reply. there_sound v i s (v.pc + 1) (with_zero v.frame) (without it.call v.objects) v.replies here (inl refl) there)
+    goes_on v i s (Free it.call) (v.pc + 1) (with_zero v.frame) here (h.does ∙ gives_back v (v.pc + 1) it.call (read v.frame R1) found.found it.is found.is) (inl refl) there.frame.fit tt
+    (λ reply. there_sound v i s (v.pc + 1) (with_zero v.frame) (without it.call v.objects) v.replies v.taken here (inl refl) there)
 
 -- ---- emit
 
@@ -266,7 +298,7 @@ emit_next v number s h =
     let known = register_of s R1 in
     let unset = none_first (is_unset known) _ _ h.fine in
     let argument = none_first (not (is_number known)) _ _ unset.1 in
-    let n = emitted (calls_of v.objects) known (read v.frame R1) unset.0 argument.0 (argument_holds v number s helper.Emit h) in
+    let n = emitted (calls_of v.objects) known (read v.frame R1) unset.0 argument.0 (argument_holds v number s helper.Emit R1 h) in
     let frame = frame_of v here.sound in
     let after = with_output n.0 (with_zero v.frame) in
     let zero = IsFrame-result v.frame (Number 0) tt frame in
@@ -275,15 +307,101 @@ emit_next v number s h =
     (record { whole = zero.whole; deep = zero.deep; fit = record { registers = zero.fit.registers; stack = zero.fit.stack } })
     (call_arrives v number s (with_result (Num (constant 0)) s) helper.Emit after v.objects h refl (record { each = state.each; words = state.words; held = state.held }))
 
+-- ---- swap
+
+-- what a call of swap gives to a shelf: nothing, or an object of the shelf's kind
+record GivesTo (v : RunView) (s : StateView) (shelf : ℕ) (known : Abs) (x : Option (Value ℕ)) : Type 0 where
+  given : Option ℕ
+  does : (to : ℕ) (y : Option (Value ℕ)) → y ≡ Some (Number shelf) → shelf < length v.subject.rows → effect_of_swap to (environment_of_view v) v.frame y x ≡ Goes (Exchange shelf given) to (without_arguments v.frame)
+  left_is : IsParted v (calls.without_given known s) (without_given given v.objects)
+
+gives_nothing : (v : RunView) (to shelf : ℕ) (x y : Option (Value ℕ)) → x ≡ Some (Number 0) → y ≡ Some (Number shelf) → shelf < length v.subject.rows → effect_of_swap to (environment_of_view v) v.frame y x ≡ Goes (Exchange shelf None) to (without_arguments v.frame)
+gives_nothing v to shelf x y is names few = rw (is, names, lt-ltb shelf (length v.subject.rows) few) refl
+
+gives_object : (v : RunView) (to shelf call : ℕ) (found : Found) (x y : Option (Value ℕ)) → x ≡ Some (Pointer (Object call) (pos 0)) → object_at v.objects call ≡ Ok found → found.kind ≡ shelf → y ≡ Some (Number shelf) → shelf < length v.subject.rows → effect_of_swap to (environment_of_view v) v.frame y x ≡ Goes (Exchange shelf (Some call)) to (without_arguments v.frame)
+gives_object v to shelf call found x y is there kind names few = rw (is, names, there, lt-ltb shelf (length v.subject.rows) few, eq-eqb found.kind shelf kind) refl
+
+-- an object that is of the kind of a shelf, as what is known says
+of_that_kind : (shelf kind : ℕ) (known : Option ℕ) → known ≡ Some kind → is_that shelf known ≡ true → kind ≡ shelf
+of_that_kind shelf kind known is fits = eqb-true kind shelf (sym (ap (is_that shelf) is) ∙ fits)
+
+gives_to : (v : RunView) (s : StateView) (shelf : ℕ) (known : Abs) (x : Option (Value ℕ)) → IsGoing v → AreSized v → IsFull v.pc s → AreOf s v.frame v.objects → is_unset known ≡ false → not (fits_shelf shelf s known) ≡ false → IsOf (calls_of v.objects) known x → GivesTo v s shelf known x
+gives_to v s shelf (Num a) (Some (Number n)) was sized full state set fits h =
+    let parts = and_parts (a.lo == 0) (a.hi == 0) (not-false (fits_shelf shelf s (Num a)) fits) in
+    let zero : n ≡ 0 = only a.lo a.hi n (eqb-true a.hi 0 parts.1) h.0.1 in
+    record {
+      given = None;
+      does = λ to y names few. gives_nothing v to shelf (Some (Number n)) y (ap (λ (m : ℕ). Some (Number m)) zero) names few;
+      left_is = record { full = full; state = state; behind = was.behind; ascending = was.ascending };
+    }
+  where
+    only : (low high n : ℕ) → high ≡ 0 → n ≤ high → n ≡ 0
+    only low high n e le = omega (arith, e, le)
+gives_to v s shelf (Ob call low high) x was sized full state set fits h =
+    let parts = and_parts (int_eq low (pos 0)) (int_eq high (pos 0) && is_that shelf (kind_held call s)) (not-false (fits_shelf shelf s (Ob call low high)) fits) in
+    let more = and_parts (int_eq high (pos 0)) (is_that shelf (kind_held call s)) parts.1 in
+    let it = at_first_byte (calls_of v.objects) call low high x parts.0 more.0 h in
+    let found = held_found v s call sized state.held it.1 in
+    record {
+      given = Some call;
+      does = λ to y names few. gives_object v to shelf call found.found x y it.0 found.is (of_that_kind shelf found.found.kind (kind_held call s) found.kind_is more.1) names few;
+      left_is = given_away v s call was full state;
+    }
+gives_to v s shelf (Num a) None was sized full state set fits h = absurd h
+gives_to v s shelf (Num a) (Some (Pointer base k)) was sized full state set fits h = absurd h
+gives_to v s shelf Unset x was sized full state set fits h = absurd (cc)
+gives_to v s shelf (Stk k) x was sized full state set fits h = absurd (cc)
+gives_to v s shelf (Ctx a b) x was sized full state set fits h = absurd (cc)
+gives_to v s shelf (May call) x was sized full state set fits h = absurd (cc)
+
+swap_told : (v : RunView) (number : ℤ) (s t : StateView) (shelf : ℕ) (given : Option ℕ) → IsAsking v number s helper.Swap t (without_given given v.objects) shelf → (result : CallResult) → IsSound (acted (Exchange shelf given) result (v.pc + 1) (without_arguments v.frame) v)
+swap_told v number s t shelf given h = by where
+  left : List ObjectView
+  left = without_given given v.objects
+
+  empty : IsSound (acted (Exchange shelf given) Empty (v.pc + 1) (without_arguments v.frame) v)
+  empty = there_sound v (insn.Call number) s (v.pc + 1) (with_zero v.frame) left (v.replies ++ reply.Empty ∷ []) v.taken h.call.here (inl refl) (none_there v number s helper.Swap t left shelf h)
+
+  by : (result : CallResult) → IsSound (acted (Exchange shelf given) result (v.pc + 1) (without_arguments v.frame) v)
+  by Empty = empty
+  by Null = empty
+  by Granted = empty
+  by (Shelved bytes) =
+      let after = without_arguments v.frame in
+      let result = Pointer (Object v.pc) (pos 0) in
+      let objects = left ++ shelved_object v shelf bytes ∷ [] in
+      let now = record (replied (Shelved bytes) result (v.pc + 1) after v) { objects = objects; taken = v.taken ++ bytes } in
+      subst IsSound (sym (cond-false (nat_le v.subject.decl.held (length left)) (trapped TooManyObjects v) now (not_full (length left) v.subject.decl.held h.room)))
+      (there_sound v (insn.Call number) s (v.pc + 1) (with_value after R0 result) objects (v.replies ++ reply.Shelf ∷ []) (v.taken ++ bytes) h.call.here (inl refl) (object_there v number s helper.Swap t left (shelved_object v shelf bytes) refl h))
+
+swap_next : (v : RunView) (number : ℤ) (s : StateView) → IsCall v number s helper.Swap → IsNext v
+swap_next v number s h =
+    let here = h.here in
+    let shelf = register_of s R1 in
+    let given = register_of s R2 in
+    let unset = none_first (is_unset shelf) _ _ h.fine in
+    let unset_given = none_first (is_unset given) _ _ unset.1 in
+    let may = none_first (is_may given) _ _ unset_given.1 in
+    let names = none_first (not (names_kind (length v.subject.rows) shelf)) _ _ may.1 in
+    let fits = none_first (not (fits_shelf (constant_in shelf) s given)) _ _ names.1 in
+    let full = none_first (nat_le v.subject.decl.held (length (calls.without_given given s).held)) _ _ fits.1 in
+    let it = asked_kind (calls_of v.objects) (length v.subject.rows) shelf (read v.frame R1) unset.0 names.0 (argument_holds v number s helper.Swap R1 h) in
+    let low : constant_in shelf ≡ it.kind = ap constant_in it.known_is ∙ it.low in
+    let was = going_of v here.sound here.going in
+    let gives = gives_to v s it.kind given (read v.frame R2) was here.sized here.full here.state unset_given.0 (sym (ap (λ (n : ℕ). not (fits_shelf n s given)) low) ∙ fits.0) (argument_holds v number s helper.Swap R2 h) in
+    let left = without_given gives.given v.objects in
+    let few = objects_few left (calls.without_given given s).held gives.left_is.ascending gives.left_is.state.held in
+    let room = has_room (length left) (length (calls.without_given given s).held) v.subject.decl.held few full.0 in
+    let sends = ap (λ (a : Abs). after_swap v.pc a given s) it.known_is ∙ ap (λ (kind : ℕ). Some (with_result (May v.pc) (holding v.pc kind (calls.without_given given s)))) it.low in
+    goes_on v (insn.Call number) s (Exchange it.kind gives.given) (v.pc + 1) (without_arguments v.frame) here (h.does ∙ gives.does (v.pc + 1) (read v.frame R1) it.is it.few) (inl refl) (IsFrame-lost v.frame (frame_of v here.sound)).fit (it.few, room)
+    (swap_told v number s (calls.without_given given s) it.kind gives.given (record { call = h; sends = sends; left_is = gives.left_is; room = room }))
+
 -- ---- the helper of a number
 
 pub call_next : (v : RunView) (number : ℤ) (s : StateView) → IsHere v (insn.Call number) s → IsNext v
 call_next v number s here = by (helper_of number) refl where
   refused : helper_of number ≡ None → ⊥
   refused is = let fine = sym (ap (λ (o : Option Helper). call_refusal v.subject.decl v.subject.rows o s) is) ∙ here.fine in cc
-
-  no_swap : helper_of number ≡ Some helper.Swap → ⊥
-  no_swap is = let fine = sym (ap (λ (o : Option Helper). call_refusal v.subject.decl v.subject.rows o s) is) ∙ here.fine in cc
 
   called : (helper : Helper) → helper_of number ≡ Some helper → IsCall v number s helper
   called helper is = record {
@@ -298,4 +416,4 @@ call_next v number s here = by (helper_of number) refl where
   by (Some helper.New) is = new_next v number s (called helper.New is)
   by (Some helper.Free) is = free_next v number s (called helper.Free is)
   by (Some helper.Emit) is = emit_next v number s (called helper.Emit is)
-  by (Some helper.Swap) is = absurd (no_swap is)
+  by (Some helper.Swap) is = swap_next v number s (called helper.Swap is)

@@ -44,6 +44,7 @@ image_long (row ∷ rows) (suc kind) = image_long rows kind
 pub record IsFound (v : RunView) (s : StateView) (call : ℕ) : Type 0 where
   pub found : Found
   pub is : object_at v.objects call ≡ Ok found
+  pub kind_is : kind_held call s ≡ Some found.kind
   pub long : length found.bytes ≡ size_held v.subject.rows call s
 
 pub held_found : (v : RunView) (s : StateView) (call : ℕ) → AreSized v → AreReferred s v.objects → Contains (calls_of v.objects) call → IsFound v s call
@@ -55,6 +56,7 @@ held_found v s call sized held among =
     record {
       found = record { kind = o.kind; bytes = o.bytes };
       is = ap found_in there.finds;
+      kind_is = kind;
       long =
           All-contains (λ (p : ObjectView). length p.bytes ≡ length (image_at (kinds_of v.subject.rows) p.kind)) v.objects o sized there.among
           ∙ image_long v.subject.rows o.kind

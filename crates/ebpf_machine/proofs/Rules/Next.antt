@@ -31,14 +31,6 @@ HasRoom v Nothing = Unit {0}
 HasRoom v (Write name at bytes) = Unit {0}
 HasRoom v (Free name) = Unit {0}
 
--- it is no exchange: no accepted program makes one yet
-abbrev pub IsUnshelving : {N : Type 0} → Act N → Type 0
-IsUnshelving Nothing = Unit {0}
-IsUnshelving (Write name at bytes) = Unit {0}
-IsUnshelving (Ask kind) = Unit {0}
-IsUnshelving (Free name) = Unit {0}
-IsUnshelving (Exchange shelf given) = ⊥
-
 -- an instruction that goes on: whatever is answered, the run is sound after it
 pub record GoesOn (v : RunView) (act : Act ℕ) (to : ℕ) (after : Frame ℕ) : Type 0 where
   pub does : effect_of_view v ≡ Goes act to after
@@ -46,7 +38,6 @@ pub record GoesOn (v : RunView) (act : Act ℕ) (to : ℕ) (after : Frame ℕ) :
   pub edge : (i : Insn) × (insn_at v.subject.program v.pc ≡ Some i) × ((fall_of i v.pc ≡ Some to) ⊎ (jump_of i v.pc ≡ Some to))
   pub fit : FitsFrame after
   pub room : HasRoom v act
-  pub unshelving : IsUnshelving act
   pub sound : (reply : CallResult) → IsSound (acted act reply to after v)
 
 -- one that ends the run
@@ -114,11 +105,11 @@ stays_there v i s to after here forward frame state =
     record { frame = frame; state = state; behind = λ k d lt. let before = was.behind k d lt in omega (arith, before, forward); ascending = was.ascending; declared = was.declared }
 
 -- it is sound there
-pub there_sound : (v : RunView) (i : Insn) (s : StateView) (to : ℕ) (after : Frame ℕ) (objects : List ObjectView) (replies : List Reply) → IsHere v i s → Leads i v.pc to → IsThere v to after objects → IsSound (record v { pc = to; frame = after; objects = objects; replies = replies; executed = v.executed + 1 })
-there_sound v i s to after objects replies here edge there =
+pub there_sound : (v : RunView) (i : Insn) (s : StateView) (to : ℕ) (after : Frame ℕ) (objects : List ObjectView) (replies : List Reply) (taken : List ℕ) → IsHere v i s → Leads i v.pc to → IsThere v to after objects → IsSound (record v { pc = to; frame = after; objects = objects; replies = replies; taken = taken; executed = v.executed + 1 })
+there_sound v i s to after objects replies taken here edge there =
     let was = going_of v here.sound here.going in
     let leads = leads_forward v i to here.sound here.at edge in
-    let now = record v { pc = to; frame = after; objects = objects; replies = replies; executed = v.executed + 1 } in
+    let now = record v { pc = to; frame = after; objects = objects; replies = replies; taken = taken; executed = v.executed + 1 } in
     record {
       accepted = here.sound.accepted;
       registers = there.frame.whole;
@@ -138,12 +129,12 @@ there_sound v i s to after objects replies here edge there =
 -- ---- what goes on
 
 -- an instruction that goes on, where the run is sound after it
-pub goes_on : (v : RunView) (i : Insn) (s : StateView) (act : Act ℕ) (to : ℕ) (after : Frame ℕ) → IsHere v i s → effect i v.pc (environment_of_view v) v.frame ≡ Goes act to after → Leads i v.pc to → FitsFrame after → HasRoom v act → IsUnshelving act → ((reply : CallResult) → IsSound (acted act reply to after v)) → IsNext v
-goes_on v i s act to after here does edge fit room unshelving sound =
-    inl (act, to, after, record { does = effect_here v i s here ∙ does; forward = (leads_forward v i to here.sound here.at edge).0; edge = (i, here.at, edge); fit = fit; room = room; unshelving = unshelving; sound = sound })
+pub goes_on : (v : RunView) (i : Insn) (s : StateView) (act : Act ℕ) (to : ℕ) (after : Frame ℕ) → IsHere v i s → effect i v.pc (environment_of_view v) v.frame ≡ Goes act to after → Leads i v.pc to → FitsFrame after → HasRoom v act → ((reply : CallResult) → IsSound (acted act reply to after v)) → IsNext v
+goes_on v i s act to after here does edge fit room sound =
+    inl (act, to, after, record { does = effect_here v i s here ∙ does; forward = (leads_forward v i to here.sound here.at edge).0; edge = (i, here.at, edge); fit = fit; room = room; sound = sound })
 
 -- one that asks for nothing
 pub goes_quietly : (v : RunView) (i : Insn) (s : StateView) (to : ℕ) (after : Frame ℕ) → IsHere v i s → effect i v.pc (environment_of_view v) v.frame ≡ Goes Nothing to after → Leads i v.pc to → IsFrame after → Arrives (entry_of v.subject.program to) after v.objects → IsNext v
 goes_quietly v i s to after here does edge frame state =
     let forward = (leads_forward v i to here.sound here.at edge).0 in
-    goes_on v i s Nothing to after here does edge frame.fit tt tt (λ reply. there_sound v i s to after v.objects v.replies here edge (stays_there v i s to after here forward frame state))
+    goes_on v i s Nothing to after here does edge frame.fit tt (λ reply. there_sound v i s to after v.objects v.replies v.taken here edge (stays_there v i s to after here forward frame state))

@@ -127,8 +127,8 @@ to_object v size base offset src s call low high w at value stored address h =
     let bytes = little_bytes (bytes_in size) number.0 in
     let writes = h.does ∙ number_written (v.pc + 1) v.frame at (object_at v.objects at) it.found (w +ℤ offset) (bytes_in size) place number.0 stored (ap (object_at v.objects) address.0 ∙ it.is) (place_between (length it.found.bytes) (bytes_in size) low high w offset address.1 address.2 inside) number.1 in
     let there = fall_arrives v.subject.program v.pc (v.pc + 1) i s s v.frame v.objects (defined_in v here.sound) here.at here.entered here.full h.sends refl (omega arith) here.state in
-    let gone_on = there_sound v i s (v.pc + 1) v.frame v.objects v.replies here (inl refl) (stays_there v i s (v.pc + 1) v.frame here (omega arith) frame there) in
-    goes_on v i s (Write at place bytes) (v.pc + 1) v.frame here writes (inl refl) frame.fit tt tt (λ reply. sound_alike (moved_to (v.pc + 1) v.frame v) (map (patched_at at place bytes) v.objects) (patched_alike at place bytes v.objects) gone_on)
+    let gone_on = there_sound v i s (v.pc + 1) v.frame v.objects v.replies v.taken here (inl refl) (stays_there v i s (v.pc + 1) v.frame here (omega arith) frame there) in
+    goes_on v i s (Write at place bytes) (v.pc + 1) v.frame here writes (inl refl) frame.fit tt (λ reply. sound_alike (moved_to (v.pc + 1) v.frame v) (map (patched_at at place bytes) v.objects) (patched_alike at place bytes v.objects) gone_on)
 
 -- ---- the table
 

@@ -272,20 +272,3 @@ asks_of v (inl (act, to, after, g)) = by act g (asked_goes (insn_at v.subject.pr
   by (Free name) g asked = ForNothing asked
   by (Ask kind) g asked = ForObject kind asked (record { to = to; after = after; does = g.does; kind_is = g.room.0; room = g.room.1 })
   by (Exchange shelf given) g asked = ForShelf shelf asked (record { given = given; to = to; after = after; does = g.does; shelf_is = g.room.0; room = g.room.1 })
-
--- it asks for nothing, or so: no accepted program reaches a shelf yet
-pub next_asks : (v : RunView) → IsNext v → (asking_in v ≡ Unasked) ⊎ ((kind : ℕ) × (asking_in v ≡ OfKind kind) × AsksNew v kind)
-next_asks v (inr (n, e)) = inl (asked_ends (insn_at v.subject.program v.pc) v.pc (environment_of_view v) v.frame n e.does)
-next_asks v (inl (act, to, after, g)) = by act g (asked_goes (insn_at v.subject.program v.pc) v.pc (environment_of_view v) v.frame act to after g.does) where
-  by : (act : Act ℕ) → GoesOn v act to after → asking_in v ≡ asked_by act → (asking_in v ≡ Unasked) ⊎ ((kind : ℕ) × (asking_in v ≡ OfKind kind) × AsksNew v kind)
-  by Nothing g asked = inl asked
-  by (Write name at bytes) g asked = inl asked
-  by (Free name) g asked = inl asked
-  by (Exchange shelf given) g asked = absurd g.unshelving
-  by (Ask kind) g asked = inr (kind, asked, record { to = to; after = after; does = g.does; kind_is = g.room.0; room = g.room.1 })
-
-pub asked_next : (v : RunView) → IsSound v → AreSized v → v.status ≡ Going → (asking_in v ≡ Unasked) ⊎ ((kind : ℕ) × (asking_in v ≡ OfKind kind) × (kind < length v.subject.rows) × (length v.objects < v.subject.decl.held))
-asked_next v sound sized going = by (next_asks v (next_of v sound sized going)) where
-  by : (asking_in v ≡ Unasked) ⊎ ((kind : ℕ) × (asking_in v ≡ OfKind kind) × AsksNew v kind) → (asking_in v ≡ Unasked) ⊎ ((kind : ℕ) × (asking_in v ≡ OfKind kind) × (kind < length v.subject.rows) × (length v.objects < v.subject.decl.held))
-  by (inl unasked) = inl unasked
-  by (inr (kind, asked, new)) = inr (kind, asked, new.kind_is, new.room)

@@ -15,7 +15,7 @@ use Rattle.ebpf_machine.specs.World as world
 use Rattle.ebpf_machine.specs.Events.{Illegal, SlotNotHome, SlotOfAnotherKind, Asking, Unasked, OfNoKind, OfKind, AtShelf, put_on, fetched, with_run, exchanged, granted, done_by, effect_of_run, asking_of, answer_fault, exec}
 use Rattle.ebpf_machine.specs.View as view
 use Rattle.ebpf_machine.specs.View.{ObjectView, RunView, object_in, view_of, view_in, slots_in, environment_of_view, effect_of_view, stepped}
-use Rattle.ebpf_machine.specs.Step.{IsEvent, MayAnswer, Served, Idle, Refused, Granted, Empty, Fetched, served_by, served_in, answer_for, result_of, asking_in}
+use Rattle.ebpf_machine.specs.Step.{IsEvent, Offers, MayAnswer, Served, Idle, Refused, Granted, Empty, Fetched, served_by, served_from, served_in, answer_for, result_of, asking_in}
 use Rattle.ebpf_machine.specs.Advance.{slots_after}
 use Rattle.ebpf_machine.specs.Sound.{IsOwned, IsSound, AreSized}
 use Rattle.ebpf_machine.proofs.Lists.ListLemmas.{All-by_contains, Contains-filter}
@@ -27,11 +27,7 @@ use Rattle.ebpf_machine.proofs.World.Owned.{IsForward, owned_done}
 use Rattle.ebpf_machine.proofs.World.Projection.{IsSeenAs, effect_at-seen}
 use Rattle.ebpf_machine.proofs.World.Pointing.{plain_goes}
 use Rattle.ebpf_machine.proofs.World.Asking.{IsThere, IsGivenThere, asked_by, asked_goes, asked_ends, asking_seen, there_goes}
-use Rattle.ebpf_machine.proofs.World.Steps.{IsUnshelving, IsNext, next_of}
-
--- nothing stands on a shelf
-abbrev pub AreByRuns : World → Type 0
-AreByRuns w = (o : Owner) → Contains w.owners o → is_by_run o.holder ≡ true
+use Rattle.ebpf_machine.proofs.World.Steps.{IsNext, next_of}
 
 -- what the next instruction of a run is served by its world, with this answer
 abbrev pub served_to : World → Running → Answer → Served
@@ -48,7 +44,6 @@ pub record IsNextWorld (w : World) (run : ℕ) (r : Running) (answer : Answer) (
   pub others_slots : (other : ℕ) → other ≢ run → slots_in after other ≡ slots_in w other
   pub kinds : after.kinds ≡ w.kinds
   pub ledgers : after.ledgers ≡ w.ledgers
-  pub unshelved : AreByRuns w → AreByRuns after
 
 -- ---- what an effect leaves as it was
 
@@ -83,32 +78,6 @@ steady_done w run r (Goes (Exchange shelf given) to frame) answer = steady_excha
 steady_done w run r (Goes (Ask kind) to frame) Absent = record { as_many = length-set w.runs run _; kinds = refl; ledgers = refl }
 steady_done w run r (Goes (Ask kind) to frame) world.Null = record { as_many = length-set w.runs run _; kinds = refl; ledgers = refl }
 steady_done w run r (Goes (Ask kind) to frame) (Slot slot) = steady_granted w run r slot to kind frame
-
--- it is no exchange
-abbrev LeavesShelves : Effect Name → Type 0
-LeavesShelves (Goes act to frame) = IsUnshelving act
-LeavesShelves (Ends n) = Unit {0}
-LeavesShelves (Traps trap) = Unit {0}
-
--- an instruction leaves nothing on a shelf
-unshelved_granted : (w : World) (run : ℕ) (r : Running) (kind slot to : ℕ) (frame : Frame Name) → AreByRuns w → AreByRuns (granted slot w run r to frame kind)
-unshelved_granted w run r kind slot to frame plain = cond_both (nat_le r.subject.decl.held (holds_of w run)) _ _ AreByRuns (λ full. plain) (λ room. more) where
-  more : (o : Owner) → Contains (w.owners ++ record { slot = slot; holder = Run run r.pc } ∷ []) o → is_by_run o.holder ≡ true
-  more o among = by (Contains-push_cases w.owners (record { slot = slot; holder = Run run r.pc }) o among) where
-    by : Contains w.owners o ⊎ (record { slot = slot; holder = Run run r.pc } ≡ o) → is_by_run o.holder ≡ true
-    by (inl old) = plain o old
-    by (inr new) = ap (λ (p : Owner). is_by_run p.holder) (sym new)
-
-unshelved_done : (w : World) (run : ℕ) (r : Running) (e : Effect Name) (answer : Answer) → LeavesShelves e → AreByRuns w → AreByRuns (done_by e answer w run r)
-unshelved_done w run r (Ends n) answer leaves plain = plain
-unshelved_done w run r (Traps trap) answer leaves plain = plain
-unshelved_done w run r (Goes Nothing to frame) answer leaves plain = plain
-unshelved_done w run r (Goes (Write name at bytes) to frame) answer leaves plain = plain
-unshelved_done w run r (Goes (Exchange shelf given) to frame) answer leaves plain = absurd leaves
-unshelved_done w run r (Goes (Free name) to frame) answer leaves plain = λ o among. plain o (Contains-filter _ w.owners o among).0
-unshelved_done w run r (Goes (Ask kind) to frame) Absent leaves plain = plain
-unshelved_done w run r (Goes (Ask kind) to frame) world.Null leaves plain = plain
-unshelved_done w run r (Goes (Ask kind) to frame) (Slot slot) leaves plain = unshelved_granted w run r kind slot to frame plain
 
 -- ---- the effect in the world and the effect that is seen
 
@@ -176,17 +145,10 @@ own_act w run r answer (Exchange shelf given) there fine = (there.0, given_own g
   given_own (Some name) found = let own = own_found w run name found.0 found.1 in (own.0, sym own.2 ∙ found.2)
 
 abbrev IsOwnNext : World → ℕ → Running → Answer → Effect Name → Type 0
-IsOwnNext w run r answer e = IsOwnEffect w run answer e × IsForward r.frame r.pc e × LeavesShelves e
-
-unshelving : (act : Act Name) (seen : Act ℕ) → act_seen act ≡ seen → IsUnshelving seen → IsUnshelving act
-unshelving Nothing seen e plain = tt
-unshelving (Write name at bytes) seen e plain = tt
-unshelving (Ask kind) seen e plain = tt
-unshelving (Free name) seen e plain = tt
-unshelving (Exchange shelf given) seen e plain = absurd (subst IsUnshelving (sym e) plain)
+IsOwnNext w run r answer e = IsOwnEffect w run answer e × IsForward r.frame r.pc e
 
 own_next : (w : World) (run : ℕ) (r : Running) (answer : Answer) (e : Effect Name) → answer_fault w (asking_of w r) answer ≡ None → effect_of_run w run r ≡ e → effect_seen e ≡ effect_of_view (view_of w run r) → IsNext (view_of w run r) → IsOwnNext w run r answer e
-own_next w run r answer (Ends n) fine is seen next = (tt, tt, tt)
+own_next w run r answer (Ends n) fine is seen next = (tt, tt)
 own_next w run r answer (Traps trap) fine is seen (inl (act, to, after, g)) = let does = g.does in absurd (cc)
 own_next w run r answer (Traps trap) fine is seen (inr (n, ends)) = let does = ends.does in absurd (cc)
 own_next w run r answer (Goes act to frame) fine is seen (inr (n, ends)) = let does = ends.does in absurd (cc)
@@ -195,11 +157,9 @@ own_next w run r answer (Goes act to frame) fine is seen (inl (same, where_to, a
     let a = environment w run r in
     let does = g.does in
     let there : where_to ≡ to = cc in
-    let acts : act_seen act ≡ same = cc in
     let asked = asked_goes o r.pc a r.frame act to frame is in (
       own_act w run r answer act (there_goes o r.pc a r.frame act to frame is) (subst (λ (asking : Asking). answer_fault w asking answer ≡ None) asked fine),
       (subst (λ (k : ℕ). r.pc < k) there g.forward, plain_goes o r.pc a r.frame act to frame is),
-      unshelving act same acts g.unshelving,
     )
 
 -- ---- what it is served
@@ -237,7 +197,6 @@ next_world w run r answer owned there sound going fine =
         others_slots = λ other ne. others_slots w run other r e answer owned own.0 ne;
         kinds = steady.kinds;
         ledgers = steady.ledgers;
-        unshelved = λ plain. unshelved_done w run r e answer own.2 plain;
       },
     )
 
@@ -277,13 +236,13 @@ step_event v served held sound going w after run owned shows slots serves does =
     ∙ ap (slots_after (effect_of_view v) served v.subject.decl.held v.pc) slots in
     subst (λ (u : World). (view_in u run ≡ Some (stepped (result_of served) v)) × (slots_in u run ≡ slots_after (effect_of_view v) served v.subject.decl.held v.pc held)) same (seen, now)
 
--- where a store may answer so, the event with this answer serves so
-pub may_serve : (w : World) (can_grant : (kind at slot : ℕ) → Type 0) (can_refuse : ℕ → Type 0) (at : ℕ) (asked : Asking) (served : Served) → MayAnswer can_grant can_refuse at asked served → served_in w asked (answer_for served) ≡ served
-may_serve w can_grant can_refuse at Unasked served may = ap (λ (s : Served). served_by (answer_for s)) may ∙ sym may
-may_serve w can_grant can_refuse at OfNoKind served may = absurd may
-may_serve w can_grant can_refuse at (AtShelf shelf) served may = absurd may
-may_serve w can_grant can_refuse at (OfKind kind) Idle may = absurd may
-may_serve w can_grant can_refuse at (OfKind kind) Refused may = refl
-may_serve w can_grant can_refuse at (OfKind kind) (Granted slot) may = refl
-may_serve w can_grant can_refuse at (OfKind kind) Empty may = absurd may
-may_serve w can_grant can_refuse at (OfKind kind) (Fetched slot bytes) may = absurd may
+-- where a store may answer so, the event with this answer serves so, if what stands on the shelf is what the store tells
+pub may_serve : (w : World) (may : Offers) (at : ℕ) (asked : Asking) (served : Served) → MayAnswer may at asked served → ((shelf : ℕ) → asked ≡ AtShelf shelf → served_from w (standing w shelf) ≡ served) → served_in w asked (answer_for served) ≡ served
+may_serve w may at Unasked served can stands = ap (λ (s : Served). served_by (answer_for s)) can ∙ sym can
+may_serve w may at OfNoKind served can stands = absurd can
+may_serve w may at (AtShelf shelf) served can stands = stands shelf refl
+may_serve w may at (OfKind kind) Idle can stands = absurd can
+may_serve w may at (OfKind kind) Refused can stands = refl
+may_serve w may at (OfKind kind) (Granted slot) can stands = refl
+may_serve w may at (OfKind kind) Empty can stands = absurd can
+may_serve w may at (OfKind kind) (Fetched slot bytes) can stands = absurd can

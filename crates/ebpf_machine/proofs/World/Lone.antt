@@ -18,7 +18,7 @@ use Rattle.ebpf_machine.specs.Alone.{Alone, Fed, cleared, bytes_for, shelved, fe
 use Rattle.ebpf_machine.specs.Whole.{told_to, told_alone}
 use Rattle.ebpf_machine.specs.View as view
 use Rattle.ebpf_machine.specs.View.{RunView, object_in, view_of, view_in, without_given, done_by, effect_of_view, stepped, CallResult, reply_in}
-use Rattle.ebpf_machine.specs.Step.{MayAnswer, Served, Idle, Refused, Granted, Empty, Fetched, served_by, served_from, served_in, result_of, asking_in}
+use Rattle.ebpf_machine.specs.Step.{FitsShelf, Served, Idle, Refused, Granted, Empty, Fetched, served_by, served_from, served_in, result_of, asking_in}
 use Rattle.ebpf_machine.specs.Sound.{IsOwned, IsSound, IsAlone, IsWellStated}
 use Rattle.ebpf_machine.proofs.World.Asking.{AsksNew, AsksShelf, Asks, ForNothing, ForObject, ForShelf}
 use Rattle.ebpf_machine.proofs.Lists.ListLemmas.{IsFound}
@@ -326,25 +326,7 @@ all_told v alone = told_seen (alone_after v.executed v.subject v.context (replie
 all_within : (v : RunView) → IsAlone v → IsWithin (told_of (alone_after v.executed v.subject v.context (replies_of v))) (replies_of v)
 all_within v alone = subst (λ (rs : Replies). IsWithin rs (replies_of v)) (sym (all_told v alone)) (record { answers = omega arith; taken = omega arith })
 
--- the bytes that a call of swap is told are as many as an object of the shelf's kind has
-abbrev pub FitsShelf : RunView → CallResult → Type 0
-FitsShelf v (view.Shelved bytes) = (shelf : ℕ) → asking_in v ≡ AtShelf shelf → length bytes ≡ length (image_at (kinds_of v.subject.rows) shelf)
-FitsShelf v view.Null = Unit {0}
-FitsShelf v view.Granted = Unit {0}
-FitsShelf v view.Empty = Unit {0}
-
--- a store tells no call of swap anything yet
-pub may_fit : (v : RunView) (can_grant : (kind at slot : ℕ) → Type 0) (can_refuse : ℕ → Type 0) (at : ℕ) (asked : Asking) (served : Served) → MayAnswer can_grant can_refuse at asked served → FitsShelf v (result_of served)
-may_fit v can_grant can_refuse at Unasked served may = subst (λ (s : Served). FitsShelf v (result_of s)) (sym may) tt
-may_fit v can_grant can_refuse at OfNoKind served may = absurd may
-may_fit v can_grant can_refuse at (AtShelf shelf) served may = absurd may
-may_fit v can_grant can_refuse at (OfKind kind) Idle may = tt
-may_fit v can_grant can_refuse at (OfKind kind) Refused may = tt
-may_fit v can_grant can_refuse at (OfKind kind) (Granted slot) may = tt
-may_fit v can_grant can_refuse at (OfKind kind) Empty may = tt
-may_fit v can_grant can_refuse at (OfKind kind) (Fetched slot bytes) may = absurd may
-
--- what an event serves is so long too
+-- what an event serves fits its shelf
 pub served_fits_shelf : (w : World) (v : RunView) (answer : Answer) → IsOwned w → kinds_of v.subject.rows ≡ w.kinds → FitsShelf v (result_of (served_in w (asking_in v) answer))
 served_fits_shelf w v answer owned kinds = by (asking_in v) refl where
   by_answer : (answer : Answer) → FitsShelf v (result_of (served_by answer))

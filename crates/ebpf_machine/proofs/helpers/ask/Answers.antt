@@ -5,7 +5,7 @@ use Rattle.ebpf_machine.specs.RunState.{RunState}
 use Rattle.ebpf_machine.specs.Parts.{state_of}
 use Rattle.ebpf_verify.specs.CallCount.{is_call_there}
 use Rattle.ebpf_machine.proofs.Instructions.Advancing.{ready_few, ready_inside}
-use Rattle.ebpf_machine.proofs.Instructions.CallsLeft.{behind, one_added, one_fits}
+use Rattle.ebpf_machine.proofs.Instructions.CallsLeft.{behind, one_added, one_fits, taken_behind}
 use Rattle.ebpf_machine.proofs.Instructions.Granting.{asking, ask_finds, ask_known, asks_room, kind_fits, kind_there, granted_state, grant_advanced, null_advanced}
 use Rattle.ebpf_machine.proofs.helpers.ask.Goals.{Start, After-number-kind}
 use Rattle.ebpf_machine.proofs.helpers.ask.Goals as goal
@@ -26,6 +26,11 @@ pub hold-requires-clause-held : goal.hold-requires-clause-held
 hold-requires-clause-held g c =
     let asks = asking _ _ _ _ c.requires.ready c.requires.at c.number-kind.ensures in
     asks_room _ _ _ _ asks (ask_known _ _ _ _ asks)
+
+pub hold-requires-clause-room : goal.hold-requires-clause-room
+hold-requires-clause-room g c =
+    let room = c.requires.room in
+    record { output = room.output; replies = room.replies; taken = taken_behind c.args.parts.now.verified.now.program c.args.parts.now.pc _ _ _ room.taken; held = room.held }
 
 pub hold-requires-clause-called : goal.hold-requires-clause-called
 hold-requires-clause-called g c = ap is_call_there c.requires.at.at
@@ -52,17 +57,17 @@ pub returns-in-Some-clause-advanced : goal.returns-in-Some-clause-advanced
 returns-in-Some-clause-advanced g c =
     let asks = asking _ _ _ _ c.requires.ready c.requires.at c.number-kind.ensures in
     rw (granted_state (state_of c.args.parts.now) (state_of c.hold.new.parts) (state_of c.answer.new.parts) _ _ refl c.hold.ensures.state c.answer.ensures.state)
-    (grant_advanced _ _ _ _ _ asks (ask_known _ _ _ _ asks) refl (record { can = c.in-Some.ensures.granted; out = c.in-Some.ensures.out; apart = c.in-Some.ensures.apart; image = c.in-Some.ensures.image ∙ ap (λ (ks : List Kind). image_at ks c.number-kind.result) c.requires.kinds; counts = c.in-Some.ensures.granted_count; outs = c.in-Some.ensures.outs_granted; kept = c.take.ensures.others }))
+    (grant_advanced _ _ _ _ _ asks (ask_known _ _ _ _ asks) refl (record { can = c.in-Some.ensures.granted; out = c.in-Some.ensures.out; apart = c.in-Some.ensures.apart; image = c.in-Some.ensures.image ∙ ap (λ (ks : List Kind). image_at ks c.number-kind.result) c.requires.kinds; counts = c.in-Some.ensures.granted_count; swaps = c.take.ensures.swaps; outs = c.in-Some.ensures.outs_granted; kept = c.take.ensures.others }))
 
 pub returns-in-None-clause-advanced : goal.returns-in-None-clause-advanced
 returns-in-None-clause-advanced g c =
     let asks = asking _ _ _ _ c.requires.ready c.requires.at c.number-kind.ensures in
     rw (c.answer-in-None.ensures.state, c.push_reserved.ensures.items)
-    (null_advanced _ _ _ _ _ asks (ask_known _ _ _ _ asks) (record { can = c.in-None.ensures.refused; counts = c.in-None.ensures.refused_count; outs = c.in-None.ensures.outs_refused; kept = c.take.ensures.others }))
+    (null_advanced _ _ _ _ _ asks (ask_known _ _ _ _ asks) (record { can = c.in-None.ensures.refused; counts = c.in-None.ensures.refused_count; swaps = c.take.ensures.swaps; outs = c.in-None.ensures.outs_refused; kept = c.take.ensures.others }))
 
 pub answer-requires-in-None-clause-room : goal.answer-requires-in-None-clause-room
 answer-requires-in-None-clause-room g c =
     let room = c.requires.room in
     let added = one_added c.args.parts.now.verified.now.program c.args.parts.now.pc _ _ (ap is_call_there c.requires.at.at) room.replies in
     let long : length c.push_reserved.new.self.items ≡ length c.args.parts.now.replies.items + 1 = search rules in
-    record { output = behind c.args.parts.now.verified.now.program c.args.parts.now.pc _ _ room.output; replies = omega (arith, added, long, c.push_reserved.ensures.capacity); held = room.held }
+    record { output = behind c.args.parts.now.verified.now.program c.args.parts.now.pc _ _ room.output; replies = omega (arith, added, long, c.push_reserved.ensures.capacity); taken = taken_behind c.args.parts.now.verified.now.program c.args.parts.now.pc _ _ _ room.taken; held = room.held }

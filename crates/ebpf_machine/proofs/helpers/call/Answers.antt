@@ -4,7 +4,6 @@ use Rattle.ebpf_verify.specs.CallCount.{is_call_there}
 use Rattle.ebpf_machine.specs.RunState.{Calls}
 use Rattle.ebpf_machine.specs.Parts.{state_of}
 use Rattle.ebpf_machine.proofs.Instructions.Advancing.{ready_few, ready_inside, emit_finds, emit_advanced}
-use Rattle.ebpf_machine.proofs.Instructions.NeverSwaps.{never_swaps}
 use Rattle.ebpf_machine.proofs.helpers.call.Given.{Over}
 use Rattle.ebpf_machine.proofs.helpers.call.Goals.{In-Emit}
 use Rattle.ebpf_machine.proofs.helpers.call.Goals as goal
@@ -26,6 +25,3 @@ emit-requires-clause-inside g c = ready_inside _ _ _ c.requires.ready
 
 pub returns-in-Emit-clause-advanced : goal.returns-in-Emit-clause-advanced
 returns-in-Emit-clause-advanced g c = rw c.emit.ensures.state (emit_advanced _ _ _ c.number-number.result c.requires.ready (calls g (goal.at.returns-in-Emit-clause-advanced g c).In-Emit) c.number-number.ensures)
-
-pub unreachable-requires : goal.unreachable-requires
-unreachable-requires g c = never_swaps _ _ _ c.requires.ready (record { number = c.requires.at.number; at = c.requires.at.at; is = c.requires.at.is ∙ ap Some c.in-Swap.is })

@@ -1,6 +1,6 @@
 use Rattle.std.proofs.Common.{◌≡◌, ◌+◌, length, rules, arith}
 use Rattle.std.specs.Vec.{vec_len}
-use Rattle.ebpf_machine.proofs.Instructions.CallsLeft.{behind, one_added, one_fits}
+use Rattle.ebpf_machine.proofs.Instructions.CallsLeft.{behind, one_added, one_fits, taken_behind}
 use Rattle.ebpf_machine.proofs.helpers.emit.Goals as goal
 
 pub push_reserved-requires : goal.push_reserved-requires
@@ -14,4 +14,4 @@ answer-requires-clause-room g c =
     let room = c.requires.room in
     let added = one_added c.args.parts.now.verified.now.program c.args.parts.now.pc _ _ c.requires.called room.output in
     let long : length c.push_reserved.new.self.items ≡ length c.args.parts.now.output.items + 1 = search rules in
-    record { output = omega (arith, added, long, c.push_reserved.ensures.capacity); replies = behind c.args.parts.now.verified.now.program c.args.parts.now.pc _ _ room.replies; held = room.held }
+    record { output = omega (arith, added, long, c.push_reserved.ensures.capacity); replies = behind c.args.parts.now.verified.now.program c.args.parts.now.pc _ _ room.replies; taken = taken_behind c.args.parts.now.verified.now.program c.args.parts.now.pc _ _ _ room.taken; held = room.held }

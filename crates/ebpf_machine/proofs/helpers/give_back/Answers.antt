@@ -4,7 +4,7 @@ use Rattle.ebpf_machine.specs.declared.value.Value.TheVariants.{Number}
 use Rattle.ebpf_machine.specs.Flows.{object_in}
 use Rattle.ebpf_machine.specs.Parts.{state_of}
 use Rattle.ebpf_machine.proofs.Instructions.Advancing.{registers_answered, ready_few, ready_inside}
-use Rattle.ebpf_machine.proofs.Instructions.CallsLeft.{behind}
+use Rattle.ebpf_machine.proofs.Instructions.CallsLeft.{behind, taken_behind}
 use Rattle.ebpf_machine.proofs.Instructions.Returning.{free_object, free_held, free_here}
 use Rattle.ebpf_machine.proofs.helpers.give_back.Goals.{Start}
 use Rattle.ebpf_machine.proofs.helpers.give_back.Goals as goal
@@ -32,4 +32,4 @@ returns-clause-advanced g c =
 pub answer-requires-clause-room : goal.answer-requires-clause-room
 answer-requires-clause-room g c =
     let room = c.requires.room in
-    record { output = behind c.args.parts.now.verified.now.program c.args.parts.now.pc _ _ room.output; replies = behind c.args.parts.now.verified.now.program c.args.parts.now.pc _ _ room.replies; held = search rules }
+    record { output = behind c.args.parts.now.verified.now.program c.args.parts.now.pc _ _ room.output; replies = behind c.args.parts.now.verified.now.program c.args.parts.now.pc _ _ room.replies; taken = taken_behind c.args.parts.now.verified.now.program c.args.parts.now.pc _ _ _ room.taken; held = search rules }

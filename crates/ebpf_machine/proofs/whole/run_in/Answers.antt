@@ -2,7 +2,7 @@ use Rattle.std.proofs.Common.{arith}
 use Rattle.ebpf_machine.proofs.WholeRuns.Starts.{starts}
 use Rattle.ebpf_machine.proofs.WholeRuns.Told.{IsUnderWay, under_way}
 use Rattle.ebpf_machine.proofs.WholeRuns.Turning.{exits, few_instructions}
-use Rattle.ebpf_machine.proofs.WholeRuns.Ends.{IsFinished, report_of, report_with, granted_last, nulls_last, outs_last}
+use Rattle.ebpf_machine.proofs.WholeRuns.Ends.{IsFinished, report_of, report_with, granted_last, nulls_last, gets_last, misses_last, outs_last}
 use Rattle.ebpf_machine.proofs.whole.run_in.Given.{Over}
 use Rattle.ebpf_machine.proofs.whole.run_in.Goals.{After-end}
 use Rattle.ebpf_machine.proofs.whole.run_in.Goals as goal
@@ -27,13 +27,19 @@ returns-clause-report g c =
     let end = c.end.ensures in
     let finished : IsFinished c.run.new.self c.end.result.0 = record { exit = end.exit; executed = end.executed; answers = end.answers; taken = end.taken; bounded = end.bounded; declared = end.declared; alone = end.alone } in
     report_with _ _ _ _ c.end.result.0 was.subject_is was.context_is
-    (report_of g.O.Objects.store c.run.new.objects c.run.new.self exited.0 c.end.result.0 exited.1 was.sound was.alone was.counted.told.few was.counted.unshelved finished)
+    (report_of g.O.Objects.store c.run.new.objects c.run.new.self exited.0 c.end.result.0 exited.1 was.sound was.alone was.counted.told.few finished)
 
 pub returns-clause-granted : goal.returns-clause-granted
 returns-clause-granted g c = granted_last g.O.Objects.store _ _ _ c.run.new.self _ (ran g c).counted c.end.ensures.counts c.end.ensures.answers
 
 pub returns-clause-nulls : goal.returns-clause-nulls
 returns-clause-nulls g c = nulls_last g.O.Objects.store _ _ _ c.run.new.self _ (ran g c).counted c.end.ensures.counts c.end.ensures.answers
+
+pub returns-clause-gets : goal.returns-clause-gets
+returns-clause-gets g c = gets_last g.O.Objects.store _ _ _ c.run.new.self _ (ran g c).counted c.end.ensures.counts c.end.ensures.answers
+
+pub returns-clause-misses : goal.returns-clause-misses
+returns-clause-misses g c = misses_last g.O.Objects.store _ _ _ c.run.new.self _ (ran g c).counted c.end.ensures.counts c.end.ensures.answers
 
 pub returns-clause-outs : goal.returns-clause-outs
 returns-clause-outs g c = λ k. outs_last g.O.Objects.store _ _ _ c.run.new.self k (ran g c).counted (c.end.ensures.outs k)
