@@ -6,9 +6,15 @@ use Rattle.ebpf_machine.specs.World.{Kind}
 use Rattle.ebpf_machine.specs.View.{ObjectView, environment_with}
 use Rattle.ebpf_machine.specs.RunState.{object_seen}
 
+-- an object that stands on a shelf: its slot and its bytes
+pub record Shelved : Type 0 where
+  pub slot : ℕ
+  pub bytes : List ℕ
+
 -- a store in the states S, of objects H: the kinds that there are; the kind and the slot of an object; which objects are out, and
 -- their bytes; what a call of new for a kind, made at a slot of a program, may be answered, with an object in a slot or with none;
--- what may come off a shelf, in which slot and with which bytes, and whether nothing may; whether an object may come back; how often
+-- what may come off a shelf, in which slot and with which bytes, and whether nothing may; what is known to stand on a shelf, for a store
+-- whose shelves nobody else changes; whether an object may come back; how often
 -- it granted an object, refused one, gave one from a shelf and had none there; and how many objects of each kind are out
 pub record Store (S H : Type 0) : Type 1 where
   pub kinds : List Kind
@@ -20,6 +26,7 @@ pub record Store (S H : Type 0) : Type 1 where
   pub can_refuse : (s : S) (kind : ℕ) → Type 0
   pub can_fetch : (s : S) (shelf slot : ℕ) (bytes : List ℕ) → Type 0
   pub can_miss : (s : S) (shelf : ℕ) → Type 0
+  pub stand : (s : S) (shelf : ℕ) (what : Option Shelved) → Type 0
   pub can_give : S → Type 0
   pub grants : S → ℕ
   pub nulls : S → ℕ
@@ -76,6 +83,18 @@ AllStay {H = H} o old new = (other : H) → o.is_out old other → Stays o old n
 -- every object that is out stays so, but for this one, if it is one
 abbrev pub OthersStayThan : {S H : Type 0} → Option H → Store S H → S → S → Type 0
 OthersStayThan {H = H} given o old new = (other : H) → o.is_out old other → IfSome given (λ g. o.slot_of other ≢ o.slot_of g) → Stays o old new other
+
+-- what is known to stand on shelves stays so
+abbrev pub ShelvesStay : {S H : Type 0} → Store S H → S → S → Type 0
+ShelvesStay o old new = (shelf : ℕ) (what : Option Shelved) → o.stand old shelf what → o.stand new shelf what
+
+-- on other shelves than this
+abbrev pub OtherShelvesStay : {S H : Type 0} → ℕ → Store S H → S → S → Type 0
+OtherShelvesStay shelf o old new = (other : ℕ) (what : Option Shelved) → other ≢ shelf → o.stand old other what → o.stand new other what
+
+-- an object as it is to stand on a shelf
+abbrev pub shelved_as : {S H : Type 0} → Store S H → S → H → Shelved
+shelved_as o s object = record { slot = o.slot_of object; bytes = o.bytes_of s object }
 
 -- no object that is out is in this slot
 abbrev pub IsNobodys : {S H : Type 0} → ℕ → Store S H → S → Type 0

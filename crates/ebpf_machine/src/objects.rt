@@ -1,10 +1,10 @@
 //! Where the objects of a run come from.
 
-ghost use Rattle.std.specs.Prelude.{◌≡◌, ◌≢◌, ◌≤◌, ◌<◌, ◌+◌, ◌==◌, if◌then◌else◌, ℕ, length, Option, IfSome, IfNone};
+ghost use Rattle.std.specs.Prelude.{◌≡◌, ◌≢◌, ◌≤◌, ◌<◌, ◌+◌, ◌==◌, if◌then◌else◌, ℕ, length, Option, option_map, IfSome, IfNone};
 ghost use Rattle.ebpf_insn.specs.declared.program.TheConstants.{MAX_SLOTS};
 ghost use Rattle.ebpf_machine.specs.Bytes.{patched};
 ghost use Rattle.ebpf_machine.specs.World.{image_at};
-ghost use Rattle.ebpf_machine.specs.Store.{Store, AllStay, AllStayBut, OthersStayThan, IsNobodys, TakesStay, SwapsStay, CountsStay, one_of};
+ghost use Rattle.ebpf_machine.specs.Store.{Store, Shelved, AllStay, AllStayBut, OthersStayThan, ShelvesStay, OtherShelvesStay, IsNobodys, TakesStay, SwapsStay, CountsStay, one_of, shelved_as};
 
 /// A store of objects: it answers calls of `new`, `free` and `swap`, and keeps the bytes of the objects that are out.
 ///
@@ -31,6 +31,7 @@ pub trait Objects {
         ensures swaps { SwapsStay store self.old self.new }
         ensures outs_granted { IfSome result (λ _. (k : ℕ) → store.outs self.new k ≡ store.outs self.old k + (if k == kind then 1 else 0)) }
         ensures outs_refused { IfNone result ((k : ℕ) → store.outs self.new k ≡ store.outs self.old k) }
+        ensures shelves { ShelvesStay store self.old self.new }
         ensures others { AllStay store self.old self.new };
 
     /// Takes an object back: it is out no more, and nothing else comes out by that.
@@ -41,6 +42,7 @@ pub trait Objects {
         ensures counts { CountsStay store self.old self.new }
         ensures outs { (k : ℕ) → store.outs self.new k + (if k == kind then 1 else 0) ≡ store.outs self.old k }
         ensures back { (other : Self.Held) → store.is_out self.new other → store.is_out self.old other × (store.slot_of other ≢ store.slot_of object) }
+        ensures shelves { ShelvesStay store self.old self.new }
         ensures others { AllStayBut (store.slot_of object) store self.old self.new };
 
     /// Answers a call of `swap`, made by the instruction at the slot `at`: takes an object of the shelf's kind, or nothing, onto
@@ -58,6 +60,8 @@ pub trait Objects {
         ensures missed_count { IfNone result ((store.misses self.new ≡ store.misses self.old + 1) × (store.gets self.new ≡ store.gets self.old)) }
         ensures outs { (k : ℕ) → store.outs self.new k + one_of given shelf k ≡ store.outs self.old k + one_of result shelf k }
         ensures gone { IfSome given (λ g. store.is_out self.new g → ⊥) }
+        ensures shelf { (what : Option Shelved) → store.stand self.old shelf what → store.stand self.new shelf (option_map (λ g. shelved_as store self.old g) given) }
+        ensures other_shelves { OtherShelvesStay shelf store self.old self.new }
         ensures others { OthersStayThan given store self.old self.new };
 
     /// The bytes of an object.
@@ -73,6 +77,7 @@ pub trait Objects {
         ensures written { store.bytes_of self.new held.new ≡ patched (store.bytes_of self.old held.old) place bytes.now }
         ensures counts { CountsStay store self.old self.new }
         ensures outs { (k : ℕ) → store.outs self.new k ≡ store.outs self.old k }
+        ensures shelves { ShelvesStay store self.old self.new }
         ensures others { AllStayBut (store.slot_of held.old) store self.old self.new };
 
     /// An object that is out has its kind's size, and is of a kind that there is.
