@@ -12,6 +12,7 @@ pub mod View
 pub mod Alone
 pub mod RunState
 pub mod Store
+pub mod Shelves
 pub mod Concretization
 pub mod Sound
 pub mod Step
