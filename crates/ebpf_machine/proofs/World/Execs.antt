@@ -243,7 +243,11 @@ step_event v served held sound going w after run owned shows slots serves does =
     ∙ ap (λ (s : Served). slots_after (effect_of_view (view_of w run r.0)) s r.0.subject.decl.held r.0.pc (slots_in w run)) is
     ∙ ap (λ (u : RunView). slots_after (effect_of_view u) served u.subject.decl.held u.pc (slots_in w run)) r.2
     ∙ ap (slots_after (effect_of_view v) served v.subject.decl.held v.pc) slots in
-    subst (λ (u : World). (view_in u run ≡ Some (stepped (result_of served) v)) × (slots_in u run ≡ slots_after (effect_of_view v) served v.subject.decl.held v.pc held)) same (seen, now)
+    let shelves : (shelf : ℕ) → shelved_in next.0 shelf ≡ standing_seen w held (effect_of_view v) shelf = λ shelf.
+    next.1.shelves_seen shelf
+    ∙ ap (λ (u : RunView). standing_seen w (slots_in w run) (effect_of_view u) shelf) r.2
+    ∙ ap (λ (names : List Name). standing_seen w names (effect_of_view v) shelf) slots in
+    subst (λ (u : World). (view_in u run ≡ Some (stepped (result_of served) v)) × (slots_in u run ≡ slots_after (effect_of_view v) served v.subject.decl.held v.pc held) × ((shelf : ℕ) → shelved_in u shelf ≡ standing_seen w held (effect_of_view v) shelf)) same (seen, now, shelves)
 
 -- where a store may answer so, the event with this answer serves so, if what stands on the shelf is what the store tells
 pub may_serve : (w : World) (may : Offers) (at : ℕ) (asked : Asking) (served : Served) → MayAnswer may at asked served → ((shelf : ℕ) → asked ≡ AtShelf shelf → served_from w (standing w shelf) ≡ served) → served_in w asked (answer_for served) ≡ served
