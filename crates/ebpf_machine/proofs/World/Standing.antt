@@ -1,7 +1,7 @@
 -- What stands on the shelves of a world after an event: what a run gave, on the shelf of its exchange, and what stood there, on the
 -- others.
-use Rattle.std.proofs.Common.{◌≡◌, ◌≢◌, ◌⊎◌, inl, inr, ℕ, ◌<◌, ◌≤◌, Bool, true, false, cond, not, ◌&&◌, List, [], ◌∷◌, ◌++◌, length, map, filter, Option, Some, None, option_map, refl, sym, ap, ◌∙◌, arith, pos}
-use Rattle.std.specs.Prelude.{Contains, slice_get, ◌==◌, nat_le}
+use Rattle.std.proofs.Common.{◌≡◌, ◌≢◌, ◌⊎◌, inl, inr, ℕ, Bool, true, false, cond, not, ◌&&◌, List, [], ◌∷◌, ◌++◌, length, filter, Option, Some, None, option_map, refl, sym, ap, ◌∙◌, arith, pos}
+use Rattle.std.specs.Prelude.{Contains, ◌==◌, nat_le}
 use Rattle.std.specs.List.{find}
 use Rattle.std.proofs.lemmas.Bool.{cases_eq, eqb-true, eq-eqb, ne_eqb, false_from_ne_true}
 use Rattle.std.proofs.lemmas.Bool.Decides.{nat_tests}
@@ -11,7 +11,7 @@ use Rattle.ebpf_machine.specs.declared.value.Base.TheVariants.{Object}
 use Rattle.ebpf_machine.specs.declared.report.Reply.TheVariants as reply
 use Rattle.ebpf_machine.specs.Bytes.{patched}
 use Rattle.ebpf_machine.specs.Values.{TooManyObjects, Frame}
-use Rattle.ebpf_machine.specs.Effect.{Act, Nothing, Write, Ask, Free, Exchange, Effect, Goes, Ends, Traps}
+use Rattle.ebpf_machine.specs.Effect.{Nothing, Write, Ask, Free, Exchange, Effect, Goes, Ends, Traps}
 use Rattle.ebpf_machine.specs.World.{Name, World, Running, Owner, Holder, Run, Shelf, Shelved, Answer, Absent, Null, Slot, is_home, is_run, is_call, is_shelf, standing, shelved_at, shelved_in, held_by, holds_of, image_at, kind_in, name_of}
 use Rattle.ebpf_machine.specs.Events.{with_run, with_bytes, with_owner, without_owner, without_shelved, put_on, fetched, shelf_told, exchanged, moved_to, trapped, replied, granted, done_by}
 use Rattle.ebpf_machine.specs.View.{ObjectView, call_of, object_in, view_of, slots_in, without_given}
@@ -21,7 +21,7 @@ use Rattle.ebpf_machine.proofs.Lists.ListLemmas.{IsFound, Contains-filter, Conta
 use Rattle.ebpf_machine.proofs.Rules.Next.{HasRoom}
 use Rattle.ebpf_machine.proofs.World.Owners.{owner_of, is_shelf-own, held_owner, slot_of_call, holder_of_slot, not_home}
 use Rattle.ebpf_machine.proofs.World.Moves.{owned_by}
-use Rattle.ebpf_machine.proofs.World.Exchanges.{and_false, stays_off, IsOwnGiven, StandsOn, stands, standing_there, off_shelf, shelf_is_no_run, fetched_off, call_given, given_slot, slot_held, held_without, held_put, objects_left}
+use Rattle.ebpf_machine.proofs.World.Exchanges.{and_false, stays_off, IsOwnGiven, stands, standing_there, off_shelf, shelf_is_no_run, fetched_off, call_given, given_slot, slot_held, held_without, held_put, objects_left}
 use Rattle.ebpf_machine.proofs.World.ObjectsSeen.{objects_of}
 use Rattle.ebpf_machine.proofs.World.Shelving.{none_found, find_last}
 use Rattle.ebpf_machine.proofs.World.Acts.{act_seen, effect_seen, IsOwnEffect}
