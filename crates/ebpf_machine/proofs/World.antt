@@ -19,6 +19,7 @@ pub mod LedgerChanges
 pub mod NewSlots
 pub mod PartedSlots
 pub mod Shelving
+pub mod Standing
 pub mod Replies
 pub mod Feeding
 pub mod Lone

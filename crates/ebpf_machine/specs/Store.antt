@@ -5,11 +5,7 @@ use Rattle.ebpf_machine.specs.Effect.{Environment}
 use Rattle.ebpf_machine.specs.World.{Kind}
 use Rattle.ebpf_machine.specs.View.{ObjectView, environment_with}
 use Rattle.ebpf_machine.specs.RunState.{object_seen}
-
--- an object that stands on a shelf: its slot and its bytes
-pub record Shelved : Type 0 where
-  pub slot : ℕ
-  pub bytes : List ℕ
+pub use Rattle.ebpf_machine.specs.World.{Shelved}
 
 -- a store in the states S, of objects H: the kinds that there are; the kind and the slot of an object; which objects are out, and
 -- their bytes; what a call of new for a kind, made at a slot of a program, may be answered, with an object in a slot or with none;

@@ -1,5 +1,5 @@
 -- The world: ledgers, owners, object bytes and runs, and what it says of a slot.
-use Rattle.std.specs.Prelude.{◌≡◌, ◌<◌, ℕ, suc, ◌==◌, Bool, true, false, not, ◌&&◌, if◌then◌else◌, List, [], ◌∷◌, length, filter, map, replicate, pos, Option, Some, None, Result, Ok, Err, Contains, slice_get, slice_index_or}
+use Rattle.std.specs.Prelude.{◌≡◌, ◌<◌, ℕ, suc, ◌==◌, Bool, true, false, not, ◌&&◌, if◌then◌else◌, List, [], ◌∷◌, length, filter, map, replicate, pos, Option, Some, None, option_map, Result, Ok, Err, Contains, slice_get, slice_index_or}
 use Rattle.std.specs.List.{list_any, find}
 use Rattle.ebpf_state.specs.declared.kinds.KindRow.{KindRow}
 use Rattle.ebpf_verify.specs.Subject.{Subject}
@@ -141,6 +141,19 @@ is_shelf shelf (Shelf s) = s == shelf
 -- what stands on a shelf
 abbrev pub standing : World → ℕ → Option Owner
 standing w shelf = find (λ o. is_shelf shelf o.holder) w.owners
+
+-- an object on a shelf, as it stands there: its slot and its bytes
+pub record Shelved : Type 0 where
+  pub slot : ℕ
+  pub bytes : List ℕ
+
+-- the object of a slot, as it is to stand on a shelf
+abbrev pub shelved_at : World → ℕ → Shelved
+shelved_at w slot = record { slot = slot; bytes = w.bytes slot }
+
+-- what a world shows to stand on a shelf
+abbrev pub shelved_in : World → ℕ → Option Shelved
+shelved_in w shelf = option_map (λ o. shelved_at w o.slot) (standing w shelf)
 
 -- another run has the slot, and this one has not
 abbrev pub is_anothers : World → ℕ → ℕ → Bool

@@ -10,19 +10,21 @@ use Rattle.ebpf_insn.specs.Program.{insn_at}
 use Rattle.ebpf_insn.specs.Faults.{first_of}
 use Rattle.ebpf_machine.specs.Values.{Frame}
 use Rattle.ebpf_machine.specs.Effect.{Act, Nothing, Write, Ask, Free, Exchange, Effect, Goes, Ends, Traps}
-use Rattle.ebpf_machine.specs.World.{Name, Kind, World, Running, Owner, Run, Going, Answer, Absent, Slot, is_by_run, standing, environment, holds_of, held_by, is_home, is_in, kind_in, kinds_of, image_at, ledger_of}
+use Rattle.ebpf_machine.specs.World.{Name, Kind, World, Running, Owner, Run, Going, Answer, Absent, Slot, is_by_run, standing, shelved_in, environment, holds_of, held_by, is_home, is_in, kind_in, kinds_of, image_at, ledger_of}
 use Rattle.ebpf_machine.specs.World as world
 use Rattle.ebpf_machine.specs.Events.{Illegal, SlotNotHome, SlotOfAnotherKind, Asking, Unasked, OfNoKind, OfKind, AtShelf, put_on, fetched, with_run, exchanged, granted, done_by, effect_of_run, asking_of, answer_fault, exec}
 use Rattle.ebpf_machine.specs.View as view
 use Rattle.ebpf_machine.specs.View.{ObjectView, RunView, object_in, view_of, view_in, slots_in, environment_of_view, effect_of_view, stepped}
-use Rattle.ebpf_machine.specs.Step.{IsEvent, Offers, MayAnswer, Served, Idle, Refused, Granted, Empty, Fetched, served_by, served_from, served_in, answer_for, result_of, asking_in}
+use Rattle.ebpf_machine.specs.Step.{IsEvent, Offers, MayAnswer, Served, Idle, Refused, Granted, Empty, Fetched, served_by, served_from, served_in, answer_for, result_of, asking_in, standing_then, standing_seen}
 use Rattle.ebpf_machine.specs.Advance.{slots_after}
 use Rattle.ebpf_machine.specs.Sound.{IsOwned, IsSound, AreSized}
 use Rattle.ebpf_machine.proofs.Lists.ListLemmas.{All-by_contains, Contains-filter}
+use Rattle.ebpf_machine.proofs.Rules.Next.{HasRoom}
 use Rattle.ebpf_machine.proofs.World.Owners.{held_owner}
 use Rattle.ebpf_machine.proofs.World.ObjectsFound.{own_found, objects_found}
 use Rattle.ebpf_machine.proofs.World.Exchanges.{IsOwnGiven}
 use Rattle.ebpf_machine.proofs.World.Acts.{act_seen, effect_seen, served_act, served_effect, IsGrantable, IsOwnAct, IsOwnEffect, own_view, own_slots, others_view, others_slots}
+use Rattle.ebpf_machine.proofs.World.Standing.{HasRoomFor, shelves_done, standing_alike}
 use Rattle.ebpf_machine.proofs.World.Owned.{IsForward, owned_done}
 use Rattle.ebpf_machine.proofs.World.Projection.{IsSeenAs, effect_at-seen}
 use Rattle.ebpf_machine.proofs.World.Pointing.{plain_goes}
@@ -42,6 +44,8 @@ pub record IsNextWorld (w : World) (run : ℕ) (r : Running) (answer : Answer) (
   pub slots : slots_in after run ≡ slots_after (effect_of_view (view_of w run r)) (served_to w r answer) r.subject.decl.held r.pc (slots_in w run)
   pub others : (other : ℕ) → other ≢ run → view_in after other ≡ view_in w other
   pub others_slots : (other : ℕ) → other ≢ run → slots_in after other ≡ slots_in w other
+  pub shelves : (shelf : ℕ) → shelved_in after shelf ≡ standing_then w (effect_of_run w run r) shelf
+  pub shelves_seen : (shelf : ℕ) → shelved_in after shelf ≡ standing_seen w (slots_in w run) (effect_of_view (view_of w run r)) shelf
   pub kinds : after.kinds ≡ w.kinds
   pub ledgers : after.ledgers ≡ w.ledgers
 
@@ -145,10 +149,10 @@ own_act w run r answer (Exchange shelf given) there fine = (there.0, given_own g
   given_own (Some name) found = let own = own_found w run name found.0 found.1 in (own.0, sym own.2 ∙ found.2)
 
 abbrev IsOwnNext : World → ℕ → Running → Answer → Effect Name → Type 0
-IsOwnNext w run r answer e = IsOwnEffect w run answer e × IsForward r.frame r.pc e
+IsOwnNext w run r answer e = IsOwnEffect w run answer e × IsForward r.frame r.pc e × HasRoomFor w run r e
 
 own_next : (w : World) (run : ℕ) (r : Running) (answer : Answer) (e : Effect Name) → answer_fault w (asking_of w r) answer ≡ None → effect_of_run w run r ≡ e → effect_seen e ≡ effect_of_view (view_of w run r) → IsNext (view_of w run r) → IsOwnNext w run r answer e
-own_next w run r answer (Ends n) fine is seen next = (tt, tt)
+own_next w run r answer (Ends n) fine is seen next = (tt, tt, tt)
 own_next w run r answer (Traps trap) fine is seen (inl (act, to, after, g)) = let does = g.does in absurd (cc)
 own_next w run r answer (Traps trap) fine is seen (inr (n, ends)) = let does = ends.does in absurd (cc)
 own_next w run r answer (Goes act to frame) fine is seen (inr (n, ends)) = let does = ends.does in absurd (cc)
@@ -157,9 +161,11 @@ own_next w run r answer (Goes act to frame) fine is seen (inl (same, where_to, a
     let a = environment w run r in
     let does = g.does in
     let there : where_to ≡ to = cc in
+    let its : same ≡ act_seen act = cc in
     let asked = asked_goes o r.pc a r.frame act to frame is in (
       own_act w run r answer act (there_goes o r.pc a r.frame act to frame is) (subst (λ (asking : Asking). answer_fault w asking answer ≡ None) asked fine),
       (subst (λ (k : ℕ). r.pc < k) there g.forward, plain_goes o r.pc a r.frame act to frame is),
+      subst (HasRoom (view_of w run r)) its g.room,
     )
 
 -- ---- what it is served
@@ -185,7 +191,8 @@ next_world w run r answer owned there sound going fine =
     let seen = seen_effect w run r owned there in
     let own = own_next w run r answer e fine refl seen (next_of v sound (sized_in w run r owned there) going) in
     let steady = steady_done w run r e answer in
-    let served = served_fits w run r e answer refl own.0 in (
+    let served = served_fits w run r e answer refl own.0 in
+    let shelves = shelves_done w run r e answer owned own.0 own.2 in (
       done_by e answer w run r,
       record {
         legal = rw (there, going, fine) refl;
@@ -195,6 +202,8 @@ next_world w run r answer owned there sound going fine =
         slots = own_slots w run r e answer owned there own.0 ∙ rw (seen, served) refl;
         others = λ other ne. others_view w run other r e answer owned own.0 ne;
         others_slots = λ other ne. others_slots w run other r e answer owned own.0 ne;
+        shelves = shelves;
+        shelves_seen = λ shelf. shelves shelf ∙ standing_alike w run e answer owned own.0 shelf ∙ ap (λ (does : Effect ℕ). standing_seen w (slots_in w run) does shelf) seen;
         kinds = steady.kinds;
         ledgers = steady.ledgers;
       },
@@ -234,7 +243,11 @@ step_event v served held sound going w after run owned shows slots serves does =
     ∙ ap (λ (s : Served). slots_after (effect_of_view (view_of w run r.0)) s r.0.subject.decl.held r.0.pc (slots_in w run)) is
     ∙ ap (λ (u : RunView). slots_after (effect_of_view u) served u.subject.decl.held u.pc (slots_in w run)) r.2
     ∙ ap (slots_after (effect_of_view v) served v.subject.decl.held v.pc) slots in
-    subst (λ (u : World). (view_in u run ≡ Some (stepped (result_of served) v)) × (slots_in u run ≡ slots_after (effect_of_view v) served v.subject.decl.held v.pc held)) same (seen, now)
+    let shelves : (shelf : ℕ) → shelved_in next.0 shelf ≡ standing_seen w held (effect_of_view v) shelf = λ shelf.
+    next.1.shelves_seen shelf
+    ∙ ap (λ (u : RunView). standing_seen w (slots_in w run) (effect_of_view u) shelf) r.2
+    ∙ ap (λ (names : List Name). standing_seen w names (effect_of_view v) shelf) slots in
+    subst (λ (u : World). (view_in u run ≡ Some (stepped (result_of served) v)) × (slots_in u run ≡ slots_after (effect_of_view v) served v.subject.decl.held v.pc held) × ((shelf : ℕ) → shelved_in u shelf ≡ standing_seen w held (effect_of_view v) shelf)) same (seen, now, shelves)
 
 -- where a store may answer so, the event with this answer serves so, if what stands on the shelf is what the store tells
 pub may_serve : (w : World) (may : Offers) (at : ℕ) (asked : Asking) (served : Served) → MayAnswer may at asked served → ((shelf : ℕ) → asked ≡ AtShelf shelf → served_from w (standing w shelf) ≡ served) → served_in w asked (answer_for served) ≡ served

@@ -76,7 +76,7 @@ view_cleared w shelf run r owned = by (standing w shelf) (stands w shelf) where
       view_parted (emptied w shelf o) run shelf o.slot r (owned_emptied w shelf o owned on) (emptied_home w shelf o owned on) ∙ view_emptied w shelf o run r owned on
 
 -- nothing stands on it
-none_found : {X : Type 0} (p : X → Bool) (xs : List X) → ((x : X) → Contains xs x → p x ≡ false) → find p xs ≡ None
+pub none_found : {X : Type 0} (p : X → Bool) (xs : List X) → ((x : X) → Contains xs x → p x ≡ false) → find p xs ≡ None
 none_found p xs none = by (find p xs) (find_is p xs) where
   by : (o : Option _) → IsFound p xs o → o ≡ None
   by None h = refl
@@ -133,7 +133,7 @@ view_shelved w shelf slot run bytes r room =
         ap (map (object_in (with_bytes slot bytes joined))) (held_shelved joined run slot shelf)
         ∙ objects_kept joined run slot bytes (joined_home w shelf slot room.owned room.new)
 
-find_last : {X : Type 0} (p : X → Bool) (xs : List X) (y : X) → ((x : X) → Contains xs x → p x ≡ false) → p y ≡ true → find p (xs ++ y ∷ []) ≡ Some y
+pub find_last : {X : Type 0} (p : X → Bool) (xs : List X) (y : X) → ((x : X) → Contains xs x → p x ≡ false) → p y ≡ true → find p (xs ++ y ∷ []) ≡ Some y
 find_last p [] y none passes = rw passes refl
 find_last {X} p (x ∷ xs) y none passes =
     let away = none x (Contains-head x xs) in
