@@ -1,6 +1,6 @@
 -- How an object passes to a run that is kept and back: where each slot is after an instruction.
-use Rattle.std.proofs.Common.{◌≡◌, ◌≢◌, ◌⊎◌, inl, inr, ℕ, ◌+◌, Bool, true, false, cond, not, List, [], ◌∷◌, ◌++◌, length, map, filter, Option, Some, None, refl, sym, ap, ◌∙◌, subst, arith}
-use Rattle.std.specs.Prelude.{slice_get, slice_index_or, Contains, ◌==◌, IfSome}
+use Rattle.std.proofs.Common.{◌≡◌, ◌≢◌, ◌⊎◌, inl, inr, ℕ, zero, suc, ◌+◌, Bool, true, false, cond, not, List, [], ◌∷◌, ◌++◌, length, map, filter, Option, Some, None, refl, sym, ap, ◌∙◌, subst, arith}
+use Rattle.std.specs.Prelude.{slice_get, slice_index_or, Contains, ◌==◌, IfSome, option_map}
 use Rattle.std.proofs.lemmas.Bool.{eqb-true, eq-eqb, not-true, cases_eq}
 use Rattle.std.proofs.lemmas.List.{length-map}
 use Rattle.std.proofs.lemmas.List.Elements.{All-contains}
@@ -12,6 +12,8 @@ use Rattle.ebpf_machine.specs.RunState.{RunState, object_seen, status_of}
 use Rattle.ebpf_machine.specs.Step as step
 use Rattle.ebpf_machine.specs.Step.{Served, result_of, served_by, asking_in, wanted}
 use Rattle.ebpf_machine.specs.Store.{held_of_kind}
+use Rattle.ebpf_machine.specs.Shelves.{shelved_from}
+use Rattle.ebpf_machine.proofs.World.NoShelves.{shelf_left}
 use Rattle.ebpf_machine.proofs.Lists.ListLemmas.{All-by_contains, Contains-filter}
 use Rattle.ebpf_machine.proofs.Lists.Mapped.{Contains-mapped, Contains-unmapped}
 use Rattle.ebpf_machine.proofs.World.Owners.{owner_of}
@@ -22,11 +24,11 @@ use Rattle.ebpf_core.specs.declared.passing.Object.{Object}
 use Rattle.ebpf_core.specs.declared.place.Place.{Place}
 use Rattle.ebpf_core.specs.declared.place.Place.TheVariants.{Home, Held}
 use Rattle.ebpf_core.specs.Events.{answer_of}
-use Rattle.ebpf_core.specs.Passing.{IsOut, out_of_kind}
+use Rattle.ebpf_core.specs.Passing.{IsOut, IsAway, as_shelved, AreStanding, on_shelf, standing_on, is_bare, one_away}
 use Rattle.ebpf_core.specs.Places.{Places, place_at, object_home, lent_by, place_lent}
 use Rattle.ebpf_core.specs.Shown.{WorldState, Shows, IsTended, ArePlaced, IsPlaced, IsAtHome, run_seen, slots_of}
 use Rattle.ebpf_core.specs.Stepping.{slot_code, code_by, IsNewObject, CanLend}
-use Rattle.ebpf_core.proofs.Executing.{IsInstruction, answered, executed_after, sized_tended}
+use Rattle.ebpf_core.proofs.Executing.{bare, IsInstruction, going_seen, answered, executed_after, sized_tended}
 use Rattle.ebpf_core.proofs.Outcomes.{of_kind, IsGranted, IsFreed, IsOutcome, Kept, Granted, Freed, outcome_of}
 use Rattle.ebpf_machine.proofs.World.Owners.{kind_there, owned_there}
 use Rattle.ebpf_core.proofs.Placing.{object_kept}
@@ -62,22 +64,42 @@ held_named r h among = Contains-mapped (λ (x : Holding Object). name_of x.objec
 pub held_placed : (kept : WorldState) (k : ℕ) (r : RunState Object) (h : Holding Object) → ArePlaced kept → slice_get kept.runs k ≡ Some r → Contains r.held h → place_at kept.places h.object.slot ≡ Some (Held k h.call)
 held_placed kept k r h placed at among = placed.held k r at (name_of h.object.slot h.call) (held_named r h among)
 
+-- nothing stands on shelves
+off_bare : (slot shelf : ℕ) → IsAway (on_shelf bare shelf) slot
+off_bare slot zero = tt
+off_bare slot (suc zero) = tt
+off_bare slot (suc (suc zero)) = tt
+off_bare slot (suc (suc (suc shelf))) = tt
+
+none_bare : (shelf : ℕ) (o : Object) → on_shelf bare shelf ≡ Some o → ⊥
+none_bare zero o e = absurd (cc)
+none_bare (suc zero) o e = absurd (cc)
+none_bare (suc (suc zero)) o e = absurd (cc)
+none_bare (suc (suc (suc shelf))) o e = absurd (cc)
+
+bare_standing : (here : Option Object) → AreStanding here bare
+bare_standing here = record { fit = λ shelf o e. absurd (none_bare shelf o e); apart = λ shelf other o p e. absurd (none_bare shelf o e); away = λ shelf o p e. absurd (none_bare shelf o e) }
+
+still : (h : Holding Object) → IsOut None [] h.object × (h.object.kind ≡ h.kind) → IsOut None bare h.object × (h.object.kind ≡ h.kind)
+still h was = (record { size = was.0.size; known = was.0.known; away = tt; off = off_bare h.object.slot }, was.1)
+
 -- so it can be lent what is at home
-pub can_lend : (kept : WorldState) (k : ℕ) (answer : Answer) (r : RunState Object) → ArePlaced kept → IsTended r → slice_get kept.runs k ≡ Some r → code_by kept.places answer (wanted (asking_in (run_seen r))) ≡ None → CanLend (lent_by answer kept.places) r
+pub can_lend : (kept : WorldState) (k : ℕ) (answer : Answer) (r : RunState Object) → ArePlaced kept → IsTended r → slice_get kept.runs k ≡ Some r → code_by kept.places answer (wanted (asking_in (run_seen r))) ≡ None → CanLend (lent_by answer kept.places) bare r
 can_lend kept k answer r placed tended at fine = by (loan kept.places answer (wanted (asking_in (run_seen r))) fine) where
-  by : IsLoan kept.places answer (wanted (asking_in (run_seen r))) → CanLend (lent_by answer kept.places) r
-  by (Nothing unanswered none stays) = subst (λ (l : Option Object). CanLend l r) (sym none) (record { image = tt; out = tended.out; asked = λ e. refl })
-  by (Loan slot o is home wants) = subst (λ (l : Option Object). CanLend l r) (sym (lent_loan kept.places answer slot o is home)) (record {
+  by : IsLoan kept.places answer (wanted (asking_in (run_seen r))) → CanLend (lent_by answer kept.places) bare r
+  by (Nothing unanswered none stays) = subst (λ (l : Option Object). CanLend l bare r) (sym none) (record { image = tt; out = record { out = All-by_contains (λ h. IsOut None bare h.object × (h.object.kind ≡ h.kind)) r.held (λ h among. still h (All-contains (λ x. IsOut None [] x.object × (x.object.kind ≡ x.kind)) r.held h tended.out.out among)); apart = tended.out.apart }; asked = λ e. refl; standing = bare_standing None })
+  by (Loan slot o is home wants) = subst (λ (l : Option Object). CanLend l bare r) (sym (lent_loan kept.places answer slot o is home)) (record {
     image = (here.image, here.known);
-    out = record { out = All-by_contains (λ h. IsOut (Some o) h.object × (h.object.kind ≡ h.kind)) r.held (λ h among. away h among (All-contains (λ x. IsOut None x.object × (x.object.kind ≡ x.kind)) r.held h tended.out.out among)); apart = tended.out.apart };
+    out = record { out = All-by_contains (λ h. IsOut (Some o) bare h.object × (h.object.kind ≡ h.kind)) r.held (λ h among. away h among (All-contains (λ x. IsOut None [] x.object × (x.object.kind ≡ x.kind)) r.held h tended.out.out among)); apart = tended.out.apart };
     asked = λ unasked. let none = ap wanted unasked in absurd (cc);
+    standing = bare_standing (Some o);
   })
     where
       here : IsAtHome kept slot o
       here = subst (IsPlaced kept slot) home (placed.each slot)
 
-      away : (h : Holding Object) → Contains r.held h → IsOut None h.object × (h.object.kind ≡ h.kind) → IsOut (Some o) h.object × (h.object.kind ≡ h.kind)
-      away h among was = (record { size = was.0.size; known = was.0.known; away = λ e. apart (ap (place_at kept.places) (e ∙ here.same)) }, was.1) where
+      away : (h : Holding Object) → Contains r.held h → IsOut None [] h.object × (h.object.kind ≡ h.kind) → IsOut (Some o) bare h.object × (h.object.kind ≡ h.kind)
+      away h among was = (record { size = was.0.size; known = was.0.known; away = λ e. apart (ap (place_at kept.places) (e ∙ here.same)); off = off_bare h.object.slot }, was.1) where
         apart : place_at kept.places h.object.slot ≡ place_at kept.places slot → ⊥
         apart same = let held = held_placed kept k r h placed at among in absurd (cc)
 
@@ -100,11 +122,11 @@ counts_seen kind (h ∷ held) =
     let there = sum_by-cons (λ (o : ObjectView). cond {A = ℕ} (kind == o.kind) 1 0) (object_seen (λ (o : Object). o.bytes.items) h) (map (object_seen (λ (o : Object). o.bytes.items)) held) in
     omega (arith, here, there, counts_seen kind held)
 
-none_freed : (freed : Option Object) → ((kind : ℕ) → out_of_kind freed kind ≡ 1) → freed ≡ None
+none_freed : (freed : Option Object) → ((kind : ℕ) → one_away freed kind ≡ 1) → freed ≡ None
 none_freed None all = refl
-none_freed (Some o) all = let here = eq-eqb o.kind o.kind refl in let none : out_of_kind (Some o) o.kind ≡ 0 = rw here refl in let one = all o.kind in absurd (omega (arith, none, one))
+none_freed (Some o) all = let here = eq-eqb o.kind o.kind refl in let none : one_away (Some o) o.kind ≡ 0 = rw here refl in let one = all o.kind in absurd (omega (arith, none, one))
 
-some_freed : (freed : Option Object) (kind : ℕ) → out_of_kind freed kind ≡ 0 → (o : Object) × (freed ≡ Some o) × (o.kind ≡ kind)
+some_freed : (freed : Option Object) (kind : ℕ) → one_away freed kind ≡ 0 → (o : Object) × (freed ≡ Some o) × (o.kind ≡ kind)
 some_freed None kind none = absurd (omega (arith, none))
 some_freed (Some o) kind none = by (kind == o.kind) refl none where
   by : (t : Bool) → (kind == o.kind) ≡ t → cond {A = ℕ} t 0 1 ≡ 0 → (x : Object) × (Some o ≡ Some x) × (x.kind ≡ kind)
@@ -132,13 +154,32 @@ outcome w kept k answer r t freed shows i =
     let state = i.step.state ∙ ap (λ (s : Served). stepped (result_of s) v) (answered kept k answer r t freed i) in
     rw (state, after.slots) is
 
+-- nothing stands on a shelf after it either
+none_on : (shelves : List (Option Object)) (shelf : ℕ) → standing_on shelves shelf ≡ None → on_shelf shelves shelf ≡ None
+none_on shelves shelf none = by (on_shelf shelves shelf) refl where
+  by : (o : Option Object) → on_shelf shelves shelf ≡ o → on_shelf shelves shelf ≡ None
+  by None e = e
+  by (Some o) e = let some = ap (option_map as_shelved) e in absurd (cc)
+
+bare_none : (shelf : ℕ) → on_shelf bare shelf ≡ None
+bare_none zero = refl
+bare_none (suc zero) = refl
+bare_none (suc (suc zero)) = refl
+bare_none (suc (suc (suc shelf))) = refl
+
+still_bare : (kept : WorldState) (k : ℕ) (answer : Answer) (r t : RunState Object) (freed : Option Object) (i : IsInstruction kept k answer r t freed) (shelf : ℕ) → on_shelf i.after shelf ≡ None
+still_bare kept k answer r t freed i shelf =
+    none_on i.after shelf (i.step.shelves shelf
+    ∙ shelf_left (shelved_from as_shelved r.held) (run_seen r) shelf (standing_on bare shelf) i.run.sound (sized_tended r i.run) (going_seen r i.going)
+    ∙ ap (option_map as_shelved) (bare_none shelf))
+
 -- the counts of the store
 counted : (kept : WorldState) (k : ℕ) (answer : Answer) (r t : RunState Object) (freed : Option Object) (i : IsInstruction kept k answer r t freed) (kind : ℕ)
-    → out_of_kind freed kind + of_kind kind (run_seen r).objects ≡ out_of_kind (lent_by answer kept.places) kind + of_kind kind (run_seen t).objects
-counted kept k answer r t freed i kind = omega (arith, i.step.of_kind kind, counts_seen kind r.held, counts_seen kind t.held)
+    → one_away freed kind + of_kind kind (run_seen r).objects ≡ one_away (lent_by answer kept.places) kind + of_kind kind (run_seen t).objects
+counted kept k answer r t freed i kind = omega (arith, i.step.of_kind kind, counts_seen kind r.held, counts_seen kind t.held, ap is_bare (still_bare kept k answer r t freed i kind), ap is_bare (bare_none kind))
 
-lent_none : (kept : WorldState) (answer : Answer) (kind : ℕ) → lent_by answer kept.places ≡ None → out_of_kind (lent_by answer kept.places) kind ≡ 1
-lent_none kept answer kind none = ap (λ (l : Option Object). out_of_kind l kind) none
+lent_none : (kept : WorldState) (answer : Answer) (kind : ℕ) → lent_by answer kept.places ≡ None → one_away (lent_by answer kept.places) kind ≡ 1
+lent_none kept answer kind none = ap (λ (l : Option Object). one_away l kind) none
 
 -- the object that is freed is the run's
 freed_its : (kept : WorldState) (k : ℕ) (answer : Answer) (r t : RunState Object) (freed : Option Object) (o : Object) (h : Holding Object) → IsInstruction kept k answer r t freed → freed ≡ Some o → Contains r.held h → slots_of t ≡ filter (λ n. not (n.call == h.call)) (slots_of r) → o.slot ≡ h.object.slot
@@ -159,9 +200,9 @@ freed_its kept k answer r t freed o h i is among slots = by (cases_eq o.slot h.o
   by : (o.slot ≡ h.object.slot) ⊎ (o.slot ≢ h.object.slot) → o.slot ≡ h.object.slot
   by (inl same) = same
   by (inr ne) =
-      let out = All-contains (λ x. IsOut None x.object × (x.object.kind ≡ x.kind)) r.held h i.run.out.out among in
-      let still : IsOut freed h.object = subst (λ (f : Option Object). IsOut f h.object) (sym is) (record { size = out.0.size; known = out.0.known; away = λ e. ne (sym e) }) in
-      absurd (i.step.gone h among (All-by_contains (λ x. x.object.slot ≢ h.object.slot) t.held others) still)
+      let out = All-contains (λ x. IsOut None [] x.object × (x.object.kind ≡ x.kind)) r.held h i.run.out.out among in
+      let there : IsOut freed i.after h.object = subst (λ (f : Option Object). IsOut f i.after h.object) (sym is) (record { size = out.0.size; known = out.0.known; away = λ e. ne (sym e); off = λ shelf. subst (λ (x : Option Object). IsAway x h.object.slot) (sym (still_bare kept k answer r t freed i shelf)) tt }) in
+      absurd (i.step.gone h among (All-by_contains (λ x. x.object.slot ≢ h.object.slot) t.held others) there)
 
 frees : (w : World) (kept : WorldState) (k : ℕ) (answer : Answer) (r t : RunState Object) (freed : Option Object) → Shows w kept → IsInstruction kept k answer r t freed → lent_by answer kept.places ≡ None → ((run at q : ℕ) → place_lent answer run at kept.places q ≡ place_at kept.places q)
     → IsFreed (run_seen r) (run_seen t) (slots_of r) (slots_of t) → IsExchange kept k answer r t freed
@@ -202,16 +243,16 @@ lends kept k answer r t freed slot o i is home wants g =
     slot_same : {a b : ℕ} → step.Granted a ≡ step.Granted b → a ≡ b
     slot_same e = cc
 
-    one : lent_by answer kept.places ≡ Some o → g.new ≡ o.kind → (kind : ℕ) → out_of_kind freed kind ≡ 1
+    one : lent_by answer kept.places ≡ Some o → g.new ≡ o.kind → (kind : ℕ) → one_away freed kind ≡ 1
     one lent new kind =
         let counts = counted kept k answer r t freed i kind in
-        let was = ap (λ (l : Option Object). out_of_kind l kind) lent in
+        let was = ap (λ (l : Option Object). one_away l kind) lent in
         let more = g.kinds kind in
         let equal = ap (λ (c : ℕ). kind == c) new in
         by (kind == o.kind) counts was (more ∙ ap (λ (b : Bool). of_kind kind (run_seen r).objects + cond b 1 0) equal)
       where
-        by : (t' : Bool) → out_of_kind freed kind + of_kind kind (run_seen r).objects ≡ out_of_kind (lent_by answer kept.places) kind + of_kind kind (run_seen t).objects
-            → out_of_kind (lent_by answer kept.places) kind ≡ cond t' 0 1 → of_kind kind (run_seen t).objects ≡ of_kind kind (run_seen r).objects + cond t' 1 0 → out_of_kind freed kind ≡ 1
+        by : (t' : Bool) → one_away freed kind + of_kind kind (run_seen r).objects ≡ one_away (lent_by answer kept.places) kind + of_kind kind (run_seen t).objects
+            → one_away (lent_by answer kept.places) kind ≡ cond t' 0 1 → of_kind kind (run_seen t).objects ≡ of_kind kind (run_seen r).objects + cond t' 1 0 → one_away freed kind ≡ 1
         by true counts was more = omega (arith, counts, was, more)
         by false counts was more = omega (arith, counts, was, more)
 

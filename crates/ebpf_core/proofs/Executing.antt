@@ -1,19 +1,20 @@
 -- A run that is kept does the instruction at its pc: it is the event of the world that is shown.
-use Rattle.std.proofs.Common.{◌≡◌, ◌≢◌, ◌⊎◌, inl, inr, ℕ, Bool, true, false, cond, List, length, get_or, Option, Some, None, Ok, Err, refl, sym, ap, ◌∙◌, subst, length-set}
+use Rattle.std.proofs.Common.{◌≡◌, ◌≢◌, ◌⊎◌, inl, inr, ℕ, Bool, true, false, cond, List, [], ◌∷◌, length, get_or, Option, Some, None, Ok, Err, refl, sym, ap, ◌∙◌, subst, length-set}
 use Rattle.std.specs.Prelude.{slice_get, slice_set, option_map, IfNone, ◌==◌}
 use Rattle.std.proofs.lemmas.List.Elements.{All-map}
 use Rattle.ebpf_machine.specs.declared.holding.Holding.{Holding}
-use Rattle.ebpf_machine.specs.World.{Name, Kind, World, Running, Going, Exited, kinds_of, image_at}
+use Rattle.ebpf_machine.specs.World.{Name, Kind, World, Running, Going, Exited, kinds_of, image_at, shelved_in}
 use Rattle.ebpf_machine.specs.World as world
 use Rattle.ebpf_machine.specs.Events.{Illegal, NoSuchRun, RunEnded, Asking, answer_fault, asking_of, exec}
 use Rattle.ebpf_machine.specs.Kinds.{known_kinds}
 use Rattle.ebpf_machine.specs.View.{ObjectView, RunView, view_of, view_in, slots_in, effect_of_view}
 use Rattle.ebpf_machine.specs.RunState.{RunState, object_seen, status_of}
-use Rattle.ebpf_machine.specs.Step.{MayAnswer, asking_in, wanted, Served, Idle, Refused, Granted, Empty, Fetched, answer_for, served_by, served_in}
+use Rattle.ebpf_machine.specs.Step.{MayAnswer, standing_seen, asking_in, wanted, Served, Idle, Refused, Granted, Empty, Fetched, answer_for, served_by, served_in}
 use Rattle.ebpf_machine.specs.Advance.{slots_after}
 use Rattle.ebpf_machine.specs.Sound.{AreSized, IsSound}
 use Rattle.ebpf_machine.proofs.Lists.ListLemmas.{get_set_same, get_set_other}
 use Rattle.ebpf_machine.proofs.World.Asking.{asking_seen}
+use Rattle.ebpf_machine.proofs.World.NoShelves.{never_reaches, shelves_left, none_shelved, by_run}
 use Rattle.ebpf_machine.proofs.World.Execs.{IsNextWorld, served_to, next_world, may_serve}
 use Rattle.ebpf_core.specs.declared.event.Answer.{Answer}
 use Rattle.ebpf_core.specs.declared.event.Answer.TheVariants.{Absent, Null, Slot}
@@ -24,7 +25,7 @@ use Rattle.ebpf_core.specs.declared.place.Place.{Place}
 use Rattle.ebpf_core.specs.declared.place.Place.TheVariants.{Home, Held}
 use Rattle.ebpf_core.specs.Events.{answer_of}
 use Rattle.ebpf_core.specs.Faults.{code_of}
-use Rattle.ebpf_core.specs.Passing.{IsOut, Lends, LendsNone}
+use Rattle.ebpf_core.specs.Passing.{IsOut, offers}
 use Rattle.ebpf_core.specs.Places.{Places, place_at, object_home, lent_by}
 use Rattle.ebpf_core.specs.Shown.{WorldState, Shows, IsTended, IsTendedWorld, ArePlaced, IsPlaced, run_seen, slots_of}
 use Rattle.ebpf_core.specs.Stepping.{slot_code, code_by, IsStepped}
@@ -38,16 +39,20 @@ sized_tended r h = All-map IsLong (object_seen (λ o. o.bytes.items)) r.held (λ
   IsLong : ObjectView → Type 0
   IsLong o = length o.bytes ≡ length (image_at (kinds_of r.subject.rows) o.kind)
 
-  long : (x : Holding Object) → IsOut None x.object × (x.object.kind ≡ x.kind) → length x.object.bytes.items ≡ length (image_at (kinds_of r.subject.rows) x.kind)
+  long : (x : Holding Object) → IsOut None [] x.object × (x.object.kind ≡ x.kind) → length x.object.bytes.items ≡ length (image_at (kinds_of r.subject.rows) x.kind)
   long x (out, kind) = out.size ∙ ap (λ (k : ℕ). length (image_at known_kinds k)) kind ∙ ap (λ (ks : List Kind). length (image_at ks x.kind)) (sym h.kinds)
 
 -- ---- the answer that the store gives is the event's
+
+-- no run has a shelf in reach yet
+abbrev pub bare : List (Option Object)
+bare = None ∷ None ∷ None ∷ []
 
 -- an object at home is in its slot
 abbrev AreTheirs : Places → Type 0
 AreTheirs places = (slot : ℕ) (o : Object) → place_at places slot ≡ Some (Home o) → o.slot ≡ slot
 
-answer_given : (places : Places) (answer : Answer) (wants : Option ℕ) (at : ℕ) (given : Served) → AreTheirs places → code_by places answer wants ≡ None → MayAnswer (Lends (lent_by answer places)) (LendsNone (lent_by answer places)) at (asked_as wants) given → given ≡ served_by (answer_of answer)
+answer_given : (places : Places) (answer : Answer) (wants : Option ℕ) (at : ℕ) (given : Served) → AreTheirs places → code_by places answer wants ≡ None → MayAnswer (offers (lent_by answer places) bare) at (asked_as wants) given → given ≡ served_by (answer_of answer)
 answer_given places Absent None pc given theirs fine may = may
 answer_given places Absent (Some kind) pc given theirs fine may = absurd (cc)
 answer_given places Null None pc given theirs fine may = absurd (cc)
@@ -57,7 +62,7 @@ answer_given places Null (Some kind) pc Empty theirs fine may = absurd may
 answer_given places Null (Some kind) pc (Fetched other bytes) theirs fine may = absurd may
 answer_given places Null (Some kind) pc (Granted slot) theirs fine may = absurd may
 answer_given places (Slot slot) wants pc given theirs fine may = by_place (place_at places slot) wants refl fine may where
-  of_kind : (o : Object) (kind : ℕ) (given : Served) (t : Bool) → (o.kind == kind) ≡ t → place_at places slot ≡ Some (Home o) → cond t None (Some E4) ≡ None → MayAnswer (Lends (Some o)) (LendsNone (Some o)) pc (asked_as (Some kind)) given → given ≡ Granted slot
+  of_kind : (o : Object) (kind : ℕ) (given : Served) (t : Bool) → (o.kind == kind) ≡ t → place_at places slot ≡ Some (Home o) → cond t None (Some E4) ≡ None → MayAnswer (offers (Some o) bare) pc (asked_as (Some kind)) given → given ≡ Granted slot
   of_kind o kind given false is at fine may = absurd (cc)
   of_kind o kind Idle true is at fine may = absurd may
   of_kind o kind Refused true is at fine may = absurd (cc)
@@ -65,7 +70,7 @@ answer_given places (Slot slot) wants pc given theirs fine may = by_place (place
   of_kind o kind (Fetched other bytes) true is at fine may = absurd may
   of_kind o kind (Granted s) true is at fine may = ap Granted (sym may.1 ∙ theirs slot o at)
 
-  by_place : (p : Option Place) (wants : Option ℕ) → place_at places slot ≡ p → slot_code p wants ≡ None → MayAnswer (Lends (object_home p)) (LendsNone (object_home p)) pc (asked_as wants) given → given ≡ Granted slot
+  by_place : (p : Option Place) (wants : Option ℕ) → place_at places slot ≡ p → slot_code p wants ≡ None → MayAnswer (offers (object_home p) bare) pc (asked_as wants) given → given ≡ Granted slot
   by_place None wants at fine may = absurd (cc)
   by_place (Some (Held run place)) wants at fine may = absurd (cc)
   by_place (Some (Home o)) None at fine may = absurd (cc)
@@ -86,15 +91,16 @@ pub record IsInstruction (kept : WorldState) (k : ℕ) (answer : Answer) (r t : 
   pub at : slice_get kept.runs k ≡ Some r
   pub going : r.exit ≡ None
   pub fine : code_by kept.places answer (wanted (asking_in (run_seen r))) ≡ None
-  pub step : IsStepped (lent_by answer kept.places) freed r t
+  pub after : List (Option Object)
+  pub step : IsStepped (lent_by answer kept.places) freed bare after r t
 
-going_seen : (r : RunState Object) → r.exit ≡ None → (run_seen r).status ≡ Going
+pub going_seen : (r : RunState Object) → r.exit ≡ None → (run_seen r).status ≡ Going
 going_seen r going = ap status_of going
 
 pub answered : (kept : WorldState) (k : ℕ) (answer : Answer) (r t : RunState Object) (freed : Option Object) (i : IsInstruction kept k answer r t freed) → i.step.served ≡ served_by (answer_of answer)
 answered kept k answer r t freed i =
     let asks = asks_as (run_seen r) i.run.sound (sized_tended r i.run) (going_seen r i.going) in
-    let may = subst (λ (asked : Asking). MayAnswer (Lends (lent_by answer kept.places)) (LendsNone (lent_by answer kept.places)) r.pc asked i.step.served) asks i.step.may in
+    let may = subst (λ (asked : Asking). MayAnswer (offers (lent_by answer kept.places) bare) r.pc asked i.step.served) asks i.step.may in
     answer_given kept.places answer (wanted (asking_in (run_seen r))) r.pc i.step.served theirs i.fine may
   where
     theirs : AreTheirs kept.places
@@ -102,17 +108,18 @@ answered kept k answer r t freed i =
 
 -- so it is, by what the tests and the step told
 pub instruction : (kept : WorldState) (k : ℕ) (answer : Answer) (r t : RunState Object) (lent freed : Option Object) (wants : Option ℕ) (fault : Option ApplyCode) → IsTendedWorld kept → slice_get kept.runs k ≡ Some r → r.exit ≡ None
-    → fault ≡ code_by kept.places answer wants → fault ≡ None → wants ≡ wanted (asking_in (run_seen r)) → lent ≡ lent_by answer kept.places → IfNone r.exit (IsStepped lent freed r t) → IsInstruction kept k answer r t freed
-instruction kept k answer r t lent freed wants fault tended at goes code none wanted_is lent_is step = record {
+    → fault ≡ code_by kept.places answer wants → fault ≡ None → wants ≡ wanted (asking_in (run_seen r)) → lent ≡ lent_by answer kept.places → (after : List (Option Object)) → IfNone r.exit (IsStepped lent freed bare after r t) → IsInstruction kept k answer r t freed
+instruction kept k answer r t lent freed wants fault tended at goes code none wanted_is lent_is after step = record {
+  after = after;
   tended = tended;
   run = at_number IsTended kept.runs k r tended.runs at;
   at = at;
   going = goes;
   fine = ap (code_by kept.places answer) (sym wanted_is) ∙ sym code ∙ none;
-  step = subst (λ (l : Option Object). IsStepped l freed r t) lent_is (then_going r.exit goes step);
+  step = subst (λ (l : Option Object). IsStepped l freed bare after r t) lent_is (then_going r.exit goes step);
 }
   where
-    then_going : (o : Option ℕ) → o ≡ None → IfNone o (IsStepped lent freed r t) → IsStepped lent freed r t
+    then_going : (o : Option ℕ) → o ≡ None → IfNone o (IsStepped lent freed bare after r t) → IsStepped lent freed bare after r t
     then_going None e h = h
     then_going (Some n) e h = absurd (cc)
 
@@ -188,7 +195,7 @@ executed_after w kept k answer r t freed h i = record { after = after; legal = n
 
   -- the world serves what the store answered
   serves : served_in w (asking_in (run_seen r)) (answer_for i.step.served) ≡ i.step.served
-  serves = may_serve w (Lends (lent_by answer kept.places)) (LendsNone (lent_by answer kept.places)) r.pc (asking_in (run_seen r)) i.step.served i.step.may
+  serves = may_serve w (offers (lent_by answer kept.places) bare) r.pc (asking_in (run_seen r)) i.step.served i.step.may (λ shelf asked. absurd (never_reaches (run_seen r) shelf i.run.sound (going_seen r i.going) asked))
 
   given : i.step.served ≡ served_by (answer_of answer)
   given = answered kept k answer r t freed i
@@ -202,10 +209,13 @@ executed_after w kept k answer r t freed h i = record { after = after; legal = n
       ∙ given
 
   -- what the step says of the world that is shown
-  event : (view_in after k ≡ Some (run_seen t)) × (slots_in after k ≡ slots_of t)
-  event =
+  happens : (view_in after k ≡ Some (run_seen t)) × (slots_in after k ≡ slots_of t) × ((shelf : ℕ) → shelved_in after shelf ≡ standing_seen w (slots_of r) (effect_of_view (run_seen r)) shelf)
+  happens =
       let view : view_in w k ≡ Some (run_seen r) = h.views k ∙ ap (option_map run_seen) i.at in
       i.step.event w after k h.owned view (h.slots k r i.at) serves (ap (λ (served : Served). exec w k (answer_for served)) given ∙ ap (exec w k) (answer_back (answer_of answer)) ∙ next.1.legal)
+
+  event : (view_in after k ≡ Some (run_seen t)) × (slots_in after k ≡ slots_of t)
+  event = (happens.0, happens.1)
 
   slots : slots_of t ≡ slots_after (effect_of_view (run_seen r)) (served_by (answer_of answer)) r.subject.decl.held r.pc (slots_of r)
   slots =
@@ -236,5 +246,5 @@ executed_after w kept k answer r t freed h i = record { after = after; legal = n
     kinds = next.1.kinds ∙ h.kinds;
     ledgers = next.1.ledgers ∙ h.ledgers;
     owned = next.1.owned;
-    unshelved = next.1.unshelved h.unshelved;
+    unshelved = λ o among. by_run after o (λ shelf. happens.2 shelf ∙ shelves_left w (slots_of r) (run_seen r) shelf i.run.sound (sized_tended r i.run) (going_seen r i.going) ∙ none_shelved w shelf h.unshelved) among;
   }

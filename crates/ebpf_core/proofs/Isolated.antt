@@ -14,13 +14,13 @@ use Rattle.ebpf_machine.specs.Events.{Illegal, Asking, answer_fault, started}
 use Rattle.ebpf_machine.specs.Alone.{Outcome, outcome_alone, replies_from}
 use Rattle.ebpf_machine.specs.View.{ObjectView, RunView, object_in, view_of, view_in, stepped}
 use Rattle.ebpf_machine.specs.RunState.{first_state_of}
-use Rattle.ebpf_machine.specs.Step.{Served, result_of, served_in, asking_in}
+use Rattle.ebpf_machine.specs.Step.{FitsShelf, Served, result_of, served_in, asking_in}
 use Rattle.ebpf_machine.specs.Sound.{IsSound, IsAlone, IsOwned, IsWellStated, AreSized}
 use Rattle.ebpf_machine.proofs.World.Asking.{asking_seen}
 use Rattle.ebpf_machine.proofs.World.Owned.{owned_empty}
 use Rattle.ebpf_machine.proofs.World.Steps.{going_of, bounded, first_sound, sound_stepped}
 use Rattle.ebpf_machine.proofs.World.Execs.{sized_in, shown_run}
-use Rattle.ebpf_machine.proofs.World.Lone.{FitsShelf, served_fits_shelf, none_more, alone_stepped, seen_alone, outcome_exited}
+use Rattle.ebpf_machine.proofs.World.Lone.{served_fits_shelf, none_more, alone_stepped, seen_alone, outcome_exited}
 use Rattle.ebpf_core.specs.declared.passing.Object.{Object}
 use Rattle.ebpf_core.specs.declared.event.Answer.{Answer}
 use Rattle.ebpf_core.specs.declared.event.Event.{Event}

@@ -10,11 +10,11 @@ use Rattle.ebpf_machine.specs.Events.{SlotNotHome, SlotOfAnotherKind, AnswerUnas
 use Rattle.ebpf_machine.specs.View.{RunView, view_of, stepped}
 use Rattle.ebpf_machine.specs.Step.{result_of, served_in, asking_in, wanted}
 use Rattle.ebpf_machine.specs.Sound.{AreSized, IsSound, IsOwned}
-use Rattle.ebpf_machine.proofs.World.Asking.{AsksNew, asking_seen, next_asks, asked_next}
+use Rattle.ebpf_machine.proofs.World.Asking.{AsksNew, asking_seen}
+use Rattle.ebpf_machine.proofs.World.NoShelves.{next_asks, asked_next}
 use Rattle.ebpf_machine.proofs.World.Execs.{sized_in}
 use Rattle.ebpf_machine.proofs.World.Owners.{kind_in-ledger}
 use Rattle.ebpf_machine.proofs.World.Replies.{replies_kept, replies_added}
-use Rattle.ebpf_machine.proofs.World.Steps.{next_of}
 use Rattle.ebpf_core.specs.declared.event.Answer.{Answer}
 use Rattle.ebpf_core.specs.declared.event.Answer.TheVariants.{Absent, Null, Slot}
 use Rattle.ebpf_core.specs.declared.fault.ApplyCode.TheVariants.{E4}
@@ -98,7 +98,7 @@ asked_fits w asked answer fine = by (is_away w answer) (is_of_another_kind w ask
 
 -- a run is told just what a legal answer brings
 pub told_next : (w : World) (v : RunView) (answer : Answer) → IsSound v → AreSized v → v.status ≡ Going → answer_fault w (asking_in v) (answer_of answer) ≡ None → (stepped (result_of (served_in w (asking_in v) (answer_of answer))) v).replies ≡ v.replies ++ reply_by answer
-told_next w v answer sound sized going fine = by (next_asks v (next_of v sound sized going)) answer (asked_fits w (asking_in v) (answer_of answer) fine) where
+told_next w v answer sound sized going fine = by (next_asks v sound sized going) answer (asked_fits w (asking_in v) (answer_of answer) fine) where
   by : (asking_in v ≡ Unasked) ⊎ ((kind : ℕ) × (asking_in v ≡ OfKind kind) × AsksNew v kind) → (given : Answer) → is_asked (asking_in v) ≡ is_answer (answer_of given) → (stepped (result_of (served_in w (asking_in v) (answer_of given))) v).replies ≡ v.replies ++ reply_by given
   by (inl unasked) Absent fits = ap (λ (rs : Replies). rs.answers) (replies_kept v _ going unasked) ∙ sym (append-nil v.replies)
   by (inl unasked) Null fits = let bad = ap is_asked unasked in absurd (cc)

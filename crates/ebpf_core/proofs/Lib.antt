@@ -16,3 +16,4 @@ pub mod Slots
 pub mod Reading
 pub mod Isolated
 pub mod Underway
+pub mod Shelving

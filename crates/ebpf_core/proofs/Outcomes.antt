@@ -18,6 +18,7 @@ use Rattle.ebpf_machine.specs.Advance.{slots_acted, slots_after}
 use Rattle.ebpf_machine.specs.Sound.{IsSound, AreSized}
 use Rattle.ebpf_machine.proofs.World.Asking.{asked_by, asked_goes, asked_ends, there_goes}
 use Rattle.ebpf_machine.proofs.Lists.ListLemmas.{IsFound, find_is, fewer_dropped}
+use Rattle.ebpf_machine.proofs.World.NoShelves.{never_exchanges}
 use Rattle.ebpf_machine.proofs.World.Steps.{GoesOn, IsNext, next_of, stepped_goes, stepped_ends}
 
 -- how many of the objects are of a kind
@@ -125,13 +126,13 @@ taken v to after kind (step.Granted slot) slots asked room many =
 asks_for : (v : RunView) (act : Act ℕ) (to : ℕ) (after : Frame ℕ) → GoesOn v act to after → asking_in v ≡ asked_by act
 asks_for v act to after g = asked_goes (insn_at v.subject.program v.pc) v.pc (environment_of_view v) v.frame act to after g.does
 
-outcome_acted : (v : RunView) (act : Act ℕ) (to : ℕ) (after : Frame ℕ) (served : Served) (slots : List Name) → GoesOn v act to after → length slots ≡ length v.objects
+outcome_acted : (v : RunView) (act : Act ℕ) (to : ℕ) (after : Frame ℕ) (served : Served) (slots : List Name) → GoesOn v act to after → IsSound v → v.status ≡ Going → length slots ≡ length v.objects
     → IsOutcome v (acted act (result_of served) to after v) served slots (slots_acted act served v.subject.decl.held v.pc slots)
-outcome_acted v Nothing to after served slots g many = Kept (record { unasked = λ slot e. asks_for v Nothing to after g; slots_are = refl; kinds = λ k. refl })
-outcome_acted v (Write call at bytes) to after served slots g many = Kept (record { unasked = λ slot e. asks_for v (Write call at bytes) to after g; slots_are = refl; kinds = λ k. kinds_patched k call at bytes v.objects })
-outcome_acted v (Exchange shelf given) to after served slots g many = absurd g.unshelving
-outcome_acted v (Ask kind) to after served slots g many = taken v to after kind served slots (asks_for v (Ask kind) to after g) g.room.1 many
-outcome_acted v (Free call) to after served slots g many =
+outcome_acted v Nothing to after served slots g sound going many = Kept (record { unasked = λ slot e. asks_for v Nothing to after g; slots_are = refl; kinds = λ k. refl })
+outcome_acted v (Write call at bytes) to after served slots g sound going many = Kept (record { unasked = λ slot e. asks_for v (Write call at bytes) to after g; slots_are = refl; kinds = λ k. kinds_patched k call at bytes v.objects })
+outcome_acted v (Exchange shelf given) to after served slots g sound going many = absurd (never_exchanges v shelf to given after sound going g.does)
+outcome_acted v (Ask kind) to after served slots g sound going many = taken v to after kind served slots (asks_for v (Ask kind) to after g) g.room.1 many
+outcome_acted v (Free call) to after served slots g sound going many =
     let there = there_goes (insn_at v.subject.program v.pc) v.pc (environment_of_view v) v.frame (Free call) to after g.does in
     let o = given_there v.objects call there.0 there.1 in
     Freed (freed v to after call served slots o.0 (asks_for v (Free call) to after g) o.1 o.2)
@@ -145,5 +146,5 @@ outcome_of v served slots sound sized going many = by (next_of v sound sized goi
   IsOne u now = IsOutcome v u served slots now
 
   by : IsNext v → IsOne (stepped (result_of served) v) (slots_after (effect_of_view v) served v.subject.decl.held v.pc slots)
-  by (inl (act, to, after, g)) = rw (stepped_goes v (result_of served) act to after going g, g.does) (outcome_acted v act to after served slots g many)
+  by (inl (act, to, after, g)) = rw (stepped_goes v (result_of served) act to after going g, g.does) (outcome_acted v act to after served slots g sound going many)
   by (inr (n, ends)) = rw (stepped_ends v (result_of served) n going ends, ends.does) (Kept (record { unasked = λ slot e. asked_ends (insn_at v.subject.program v.pc) v.pc (environment_of_view v) v.frame n ends.does; slots_are = refl; kinds = λ k. refl }))

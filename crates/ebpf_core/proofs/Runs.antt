@@ -59,9 +59,9 @@ pub tended_first : (s : Subject) (context : List ℕ) (r : RunState Object) → 
 tended_first s context r is sound kinds = record {
   sound = sound;
   alone = subst (λ (x : RunState Object). IsAlone (run_seen x)) (sym is) (first_alone s context);
-  out = subst (λ (x : RunState Object). AreOutBy (IsOut None) (λ (o : Object). o.kind) (λ (o : Object). o.slot) x.held) (sym is) none_out;
+  out = subst (λ (x : RunState Object). AreOutBy (IsOut None []) (λ (o : Object). o.kind) (λ (o : Object). o.slot) x.held) (sym is) none_out;
   kinds = ap (λ (x : RunState Object). kinds_of x.subject.rows) is ∙ kinds;
 }
   where
-    none_out : AreOutBy (IsOut None) (λ (o : Object). o.kind) (λ (o : Object). o.slot) []
+    none_out : AreOutBy (IsOut None []) (λ (o : Object). o.kind) (λ (o : Object). o.slot) []
     none_out = record { out = λ k d lt. absurd (omega (arith, lt)); apart = λ i j d lt within. absurd (omega (arith, within)) }

@@ -39,7 +39,7 @@ slots_of r = slots_kept (λ o. o.slot) r.held
 pub record IsTended (r : RunState Object) : Type 0 where
   pub sound : IsSound (run_seen r)
   pub alone : IsAlone (run_seen r)
-  pub out : AreOutBy (IsOut None) (λ o. o.kind) (λ o. o.slot) r.held
+  pub out : AreOutBy (IsOut None []) (λ o. o.kind) (λ o. o.slot) r.held
   pub kinds : kinds_of r.subject.rows ≡ known_kinds
 
 -- an object that is nobody's is of the kind in whose ledger its slot is, and has its image

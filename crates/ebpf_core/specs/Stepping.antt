@@ -1,14 +1,16 @@
 -- One instruction of a run that is kept: which answers are legal, the object that is lent to it, and the one that it frees.
-use Rattle.std.specs.Prelude.{◌≡◌, ◌≢◌, ◌<◌, ◌+◌, ℕ, ◌==◌, if◌then◌else◌, length, All, Contains, Option, Some, None, IfSome}
+use Rattle.std.specs.Prelude.{◌≡◌, ◌≢◌, ◌<◌, ◌+◌, ℕ, ◌==◌, if◌then◌else◌, List, length, All, Contains, Option, Some, None, IfSome}
+use Rattle.std.specs.declared.sync.ledger.Blank.{Blank}
 use Rattle.ebpf_verify.specs.Subject.{Subject}
 use Rattle.ebpf_machine.specs.declared.holding.Holding.{Holding}
-use Rattle.ebpf_machine.specs.World.{image_at}
+use Rattle.ebpf_machine.specs.World.{Shelved, image_at}
 use Rattle.ebpf_machine.specs.Events.{Unasked}
 use Rattle.ebpf_machine.specs.Kinds.{known_kinds}
-use Rattle.ebpf_machine.specs.View.{stepped}
+use Rattle.ebpf_machine.specs.View.{effect_of_view, stepped}
 use Rattle.ebpf_machine.specs.RunState.{RunState}
 use Rattle.ebpf_machine.specs.Step.{Served, MayAnswer, IsEvent, asking_in, result_of}
 use Rattle.ebpf_machine.specs.Store.{AreOutBy, held_of_kind}
+use Rattle.ebpf_machine.specs.Shelves.{shelf_done, shelved_from}
 use Rattle.ebpf_core.specs.declared.event.Answer.{Answer}
 use Rattle.ebpf_core.specs.declared.event.Answer.TheVariants.{Absent, Null, Slot}
 use Rattle.ebpf_core.specs.declared.fault.ApplyCode.{ApplyCode}
@@ -16,7 +18,7 @@ use Rattle.ebpf_core.specs.declared.fault.ApplyCode.TheVariants.{E3, E4, E5, E6,
 use Rattle.ebpf_core.specs.declared.passing.Object.{Object}
 use Rattle.ebpf_core.specs.declared.place.Place.{Place}
 use Rattle.ebpf_core.specs.declared.place.Place.TheVariants.{Home}
-use Rattle.ebpf_core.specs.Passing.{IsOut, Lends, LendsNone, out_of_kind}
+use Rattle.ebpf_core.specs.Passing.{IsOut, AreStanding, as_shelved, standing_on, out_of_kind, offers}
 use Rattle.ebpf_core.specs.Places.{Places, place_at}
 use Rattle.ebpf_core.specs.Shown.{run_seen, slots_of}
 
@@ -37,25 +39,37 @@ code_by places (Slot slot) wants = slot_code (place_at places slot) wants
 
 -- ---- one instruction
 
+-- a blank is for a type of this name, which is not cut
+abbrev pub IsFor : Blank → (name parts : ℕ) → Type 0
+IsFor blank name parts = (blank.name ≡ name) × (blank.parts ≡ parts) × (parts ≡ 1)
+
 -- an object has its kind's image
 abbrev pub IsNewObject : Object → Type 0
 IsNewObject o = (o.bytes.items ≡ image_at known_kinds o.kind) × (o.kind < length known_kinds)
 
--- an object can be lent to a run: it has its image and is none of the run's own, and the run asks for one
-pub record CanLend (lent : Option Object) (r : RunState Object) : Type 0 where
+-- an object can be lent to a run: it has its image and is none of the run's own, and the run asks for one; the shelves are in order,
+-- and what stands there is neither
+pub record CanLend (lent : Option Object) (shelves : List (Option Object)) (r : RunState Object) : Type 0 where
   pub image : IfSome lent IsNewObject
-  pub out : AreOutBy (IsOut lent) (λ o. o.kind) (λ o. o.slot) r.held
+  pub out : AreOutBy (IsOut lent shelves) (λ o. o.kind) (λ o. o.slot) r.held
   pub asked : asking_in (run_seen r) ≡ Unasked → lent ≡ None
+  pub standing : AreStanding lent shelves
 
--- what the instruction leaves of a run that was lent this object, and what it freed
-pub record IsStepped (lent freed : Option Object) (r t : RunState Object) : Type 0 where
+-- what stands on a shelf after its instruction, where these objects stood on the shelves
+abbrev pub standing_next : RunState Object → List (Option Object) → ℕ → Option Shelved
+standing_next r shelves shelf = shelf_done (shelved_from as_shelved r.held) (effect_of_view (run_seen r)) shelf (standing_on shelves shelf)
+
+-- what the instruction leaves of a run that was lent this object, what it freed, and what stands on the shelves then
+pub record IsStepped (lent freed : Option Object) (old new : List (Option Object)) (r t : RunState Object) : Type 0 where
   pub served : Served
-  pub may : MayAnswer (Lends lent) (LendsNone lent) r.pc (asking_in (run_seen r)) served
+  pub may : MayAnswer (offers lent old) r.pc (asking_in (run_seen r)) served
   pub state : run_seen t ≡ stepped (result_of served) (run_seen r)
   pub event : IsEvent served (run_seen r) (run_seen t) (slots_of r) (slots_of t)
-  pub of_kind : (kind : ℕ) → out_of_kind freed kind + held_of_kind r.held kind ≡ out_of_kind lent kind + held_of_kind t.held kind
-  pub gone : (h : Holding Object) → Contains r.held h → All (λ k. k.object.slot ≢ h.object.slot) t.held → IsOut freed h.object → ⊥
+  pub of_kind : (kind : ℕ) → out_of_kind freed new kind + held_of_kind r.held kind ≡ out_of_kind lent old kind + held_of_kind t.held kind
+  pub gone : (h : Holding Object) → Contains r.held h → All (λ k. k.object.slot ≢ h.object.slot) t.held → IsOut freed new h.object → ⊥
   pub image : IfSome freed IsNewObject
+  pub shelves : (shelf : ℕ) → standing_on new shelf ≡ standing_next r old shelf
+  pub standing : AreStanding freed new
 
 -- ---- the code of a start that is not legal
 

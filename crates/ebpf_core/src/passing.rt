@@ -1,15 +1,17 @@
 //! The objects of the world, and the store through which one of them passes to or from a run.
 
-ghost use Rattle.std.specs.Prelude.{◌≡◌, ◌<◌, length, IfSome, IfOk};
+ghost use Rattle.std.specs.Prelude.{◌≡◌, ◌<◌, length, slice_set, IfSome, IfOk};
 ghost use Rattle.std.proofs.Props.{props};
 ghost use Rattle.ebpf_machine.specs.World.{image_at};
 ghost use Rattle.ebpf_machine.specs.Kinds.{known_kinds};
-ghost use Rattle.ebpf_core.specs.Passing.{is_of_kind};
+ghost use Rattle.ebpf_core.specs.Passing.{FitShelves, AreApart, AreAway, AreStanding, on_shelf, is_of_kind};
 
 use ebpf_machine::kinds::row_of;
 use ebpf_machine::objects::Objects;
+use ebpf_machine::tally::Tally;
 use std::alloc::{AllocError, Global};
-use std::sync::ledger::{Book, Ledger, Share};
+use std::mem;
+use std::sync::ledger::Ledger;
 
 /// A slot with its bytes. Whoever has the object has the slot.
 #[derive(Drop)]
@@ -20,20 +22,22 @@ pub struct Object {
 }
 
 /// The store of one instruction of a run. An object that is lent to it goes to the run where a call of `new` takes it, and
-/// one that the run frees lies here afterwards; all others are out of the instruction's reach.
+/// one that the run frees lies here afterwards; a call of `swap` reaches the shelves; all others are out of the instruction's reach.
 ///
-/// What it answers is counted by contracts alone, in ledgers that take no bytes.
+/// What it answers is counted by contracts alone.
 #[derive(Drop)]
-pub struct Passing<G: Ledger, N: Ledger> {
+pub struct Passing<G: Ledger, N: Ledger, F: Ledger, M: Ledger> {
     object: Option<Object>,
-    grants: Book<G>,
-    grants_share: Share<G>,
-    nulls: Book<N>,
-    nulls_share: Share<N>,
+    shelves: [Option<Object>; 3],
+    grants: Tally<G>,
+    nulls: Tally<N>,
+    gets: Tally<F>,
+    misses: Tally<M>,
     ghost image: { IfSome object (λ o. o.bytes.items ≡ image_at known_kinds o.kind) } by { Prim.hlevel props },
     ghost known: { IfSome object (λ o. o.kind < length known_kinds) } by { Prim.hlevel props },
-    ghost counts_grants: { 0 < grants_share.parts },
-    ghost counts_nulls: { 0 < nulls_share.parts },
+    ghost fit: { FitShelves shelves } by { Prim.hlevel props },
+    ghost apart: { AreApart shelves } by { Prim.hlevel props },
+    ghost away: { AreAway object shelves } by { Prim.hlevel props },
 }
 
 impl Object {
@@ -48,35 +52,39 @@ impl Object {
     }
 }
 
-impl<G: Ledger, N: Ledger> Passing<G, N> {
-    /// A store that is lent this object, or none, over new ledgers.
+impl<G: Ledger, N: Ledger, F: Ledger, M: Ledger> Passing<G, N, F, M> {
+    /// A store that is lent this object, or none, over these shelves, which has answered nothing yet.
     pub(crate) fn new(
         object: Option<Object>,
-        grants: Book<G>,
-        grants_share: Share<G>,
-        nulls: Book<N>,
-        nulls_share: Share<N>,
-    ) -> Passing<G, N>
+        shelves: [Option<Object>; 3],
+        grants: Tally<G>,
+        nulls: Tally<N>,
+        gets: Tally<F>,
+        misses: Tally<M>,
+    ) -> Passing<G, N, F, M>
         requires lent { IfSome object (λ o. (o.bytes.items ≡ image_at known_kinds o.kind) × (o.kind < length known_kinds)) }
-        requires shares { (0 < grants_share.parts) × (0 < nulls_share.parts) }
-        ensures { result.object ≡ object }
+        requires standing { AreStanding object shelves }
+        ensures object { result.object ≡ object }
+        ensures shelves { result.shelves ≡ shelves }
     {
         Passing {
             object,
+            shelves,
             grants,
-            grants_share,
             nulls,
-            nulls_share,
+            gets,
+            misses,
         }
     }
 
-    /// The object that lies here after the instruction, where one does: it has its kind's image.
-    pub(crate) fn into_object(self) -> Option<Object>
-        ensures same { result ≡ self.object }
-        ensures image { IfSome result (λ o. o.bytes.items ≡ image_at known_kinds o.kind) }
-        ensures known { IfSome result (λ o. o.kind < length known_kinds) }
+    /// The object that lies here after the instruction, where one does: it has its kind's image. And what stands on the shelves.
+    pub(crate) fn into_parts(self) -> (Option<Object>, [Option<Object>; 3])
+        ensures same { result ≡ (self.object, self.shelves) }
+        ensures image { IfSome result.0 (λ o. o.bytes.items ≡ image_at known_kinds o.kind) }
+        ensures known { IfSome result.0 (λ o. o.kind < length known_kinds) }
+        ensures standing { AreStanding result.0 result.1 }
     {
-        self.object
+        (self.object, self.shelves)
     }
 }
 
@@ -106,10 +114,20 @@ fn restored(object: Object) -> Object
     Object { slot, kind, bytes }
 }
 
-impl<G: Ledger, N: Ledger> Objects for Passing<G, N> {
-    ghost use Rattle.std.specs.Prelude.{◌≡◌, None};
+// What stood on a shelf, for what is to stand there.
+fn exchange(shelves: &mut [Option<Object>; 3], shelf: u8, given: Option<Object>) -> Option<Object>
+    requires { shelf < length known_kinds }
+    ensures got { result ≡ on_shelf shelves.old shelf }
+    ensures given { shelves.new ≡ slice_set shelves.old shelf given }
+{
+    mem::replace(&mut shelves[shelf as usize], given)
+}
+
+impl<G: Ledger, N: Ledger, F: Ledger, M: Ledger> Objects for Passing<G, N, F, M> {
+    ghost use Rattle.std.specs.Prelude.{◌≡◌, ◌≢◌, ◌<◌, ◌+◌, ℕ, length, None, Option, option_map, IfSome, IfNone};
     ghost use Rattle.ebpf_machine.specs.Kinds.{known_kinds};
-    ghost use Rattle.ebpf_core.specs.Passing.{IsOut, Lends, LendsNone, out_of_kind};
+    ghost use Rattle.ebpf_machine.specs.Store.{Shelved, one_of};
+    ghost use Rattle.ebpf_core.specs.Passing.{IsOut, Lends, LendsNone, StandsThere, StandsNone, as_shelved, standing_on, out_of_kind};
 
     type Held = Object;
 
@@ -117,27 +135,57 @@ impl<G: Ledger, N: Ledger> Objects for Passing<G, N> {
       kinds = known_kinds;
       kind_of = λ o. o.kind;
       slot_of = λ o. o.slot;
-      is_out = λ p o. IsOut p.object o;
+      is_out = λ p o. IsOut p.object p.shelves o;
       bytes_of = λ p o. o.bytes.items;
       can_grant = λ p kind at slot. Lends p.object kind at slot;
       can_refuse = λ p kind. LendsNone p.object kind;
+      can_fetch = λ p shelf slot bytes. StandsThere p.shelves shelf slot bytes;
+      can_miss = λ p shelf. StandsNone p.shelves shelf;
+      stand = λ p shelf what. what ≡ standing_on p.shelves shelf;
       can_give = λ p. p.object ≡ None;
-      grants = λ p. p.grants.total;
-      nulls = λ p. p.nulls.total;
-      outs = λ p kind. out_of_kind p.object kind;
+      grants = λ p. p.grants;
+      nulls = λ p. p.nulls;
+      gets = λ p. p.gets;
+      misses = λ p. p.misses;
+      outs = λ p kind. out_of_kind p.object p.shelves kind;
     } };
 
     fn take(&mut self, kind: u8, _at: u16) -> Option<Object> {
         if is_of_kind(&self.object, kind) {
-            self.grants.add(&mut self.grants_share, 1);
+            self.grants.add_one();
             return self.object.take();
         }
-        self.nulls.add(&mut self.nulls_share, 1);
+        self.nulls.add_one();
         None
     }
 
     fn give(&mut self, _kind: u8, object: Object) {
         self.object = Some(restored(object));
+    }
+
+    fn swap(&mut self, shelf: u8, given: Option<Object>, _at: u16) -> Option<Object>
+        requires shelf { shelf < length known_kinds }
+        requires given { IfSome given (λ g. IsOut self.old.object self.old.shelves g × (g.kind ≡ shelf)) }
+        ensures fetched { IfSome result (λ h. StandsThere self.old.shelves shelf h.slot h.bytes.items) }
+        ensures missed { IfNone result (StandsNone self.old.shelves shelf) }
+        ensures out { IfSome result (λ h. IsOut self.new.object self.new.shelves h × (h.kind ≡ shelf)) }
+        ensures apart { IfSome result (λ h. (other : Object) → IsOut self.old.object self.old.shelves other → other.slot ≢ h.slot) }
+        ensures takes { (self.new.grants ≡ self.old.grants) × (self.new.nulls ≡ self.old.nulls) }
+        ensures fetched_count { IfSome result (λ _. (self.new.gets ≡ self.old.gets + 1) × (self.new.misses ≡ self.old.misses)) }
+        ensures missed_count { IfNone result ((self.new.misses ≡ self.old.misses + 1) × (self.new.gets ≡ self.old.gets)) }
+        ensures outs { (k : ℕ) → out_of_kind self.new.object self.new.shelves k + one_of given shelf k ≡ out_of_kind self.old.object self.old.shelves k + one_of result shelf k }
+        ensures gone { IfSome given (λ g. IsOut self.new.object self.new.shelves g → ⊥) }
+        ensures shelf { (what : Option Shelved) → what ≡ standing_on self.old.shelves shelf → option_map as_shelved given ≡ standing_on self.new.shelves shelf }
+        ensures other_shelves { (other : ℕ) (what : Option Shelved) → other ≢ shelf → what ≡ standing_on self.old.shelves other → what ≡ standing_on self.new.shelves other }
+        ensures others { (other : Object) → IsOut self.old.object self.old.shelves other → IfSome given (λ g. other.slot ≢ g.slot) → IsOut self.new.object self.new.shelves other × (other.bytes.items ≡ other.bytes.items) }
+    {
+        let got = exchange(&mut self.shelves, shelf, given);
+        if got.is_some() {
+            self.gets.add_one();
+        } else {
+            self.misses.add_one();
+        }
+        got
     }
 
     fn bytes<'a>(&'a self, held: &'a Object) -> &'a [u8] {

@@ -27,14 +27,13 @@ use crate::fault::{ApplyCode, ApplyFault};
 use crate::ledger::{Ledger, join, leave};
 use crate::passing::Object;
 use crate::place::{Place, is_home_of, lend, put};
-use crate::stepping::{answer_fault, start_fault, step_in};
+use crate::stepping::{answer_fault, new_blanks, start_fault, step_in};
 use ebpf_machine::context::Context;
 use ebpf_machine::run::{Run, StartFault};
 use ebpf_verify::verified::Verified;
 use std::alloc::{AllocError, Global};
 use std::collections::BTreeMap;
 use std::marker::{Brand, Model};
-use std::sync::ledger::Blank;
 
 /// How far a run is.
 #[derive(Clone, Copy)]
@@ -170,7 +169,9 @@ impl<'v> World<'v> {
             return Err(ApplyFault::Bad(code));
         }
         let lent = lend(&mut self.places, answer, number, run.pc() as u16);
-        let freed = step_in::<Brand, Brand>(run, lent, Blank::new(1), Blank::new(1));
+        // No run has a shelf in reach yet.
+        let shelves = [None, None, None];
+        let (freed, _) = step_in::<Brand, Brand, Brand, Brand>(run, lent, shelves, new_blanks());
         put(&mut self.places, freed);
         Ok(())
     }

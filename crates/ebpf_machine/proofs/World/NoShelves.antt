@@ -20,11 +20,12 @@ use Rattle.ebpf_machine.specs.declared.value.Value.TheVariants.{Number, Pointer}
 use Rattle.ebpf_machine.specs.Layout.{helper_of}
 use Rattle.ebpf_machine.specs.Values.{Frame}
 use Rattle.ebpf_machine.specs.Effect.{Act, Nothing, Write, Ask, Free, Exchange, Effect, Goes}
-use Rattle.ebpf_machine.specs.World.{Name, World, Owner, Holder, Run, Shelf, Going, is_by_run, is_shelf, standing, shelved_at, shelved_in}
+use Rattle.ebpf_machine.specs.World.{Name, World, Owner, Holder, Run, Shelf, Going, is_by_run, is_shelf, Shelved, standing, shelved_at, shelved_in}
 use Rattle.ebpf_machine.specs.Events.{Asking, Unasked, OfNoKind, OfKind, AtShelf, asking, asking_for, asking_helper}
 use Rattle.ebpf_machine.specs.View.{RunView, environment_of_view, effect_of_view}
 use Rattle.ebpf_machine.specs.Concretization.{Arrives}
-use Rattle.ebpf_machine.specs.Step.{asking_in, standing_seen}
+use Rattle.ebpf_machine.specs.Step.{asking_in, shelved_given, name_given, standing_seen}
+use Rattle.ebpf_machine.specs.Shelves.{shelf_done}
 use Rattle.ebpf_machine.specs.Sound.{AreSized, IsSound}
 use Rattle.ebpf_machine.proofs.Lists.ListLemmas.{IsFound, find_is}
 use Rattle.ebpf_machine.proofs.World.Asking.{AsksNew, AsksShelf, Asks, ForNothing, ForObject, ForShelf, asks_of, asked_goes}
@@ -90,18 +91,31 @@ asked_next v sound sized going = by (next_asks v sound sized going) where
 
 -- ---- and nothing stands on one
 
-pub shelves_left : (w : World) (held : List Name) (v : RunView) (shelf : ℕ) → IsSound v → AreSized v → v.status ≡ Going → standing_seen w held (effect_of_view v) shelf ≡ shelved_in w shelf
-shelves_left w held v shelf sound sized going = by (next_of v sound sized going) where
-  acted : (act : Act ℕ) (to : ℕ) (after : Frame ℕ) → effect_of_view v ≡ Goes act to after → standing_seen w held (Goes act to after) shelf ≡ shelved_in w shelf
+pub shelf_left : (given_is : Option ℕ → Option Shelved) (v : RunView) (shelf : ℕ) (what : Option Shelved) → IsSound v → AreSized v → v.status ≡ Going → shelf_done given_is (effect_of_view v) shelf what ≡ what
+shelf_left given_is v shelf what sound sized going = by (next_of v sound sized going) where
+  acted : (act : Act ℕ) (to : ℕ) (after : Frame ℕ) → effect_of_view v ≡ Goes act to after → shelf_done given_is (Goes act to after) shelf what ≡ what
   acted Nothing to after does = refl
   acted (Write name at bytes) to after does = refl
   acted (Ask kind) to after does = refl
   acted (Free name) to after does = refl
   acted (Exchange k given) to after does = absurd (never_exchanges v k to given after sound going does)
 
-  by : IsNext v → standing_seen w held (effect_of_view v) shelf ≡ shelved_in w shelf
-  by (inl (act, to, after, g)) = ap (λ (e : Effect ℕ). standing_seen w held e shelf) g.does ∙ acted act to after g.does
-  by (inr (n, ends)) = ap (λ (e : Effect ℕ). standing_seen w held e shelf) ends.does
+  by : IsNext v → shelf_done given_is (effect_of_view v) shelf what ≡ what
+  by (inl (act, to, after, g)) = ap (λ (e : Effect ℕ). shelf_done given_is e shelf what) g.does ∙ acted act to after g.does
+  by (inr (n, ends)) = ap (λ (e : Effect ℕ). shelf_done given_is e shelf what) ends.does
+
+pub shelves_left : (w : World) (held : List Name) (v : RunView) (shelf : ℕ) → IsSound v → AreSized v → v.status ≡ Going → standing_seen w held (effect_of_view v) shelf ≡ shelved_in w shelf
+shelves_left w held v shelf sound sized going = shelf_left (λ given. shelved_given w (name_given held given)) v shelf (shelved_in w shelf) sound sized going
+
+pub none_shelved : (w : World) (shelf : ℕ) → ((o : Owner) → Contains w.owners o → is_by_run o.holder ≡ true) → shelved_in w shelf ≡ None
+none_shelved w shelf runs = by (standing w shelf) refl (find_is (λ (p : Owner). is_shelf shelf p.holder) w.owners) where
+  no_run : (h : Holder) → is_by_run h ≡ true → is_shelf shelf h ≡ true → ⊥
+  no_run (Run run at) by_run on = absurd (cc)
+  no_run (Shelf s) by_run on = absurd (cc)
+
+  by : (f : Option Owner) → standing w shelf ≡ f → IsFound (λ (p : Owner). is_shelf shelf p.holder) w.owners f → shelved_in w shelf ≡ None
+  by None e found = ap (option_map (λ (q : Owner). shelved_at w q.slot)) e
+  by (Some p) e found = absurd (no_run p.holder (runs p found.0) found.1)
 
 -- so each owner is a run
 pub by_run : (w : World) (o : Owner) → ((shelf : ℕ) → shelved_in w shelf ≡ None) → Contains w.owners o → is_by_run o.holder ≡ true
