@@ -21,7 +21,7 @@ pub(crate) fn alone(
 ) -> Result<(Report, Sums), AllocError>
     requires { kinds_of verified.now.rows ≡ known_kinds }
 {
-    alone_in::<Brand>(alloc, verified, context, answers, Blank::new(1))
+    alone_in::<Brand>(alloc, verified, context, answers, Blank::new(2))
 }
 
 // The same with a new ledger.
@@ -33,11 +33,10 @@ fn alone_in<L: Ledger>(
     blank: Blank,
 ) -> Result<(Report, Sums), AllocError>
     requires name { blank.name ≡ L.name }
-    requires parts { (blank.parts ≡ L.parts) × (L.parts ≡ 1) }
+    requires parts { (blank.parts ≡ L.parts) × (L.parts ≡ 2) }
     requires kinds { kinds_of verified.now.rows ≡ known_kinds }
 {
-    let (book, share) = blank.open::<L>();
-    let mut store = Store::<L>::new(alloc, answers, book, share);
+    let mut store = Store::<L>::new(alloc, answers, blank);
     let Ok(report) = run_to_exit(alloc, verified, context, &mut store) else {
         return Err(AllocError);
     };

@@ -8,7 +8,7 @@ use ebpf_machine::kinds::row_of;
 use ebpf_machine::objects::Objects;
 use ebpf_machine::report::Reply;
 use std::alloc::Global;
-use std::sync::ledger::{Book, Ledger, Share};
+use std::sync::ledger::{Blank, Book, Ledger, Share};
 
 // What became of a slot that was granted: the kind that it was granted for, and whether it is out still.
 #[derive(Clone, Copy)]
@@ -32,7 +32,7 @@ pub(crate) struct Sums {
 }
 
 // A store for one run, with what its calls of `new` are to be answered; null, where there is no answer more or no memory. A slot
-// is granted once.
+// is granted once. Contracts alone count the calls that were answered null and those of `swap`, each by a part of the ledger.
 #[derive(Drop)]
 pub(crate) struct Store<L: Ledger> {
     alloc: Global,
@@ -41,21 +41,20 @@ pub(crate) struct Store<L: Ledger> {
     next: usize,
     sums: Sums,
     is_short: bool,
-    nulls: Book<L>,
-    share: Share<L>,
-    ghost counts: { 0 < share.parts },
+    book: Book<L>,
+    nulls: Share<L>,
+    misses: Share<L>,
+    ghost counts: { (0 < nulls.parts) × (0 < misses.parts) },
 }
 
 impl<L: Ledger> Store<L> {
     // A store that has granted nothing yet, over a new ledger.
-    pub(crate) fn new(
-        alloc: Global,
-        answers: Vec<Reply>,
-        nulls: Book<L>,
-        share: Share<L>,
-    ) -> Store<L>
-        requires counts { 0 < share.parts }
+    pub(crate) fn new(alloc: Global, answers: Vec<Reply>, blank: Blank) -> Store<L>
+        requires name { blank.name ≡ L.name }
+        requires parts { (blank.parts ≡ L.parts) × (L.parts ≡ 2) }
     {
+        let (book, mut nulls) = blank.open::<L>();
+        let misses = nulls.split_off(1, 0);
         Store {
             alloc,
             table: Vec::new(alloc),
@@ -66,8 +65,9 @@ impl<L: Ledger> Store<L> {
                 refused: [0; 3],
             },
             is_short: false,
+            book,
             nulls,
-            share,
+            misses,
         }
     }
 
@@ -83,7 +83,7 @@ impl<L: Ledger> Store<L> {
         ensures object { IfSome result (λ o. (o.slot ≡ length self.old.table.items) × (o.kind ≡ kind)) }
         ensures image { IfSome result (λ o. o.bytes.items ≡ image_at known_kinds kind) }
         ensures none { IfNone result (self.new.table.items ≡ self.old.table.items) }
-        ensures nulls { self.new.nulls.total ≡ self.old.nulls.total }
+        ensures counts { (self.new.nulls.amount ≡ self.old.nulls.amount) × (self.new.misses.amount ≡ self.old.misses.amount) }
     {
         let row = row_of(kind);
         let slot = self.table.len();
@@ -109,8 +109,9 @@ fn count(counts: &mut [u64; 3], kind: u8) {
 }
 
 impl<L: Ledger> Objects for Store<L> {
-    ghost use Rattle.std.specs.Prelude.{length};
+    ghost use Rattle.std.specs.Prelude.{◌≡◌, ◌≢◌, ◌+◌, ℕ, length, None, IfSome};
     ghost use Rattle.ebpf_machine.specs.Kinds.{known_kinds};
+    ghost use Rattle.ebpf_machine.specs.Store.{one_of};
     ghost use Rattle.pool_tests.specs.Store.{IsOut, out_of_kind};
 
     type Held = Object;
@@ -123,9 +124,14 @@ impl<L: Ledger> Objects for Store<L> {
       bytes_of = λ s o. o.bytes.items;
       can_grant = λ s kind at slot. Unit {0};
       can_refuse = λ s kind. Unit {0};
+      can_fetch = λ s shelf slot bytes. ⊥;
+      can_miss = λ s shelf. Unit {0};
+      stand = λ s shelf what. ⊥;
       can_give = λ s. Unit {0};
       grants = λ s. length s.table.items;
-      nulls = λ s. s.nulls.total;
+      nulls = λ s. s.nulls.amount;
+      gets = λ s. 0;
+      misses = λ s. s.misses.amount;
       outs = λ s kind. out_of_kind s.table.items kind;
     } };
 
@@ -138,7 +144,7 @@ impl<L: Ledger> Objects for Store<L> {
             }
         }
         count(&mut self.sums.refused, kind);
-        self.nulls.add(&mut self.share, 1);
+        self.book.add(&mut self.nulls, 1);
         None
     }
 
@@ -152,6 +158,23 @@ impl<L: Ledger> Objects for Store<L> {
             kind,
             is_out: false,
         };
+    }
+
+    // Nothing stands on a shelf, and what is given is gone. No test runs a program that calls `swap`.
+    fn swap(&mut self, shelf: u8, given: Option<Object>, _at: u16) -> Option<Object>
+        requires given { IfSome given (λ g. IsOut self.old.table.items g × (g.kind ≡ shelf)) }
+        ensures none { result ≡ None }
+        ensures takes { (length self.new.table.items ≡ length self.old.table.items) × (self.new.nulls.amount ≡ self.old.nulls.amount) }
+        ensures missed_count { self.new.misses.amount ≡ self.old.misses.amount + 1 }
+        ensures outs { (k : ℕ) → out_of_kind self.new.table.items k + one_of given shelf k ≡ out_of_kind self.old.table.items k }
+        ensures gone { IfSome given (λ g. IsOut self.new.table.items g → ⊥) }
+        ensures others { (other : Object) → IsOut self.old.table.items other → IfSome given (λ g. other.slot ≢ g.slot) → IsOut self.new.table.items other × (other.bytes.items ≡ other.bytes.items) }
+    {
+        self.book.add(&mut self.misses, 1);
+        if let Some(object) = given {
+            self.give(shelf, object);
+        }
+        None
     }
 
     fn bytes<'b>(&'b self, held: &'b Object) -> &'b [u8] {

@@ -90,11 +90,10 @@ fn trace_in<L: Ledger>(
     blank: Blank,
 ) -> String
     requires name { blank.name ≡ L.name }
-    requires parts { (blank.parts ≡ L.parts) × (L.parts ≡ 1) }
+    requires parts { (blank.parts ≡ L.parts) × (L.parts ≡ 2) }
     requires kinds { kinds_of verified.now.rows ≡ known_kinds }
 {
-    let (book, share) = blank.open::<L>();
-    let mut store = Store::<L>::new(alloc, answers, book, share);
+    let mut store = Store::<L>::new(alloc, answers, blank);
     trace_over(rt, alloc, verified, &mut store, limit, by_steps)
 }
 
@@ -110,7 +109,7 @@ fn trace(
     requires { kinds_of verified.now.rows ≡ known_kinds }
 {
     let answers = replies(rt, alloc, letters);
-    let blank = Blank::new(1);
+    let blank = Blank::new(2);
     trace_in::<Brand>(rt, alloc, verified, answers, limit, by_steps, blank)
 }
 

@@ -4,6 +4,7 @@ ghost use Rattle.std.specs.Prelude.{◌≡◌, ◌≤◌, ◌+◌, [], length};
 
 use crate::before::Before;
 use crate::client::Client;
+use crate::count::count;
 use crate::object::Object;
 use crate::stock::Stock;
 use ebpf_machine::objects::Objects;
@@ -29,6 +30,8 @@ pub struct Store<
     pub(crate) cells: Stock<'a, CellKind, A0, B0>,
     pub(crate) records: Stock<'a, RecordKind, A1, B1>,
     pub(crate) blocks: Stock<'a, BlockKind, A2, B2>,
+    /// How many calls of `swap` found nothing.
+    pub(crate) misses: u64,
     ghost noted: { length client.seat.notes ≡ N.noted + (cells.hand.allocs + records.hand.allocs + blocks.hand.allocs) },
     ghost held: { length client.seat.held + (cells.hand.frees + records.hand.frees + blocks.hand.frees) ≡ cells.hand.allocs + records.hand.allocs + blocks.hand.allocs },
     ghost clashes: { client.clashes ≤ cells.hand.allocs + records.hand.allocs + blocks.hand.allocs },
@@ -64,6 +67,7 @@ impl<
             cells,
             records,
             blocks,
+            misses: 0,
         }
     }
 }
@@ -79,14 +83,17 @@ impl<
     N: Before,
     R: Wait,
 > Objects for Store<'a, A0, B0, A1, B1, A2, B2, N, R> {
+    ghost use Rattle.std.specs.Prelude.{◌≡◌, ◌≢◌, ◌+◌, ℕ, None, IfSome};
     ghost use Rattle.ebpf_machine.specs.Kinds.{known_kinds};
+    ghost use Rattle.ebpf_machine.specs.Store.{one_of};
     ghost use Rattle.owners_table.specs.Owning.{Holds};
     ghost use Rattle.worker_pool.specs.Counts.{grants_of, nulls_of, outs_of};
     ghost use Rattle.worker_pool.specs.Object.{kind_of, slot_of, bytes_of, has_size};
 
     type Held = Object;
 
-    // An object is out while the seat holds its slot. Any call may be refused, and any slot that is free be granted.
+    // An object is out while the seat holds its slot. Any call may be refused, and any slot that is free be granted. Nothing comes
+    // off a shelf.
     ghost store = { record {
       kinds = known_kinds;
       kind_of = λ o. kind_of o;
@@ -95,9 +102,14 @@ impl<
       bytes_of = λ s o. bytes_of o;
       can_grant = λ s kind at slot. Unit {0};
       can_refuse = λ s kind. Unit {0};
+      can_fetch = λ s shelf slot bytes. ⊥;
+      can_miss = λ s shelf. Unit {0};
+      stand = λ s shelf what. ⊥;
       can_give = λ s. Unit {0};
       grants = λ s. grants_of s.cells.hand s.records.hand s.blocks.hand s.client.clashes;
       nulls = λ s. nulls_of s.cells.hand s.records.hand s.blocks.hand s.client.clashes;
+      gets = λ s. 0;
+      misses = λ s. s.misses;
       outs = λ s kind. outs_of s.cells.hand s.records.hand s.blocks.hand kind;
     } };
 
@@ -125,6 +137,31 @@ impl<
             Object::Record(object) => self.records.give(&mut self.client, object),
             Object::Block(object) => self.blocks.give(&mut self.client, object),
         }
+    }
+
+    // There are no shelves yet: what is given goes back to its cache. No run comes here, since the pool starts no job whose
+    // program calls `swap`.
+    //
+    // Its clauses are those of the trait in words of this store, since no parameter of such a type takes them from there.
+    fn swap(&mut self, shelf: u8, given: Option<Object>, _at: u16) -> Option<Object>
+        requires given { IfSome given (λ g. Holds (slot_of g) self.old.client.seat.held × (kind_of g ≡ shelf)) }
+        ensures none { result ≡ None }
+        ensures missed { self.new.misses ≡ self.old.misses + 1 }
+        ensures granted { grants_of self.new.cells.hand self.new.records.hand self.new.blocks.hand self.new.client.clashes ≡
+            grants_of self.old.cells.hand self.old.records.hand self.old.blocks.hand self.old.client.clashes }
+        ensures refused { nulls_of self.new.cells.hand self.new.records.hand self.new.blocks.hand self.new.client.clashes ≡
+            nulls_of self.old.cells.hand self.old.records.hand self.old.blocks.hand self.old.client.clashes }
+        ensures outs { (k : ℕ) → outs_of self.new.cells.hand self.new.records.hand self.new.blocks.hand k + one_of given shelf k ≡
+            outs_of self.old.cells.hand self.old.records.hand self.old.blocks.hand k }
+        ensures gone { IfSome given (λ g. Holds (slot_of g) self.new.client.seat.held → ⊥) }
+        ensures others { (other : Object) → Holds (slot_of other) self.old.client.seat.held → IfSome given (λ g. slot_of other ≢ slot_of g) →
+            Holds (slot_of other) self.new.client.seat.held }
+    {
+        count(self.client.rt, &mut self.misses);
+        if let Some(object) = given {
+            self.give(shelf, object);
+        }
+        None
     }
 
     fn bytes<'b>(&'b self, held: &'b Object) -> &'b [u8] {

@@ -141,6 +141,7 @@ fn work_with<
         cells,
         records,
         blocks,
+        misses: _,
     } = store;
     let (seat, clashes) = client.end();
     let left = Hands {
