@@ -20,7 +20,6 @@ pub mod NewSlots
 pub mod PartedSlots
 pub mod Shelving
 pub mod Standing
-pub mod NoShelves
 pub mod Replies
 pub mod Feeding
 pub mod Lone

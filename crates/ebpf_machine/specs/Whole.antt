@@ -48,17 +48,6 @@ fetched replies = count_by is_fetched replies
 abbrev pub missed : List Reply → ℕ
 missed replies = count_by is_empty replies
 
--- a reply to a call of swap
-abbrev pub is_to_swap : Reply → Bool
-is_to_swap Empty = true
-is_to_swap Shelf = true
-is_to_swap Null = false
-is_to_swap Granted = false
-
--- no call reached a shelf: no instruction does yet
-abbrev pub AreUnshelved : Replies → Type 0
-AreUnshelved replies = (count_by is_to_swap replies.answers ≡ 0) × (replies.taken ≡ [])
-
 -- ---- the report
 
 abbrev pub told_to : Option Running → Replies
@@ -77,7 +66,6 @@ pub record IsReportOf (s : Subject) (context : List ℕ) (r : Report) : Type 0 w
   pub same : outcome_alone s context (replies_in r) ≡ outcome_in_report exit r
   pub told : told_alone s context (replies_in r) ≡ replies_in r
   pub only : (more : Replies) → outcome_alone s context (more_than (replies_in r) more) ≡ outcome_in_report exit r
-  pub unshelved : AreUnshelved (replies_in r)
   pub few : length r.answers ≤ r.executed
   pub bounded : r.executed ≤ length (instructions s.program)
   pub declared : r.peak ≤ s.decl.held

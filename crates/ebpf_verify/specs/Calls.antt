@@ -96,8 +96,7 @@ call_refusal decl rows None s = Some V14
 call_refusal decl rows (Some New) s = new_refusal decl (length rows) (length s.held) (register_of s R1)
 call_refusal decl rows (Some Free) s = free_refusal (register_of s R1)
 call_refusal decl rows (Some Emit) s = emit_refusal (register_of s R1)
--- no run has a shelf in reach yet: swap_refusal is what it will be
-call_refusal decl rows (Some Swap) s = Some V14
+call_refusal decl rows (Some Swap) s = swap_refusal decl (length rows) s (register_of s R1) (register_of s R2)
 
 -- ---- what is known after it
 

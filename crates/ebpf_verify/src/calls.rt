@@ -39,8 +39,8 @@ pub(crate) fn call(
         Some(Helper::New) => call_new(decl, rows.len(), slot, state),
         Some(Helper::Free) => call_free(slot, state),
         Some(Helper::Emit) => call_emit(slot, state),
-        // No run has a shelf in reach yet: `call_swap` is what will be done.
-        Some(Helper::Swap) | None => Err(refused_at(slot, VerifyCode::V14)),
+        Some(Helper::Swap) => call_swap(decl, rows.len(), slot, state),
+        None => Err(refused_at(slot, VerifyCode::V14)),
     }
 }
 

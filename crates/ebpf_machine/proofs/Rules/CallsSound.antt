@@ -374,13 +374,12 @@ swap_told v number s t shelf given h = by where
       subst IsSound (sym (cond-false (nat_le v.subject.decl.held (length left)) (trapped TooManyObjects v) now (not_full (length left) v.subject.decl.held h.room)))
       (there_sound v (insn.Call number) s (v.pc + 1) (with_value after R0 result) objects (v.replies ++ reply.Shelf ∷ []) (v.taken ++ bytes) h.call.here (inl refl) (object_there v number s helper.Swap t left (shelved_object v shelf bytes) refl h))
 
--- it is sound where its row of the table does not refuse it, which is what the verdict will ask
-swap_next : (v : RunView) (number : ℤ) (s : StateView) → IsCall v number s helper.Swap → swap_refusal v.subject.decl (length v.subject.rows) s (register_of s R1) (register_of s R2) ≡ None → IsNext v
-swap_next v number s h fine =
+swap_next : (v : RunView) (number : ℤ) (s : StateView) → IsCall v number s helper.Swap → IsNext v
+swap_next v number s h =
     let here = h.here in
     let shelf = register_of s R1 in
     let given = register_of s R2 in
-    let unset = none_first (is_unset shelf) _ _ fine in
+    let unset = none_first (is_unset shelf) _ _ h.fine in
     let unset_given = none_first (is_unset given) _ _ unset.1 in
     let may = none_first (is_may given) _ _ unset_given.1 in
     let names = none_first (not (names_kind (length v.subject.rows) shelf)) _ _ may.1 in
@@ -417,4 +416,4 @@ call_next v number s here = by (helper_of number) refl where
   by (Some helper.New) is = new_next v number s (called helper.New is)
   by (Some helper.Free) is = free_next v number s (called helper.Free is)
   by (Some helper.Emit) is = emit_next v number s (called helper.Emit is)
-  by (Some helper.Swap) is = let refused = (called helper.Swap is).fine in absurd (cc)
+  by (Some helper.Swap) is = swap_next v number s (called helper.Swap is)

@@ -12,7 +12,7 @@ use Rattle.ebpf_machine.specs.RunState.{RunState, status_of}
 use Rattle.ebpf_machine.specs.Sound.{IsSound, IsAlone}
 use Rattle.ebpf_machine.specs.Step.{seen_in}
 use Rattle.ebpf_machine.specs.Store.{Store, CountsStay, held_of_kind}
-use Rattle.ebpf_machine.specs.Whole.{IsReportOf, AreUnshelved, told_alone, granted, refused, fetched, missed}
+use Rattle.ebpf_machine.specs.Whole.{IsReportOf, told_alone, granted, refused, fetched, missed}
 use Rattle.ebpf_machine.proofs.World.Lone.{none_more, outcome_exited, told_exited}
 use Rattle.ebpf_machine.proofs.WholeRuns.Told.{IsCounted}
 
@@ -27,8 +27,8 @@ pub record IsFinished {H : Type 0} (t : RunState H) (r : Report) : Type 0 where
   pub alone : IfSome t.exit (λ n. outcome_alone t.subject t.context (replies_in r) ≡ outcome_in_report n r)
 
 -- the report of a run that exited with this number
-pub report_of : {S H : Type 0} (o : Store S H) (s : S) (t : RunState H) (n : ℕ) (r : Report) → t.exit ≡ Some n → IsSound (seen_in o s t) → IsAlone (seen_in o s t) → length t.replies ≤ t.executed → AreUnshelved (replies_from t.replies t.taken) → IsFinished t r → IsReportOf t.subject t.context r
-report_of o s t n r exited sound alone few unshelved is = record {
+pub report_of : {S H : Type 0} (o : Store S H) (s : S) (t : RunState H) (n : ℕ) (r : Report) → t.exit ≡ Some n → IsSound (seen_in o s t) → IsAlone (seen_in o s t) → length t.replies ≤ t.executed → IsFinished t r → IsReportOf t.subject t.context r
+report_of o s t n r exited sound alone few is = record {
   exit = n;
   exited = is.exit ∙ exited;
   same = same;
@@ -39,7 +39,6 @@ report_of o s t n r exited sound alone few unshelved is = record {
       ∙ sym (outcome_exited v n sound alone ended (replies_from [] []))
       ∙ ap (outcome_alone t.subject t.context) (none_more (replies_of v) ∙ sym replies)
       ∙ same;
-  unshelved = subst AreUnshelved (sym replies) unshelved;
   few = omega (arith, few, is.executed, ap (λ (rs : List Reply). length rs) is.answers);
   bounded = is.bounded;
   declared = is.declared;

@@ -14,7 +14,7 @@ none_out : {S H : Type 0} (o : Store S H) (s : S) → AreOut o s []
 none_out o s = record { out = λ i d few. absurd (omega (arith, few)); apart = λ i j d before few. absurd (omega (arith, few)) }
 
 none_counted : {S H : Type 0} (o : Store S H) (s : S) (subject : Subject) (context : List ℕ) → IsCounted o s s (first_state_of subject context)
-none_counted o s subject context = record { told = record { granted_are = omega arith; refused_are = omega arith; fetched_are = omega arith; missed_are = omega arith; few = omega arith }; unshelved = (refl, refl); outs = λ k. omega arith }
+none_counted o s subject context = record { told = record { granted_are = omega arith; refused_are = omega arith; fetched_are = omega arith; missed_are = omega arith; few = omega arith }; outs = λ k. omega arith }
 
 first_alone : {H : Type 0} (bytes : H → List ℕ) (subject : Subject) (context : List ℕ) → IsAlone (seen bytes (first_state_of subject context))
 first_alone bytes subject context = ap (λ (a : Alone). view_in a.world 0) (after_none subject context (replies_from [] []))

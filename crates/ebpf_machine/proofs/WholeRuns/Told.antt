@@ -19,10 +19,9 @@ use Rattle.ebpf_machine.specs.Step as step
 use Rattle.ebpf_machine.specs.Step.{Served, Idle, Refused, Granted, Offers, offers_of, MayAnswer, AreCounted, IsStepOver, result_of, granted_in, refused_in, got_in, missed_in, asking_in, seen_in}
 use Rattle.ebpf_machine.specs.Store.{Store, Counts, counts_of, AreOut, held_of_kind}
 use Rattle.ebpf_machine.specs.Turns.{IsTurn, AreTurns}
-use Rattle.ebpf_machine.specs.Whole.{is_granted, is_null, is_fetched, is_empty, is_to_swap, granted, refused, fetched, missed, AreUnshelved}
+use Rattle.ebpf_machine.specs.Whole.{is_granted, is_null, is_fetched, is_empty, granted, refused, fetched, missed}
 use Rattle.ebpf_machine.proofs.World.Asking.{Asks, AsksNew, ForNothing, ForObject, ForShelf, asks_of}
 use Rattle.ebpf_machine.proofs.World.Replies.{heard_by_new, heard_by_swap, one_told, replies_kept, replies_added, replies_swapped}
-use Rattle.ebpf_machine.proofs.World.NoShelves.{next_asks}
 use Rattle.ebpf_machine.proofs.World.Steps.{next_of}
 
 -- since it counted the first, a store has granted, refused, given from shelves and missed what the replies say, and each reply was to
@@ -105,28 +104,11 @@ told_next {H} v served may first old new held now sound sized going can more was
       subst IsTold (sym (ap (λ (rs : Replies). rs.answers) (replies_swapped v (result_of served) shelf going new_one)))
       (after_swap v.replies first old new v.executed held now may v.pc shelf served (answered (AtShelf shelf) asked) more was)
 
--- ---- no call reaches a shelf
-
-unshelved_more : (replies : Replies) (result : CallResult) → AreUnshelved replies → AreUnshelved (more_than replies (one_told result))
-unshelved_more replies result was = (counted_push is_to_swap replies.answers (reply_in (heard_by_new result)) ∙ to_new result, ap (λ (bytes : List ℕ). bytes ++ []) was.1) where
-  to_new : (result : CallResult) → count_by is_to_swap replies.answers + cond (is_to_swap (reply_in (heard_by_new result))) 1 0 ≡ 0
-  to_new view.Null = omega (arith, was.0)
-  to_new view.Granted = omega (arith, was.0)
-  to_new view.Empty = omega (arith, was.0)
-  to_new (view.Shelved bytes) = omega (arith, was.0)
-
-unshelved_next : (v : RunView) (result : CallResult) → IsSound v → AreSized v → v.status ≡ Going → AreUnshelved (replies_of v) → AreUnshelved (replies_of (stepped result v))
-unshelved_next v result sound sized going was = by (next_asks v sound sized going) where
-  by : (asking_in v ≡ Unasked) ⊎ ((kind : ℕ) × (asking_in v ≡ OfKind kind) × AsksNew v kind) → AreUnshelved (replies_of (stepped result v))
-  by (inl unasked) = subst AreUnshelved (sym (replies_kept v result going unasked)) was
-  by (inr (kind, asked, new)) = subst AreUnshelved (sym (replies_added v result kind going new)) (unshelved_more (replies_of v) result was)
-
 -- ---- a run over a store
 
 -- since the first state of the store: it counts what the run was told, and has as many more out as the run holds
 pub record IsCounted {S H : Type 0} (o : Store S H) (first now : S) (r : RunState H) : Type 0 where
   pub told : AreTold r.replies (counts_of o first) (counts_of o now) r.executed
-  pub unshelved : AreUnshelved (replies_from r.replies r.taken)
   pub outs : (k : ℕ) → o.outs now k ≡ o.outs first k + held_of_kind r.held k
 
 -- objects that are out have the size of their kind
@@ -165,7 +147,6 @@ counted_turn o first old new subject context r t sizes kinds was turn =
         missed_are = next.missed_are ∙ ap (λ (rs : List Reply). o.misses first + missed rs) (sym replies);
         few = omega (arith, next.few, ap (λ (rs : List Reply). length rs) replies, turn.counted);
       };
-      unshelved = subst AreUnshelved (ap replies_of (sym s.2.state)) (unshelved_next v (result_of s.0) was.sound (sized_out o old r sizes known was.out) now was.counted.unshelved);
       outs = λ k. let before = was.counted.outs k in let counts = s.2.counts.of_kind k in omega (arith, before, counts);
     }
 

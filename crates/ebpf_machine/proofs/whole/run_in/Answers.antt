@@ -27,7 +27,7 @@ returns-clause-report g c =
     let end = c.end.ensures in
     let finished : IsFinished c.run.new.self c.end.result.0 = record { exit = end.exit; executed = end.executed; answers = end.answers; taken = end.taken; bounded = end.bounded; declared = end.declared; alone = end.alone } in
     report_with _ _ _ _ c.end.result.0 was.subject_is was.context_is
-    (report_of g.O.Objects.store c.run.new.objects c.run.new.self exited.0 c.end.result.0 exited.1 was.sound was.alone was.counted.told.few was.counted.unshelved finished)
+    (report_of g.O.Objects.store c.run.new.objects c.run.new.self exited.0 c.end.result.0 exited.1 was.sound was.alone was.counted.told.few finished)
 
 pub returns-clause-granted : goal.returns-clause-granted
 returns-clause-granted g c = granted_last g.O.Objects.store _ _ _ c.run.new.self _ (ran g c).counted c.end.ensures.counts c.end.ensures.answers
