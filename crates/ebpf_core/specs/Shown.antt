@@ -15,7 +15,7 @@ use Rattle.ebpf_core.specs.declared.event.Event.{Event}
 use Rattle.ebpf_core.specs.declared.fault.ApplyFault.{ApplyFault}
 use Rattle.ebpf_core.specs.Events.{happened}
 use Rattle.ebpf_core.specs.Faults.{IsApplyFault}
-use Rattle.ebpf_core.specs.Passing.{IsOut, AreStanding, on_shelf, standing_on}
+use Rattle.ebpf_core.specs.Passing.{IsOut, AreStanding, slot_on, standing_on}
 use Rattle.ebpf_core.specs.Places.{Places, place_at}
 
 -- the world as it is kept: the programs, the runs in the order of their starts, the slots of each kind, where each slot is, and the
@@ -57,13 +57,13 @@ abbrev pub IsPlaced : WorldState → ℕ → Option Place → Type 0
 IsPlaced kept slot None = list_any (is_in slot) kept.ledgers ≡ false
 IsPlaced kept slot (Some (Home o)) = IsAtHome kept slot o
 IsPlaced kept slot (Some (Held run at)) = (r : RunState Object) × (slice_get kept.runs run ≡ Some r) × Contains (slots_of r) (name_of slot at)
-IsPlaced kept slot (Some (Shelved shelf)) = (o : Object) × (on_shelf kept.shelves shelf ≡ Some o) × (o.slot ≡ slot)
+IsPlaced kept slot (Some (Shelved shelf)) = slot_on kept.shelves shelf ≡ Some slot
 
 -- each slot is where it is kept, each that a run holds is kept as held, and each on a shelf as standing there
 pub record ArePlaced (kept : WorldState) : Type 0 where
   pub each : (slot : ℕ) → IsPlaced kept slot (place_at kept.places slot)
   pub held : (run : ℕ) (r : RunState Object) → slice_get kept.runs run ≡ Some r → (n : Name) → Contains (slots_of r) n → place_at kept.places n.slot ≡ Some (Held run n.call)
-  pub shelved : (shelf : ℕ) (o : Object) → on_shelf kept.shelves shelf ≡ Some o → place_at kept.places o.slot ≡ Some (Shelved shelf)
+  pub shelved : (shelf slot : ℕ) → slot_on kept.shelves shelf ≡ Some slot → place_at kept.places slot ≡ Some (Shelved shelf)
 
 -- the world that is kept shows this one: each run as it sees itself, in the slots that it holds, and what stands on the shelves
 pub record Shows (w : World) (kept : WorldState) : Type 0 where

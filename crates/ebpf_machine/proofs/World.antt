@@ -15,6 +15,7 @@ pub mod Pointing
 pub mod Steps
 pub mod Asking
 pub mod Execs
+pub mod KeptShelves
 pub mod LedgerChanges
 pub mod NewSlots
 pub mod PartedSlots
