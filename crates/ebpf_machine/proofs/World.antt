@@ -15,10 +15,10 @@ pub mod Pointing
 pub mod Steps
 pub mod Asking
 pub mod Execs
-pub mod KeptShelves
 pub mod LedgerChanges
 pub mod NewSlots
 pub mod PartedSlots
+pub mod KeptShelves
 pub mod Shelving
 pub mod Standing
 pub mod Replies

@@ -45,37 +45,13 @@ step_in-freed-requires-clause-lends c =
     let at = slice_get_read c.self.inside.runs.items _ c.args.run r refl (omega arith) c.index_mut-run.ensures.value in
     let tended = at_number IsTended c.self.inside.runs.items c.args.run r c.self.invariant.runs at in
     let fine = ap (code_by c.self.inside.places.entries c.args.answer) (sym c.wants.ensures) ∙ sym c.answer_fault.ensures ∙ c.in_default.is in
-    subst (λ (l : Option Object). CanLend l bare r) (sym c.lend-lent.ensures.object) (can_lend _ c.args.run c.args.answer r c.self.invariant.placed tended at fine)
+    subst (λ (l : Option Object). CanLend l c.self.inside.shelves r) (sym c.lend-lent.ensures.object) (can_lend _ c.args.run c.args.answer r c.self.invariant.placed c.self.invariant.standing tended at fine)
 
+-- the step, in the world that is kept: it is one instruction of this run
 pub put-requires : goal.put-requires
 put-requires c =
     let r = c.index_mut-run.result.now in
     let at = slice_get_read c.self.inside.runs.items _ c.args.run r refl (omega arith) c.index_mut-run.ensures.value in
     let i = instruction _ c.args.run c.args.answer r c.step_in-freed.new.run c.lend-lent.result c.step_in-freed.result.0 c.wants.result c.answer_fault.result c.self.invariant at (going r.exit (search rules)) c.answer_fault.ensures c.in_default.is c.wants.ensures c.lend-lent.ensures.object c.step_in-freed.result.1 c.step_in-freed.ensures.stepped in
-    let lent = λ (q : ℕ). c.lend-lent.ensures.places q ∙ ap (λ (n : ℕ). place_lent c.args.answer c.args.run n c.self.inside.places.entries q) c.pc.ensures.value in
+    let lent = lent_to c.self.inside.places c.args.answer c.args.run _ _ _ c.pc.ensures.value c.lend-lent.ensures.places in
     record { known = freed_known c.self.invariant.shown.0 _ c.args.run c.args.answer r c.step_in-freed.new.run c.step_in-freed.result.0 _ c.self.invariant.shown.1 i lent }
-
-pub invariant_of-self-2 : goal.invariant_of-self-2
-invariant_of-self-2 c =
-    let r = c.index_mut-run.result.now in
-    let t = c.step_in-freed.new.run in
-    let at = slice_get_read c.self.inside.runs.items _ c.args.run r refl (omega arith) c.index_mut-run.ensures.value in
-    let i = instruction _ c.args.run c.args.answer r t c.lend-lent.result c.step_in-freed.result.0 c.wants.result c.answer_fault.result c.self.invariant at (going r.exit (search rules)) c.answer_fault.ensures c.in_default.is c.wants.ensures c.lend-lent.ensures.object c.step_in-freed.result.1 c.step_in-freed.ensures.stepped in
-    let lent = λ (q : ℕ). c.lend-lent.ensures.places q ∙ ap (λ (n : ℕ). place_lent c.args.answer c.args.run n c.self.inside.places.entries q) c.pc.ensures.value in
-    let w = c.self.invariant.shown in
-    let after = executed_after w.0 _ c.args.run c.args.answer r t c.step_in-freed.result.0 w.1 i in
-    record {
-      known = c.self.invariant.known;
-      runs = All-set IsTended c.self.inside.runs.items c.args.run t c.step_in-freed.ensures.tended c.self.invariant.runs;
-      placed = placed_after w.0 _ c.args.run c.args.answer r t c.step_in-freed.result.0 _ c.put.new.places.entries w.1 i lent c.put.ensures.places;
-      shown = (after.after, after.shows c.put.new.places.entries);
-    }
-
-pub returns-clause-done : goal.returns-clause-done
-returns-clause-done c = rw (← c.self.view_is) (λ w h.
-    let r = c.index_mut-run.result.now in
-    let t = c.step_in-freed.new.run in
-    let at = slice_get_read c.self.inside.runs.items _ c.args.run r refl (omega arith) c.index_mut-run.ensures.value in
-    let i = instruction _ c.args.run c.args.answer r t c.lend-lent.result c.step_in-freed.result.0 c.wants.result c.answer_fault.result c.self.invariant at (going r.exit (search rules)) c.answer_fault.ensures c.in_default.is c.wants.ensures c.lend-lent.ensures.object c.step_in-freed.result.1 c.step_in-freed.ensures.stepped in
-    let after = executed_after w _ c.args.run c.args.answer r t c.step_in-freed.result.0 h i in
-    (after.after, after.legal, after.shows c.put.new.places.entries))
