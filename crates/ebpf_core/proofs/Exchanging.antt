@@ -9,7 +9,7 @@ use Rattle.std.specs.List.{find, remove}
 use Rattle.std.specs.Option.{is_some}
 use Rattle.ebpf_state.specs.Ascending.{IsAscending}
 use Rattle.ebpf_machine.specs.declared.holding.Holding.{Holding}
-use Rattle.ebpf_machine.specs.World.{Name, World, Shelved, kind_in, ledger_of, is_in, name_of}
+use Rattle.ebpf_machine.specs.World.{Name, World, kind_in, ledger_of, is_in, name_of}
 use Rattle.ebpf_machine.specs.World as world
 use Rattle.ebpf_machine.specs.Events.{Asking, AtShelf}
 use Rattle.ebpf_machine.specs.Advance.{slots_without}
@@ -17,7 +17,7 @@ use Rattle.ebpf_machine.specs.View.{ObjectView, without_given}
 use Rattle.ebpf_machine.specs.RunState.{RunState, object_seen, status_of}
 use Rattle.ebpf_machine.specs.Step as step
 use Rattle.ebpf_machine.specs.Step.{Served, MayAnswer, answer_for, asking_in, wanted, reached, got_in}
-use Rattle.ebpf_machine.specs.Store.{held_of_kind}
+use Rattle.ebpf_machine.specs.Store.{AreOutBy, held_of_kind}
 use Rattle.ebpf_machine.specs.Shelves.{shelved_from}
 use Rattle.ebpf_machine.proofs.Instructions.Returning.{calls_kept, seen_calls, one_place, others_held, removed_is}
 use Rattle.ebpf_machine.proofs.World.Steps.{going_of}
@@ -57,6 +57,7 @@ loan places (Slot slot) wants fine = by_place (place_at places slot) wants refl 
   by_place : (p : Option Place) (wants : Option ℕ) → place_at places slot ≡ p → slot_code p wants ≡ None → IsLoan places (Slot slot) wants
   by_place None wants at fine = absurd (cc)
   by_place (Some (Held run place)) wants at fine = absurd (cc)
+  by_place (Some (Shelved shelf)) wants at fine = absurd (cc)
   by_place (Some (Home o)) None at fine = absurd (cc)
   by_place (Some (Home o)) (Some kind) at fine = by_kind o kind (o.kind == kind) refl at fine
 
@@ -208,9 +209,9 @@ outcome w kept k answer r t freed shows i =
 -- ---- what stands on the shelves after it
 
 -- a slot there is that of what stands there
-slot_standing : (shelves : List (Option Object)) (shelf : ℕ) → slot_on shelves shelf ≡ option_map (λ (x : Shelved). x.slot) (standing_on shelves shelf)
+slot_standing : (shelves : List (Option Object)) (shelf : ℕ) → slot_on shelves shelf ≡ option_map (λ (x : world.Shelved). x.slot) (standing_on shelves shelf)
 slot_standing shelves shelf = by (on_shelf shelves shelf) where
-  by : (o : Option Object) → option_map (λ (p : Object). p.slot) o ≡ option_map (λ (x : Shelved). x.slot) (option_map as_shelved o)
+  by : (o : Option Object) → option_map (λ (p : Object). p.slot) o ≡ option_map (λ (x : world.Shelved). x.slot) (option_map as_shelved o)
   by None = refl
   by (Some p) = refl
 
@@ -228,7 +229,7 @@ quiet_leaves kept k answer r t freed i quiet = record {
   unreached = quiet.unreached;
   same = λ shelf.
       slot_standing i.after shelf
-      ∙ ap (option_map (λ (x : Shelved). x.slot)) (i.step.shelves shelf ∙ quiet.leaves (shelved_from as_shelved r.held) shelf (standing_on kept.shelves shelf))
+      ∙ ap (option_map (λ (x : world.Shelved). x.slot)) (i.step.shelves shelf ∙ quiet.leaves (shelved_from as_shelved r.held) shelf (standing_on kept.shelves shelf))
       ∙ sym (slot_standing kept.shelves shelf);
 }
 
@@ -329,7 +330,7 @@ record IsGivenOf (r : RunState Object) (shelf : ℕ) (given : Option ℕ) : Type
   name : Option Name
   call : call_of name ≡ given
   own : IfSome name (λ n. Contains (slots_of r) n)
-  stands : option_map (λ (x : Shelved). x.slot) (shelved_from as_shelved r.held given) ≡ slot_of name
+  stands : option_map (λ (x : world.Shelved). x.slot) (shelved_from as_shelved r.held given) ≡ slot_of name
   kinds : (kind : ℕ) → of_kind kind (without_given given (run_seen r).objects) + cond (kind == shelf) (cond (is_some name) 1 0) 0 ≡ of_kind kind (run_seen r).objects
 
 given_of : (r : RunState Object) (shelf : ℕ) (given : Option ℕ) → IsTended r → r.exit ≡ None → IfSome given (λ call. (o : ObjectView) × Contains (run_seen r).objects o × (o.call ≡ call) × (o.kind ≡ shelf)) → IsGivenOf r shelf given
@@ -377,7 +378,7 @@ given_of r shelf (Some call) tended going (o, among, is_call, is_kind) = record 
     left = removed_is r.held one.1.0 call h up one.1.1 (ap (λ (x : Holding Object). x.call) get_or_found ∙ called)
 
     -- a call has one object
-    found : (f : Option (Holding Object)) → IsFound (λ (x : Holding Object). x.call == call) r.held f → option_map (λ (x : Shelved). x.slot) (option_map (λ (x : Holding Object). as_shelved x.object) f) ≡ Some h.object.slot
+    found : (f : Option (Holding Object)) → IsFound (λ (x : Holding Object). x.call == call) r.held f → option_map (λ (x : world.Shelved). x.slot) (option_map (λ (x : Holding Object). as_shelved x.object) f) ≡ Some h.object.slot
     found None none = let away = none h one.1 in let here = eq-eqb h.call call called in absurd (cc)
     found (Some x) it =
         let there : get_or r.held it.0.0 h ≡ x = get_or_default r.held it.0.0 h x it.0.1 ∙ it.0.2 in
@@ -388,10 +389,10 @@ given_of r shelf (Some call) tended going (o, among, is_call, is_kind) = record 
 -- and what stood there is what it gets
 got_of : (lent : Option Object) (shelves : List (Option Object)) (at shelf : ℕ) (served : Served) → MayAnswer (offers lent shelves) at (AtShelf shelf) served → (slots_fetched at served ≡ got_by (slot_on shelves shelf) at) × (got_in served + is_bare (on_shelf shelves shelf) ≡ 1)
 got_of lent shelves at shelf (step.Fetched slot bytes) may =
-    let is : slot_on shelves shelf ≡ Some slot = slot_standing shelves shelf ∙ ap (option_map (λ (x : Shelved). x.slot)) may in
+    let is : slot_on shelves shelf ≡ Some slot = slot_standing shelves shelf ∙ ap (option_map (λ (x : world.Shelved). x.slot)) may in
     (sym (ap (λ (o : Option ℕ). got_by o at) is), omega (arith, bare_slot shelves shelf ∙ ap (λ (o : Option ℕ). cond {A = ℕ} (is_some o) 0 1) is))
 got_of lent shelves at shelf step.Empty may =
-    let is : slot_on shelves shelf ≡ None = slot_standing shelves shelf ∙ ap (option_map (λ (x : Shelved). x.slot)) may in
+    let is : slot_on shelves shelf ≡ None = slot_standing shelves shelf ∙ ap (option_map (λ (x : world.Shelved). x.slot)) may in
     (sym (ap (λ (o : Option ℕ). got_by o at) is), omega (arith, bare_slot shelves shelf ∙ ap (λ (o : Option ℕ). cond {A = ℕ} (is_some o) 0 1) is))
 got_of lent shelves at shelf step.Idle may = absurd may
 got_of lent shelves at shelf step.Refused may = absurd may
@@ -413,14 +414,14 @@ swaps kept k answer r t freed i none stays s = Swaps s.shelf its.name (none_free
     got : (slots_fetched r.pc i.step.served ≡ got_by (slot_on kept.shelves s.shelf) r.pc) × (got_in i.step.served + is_bare (on_shelf kept.shelves s.shelf) ≡ 1)
     got = got_of (lent_by answer kept.places) kept.shelves r.pc s.shelf i.step.served (subst (λ (a : Asking). MayAnswer (offers (lent_by answer kept.places) kept.shelves) r.pc a i.step.served) s.asked i.step.may)
 
-    leaves : (shelf : ℕ) → slot_on i.after shelf ≡ option_map (λ (x : Shelved). x.slot) (if shelf == s.shelf then shelved_from as_shelved r.held s.given else standing_on kept.shelves shelf)
-    leaves shelf = slot_standing i.after shelf ∙ ap (option_map (λ (x : Shelved). x.slot)) (i.step.shelves shelf ∙ s.leaves (shelved_from as_shelved r.held) shelf (standing_on kept.shelves shelf))
+    leaves : (shelf : ℕ) → slot_on i.after shelf ≡ option_map (λ (x : world.Shelved). x.slot) (if shelf == s.shelf then shelved_from as_shelved r.held s.given else standing_on kept.shelves shelf)
+    leaves shelf = slot_standing i.after shelf ∙ ap (option_map (λ (x : world.Shelved). x.slot)) (i.step.shelves shelf ∙ s.leaves (shelved_from as_shelved r.held) shelf (standing_on kept.shelves shelf))
 
     there : slot_on i.after s.shelf ≡ slot_of its.name
-    there = leaves s.shelf ∙ ap (λ (b : Bool). option_map (λ (x : Shelved). x.slot) (cond b (shelved_from as_shelved r.held s.given) (standing_on kept.shelves s.shelf))) (eq-eqb s.shelf s.shelf refl) ∙ its.stands
+    there = leaves s.shelf ∙ ap (λ (b : Bool). option_map (λ (x : world.Shelved). x.slot) (cond b (shelved_from as_shelved r.held s.given) (standing_on kept.shelves s.shelf))) (eq-eqb s.shelf s.shelf refl) ∙ its.stands
 
     elsewhere : (other : ℕ) → (other == s.shelf) ≡ false → slot_on i.after other ≡ slot_on kept.shelves other
-    elsewhere other ne = leaves other ∙ ap (λ (b : Bool). option_map (λ (x : Shelved). x.slot) (cond b (shelved_from as_shelved r.held s.given) (standing_on kept.shelves other))) ne ∙ sym (slot_standing kept.shelves other)
+    elsewhere other ne = leaves other ∙ ap (λ (b : Bool). option_map (λ (x : world.Shelved). x.slot) (cond b (shelved_from as_shelved r.held s.given) (standing_on kept.shelves other))) ne ∙ sym (slot_standing kept.shelves other)
 
     given_bare : is_bare (on_shelf i.after s.shelf) + cond (is_some its.name) 1 0 ≡ 1
     given_bare = by its.name (bare_slot i.after s.shelf ∙ ap (λ (o : Option ℕ). cond (is_some o) 0 1) there) where

@@ -136,19 +136,19 @@ answered kept k answer r t freed i = answer_given kept.places kept.shelves r.pc 
   theirs slot o at = (subst (IsPlaced kept slot) at (i.tended.placed.each slot)).same
 
 -- so it is, by what the tests and the step told
-pub instruction : (kept : WorldState) (k : ℕ) (answer : Answer) (r t : RunState Object) (lent freed : Option Object) (wants : Option ℕ) (fault : Option ApplyCode) → IsTendedWorld kept → slice_get kept.runs k ≡ Some r → r.exit ≡ None
-    → fault ≡ code_by kept.places answer wants → fault ≡ None → wants ≡ wanted (asking_in (run_seen r)) → lent ≡ lent_by answer kept.places → (after : List (Option Object)) → IfNone r.exit (IsStepped lent freed kept.shelves after r t) → IsInstruction kept k answer r t freed
-instruction kept k answer r t lent freed wants fault tended at goes code none wanted_is lent_is after step = record {
+abbrev pub instruction : (kept : WorldState) (k : ℕ) (answer : Answer) (r t : RunState Object) (lent freed : Option Object) (wants : Option ℕ) (fault : Option ApplyCode) → IsTendedWorld kept → slice_get kept.runs k ≡ Some r → r.exit ≡ None
+    → fault ≡ code_by kept.places answer wants → fault ≡ None → wants ≡ wanted (asking_in (run_seen r)) → lent ≡ lent_by answer kept.places → (shelves after : List (Option Object)) → shelves ≡ kept.shelves → IfNone r.exit (IsStepped lent freed shelves after r t) → IsInstruction kept k answer r t freed
+instruction kept k answer r t lent freed wants fault tended at goes code none wanted_is lent_is shelves after shelves_are step = record {
   after = after;
   tended = tended;
   run = at_number IsTended kept.runs k r tended.runs at;
   at = at;
   going = goes;
   fine = ap (code_by kept.places answer) (sym wanted_is) ∙ sym code ∙ none;
-  step = subst (λ (l : Option Object). IsStepped l freed kept.shelves after r t) lent_is (then_going r.exit goes step);
+  step = subst (λ (l : Option Object). IsStepped l freed kept.shelves after r t) lent_is (subst (λ (s : List (Option Object)). IsStepped lent freed s after r t) shelves_are (then_going r.exit goes step));
 }
   where
-    then_going : (o : Option ℕ) → o ≡ None → IfNone o (IsStepped lent freed kept.shelves after r t) → IsStepped lent freed kept.shelves after r t
+    then_going : (o : Option ℕ) → o ≡ None → IfNone o (IsStepped lent freed shelves after r t) → IsStepped lent freed shelves after r t
     then_going None e h = h
     then_going (Some n) e h = absurd (cc)
 

@@ -1,6 +1,6 @@
 -- What one instruction does to the objects of a run: nothing, or it is granted one, or it frees one, or it exchanges what stands on a
 -- shelf.
-use Rattle.std.proofs.Common.{◌≡◌, inl, inr, ℕ, zero, suc, ◌+◌, ◌<◌, Bool, true, false, cond, not, List, [], ◌∷◌, ◌++◌, length, map, filter, count_by, Option, Some, None, Ok, refl, sym, ap, ◌∙◌, subst, arith, append-nil}
+use Rattle.std.proofs.Common.{◌≡◌, inl, inr, ℕ, zero, suc, ◌+◌, ◌<◌, Bool, true, false, cond, not, List, [], ◌∷◌, ◌++◌, length, map, filter, count_by, Option, Some, None, Result, Ok, refl, sym, ap, ◌∙◌, subst, arith, append-nil}
 use Rattle.std.specs.Prelude.{Contains, ◌==◌, nat_le, if◌then◌else◌, IfSome}
 use Rattle.std.specs.List.{find}
 use Rattle.std.proofs.lemmas.Bool.{eqb-true}
@@ -8,7 +8,7 @@ use Rattle.std.proofs.lemmas.Bool.Decides.{nat_tests}
 use Rattle.std.proofs.lemmas.List.Sums.{sum_by-cons}
 use Rattle.ebpf_insn.specs.Program.{insn_at}
 use Rattle.ebpf_machine.specs.Bytes.{patched}
-use Rattle.ebpf_machine.specs.Values.{Frame}
+use Rattle.ebpf_machine.specs.Values.{Trap, Frame}
 use Rattle.ebpf_machine.specs.Effect.{Found, Act, Nothing, Write, Ask, Free, Exchange, Effect}
 use Rattle.ebpf_machine.specs.World.{Name, Shelved, Going, name_of}
 use Rattle.ebpf_machine.specs.Events.{Unasked, OfKind, AtShelf}
@@ -121,11 +121,9 @@ given_of_kind : (objects : List ObjectView) (call shelf : ℕ) (found : Found) �
 given_of_kind objects call shelf found is kind = by (find (λ (o : ObjectView). o.call == call) objects) (find_is (λ (o : ObjectView). o.call == call) objects) is where
   by : (f : Option ObjectView) → IsFound (λ (o : ObjectView). o.call == call) objects f → found_in f ≡ Ok found → (o : ObjectView) × Contains objects o × (o.call ≡ call) × (o.kind ≡ shelf)
   by None none is = absurd (cc)
-  by (Some o) there is = (o, there.0, eqb-true o.call call there.1, its is ∙ kind) where
-    its : Ok (record { kind = o.kind; bytes = o.bytes }) ≡ Ok found → o.kind ≡ found.kind
-    its e = ap (λ (f : Found). f.kind) same where
-      same : record { kind = o.kind; bytes = o.bytes } ≡ found
-      same = cc
+  by (Some o) there is = (o, there.0, eqb-true o.call call there.1, ap (λ (f : Found). f.kind) (same (record { kind = o.kind; bytes = o.bytes }) found (found_in (Some o)) refl is) ∙ kind) where
+    same : (a b : Found) (the : Result Found Trap) → the ≡ Ok a → the ≡ Ok b → a ≡ b
+    same a b the e f = cc
 
 freed : (v : RunView) (to : ℕ) (after : Frame ℕ) (call : ℕ) (served : Served) (slots : List Name) (o : ObjectView) → asking_in v ≡ Unasked → Contains v.objects o → o.call ≡ call
     → IsFreed v (acted (Free call) (result_of served) to after v) slots (slots_acted (Free call) served v.subject.decl.held v.pc slots)

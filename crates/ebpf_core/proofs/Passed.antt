@@ -1,5 +1,5 @@
 -- Where each slot is after any instruction of a run that is kept: what passes over a shelf, too.
-use Rattle.std.proofs.Common.{◌≡◌, ◌≢◌, ◌⊎◌, inl, inr, ℕ, zero, suc, false, cond, not, List, [], ◌∷◌, ◌++◌, filter, Option, Some, None, refl, sym, ap, ◌∙◌, subst, arith}
+use Rattle.std.proofs.Common.{◌≡◌, ◌≢◌, ◌⊎◌, inl, inr, ℕ, zero, suc, Bool, true, false, cond, not, List, [], ◌∷◌, ◌++◌, filter, Option, Some, None, refl, sym, ap, ◌∙◌, subst, arith}
 use Rattle.std.specs.Prelude.{slice_get, slice_set, Contains, ◌==◌, IfSome, IsSome}
 use Rattle.std.specs.Option.{option_and_then}
 use Rattle.std.proofs.lemmas.Bool.{eq-eqb, ne_eqb, not-true, cases_eq}
@@ -40,6 +40,9 @@ it_or_not (Some s) q = by (same_number s q) where
     some_same : Some s ≡ Some q → s ≡ q
     some_same e = cc
 
+not_both : (shelf run at : ℕ) → Some (Shelved shelf) ≡ Some (Held run at) → ⊥
+not_both shelf run at e = cc
+
 -- ---- what a run has once a slot passed to it, and one from it
 
 kept_without : (given : Option Name) (names : List Name) (n : Name) → Contains names n → ((g : Name) → given ≡ Some g → n.call ≢ g.call) → Contains (slots_without (call_of given) names) n
@@ -62,9 +65,6 @@ not_given given names n g is among same =
 module _ (w : World) (kept : WorldState) (k : ℕ) (answer : Answer) (r t : RunState Object) (freed : Option Object) (after : List (Option Object)) (lent back now : Places) (shelf : ℕ) (given : Option Name)
     (shows : Shows w kept) (i : IsInstruction kept k answer r t freed) (m : IsMoved kept k answer r freed after lent back now) (none : freed ≡ None)
     (stays : (run at q : ℕ) → place_lent answer run at kept.places q ≡ place_at kept.places q) (passes : PassesShelf kept r t after shelf given) where
-  stood : Option ℕ
-  stood = slot_on kept.shelves shelf
-
   before : (q : ℕ) → place_at back q ≡ place_at kept.places q
   before q = m.back_are q ∙ ap (λ (f : Option Object). place_returned f lent q) none ∙ m.lent_are q ∙ stays k r.pc q
 
@@ -110,11 +110,7 @@ module _ (w : World) (kept : WorldState) (k : ℕ) (answer : Answer) (r t : RunS
       ∙ ap (λ (b : Bool). cond b (Some (Held k r.pc)) (place_at kept.places q)) (is_it (slot_on kept.shelves shelf) q is)
     where
       apart : slot_of given ≢ Some q
-      apart e =
-          let g = given_slot q e in
-          let held = sym (ap (place_at kept.places) g.2) ∙ given_held g.0 g.1 in
-          let there = stood_there q is in
-          absurd (cc)
+      apart e = let g = given_slot q e in not_both shelf k g.0.call (sym (stood_there q is) ∙ ap (place_at kept.places) (sym g.2) ∙ given_held g.0 g.1)
 
   -- one that is held is not what stood there, and is what is given only where it is held by its call
   held_on : (run : ℕ) (n : Name) → place_at kept.places n.slot ≡ Some (Held run n.call) → ((g : Name) → given ≡ Some g → (run ≡ k) → n.call ≢ g.call) → place_at now n.slot ≡ Some (Held run n.call)
@@ -132,7 +128,7 @@ module _ (w : World) (kept : WorldState) (k : ℕ) (answer : Answer) (r t : RunS
         same_call e = cc
 
     not_stood : slot_on kept.shelves shelf ≢ Some n.slot
-    not_stood e = let there = stood_there n.slot e in absurd (cc)
+    not_stood e = not_both shelf run n.call (sym (stood_there n.slot e) ∙ was)
 
   newest : (slot : ℕ) → slot_on kept.shelves shelf ≡ Some slot → Contains (slots_of t) (name_of slot r.pc)
   newest slot is =
@@ -178,10 +174,7 @@ module _ (w : World) (kept : WorldState) (k : ℕ) (answer : Answer) (r t : RunS
     there = i.tended.placed.shelved other slot (sym (passes.others other ne) ∙ is)
 
     off : slot_of given ≢ Some slot
-    off e =
-        let g = given_slot slot e in
-        let held = sym (ap (place_at kept.places) g.2) ∙ given_held g.0 g.1 in
-        absurd (cc)
+    off e = let g = given_slot slot e in not_both other k g.0.call (sym there ∙ ap (place_at kept.places) (sym g.2) ∙ given_held g.0 g.1)
 
     not_stood : slot_on kept.shelves shelf ≢ Some slot
     not_stood e = ne (shelf_same (sym there ∙ stood_there slot e)) where
@@ -206,6 +199,16 @@ placed_after w kept k answer r t freed lent back now shows i m = by (exchange w 
   by (Frees leaves o call is stays among home slots) = frees_placed w kept k answer r t freed i.after lent back now o call shows i m leaves is stays among home slots
   by (Swaps shelf given none stays passes) = swaps_placed w kept k answer r t freed i.after lent back now shelf given shows i m none stays passes
 
+-- the parts, as the code has them
+pub moved_by : (kept : WorldState) (k : ℕ) (answer : Answer) (r : RunState Object) (freed : Option Object) (after : List (Option Object)) (lent back now : Places) (shelf stood stands : Option ℕ) (at : ℕ) → at ≡ r.pc → shelf ≡ reached (asking_in (run_seen r))
+    → stood ≡ option_and_then (slot_on kept.shelves) shelf → stands ≡ option_and_then (slot_on after) shelf → ((q : ℕ) → place_at lent q ≡ place_lent answer k at kept.places q) → ((q : ℕ) → place_at back q ≡ place_returned freed lent q)
+    → ((q : ℕ) → place_at now q ≡ place_exchanged shelf stood stands k at back q) → IsMoved kept k answer r freed after lent back now
+moved_by kept k answer r freed after lent back now shelf stood stands at pc shelf_is stood_is stands_is lent_are back_are now_are = record {
+  lent_are = λ q. lent_are q ∙ ap (λ (n : ℕ). place_lent answer k n kept.places q) pc;
+  back_are = back_are;
+  now_are = λ q. now_are q ∙ (λ j. place_exchanged (shelf_is j) ((stood_is ∙ ap (option_and_then (slot_on kept.shelves)) shelf_is) j) ((stands_is ∙ ap (option_and_then (slot_on after)) shelf_is) j) k (pc j) back q);
+}
+
 -- what is freed was held
 pub freed_known : (w : World) (kept : WorldState) (k : ℕ) (answer : Answer) (r t : RunState Object) (freed : Option Object) (lent : Places) → Shows w kept → IsInstruction kept k answer r t freed
     → ((q : ℕ) → place_at lent q ≡ place_lent answer k r.pc kept.places q) → IfSome freed (λ o. IsSome (place_at lent o.slot))
@@ -220,29 +223,29 @@ freed_known w kept k answer r t freed lent shows i lent_are = by (exchange w kep
   by (Swaps shelf given none stays passes) = subst IsKnown (sym none) tt
 
 -- and the slots that pass over a shelf have places
-pub record AreThere (kept : WorldState) (r : RunState Object) (after : List (Option Object)) (back : Places) : Type 0 where
-  pub stood : IfSome (reached_slot kept.shelves r) (λ s. IsSome (place_at back s))
-  pub stands : IfSome (reached_slot after r) (λ s. IsSome (place_at back s))
+pub record AreThere (stood stands : Option ℕ) (back : Places) : Type 0 where
+  pub stood_has : IfSome stood (λ s. IsSome (place_at back s))
+  pub stands_has : IfSome stands (λ s. IsSome (place_at back s))
 
 pub shelves_known : (w : World) (kept : WorldState) (k : ℕ) (answer : Answer) (r t : RunState Object) (freed : Option Object) (lent back : Places) → Shows w kept → (i : IsInstruction kept k answer r t freed)
-    → ((q : ℕ) → place_at lent q ≡ place_lent answer k r.pc kept.places q) → ((q : ℕ) → place_at back q ≡ place_returned freed lent q) → AreThere kept r i.after back
+    → ((q : ℕ) → place_at lent q ≡ place_lent answer k r.pc kept.places q) → ((q : ℕ) → place_at back q ≡ place_returned freed lent q) → AreThere (reached_slot kept.shelves r) (reached_slot i.after r) back
 shelves_known w kept k answer r t freed lent back shows i lent_are back_are = by (exchange w kept k answer r t freed shows i) where
   HasPlace : Option ℕ → Type 0
   HasPlace o = IfSome o (λ s. IsSome (place_at back s))
 
-  unreached : LeavesShelves kept r i.after → AreThere kept r i.after back
+  unreached : LeavesShelves kept r i.after → AreThere (reached_slot kept.shelves r) (reached_slot i.after r) back
   unreached leaves = record {
-    stood = subst HasPlace (sym (ap (option_and_then (slot_on kept.shelves)) leaves.unreached)) tt;
-    stands = subst HasPlace (sym (ap (option_and_then (slot_on i.after)) leaves.unreached)) tt;
+    stood_has = subst HasPlace (sym (ap (option_and_then (slot_on kept.shelves)) leaves.unreached)) tt;
+    stands_has = subst HasPlace (sym (ap (option_and_then (slot_on i.after)) leaves.unreached)) tt;
   }
 
-  by : IsExchange kept k answer r t freed i.after → AreThere kept r i.after back
+  by : IsExchange kept k answer r t freed i.after → AreThere (reached_slot kept.shelves r) (reached_slot i.after r) back
   by (Stays leaves none stays slots) = unreached leaves
   by (Lends leaves slot o none is home slots) = unreached leaves
   by (Frees leaves o call is stays among home slots) = unreached leaves
   by (Swaps shelf given none stays passes) = record {
-    stood = subst HasPlace (sym (ap (option_and_then (slot_on kept.shelves)) passes.reached_is)) (there (slot_on kept.shelves shelf) (λ q is. (Shelved shelf, i.tended.placed.shelved shelf q is)));
-    stands = subst HasPlace (sym (ap (option_and_then (slot_on i.after)) passes.reached_is ∙ passes.stands)) (own given refl);
+    stood_has = subst HasPlace (sym (ap (option_and_then (slot_on kept.shelves)) passes.reached_is)) (there (slot_on kept.shelves shelf) (λ q is. (Shelved shelf, i.tended.placed.shelved shelf q is)));
+    stands_has = subst HasPlace (sym (ap (option_and_then (slot_on i.after)) passes.reached_is ∙ passes.stands)) (own given refl);
   }
     where
       before : (q : ℕ) → place_at back q ≡ place_at kept.places q
@@ -258,3 +261,8 @@ shelves_known w kept k answer r t freed lent back shows i lent_are back_are = by
       own : (o : Option Name) → given ≡ o → HasPlace (slot_of o)
       own None is = tt
       own (Some g) is = has g.slot (Held k g.call) (i.tended.placed.held k r i.at g (subst (λ (x : Option Name). IfSome x (λ n. Contains (slots_of r) n)) is passes.own))
+
+-- as the code has them
+pub known_by : (before : List (Option Object)) (r : RunState Object) (after : List (Option Object)) (back : Places) (shelf stood stands : Option ℕ) → shelf ≡ reached (asking_in (run_seen r)) → stood ≡ option_and_then (slot_on before) shelf → stands ≡ option_and_then (slot_on after) shelf
+    → AreThere (reached_slot before r) (reached_slot after r) back → AreThere stood stands back
+known_by before r after back shelf stood stands shelf_is stood_is stands_is are = subst (λ (a : Option ℕ). AreThere a stands back) (sym (stood_is ∙ ap (option_and_then (slot_on before)) shelf_is)) (subst (λ (b : Option ℕ). AreThere (reached_slot kept.shelves r) b back) (sym (stands_is ∙ ap (option_and_then (slot_on after)) shelf_is)) are)

@@ -35,7 +35,7 @@ run_kept w kept k run h there = by (slice_get kept.runs k) refl where
       absurd (cc)
 
 -- an owned slot is kept as held, or as standing on a shelf
-pub IsKeptOwner : WorldState → Owner → Type 0
+abbrev pub IsKeptOwner : WorldState → Owner → Type 0
 IsKeptOwner kept o =
     ((run at : ℕ) × (place_at kept.places o.slot ≡ Some (Held run at)) × (o ≡ owner_of run (name_of o.slot at)))
     ⊎ ((shelf : ℕ) × (place_at kept.places o.slot ≡ Some (Shelved shelf)) × (o.holder ≡ Shelf shelf))

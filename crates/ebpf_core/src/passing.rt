@@ -1,6 +1,6 @@
 //! The objects of the world, and the store through which one of them passes to or from a run.
 
-ghost use Rattle.std.specs.Prelude.{◌≡◌, ◌<◌, length, slice_set, IfSome, IfOk};
+ghost use Rattle.std.specs.Prelude.{◌≡◌, ◌<◌, length, slice_set, option_map, IfSome, IfOk};
 ghost use Rattle.std.specs.Option.{option_and_then};
 ghost use Rattle.std.proofs.Props.{props};
 ghost use Rattle.ebpf_machine.specs.World.{image_at};
@@ -99,6 +99,20 @@ pub(crate) fn slot_on(shelves: &[Option<Object>; 3], shelf: u8) -> Option<u32>
     }
     match &shelves[place] {
         Some(object) => Some(object.slot),
+        None => None,
+    }
+}
+
+/// The bytes of what stands on a shelf.
+pub(crate) fn bytes_on(shelves: &[Option<Object>; 3], shelf: u8) -> Option<&[u8]>
+    ensures { option_map (λ b. b.now) result ≡ option_map (λ o. o.bytes.items) (on_shelf shelves.now shelf) }
+{
+    let place = shelf as usize;
+    if place >= shelves.len() {
+        return None;
+    }
+    match &shelves[place] {
+        Some(object) => Some(&object.bytes),
         None => None,
     }
 }

@@ -25,7 +25,7 @@ ghost use Rattle.ebpf_state.specs.Ascending.{IsAscending};
 use crate::event::{Answer, Event};
 use crate::fault::{ApplyCode, ApplyFault};
 use crate::ledger::{Ledger, join, leave};
-use crate::passing::{Object, slot_on, slot_reached};
+use crate::passing::{Object, bytes_on, slot_on, slot_reached};
 use crate::place::{Place, exchange, is_home_of, lend, put};
 use crate::stepping::{answer_fault, new_blanks, start_fault, step_in};
 use ebpf_machine::context::Context;
@@ -296,7 +296,7 @@ impl<'v> World<'v> {
         match self.places.get(&slot)? {
             Place::Home(object) => Some(&object.bytes),
             Place::Held { run, at } => Some(&self.runs[*run].object(*at)?.bytes),
-            Place::Shelved { shelf } => Some(&self.shelves[*shelf as usize].as_ref()?.bytes),
+            Place::Shelved { shelf } => bytes_on(&self.shelves, *shelf),
         }
     }
 
