@@ -1,5 +1,5 @@
 -- A run that is kept does the instruction at its pc: it is the event of the world that is shown.
-use Rattle.std.proofs.Common.{◌≡◌, ◌≢◌, ◌⊎◌, inl, inr, ℕ, Bool, true, false, cond, List, [], ◌∷◌, length, get_or, Option, Some, None, Ok, Err, refl, sym, ap, ◌∙◌, subst, length-set}
+use Rattle.std.proofs.Common.{◌≡◌, ◌≢◌, ◌⊎◌, inl, inr, ℕ, Bool, true, false, cond, List, [], length, get_or, Option, Some, None, Ok, Err, refl, sym, ap, ◌∙◌, subst, length-set}
 use Rattle.std.specs.Prelude.{slice_get, slice_set, option_map, IfNone, ◌==◌}
 use Rattle.std.proofs.lemmas.List.Elements.{All-map}
 use Rattle.ebpf_machine.specs.declared.holding.Holding.{Holding}

@@ -14,7 +14,7 @@ use Rattle.ebpf_machine.specs.Events.{Illegal, Asking, answer_fault, started}
 use Rattle.ebpf_machine.specs.Alone.{Outcome, outcome_alone, replies_from}
 use Rattle.ebpf_machine.specs.View.{ObjectView, RunView, object_in, view_of, view_in, stepped}
 use Rattle.ebpf_machine.specs.RunState.{first_state_of}
-use Rattle.ebpf_machine.specs.Step.{FitsShelf, Served, result_of, served_in, asking_in}
+use Rattle.ebpf_machine.specs.Step.{FitsShelf, result_of, served_in, asking_in}
 use Rattle.ebpf_machine.specs.Sound.{IsSound, IsAlone, IsOwned, IsWellStated, AreSized}
 use Rattle.ebpf_machine.proofs.World.Asking.{asking_seen}
 use Rattle.ebpf_machine.proofs.World.Owned.{owned_empty}

@@ -1,6 +1,6 @@
 -- Where each slot is after any instruction of a run that is kept: what passes over a shelf, too.
-use Rattle.std.proofs.Common.{◌≡◌, ◌≢◌, ◌⊎◌, inl, inr, ℕ, zero, suc, Bool, true, false, cond, not, List, [], ◌∷◌, ◌++◌, filter, Option, Some, None, refl, sym, ap, ◌∙◌, subst, arith}
-use Rattle.std.specs.Prelude.{slice_get, slice_set, Contains, ◌==◌, IfSome, IsSome}
+use Rattle.std.proofs.Common.{◌≡◌, ◌≢◌, ◌⊎◌, inl, inr, ℕ, zero, suc, Bool, true, false, cond, not, List, ◌++◌, Option, Some, None, refl, sym, ap, ◌∙◌, subst, arith}
+use Rattle.std.specs.Prelude.{slice_get, Contains, ◌==◌, IfSome, IsSome}
 use Rattle.std.specs.Option.{option_and_then}
 use Rattle.std.proofs.lemmas.Bool.{eq-eqb, ne_eqb, not-true, cases_eq}
 use Rattle.std.proofs.lemmas.List.Elements.{Contains-append_left, Contains-push, Contains-append_cases}
@@ -15,7 +15,7 @@ use Rattle.ebpf_core.specs.declared.passing.Object.{Object}
 use Rattle.ebpf_core.specs.declared.place.Place.{Place}
 use Rattle.ebpf_core.specs.declared.place.Place.TheVariants.{Held, Shelved}
 use Rattle.ebpf_core.specs.Passing.{slot_on}
-use Rattle.ebpf_core.specs.Places.{Places, place_at, place_lent, place_returned, is_slot, place_set, place_exchanged}
+use Rattle.ebpf_core.specs.Places.{Places, place_at, place_lent, place_returned, is_slot, place_exchanged}
 use Rattle.ebpf_core.specs.Shown.{WorldState, Shows, ArePlaced, IsPlaced, run_seen, slots_of}
 use Rattle.ebpf_core.proofs.Executing.{IsInstruction}
 use Rattle.ebpf_core.proofs.Exchanging.{IsExchange, Stays, Lends, Frees, Swaps, LeavesShelves, PassesShelf, call_of, slot_of, got_by, exchange}
@@ -265,4 +265,4 @@ shelves_known w kept k answer r t freed lent back shows i lent_are back_are = by
 -- as the code has them
 pub known_by : (before : List (Option Object)) (r : RunState Object) (after : List (Option Object)) (back : Places) (shelf stood stands : Option ℕ) → shelf ≡ reached (asking_in (run_seen r)) → stood ≡ option_and_then (slot_on before) shelf → stands ≡ option_and_then (slot_on after) shelf
     → AreThere (reached_slot before r) (reached_slot after r) back → AreThere stood stands back
-known_by before r after back shelf stood stands shelf_is stood_is stands_is are = subst (λ (a : Option ℕ). AreThere a stands back) (sym (stood_is ∙ ap (option_and_then (slot_on before)) shelf_is)) (subst (λ (b : Option ℕ). AreThere (reached_slot kept.shelves r) b back) (sym (stands_is ∙ ap (option_and_then (slot_on after)) shelf_is)) are)
+known_by before r after back shelf stood stands shelf_is stood_is stands_is are = subst (λ (a : Option ℕ). AreThere a stands back) (sym (stood_is ∙ ap (option_and_then (slot_on before)) shelf_is)) (subst (λ (b : Option ℕ). AreThere (reached_slot before r) b back) (sym (stands_is ∙ ap (option_and_then (slot_on after)) shelf_is)) are)

@@ -1,5 +1,5 @@
 -- What is read of the world that is kept is read of the one that is shown: of its runs, and of its slots.
-use Rattle.std.proofs.Common.{◌≡◌, ◌≢◌, ◌⊎◌, inl, inr, ℕ, true, not, List, Option, Some, None, refl, sym, ap, ◌∙◌, subst}
+use Rattle.std.proofs.Common.{◌≡◌, ◌≢◌, inl, inr, ℕ, true, not, List, Option, Some, None, refl, sym, ap, ◌∙◌, subst}
 use Rattle.std.specs.Prelude.{Contains, ◌==◌, option_map, slice_get, slice_index_or}
 use Rattle.std.specs.List.{find}
 use Rattle.std.specs.Option.{option_and_then}
@@ -94,7 +94,7 @@ bytes_home w kept slot o h placed is =
     there_bytes w slot o.bytes.items there (at.image ∙ ap (image_at known_kinds) kind ∙ ap (λ (kinds : List Kind). image_at kinds (kind_in w slot)) (sym h.kinds) ∙ sym (h.owned.ledgers.imaged slot home.0))
 
 -- on a shelf it has those of what stands there
-pub bytes_shelved : (w : World) (kept : WorldState) (slot shelf : ℕ) (o : Object) → Shows w kept → ArePlaced kept → place_at kept.places slot ≡ Some (Shelved shelf) → on_shelf kept.shelves shelf ≡ Some o → Some o.bytes.items ≡ bytes_in w slot
+bytes_shelved : (w : World) (kept : WorldState) (slot shelf : ℕ) (o : Object) → Shows w kept → ArePlaced kept → place_at kept.places slot ≡ Some (Shelved shelf) → on_shelf kept.shelves shelf ≡ Some o → Some o.bytes.items ≡ bytes_in w slot
 bytes_shelved w kept slot shelf o h placed is on =
     let it = stands_there w kept shelf slot h (subst (IsPlaced kept slot) is (placed.each slot)) in
     let there : is_in_ledger w slot ≡ true = ap (is_in_ledger w) (sym it.slot_is) ∙ owned_there w it.owner h.owned it.among in
@@ -105,6 +105,12 @@ bytes_shelved w kept slot shelf o h placed is on =
     bytes_same {a} {b} e = ap (λ (x : world.Shelved). x.bytes) same where
       same : a ≡ b
       same = cc
+
+pub bytes_on_shelf : (w : World) (kept : WorldState) (slot shelf : ℕ) → Shows w kept → ArePlaced kept → place_at kept.places slot ≡ Some (Shelved shelf) → option_map (λ (o : Object). o.bytes.items) (on_shelf kept.shelves shelf) ≡ bytes_in w slot
+bytes_on_shelf w kept slot shelf h placed is = by (on_shelf kept.shelves shelf) refl where
+  by : (o : Option Object) → on_shelf kept.shelves shelf ≡ o → option_map (λ (x : Object). x.bytes.items) o ≡ bytes_in w slot
+  by None none = let stands = sym (ap (option_map (λ (x : Object). x.slot)) none) ∙ subst (IsPlaced kept slot) is (placed.each slot) in absurd (cc)
+  by (Some o) on = bytes_shelved w kept slot shelf o h placed is on
 
 -- and with a run those of the object that was granted to its call
 call_held : (r : RunState Object) (slot at : ℕ) → Contains (slots_of r) (name_of slot at) → (held : Holding Object) × Contains r.held held × (held.call ≡ at)

@@ -176,8 +176,12 @@ impl<'v> World<'v> {
         let stood = slot_reached(&self.shelves, reached);
         let lent = lend(&mut self.places, answer, number, at);
         let shelves = mem::replace(&mut self.shelves, [None, None, None]);
-        let (freed, shelves) =
-            step_in::<Brand, Brand, Brand, Brand>(run, lent, shelves, new_blanks());
+        let (freed, shelves) = step_in::<Brand, Brand, Brand, Brand>(
+            run,
+            lent,
+            shelves,
+            new_blanks(),
+        );
         let stands = slot_reached(&shelves, reached);
         self.shelves = shelves;
         put(&mut self.places, freed);
