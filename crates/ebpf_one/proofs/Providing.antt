@@ -1,20 +1,20 @@
 -- What the run in a world of its own is provided with before an instruction: the world still shows the run as it is kept, and serves
 -- it what the store does.
 use Rattle.std.proofs.Common.{◌≡◌, ◌⊎◌, inl, inr, ℕ, ◌+◌, ◌<◌, Bool, true, false, List, length, Option, Some, None, refl, sym, ap, ◌∙◌, subst, arith}
-use Rattle.std.specs.Prelude.{slice_get, option_map, if◌then◌else◌, ◌==◌}
+use Rattle.std.specs.Prelude.{slice_get, option_map, if◌then◌else◌}
 use Rattle.std.proofs.lemmas.Bool.{false_from_ne_true, ne_eqb}
-use Rattle.ebpf_machine.specs.World.{World, Running, Owner, Holder, Answer, Absent, Null, Slot, Shelved, Going, standing, shelved_at, shelved_in, is_shelf, is_in_ledger, image_at}
-use Rattle.ebpf_machine.specs.Events.{Asking, Unasked, OfNoKind, OfKind, AtShelf, answer_fault, asking_of, with_slot_joined}
+use Rattle.ebpf_machine.specs.World.{World, Owner, Answer, Absent, Null, Slot, Shelved, Going, standing, shelved_at, shelved_in, is_shelf, is_in_ledger, image_at}
+use Rattle.ebpf_machine.specs.Events.{Asking, Unasked, OfKind, AtShelf, answer_fault, with_slot_joined}
 use Rattle.ebpf_machine.specs.Alone.{Alone, Fed, alone_after, replies_from}
-use Rattle.ebpf_machine.specs.View.{RunView, view_of, view_in, slots_in}
+use Rattle.ebpf_machine.specs.View.{RunView, view_in, slots_in}
 use Rattle.ebpf_machine.specs.RunState.{RunState, slots_kept}
 use Rattle.ebpf_machine.specs.Store.{Store}
 use Rattle.ebpf_machine.specs.Sound.{AreSized, IsOwned, IsSound}
-use Rattle.ebpf_machine.specs.Step.{Served, Idle, Refused, Granted, Empty, Fetched, MayAnswer, MayServe, Offers, offers_of, answer_for, granted_in, refused_in, asking_in, seen_in, served_from, served_in}
+use Rattle.ebpf_machine.specs.Step.{Served, Idle, Refused, Granted, Empty, Fetched, MayAnswer, MayServe, offers_of, answer_for, granted_in, refused_in, asking_in, seen_in, served_from, served_in}
 use Rattle.ebpf_machine.proofs.Lists.ListLemmas.{IsFound}
-use Rattle.ebpf_machine.proofs.World.Asking.{AsksNew, AsksShelf, Asks, ForNothing, ForObject, ForShelf, asks_of, asking_seen}
+use Rattle.ebpf_machine.proofs.World.Asking.{AsksNew, Asks, ForNothing, ForObject, ForShelf, asks_of}
 use Rattle.ebpf_machine.proofs.World.Exchanges.{stands, standing_there}
-use Rattle.ebpf_machine.proofs.World.Execs.{kinds_alike, may_serve, shown_run, sized_in}
+use Rattle.ebpf_machine.proofs.World.Execs.{kinds_alike, shown_run, sized_in}
 use Rattle.ebpf_machine.proofs.World.NewSlots.{IsNew, joined_home, joined_in, joined_cases, owned_joined, view_joined}
 use Rattle.ebpf_machine.proofs.World.Owners.{owned_there}
 use Rattle.ebpf_machine.proofs.World.Steps.{next_of}

@@ -1,6 +1,6 @@
 -- What a call of swap leaves of the table of slots and on the shelves.
 use Rattle.std.proofs.Common.{◌≡◌, ◌≢◌, ◌⊎◌, inl, inr, ℕ, ◌+◌, ◌<◌, Bool, true, false, List, [], ◌∷◌, ◌++◌, length, Option, Some, None, refl, sym, ap, ◌∙◌, subst, arith}
-use Rattle.std.specs.Prelude.{IfSome, if◌then◌else◌, option_map, slice_get, slice_index_or, slice_set}
+use Rattle.std.specs.Prelude.{IfSome, if◌then◌else◌, slice_get, slice_set}
 use Rattle.std.proofs.lemmas.Bool.{cases_eq}
 use Rattle.std.proofs.lemmas.List.{get_or-set_same, get_or-set_other}
 use Rattle.ebpf_machine.specs.World.{image_at}
@@ -9,7 +9,7 @@ use Rattle.ebpf_machine.specs.Store.{one_of}
 use Rattle.ebpf_machine.proofs.Lists.ListLemmas.{get_push, get_set_other}
 use Rattle.ebpf_one.specs.declared.store.Entry.{Entry}
 use Rattle.ebpf_one.specs.declared.store.Object.{Object}
-use Rattle.ebpf_one.specs.Store.{AreStanding, IsOut, IsStanding, as_shelved, marked, on_shelf, out_of_kind, standing_on}
+use Rattle.ebpf_one.specs.Store.{AreStanding, IsOut, IsStanding, marked, on_shelf, out_of_kind}
 use Rattle.ebpf_one.proofs.Slots.{flag_in, given_counted, got_counted, marked_other, marked_same}
 
 -- ---- slots that differ

@@ -1,21 +1,20 @@
 -- The run in a world of its own goes on as the run over its store does, to the end that is reported.
 use Rattle.std.proofs.Common.{◌≡◌, ℕ, zero, suc, ◌+◌, ◌-◌, ◌<◌, ◌≤◌, max, Bool, true, false, List, [], ◌∷◌, length, map, Option, Some, None, Result, Ok, Err, refl, sym, ap, ◌∙◌, subst, arith}
-use Rattle.std.specs.Prelude.{IfSome, slice_get, if◌then◌else◌}
+use Rattle.std.specs.Prelude.{IfSome, slice_get}
 use Rattle.std.specs.List.{list_any}
 use Rattle.std.proofs.lemmas.List.{length-map}
 use Rattle.ebpf_insn.specs.Program.{instructions}
 use Rattle.ebpf_state.specs.declared.kinds.KindRow.{KindRow}
 use Rattle.ebpf_verify.specs.Subject.{Subject}
-use Rattle.ebpf_machine.specs.declared.report.Reply.{Reply}
 use Rattle.ebpf_machine.specs.declared.report.Report.{Report}
-use Rattle.ebpf_machine.specs.World.{World, Running, Answer, Shelved, Going, Exited, Status, kinds_of, held_by, holds_of, is_in, is_in_ledger, shelved_in}
+use Rattle.ebpf_machine.specs.World.{World, Running, Going, Exited, kinds_of, held_by, holds_of, is_in, shelved_in}
 use Rattle.ebpf_machine.specs.Events.{Illegal, RunEnded, Asking, Unasked, OfNoKind, OfKind, AtShelf, answer_fault, asking_of, exec}
-use Rattle.ebpf_machine.specs.Alone.{Alone, Fed, Outcome, Replies, advanced, alone_after, alone_first, outcome_alone, outcome_in_report, outcome_of, replies_from, replies_in, replies_of}
-use Rattle.ebpf_machine.specs.View.{RunView, object_in, view_of, view_in, slots_in, effect_of_view, stepped}
-use Rattle.ebpf_machine.specs.RunState.{RunState, first_state_of, seen, slots_kept, status_of}
-use Rattle.ebpf_machine.specs.Store.{Store, counts_of}
-use Rattle.ebpf_machine.specs.Sound.{IsOwned, IsSound, IsAlone}
-use Rattle.ebpf_machine.specs.Step.{FitsShelf, IsStepOver, Served, answer_for, refused_in, result_of, asking_in, seen_in}
+use Rattle.ebpf_machine.specs.Alone.{Alone, Fed, Outcome, advanced, alone_after, alone_first, outcome_alone, outcome_in_report, outcome_of, replies_from, replies_in, replies_of}
+use Rattle.ebpf_machine.specs.View.{RunView, object_in, view_of, view_in, effect_of_view, stepped}
+use Rattle.ebpf_machine.specs.RunState.{RunState, first_state_of, seen, status_of}
+use Rattle.ebpf_machine.specs.Store.{Store}
+use Rattle.ebpf_machine.specs.Sound.{IsSound, IsAlone}
+use Rattle.ebpf_machine.specs.Step.{FitsShelf, Served, answer_for, refused_in, result_of, asking_in, seen_in}
 use Rattle.ebpf_machine.specs.Turns.{IsTurn, AreTurns, AreTurnsWithin}
 use Rattle.ebpf_machine.specs.Whole.{granted}
 use Rattle.ebpf_machine.proofs.World.Asking.{asking_seen}
@@ -25,7 +24,7 @@ use Rattle.ebpf_machine.proofs.World.Owned.{owned_first}
 use Rattle.ebpf_machine.proofs.WholeRuns.Told.{HaveSizes, IsUnderWay, under_way}
 use Rattle.ebpf_machine.proofs.WholeRuns.Turning.{exits, few_instructions}
 use Rattle.ebpf_one.specs.Reports.{IsReportWith}
-use Rattle.ebpf_one.specs.Solo.{next_slot, outcome_with, provided, solo_after, solo_by, solo_next}
+use Rattle.ebpf_one.specs.Solo.{next_slot, provided, solo_after, solo_by, solo_next}
 use Rattle.ebpf_one.proofs.KeptShelves.{standing_kept}
 use Rattle.ebpf_one.proofs.Providing.{AnswersSo, IsShown, IsProvided, provides}
 
