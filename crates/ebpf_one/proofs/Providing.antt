@@ -2,8 +2,8 @@
 -- it what the store does.
 use Rattle.std.proofs.Common.{◌≡◌, ◌⊎◌, inl, inr, ℕ, ◌+◌, ◌<◌, Bool, true, false, List, length, Option, Some, None, refl, sym, ap, ◌∙◌, subst, arith}
 use Rattle.std.specs.Prelude.{slice_get, option_map, if◌then◌else◌}
-use Rattle.std.proofs.lemmas.Bool.{false_from_ne_true, ne_eqb}
-use Rattle.ebpf_machine.specs.World.{World, Owner, Answer, Absent, Null, Slot, Shelved, Going, standing, shelved_at, shelved_in, is_shelf, is_in_ledger, image_at}
+use Rattle.std.proofs.lemmas.Bool.{false_from_ne_true}
+use Rattle.ebpf_machine.specs.World.{Owner, Answer, Absent, Null, Slot, Shelved, Going, standing, shelved_at, shelved_in, is_in_ledger}
 use Rattle.ebpf_machine.specs.Events.{Asking, Unasked, OfKind, AtShelf, answer_fault, with_slot_joined}
 use Rattle.ebpf_machine.specs.Alone.{Alone, Fed, alone_after, replies_from}
 use Rattle.ebpf_machine.specs.View.{RunView, view_in, slots_in}
@@ -11,12 +11,10 @@ use Rattle.ebpf_machine.specs.RunState.{RunState, slots_kept}
 use Rattle.ebpf_machine.specs.Store.{Store}
 use Rattle.ebpf_machine.specs.Sound.{AreSized, IsOwned, IsSound}
 use Rattle.ebpf_machine.specs.Step.{Served, Idle, Refused, Granted, Empty, Fetched, MayAnswer, MayServe, offers_of, answer_for, granted_in, refused_in, asking_in, seen_in, served_from, served_in}
-use Rattle.ebpf_machine.proofs.Lists.ListLemmas.{IsFound}
 use Rattle.ebpf_machine.proofs.World.Asking.{AsksNew, Asks, ForNothing, ForObject, ForShelf, asks_of}
-use Rattle.ebpf_machine.proofs.World.Exchanges.{stands, standing_there}
 use Rattle.ebpf_machine.proofs.World.Execs.{kinds_alike, shown_run, sized_in}
+use Rattle.ebpf_machine.proofs.World.KeptShelves.{shelved_joined}
 use Rattle.ebpf_machine.proofs.World.NewSlots.{IsNew, joined_home, joined_in, joined_cases, owned_joined, view_joined}
-use Rattle.ebpf_machine.proofs.World.Owners.{owned_there}
 use Rattle.ebpf_machine.proofs.World.Steps.{next_of}
 use Rattle.ebpf_one.specs.Solo.{provided}
 
@@ -46,18 +44,6 @@ pub record IsProvided {S H : Type 0} (o : Store S H) (s : S) (r : RunState H) (s
   pub answer : f.answer ≡ answer_for served
   pub serves : served_in f.world (asking_in (seen_in o s r)) (answer_for served) ≡ served
   pub fine : answer_fault f.world (asking_in (seen_in o s r)) f.answer ≡ None
-
--- ---- a slot joins
-
--- what stands on a shelf stands there still
-joined_shelves : (w : World) (kind slot shelf : ℕ) → IsOwned w → IsNew w kind slot → shelved_in (with_slot_joined kind slot w) shelf ≡ shelved_in w shelf
-joined_shelves w kind slot shelf owned new = by (standing w shelf) (stands w shelf) where
-  by : (o : Option Owner) → IsFound (λ (p : Owner). is_shelf shelf p.holder) w.owners o → option_map (λ (p : Owner). shelved_at (with_slot_joined kind slot w) p.slot) o ≡ option_map (λ (p : Owner). shelved_at w p.slot) o
-  by None none = refl
-  by (Some o) found =
-      let there = owned_there w o owned (standing_there w shelf o found).among in
-      let apart = ne_eqb o.slot slot (λ e. let fresh = new.fresh in let same = ap (is_in_ledger w) e in absurd (cc)) in
-      ap (λ (t : Bool). Some (record { slot = o.slot; bytes = if t then image_at w.kinds kind else w.bytes o.slot })) apart
 
 -- ---- what the run is provided with
 
@@ -99,7 +85,7 @@ module _ {S H : Type 0} (o : Store S H) (nulls : Bool) (s : S) (r : RunState H) 
         owned = owned_joined w kind slot shown.owned fresh;
         view = (λ i. option_map (λ x. view_joined w 0 kind slot x shown.owned fresh i) (slice_get w.runs 0)) ∙ shown.view;
         slots = shown.slots;
-        shelves = λ shelf. subst (o.stand s shelf) (sym (joined_shelves w kind slot shelf shown.owned fresh)) (shown.shelves shelf);
+        shelves = λ shelf. subst (o.stand s shelf) (sym (shelved_joined w kind slot shelf shown.owned fresh)) (shown.shelves shelf);
         below = λ k there. within k (joined_cases w kind slot k there);
         answer = ap answer_for (sym is);
         serves = rw (asked, is) refl;

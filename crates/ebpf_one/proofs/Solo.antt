@@ -25,7 +25,7 @@ use Rattle.ebpf_machine.proofs.WholeRuns.Told.{HaveSizes, IsUnderWay, under_way}
 use Rattle.ebpf_machine.proofs.WholeRuns.Turning.{exits, few_instructions}
 use Rattle.ebpf_one.specs.Reports.{IsReportWith}
 use Rattle.ebpf_one.specs.Solo.{next_slot, provided, solo_after, solo_by, solo_next}
-use Rattle.ebpf_one.proofs.KeptShelves.{standing_kept}
+use Rattle.ebpf_machine.proofs.World.KeptShelves.{standing_kept}
 use Rattle.ebpf_one.proofs.Providing.{AnswersSo, IsShown, IsProvided, provides}
 
 -- ---- the instruction in the world that is provided
