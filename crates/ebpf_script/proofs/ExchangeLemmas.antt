@@ -1,5 +1,5 @@
 -- A program's calls of swap, and what is told of it where there are no shelves.
-use Rattle.std.proofs.Common.{◌≡◌, ◌<◌, ◌≤◌, ℕ, zero, suc, ◌+◌, Bool, true, false, not, nat_lt, cond, List, [], ◌∷◌, length, drop, get_or, count_by, position, Option, Some, None, All, refl, sym, ap, ◌∙◌, arith}
+use Rattle.std.proofs.Common.{◌≡◌, ◌<◌, ◌≤◌, ℕ, zero, suc, ◌+◌, Bool, true, false, not, nat_lt, cond, List, [], ◌∷◌, length, drop, get_or, count_by, Option, Some, None, All, refl, sym, ap, ◌∙◌, arith}
 use Rattle.std.specs.List.{position_or_len}
 use Rattle.std.proofs.lemmas.Bool.Decides.{nat_tests}
 use Rattle.std.proofs.lemmas.List.{at_drop_more}
@@ -7,7 +7,6 @@ use Rattle.std.proofs.lemmas.Option.{slice_get-get_or}
 use Rattle.ebpf_insn.specs.declared.insn.Insn.{Insn}
 use Rattle.ebpf_insn.specs.Program.{insn_at, flattened}
 use Rattle.ebpf_verify.specs.CallCount.{is_swap_there, swaps_from}
-use Rattle.ebpf_verify.specs.Subject.{Subject}
 use Rattle.ebpf_machine.specs.Kinds.{AreKnown}
 use Rattle.ebpf_command.specs.declared.judge.Judged.{Judged}
 use Rattle.ebpf_command.specs.declared.judge.Judged.TheVariants.{Accepted, Refused}
