@@ -1,5 +1,5 @@
 -- Every legal list of events leaves each run to itself.
-use Rattle.std.proofs.Common.{◌≡◌, ◌≢◌, ◌⊎◌, inl, inr, ℕ, ◌+◌, ◌≤◌, All, List, [], ◌∷◌, ◌++◌, length, Option, Some, None, Result, Ok, Err, refl, sym, ap, ◌∙◌, subst, append_assoc, append-nil, take, arith}
+use Rattle.std.proofs.Common.{◌≡◌, ◌≢◌, ◌⊎◌, inl, inr, ℕ, ◌+◌, ◌≤◌, All, List, [], ◌∷◌, ◌++◌, filter, length, Option, Some, None, Result, Ok, Err, refl, sym, ap, ◌∙◌, subst, append_assoc, append-nil, take, arith}
 use Rattle.std.specs.Prelude.{slice_get}
 use Rattle.std.proofs.lemmas.Bool.{eq-eqb, ne_eqb}
 use Rattle.std.proofs.lemmas.Grind.{common_steps}
@@ -14,7 +14,7 @@ use Rattle.ebpf_machine.specs.Events.{Illegal, Asking, answer_fault, started}
 use Rattle.ebpf_machine.specs.Alone.{Outcome, outcome_alone, replies_from}
 use Rattle.ebpf_machine.specs.View.{ObjectView, RunView, object_in, view_of, view_in, stepped}
 use Rattle.ebpf_machine.specs.RunState.{first_state_of}
-use Rattle.ebpf_machine.specs.Step.{FitsShelf, Served, result_of, served_in, asking_in}
+use Rattle.ebpf_machine.specs.Step.{FitsShelf, result_of, served_in, asking_in}
 use Rattle.ebpf_machine.specs.Sound.{IsSound, IsAlone, IsOwned, IsWellStated, AreSized}
 use Rattle.ebpf_machine.proofs.World.Asking.{asking_seen}
 use Rattle.ebpf_machine.proofs.World.Owned.{owned_empty}
@@ -29,7 +29,7 @@ use Rattle.ebpf_core.specs.Events.{first_world, answer_of, happened}
 use Rattle.ebpf_core.specs.Shown.{run_seen}
 use Rattle.ebpf_machine.specs.Kinds.{AreKnown}
 use Rattle.ebpf_core.specs.Replay.{and_then, world_after_from}
-use Rattle.ebpf_core.specs.Isolation.{answers_to, answer_in, reply_by, replies_to, IsUntrapped, IsWhereAlone, IsOutcomeOf, IsIsolated, IsSafe, IsAlwaysSafe}
+use Rattle.ebpf_core.specs.Isolation.{is_to_new, answers_to, answer_in, reply_by, replies_to, IsUntrapped, IsWhereAlone, IsOutcomeOf, IsIsolated, IsSafe, IsAlwaysSafe}
 use Rattle.ebpf_core.proofs.LegalAnswers.{told_next}
 use Rattle.ebpf_core.proofs.OtherRuns.{own_run, AreSound, IsEventOf, IsExec, start_next, exec_next, event_next}
 use Rattle.ebpf_machine.proofs.World.Owners.{kind_there, owned_there, shelf_once}
@@ -41,7 +41,7 @@ use Rattle.ebpf_core.proofs.Runs.{at_number, same_number, get_last, first_alone}
 record IsOwn (v : RunView) (answers : List Reply) : Type 0 where
   sound : IsSound v
   alone : IsAlone v
-  told : v.replies ≡ answers
+  told : filter is_to_new v.replies ≡ answers
 
 record IsKept (w : World) (events : List Event) : Type 0 where
   owned : IsOwned w

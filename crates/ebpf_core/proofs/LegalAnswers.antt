@@ -1,42 +1,53 @@
 -- Which answers to a run are legal, by where the answered slot is and by what the run wants, and what it is told by one.
-use Rattle.std.proofs.Common.{◌≡◌, ◌⊎◌, inl, inr, ℕ, ◌<◌, Bool, true, false, cond, not, [], ◌∷◌, ◌++◌, append-nil, length, Option, Some, None, refl, sym, ap, ◌∙◌}
+use Rattle.std.proofs.Common.{◌≡◌, ℕ, Bool, true, false, cond, not, List, [], ◌∷◌, ◌++◌, append-nil, filter, Option, Some, None, refl, sym, ap, ◌∙◌}
 use Rattle.std.specs.Prelude.{option_map, slice_get, ◌==◌, ◌&&◌}
 use Rattle.std.proofs.lemmas.Bool.{eq-eqb, eqb-true, false_from_ne_true}
+use Rattle.std.proofs.lemmas.List.Elements.{filter-append}
 use Rattle.ebpf_insn.specs.Faults.{first_of}
 use Rattle.ebpf_machine.specs.World.{World, Running, Going, is_home, is_in, ledger_of}
 use Rattle.ebpf_machine.specs.World as world
-use Rattle.ebpf_machine.specs.Alone.{Replies}
-use Rattle.ebpf_machine.specs.Events.{SlotNotHome, SlotOfAnotherKind, AnswerUnasked, AnswerMissing, Asking, Unasked, OfKind, is_asked, is_answer, is_away, is_of_another_kind, answer_fault, asking_of}
-use Rattle.ebpf_machine.specs.View.{RunView, view_of, stepped}
+use Rattle.ebpf_machine.specs.declared.report.Reply.{Reply}
+use Rattle.ebpf_machine.specs.declared.report.Reply.TheVariants as reply
+use Rattle.ebpf_machine.specs.Alone.{Replies, replies_of}
+use Rattle.ebpf_machine.specs.Events.{SlotNotHome, SlotOfAnotherKind, AnswerUnasked, AnswerMissing, Asking, Unasked, OfKind, AtShelf, is_asked, is_answer, is_away, is_of_another_kind, answer_fault, asking_of}
+use Rattle.ebpf_machine.specs.View as view
+use Rattle.ebpf_machine.specs.View.{RunView, CallResult, view_of, stepped, reply_in}
 use Rattle.ebpf_machine.specs.Step.{result_of, served_in, asking_in, wanted}
 use Rattle.ebpf_machine.specs.Sound.{AreSized, IsSound, IsOwned}
-use Rattle.ebpf_machine.proofs.World.Asking.{AsksNew, asking_seen}
-use Rattle.ebpf_machine.proofs.World.NoShelves.{next_asks, asked_next}
+use Rattle.ebpf_machine.proofs.World.Asking.{Asks, ForNothing, ForObject, ForShelf, asks_of, asking_seen}
+use Rattle.ebpf_machine.proofs.World.Steps.{next_of}
 use Rattle.ebpf_machine.proofs.World.Execs.{sized_in}
 use Rattle.ebpf_machine.proofs.World.Owners.{kind_in-ledger}
-use Rattle.ebpf_machine.proofs.World.Replies.{replies_kept, replies_added}
+use Rattle.ebpf_machine.proofs.World.Replies.{heard_by_swap, replies_kept, replies_added, replies_swapped}
 use Rattle.ebpf_core.specs.declared.event.Answer.{Answer}
 use Rattle.ebpf_core.specs.declared.event.Answer.TheVariants.{Absent, Null, Slot}
 use Rattle.ebpf_core.specs.declared.fault.ApplyCode.TheVariants.{E4}
 use Rattle.ebpf_core.specs.declared.place.Place.{Place}
-use Rattle.ebpf_core.specs.declared.place.Place.TheVariants.{Home, Held}
+use Rattle.ebpf_core.specs.declared.place.Place.TheVariants.{Home, Held, Shelved}
 use Rattle.ebpf_core.specs.Events.{answer_of}
 use Rattle.ebpf_core.specs.Faults.{code_of}
-use Rattle.ebpf_core.specs.Isolation.{reply_by}
+use Rattle.ebpf_core.specs.Isolation.{is_to_new, reply_by}
 use Rattle.ebpf_core.specs.Places.{Places, place_at}
 use Rattle.ebpf_core.specs.Stepping.{slot_code, code_by}
 
--- ---- what a sound run asks for: an object of this kind, or nothing, and never one of a kind that there isn't
+-- ---- what a sound run asks for: an object of this kind, or none, and never one of a kind that there isn't
 
 abbrev pub asked_as : Option ℕ → Asking
 asked_as None = Unasked
 asked_as (Some kind) = OfKind kind
 
-pub asks_as : (v : RunView) → IsSound v → AreSized v → v.status ≡ Going → asking_in v ≡ asked_as (wanted (asking_in v))
-asks_as v sound sized going = by (asked_next v sound sized going) where
-  by : (asking_in v ≡ Unasked) ⊎ ((kind : ℕ) × (asking_in v ≡ OfKind kind) × (kind < length v.subject.rows) × (length v.objects < v.subject.decl.held)) → asking_in v ≡ asked_as (wanted (asking_in v))
-  by (inl unasked) = unasked ∙ ap (λ (a : Asking). asked_as (wanted a)) (sym unasked)
-  by (inr (kind, asked, there, room)) = asked ∙ ap (λ (a : Asking). asked_as (wanted a)) (sym asked)
+-- what stands on a shelf is no answer of an event
+same_fault : (w : World) (v : RunView) (answer : world.Answer) → Asks v → answer_fault w (asking_in v) answer ≡ answer_fault w (asked_as (wanted (asking_in v))) answer
+same_fault w v answer (ForNothing unasked) = ap (λ (a : Asking). answer_fault w a answer) (unasked ∙ ap (λ (a : Asking). asked_as (wanted a)) (sym unasked))
+same_fault w v answer (ForObject kind asked new) = ap (λ (a : Asking). answer_fault w a answer) (asked ∙ ap (λ (a : Asking). asked_as (wanted a)) (sym asked))
+same_fault w v answer (ForShelf shelf asked new) = ap (λ (a : Asking). answer_fault w a answer) asked ∙ unasked answer ∙ ap (λ (a : Asking). answer_fault w (asked_as (wanted a)) answer) (sym asked) where
+  unasked : (answer : world.Answer) → answer_fault w (AtShelf shelf) answer ≡ answer_fault w Unasked answer
+  unasked world.Absent = refl
+  unasked world.Null = refl
+  unasked (world.Slot slot) = refl
+
+pub asks_as : (w : World) (v : RunView) (answer : world.Answer) → IsSound v → AreSized v → v.status ≡ Going → answer_fault w (asking_in v) answer ≡ answer_fault w (asked_as (wanted (asking_in v))) answer
+asks_as w v answer sound sized going = same_fault w v answer (asks_of v (next_of v sound sized going))
 
 -- ---- why an answer is not legal
 
@@ -62,6 +73,7 @@ in_which w slot a b owned here = by (is_in slot (ledger_of w b)) refl where
 slot_fault : (w : World) (slot : ℕ) (place : Option Place) (wants : Option ℕ) → IsOwned w → IsKeptIn w slot place → option_map code_of (answer_fault w (asked_as wants) (world.Slot slot)) ≡ slot_code place wants
 slot_fault w slot None wants owned kept = rw kept refl
 slot_fault w slot (Some (Held run at)) wants owned kept = rw kept refl
+slot_fault w slot (Some (Shelved shelf)) wants owned kept = rw kept refl
 slot_fault w slot (Some (Home o)) None owned kept = let home = kept.0 in rw home refl
 slot_fault w slot (Some (Home o)) (Some kind) owned kept = let home = kept.0 in let which = in_which w slot o.kind kind owned kept.1 in rw (home, which) (by (o.kind == kind)) where
   by : (t : Bool) → option_map code_of (first_of ((false, SlotNotHome) ∷ (not t, SlotOfAnotherKind) ∷ (false, AnswerUnasked) ∷ (false, AnswerMissing) ∷ [])) ≡ cond t None (Some E4)
@@ -80,8 +92,9 @@ pub code_at : (w : World) (k : ℕ) (run : Running) (places : Places) (answer : 
     → option_map code_of (answer_fault w (asking_of w run) (answer_of answer)) ≡ code_by places answer (wanted (asking_in (view_of w k run)))
 code_at w k run places answer owned from there sound going =
     let v = view_of w k run in
-    let asks = asking_seen w k run owned there ∙ asks_as v sound (sized_in w k run owned there) going in
-    ap (λ (a : Asking). option_map code_of (answer_fault w a (answer_of answer))) asks ∙ code_is w places answer (wanted (asking_in v)) owned from
+    ap (λ (a : Asking). option_map code_of (answer_fault w a (answer_of answer))) (asking_seen w k run owned there)
+    ∙ ap (option_map code_of) (asks_as w v (answer_of answer) sound (sized_in w k run owned there) going)
+    ∙ code_is w places answer (wanted (asking_in v)) owned from
 
 -- ---- what a legal answer tells
 
@@ -96,13 +109,28 @@ asked_fits w asked answer fine = by (is_away w answer) (is_of_another_kind w ask
   by false false true false fine = absurd (cc)
   by false false false true fine = absurd (cc)
 
--- a run is told just what a legal answer brings
-pub told_next : (w : World) (v : RunView) (answer : Answer) → IsSound v → AreSized v → v.status ≡ Going → answer_fault w (asking_in v) (answer_of answer) ≡ None → (stepped (result_of (served_in w (asking_in v) (answer_of answer))) v).replies ≡ v.replies ++ reply_by answer
-told_next w v answer sound sized going fine = by (next_asks v sound sized going) answer (asked_fits w (asking_in v) (answer_of answer) fine) where
-  by : (asking_in v ≡ Unasked) ⊎ ((kind : ℕ) × (asking_in v ≡ OfKind kind) × AsksNew v kind) → (given : Answer) → is_asked (asking_in v) ≡ is_answer (answer_of given) → (stepped (result_of (served_in w (asking_in v) (answer_of given))) v).replies ≡ v.replies ++ reply_by given
-  by (inl unasked) Absent fits = ap (λ (rs : Replies). rs.answers) (replies_kept v _ going unasked) ∙ sym (append-nil v.replies)
-  by (inl unasked) Null fits = let bad = ap is_asked unasked in absurd (cc)
-  by (inl unasked) (Slot slot) fits = let bad = ap is_asked unasked in absurd (cc)
-  by (inr (kind, asked, new)) Absent fits = let bad = ap is_asked asked in absurd (cc)
-  by (inr (kind, asked, new)) Null fits = rw asked (ap (λ (rs : Replies). rs.answers) (replies_added v _ kind going new))
-  by (inr (kind, asked, new)) (Slot slot) fits = rw asked (ap (λ (rs : Replies). rs.answers) (replies_added v _ kind going new))
+-- calls of new are told just what a legal answer brings
+pub told_next : (w : World) (v : RunView) (answer : Answer) → IsSound v → AreSized v → v.status ≡ Going → answer_fault w (asking_in v) (answer_of answer) ≡ None
+    → filter is_to_new (stepped (result_of (served_in w (asking_in v) (answer_of answer))) v).replies ≡ filter is_to_new v.replies ++ reply_by answer
+told_next w v answer sound sized going fine = by (asks_of v (next_of v sound sized going)) answer (asked_fits w (asking_in v) (answer_of answer) fine) where
+  more : (told : List Reply) (answers : Replies) (one : Reply) → filter is_to_new (one ∷ []) ≡ told → answers.answers ≡ v.replies ++ one ∷ [] → filter is_to_new answers.answers ≡ filter is_to_new v.replies ++ told
+  more told answers one is e = ap (filter is_to_new) e ∙ filter-append is_to_new v.replies (one ∷ []) ∙ ap (λ (rs : List Reply). filter is_to_new v.replies ++ rs) is
+
+  to_swap : (result : CallResult) → filter is_to_new (reply_in (heard_by_swap result) ∷ []) ≡ []
+  to_swap view.Null = refl
+  to_swap view.Granted = refl
+  to_swap view.Empty = refl
+  to_swap (view.Shelved bytes) = refl
+
+  by : Asks v → (given : Answer) → is_asked (asking_in v) ≡ is_answer (answer_of given) → filter is_to_new (stepped (result_of (served_in w (asking_in v) (answer_of given))) v).replies ≡ filter is_to_new v.replies ++ reply_by given
+  by (ForNothing unasked) Absent fits = ap (λ (rs : Replies). filter is_to_new rs.answers) (replies_kept v _ going unasked) ∙ sym (append-nil (filter is_to_new v.replies))
+  by (ForNothing unasked) Null fits = let bad = ap is_asked unasked in absurd (cc)
+  by (ForNothing unasked) (Slot slot) fits = let bad = ap is_asked unasked in absurd (cc)
+  by (ForObject kind asked new) Absent fits = let bad = ap is_asked asked in absurd (cc)
+  by (ForObject kind asked new) Null fits = rw asked (more (reply.Null ∷ []) (replies_of (stepped (result_of (served_in w (OfKind kind) world.Null)) v)) reply.Null refl (ap (λ (rs : Replies). rs.answers) (replies_added v _ kind going new)))
+  by (ForObject kind asked new) (Slot slot) fits = rw asked (more (reply.Granted ∷ []) (replies_of (stepped (result_of (served_in w (OfKind kind) (world.Slot slot))) v)) reply.Granted refl (ap (λ (rs : Replies). rs.answers) (replies_added v _ kind going new)))
+  by (ForShelf shelf asked new) Absent fits =
+      let result = result_of (served_in w (asking_in v) world.Absent) in
+      more [] (replies_of (stepped result v)) (reply_in (heard_by_swap result)) (to_swap result) (ap (λ (rs : Replies). rs.answers) (replies_swapped v result shelf going new))
+  by (ForShelf shelf asked new) Null fits = let bad = ap is_asked asked in absurd (cc)
+  by (ForShelf shelf asked new) (Slot slot) fits = let bad = ap is_asked asked in absurd (cc)

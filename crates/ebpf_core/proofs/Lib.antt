@@ -10,6 +10,7 @@ pub mod Placing
 pub mod Executing
 pub mod Exchanging
 pub mod Moving
+pub mod Passed
 pub mod Fresh
 pub mod Starting
 pub mod Slots

@@ -1,12 +1,13 @@
 -- What is read of the world that is kept is read of the one that is shown: of its runs, and of its slots.
-use Rattle.std.proofs.Common.{◌≡◌, ◌≢◌, ℕ, true, not, List, Option, Some, None, refl, sym, ap, ◌∙◌, subst}
+use Rattle.std.proofs.Common.{◌≡◌, ◌≢◌, inl, inr, ℕ, true, not, List, Option, Some, None, refl, sym, ap, ◌∙◌, subst}
 use Rattle.std.specs.Prelude.{Contains, ◌==◌, option_map, slice_get, slice_index_or}
 use Rattle.std.specs.List.{find}
 use Rattle.std.specs.Option.{option_and_then}
 use Rattle.std.proofs.lemmas.Bool.{eqb-true, eq-eqb, and_parts}
 use Rattle.std.proofs.lemmas.Option.{get_or_from_slice_get}
 use Rattle.ebpf_machine.specs.declared.holding.Holding.{Holding}
-use Rattle.ebpf_machine.specs.World.{Name, Kind, World, Owner, Run, Going, Exited, is_in_ledger, is_owned, image_at, kind_in, name_of}
+use Rattle.ebpf_machine.specs.World.{Name, Kind, World, Owner, Run, Going, Exited, is_in_ledger, is_owned, image_at, kind_in, name_of, shelved_at}
+use Rattle.ebpf_machine.specs.World as world
 use Rattle.ebpf_machine.specs.Kinds.{known_kinds}
 use Rattle.ebpf_machine.specs.View.{ObjectView, RunView}
 use Rattle.ebpf_machine.specs.RunState.{RunState, status_of}
@@ -14,15 +15,16 @@ use Rattle.ebpf_machine.proofs.Lists.ListLemmas.{IsFound, find_is}
 use Rattle.ebpf_machine.proofs.Lists.Mapped.{Contains-unmapped}
 use Rattle.ebpf_machine.proofs.World.Owners.{owner_of, kind_in-ledger, owned_there}
 use Rattle.ebpf_core.specs.declared.passing.Object.{Object}
-use Rattle.ebpf_core.specs.declared.place.Place.TheVariants.{Home, Held}
+use Rattle.ebpf_core.specs.declared.place.Place.TheVariants.{Home, Held, Shelved}
 use Rattle.ebpf_core.specs.declared.world.Status.TheVariants as status
+use Rattle.ebpf_core.specs.Passing.{as_shelved, on_shelf, slot_on}
 use Rattle.ebpf_core.specs.Places.{place_at}
 use Rattle.ebpf_core.specs.Shown.{WorldState, Shows, ArePlaced, IsAtHome, IsPlaced, slots_of}
-use Rattle.ebpf_core.specs.Readers.{run_of, status_in, output_in, executed_in, owner_in, bytes_in}
+use Rattle.ebpf_core.specs.Readers.{run_of, status_in, output_in, executed_in, owner_in, shelf_in, bytes_in}
 use Rattle.ebpf_core.proofs.Runs.{run_shown, none_shown}
 use Rattle.ebpf_core.proofs.LegalAnswers.{IsKeptIn}
 use Rattle.ebpf_core.proofs.OwnedSlots.{owner_found, owns_held}
-use Rattle.ebpf_core.proofs.Placing.{kept_in, owner_kept, held_kept, object_kept}
+use Rattle.ebpf_core.proofs.Placing.{IsKeptOwner, kept_in, owner_kept, held_kept, object_kept, shelf_slot, stands_there}
 
 -- ---- of a run
 
@@ -70,9 +72,14 @@ pub owner_none : (w : World) (kept : WorldState) (slot : ℕ) → Shows w kept �
 owner_none w kept slot h placed free = by (find (λ (o : Owner). o.slot == slot) w.owners) (find_is (λ (o : Owner). o.slot == slot) w.owners) where
   by : (f : Option Owner) → IsFound (λ (o : Owner). o.slot == slot) w.owners f → None ≡ option_and_then (λ (o : Owner). run_of o.holder) f
   by None none = refl
-  by (Some o) found =
-      let (run, at, held, is) = owner_kept w kept o h placed found.0 in
-      absurd (free run at (ap (place_at kept.places) (sym (eqb-true o.slot slot found.1)) ∙ held))
+  by (Some o) found = of_owner (owner_kept w kept o h placed found.0) where
+    of_owner : IsKeptOwner kept o → None ≡ run_of o.holder
+    of_owner (inl (run, at, held, is)) = absurd (free run at (ap (place_at kept.places) (sym (eqb-true o.slot slot found.1)) ∙ held))
+    of_owner (inr (shelf, stands, is)) = sym (ap run_of is)
+
+-- the slot on a shelf
+pub shelf_is : (w : World) (kept : WorldState) (shelf : ℕ) → Shows w kept → slot_on kept.shelves shelf ≡ shelf_in w shelf
+shelf_is w kept shelf h = sym (shelf_slot w kept shelf h)
 
 -- its bytes: at home it has its kind's image
 there_bytes : (w : World) (slot : ℕ) (bytes : List ℕ) → is_in_ledger w slot ≡ true → bytes ≡ w.bytes slot → Some bytes ≡ bytes_in w slot
@@ -85,6 +92,25 @@ bytes_home w kept slot o h placed is =
     let there = (and_parts (is_in_ledger w slot) (not (is_owned w slot)) home.0).0 in
     let kind : o.kind ≡ kind_in w slot = sym (kind_in-ledger w o.kind slot h.owned home.1) in
     there_bytes w slot o.bytes.items there (at.image ∙ ap (image_at known_kinds) kind ∙ ap (λ (kinds : List Kind). image_at kinds (kind_in w slot)) (sym h.kinds) ∙ sym (h.owned.ledgers.imaged slot home.0))
+
+-- on a shelf it has those of what stands there
+bytes_shelved : (w : World) (kept : WorldState) (slot shelf : ℕ) (o : Object) → Shows w kept → ArePlaced kept → place_at kept.places slot ≡ Some (Shelved shelf) → on_shelf kept.shelves shelf ≡ Some o → Some o.bytes.items ≡ bytes_in w slot
+bytes_shelved w kept slot shelf o h placed is on =
+    let it = stands_there w kept shelf slot h (subst (IsPlaced kept slot) is (placed.each slot)) in
+    let there : is_in_ledger w slot ≡ true = ap (is_in_ledger w) (sym it.slot_is) ∙ owned_there w it.owner h.owned it.among in
+    let same : Some (shelved_at w it.owner.slot) ≡ Some (as_shelved o) = ap (option_map (λ (p : Owner). shelved_at w p.slot)) (sym it.is) ∙ h.shelves shelf ∙ ap (option_map as_shelved) on in
+    there_bytes w slot o.bytes.items there (sym (bytes_same same) ∙ ap w.bytes it.slot_is)
+  where
+    bytes_same : {a b : world.Shelved} → Some a ≡ Some b → a.bytes ≡ b.bytes
+    bytes_same {a} {b} e = ap (λ (x : world.Shelved). x.bytes) same where
+      same : a ≡ b
+      same = cc
+
+pub bytes_on_shelf : (w : World) (kept : WorldState) (slot shelf : ℕ) → Shows w kept → ArePlaced kept → place_at kept.places slot ≡ Some (Shelved shelf) → option_map (λ (o : Object). o.bytes.items) (on_shelf kept.shelves shelf) ≡ bytes_in w slot
+bytes_on_shelf w kept slot shelf h placed is = by (on_shelf kept.shelves shelf) refl where
+  by : (o : Option Object) → on_shelf kept.shelves shelf ≡ o → option_map (λ (x : Object). x.bytes.items) o ≡ bytes_in w slot
+  by None none = let stands = sym (ap (option_map (λ (x : Object). x.slot)) none) ∙ subst (IsPlaced kept slot) is (placed.each slot) in absurd (cc)
+  by (Some o) on = bytes_shelved w kept slot shelf o h placed is on
 
 -- and with a run those of the object that was granted to its call
 call_held : (r : RunState Object) (slot at : ℕ) → Contains (slots_of r) (name_of slot at) → (held : Holding Object) × Contains r.held held × (held.call ≡ at)

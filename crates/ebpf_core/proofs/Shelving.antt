@@ -1,12 +1,12 @@
 -- What a call of swap leaves on the shelves of a store.
-use Rattle.std.proofs.Common.{◌≡◌, ◌≢◌, ◌⊎◌, inl, inr, ℕ, ◌<◌, List, length, get_or, set, Option, Some, None, refl, sym, ap, ◌∙◌, subst, arith}
-use Rattle.std.specs.Prelude.{IfSome, slice_index_or, slice_set}
+use Rattle.std.proofs.Common.{◌≡◌, ◌≢◌, ◌⊎◌, inl, inr, ℕ, ◌<◌, List, length, Option, Some, None, refl, sym, ap, ◌∙◌, subst}
+use Rattle.std.specs.Prelude.{IfSome, slice_set}
 use Rattle.std.proofs.lemmas.Bool.{cases_eq}
 use Rattle.std.proofs.lemmas.List.{get_or-set_same, get_or-set_other}
 use Rattle.ebpf_machine.specs.World.{image_at}
 use Rattle.ebpf_machine.specs.Kinds.{known_kinds}
 use Rattle.ebpf_core.specs.declared.passing.Object.{Object}
-use Rattle.ebpf_core.specs.Passing.{IsOut, IsAway, FitShelves, AreApart, AreAway, AreStanding, on_shelf}
+use Rattle.ebpf_core.specs.Passing.{IsOut, IsAway, FitShelves, AreApart, AreAway, on_shelf}
 
 -- what stands on a shelf where one changed
 here : (shelves : List (Option Object)) (shelf : ℕ) (given : Option Object) → shelf < length shelves → on_shelf (slice_set shelves shelf given) shelf ≡ given

@@ -12,6 +12,7 @@ use Rattle.ebpf_machine.specs.Kinds.{known_kinds}
 use Rattle.ebpf_machine.specs.Events.{SlotInLedger, SlotNotReapable, NoSuchProgramOrKind, with_slot, with_slot_joined, growing, without_slot, with_slot_left, reaping}
 use Rattle.ebpf_machine.specs.RunState.{RunState}
 use Rattle.ebpf_machine.proofs.World.LedgerChanges.{any-set}
+use Rattle.ebpf_machine.proofs.World.KeptShelves.{shelved_joined}
 use Rattle.ebpf_machine.proofs.World.NewSlots.{IsNew, joined_in, owned_joined, view_joined}
 use Rattle.ebpf_machine.proofs.World.NewSlots as new_slots
 use Rattle.ebpf_machine.proofs.World.Owners.{owner_of, kind_in-ledger, owned_there}
@@ -19,12 +20,13 @@ use Rattle.ebpf_machine.proofs.World.PartedSlots.{IsReapable, owned_parted, part
 use Rattle.ebpf_machine.proofs.World.PartedSlots as parted_slots
 use Rattle.ebpf_core.specs.declared.passing.Object.{Object}
 use Rattle.ebpf_core.specs.declared.place.Place.{Place}
-use Rattle.ebpf_core.specs.declared.place.Place.TheVariants.{Home, Held}
+use Rattle.ebpf_core.specs.declared.place.Place.TheVariants.{Home, Held, Shelved}
+use Rattle.ebpf_core.specs.Passing.{slot_on}
 use Rattle.ebpf_core.specs.Places.{Places, place_at, is_home_of}
 use Rattle.ebpf_core.specs.Shown.{WorldState, Shows, ArePlaced, IsPlaced, IsTendedWorld, slots_of}
 use Rattle.ebpf_core.proofs.Ledgers.{parted_joined}
 use Rattle.ebpf_core.proofs.LegalAnswers.{IsKeptIn}
-use Rattle.ebpf_core.proofs.Placing.{kept_in, held_kept}
+use Rattle.ebpf_core.proofs.Placing.{kept_in, held_kept, stands_there}
 
 -- ---- what is said on one of two answers
 
@@ -46,10 +48,11 @@ kept_of kept kind = slice_index_or kept.ledgers kind []
 abbrev with_slots : WorldState → ℕ → List ℕ → Places → WorldState
 with_slots kept kind slots places = record kept { ledgers = slice_set kept.ledgers kind slots; places = places }
 
--- of every other slot ledger and places say what they said; this one, which no run holds, has a place that fits
+-- of every other slot ledger and places say what they said; this one, which no run holds and no shelf has, has a place that fits
 record IsMoved (kept : WorldState) (kind slot : ℕ) (slots : List ℕ) (place : Option Place) (places : Places) : Type 0 where
   pub others : (s : ℕ) → s ≢ slot → is_in s slots ≡ is_in s (kept_of kept kind)
   pub unheld : (run at : ℕ) → place_at kept.places slot ≢ Some (Held run at)
+  pub unshelved : (shelf : ℕ) → place_at kept.places slot ≢ Some (Shelved shelf)
   pub places_are : (s : ℕ) → place_at places s ≡ (if s == slot then place else place_at kept.places s)
   pub fits : IsPlaced (with_slots kept kind slots places) slot place
 
@@ -62,7 +65,7 @@ answers-set p (x ∷ xs) (suc k) zero y d e = refl
 answers-set p (x ∷ xs) (suc k) (suc j) y d e = answers-set p xs k j y d e
 
 placed_moved : (kept : WorldState) (kind slot : ℕ) (slots : List ℕ) (place : Option Place) (places : Places) → ArePlaced kept → IsMoved kept kind slot slots place places → ArePlaced (with_slots kept kind slots places)
-placed_moved kept kind slot slots place places placed moved = record { each = λ s. each s (cases_eq s slot); held = λ run r there n among. held run r there n among (cases_eq n.slot slot) } where
+placed_moved kept kind slot slots place places placed moved = record { each = λ s. each s (cases_eq s slot); held = λ run r there n among. held run r there n among (cases_eq n.slot slot); shelved = λ shelf s stands. shelved shelf s stands (cases_eq s slot) } where
   after : WorldState
   after = with_slots kept kind slots places
 
@@ -76,6 +79,7 @@ placed_moved kept kind slot slots place places placed moved = record { each = λ
   other s None ne is = any-set (is_in s) kept.ledgers kind slots [] (moved.others s ne) ∙ is
   other s (Some (Home o)) ne is = record { same = is.same; its = answers-set (is_in s) kept.ledgers kind o.kind slots [] (moved.others s ne) ∙ is.its; known = is.known; image = is.image }
   other s (Some (Held run at)) ne is = is
+  other s (Some (Shelved shelf)) ne is = is
 
   each : (s : ℕ) → (s ≡ slot) ⊎ (s ≢ slot) → IsPlaced (with_slots kept kind slots places) s (place_at places s)
   each s (inl e) = subst (λ (k : ℕ). IsPlaced (with_slots kept kind slots places) k (place_at places k)) (sym e) (subst (IsPlaced (with_slots kept kind slots places) slot) (sym here) moved.fits)
@@ -84,6 +88,10 @@ placed_moved kept kind slot slots place places placed moved = record { each = λ
   held : (run : ℕ) (r : RunState Object) → slice_get kept.runs run ≡ Some r → (n : Name) → Contains (slots_of r) n → (n.slot ≡ slot) ⊎ (n.slot ≢ slot) → place_at places n.slot ≡ Some (Held run n.call)
   held run r at n among (inl e) = absurd (moved.unheld run n.call (ap (place_at kept.places) (sym e) ∙ placed.held run r at n among))
   held run r at n among (inr ne) = there n.slot ne ∙ placed.held run r at n among
+
+  shelved : (shelf s : ℕ) → slot_on kept.shelves shelf ≡ Some s → (s ≡ slot) ⊎ (s ≢ slot) → place_at places s ≡ Some (Shelved shelf)
+  shelved shelf s stands (inl e) = absurd (moved.unshelved shelf (ap (place_at kept.places) (sym e) ∙ placed.shelved shelf s stands))
+  shelved shelf s stands (inr ne) = there s ne ∙ placed.shelved shelf s stands
 
 -- ---- a kind that there isn't
 
@@ -114,6 +122,9 @@ grow_there w kept kind slot h placed lt some =
     by None is some = absurd (cc)
     by (Some (Home o)) is some = (and_parts (is_in_ledger w slot) (not (is_owned w slot)) (subst (IsKeptIn w slot) is (kept_in w kept slot h placed)).0).0
     by (Some (Held run at)) is some = owned_there w (owner_of run (name_of slot at)) h.owned (held_kept w kept slot run at h placed is)
+    by (Some (Shelved shelf)) is some =
+        let it = stands_there w kept shelf slot h (subst (IsPlaced kept slot) is (placed.each slot)) in
+        ap (is_in_ledger w) (sym it.slot_is) ∙ owned_there w it.owner h.owned it.among
 
 -- it had no place, and is at home in the ledger of this kind
 pub record IsGrown (kept : WorldState) (kind slot : ℕ) (o : Object) (ledgers : List (List ℕ)) (places : Places) : Type 0 where
@@ -140,7 +151,7 @@ joined_shows w kept kind slot places h new = record {
   kinds = h.kinds;
   ledgers = ap (λ (ls : List (List ℕ)). slice_set ls kind (with_slot slot (slice_index_or ls kind []))) h.ledgers;
   owned = owned_joined w kind slot h.owned new;
-  unshelved = h.unshelved;
+  shelves = λ shelf. shelved_joined w kind slot shelf h.owned new ∙ h.shelves shelf;
 }
 
 -- so the event is legal
@@ -163,6 +174,7 @@ grown_moved : (w : World) (kept : WorldState) (kind slot : ℕ) (o : Object) (le
 grown_moved w kept kind slot o ledgers places h placed grown = record {
   others = λ s ne. new_slots.others_in s slot (kept_of kept kind) ne;
   unheld = λ run at e. let free = grown.free in let some = ap is_some e in absurd (cc);
+  unshelved = λ shelf e. let free = grown.free in let some = ap is_some e in absurd (cc);
   places_are = grown.places_are;
   fits = record { same = same; its = its; known = subst (λ (k : ℕ). k < length known_kinds) (sym of_kind) grown.known; image = image ∙ ap (image_at known_kinds) (sym of_kind) };
 }
@@ -190,6 +202,7 @@ grow_tended kept kind slot o ledgers places tended grown =
     let next = grow_done w kept kind slot o ledgers places h tended.placed grown in
     let moved = placed_moved kept kind slot (with_slot slot (kept_of kept kind)) (Some (Home o)) places tended.placed (grown_moved w kept kind slot o ledgers places h tended.placed grown) in
     record {
+      standing = tended.standing;
       known = tended.known;
       runs = tended.runs;
       placed = subst (λ (ls : List (List ℕ)). ArePlaced (record kept { ledgers = ls; places = places })) (sym grown.ledgers_are) moved;
@@ -235,6 +248,7 @@ reap_away w kept kind slot h placed lt away =
     by : (p : Option Place) → IsKeptIn w slot p → is_home_of p kind ≡ false → (is_home w slot && is_in slot (ledger_of w kind)) ≡ false
     by None is away = ap (λ (t : Bool). t && is_in slot (ledger_of w kind)) is
     by (Some (Held run at)) is away = ap (λ (t : Bool). t && is_in slot (ledger_of w kind)) is
+    by (Some (Shelved shelf)) is away = ap (λ (t : Bool). t && is_in slot (ledger_of w kind)) is
     by (Some (Home o)) is away =
         let none = false_from_ne_true (is_in slot (ledger_of w kind)) (not_its o is.1 away) in
         ap (λ (t : Bool). t && is_in slot (ledger_of w kind)) is.0 ∙ none
@@ -251,6 +265,7 @@ is_reapable w kept kind slot h placed home = by (place_at kept.places slot) (kep
   by : (p : Option Place) → IsKeptIn w slot p → is_home_of p kind ≡ true → IsReapable w kind slot
   by None is home = absurd (cc)
   by (Some (Held run at)) is home = absurd (cc)
+  by (Some (Shelved shelf)) is home = absurd (cc)
   by (Some (Home o)) is home = record { home = is.0; its = subst (λ (k : ℕ). is_in slot (ledger_of w k) ≡ true) (eqb-true o.kind kind home) is.1 }
 
 parted_shows : (w : World) (kept : WorldState) (kind slot : ℕ) (places : Places) → Shows w kept → IsReapable w kind slot → Shows (with_slot_left kind slot w) (with_slots kept kind (without_slot slot (kept_of kept kind)) places)
@@ -261,7 +276,7 @@ parted_shows w kept kind slot places h reapable = record {
   kinds = h.kinds;
   ledgers = ap (λ (ls : List (List ℕ)). slice_set ls kind (without_slot slot (slice_index_or ls kind []))) h.ledgers;
   owned = owned_parted w kind slot h.owned reapable;
-  unshelved = h.unshelved;
+  shelves = h.shelves;
 }
 
 pub reap_done : (w : World) (kept : WorldState) (kind slot : ℕ) (ledgers : List (List ℕ)) (places : Places) → Shows w kept → ArePlaced kept → IsReaped kept kind slot ledgers places
@@ -276,6 +291,7 @@ reaped_moved : (w : World) (kept : WorldState) (kind slot : ℕ) (ledgers : List
 reaped_moved w kept kind slot ledgers places h placed reaped = record {
   others = λ s ne. parted_slots.others_in s slot (kept_of kept kind) ne;
   unheld = λ run at e. let home = sym (ap (λ (p : Option Place). is_home_of p kind) e) ∙ reaped.home in absurd (cc);
+  unshelved = λ shelf e. let home = sym (ap (λ (p : Option Place). is_home_of p kind) e) ∙ reaped.home in absurd (cc);
   places_are = reaped.places_are;
   fits = sym (ap (λ (ls : List (List ℕ)). list_any (is_in slot) (slice_set ls kind (without_slot slot (slice_index_or ls kind [])))) h.ledgers) ∙ parted_away w kind slot h.owned (is_reapable w kept kind slot h placed reaped.home);
 }
@@ -287,6 +303,7 @@ reap_tended kept kind slot ledgers places tended reaped =
     let next = reap_done w kept kind slot ledgers places h tended.placed reaped in
     let moved = placed_moved kept kind slot (without_slot slot (kept_of kept kind)) None places tended.placed (reaped_moved w kept kind slot ledgers places h tended.placed reaped) in
     record {
+      standing = tended.standing;
       known = tended.known;
       runs = tended.runs;
       placed = subst (λ (ls : List (List ℕ)). ArePlaced (record kept { ledgers = ls; places = places })) (sym reaped.ledgers_are) moved;

@@ -19,7 +19,7 @@ use Rattle.ebpf_core.specs.declared.fault.ApplyCode.{ApplyCode}
 use Rattle.ebpf_core.specs.declared.fault.ApplyCode.TheVariants.{E10}
 use Rattle.ebpf_core.specs.declared.passing.Object.{Object}
 use Rattle.ebpf_core.specs.declared.place.Place.{Place}
-use Rattle.ebpf_core.specs.declared.place.Place.TheVariants.{Home, Held}
+use Rattle.ebpf_core.specs.declared.place.Place.TheVariants.{Home, Held, Shelved}
 use Rattle.ebpf_core.specs.Faults.{code_of}
 use Rattle.ebpf_core.specs.Stepping.{start_code}
 use Rattle.ebpf_core.specs.Places.{place_at}
@@ -73,7 +73,7 @@ started_shows w kept s context kinds h = record {
   kinds = h.kinds;
   ledgers = h.ledgers;
   owned = owned_started w s context h.owned kinds;
-  unshelved = h.unshelved;
+  shelves = h.shelves;
 }
 
 -- ---- what the event leads to
@@ -122,11 +122,12 @@ starting_pushed programs program s context w kept r runs kinds h at fits first p
 -- ---- what always holds
 
 placed_started : (kept : WorldState) (r : RunState Object) → slots_of r ≡ [] → ArePlaced kept → ArePlaced (with_started kept r)
-placed_started kept r none placed = record { each = λ slot. by (place_at kept.places slot) slot (placed.each slot); held = λ run t at n among. held run t n among (get_push_cases kept.runs run t r at) at } where
+placed_started kept r none placed = record { each = λ slot. by (place_at kept.places slot) slot (placed.each slot); held = λ run t at n among. held run t n among (get_push_cases kept.runs run t r at) at; shelved = placed.shelved } where
   by : (p : Option Place) (slot : ℕ) → IsPlaced kept slot p → IsPlaced (with_started kept r) slot p
   by None slot is = is
   by (Some (Home o)) slot is = record { same = is.same; its = is.its; known = is.known; image = is.image }
   by (Some (Held run at)) slot is = (is.0, get_push kept.runs run is.0 r is.1, is.2)
+  by (Some (Shelved shelf)) slot is = is
 
   held : (run : ℕ) (t : RunState Object) (n : Name) → Contains (slots_of t) n → (slice_get kept.runs run ≡ Some t) ⊎ (r ≡ t) → slice_get (kept.runs ++ r ∷ []) run ≡ Some t → place_at kept.places n.slot ≡ Some (Held run n.call)
   held run t n among (inl old) at = placed.held run t old n among
@@ -137,6 +138,7 @@ started_tended kept s context r kinds first sound tended = record {
   known = tended.known;
   runs = All-push IsTended kept.runs r tended.runs (tended_first s context r first sound kinds);
   placed = placed_started kept r (ap slots_of first) tended.placed;
+  standing = tended.standing;
   shown = (
     started s context tended.shown.0,
     subst (λ (x : RunState Object). Shows (started s context tended.shown.0) (with_started kept x)) (sym first) (started_shows tended.shown.0 kept s context (kinds ∙ sym tended.shown.1.kinds) tended.shown.1),

@@ -1,7 +1,7 @@
 -- The main theorem: for every legal list of events no run traps, each computes what it computes alone with the same
 -- answers and executes at most as many instructions as its program has, none holds more objects than it declared or exits
 -- holding one, and no object is held twice, no shelf has two, and none is missing from the ledger of its kind.
-use Rattle.std.specs.Prelude.{◌≡◌, ◌≤◌, ℕ, ◌==◌, if◌then◌else◌, true, List, [], ◌∷◌, length, map, take, count_by, Contains, Some, Ok, slice_get}
+use Rattle.std.specs.Prelude.{◌≡◌, ◌≤◌, ℕ, ◌==◌, if◌then◌else◌, Bool, false, true, List, [], ◌∷◌, length, map, filter, take, count_by, Contains, Some, Ok, slice_get}
 use Rattle.std.specs.List.{flat_map}
 use Rattle.ebpf_insn.specs.Program.{instructions}
 use Rattle.ebpf_verify.specs.Subject.{Subject}
@@ -19,9 +19,15 @@ use Rattle.ebpf_core.specs.Replay.{world_after}
 abbrev pub replies_to : Running → Replies
 replies_to run = replies_from (map (λ c. c.reply) run.calls) run.taken
 
+abbrev pub is_to_new : Reply → Bool
+is_to_new reply.Granted = true
+is_to_new reply.Null = true
+is_to_new reply.Empty = false
+is_to_new reply.Shelf = false
+
 -- what its calls of new were answered
 abbrev pub replies_to_new : Running → List Reply
-replies_to_new run = map (λ c. c.reply) run.calls
+replies_to_new run = filter is_to_new (map (λ c. c.reply) run.calls)
 
 -- what the events answer to them: granted, or null
 abbrev pub reply_by : Answer → List Reply

@@ -18,6 +18,10 @@ on_shelf shelves shelf = slice_index_or shelves shelf None
 abbrev pub as_shelved : Object → Shelved
 as_shelved o = record { slot = o.slot; bytes = o.bytes.items }
 
+-- its slot
+abbrev pub slot_on : List (Option Object) → ℕ → Option ℕ
+slot_on shelves shelf = option_map (λ o. o.slot) (on_shelf shelves shelf)
+
 abbrev pub standing_on : List (Option Object) → ℕ → Option Shelved
 standing_on shelves shelf = option_map as_shelved (on_shelf shelves shelf)
 

@@ -1,4 +1,4 @@
--- Where each slot of a ledger is, and how an object passes from there to a run and back.
+-- Where each slot of a ledger is, and how an object passes from there to a run or a shelf, and back.
 use Rattle.std.specs.Prelude.{ℕ, ◌==◌, Bool, false, if◌then◌else◌, List, Option, Some, None}
 use Rattle.std.specs.Ordering.{nat_cmp}
 use Rattle.std.specs.Map.{lookup}
@@ -7,7 +7,7 @@ use Rattle.ebpf_core.specs.declared.event.Answer.{Answer}
 use Rattle.ebpf_core.specs.declared.event.Answer.TheVariants.{Slot}
 use Rattle.ebpf_core.specs.declared.passing.Object.{Object}
 use Rattle.ebpf_core.specs.declared.place.Place.{Place}
-use Rattle.ebpf_core.specs.declared.place.Place.TheVariants.{Home, Held}
+use Rattle.ebpf_core.specs.declared.place.Place.TheVariants.{Home, Held, Shelved}
 
 -- the slots with their places, ascending
 abbrev pub Places : Type 0
@@ -47,8 +47,23 @@ abbrev pub place_lent : Answer → ℕ → ℕ → Places → ℕ → Option Pla
 place_lent (Slot slot) run at places q = if q == slot then Some (Held run at) else place_at places q
 place_lent _ run at places q = place_at places q
 
--- ---- an object comes back from a run, to a place that it makes
+-- ---- an object comes back from a run, and is at home
 
-abbrev pub place_returned : (Object → Place) → Option Object → Places → ℕ → Option Place
-place_returned place (Some o) places q = if q == o.slot then Some (place o) else place_at places q
-place_returned place None places q = place_at places q
+abbrev pub place_returned : Option Object → Places → ℕ → Option Place
+place_returned (Some o) places q = if q == o.slot then Some (Home o) else place_at places q
+place_returned None places q = place_at places q
+
+-- ---- what stood on a shelf passes to a run, and another slot onto the shelf
+
+abbrev pub is_slot : Option ℕ → ℕ → Bool
+is_slot None q = false
+is_slot (Some slot) q = q == slot
+
+-- the slot, if it is one, is at this place
+abbrev pub place_set : Place → Option ℕ → Places → ℕ → Option Place
+place_set place slot places q = if is_slot slot q then Some place else place_at places q
+
+-- what stood there is with the run, by the call at this place of its program
+abbrev pub place_exchanged : Option ℕ → (stood stands : Option ℕ) → (run at : ℕ) → Places → ℕ → Option Place
+place_exchanged None stood stands run at places q = place_at places q
+place_exchanged (Some shelf) stood stands run at places q = if is_slot stands q then Some (Shelved shelf) else place_set (Held run at) stood places q

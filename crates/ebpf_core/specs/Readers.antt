@@ -2,7 +2,7 @@
 use Rattle.std.specs.Prelude.{ℕ, ◌==◌, if◌then◌else◌, List, Option, Some, None, option_map, slice_get}
 use Rattle.std.specs.Option.{option_and_then}
 use Rattle.std.specs.List.{find}
-use Rattle.ebpf_machine.specs.World.{World, Running, Owner, Holder, Run, Shelf, Going, Exited, Trapped, is_in_ledger, ledger_of}
+use Rattle.ebpf_machine.specs.World.{World, Running, Owner, Holder, Run, Shelf, Going, Exited, Trapped, standing, is_in_ledger, ledger_of}
 use Rattle.ebpf_machine.specs.World as world
 use Rattle.ebpf_core.specs.declared.world.Status.{Status}
 use Rattle.ebpf_core.specs.declared.world.Status.TheVariants as status
@@ -30,6 +30,10 @@ run_of (Shelf s) = None
 
 abbrev pub owner_in : World → ℕ → Option (ℕ × ℕ)
 owner_in w slot = option_and_then (λ o. run_of o.holder) (find (λ o. o.slot == slot) w.owners)
+
+-- the slot on a shelf
+abbrev pub shelf_in : World → ℕ → Option ℕ
+shelf_in w shelf = option_map (λ o. o.slot) (standing w shelf)
 
 -- the bytes of a slot of a ledger
 abbrev pub bytes_in : World → ℕ → Option (List ℕ)

@@ -2,7 +2,7 @@
 use Rattle.std.specs.Prelude.{◌≡◌, ◌<◌, ℕ, false, true, All, Contains, List, [], length, Option, Some, None, Ok, option_map, slice_get, slice_index_or}
 use Rattle.std.specs.List.{list_any}
 use Rattle.ebpf_verify.specs.Subject.{Subject}
-use Rattle.ebpf_machine.specs.World.{Name, World, Owner, is_by_run, kinds_of, image_at, is_in, name_of}
+use Rattle.ebpf_machine.specs.World.{Name, World, kinds_of, image_at, is_in, name_of, shelved_in}
 use Rattle.ebpf_machine.specs.Kinds.{known_kinds, AreKnown}
 use Rattle.ebpf_machine.specs.View.{RunView, view_in, slots_in}
 use Rattle.ebpf_machine.specs.RunState.{RunState, seen, slots_kept}
@@ -10,20 +10,22 @@ use Rattle.ebpf_machine.specs.Sound.{IsSound, IsAlone, IsOwned}
 use Rattle.ebpf_machine.specs.Store.{AreOutBy}
 use Rattle.ebpf_core.specs.declared.passing.Object.{Object}
 use Rattle.ebpf_core.specs.declared.place.Place.{Place}
-use Rattle.ebpf_core.specs.declared.place.Place.TheVariants.{Home, Held}
+use Rattle.ebpf_core.specs.declared.place.Place.TheVariants.{Home, Held, Shelved}
 use Rattle.ebpf_core.specs.declared.event.Event.{Event}
 use Rattle.ebpf_core.specs.declared.fault.ApplyFault.{ApplyFault}
 use Rattle.ebpf_core.specs.Events.{happened}
 use Rattle.ebpf_core.specs.Faults.{IsApplyFault}
-use Rattle.ebpf_core.specs.Passing.{IsOut}
+use Rattle.ebpf_core.specs.Passing.{IsOut, AreStanding, slot_on, standing_on}
 use Rattle.ebpf_core.specs.Places.{Places, place_at}
 
--- the world as it is kept: the programs, the runs in the order of their starts, the slots of each kind, and where each slot is
+-- the world as it is kept: the programs, the runs in the order of their starts, the slots of each kind, where each slot is, and the
+-- object on each shelf
 pub record WorldState : Type 0 where
   pub programs : List Subject
   pub runs : List (RunState Object)
   pub ledgers : List (List ℕ)
   pub places : Places
+  pub shelves : List (Option Object)
 
 -- what a run sees of itself
 abbrev pub run_seen : RunState Object → RunView
@@ -49,18 +51,21 @@ pub record IsAtHome (kept : WorldState) (slot : ℕ) (o : Object) : Type 0 where
   pub known : o.kind < length known_kinds
   pub image : o.bytes.items ≡ image_at known_kinds o.kind
 
--- a slot is where the world that is kept has it: nowhere, and in no ledger; at home; or with a run, which holds it by this call
+-- a slot is where the world that is kept has it: nowhere, and in no ledger; at home; with a run, which holds it by this call; or on a
+-- shelf
 abbrev pub IsPlaced : WorldState → ℕ → Option Place → Type 0
 IsPlaced kept slot None = list_any (is_in slot) kept.ledgers ≡ false
 IsPlaced kept slot (Some (Home o)) = IsAtHome kept slot o
 IsPlaced kept slot (Some (Held run at)) = (r : RunState Object) × (slice_get kept.runs run ≡ Some r) × Contains (slots_of r) (name_of slot at)
+IsPlaced kept slot (Some (Shelved shelf)) = slot_on kept.shelves shelf ≡ Some slot
 
--- each slot is where it is kept, and each that a run holds is kept as held
+-- each slot is where it is kept, each that a run holds is kept as held, and each on a shelf as standing there
 pub record ArePlaced (kept : WorldState) : Type 0 where
   pub each : (slot : ℕ) → IsPlaced kept slot (place_at kept.places slot)
   pub held : (run : ℕ) (r : RunState Object) → slice_get kept.runs run ≡ Some r → (n : Name) → Contains (slots_of r) n → place_at kept.places n.slot ≡ Some (Held run n.call)
+  pub shelved : (shelf slot : ℕ) → slot_on kept.shelves shelf ≡ Some slot → place_at kept.places slot ≡ Some (Shelved shelf)
 
--- the world that is kept shows this one: each run as it sees itself, in the slots that it holds
+-- the world that is kept shows this one: each run as it sees itself, in the slots that it holds, and what stands on the shelves
 pub record Shows (w : World) (kept : WorldState) : Type 0 where
   pub views : (run : ℕ) → view_in w run ≡ option_map run_seen (slice_get kept.runs run)
   pub slots : (run : ℕ) (r : RunState Object) → slice_get kept.runs run ≡ Some r → slots_in w run ≡ slots_of r
@@ -68,13 +73,13 @@ pub record Shows (w : World) (kept : WorldState) : Type 0 where
   pub kinds : w.kinds ≡ known_kinds
   pub ledgers : w.ledgers ≡ kept.ledgers
   pub owned : IsOwned w
-  -- nothing stands on a shelf
-  pub unshelved : (o : Owner) → Contains w.owners o → is_by_run o.holder ≡ true
+  pub shelves : (shelf : ℕ) → shelved_in w shelf ≡ standing_on kept.shelves shelf
 
 pub record IsTendedWorld (kept : WorldState) : Type 0 where
   pub known : AreKnown kept.programs
   pub runs : All IsTended kept.runs
   pub placed : ArePlaced kept
+  pub standing : AreStanding None kept.shelves
   pub shown : (w : World) × Shows w kept
 
 -- ---- what calls say of it

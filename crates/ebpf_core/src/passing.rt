@@ -1,10 +1,11 @@
 //! The objects of the world, and the store through which one of them passes to or from a run.
 
-ghost use Rattle.std.specs.Prelude.{◌≡◌, ◌<◌, length, slice_set, IfSome, IfOk};
+ghost use Rattle.std.specs.Prelude.{◌≡◌, ◌<◌, length, slice_set, option_map, IfSome, IfOk};
+ghost use Rattle.std.specs.Option.{option_and_then};
 ghost use Rattle.std.proofs.Props.{props};
 ghost use Rattle.ebpf_machine.specs.World.{image_at};
 ghost use Rattle.ebpf_machine.specs.Kinds.{known_kinds};
-ghost use Rattle.ebpf_core.specs.Passing.{FitShelves, AreApart, AreAway, AreStanding, on_shelf, is_of_kind};
+ghost use Rattle.ebpf_core.specs.Passing.{FitShelves, AreApart, AreAway, AreStanding, on_shelf, slot_on, is_of_kind};
 
 use ebpf_machine::kinds::row_of;
 use ebpf_machine::objects::Objects;
@@ -86,6 +87,41 @@ impl<G: Ledger, N: Ledger, F: Ledger, M: Ledger> Passing<G, N, F, M> {
     {
         (self.object, self.shelves)
     }
+}
+
+/// The slot that stands on a shelf.
+pub(crate) fn slot_on(shelves: &[Option<Object>; 3], shelf: u8) -> Option<u32>
+    ensures { result ≡ slot_on shelves.now shelf }
+{
+    let place = shelf as usize;
+    if place >= shelves.len() {
+        return None;
+    }
+    match &shelves[place] {
+        Some(object) => Some(object.slot),
+        None => None,
+    }
+}
+
+/// The bytes of what stands on a shelf.
+pub(crate) fn bytes_on(shelves: &[Option<Object>; 3], shelf: u8) -> Option<&[u8]>
+    ensures { option_map (λ b. b.now) result ≡ option_map (λ o. o.bytes.items) (on_shelf shelves.now shelf) }
+{
+    let place = shelf as usize;
+    if place >= shelves.len() {
+        return None;
+    }
+    match &shelves[place] {
+        Some(object) => Some(&object.bytes),
+        None => None,
+    }
+}
+
+/// The slot that stands on the shelf that is reached, if one is.
+pub(crate) fn slot_reached(shelves: &[Option<Object>; 3], reached: Option<u8>) -> Option<u32>
+    ensures { result ≡ option_and_then (slot_on shelves.now) reached }
+{
+    slot_on(shelves, reached?)
 }
 
 // An object of this kind is here.

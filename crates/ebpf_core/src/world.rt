@@ -2,14 +2,14 @@
 //!
 //! *The idea.* A world is a list of runs, and what they share: of each kind its slots, and where each slot is. An event is
 //! tested against the world as it is: the first cause that makes it illegal is told, and the world stays as it was. A legal
-//! event changes one run, or one slot. The object that a run asks for or frees passes to or from it through a store that has no
-//! other object in it.
+//! event changes one run, or one slot, or one shelf. The object that a run asks for or frees passes to or from it through a store
+//! that has no other object in it but those on the shelves.
 //!
 //! *The invariant.* Each run is sound for its program and is where it would be alone (ebpf_machine). Each slot is where it is
-//! kept: at home, in the ledger of its object's kind and with its image, or with the one run that holds it. All programs were
-//! verified with the known kinds, and the model has a world that all this shows.
+//! kept: at home, in the ledger of its object's kind and with its image, with the one run that holds it, or on the shelf of its
+//! kind. All programs were verified with the known kinds, and the model has a world that all this shows.
 //!
-//! *The reason.* A step sees its own run and the object that it is lent, and nothing else: so what is known of all other runs
+//! *The reason.* A step sees its own run, the object that it is lent and the shelves, and nothing else: so what is known of all other runs
 //! and slots stays, and the world that is kept shows the model's world after the event. The main theorem is about the model's
 //! world alone; what ties the code to it is what each call here says of every world that is shown (specs/Shown).
 
@@ -19,14 +19,14 @@ ghost use Rattle.ebpf_core.specs.declared.event.Event.TheVariants.{Start, Exec, 
 ghost use Rattle.ebpf_core.specs.Faults.{IsMemoryDue};
 ghost use Rattle.ebpf_core.specs.Shown.{Shows, OfWorld, IsDone, IsRefused};
 ghost use Rattle.ebpf_machine.specs.Kinds.{AreKnown};
-ghost use Rattle.ebpf_core.specs.Readers.{status_in, output_in, executed_in, owner_in, bytes_in, ledger_in};
+ghost use Rattle.ebpf_core.specs.Readers.{status_in, output_in, executed_in, owner_in, shelf_in, bytes_in, ledger_in};
 ghost use Rattle.ebpf_state.specs.Ascending.{IsAscending};
 
 use crate::event::{Answer, Event};
 use crate::fault::{ApplyCode, ApplyFault};
 use crate::ledger::{Ledger, join, leave};
-use crate::passing::Object;
-use crate::place::{Place, is_home_of, lend, put};
+use crate::passing::{Object, bytes_on, slot_on, slot_reached};
+use crate::place::{Place, exchange, is_home_of, lend, put};
 use crate::stepping::{answer_fault, new_blanks, start_fault, step_in};
 use ebpf_machine::context::Context;
 use ebpf_machine::run::{Run, StartFault};
@@ -34,6 +34,7 @@ use ebpf_verify::verified::Verified;
 use std::alloc::{AllocError, Global};
 use std::collections::BTreeMap;
 use std::marker::{Brand, Model};
+use std::mem;
 
 /// How far a run is.
 #[derive(Clone, Copy)]
@@ -44,7 +45,7 @@ pub enum Status {
     Exited(u64),
 }
 
-/// Runs of accepted programs, with what they share.
+/// Runs of accepted programs, with what they share: the objects, and a shelf of each kind.
 #[derive(Drop)]
 pub struct World<'v> {
     alloc: Global,
@@ -52,6 +53,7 @@ pub struct World<'v> {
     runs: Vec<Run<'v, Object>>,
     ledgers: [Ledger; 3],
     places: BTreeMap<u32, Place>,
+    shelves: [Option<Object>; 3],
 }
 
 impl<'v> Model for World<'v> {
@@ -59,9 +61,9 @@ impl<'v> Model for World<'v> {
 
     ghost Value = { WorldState };
 
-    ghost view = { λ w. record { programs = w.programs.now; runs = w.runs.items; ledgers = w.ledgers; places = w.places.entries } };
+    ghost view = { λ w. record { programs = w.programs.now; runs = w.runs.items; ledgers = w.ledgers; places = w.places.entries; shelves = w.shelves } };
 
-    ghost invariant = { λ w. IsTendedWorld (record { programs = w.programs.now; runs = w.runs.items; ledgers = w.ledgers; places = w.places.entries }) };
+    ghost invariant = { λ w. IsTendedWorld (record { programs = w.programs.now; runs = w.runs.items; ledgers = w.ledgers; places = w.places.entries; shelves = w.shelves }) };
 }
 
 impl<'v> World<'v> {
@@ -81,6 +83,7 @@ impl<'v> World<'v> {
             runs: Vec::new(alloc),
             ledgers: [Ledger::new(alloc), Ledger::new(alloc), Ledger::new(alloc)],
             places: BTreeMap::new(alloc),
+            shelves: [None, None, None],
         })
     }
 
@@ -168,11 +171,21 @@ impl<'v> World<'v> {
         if let Some(code) = answer_fault(&self.places, answer, run.wants()) {
             return Err(ApplyFault::Bad(code));
         }
-        let lent = lend(&mut self.places, answer, number, run.pc() as u16);
-        // No run has a shelf in reach yet.
-        let shelves = [None, None, None];
-        let (freed, _) = step_in::<Brand, Brand, Brand, Brand>(run, lent, shelves, new_blanks());
+        let at = run.pc() as u16;
+        let reached = run.reaches();
+        let stood = slot_reached(&self.shelves, reached);
+        let lent = lend(&mut self.places, answer, number, at);
+        let shelves = mem::replace(&mut self.shelves, [None, None, None]);
+        let (freed, shelves) = step_in::<Brand, Brand, Brand, Brand>(
+            run,
+            lent,
+            shelves,
+            new_blanks(),
+        );
+        let stands = slot_reached(&shelves, reached);
+        self.shelves = shelves;
         put(&mut self.places, freed);
+        exchange(&mut self.places, reached, stood, stands, number, at);
         Ok(())
     }
 
@@ -263,7 +276,7 @@ impl<'v> World<'v> {
     }
 
     /// The run that holds a slot, and the place in its program of the call that was granted it; `None` where the slot has
-    /// no owner.
+    /// no owner, or stands on a shelf.
     pub fn owner(&self, slot: u32) -> Option<(usize, u16)>
         ensures { OfWorld self.now (λ w. result ≡ owner_in w slot) }
     {
@@ -273,6 +286,13 @@ impl<'v> World<'v> {
         }
     }
 
+    /// The slot on a shelf; `None` where nothing stands there, or there is no such shelf. A shelf's number is that of its kind.
+    pub fn shelf(&self, shelf: u8) -> Option<u32>
+        ensures { OfWorld self.now (λ w. result ≡ shelf_in w shelf) }
+    {
+        slot_on(&self.shelves, shelf)
+    }
+
     /// The bytes of a slot; `None` where it is in no ledger.
     pub fn bytes(&self, slot: u32) -> Option<&[u8]>
         ensures { OfWorld self.now (λ w. option_map (λ b. b.now) result ≡ bytes_in w slot) }
@@ -280,6 +300,7 @@ impl<'v> World<'v> {
         match self.places.get(&slot)? {
             Place::Home(object) => Some(&object.bytes),
             Place::Held { run, at } => Some(&self.runs[*run].object(*at)?.bytes),
+            Place::Shelved { shelf } => bytes_on(&self.shelves, *shelf),
         }
     }
 

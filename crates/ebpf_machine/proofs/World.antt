@@ -18,6 +18,7 @@ pub mod Execs
 pub mod LedgerChanges
 pub mod NewSlots
 pub mod PartedSlots
+pub mod KeptShelves
 pub mod Shelving
 pub mod Standing
 pub mod Replies

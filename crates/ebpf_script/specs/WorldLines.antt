@@ -1,10 +1,10 @@
--- The lines of a world: what each run did, and then what became of the slots of each kind.
+-- The lines of a world: what each run did, then what became of the slots of each kind, and then what stands on the shelves.
 use Rattle.std.specs.Prelude.{ℕ, zero, suc, ◌++◌, List, [], length, codes, decimal, count_by, Option, Some, None, is_some}
 use Rattle.std.specs.List.{flat_map}
 use Rattle.ebpf_machine.specs.World.{World}
 use Rattle.ebpf_core.specs.declared.world.Status.{Status}
 use Rattle.ebpf_core.specs.declared.world.Status.TheVariants.{Going, Exited}
-use Rattle.ebpf_core.specs.Readers.{status_in, output_in, executed_in, owner_in, ledger_in}
+use Rattle.ebpf_core.specs.Readers.{status_in, output_in, executed_in, owner_in, ledger_in, shelf_in}
 
 -- a number of a run's output
 abbrev pub run_emit_line : ℕ → ℕ → List ℕ
@@ -39,5 +39,16 @@ kind_line w kind =
     codes "kind " ++ (decimal kind ++ (codes " slots " ++ (decimal (length (ledger_in w kind)) ++
     (codes " held " ++ (decimal (held_in w kind) ++ codes "\n")))))
 
+abbrev pub kind_lines : World → List ℕ
+kind_lines w = kind_line w 0 ++ (kind_line w 1 ++ kind_line w 2)
+
+-- the slot on a shelf, if there is one
+abbrev pub shelf_line : ℕ → Option ℕ → List ℕ
+shelf_line shelf None = []
+shelf_line shelf (Some slot) = codes "shelf " ++ (decimal shelf ++ (codes " slot " ++ (decimal slot ++ codes "\n")))
+
+abbrev pub shelf_lines : World → List ℕ
+shelf_lines w = shelf_line 0 (shelf_in w 0) ++ (shelf_line 1 (shelf_in w 1) ++ shelf_line 2 (shelf_in w 2))
+
 abbrev pub world_lines : World → List ℕ
-world_lines w = runs_below (length w.runs) w ++ (kind_line w 0 ++ (kind_line w 1 ++ kind_line w 2))
+world_lines w = runs_below (length w.runs) w ++ (kind_lines w ++ shelf_lines w)

@@ -3,20 +3,20 @@
 ghost use Rattle.std.specs.Prelude.{◌≡◌, ◌++◌, string_bytes, length, slice_get, IfOk, OnOk};
 ghost use Rattle.std.specs.List.{flat_map};
 ghost use Rattle.ebpf_core.specs.Shown.{OfWorld};
-ghost use Rattle.ebpf_script.specs.WorldLines.{run_emit_line, run_lines, runs_below, held_in, kind_line, world_lines};
+ghost use Rattle.ebpf_script.specs.WorldLines.{run_emit_line, run_lines, runs_below, held_in, kind_line, kind_lines, shelf_line, shelf_lines, world_lines};
+ghost use Rattle.ebpf_core.specs.Readers.{shelf_in};
 
 use ebpf_core::world::{Status, World};
 use std::alloc::{AllocError, Global};
 
-/// Writes a world behind a text: each run in order, and then the slots of each kind. It fails only where an allocation
-/// fails.
+/// Writes a world behind a text: each run in order, then the slots of each kind, and then what stands on the shelves. It fails
+/// only where an allocation fails.
 pub(crate) fn write_world(text: &mut String, world: &World<'_>) -> Result<(), AllocError>
     ensures { OnOk result (OfWorld world.now (λ w. string_bytes text.new ≡ string_bytes text.old ++ world_lines w)) }
 {
     write_runs(text, world)?;
-    write_kind(text, world, 0)?;
-    write_kind(text, world, 1)?;
-    write_kind(text, world, 2)
+    write_kinds(text, world)?;
+    write_shelves(text, world)
 }
 
 // Writes the runs.
@@ -57,6 +57,15 @@ fn write_output(text: &mut String, run: usize, output: &[u64]) -> Result<(), All
     Ok(())
 }
 
+// Writes the slots of the kinds.
+fn write_kinds(text: &mut String, world: &World<'_>) -> Result<(), AllocError>
+    ensures { OnOk result (OfWorld world.now (λ w. string_bytes text.new ≡ string_bytes text.old ++ kind_lines w)) }
+{
+    write_kind(text, world, 0)?;
+    write_kind(text, world, 1)?;
+    write_kind(text, world, 2)
+}
+
 // Writes the slots of a kind.
 fn write_kind(text: &mut String, world: &World<'_>, kind: u8) -> Result<(), AllocError>
     ensures { OnOk result (OfWorld world.now (λ w. string_bytes text.new ≡ string_bytes text.old ++ kind_line w kind)) }
@@ -77,4 +86,23 @@ fn held_of(world: &World<'_>, kind: u8) -> usize
         }
     }
     held
+}
+
+// Writes what stands on the shelves.
+fn write_shelves(text: &mut String, world: &World<'_>) -> Result<(), AllocError>
+    ensures { OnOk result (OfWorld world.now (λ w. string_bytes text.new ≡ string_bytes text.old ++ shelf_lines w)) }
+{
+    write_shelf(text, world, 0)?;
+    write_shelf(text, world, 1)?;
+    write_shelf(text, world, 2)
+}
+
+// Writes the slot on a shelf, if there is one.
+fn write_shelf(text: &mut String, world: &World<'_>, shelf: u8) -> Result<(), AllocError>
+    ensures { OnOk result (OfWorld world.now (λ w. string_bytes text.new ≡ string_bytes text.old ++ shelf_line shelf (shelf_in w shelf))) }
+{
+    match world.shelf(shelf) {
+        Some(slot) => write!(text, "shelf {shelf} slot {slot}\n"),
+        None => Ok(()),
+    }
 }

@@ -44,7 +44,7 @@ use Rattle.ebpf_machine.proofs.Rules.Entries.{fall_arrives}
 use Rattle.ebpf_machine.proofs.Rules.Registers.{IsFrame-lost, IsFrame-result, AreOf-result}
 use Rattle.ebpf_machine.proofs.Rules.Found.{held_found}
 use Rattle.ebpf_machine.proofs.Rules.Holdings.{null_state, granted_state, without, calls_without, forgotten_state}
-use Rattle.ebpf_machine.proofs.Rules.Next.{IsHere, IsNext, IsThere, going_of, defined_in, frame_of, stays_there, there_sound, goes_on, goes_quietly}
+use Rattle.ebpf_machine.proofs.Rules.Next.{IsHere, IsNext, IsThere, going_of, defined_in, frame_of, there_sound, goes_on, goes_quietly}
 use Rattle.ebpf_machine.proofs.Rules.Operands.{register_holds}
 
 -- a call of a helper: its rule does not refuse it, and what it does and sends are the helper's

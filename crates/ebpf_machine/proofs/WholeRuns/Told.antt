@@ -1,5 +1,5 @@
 -- What a store counts is what the run was told.
-use Rattle.std.proofs.Common.{◌≡◌, ℕ, zero, suc, ◌+◌, ◌≤◌, ◌<◌, Bool, cond, List, [], ◌∷◌, ◌++◌, length, get_or, refl, sym, ap, ◌∙◌, subst, arith, inl, inr, ◌⊎◌}
+use Rattle.std.proofs.Common.{◌≡◌, ℕ, zero, suc, ◌+◌, ◌≤◌, ◌<◌, Bool, cond, List, [], ◌∷◌, ◌++◌, length, get_or, refl, sym, ap, ◌∙◌, subst, arith}
 use Rattle.std.specs.Prelude.{count_by}
 use Rattle.std.proofs.lemmas.List.{length_push}
 use Rattle.std.proofs.lemmas.List.Elements.{All-map}
@@ -8,11 +8,10 @@ use Rattle.ebpf_verify.specs.Subject.{Subject}
 use Rattle.ebpf_machine.specs.declared.holding.Holding.{Holding}
 use Rattle.ebpf_machine.specs.declared.report.Reply.{Reply}
 use Rattle.ebpf_machine.specs.declared.report.Reply.TheVariants as reply
-use Rattle.ebpf_machine.specs.Alone.{Replies, more_than, replies_from, replies_of}
+use Rattle.ebpf_machine.specs.Alone.{Replies}
 use Rattle.ebpf_machine.specs.World.{Kind, Going, kinds_of, image_at}
-use Rattle.ebpf_machine.specs.Events.{Asking, Unasked, OfNoKind, OfKind, AtShelf}
-use Rattle.ebpf_machine.specs.View as view
-use Rattle.ebpf_machine.specs.View.{ObjectView, RunView, CallResult, stepped, reply_in}
+use Rattle.ebpf_machine.specs.Events.{Asking, Unasked, OfKind, AtShelf}
+use Rattle.ebpf_machine.specs.View.{ObjectView, RunView, stepped, reply_in}
 use Rattle.ebpf_machine.specs.RunState.{RunState, status_of, object_seen}
 use Rattle.ebpf_machine.specs.Sound.{AreSized, IsSound, IsAlone}
 use Rattle.ebpf_machine.specs.Step as step
@@ -20,8 +19,8 @@ use Rattle.ebpf_machine.specs.Step.{Served, Idle, Refused, Granted, Offers, offe
 use Rattle.ebpf_machine.specs.Store.{Store, Counts, counts_of, AreOut, held_of_kind}
 use Rattle.ebpf_machine.specs.Turns.{IsTurn, AreTurns}
 use Rattle.ebpf_machine.specs.Whole.{is_granted, is_null, is_fetched, is_empty, granted, refused, fetched, missed}
-use Rattle.ebpf_machine.proofs.World.Asking.{Asks, AsksNew, ForNothing, ForObject, ForShelf, asks_of}
-use Rattle.ebpf_machine.proofs.World.Replies.{heard_by_new, heard_by_swap, one_told, replies_kept, replies_added, replies_swapped}
+use Rattle.ebpf_machine.proofs.World.Asking.{Asks, ForNothing, ForObject, ForShelf, asks_of}
+use Rattle.ebpf_machine.proofs.World.Replies.{heard_by_new, heard_by_swap, replies_kept, replies_added, replies_swapped}
 use Rattle.ebpf_machine.proofs.World.Steps.{next_of}
 
 -- since it counted the first, a store has granted, refused, given from shelves and missed what the replies say, and each reply was to

@@ -1,6 +1,6 @@
 -- What an instruction asks of whoever answers is what its effect asks, and what its run sees of it; and what it writes to or gives
 -- back is there.
-use Rattle.std.proofs.Common.{◌≡◌, ℕ, ◌+◌, ◌<◌, ◌≤◌, ℤ, pos, negsuc, ◌+ℤ◌, Bool, true, false, cond, List, length, Option, Some, None, Result, Ok, Err, refl, sym, ap, ◌∙◌, subst, arith, rules, inl, inr, ◌⊎◌}
+use Rattle.std.proofs.Common.{◌≡◌, ℕ, ◌+◌, ◌<◌, ◌≤◌, ℤ, pos, negsuc, ◌+ℤ◌, Bool, true, false, cond, List, length, Option, Some, None, Result, Ok, Err, refl, sym, ap, ◌∙◌, subst, arith, rules, inl, inr}
 use Rattle.std.specs.Prelude.{slice_get, nat_lt, nat_abs, int_le, ◌&&◌, ◌==◌}
 use Rattle.std.specs.Ordering.{int_eq}
 use Rattle.std.proofs.lemmas.Bool.{ltb-true, eqb-true, and_parts}
@@ -28,13 +28,13 @@ use Rattle.ebpf_machine.specs.declared.value.Cell.{Cell}
 use Rattle.ebpf_machine.specs.Values.{Trap, BadCall, FramePointerWritten, Leak, Frame, read, source_value}
 use Rattle.ebpf_machine.specs.Cells.{place_in, stored_at}
 use Rattle.ebpf_machine.specs.Effect.{Found, Environment, Act, Nothing, Write, Ask, Free, Exchange, Effect, Goes, Ends, Traps, effect_at, effect, unary, alu_value, with_value, written, is_taken, loaded, rewritten, written_at, writes_object, effect_of_store, without_arguments, with_zero, effect_of_new, effect_of_freeing, effect_of_free, effect_of_emit, exchanges, effect_of_giving, effect_of_swapping, effect_of_swap, effect_of_call, effect_of_jump, effect_of_branch, effect_of_exit, result_number}
-use Rattle.ebpf_machine.specs.World.{Name, Kind, World, Running, Going}
+use Rattle.ebpf_machine.specs.World.{Name, Kind, World, Running}
 use Rattle.ebpf_machine.specs.Events.{Asking, Unasked, OfNoKind, OfKind, AtShelf, asking_for, asking_shelf, asking_helper, asking, asking_of}
 use Rattle.ebpf_machine.specs.View.{RunView, without_given, register_seen, frame_seen, view_of, environment_of_view, effect_of_view}
 use Rattle.ebpf_machine.specs.Step.{asking_in}
-use Rattle.ebpf_machine.specs.Sound.{AreSized, IsSound, IsOwned}
+use Rattle.ebpf_machine.specs.Sound.{IsOwned}
 use Rattle.ebpf_machine.proofs.World.Projection.{read-seen}
-use Rattle.ebpf_machine.proofs.World.Steps.{GoesOn, IsNext, next_of}
+use Rattle.ebpf_machine.proofs.World.Steps.{GoesOn, IsNext}
 
 abbrev pub asked_by : {N : Type 0} → Act N → Asking
 asked_by (Ask kind) = OfKind kind

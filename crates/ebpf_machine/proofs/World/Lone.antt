@@ -18,7 +18,7 @@ use Rattle.ebpf_machine.specs.Alone.{Alone, Fed, cleared, bytes_for, shelved, fe
 use Rattle.ebpf_machine.specs.Whole.{told_to, told_alone}
 use Rattle.ebpf_machine.specs.View as view
 use Rattle.ebpf_machine.specs.View.{RunView, object_in, view_of, view_in, without_given, done_by, effect_of_view, stepped, CallResult, reply_in}
-use Rattle.ebpf_machine.specs.Step.{FitsShelf, Served, Idle, Refused, Granted, Empty, Fetched, served_by, served_from, served_in, result_of, asking_in}
+use Rattle.ebpf_machine.specs.Step.{FitsShelf, served_by, served_from, served_in, result_of, asking_in}
 use Rattle.ebpf_machine.specs.Sound.{IsOwned, IsSound, IsAlone, IsWellStated}
 use Rattle.ebpf_machine.proofs.World.Asking.{AsksNew, AsksShelf, Asks, ForNothing, ForObject, ForShelf}
 use Rattle.ebpf_machine.proofs.Lists.ListLemmas.{IsFound}

@@ -1,5 +1,5 @@
 use Rattle.std.proofs.Common.{Some, ap, ◌∙◌}
-use Rattle.ebpf_verify.specs.declared.helper.Helper.TheVariants.{Emit, Swap}
+use Rattle.ebpf_verify.specs.declared.helper.Helper.TheVariants.{Emit}
 use Rattle.ebpf_verify.specs.CallCount.{is_call_there}
 use Rattle.ebpf_machine.specs.RunState.{Calls}
 use Rattle.ebpf_machine.specs.Parts.{state_of}

@@ -1,6 +1,5 @@
-use Rattle.std.proofs.Common.{◌≡◌, ◌+◌, ◌<◌, List, length, Option, Some, None, sym, ap, ◌∙◌, refl, rules, arith, subst}
+use Rattle.std.proofs.Common.{◌≡◌, ◌+◌, List, length, Some, None, ap, ◌∙◌, refl, rules, arith}
 use Rattle.std.specs.Vec.{vec_len}
-use Rattle.ebpf_state.specs.declared.kinds.KindRow.{KindRow}
 use Rattle.ebpf_insn.specs.declared.insn.Insn.TheVariants.{Call}
 use Rattle.ebpf_insn.specs.Program.{insn_at}
 use Rattle.ebpf_verify.specs.CallCount.{is_call_there}
