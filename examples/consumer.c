@@ -1,0 +1,26 @@
+// Takes the record that producer.c left on the shelf of records, and emits the mean of its readings.
+//
+// There is no context. The record is this run's until it is freed, with the bytes that the other run wrote. The result is 0, or 1
+// where nothing stood on the shelf.
+typedef unsigned long number;
+
+enum { RECORD = 1 };
+
+struct sum {
+    number count;
+    number total;
+};
+
+static number (*const free)(void *object) = (void *)2;
+static number (*const emit)(number n) = (void *)3;
+static void *(*const swap)(number shelf, void *given) = (void *)4;
+
+int consumer(void)
+{
+    struct sum *sum = swap(RECORD, 0);
+    if (!sum)
+        return 1;
+    emit(sum->total / sum->count);
+    free(sum);
+    return 0;
+}
