@@ -42,8 +42,11 @@ fn runs_that_share_slots_are_told(rt: HostRuntime) {
     }
 }
 
-// Two runs ask for records; the first writes to its own and frees it, and then its slot becomes a cell's.
+// Two runs ask for records; the first writes to its own and frees it, and then its slot becomes a cell's. Then s puts a record on
+// its shelf, and t takes it.
 const EVENTS: &str = "\
+program s 0 1 b70100000100000085000000010000001500060000000000bf02000000000000b70100000100000085000000040000001500020000000000bf0100000000000085000000020000009500000000000000
+program t 0 1 b701000001000000b70200000000000085000000040000001500020000000000bf0100000000000085000000020000009500000000000000
 grow 1 9
 grow 1 7
 grow 0 3
@@ -62,28 +65,53 @@ exec 1
 exec 1
 reap 1 7
 grow 0 7
+grow 1 5
+start s -
+exec 2
+exec 2 5
+exec 2
+exec 2
+exec 2
+exec 2
+start t -
+exec 3
+exec 3
+exec 3
 ";
 
-// After each event the cells and the records, who has slots 7 and 9, and how many bytes slot 7 has, with the first of them.
+// After each event the cells and the records, who has slots 7 and 9, how many bytes slot 7 has, with the first of them, and which
+// record stands on its shelf.
 const READ: &str = "\
-[] [9] None None None
-[] [7, 9] None None Some((64, 255))
-[3] [7, 9] None None Some((64, 255))
-[3] [7, 9] None None Some((64, 255))
-[3] [7, 9] None None Some((64, 255))
-[3] [7, 9] None None Some((64, 255))
-[3] [7, 9] Some((0, 1)) None Some((64, 255))
-[3] [7, 9] Some((0, 1)) None Some((64, 255))
-[3] [7, 9] Some((0, 1)) Some((1, 1)) Some((64, 255))
-[3] [7, 9] Some((0, 1)) Some((1, 1)) Some((64, 255))
-[3] [7, 9] Some((0, 1)) Some((1, 1)) Some((64, 5))
-[3] [7, 9] Some((0, 1)) Some((1, 1)) Some((64, 5))
-[3] [7, 9] Some((0, 1)) Some((1, 1)) Some((64, 5))
-[3] [7, 9] None Some((1, 1)) Some((64, 255))
-[3] [7, 9] None Some((1, 1)) Some((64, 255))
-[3] [7, 9] None Some((1, 1)) Some((64, 255))
-[3] [9] None Some((1, 1)) None
-[3, 7] [9] None Some((1, 1)) Some((16, 0))
+[] [9] None None None None
+[] [7, 9] None None Some((64, 255)) None
+[3] [7, 9] None None Some((64, 255)) None
+[3] [7, 9] None None Some((64, 255)) None
+[3] [7, 9] None None Some((64, 255)) None
+[3] [7, 9] None None Some((64, 255)) None
+[3] [7, 9] Some((0, 1)) None Some((64, 255)) None
+[3] [7, 9] Some((0, 1)) None Some((64, 255)) None
+[3] [7, 9] Some((0, 1)) Some((1, 1)) Some((64, 255)) None
+[3] [7, 9] Some((0, 1)) Some((1, 1)) Some((64, 255)) None
+[3] [7, 9] Some((0, 1)) Some((1, 1)) Some((64, 5)) None
+[3] [7, 9] Some((0, 1)) Some((1, 1)) Some((64, 5)) None
+[3] [7, 9] Some((0, 1)) Some((1, 1)) Some((64, 5)) None
+[3] [7, 9] None Some((1, 1)) Some((64, 255)) None
+[3] [7, 9] None Some((1, 1)) Some((64, 255)) None
+[3] [7, 9] None Some((1, 1)) Some((64, 255)) None
+[3] [9] None Some((1, 1)) None None
+[3, 7] [9] None Some((1, 1)) Some((16, 0)) None
+[3, 7] [5, 9] None Some((1, 1)) Some((16, 0)) None
+[3, 7] [5, 9] None Some((1, 1)) Some((16, 0)) None
+[3, 7] [5, 9] None Some((1, 1)) Some((16, 0)) None
+[3, 7] [5, 9] None Some((1, 1)) Some((16, 0)) None
+[3, 7] [5, 9] None Some((1, 1)) Some((16, 0)) None
+[3, 7] [5, 9] None Some((1, 1)) Some((16, 0)) None
+[3, 7] [5, 9] None Some((1, 1)) Some((16, 0)) None
+[3, 7] [5, 9] None Some((1, 1)) Some((16, 0)) Some(5)
+[3, 7] [5, 9] None Some((1, 1)) Some((16, 0)) Some(5)
+[3, 7] [5, 9] None Some((1, 1)) Some((16, 0)) Some(5)
+[3, 7] [5, 9] None Some((1, 1)) Some((16, 0)) Some(5)
+[3, 7] [5, 9] None Some((1, 1)) Some((16, 0)) None
 ";
 
 // How many bytes a slot has, and the first.
@@ -96,8 +124,8 @@ fn first_byte(world: &World<'_>, slot: u32) -> Option<(usize, u8)> {
 fn tell_slots(told: &mut String, world: &World<'_>) -> Result<(), AllocError> {
     let (cells, records) = (world.ledger(0), world.ledger(1));
     let (seven, nine) = (world.owner(7), world.owner(9));
-    let first = first_byte(world, 7);
-    write!(told, "{cells:?} {records:?} {seven:?} {nine:?} {first:?}\n")
+    let (first, shelf) = (first_byte(world, 7), world.shelf(1));
+    write!(told, "{cells:?} {records:?} {seven:?} {nine:?} {first:?} {shelf:?}\n")
 }
 
 // One event more, and then what is read.
