@@ -125,7 +125,10 @@ fn tell_slots(told: &mut String, world: &World<'_>) -> Result<(), AllocError> {
     let (cells, records) = (world.ledger(0), world.ledger(1));
     let (seven, nine) = (world.owner(7), world.owner(9));
     let (first, shelf) = (first_byte(world, 7), world.shelf(1));
-    write!(told, "{cells:?} {records:?} {seven:?} {nine:?} {first:?} {shelf:?}\n")
+    write!(
+        told,
+        "{cells:?} {records:?} {seven:?} {nine:?} {first:?} {shelf:?}\n"
+    )
 }
 
 // One event more, and then what is read.
