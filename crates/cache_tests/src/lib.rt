@@ -2,7 +2,7 @@
 //!
 //! A contract says what a call does, and each is proved where it stands. What is tried here is what no contract says: that the
 //! calls succeed where memory is there, that the definitions mean the numbers that a person expects, what a pass of the
-//! reaper does, and that threads really take, give, claim, release and draw side by side. The crates themselves have no
+//! reaper does, and that threads really take, give, exchange, claim, release and draw side by side. The crates themselves have no
 //! tests, so that they are proved once.
 #![tactic(auto)]
 
@@ -16,5 +16,7 @@ mod facts;
 mod magazines;
 #[cfg(test)]
 mod owners;
+#[cfg(test)]
+mod shelves;
 #[cfg(test)]
 mod slabs;

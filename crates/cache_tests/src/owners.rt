@@ -6,7 +6,7 @@ ghost use Rattle.owners_table.specs.Drawing.{IsOf, fresh as new_seat};
 
 use crate::facts::holds;
 use owners_table::mark::{Mark, Owner};
-use owners_table::owners::{OwnerSeat, Owners, Taken};
+use owners_table::owners::{Other, OwnerSeat, Owners, Taken};
 use owners_table::tickets::{TicketSeat, Tickets};
 use std::alloc::{AllocError, Global};
 use std::process::Abort;
@@ -65,6 +65,52 @@ fn a_claim_is_granted_where_the_slot_is_free(rt: HostRuntime) {
 }
 
 #[test]
+#[tactic(auto, using(owners_table::proofs::Holding::holds_first))]
+fn a_shelved_slot_is_fetched_from_its_own_shelf(rt: HostRuntime) {
+    let (owners, mut a, mut b) = table_of(&rt, rt.alloc(), 4);
+    let first = Mark { run: 0, at: 1 };
+    let second = Mark { run: 5, at: 2 };
+    let free = owners.fetch(&mut b, 3, 2, second);
+    holds(&rt, matches!(free, Err(Other { found: None })));
+    let Ok(()) = owners.claim(&mut a, 3, first) else {
+        panic!(&rt; "the slot was free")
+    };
+    let run = owners.fetch(&mut b, 3, 2, second);
+    holds(
+        &rt,
+        matches!(run, Err(Other { found: Some(owner) }) if is_run(owner, first)),
+    );
+    owners.shelve(&mut a, 3, 2);
+    let wrong = owners.fetch(&mut b, 3, 1, second);
+    holds(
+        &rt,
+        matches!(
+            wrong,
+            Err(Other {
+                found: Some(Owner::Shelf(2))
+            })
+        ),
+    );
+    let shelf = owners.claim(&mut b, 3, second);
+    holds(
+        &rt,
+        matches!(
+            shelf,
+            Err(Taken {
+                owner: Owner::Shelf(2)
+            })
+        ),
+    );
+    holds(&rt, owners.fetch(&mut b, 3, 2, second).is_ok());
+    let Ok(()) = owners.claim(&mut a, 0, first) else {
+        panic!(&rt; "the slot was free")
+    };
+    owners.shelve(&mut a, 0, 7);
+    let words = words_of(&rt, rt.alloc(), owners, a, b);
+    holds(&rt, matches!(words.as_slice(), [8, 0, 0, 24578]));
+}
+
+#[test]
 fn a_seat_that_is_gone_leaves_its_slots_owned(rt: HostRuntime) {
     let (owners, mut a, _) = table_of(&rt, rt.alloc(), 2);
     let Ok(()) = owners.claim(&mut a, 1, Mark { run: 0, at: 3 }) else {
@@ -81,11 +127,15 @@ fn a_seat_that_is_gone_leaves_its_slots_owned(rt: HostRuntime) {
 fn is_taken(claim: Result<(), Taken>, mark: Mark) -> bool {
     match claim {
         Ok(()) => false,
-        Err(
-            Taken {
-                owner: Owner::Run(owner),
-            },
-        ) => owner.run == mark.run && owner.at == mark.at,
+        Err(taken) => is_run(taken.owner, mark),
+    }
+}
+
+// The owner is the run of the mark, by the call of the mark.
+fn is_run(owner: Owner, mark: Mark) -> bool {
+    match owner {
+        Owner::Run(owner) => owner.run == mark.run && owner.at == mark.at,
+        Owner::Shelf(_) => false,
     }
 }
 

@@ -2,3 +2,4 @@ pub mod Growth
 pub mod Homing
 pub mod HandView
 pub mod CacheView
+pub mod ShelfView

@@ -21,9 +21,12 @@
 //! neither given back nor lost to another cache is `missing`; one that comes home to slabs which it isn't out of is
 //! `foreign`.
 //!
-//! Hands and caches must be spent by `close`, and can't be dropped.
+//! *Shelves.* A [`Shelf`] has room for one object that a worker leaves for another. Each exchanges what stands there by a
+//! [`ShelfHand`] of its own, under the shelf's lock, and its totals are exact for the same reason.
 //!
-//! To read the files: homing, inner, part, asking, cache, hand.
+//! Hands, caches and shelves must be spent by `close`, and can't be dropped.
+//!
+//! To read the files: homing, inner, part, asking, cache, hand; spare, shelf.
 #![tactic(auto)]
 
 mod arena_lock;
@@ -35,10 +38,13 @@ mod hand;
 mod homing;
 mod inner;
 mod part;
+mod shelf;
+mod spare;
 mod totals;
 
 pub use arena_lock::ArenaLock;
 pub use cache::Cache;
 pub use fault::TakeFault;
 pub use hand::Hand;
+pub use shelf::{Left, Shelf, ShelfHand};
 pub use totals::Totals;

@@ -1,13 +1,15 @@
 -- What the words of a closed table are, by the lists of its seats.
-use Rattle.std.proofs.Common.{◌≡◌, ℕ, zero, suc, ◌+◌, ◌<◌, ◌≤◌, List, [], ◌∷◌, ◌++◌, length, get_or, take, map, reverse, replicate, All, sym, refl, ap, ◌∙◌, arith}
+use Rattle.std.proofs.Common.{◌≡◌, ℕ, zero, suc, ◌+◌, ◌<◌, ◌≤◌, List, [], ◌∷◌, ◌++◌, length, get_or, take, map, reverse, All, sym, refl, ap, ◌∙◌, arith}
 use Rattle.std.specs.Prelude.{sum_by}
+use Rattle.std.proofs.lemmas.Bool.Decides.{nat_tests}
 use Rattle.std.proofs.lemmas.List.{length-take-le, get_or-take}
 use mathlib.Core.Logic.{dite}
 use mathlib.Core.Option.{some, some-injective, some-ne-none}
 use native.Mathlib.Decide.{dec_le}
 use lib.ListN.{get_elem?}
 use Rattle.atomic_table.specs.Table.{State}
-use Rattle.owners_table.specs.Owning.{SeatView, OwnersView, Owned, IsLeft, IsSlotWord, Holds, HasOneOwner, weigh, word_at, held_by, owner_of, sheet}
+use Rattle.owners_table.specs.declared.mark.TheConstants.{SHELVES}
+use Rattle.owners_table.specs.Owning.{SeatView, OwnersView, Owned, IsLeft, IsSlotWord, Holds, HasOneOwner, weigh, word_at, run_word, held_by, owner_of, sheet}
 use Rattle.owners_table.proofs.Sums.{sum_by-none, sum_by-member, sum_by-whole}
 use Rattle.owners_table.proofs.Joining.{sum_by-joined, length-joined}
 use Rattle.owners_table.proofs.Lists.{only, once, differs, differs-same, words-of_run, words-of_none, words-outside, weigh-flat_map, word_at-same, word_at-none}
@@ -51,12 +53,22 @@ all-empty : (seats : List SeatView) → All (λ s. s.held ≡ []) seats → held
 all-empty [] none = refl
 all-empty (s ∷ ss) none = λ i. none zero s (omega arith) i ++ all-empty ss (λ k d l. none (suc k) d (omega arith)) i
 
--- a list of zeros
-zeros-only : (n : ℕ) (xs : List ℕ) → length xs ≡ n → ((k : ℕ) → k < n → get_or xs k 0 ≡ 0) → xs ≡ replicate n 0
-zeros-only zero [] e each = refl
-zeros-only zero (x ∷ xs) e each = absurd (omega arith)
-zeros-only (suc n) [] e each = absurd (omega arith)
-zeros-only (suc n) (x ∷ xs) e each = λ i. each zero (omega arith) i ∷ zeros-only n xs (omega arith) (λ k l. each (suc k) (omega arith)) i
+-- a list of words of which each is at most n
+all-at_most : (n : ℕ) (xs : List ℕ) → ((k : ℕ) → k < length xs → get_or xs k 0 ≤ n) → All (λ w. w ≤ n) xs
+all-at_most n [] each k d l = absurd (omega arith)
+all-at_most n (x ∷ xs) each zero d l = each zero (omega arith)
+all-at_most n (x ∷ xs) each (suc k) d l = all-at_most n xs (λ j m. each (suc j) (omega arith)) k d (omega arith)
+
+-- the word of a slot that is a run's, and of one that isn't
+run_word-run : (w : ℕ) → 4096 ≤ w → run_word w ≡ w
+run_word-run w run = grind (arith, nat_tests)
+
+run_word-none : (w : ℕ) → w < 4096 → run_word w ≡ 0
+run_word-none w low = grind (arith, nat_tests)
+
+-- a word that is no run's is at most the last shelf's
+low-word : (w : ℕ) → IsSlotWord w → run_word w ≡ 0 → w ≤ SHELVES
+low-word w is none = dite (dec_le w SHELVES) (λ low. low) (λ high. let m = is (omega arith) in let r = run_word-run w m.0 in absurd (omega arith))
 
 module _ (o : OwnersView) (seats : List SeatView) (ws : List ℕ) (left : IsLeft o seats ws) where
   abbrev entries : List (ℕ × ℕ)
@@ -89,27 +101,19 @@ module _ (o : OwnersView) (seats : List SeatView) (ws : List ℕ) (left : IsLeft
     left-one : (slot : ℕ) → slot < o.slots → HasOneOwner ws entries slot
     left-one slot inside = let wide = left.wide in entries-words entries ws (left.all whole) slot (omega arith)
 
-    left-words : (slot : ℕ) → slot < o.slots → get_or ws slot 0 ≡ word_at slot entries
+    left-words : (slot : ℕ) → slot < o.slots → run_word (get_or ws slot 0) ≡ word_at slot entries
     left-words slot inside =
         let wide = left.wide in
         let a = left.all whole (only slot once) in
         dite (dec_le 4096 (get_or ws slot 0))
-        (λ run. let b = words-of_run slot once ws (omega arith) run in (left-held slot (omega arith)).1)
+        (λ run. let b = words-of_run slot once ws (omega arith) run in run_word-run (get_or ws slot 0) run ∙ (left-held slot (omega arith)).1)
         (λ free.
         let b = words-of_none slot once ws (omega arith) (omega arith) in
         let z = word_at-none slot entries (omega arith) in
-        let w = nought (get_or ws slot 0) (left.words slot) (omega arith) in
-        omega arith)
-      where
-        nought : (w : ℕ) → IsSlotWord w → w < 4096 → w ≡ 0
-        nought w is l = dite (dec_le w 0) (λ z. omega arith) (λ some. let m = is (omega arith) in absurd (omega arith))
+        run_word-none (get_or ws slot 0) (omega arith) ∙ sym z)
 
-    left-free : All (λ s. s.held ≡ []) seats → take o.slots ws ≡ replicate o.slots 0
-    left-free none =
-        let wide = left.wide in
-        let empty : entries ≡ [] = all-empty seats none in
-        zeros-only o.slots (take o.slots ws) (length-take-le o.slots ws (omega arith))
-        (λ slot inside. get_or-take o.slots ws slot 0 inside ∙ (left-words slot inside ∙ ap (word_at slot) empty))
+    left-low : All (λ s. s.held ≡ []) seats → (slot : ℕ) → slot < o.slots → get_or ws slot 0 ≤ SHELVES
+    left-low none slot inside = low-word (get_or ws slot 0) (left.words slot) (left-words slot inside ∙ ap (word_at slot) (all-empty seats none))
 
   -- the same of the words that were read of all slots
   module _ (xs : List ℕ) (read : xs ≡ take o.slots ws) where
@@ -119,14 +123,17 @@ module _ (o : OwnersView) (seats : List SeatView) (ws : List ℕ) (left : IsLeft
     pub read-held : (slot : ℕ) → Holds slot entries → (slot < o.slots) × (get_or xs slot 0 ≡ word_at slot entries)
     read-held slot has = let l = left-held slot has in (l.0, at slot l.0 ∙ l.1)
 
-    pub read-words : length seats ≡ o.seats → (slot : ℕ) → slot < o.slots → get_or xs slot 0 ≡ word_at slot entries
-    read-words whole slot inside = at slot inside ∙ left-words whole slot inside
+    pub read-words : length seats ≡ o.seats → (slot : ℕ) → slot < o.slots → run_word (get_or xs slot 0) ≡ word_at slot entries
+    read-words whole slot inside = ap run_word (at slot inside) ∙ left-words whole slot inside
 
     pub read-one : length seats ≡ o.seats → (slot : ℕ) → slot < o.slots → HasOneOwner xs entries slot
     read-one whole slot inside = left-one whole slot inside ∙ ap (owner_of slot) (sym (at slot inside))
 
-    pub read-free : length seats ≡ o.seats → All (λ s. s.held ≡ []) seats → xs ≡ replicate o.slots 0
-    read-free whole none = read ∙ left-free whole none
+    pub read-low : length seats ≡ o.seats → All (λ s. s.held ≡ []) seats → All (λ w. w ≤ SHELVES) xs
+    read-low whole none =
+        let wide = left.wide in
+        let as_many : length xs ≡ o.slots = ap (λ (l : List ℕ). length l) read ∙ length-take-le o.slots ws (omega arith) in
+        all-at_most SHELVES xs (λ slot within. let same = at slot (omega arith) in let low = left-low whole none slot (omega arith) in omega arith)
 
 -- one more word is read
 pub take-next : (ws : List ℕ) (k w : ℕ) → get_elem? ws k ≡ some w → take (k + 1) ws ≡ take k ws ++ w ∷ []

@@ -23,7 +23,7 @@ pub begins : (slots seats : ℕ) → Owned slots seats record { words = replicat
 begins slots seats = record {
   wide = length-replicate (slots + 1) 0;
   spare = get_or-replicate (slots + 1) slots 0 0 (omega arith);
-  words = λ slot some. absurd (none slot some);
+  words = λ slot high. absurd (none slot (omega arith));
   sheets = let l = length-replicate seats blank in omega arith;
   listed = λ h. let z = words-zero h 0 (slots + 1) in let s = sum_by-replicate (listed h) seats blank in omega arith;
 }

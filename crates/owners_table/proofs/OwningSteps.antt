@@ -10,9 +10,12 @@ use lib.Seq.{set-get_or}
 use prog.Atomic.{either}
 use Rattle.atomic_table.specs.Table.{State, Me, step, keeps, stepped, Allows, Splits, Joins}
 use Rattle.atomic_table.proofs.Lists.{set_again, exchanged}
+use Rattle.owners_table.specs.declared.mark.Owner.{Owner}
+use Rattle.owners_table.specs.declared.mark.Owner.TheVariants.{Run, Shelf}
+use Rattle.owners_table.specs.declared.mark.TheConstants.{SHELVES}
 use Rattle.owners_table.specs.declared.owning.OwnerSheet.{OwnerSheet}
 use Rattle.owners_table.specs.Marking.{IsMarkWord}
-use Rattle.owners_table.specs.Owning.{IsSlotWord, Owned, Holds, word_at, weigh, weigh_word, weigh_words, blank, after_claim, after_release, claimed, released, looked}
+use Rattle.owners_table.specs.Owning.{IsSlotWord, IsOwn, owner_word, Owned, Holds, word_at, without, weigh, weigh_word, weigh_words, blank, gained, after_claim, after_release, after_shelve, after_fetch, claimed, released, was_shelved, fetched, looked}
 use Rattle.owners_table.specs.Sheets.{first_or}
 use Rattle.owners_table.proofs.Sums.{sum_by-change, sum_by-member, sum_by-split, sum_by-join, sum-is_additive, length-is_additive}
 use Rattle.owners_table.proofs.Lists.{only, once, differs, differs-same, word-none, word-some, words-change, words-of_run, words-of_none, words-once, weigh-without, word_at-same}
@@ -71,73 +74,112 @@ mine slots seats st r id t slot at inside has =
     let d = differs-same n in
     (run, word_at-same slot n t.held has (omega arith))
 
-gained : (h : ℕ → ℕ → ℕ) (slot word n : ℕ) (t : OwnerSheet) → 4096 ≤ word → n ≡ 0 → sum_by (listed h) (after_claim slot word n t ∷ []) + weigh_word h slot n ≡ sum_by (listed h) (t ∷ []) + weigh_word h slot word
-gained h slot word n t run free =
+-- the list after an exchange that found the word that it looked for, and after one that did not
+pub held-won : (slot from word n : ℕ) (es : List (ℕ × ℕ)) → n ≡ from → gained slot from word n es ≡ (slot, word) ∷ es
+held-won slot from word n es found = ap (λ (b : Bool). if b then (slot, word) ∷ es else es) (eq-eqb n from found)
+
+pub held-lost : (slot from word n : ℕ) (es : List (ℕ × ℕ)) → n ≢ from → gained slot from word n es ≡ es
+held-lost slot from word n es other = ap (λ (b : Bool). if b then (slot, word) ∷ es else es) (ne_eqb n from other)
+
+-- a compare-exchange from a word that is no run's to that of a mark, after which the seat's one sheet has the list that is due
+takes : (slots seats : ℕ) (st : Table) → Owned slots seats st → (id : ℕ) (t u : OwnerSheet) (slot from word : ℕ) (carried : List (ℕ × Unit {0})) → get_elem? st.views id ≡ some (t ∷ []) → slot < slots → from < 4096 → IsMarkWord word
+    → u.held ≡ gained slot from word (get_or st.words slot 0) t.held
+    → Owned slots seats (stepped st slot (either (eqb (get_or st.words slot 0) from) word (get_or st.words slot 0)) id carried (u ∷ []) keeps)
+takes slots seats st r id t u slot from word carried here inside low run is =
+    let n : ℕ = get_or st.words slot 0 in
+    exchanged n from word (λ z. Owned slots seats (stepped st slot z id carried (u ∷ []) keeps))
+    (λ found. placed slots seats st r id (t ∷ []) (u ∷ []) slot word carried here inside (λ _. run) refl
+    (λ h.
     let a = word-none h slot n (omega arith) in
-    let b = word-some h slot word run in
-    let c = ap (λ (b : Bool). weigh h (if b then (slot, word) ∷ t.held else t.held)) (eq-eqb n 0 free) in
+    let b = word-some h slot word run.0 in
+    let c = ap (weigh h) (is ∙ held-won slot from word n t.held found) in
     let d = sum_by-cons (λ e. h e.0 e.1) (slot, word) t.held in
     let e = single (listed h) t in
-    let f = single (listed h) (after_claim slot word n t) in
-    omega arith
-
-kept : (h : ℕ → ℕ → ℕ) (slot word n : ℕ) (t : OwnerSheet) → n ≢ 0 → sum_by (listed h) (after_claim slot word n t ∷ []) + weigh_word h slot n ≡ sum_by (listed h) (t ∷ []) + weigh_word h slot n
-kept h slot word n t taken =
-    let c = ap (λ (b : Bool). weigh h (if b then (slot, word) ∷ t.held else t.held)) (ne_eqb n 0 taken) in
+    let f = single (listed h) u in
+    omega arith))
+    (λ other. placed slots seats st r id (t ∷ []) (u ∷ []) slot n carried here inside (r.words slot) refl
+    (λ h.
+    let c = ap (weigh h) (is ∙ held-lost slot from word n t.held other) in
     let e = single (listed h) t in
-    let f = single (listed h) (after_claim slot word n t) in
-    omega arith
+    let f = single (listed h) u in
+    omega arith))
+
+-- an exchange to a word that is no run's, after which the seat's one sheet lacks the slot that it held
+leaves : (slots seats : ℕ) (st : Table) → Owned slots seats st → (id : ℕ) (t u : OwnerSheet) (slot word : ℕ) (carried : List (ℕ × Unit {0})) → get_elem? st.views id ≡ some (t ∷ []) → slot < slots → word ≤ SHELVES → Holds slot t.held
+    → u.held ≡ without slot t.held
+    → Owned slots seats (stepped st slot word id carried (u ∷ []) keeps)
+leaves slots seats st r id t u slot word carried here inside low has is =
+    let n : ℕ = get_or st.words slot 0 in
+    let m = mine slots seats st r id t slot here inside has in
+    placed slots seats st r id (t ∷ []) (u ∷ []) slot word carried here inside (λ l. absurd (omega arith)) refl
+    (λ h.
+    let a = word-some h slot n m.0 in
+    let z = word-none h slot word (omega arith) in
+    let e = weigh-without h slot t.held has in
+    let f = ap (h slot) m.1 in
+    let g = ap (weigh h) is in
+    let c = single (listed h) t in
+    let d = single (listed h) u in
+    omega arith)
+
+-- what a claim or a fetch finds where the seat's one sheet has the slot
+own : (slots seats : ℕ) (st : Table) → Owned slots seats st → (id : ℕ) (t : OwnerSheet) (slot : ℕ) → get_elem? st.views id ≡ some (t ∷ []) → slot < slots → IsOwn slot (get_or st.words slot 0) t.held
+own slots seats st r id t slot at inside has = let m = mine slots seats st r id t slot at inside has in (m.0, sym m.1)
 
 pub claims : (slots seats homes id : ℕ) (me : Me (Unit {0}) View) (slot word : ℕ) (t : OwnerSheet) → me.0 ≡ t ∷ [] → slot < slots → IsMarkWord word
     → Allows (Owned slots seats) homes id me slot (λ n. either (eqb n 0) word n) (claimed (step homes slot 0 word none) me)
 claims slots seats homes id me slot word t one inside run st r _ at _ =
-    let n : ℕ = get_or st.words slot 0 in
-    let w : View = after_claim slot word n t ∷ [] in
-    let here : get_elem? st.views id ≡ some (t ∷ []) = at ∙ ap some one in (
-      w,
+    let n : ℕ = get_or st.words slot 0 in (
+      after_claim slot word n t ∷ [],
       keeps,
       tt,
-      exchanged n 0 word (λ z. Owned slots seats (stepped st slot z id me.1 w keeps))
-          (λ free. placed slots seats st r id (t ∷ []) w slot word me.1 here inside (λ _. run) refl (λ h. gained h slot word n t run.0 free))
-          (λ taken. placed slots seats st r id (t ∷ []) w slot n me.1 here inside (r.words slot) refl (λ h. kept h slot word n t taken)),
+      takes slots seats st r id t (after_claim slot word n t) slot 0 word me.1 (at ∙ ap some one) inside (omega arith) run refl,
       (
         refl,
         r.words slot,
-        λ u e. let same : t ≡ u = ap (first_or blank) (sym one ∙ e) in (
-          ap (λ (x : OwnerSheet). after_claim slot word n x ∷ []) same,
-          λ has. let m = mine slots seats st r id u slot (at ∙ ap some e) inside has in (omega arith, sym m.1),
-        ),
+        λ u e. let same : t ≡ u = ap (first_or blank) (sym one ∙ e) in (ap (λ (x : OwnerSheet). after_claim slot word n x ∷ []) same, own slots seats st r id u slot (at ∙ ap some e) inside),
+      ),
+    )
+
+pub fetches : (slots seats homes id : ℕ) (me : Me (Unit {0}) View) (slot from word : ℕ) (t : OwnerSheet) → me.0 ≡ t ∷ [] → slot < slots → from ≤ SHELVES → IsMarkWord word
+    → Allows (Owned slots seats) homes id me slot (λ n. either (eqb n from) word n) (fetched (step homes slot from word none) me)
+fetches slots seats homes id me slot from word t one inside low run st r _ at _ =
+    let n : ℕ = get_or st.words slot 0 in (
+      after_fetch slot from word n t ∷ [],
+      keeps,
+      tt,
+      takes slots seats st r id t (after_fetch slot from word n t) slot from word me.1 (at ∙ ap some one) inside (omega arith) run refl,
+      (
+        refl,
+        r.words slot,
+        λ u e. let same : t ≡ u = ap (first_or blank) (sym one ∙ e) in (ap (λ (x : OwnerSheet). after_fetch slot from word n x ∷ []) same, own slots seats st r id u slot (at ∙ ap some e) inside),
       ),
     )
 
 pub releases : (slots seats homes id : ℕ) (me : Me (Unit {0}) View) (slot : ℕ) (t : OwnerSheet) → me.0 ≡ t ∷ [] → slot < slots → Holds slot t.held
     → Allows (Owned slots seats) homes id me slot (λ _. 0) (released (step homes slot 0 0 none) me)
-releases slots seats homes id me slot t one inside has st r _ at _ =
-    let n : ℕ = get_or st.words slot 0 in
-    let w : View = after_release slot t ∷ [] in
-    let here : get_elem? st.views id ≡ some (t ∷ []) = at ∙ ap some one in
-    let m = mine slots seats st r id t slot here inside has in (
-      w,
-      keeps,
-      tt,
-      placed slots seats st r id (t ∷ []) w slot 0 me.1 here inside (λ l. absurd (omega arith)) refl
-          (λ h.
-          let a = word-some h slot n m.0 in
-          let z = word-none h slot 0 (omega arith) in
-          let e = weigh-without h slot t.held has in
-          let f = ap (h slot) m.1 in
-          let c = single (listed h) t in
-          let d = single (listed h) (after_release slot t) in
-          omega arith),
-      (refl, λ u e. let same : t ≡ u = ap (first_or blank) (sym one ∙ e) in ap (λ (x : OwnerSheet). after_release slot x ∷ []) same),
-    )
+releases slots seats homes id me slot t one inside has st r _ at _ = (
+  after_release slot t ∷ [],
+  keeps,
+  tt,
+  leaves slots seats st r id t (after_release slot t) slot 0 me.1 (at ∙ ap some one) inside (omega arith) has refl,
+  (refl, λ u e. let same : t ≡ u = ap (first_or blank) (sym one ∙ e) in ap (λ (x : OwnerSheet). after_release slot x ∷ []) same),
+)
 
--- the sheet of a claim that found the slot free, and of one that did not
-pub held-won : (slot word n : ℕ) (t : OwnerSheet) → n ≡ 0 → (after_claim slot word n t).held ≡ (slot, word) ∷ t.held
-held-won slot word n t free = ap (λ (b : Bool). if b then (slot, word) ∷ t.held else t.held) (eq-eqb n 0 free)
+pub shelves : (slots seats homes id : ℕ) (me : Me (Unit {0}) View) (slot word : ℕ) (t : OwnerSheet) → me.0 ≡ t ∷ [] → slot < slots → word ≤ SHELVES → Holds slot t.held
+    → Allows (Owned slots seats) homes id me slot (λ _. word) (was_shelved (step homes slot word 0 none) me)
+shelves slots seats homes id me slot word t one inside low has st r _ at _ = (
+  after_shelve slot word t ∷ [],
+  keeps,
+  tt,
+  leaves slots seats st r id t (after_shelve slot word t) slot word me.1 (at ∙ ap some one) inside low has refl,
+  (refl, λ u e. let same : t ≡ u = ap (first_or blank) (sym one ∙ e) in ap (λ (x : OwnerSheet). after_shelve slot word x ∷ []) same),
+)
 
-pub held-lost : (slot word n : ℕ) (t : OwnerSheet) → n ≢ 0 → (after_claim slot word n t).held ≡ t.held
-held-lost slot word n t taken = ap (λ (b : Bool). if b then (slot, word) ∷ t.held else t.held) (ne_eqb n 0 taken)
+-- an owner's word is not that of a free slot
+pub owner-there : (owner : Owner) (w : ℕ) → owner_word owner ≡ w → w ≢ 0
+owner-there (Run mark) w is = λ free. omega arith
+owner-there (Shelf shelf) w is = λ free. omega arith
 
 pub splits : (slots seats id : ℕ) (v : View) → Splits (Owned slots seats) id v (drop 1 v) (take 1 v)
 splits slots seats id v st r at = record {

@@ -1,23 +1,39 @@
--- Who owns which slot. The word of a slot is 0 where the slot is free, and the word of a mark where a run owns it; words below
--- 4096 are no run's.
--- What a seat holds, and what its claims found, are lists of entries: a slot with a word.
-use Rattle.std.specs.Prelude.{◌≡◌, ℕ, suc, ◌+◌, ◌<◌, ◌≤◌, ◌==◌, nat_lt, if◌then◌else◌, List, [], ◌∷◌, ◌++◌, length, slice_index, sum_by, count_by, filter, flat_map}
+-- Who owns which slot. The word of a slot is 0 where the slot is free, one more than a shelf's number where that shelf owns it, and
+-- the word of a mark where a run owns it; words below 4096 are no run's.
+-- What a seat holds, what its claims and fetches found, and what it shelved, are lists of entries: a slot with a word.
+use Rattle.std.specs.Prelude.{◌≡◌, ℕ, suc, ◌+◌, ◌<◌, ◌≤◌, ◌==◌, nat_lt, if◌then◌else◌, List, [], ◌∷◌, ◌++◌, length, slice_index, sum_by, count_by, filter, flat_map, Option, Some, None}
 use Rattle.atomic_table.specs.Table.{State, Me, Step}
 use Rattle.atomic_table.specs.Seated.{TableId}
 use Rattle.atomic_table.specs.declared.shared.Seat.{Seat}
 use Rattle.owners_table.specs.declared.owning.OwnerSheet.{OwnerSheet}
 use Rattle.owners_table.specs.declared.mark.Owner.{Owner}
-use Rattle.owners_table.specs.declared.mark.Owner.TheVariants.{Run}
+use Rattle.owners_table.specs.declared.mark.Owner.TheVariants.{Run, Shelf}
+use Rattle.owners_table.specs.declared.mark.TheConstants.{SHELVES}
 use Rattle.owners_table.specs.Marking.{mark_word, IsMarkWord}
 use Rattle.owners_table.specs.Sheets.{tally, sheet_count, first_or}
 
--- what the word of a slot can be
+-- what the word of a slot can be: past that of the last shelf, only the word of a mark
 abbrev pub IsSlotWord : ℕ → Type 0
-IsSlotWord w = 0 < w → IsMarkWord w
+IsSlotWord w = SHELVES < w → IsMarkWord w
 
 -- the word of an owner
 abbrev pub owner_word : Owner → ℕ
 owner_word (Run mark) = mark_word mark.run mark.at
+owner_word (Shelf shelf) = shelf + 1
+
+-- a run, or a shelf that there is: no two of these have one word
+abbrev pub IsOwner : Owner → Type 0
+IsOwner (Run mark) = Unit {0}
+IsOwner (Shelf shelf) = shelf < SHELVES
+
+-- the word of an owner, and 0 where there is none
+abbrev pub found_word : Option Owner → ℕ
+found_word None = 0
+found_word (Some owner) = owner_word owner
+
+-- the word where it is a run's, else 0
+abbrev pub run_word : ℕ → ℕ
+run_word w = if nat_lt w 4096 then 0 else w
 
 -- the entries of the slot
 abbrev pub entries_of : ℕ → List (ℕ × ℕ) → List (ℕ × ℕ)
@@ -80,46 +96,71 @@ abbrev pub EachHasOneOwner : Type 0
 EachHasOneOwner = (slots seats : ℕ) (s : State (Unit {0}) (List OwnerSheet)) → Owned slots seats s → (slot : ℕ) → slot < slots → HasOneOwner s.words (all_held s.views) slot
 
 abbrev pub blank : OwnerSheet
-blank = record { held = []; tries = 0; notes = [] }
+blank = record { held = []; tries = 0; notes = []; fetches = []; shelved = [] }
+
+-- the list after an exchange of the slot from this word to another: it gains the slot where that word was found
+abbrev pub gained : ℕ → ℕ → ℕ → ℕ → List (ℕ × ℕ) → List (ℕ × ℕ)
+gained slot from word found es = if found == from then (slot, word) ∷ es else es
 
 -- the sheet after a claim of the slot that found this word
 abbrev pub after_claim : ℕ → ℕ → ℕ → OwnerSheet → OwnerSheet
-after_claim slot word found t = record { held = if found == 0 then (slot, word) ∷ t.held else t.held; tries = t.tries + 1; notes = t.notes ++ (slot, found) ∷ [] }
+after_claim slot word found t = record { held = gained slot 0 word found t.held; tries = t.tries + 1; notes = t.notes ++ (slot, found) ∷ []; fetches = t.fetches; shelved = t.shelved }
 
 -- the sheet after a release of the slot
 abbrev pub after_release : ℕ → OwnerSheet → OwnerSheet
-after_release slot t = record { held = without slot t.held; tries = t.tries; notes = t.notes }
+after_release slot t = record { held = without slot t.held; tries = t.tries; notes = t.notes; fetches = t.fetches; shelved = t.shelved }
+
+-- the sheet after the slot was shelved, with the shelf's word
+abbrev pub after_shelve : ℕ → ℕ → OwnerSheet → OwnerSheet
+after_shelve slot word t = record { held = without slot t.held; tries = t.tries; notes = t.notes; fetches = t.fetches; shelved = t.shelved ++ (slot, word) ∷ [] }
+
+-- the sheet after a fetch of the slot from the shelf of the first word, that found the last
+abbrev pub after_fetch : ℕ → ℕ → ℕ → ℕ → OwnerSheet → OwnerSheet
+after_fetch slot from word found t = record { held = gained slot from word found t.held; tries = t.tries + 1; notes = t.notes; fetches = t.fetches ++ (slot, found) ∷ []; shelved = t.shelved }
+
+-- where the list has the slot, the word that was found is a run's, and the one in the list
+abbrev pub IsOwn : ℕ → ℕ → List (ℕ × ℕ) → Type 0
+IsOwn slot found es = Holds slot es → (4096 ≤ found) × (found ≡ word_at slot es)
 
 -- What a claim tells a seat of one sheet: what it found, and that this was the seat's own word where it had the slot
 abbrev pub claimed : Step (Unit {0}) → Me (Unit {0}) (List OwnerSheet) → ℕ → Me (Unit {0}) (List OwnerSheet) → Type 0
-claimed st m found m' =
-    (m'.1 ≡ m.1) × IsSlotWord found
-    × ((t : OwnerSheet) → m.0 ≡ t ∷ [] → (m'.0 ≡ after_claim st.word st.second found t ∷ []) × (Holds st.word t.held → (0 < found) × (found ≡ word_at st.word t.held)))
+claimed st m found m' = (m'.1 ≡ m.1) × IsSlotWord found × ((t : OwnerSheet) → m.0 ≡ t ∷ [] → (m'.0 ≡ after_claim st.word st.second found t ∷ []) × IsOwn st.word found t.held)
+
+-- what a fetch tells a seat of one sheet: the same
+abbrev pub fetched : Step (Unit {0}) → Me (Unit {0}) (List OwnerSheet) → ℕ → Me (Unit {0}) (List OwnerSheet) → Type 0
+fetched st m found m' = (m'.1 ≡ m.1) × IsSlotWord found × ((t : OwnerSheet) → m.0 ≡ t ∷ [] → (m'.0 ≡ after_fetch st.word st.first st.second found t ∷ []) × IsOwn st.word found t.held)
 
 -- what a release tells a seat of one sheet
 abbrev pub released : Step (Unit {0}) → Me (Unit {0}) (List OwnerSheet) → ℕ → Me (Unit {0}) (List OwnerSheet) → Type 0
 released st m found m' = (m'.1 ≡ m.1) × ((t : OwnerSheet) → m.0 ≡ t ∷ [] → m'.0 ≡ after_release st.word t ∷ [])
 
+-- what shelving tells a seat of one sheet
+abbrev pub was_shelved : Step (Unit {0}) → Me (Unit {0}) (List OwnerSheet) → ℕ → Me (Unit {0}) (List OwnerSheet) → Type 0
+was_shelved st m found m' = (m'.1 ≡ m.1) × ((t : OwnerSheet) → m.0 ≡ t ∷ [] → m'.0 ≡ after_shelve st.word st.first t ∷ [])
+
 -- what a look tells a seat of two sheets: their lists have no slot in common
 abbrev pub looked : Step (Unit {0}) → Me (Unit {0}) (List OwnerSheet) → ℕ → Me (Unit {0}) (List OwnerSheet) → Type 0
 looked st m found m' = (m' ≡ m) × ((t u : OwnerSheet) → m.0 ≡ t ∷ u ∷ [] → Apart t.held u.held)
 
--- What contracts see of a seat: its table, the entries that it holds, how many claims it made, and what each found
+-- What contracts see of a seat: its table, the entries that it holds, how many claims and fetches it made, what each claim found,
+-- what each fetch found, and what it shelved
 pub record SeatView : Type 0 where
   pub table : TableId
   pub held : List (ℕ × ℕ)
   pub tries : ℕ
   pub notes : List (ℕ × ℕ)
+  pub fetches : List (ℕ × ℕ)
+  pub shelved : List (ℕ × ℕ)
 
 -- a seat that was just made
 abbrev pub fresh : TableId → SeatView
-fresh table = record { table = table; held = []; tries = 0; notes = [] }
+fresh table = record { table = table; held = []; tries = 0; notes = []; fetches = []; shelved = [] }
 
 abbrev pub sheet_of : Seat (Unit {0}) (List OwnerSheet) → OwnerSheet
 sheet_of p = first_or blank p.me.0
 
 abbrev pub seat_view : Seat (Unit {0}) (List OwnerSheet) → SeatView
-seat_view p = record { table = p.table_id; held = (sheet_of p).held; tries = (sheet_of p).tries; notes = (sheet_of p).notes }
+seat_view p = record { table = p.table_id; held = (sheet_of p).held; tries = (sheet_of p).tries; notes = (sheet_of p).notes; fetches = (sheet_of p).fetches; shelved = (sheet_of p).shelved }
 
 -- the seat has one sheet
 abbrev pub IsSingle : Seat (Unit {0}) (List OwnerSheet) → Type 0
@@ -137,7 +178,7 @@ held_by seats = flat_map (λ s. s.held) seats
 
 -- what was done with a seat
 abbrev pub sheet : SeatView → OwnerSheet
-sheet s = record { held = s.held; tries = s.tries; notes = s.notes }
+sheet s = record { held = s.held; tries = s.tries; notes = s.notes; fetches = s.fetches; shelved = s.shelved }
 
 -- What is left of a table that was closed with these seats: the words keep the rule, the seats' lists weigh no more than they do,
 -- and as much where these are all the seats that were made

@@ -7,6 +7,9 @@ ghost use Rattle.owners_table.specs.declared.mark.TheConstants.{WORDS_OF_A_RUN};
 /// How many words a run has: one for each instruction slot that a program can have. The words below this are no run's.
 pub const WORDS_OF_A_RUN: u64 = 4096;
 
+/// How many shelves can own slots. Their numbers are those below this.
+pub const SHELVES: u8 = 8;
+
 /// The run that owns a slot, and the call of its program that was granted it.
 #[derive(Clone, Copy)]
 pub struct Mark {
@@ -22,11 +25,13 @@ pub struct Mark {
 pub enum Owner {
     /// A run, by a call of its program.
     Run(Mark),
+    /// The shelf of this number, below `SHELVES`: the slot's object stands there, or is on the way to it or from it.
+    Shelf(u8),
 }
 
 impl Mark {
-    /// The mark as a word of the table, `WORDS_OF_A_RUN` or more, so that 0 is left for a free slot and the words between for
-    /// others.
+    /// The mark as a word of the table, `WORDS_OF_A_RUN` or more, so that 0 is left for a free slot and the next words for
+    /// shelves.
     pub fn word(self) -> u64
         ensures value { result ≡ mark_word self.run self.at }
         ensures range { IsMarkWord result }

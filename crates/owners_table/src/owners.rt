@@ -1,12 +1,13 @@
 //! The table of owners.
 
-ghost use Rattle.std.specs.Prelude.{◌≡◌, ◌+◌, ◌<◌, [], ◌∷◌, ◌++◌, ℕ, map, reverse, replicate, slice_index, vec_len, All, IfSome, IfNone, IfOk, OnOk, IfErr, IsErrAnd};
+ghost use Rattle.std.specs.Prelude.{◌≡◌, ◌≢◌, ◌+◌, ◌<◌, ◌≤◌, [], ◌∷◌, ◌++◌, ℕ, map, reverse, slice_index, vec_len, All, IfSome, IfNone, IfOk, OnOk, IfErr, IsErrAnd};
 ghost use Rattle.std.specs.Slots.{slots_items, slots_len, IsFull};
 ghost use Rattle.owners_table.specs.Marking.{mark_word};
-ghost use Rattle.owners_table.specs.Owning.{Holds, Apart, HasOneOwner, EachHasOneOwner, IsLeft, IsSlotWord, fresh, sheet, held_by, owner_word, without, word_at};
+ghost use Rattle.owners_table.specs.Owning.{Holds, Apart, HasOneOwner, EachHasOneOwner, IsLeft, IsOwner, IsSlotWord, fresh, sheet, held_by, owner_word, found_word, run_word, without, word_at};
+ghost use Rattle.owners_table.specs.declared.mark.TheConstants.{SHELVES};
 
-use crate::mark::{Mark, Owner};
-use crate::owning::{Claim, Look, OwnerSheet, Owning, Release, Size};
+use crate::mark::{Mark, Owner, SHELVES};
+use crate::owning::{Claim, Fetch, Look, OwnerSheet, Owning, Release, Shelve, Size};
 use crate::sheets::Sheets;
 use atomic_table::{Closed, Seat, Table};
 use std::alloc::{AllocError, Global};
@@ -17,6 +18,12 @@ use std::marker::Model;
 #[derive(Clone, Copy)]
 pub struct Taken {
     pub owner: Owner,
+}
+
+/// A fetch found that the slot has this owner and not the shelf. `None` where it is free.
+#[derive(Clone, Copy)]
+pub struct Other {
+    pub found: Option<Owner>,
 }
 
 /// A word for each slot, and one more that stays 0, with which seats are joined and parted.
@@ -40,8 +47,8 @@ impl Model for Owners {
 
 /// What a thread claims slots with. It has no bytes. One that is dropped leaves its slots owned.
 ///
-/// Contracts see its table, the slots that it holds, each with its word, how many claims it made, and the word that each
-/// of them found.
+/// Contracts see its table, the slots that it holds, each with its word, how many claims and fetches it made, the word that
+/// each claim found, the word that each fetch found, and the slots that it shelved, each with the shelf's word.
 #[derive(Drop)]
 pub struct OwnerSeat {
     seat: Seat<(), LinkedList<OwnerSheet>>,
@@ -94,6 +101,9 @@ impl Owners {
         ensures tries { seat.new.tries ≡ seat.old.tries + 1 }
         ensures ok { OnOk result ((seat.new.held ≡ (slot, mark_word mark.run mark.at) ∷ seat.old.held) × (seat.new.notes ≡ seat.old.notes ++ (slot, 0) ∷ [])) }
         ensures taken { IfErr result (λ t. (seat.new.held ≡ seat.old.held) × (seat.new.notes ≡ seat.old.notes ++ (slot, owner_word t.owner) ∷ [])) }
+        // A shelf that is told is one that there is, so the word and its owner tell each other.
+        ensures owner { IfErr result (λ t. IsOwner t.owner) }
+        ensures rest { (seat.new.fetches ≡ seat.old.fetches) × (seat.new.shelved ≡ seat.old.shelved) }
         // A seat that has the slot already is told its own.
         ensures own { Holds slot seat.old.held → IsErrAnd result (λ t. owner_word t.owner ≡ word_at slot seat.old.held) }
     {
@@ -101,12 +111,10 @@ impl Owners {
             .table
             .shared
             .compare_exchange::<Claim>(&mut seat.seat, slot as usize, 0, mark.word());
-        if found == 0 {
+        let Some(owner) = owner_with(found) else {
             return Ok(());
-        }
-        Err(Taken {
-            owner: Owner::Run(Mark::of_word(found)),
-        })
+        };
+        Err(Taken { owner })
     }
 
     /// Gives the slot up, by one exchange, which is when the release takes effect.
@@ -119,6 +127,51 @@ impl Owners {
         self.table
             .shared
             .swap::<Release>(&mut seat.seat, slot as usize, 0);
+    }
+
+    /// Gives the slot up to the shelf of this number, below `SHELVES`, by one exchange, which is when the shelf owns the slot.
+    pub fn shelve(&self, seat: &mut OwnerSeat, slot: u32, shelf: u8)
+        requires table { seat.old.table ≡ self.now.table }
+        requires slot { slot < self.now.slots }
+        requires holds { Holds slot seat.old.held }
+        requires shelf { shelf < SHELVES }
+        ensures { seat.new ≡ record seat.old { held = without slot seat.old.held; shelved = seat.old.shelved ++ (slot, shelf + 1) ∷ [] } }
+    {
+        self.table
+            .shared
+            .swap::<Shelve>(&mut seat.seat, slot as usize, u64::from(shelf) + 1);
+    }
+
+    /// Takes the slot for the mark where the shelf of this number, below `SHELVES`, owns it, by one compare-exchange, which is
+    /// when the fetch takes effect.
+    ///
+    /// # Errors
+    /// Another owner was found, or none: nothing was taken.
+    pub fn fetch(&self, seat: &mut OwnerSeat, slot: u32, shelf: u8, mark: Mark) -> Result<(), Other>
+        requires table { seat.old.table ≡ self.now.table }
+        requires slot { slot < self.now.slots }
+        requires shelf { shelf < SHELVES }
+        ensures table { seat.new.table ≡ seat.old.table }
+        ensures tries { seat.new.tries ≡ seat.old.tries + 1 }
+        ensures ok { OnOk result ((seat.new.held ≡ (slot, mark_word mark.run mark.at) ∷ seat.old.held) × (seat.new.fetches ≡ seat.old.fetches ++ (slot, shelf + 1) ∷ [])) }
+        ensures other { IfErr result (λ o. (found_word o.found ≢ shelf + 1) × (seat.new.held ≡ seat.old.held) × (seat.new.fetches ≡ seat.old.fetches ++ (slot, found_word o.found) ∷ [])) }
+        // A shelf that is told is one that there is, so the word and its owner tell each other.
+        ensures found { IfErr result (λ o. IfSome o.found IsOwner) }
+        ensures rest { (seat.new.notes ≡ seat.old.notes) × (seat.new.shelved ≡ seat.old.shelved) }
+        // A seat that has the slot already is told its own.
+        ensures own { Holds slot seat.old.held → IsErrAnd result (λ o. found_word o.found ≡ word_at slot seat.old.held) }
+    {
+        let wanted = u64::from(shelf) + 1;
+        let found = self
+            .table
+            .shared
+            .compare_exchange::<Fetch>(&mut seat.seat, slot as usize, wanted, mark.word());
+        if found != wanted {
+            return Err(Other {
+                found: owner_with(found),
+            });
+        }
+        Ok(())
     }
 
     /// Gives both seats back as they were: they hold no slot in common.
@@ -165,25 +218,27 @@ impl Owners {
         table.close_with(all)
     }
 
-    /// Ends the table, and gives the words of its slots, in order: 0 for a slot that is free, else the word of its owner's
-    /// mark. The slots of a seat that isn't among these stay owned, and their words are told as they stand.
+    /// Ends the table, and gives the words of its slots, in order: 0 for a slot that is free, 1 more than the shelf's number
+    /// for one that a shelf owns, else the word of its owner's mark. The slots of a seat that isn't among these stay owned,
+    /// and their words are told as they stand.
     ///
     /// # Errors
     /// There was no memory for the words: the table and the seats are gone.
     pub fn close(self, alloc: Global, seats: Vec<OwnerSeat>) -> Result<Vec<u64>, AllocError>
         requires { All (λ s. s.table ≡ self.table) seats.items }
         ensures len { IfOk result (λ ws. vec_len ws ≡ self.slots) }
-        // Each is 0 or the word of a mark.
+        // Each is 0, the word of a shelf, or that of a mark.
         ensures marks { IfOk result (λ ws. (slot : ℕ) → slot < self.slots → IsSlotWord (slice_index ws.items slot)) }
         // A slot that one of the seats holds has the word that its list says.
         ensures held { IfOk result (λ ws. (slot : ℕ) → Holds slot (held_by seats.items) →
             (slot < self.slots) × (slice_index ws.items slot ≡ word_at slot (held_by seats.items))) }
-        // Where these are all the seats that were made, each word is the one in their lists, and 0 where they have none.
+        // Where these are all the seats that were made, each word of a run is the one in their lists, and where they have none the
+        // word is no run's.
         ensures words { IfOk result (λ ws. vec_len seats ≡ self.seats → (slot : ℕ) → slot < self.slots →
-            slice_index ws.items slot ≡ word_at slot (held_by seats.items)) }
+            run_word (slice_index ws.items slot) ≡ word_at slot (held_by seats.items)) }
         ensures one { IfOk result (λ ws. vec_len seats ≡ self.seats → (slot : ℕ) → slot < self.slots → HasOneOwner ws.items (held_by seats.items) slot) }
-        // Where besides they hold nothing, all slots are free.
-        ensures free { IfOk result (λ ws. vec_len seats ≡ self.seats → All (λ s. s.held ≡ []) seats.items → ws.items ≡ replicate self.slots 0) }
+        // Where besides they hold nothing, each slot is free or a shelf's.
+        ensures free { IfOk result (λ ws. vec_len seats ≡ self.seats → All (λ s. s.held ≡ []) seats.items → All (λ w. w ≤ SHELVES) ws.items) }
     {
         let count = self.table.word_count() - 1;
         let mut words = Vec::with_capacity(alloc, count)?;
@@ -194,6 +249,21 @@ impl Owners {
         closed.free();
         Ok(words)
     }
+}
+
+// The owner that has this word. None for 0, which is a free slot's.
+fn owner_with(word: u64) -> Option<Owner>
+    requires { IsSlotWord word }
+    ensures word { found_word result ≡ word }
+    ensures owner { IfSome result IsOwner }
+{
+    if word == 0 {
+        return None;
+    }
+    if word <= u64::from(SHELVES) {
+        return Some(Owner::Shelf((word - 1) as u8));
+    }
+    Some(Owner::Run(Mark::of_word(word)))
 }
 
 /// The rule of every table, in other words: where a slot's word is a run's, the lists of all its seats together have one

@@ -10,12 +10,15 @@ pub struct Size {
     pub seats: u64,
 }
 
-/// What was done with one seat: the slots that it holds, each with its word, how many claims it made, and the word that
-/// each of them found. No value of it is made.
+/// What was done with one seat: the slots that it holds, each with its word, how many claims and fetches it made, the word
+/// that each claim found, the word that each fetch found, and the slots that it shelved, each with the shelf's word. No
+/// value of it is made.
 pub struct OwnerSheet {
     pub held: LinkedList<(u64, u64)>,
     pub tries: u64,
     pub notes: LinkedList<(u64, u64)>,
+    pub fetches: LinkedList<(u64, u64)>,
+    pub shelved: LinkedList<(u64, u64)>,
 }
 
 /// The rule of the owners, as a type for the table.
@@ -46,6 +49,24 @@ impl Play<(), LinkedList<OwnerSheet>> for Release {
     ghost use Rattle.owners_table.specs.Owning.{released};
 
     ghost then = { released };
+}
+
+/// An exchange to the word of a shelf.
+pub struct Shelve;
+
+impl Play<(), LinkedList<OwnerSheet>> for Shelve {
+    ghost use Rattle.owners_table.specs.Owning.{was_shelved};
+
+    ghost then = { was_shelved };
+}
+
+/// A compare-exchange from the word of a shelf to that of a mark.
+pub struct Fetch;
+
+impl Play<(), LinkedList<OwnerSheet>> for Fetch {
+    ghost use Rattle.owners_table.specs.Owning.{fetched};
+
+    ghost then = { fetched };
 }
 
 /// A load.

@@ -1,12 +1,12 @@
 -- What claims and releases do to the books, and to what a seat noted.
-use Rattle.std.proofs.Common.{◌≡◌, ℕ, suc, ◌+◌, ◌≤◌, false, List, [], ◌∷◌, ◌++◌, length, refl, sym, ap, ◌∙◌, arith, length-append}
+use Rattle.std.proofs.Common.{◌≡◌, ℕ, suc, ◌+◌, ◌<◌, false, List, [], ◌∷◌, ◌++◌, length, refl, sym, ap, ◌∙◌, arith, length-append}
 use Rattle.std.specs.Prelude.{if◌then◌else◌, ◌==◌, not}
 use Rattle.std.proofs.lemmas.Bool.Decides.{nat_tests}
 use Rattle.std.proofs.lemmas.List.Sums.{sum_by-append}
 use Rattle.object_cache.specs.HandView.{HandView}
 use Rattle.owners_table.specs.Owning.{SeatView, Holds, owner_word, without}
 use Rattle.owners_table.specs.declared.mark.Owner.{Owner}
-use Rattle.owners_table.specs.declared.mark.Owner.TheVariants.{Run}
+use Rattle.owners_table.specs.declared.mark.Owner.TheVariants.{Run, Shelf}
 use Rattle.worker_pool.specs.Claims.{lost, IsGranted, IsGiven}
 use Rattle.worker_pool.proofs.Holding.{length-without}
 
@@ -20,11 +20,12 @@ lost-append slot found notes = let a = sum_by-append (λ (n : ℕ × ℕ). if no
 pub lost_as_before : (slot : ℕ) (notes : List (ℕ × ℕ)) → lost (notes ++ (slot, 0) ∷ []) ≡ lost notes
 lost_as_before slot notes = let a = lost-append slot 0 notes in omega arith
 
+positive : (n : ℕ) → 0 < n → (n == 0) ≡ false
+positive n some = grind (arith, nat_tests)
+
 lost_at-owner : (owner : Owner) → lost_at (owner_word owner) ≡ 1
 lost_at-owner (Run mark) = ap (λ b. if not b then 1 else 0) (positive (owner_word (Run mark)) (omega arith))
-  where
-    positive : (n : ℕ) → 4096 ≤ n → (n == 0) ≡ false
-    positive n h = grind (arith, nat_tests)
+lost_at-owner (Shelf shelf) = ap (λ b. if not b then 1 else 0) (positive (owner_word (Shelf shelf)) (omega arith))
 
 -- a claim that found an owner
 pub lost_one_more : (slot base clashes clashes' : ℕ) (owner : Owner) (notes notes' : List (ℕ × ℕ)) → notes' ≡ notes ++ (slot, owner_word owner) ∷ [] → clashes' ≡ clashes + 1

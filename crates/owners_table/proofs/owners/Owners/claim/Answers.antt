@@ -2,8 +2,8 @@ use Rattle.std.proofs.Common.{ℕ, ◌+◌, [], ◌∷◌, ◌++◌, List, sym, 
 use Rattle.owners_table.specs.declared.owning.OwnerSheet.{OwnerSheet}
 use Rattle.owners_table.specs.Marking.{mark_word}
 use Rattle.owners_table.specs.Sheets.{first_or}
-use Rattle.owners_table.specs.Owning.{SeatView, OwnersView, Holds, blank, sheet_of}
-use Rattle.owners_table.proofs.OwningSteps.{claims, held-won, held-lost}
+use Rattle.owners_table.specs.Owning.{SeatView, OwnersView, Holds, owner_word, blank, sheet_of}
+use Rattle.owners_table.proofs.OwningSteps.{claims, held-won, held-lost, owner-there}
 use Rattle.owners_table.proofs.owners.Owners.claim.Goals as goal
 
 pub compare_exchange-found-requires : goal.compare_exchange-found-requires
@@ -22,28 +22,35 @@ invariant_of-seat c =
     let e = (told.2 _ c.seat.invariant.0).0 in
     (e ∙ ap (λ (v : List OwnerSheet). first_or blank v ∷ []) (sym e), told.0 ∙ c.seat.invariant.1)
 
-pub returns-then-found-eq0-clause-tries : goal.returns-then-found-eq0-clause-tries
-returns-then-found-eq0-clause-tries c =
+pub returns-in_default-clause-tries : goal.returns-in_default-clause-tries
+returns-in_default-clause-tries c =
     let e = (c.compare_exchange-found.ensures.2.2 _ c.seat.invariant.0).0 in
     ap (λ (v : List OwnerSheet). (first_or blank v).tries) e ∙ ap (λ (v : SeatView). v.tries + 1) c.seat.view_is
 
-pub returns-then-found-eq0-clause-ok : goal.returns-then-found-eq0-clause-ok
-returns-then-found-eq0-clause-ok c =
+pub returns-in_default-clause-ok : goal.returns-in_default-clause-ok
+returns-in_default-clause-ok c =
     let e = (c.compare_exchange-found.ensures.2.2 _ c.seat.invariant.0).0 in
-    let free = c.if-found-eq0.true in
+    let free = sym c.in_default.ensures.word in
     let slot = c.args.slot in
     let sheet = sheet_of c.seat.inside.seat in (
       ap (λ (v : List OwnerSheet). (first_or blank v).held) e
-          ∙ (held-won slot c.word.result c.compare_exchange-found.result sheet free
+          ∙ (held-won slot 0 c.word.result c.compare_exchange-found.result sheet.held free
           ∙ (ap (λ (w : ℕ). (slot, w) ∷ sheet.held) c.word.ensures.value ∙ ap (λ (v : SeatView). (slot, mark_word c.args.mark.run c.args.mark.at) ∷ v.held) c.seat.view_is)),
       ap (λ (v : List OwnerSheet). (first_or blank v).notes) e ∙ (ap (λ (n : ℕ). sheet.notes ++ (slot, n) ∷ []) free ∙ ap (λ (v : SeatView). v.notes ++ (slot, 0) ∷ []) c.seat.view_is),
     )
 
-pub returns-then-found-eq0-clause-own : goal.returns-then-found-eq0-clause-own
-returns-then-found-eq0-clause-own c has =
+pub returns-in_default-clause-rest : goal.returns-in_default-clause-rest
+returns-in_default-clause-rest c =
+    let e = (c.compare_exchange-found.ensures.2.2 _ c.seat.invariant.0).0 in (
+      ap (λ (v : List OwnerSheet). (first_or blank v).fetches) e ∙ ap (λ (v : SeatView). v.fetches) c.seat.view_is,
+      ap (λ (v : List OwnerSheet). (first_or blank v).shelved) e ∙ ap (λ (v : SeatView). v.shelved) c.seat.view_is,
+    )
+
+pub returns-in_default-clause-own : goal.returns-in_default-clause-own
+returns-in_default-clause-own c has =
     let own = (c.compare_exchange-found.ensures.2.2 _ c.seat.invariant.0).1 (subst (λ (v : SeatView). Holds c.args.slot v.held) (sym c.seat.view_is) has) in
-    let some = own.0 in
-    let free = c.if-found-eq0.true in
+    let run = own.0 in
+    let free = c.in_default.ensures.word in
     omega arith
 
 pub invariant_of-seat-2 : goal.invariant_of-seat-2
@@ -60,10 +67,18 @@ returns-clause-tries c =
 pub returns-clause-taken : goal.returns-clause-taken
 returns-clause-taken c =
     let e = (c.compare_exchange-found.ensures.2.2 _ c.seat.invariant.0).0 in
-    let taken = c.if-found-eq0.false in
+    let found = c.in-Some.ensures.word in
     let slot = c.args.slot in
     let sheet = sheet_of c.seat.inside.seat in (
-      ap (λ (v : List OwnerSheet). (first_or blank v).held) e ∙ (held-lost slot c.word.result c.compare_exchange-found.result sheet taken ∙ ap (λ (v : SeatView). v.held) c.seat.view_is),
+      ap (λ (v : List OwnerSheet). (first_or blank v).held) e
+          ∙ (held-lost slot 0 c.word.result c.compare_exchange-found.result sheet.held (owner-there c.in-Some.owner _ found) ∙ ap (λ (v : SeatView). v.held) c.seat.view_is),
       ap (λ (v : List OwnerSheet). (first_or blank v).notes) e
-          ∙ (ap (λ (n : ℕ). sheet.notes ++ (slot, n) ∷ []) (sym c.of_word.ensures) ∙ ap (λ (v : SeatView). v.notes ++ (slot, mark_word c.of_word.result.run c.of_word.result.at) ∷ []) c.seat.view_is),
+          ∙ (ap (λ (n : ℕ). sheet.notes ++ (slot, n) ∷ []) (sym found) ∙ ap (λ (v : SeatView). v.notes ++ (slot, owner_word c.in-Some.owner) ∷ []) c.seat.view_is),
+    )
+
+pub returns-clause-rest : goal.returns-clause-rest
+returns-clause-rest c =
+    let e = (c.compare_exchange-found.ensures.2.2 _ c.seat.invariant.0).0 in (
+      ap (λ (v : List OwnerSheet). (first_or blank v).fetches) e ∙ ap (λ (v : SeatView). v.fetches) c.seat.view_is,
+      ap (λ (v : List OwnerSheet). (first_or blank v).shelved) e ∙ ap (λ (v : SeatView). v.shelved) c.seat.view_is,
     )

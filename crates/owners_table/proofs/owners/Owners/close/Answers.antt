@@ -1,7 +1,7 @@
 use Rattle.std.proofs.Common.{◌≡◌, ℕ, ◌+◌, ◌-◌, ◌≤◌, List, [], ◌∷◌, ◌++◌, length, take, rules, sym, ap, ◌∙◌, arith}
 use Rattle.std.specs.Slots.{slots_items}
 use Rattle.owners_table.specs.Owning.{OwnersView}
-use Rattle.owners_table.proofs.OwningEnd.{read-held, read-words, read-one, read-free, take-next}
+use Rattle.owners_table.proofs.OwningEnd.{read-held, read-words, read-one, read-low, take-next}
 use Rattle.owners_table.proofs.owners.Owners.close.Goals as goal
 
 pub loop-slot-preserved : goal.loop-slot-preserved
@@ -38,4 +38,4 @@ pub returns-clause-free : goal.returns-clause-free
 returns-clause-free c whole =
     let read = all-read _ _ _ _ _ _ _ c.loop-slot.invariant.words c.word_count-count.ensures c.self.invariant.0 (ap (λ (o : OwnersView). o.slots) c.self.view_is) c.loop-slot.auto.slot-end c.loop-slot-test.false in
     let all : length c.args.seats.items ≡ c.args.self.seats = search rules in
-    read-free c.args.self c.args.seats.items (slots_items c.ended-closed.result.words) c.ended-closed.ensures.left c.loop-slot.words.items read all
+    read-low c.args.self c.args.seats.items (slots_items c.ended-closed.result.words) c.ended-closed.ensures.left c.loop-slot.words.items read all

@@ -1,0 +1,92 @@
+use Rattle.std.proofs.Common.{ℕ, ◌+◌, [], ◌∷◌, ◌++◌, List, sym, ap, ◌∙◌, subst, arith}
+use Rattle.owners_table.specs.declared.owning.OwnerSheet.{OwnerSheet}
+use Rattle.owners_table.specs.Marking.{mark_word}
+use Rattle.owners_table.specs.Sheets.{first_or}
+use Rattle.owners_table.specs.Owning.{SeatView, OwnersView, Holds, found_word, blank, sheet_of}
+use Rattle.owners_table.proofs.OwningSteps.{fetches, held-won, held-lost}
+use Rattle.owners_table.proofs.owners.Owners.fetch.Goals as goal
+
+pub compare_exchange-found-requires : goal.compare_exchange-found-requires
+compare_exchange-found-requires c =
+    let wide = c.self.invariant.0 in
+    let slots = ap (λ (o : OwnersView). o.slots) c.self.view_is in
+    let inside = c.requires.slot in
+    let shelf = c.requires.shelf in
+    let same = c.from-wanted.ensures in (
+      ap (λ (v : SeatView). v.table) c.seat.view_is ∙ (c.requires.table ∙ sym (ap (λ (o : OwnersView). o.table) c.self.view_is)),
+      omega arith,
+      fetches _ _ _ _ _ _ _ _ _ c.seat.invariant.0 (omega arith) (omega arith) c.word.ensures.range,
+    )
+
+pub invariant_of-seat : goal.invariant_of-seat
+invariant_of-seat c =
+    let told = c.compare_exchange-found.ensures.2 in
+    let e = (told.2 _ c.seat.invariant.0).0 in
+    (e ∙ ap (λ (v : List OwnerSheet). first_or blank v ∷ []) (sym e), told.0 ∙ c.seat.invariant.1)
+
+pub returns-then-found-wanted-clause-tries : goal.returns-then-found-wanted-clause-tries
+returns-then-found-wanted-clause-tries c =
+    let e = (c.compare_exchange-found.ensures.2.2 _ c.seat.invariant.0).0 in
+    ap (λ (v : List OwnerSheet). (first_or blank v).tries) e ∙ ap (λ (v : SeatView). v.tries + 1) c.seat.view_is
+
+pub returns-then-found-wanted-clause-other : goal.returns-then-found-wanted-clause-other
+returns-then-found-wanted-clause-other c =
+    let e = (c.compare_exchange-found.ensures.2.2 _ c.seat.invariant.0).0 in
+    let found = c.owner_with.ensures.word in
+    let wanted = c.from-wanted.ensures in
+    let other = c.if-found-wanted.true in
+    let slot = c.args.slot in
+    let sheet = sheet_of c.seat.inside.seat in (
+      λ same. other (omega arith),
+      ap (λ (v : List OwnerSheet). (first_or blank v).held) e
+          ∙ (held-lost slot (c.from-wanted.result + 1) c.word.result c.compare_exchange-found.result sheet.held other ∙ ap (λ (v : SeatView). v.held) c.seat.view_is),
+      ap (λ (v : List OwnerSheet). (first_or blank v).fetches) e
+          ∙ (ap (λ (n : ℕ). sheet.fetches ++ (slot, n) ∷ []) (sym found) ∙ ap (λ (v : SeatView). v.fetches ++ (slot, found_word c.owner_with.result) ∷ []) c.seat.view_is),
+    )
+
+pub returns-then-found-wanted-clause-rest : goal.returns-then-found-wanted-clause-rest
+returns-then-found-wanted-clause-rest c =
+    let e = (c.compare_exchange-found.ensures.2.2 _ c.seat.invariant.0).0 in (
+      ap (λ (v : List OwnerSheet). (first_or blank v).notes) e ∙ ap (λ (v : SeatView). v.notes) c.seat.view_is,
+      ap (λ (v : List OwnerSheet). (first_or blank v).shelved) e ∙ ap (λ (v : SeatView). v.shelved) c.seat.view_is,
+    )
+
+pub invariant_of-seat-2 : goal.invariant_of-seat-2
+invariant_of-seat-2 c =
+    let told = c.compare_exchange-found.ensures.2 in
+    let e = (told.2 _ c.seat.invariant.0).0 in
+    (e ∙ ap (λ (v : List OwnerSheet). first_or blank v ∷ []) (sym e), told.0 ∙ c.seat.invariant.1)
+
+pub returns-clause-tries : goal.returns-clause-tries
+returns-clause-tries c =
+    let e = (c.compare_exchange-found.ensures.2.2 _ c.seat.invariant.0).0 in
+    ap (λ (v : List OwnerSheet). (first_or blank v).tries) e ∙ ap (λ (v : SeatView). v.tries + 1) c.seat.view_is
+
+pub returns-clause-ok : goal.returns-clause-ok
+returns-clause-ok c =
+    let e = (c.compare_exchange-found.ensures.2.2 _ c.seat.invariant.0).0 in
+    let found = c.if-found-wanted.false in
+    let slot = c.args.slot in
+    let sheet = sheet_of c.seat.inside.seat in (
+      ap (λ (v : List OwnerSheet). (first_or blank v).held) e
+          ∙ (held-won slot (c.from-wanted.result + 1) c.word.result c.compare_exchange-found.result sheet.held found
+          ∙ (ap (λ (w : ℕ). (slot, w) ∷ sheet.held) c.word.ensures.value ∙ ap (λ (v : SeatView). (slot, mark_word c.args.mark.run c.args.mark.at) ∷ v.held) c.seat.view_is)),
+      ap (λ (v : List OwnerSheet). (first_or blank v).fetches) e
+          ∙ (ap (λ (n : ℕ). sheet.fetches ++ (slot, n) ∷ []) (found ∙ ap (λ (n : ℕ). n + 1) c.from-wanted.ensures) ∙ ap (λ (v : SeatView). v.fetches ++ (slot, c.args.shelf + 1) ∷ []) c.seat.view_is),
+    )
+
+pub returns-clause-rest : goal.returns-clause-rest
+returns-clause-rest c =
+    let e = (c.compare_exchange-found.ensures.2.2 _ c.seat.invariant.0).0 in (
+      ap (λ (v : List OwnerSheet). (first_or blank v).notes) e ∙ ap (λ (v : SeatView). v.notes) c.seat.view_is,
+      ap (λ (v : List OwnerSheet). (first_or blank v).shelved) e ∙ ap (λ (v : SeatView). v.shelved) c.seat.view_is,
+    )
+
+pub returns-clause-own : goal.returns-clause-own
+returns-clause-own c has =
+    let own = (c.compare_exchange-found.ensures.2.2 _ c.seat.invariant.0).1 (subst (λ (v : SeatView). Holds c.args.slot v.held) (sym c.seat.view_is) has) in
+    let run = own.0 in
+    let found = c.if-found-wanted.false in
+    let shelf = c.requires.shelf in
+    let same = c.from-wanted.ensures in
+    omega arith

@@ -1,0 +1,24 @@
+use Rattle.std.proofs.Common.{List, [], ◌∷◌, sym, ap, ◌∙◌, subst, arith}
+use Rattle.owners_table.specs.declared.owning.OwnerSheet.{OwnerSheet}
+use Rattle.owners_table.specs.Sheets.{first_or}
+use Rattle.owners_table.specs.Owning.{SeatView, OwnersView, Holds, blank}
+use Rattle.owners_table.proofs.OwningSteps.{shelves}
+use Rattle.owners_table.proofs.owners.Owners.shelve.Goals as goal
+
+pub swap-requires : goal.swap-requires
+swap-requires c =
+    let wide = c.self.invariant.0 in
+    let slots = ap (λ (o : OwnersView). o.slots) c.self.view_is in
+    let inside = c.requires.slot in
+    let shelf = c.requires.shelf in
+    let same = c.from.ensures in (
+      ap (λ (v : SeatView). v.table) c.seat.view_is ∙ (c.requires.table ∙ sym (ap (λ (o : OwnersView). o.table) c.self.view_is)),
+      omega arith,
+      shelves _ _ _ _ _ _ _ _ c.seat.invariant.0 (omega arith) (omega arith) (subst (λ (v : SeatView). Holds c.args.slot v.held) (sym c.seat.view_is) c.requires.holds),
+    )
+
+pub invariant_of-seat : goal.invariant_of-seat
+invariant_of-seat c =
+    let told = c.swap.ensures.2 in
+    let e = told.1 _ c.seat.invariant.0 in
+    (e ∙ ap (λ (v : List OwnerSheet). first_or blank v ∷ []) (sym e), told.0 ∙ c.seat.invariant.1)
