@@ -8,4 +8,3 @@ pub mod Books
 pub mod Crews
 pub mod Places
 pub mod Serving
-pub mod Clearing

@@ -18,9 +18,6 @@ pub trait Before {
 
     /// How many of these had found an owner.
     ghost lost: { ℕ };
-
-    /// How many fetches it had noted.
-    ghost fetched: { ℕ };
 }
 
 impl Before for Brand {
@@ -29,6 +26,4 @@ impl Before for Brand {
     ghost noted = { 0 };
 
     ghost lost = { 0 };
-
-    ghost fetched = { 0 };
 }
