@@ -3,8 +3,8 @@
 //! This crate reads the command line and has the standard streams. What a command writes is a function of what it reads and
 //! of its options, errors included, and it writes nothing else: that is the contract of [`ebpf_one::one::one`] and
 //! [`ebpf_one::list::list`], of [`ebpf_script::check::check`] and [`ebpf_script::replay::replay`]. What `run` writes is such a
-//! text for some outcome of the jobs, since threads decide which requests for objects are granted: that is the contract of
-//! [`ebpf_script::run::run`]. These are all that it calls.
+//! text for some outcome of the jobs, since threads decide which requests for objects are granted and what is found on a shelf: that
+//! is the contract of [`ebpf_script::run::run`]. These are all that it calls.
 #![tactic(auto)]
 
 mod command;

@@ -2,7 +2,6 @@ pub mod NameLemmas
 pub mod NumberLemmas
 pub mod ScriptLemmas
 pub mod LinesLemmas
-pub mod ExchangeLemmas
 pub mod VerdictLemmas
 pub mod WorldLemmas
 pub mod RunnableLemmas

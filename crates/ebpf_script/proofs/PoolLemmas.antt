@@ -2,13 +2,12 @@
 use Rattle.std.proofs.Common.{◌≡◌, ◌≤◌, ℕ, ◌==◌, Bool, true, false, not, ◌||◌, nat_lt, List, [], ◌∷◌, length, map, slice_get, get_or, All, Option, Some, None, option_map, unwrap_or, IfSome, position, refl, sym, ap, ◌∙◌, arith}
 use Rattle.std.proofs.lemmas.Bool.Decides.{nat_tests}
 use Rattle.std.proofs.lemmas.List.Elements.{All-head, All-tail}
-use Rattle.std.proofs.lemmas.Option.{slice_get-map, slice_get_within, get_or_from_slice_get}
+use Rattle.std.proofs.lemmas.Option.{slice_get-map, slice_get_within}
 use Rattle.std.specs.List.{prefix_len}
-use Rattle.ebpf_verify.specs.CallCount.{swaps_from}
 use Rattle.ebpf_verify.specs.Subject.{Subject}
 use Rattle.worker_pool.specs.declared.jobs.Job.{Job}
 use Rattle.worker_pool.specs.declared.outcome.Host.{Host}
-use Rattle.worker_pool.specs.Admission.{pool_fault, has_program, has_context, has_swap, is_swapping}
+use Rattle.worker_pool.specs.Admission.{pool_fault, has_program, has_context}
 
 passed : {X : Type 0} (fault : X → Bool) (xs : List X) → All (λ x. fault x ≡ false) xs → prefix_len (λ x. not (fault x)) xs ≡ length xs
 passed fault [] h = refl
@@ -35,27 +34,16 @@ admitted programs job h = by (slice_get programs job.program) refl (sym (slice_g
       let fits : (length job.context == s.decl.context) ≡ true = grind (arith, nat_tests) in
       (ap not there, rw (is, fits) refl)
 
--- a job's program that is there doesn't call swap
-swapless_job : (programs : List Subject) (job : Job) → All (λ s. swaps_from s.program 0 ≡ 0) programs → has_swap programs job ≡ false
-swapless_job programs job h = by (slice_get programs job.program) refl where
-  by : (o : Option Subject) → slice_get programs job.program ≡ o → is_swapping o ≡ false
-  by None is = refl
-  by (Some s) is =
-      let inside = slice_get_within programs job.program s is in
-      let none : swaps_from s.program 0 ≡ 0 = ap (λ (t : Subject). swaps_from t.program 0) (sym (get_or_from_slice_get programs job.program s s is)) ∙ h job.program s inside in
-      grind (arith, nat_tests)
-
 pub none_due : (host : Host) (workers : ℕ) (jobs : List Job) → 1 ≤ host.pages → host.pages ≤ 256 → 1 ≤ workers → workers ≤ 64 → length jobs ≤ 1048576
-    → All (λ job. slice_get (map (λ s. s.decl.context) host.programs.items) job.program ≡ Some (length job.context)) jobs → All (λ s. swaps_from s.program 0 ≡ 0) host.programs.items → pool_fault host workers jobs ≡ None
+    → All (λ job. slice_get (map (λ s. s.decl.context) host.programs.items) job.program ≡ Some (length job.context)) jobs → pool_fault host workers jobs ≡ None
 unfolding pool_fault
-none_due host workers jobs some fits any enough few declared swapless =
+none_due host workers jobs some fits any enough few declared =
     let pages : (host.pages == 0 || nat_lt 256 host.pages) ≡ false = grind (arith, nat_tests) in
     let seats : (workers == 0 || nat_lt 64 workers) ≡ false = grind (arith, nat_tests) in
     let short : nat_lt 1048576 (length jobs) ≡ false = grind (arith, nat_tests) in
     let programs : position (λ job. not (has_program host.programs.items job)) jobs ≡ None = nowhere _ jobs (λ k d lt. (admitted host.programs.items (get_or jobs k d) (declared k d lt)).0) in
     let contexts : position (λ job. not (has_context host.programs.items job)) jobs ≡ None = nowhere _ jobs (λ k d lt. (admitted host.programs.items (get_or jobs k d) (declared k d lt)).1) in
-    let swaps : position (λ job. has_swap host.programs.items job) jobs ≡ None = nowhere _ jobs (λ k d lt. swapless_job host.programs.items (get_or jobs k d) swapless) in
-    rw (pages, seats, short, programs, contexts, swaps) refl
+    rw (pages, seats, short, programs, contexts) refl
 
 -- the pages that a script says, or else 256
 pub pages_or : (pages : Option ℕ) → IfSome pages (λ n. (1 ≤ n) × (n ≤ 256)) → (1 ≤ unwrap_or pages 256) × (unwrap_or pages 256 ≤ 256)

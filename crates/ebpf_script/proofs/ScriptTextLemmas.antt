@@ -7,7 +7,6 @@ use Rattle.ebpf_command.specs.declared.done.FaultCode.TheVariants.{S1}
 use Rattle.ebpf_command.specs.Input.{read_of}
 use Rattle.ebpf_command.proofs.Written.{CutsLong}
 use Rattle.ebpf_script.specs.declared.reader.script.Dialect.{Dialect}
-use Rattle.ebpf_script.specs.declared.shelves.Shelves.{Shelves}
 use Rattle.ebpf_script.specs.ParsedScript.{ParsedScript}
 use Rattle.ebpf_script.specs.Scripts.{parsed_text}
 use Rattle.ebpf_script.specs.ScriptText.{Doing, RespondsScript}
@@ -16,8 +15,8 @@ parsed_text_long : (dialect : Dialect) (text : List ℕ) → 1048576 < length te
 unfolding parsed_text
 parsed_text_long dialect text long = rw (lt-ltb 1048576 (length text) long) refl
 
-pub script_cuts : (shelves : Shelves) (dialect : Dialect) (Does : Doing) → CutsLong (λ text response. RespondsScript shelves Does (parsed_text dialect text) response)
-script_cuts shelves dialect Does input response long h =
+pub script_cuts : (dialect : Dialect) (Does : Doing) → CutsLong (λ text response. RespondsScript Does (parsed_text dialect text) response)
+script_cuts dialect Does input response long h =
     let cut : length (read_of input) ≡ 1048577 = length-take-le 1048577 input (omega (arith, long)) in
-    let P : Result ParsedScript (ℕ × FaultCode) → Type 0 = λ r. RespondsScript shelves Does r response in
+    let P : Result ParsedScript (ℕ × FaultCode) → Type 0 = λ r. RespondsScript Does r response in
     subst P (sym (parsed_text_long dialect input (omega (arith, long)))) (subst P (parsed_text_long dialect (read_of input) (omega (arith, cut))) h)

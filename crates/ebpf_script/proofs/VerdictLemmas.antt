@@ -1,5 +1,5 @@
 -- The verdicts on the programs of a script, one after another.
-use Rattle.std.proofs.Common.{◌≡◌, ◌||◌, ℕ, zero, suc, true, false, Bool, List, [], ◌∷◌, ◌++◌, map, string_bytes, All, refl, sym, ap, ◌∙◌, subst, append_assoc, arith}
+use Rattle.std.proofs.Common.{◌≡◌, ◌||◌, ℕ, zero, suc, true, false, Bool, List, [], ◌∷◌, ◌++◌, map, string_bytes, refl, sym, ap, ◌∙◌, subst, append_assoc, arith}
 use Rattle.std.proofs.lemmas.List.{map-append}
 use Rattle.std.proofs.lemmas.Grind.{flat_map-append, common_steps}
 use Rattle.std.proofs.lemmas.List.Folds.{list_any-append}
@@ -7,7 +7,6 @@ use Rattle.std.proofs.lemmas.List.Elements.{All-append}
 use Rattle.ebpf_state.specs.declared.kinds.KindRow.{KindRow}
 use Rattle.ebpf_state.specs.Kinds.{AreKinds}
 use Rattle.ebpf_verify.specs.declared.decl.Decl.{Decl}
-use Rattle.ebpf_verify.specs.CallCount.{swaps_from}
 use Rattle.ebpf_verify.specs.Subject.{Subject}
 use Rattle.ebpf_machine.specs.World.{kinds_of}
 use Rattle.ebpf_machine.specs.Kinds.{known_kinds}
@@ -17,36 +16,32 @@ use Rattle.ebpf_command.specs.declared.judge.Judged.TheVariants.{Accepted, Refus
 use Rattle.ebpf_command.specs.Judging.{IsJudged}
 use Rattle.ebpf_command.proofs.JudgedRows.{accepted_decl, accepted_rows}
 use Rattle.ebpf_machine.proofs.Instructions.KindLemmas.{kinds_known}
-use Rattle.ebpf_script.specs.declared.shelves.Shelves.{Shelves}
-use Rattle.ebpf_script.specs.declared.shelves.Shelves.TheVariants.{Absent}
 use Rattle.ebpf_script.specs.declared.verdicts.Verdicts.{Verdicts}
-use Rattle.ebpf_script.specs.Exchanges.{told}
 use Rattle.ebpf_script.specs.ParsedScript.{Named}
 use Rattle.ebpf_script.specs.Verdicts.{Verdict, verdict_lines, accepted_of, is_any_refused, judged_line, accepted_in, is_refused}
 use Rattle.ebpf_script.specs.VerdictsKept.{AreKept}
-use Rattle.ebpf_script.proofs.ExchangeLemmas.{told_accepted, known_told, swapless_told}
 
 -- the verdicts on all programs but those that are left
-pub record AreKeptBefore (shelves : Shelves) (programs left : List Named) (kept : Verdicts) : Type 0 where
+pub record AreKeptBefore (programs left : List Named) (kept : Verdicts) : Type 0 where
   pub verdicts : List Verdict
   pub on : map (λ v. v.program) verdicts ++ left ≡ programs
-  pub text : string_bytes kept.text ≡ verdict_lines shelves verdicts
-  pub accepted : kept.accepted.items ≡ accepted_of shelves verdicts
-  pub refused : kept.refused ≡ is_any_refused shelves verdicts
+  pub text : string_bytes kept.text ≡ verdict_lines verdicts
+  pub accepted : kept.accepted.items ≡ accepted_of verdicts
+  pub refused : kept.refused ≡ is_any_refused verdicts
 
 append_nil_of : {A : Type 0} (xs : List A) → xs ++ [] ≡ xs
 append_nil_of xs = grind (arith, common_steps)
 
 -- a verdict more
-pub kept_next : (shelves : Shelves) (programs left : List Named) (old new : Verdicts) (v : Verdict) → AreKeptBefore shelves programs (v.program ∷ left) old
-    → string_bytes new.text ≡ string_bytes old.text ++ judged_line v.program.name (told shelves v.judged) → new.accepted.items ≡ old.accepted.items ++ accepted_in (told shelves v.judged) → new.refused ≡ (old.refused || is_refused (told shelves v.judged))
-    → AreKeptBefore shelves programs left new
-kept_next shelves programs left old new v h text accepted refused = record {
+pub kept_next : (programs left : List Named) (old new : Verdicts) (v : Verdict) → AreKeptBefore programs (v.program ∷ left) old
+    → string_bytes new.text ≡ string_bytes old.text ++ judged_line v.program.name v.judged → new.accepted.items ≡ old.accepted.items ++ accepted_in v.judged → new.refused ≡ (old.refused || is_refused v.judged)
+    → AreKeptBefore programs left new
+kept_next programs left old new v h text accepted refused = record {
   verdicts = h.verdicts ++ v ∷ [];
   on = ap (λ (ps : List Named). ps ++ left) (map-append (λ (x : Verdict). x.program) h.verdicts (v ∷ [])) ∙ (append_assoc (map (λ (x : Verdict). x.program) h.verdicts) (v.program ∷ []) left ∙ h.on);
-  text = text ∙ (ap (λ xs. xs ++ judged_line v.program.name (told shelves v.judged)) h.text ∙ (ap (λ xs. verdict_lines shelves h.verdicts ++ xs) (sym (append_nil_of _)) ∙ sym (flat_map-append (λ (x : Verdict). judged_line x.program.name (told shelves x.judged)) h.verdicts (v ∷ []))));
-  accepted = accepted ∙ (ap (λ (xs : List Subject). xs ++ accepted_in (told shelves v.judged)) h.accepted ∙ (ap (λ (xs : List Subject). accepted_of shelves h.verdicts ++ xs) (sym (append_nil_of _)) ∙ sym (flat_map-append (λ (x : Verdict). accepted_in (told shelves x.judged)) h.verdicts (v ∷ []))));
-  refused = refused ∙ (ap (λ (b : Bool). b || is_refused (told shelves v.judged)) h.refused ∙ (ap (λ (b : Bool). is_any_refused shelves h.verdicts || b) (sym (or_false (is_refused (told shelves v.judged)))) ∙ sym (list_any-append (λ (x : Verdict). is_refused (told shelves x.judged)) h.verdicts (v ∷ []))));
+  text = text ∙ (ap (λ xs. xs ++ judged_line v.program.name v.judged) h.text ∙ (ap (λ xs. verdict_lines h.verdicts ++ xs) (sym (append_nil_of _)) ∙ sym (flat_map-append (λ (x : Verdict). judged_line x.program.name x.judged) h.verdicts (v ∷ []))));
+  accepted = accepted ∙ (ap (λ (xs : List Subject). xs ++ accepted_in v.judged) h.accepted ∙ (ap (λ (xs : List Subject). accepted_of h.verdicts ++ xs) (sym (append_nil_of _)) ∙ sym (flat_map-append (λ (x : Verdict). accepted_in x.judged) h.verdicts (v ∷ []))));
+  refused = refused ∙ (ap (λ (b : Bool). b || is_refused v.judged) h.refused ∙ (ap (λ (b : Bool). is_any_refused h.verdicts || b) (sym (or_false (is_refused v.judged))) ∙ sym (list_any-append (λ (x : Verdict). is_refused x.judged) h.verdicts (v ∷ []))));
 }
   where
     or_false : (b : Bool) → (b || false) ≡ b
@@ -60,23 +55,12 @@ known_in bytes decl rows (Refused code slot) kinds is k d lt = absurd (omega ari
 known_in bytes decl rows (Accepted t) kinds is zero d lt = ap kinds_of (accepted_rows bytes decl rows (Accepted t) t is refl) ∙ kinds_known rows kinds
 known_in bytes decl rows (Accepted t) kinds is (suc k) d lt = absurd (omega (arith, lt))
 
-known_of : (shelves : Shelves) (verdicts : List Verdict) → AreKnown (accepted_of shelves verdicts)
-known_of shelves [] = λ k d lt. absurd (omega arith)
-known_of shelves (v ∷ verdicts) =
-    All-append (λ (s : Subject). kinds_of s.rows ≡ known_kinds) (accepted_in (told shelves v.judged)) (accepted_of shelves verdicts)
-    (known_told shelves v.judged (known_in v.program.bytes v.decl v.rows v.judged v.kinds v.is)) (known_of shelves verdicts)
+known_of : (verdicts : List Verdict) → AreKnown (accepted_of verdicts)
+known_of [] = λ k d lt. absurd (omega arith)
+known_of (v ∷ verdicts) = All-append (λ (s : Subject). kinds_of s.rows ≡ known_kinds) (accepted_in v.judged) (accepted_of verdicts) (known_in v.program.bytes v.decl v.rows v.judged v.kinds v.is) (known_of verdicts)
 
-pub known_kept : (shelves : Shelves) (programs : List Named) (kept : Verdicts) → AreKept shelves programs kept → AreKnown kept.accepted.items
-known_kept shelves programs kept h = subst AreKnown (sym h.accepted) (known_of shelves h.verdicts)
-
--- ---- where there are no shelves, none of them calls swap
-
-swapless_of : (verdicts : List Verdict) → All (λ s. swaps_from s.program 0 ≡ 0) (accepted_of Absent verdicts)
-swapless_of [] = λ k d lt. absurd (omega (arith, lt))
-swapless_of (v ∷ verdicts) = All-append (λ (s : Subject). swaps_from s.program 0 ≡ 0) (accepted_in (told Absent v.judged)) (accepted_of Absent verdicts) (swapless_told v.judged) (swapless_of verdicts)
-
-pub swapless_kept : (programs : List Named) (kept : Verdicts) → AreKept Absent programs kept → All (λ s. swaps_from s.program 0 ≡ 0) kept.accepted.items
-swapless_kept programs kept h = subst (All (λ (s : Subject). swaps_from s.program 0 ≡ 0)) (sym h.accepted) (swapless_of h.verdicts)
+pub known_kept : (programs : List Named) (kept : Verdicts) → AreKept programs kept → AreKnown kept.accepted.items
+known_kept programs kept h = subst AreKnown (sym h.accepted) (known_of h.verdicts)
 
 -- ---- where none is refused, the programs that are accepted are all, in their order
 
@@ -86,18 +70,12 @@ contexts_in bytes decl rows context (Refused code slot) same is none = absurd cc
 contexts_in bytes decl rows context (Accepted t) same is none =
     ap (λ (n : ℕ). n ∷ []) (ap (λ (d : Decl). d.context) (accepted_decl bytes decl rows (Accepted t) t is refl) ∙ same)
 
-contexts_told : (shelves : Shelves) (bytes : List ℕ) (decl : Decl) (rows : List KindRow) (context : ℕ) (judged : Judged) → decl.context ≡ context → IsJudged bytes decl rows judged → is_refused (told shelves judged) ≡ false
-    → map (λ s. s.decl.context) (accepted_in (told shelves judged)) ≡ context ∷ []
-contexts_told shelves bytes decl rows context judged same is none =
-    let e = told_accepted shelves judged none in
-    rw e (contexts_in bytes decl rows context judged same is (ap is_refused (sym e) ∙ none))
-
-contexts_of : (shelves : Shelves) (verdicts : List Verdict) → is_any_refused shelves verdicts ≡ false → map (λ s. s.decl.context) (accepted_of shelves verdicts) ≡ map (λ p. p.context) (map (λ v. v.program) verdicts)
-contexts_of shelves [] none = refl
-contexts_of shelves (v ∷ verdicts) none =
-    map-append (λ (s : Subject). s.decl.context) (accepted_in (told shelves v.judged)) (accepted_of shelves verdicts)
-    ∙ (ap (λ (ns : List ℕ). ns ++ map (λ (s : Subject). s.decl.context) (accepted_of shelves verdicts)) (contexts_told shelves v.program.bytes v.decl v.rows v.program.context v.judged v.context v.is (left _ _ none))
-    ∙ ap (λ (ns : List ℕ). v.program.context ∷ ns) (contexts_of shelves verdicts (right _ _ none)))
+contexts_of : (verdicts : List Verdict) → is_any_refused verdicts ≡ false → map (λ s. s.decl.context) (accepted_of verdicts) ≡ map (λ p. p.context) (map (λ v. v.program) verdicts)
+contexts_of [] none = refl
+contexts_of (v ∷ verdicts) none =
+    map-append (λ (s : Subject). s.decl.context) (accepted_in v.judged) (accepted_of verdicts)
+    ∙ (ap (λ (ns : List ℕ). ns ++ map (λ (s : Subject). s.decl.context) (accepted_of verdicts)) (contexts_in v.program.bytes v.decl v.rows v.program.context v.judged v.context v.is (left _ _ none))
+    ∙ ap (λ (ns : List ℕ). v.program.context ∷ ns) (contexts_of verdicts (right _ _ none)))
   where
     left : (a b : Bool) → (a || b) ≡ false → a ≡ false
     left true b h = h
@@ -108,6 +86,6 @@ contexts_of shelves (v ∷ verdicts) none =
     right false b h = h
 
 -- they declare what the script says
-pub contexts_kept : (shelves : Shelves) (programs : List Named) (kept : Verdicts) → AreKept shelves programs kept → kept.refused ≡ false → map (λ s. s.decl.context) kept.accepted.items ≡ map (λ p. p.context) programs
-contexts_kept shelves programs kept h none =
-    ap (λ (ss : List Subject). map (λ (s : Subject). s.decl.context) ss) h.accepted ∙ (contexts_of shelves h.verdicts (sym h.refused ∙ none) ∙ ap (λ (ps : List Named). map (λ (p : Named). p.context) ps) h.on)
+pub contexts_kept : (programs : List Named) (kept : Verdicts) → AreKept programs kept → kept.refused ≡ false → map (λ s. s.decl.context) kept.accepted.items ≡ map (λ p. p.context) programs
+contexts_kept programs kept h none =
+    ap (λ (ss : List Subject). map (λ (s : Subject). s.decl.context) ss) h.accepted ∙ (contexts_of h.verdicts (sym h.refused ∙ none) ∙ ap (λ (ps : List Named). map (λ (p : Named). p.context) ps) h.on)

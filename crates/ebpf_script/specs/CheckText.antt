@@ -2,7 +2,6 @@
 use Rattle.std.specs.Prelude.{◌≡◌}
 use Rattle.ebpf_command.specs.Response.{clean_response}
 use Rattle.ebpf_command.specs.Writing.{Responding}
-use Rattle.ebpf_script.specs.declared.shelves.Shelves.TheVariants.{InReach}
 use Rattle.ebpf_script.specs.declared.reader.script.Dialect.TheVariants.{Jobs}
 use Rattle.ebpf_script.specs.Scripts.{parsed_text}
 use Rattle.ebpf_script.specs.ScriptText.{Doing, RespondsScript}
@@ -10,7 +9,7 @@ use Rattle.ebpf_script.specs.Verdicts.{verdict_lines}
 
 -- nothing behind the verdicts
 abbrev pub DoesCheck : Doing
-DoesCheck parsed verdicts response = response ≡ clean_response (verdict_lines InReach verdicts)
+DoesCheck parsed verdicts response = response ≡ clean_response (verdict_lines verdicts)
 
 abbrev pub RespondsCheck : Responding
-RespondsCheck text response = RespondsScript InReach DoesCheck (parsed_text Jobs text) response
+RespondsCheck text response = RespondsScript DoesCheck (parsed_text Jobs text) response

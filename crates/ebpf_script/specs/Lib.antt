@@ -8,7 +8,6 @@ pub mod LineFaults
 pub mod Scripts
 pub mod Runnable
 pub mod ReadScripts
-pub mod Exchanges
 pub mod Verdicts
 pub mod VerdictsKept
 pub mod EventCodes

@@ -1,9 +1,10 @@
--- The lines of an outcome: what each job did, and then what the cache of each kind did.
-use Rattle.std.specs.Prelude.{ℕ, ◌+◌, ◌++◌, List, [], ◌∷◌, codes, decimal, Option, Some, None}
+-- The lines of an outcome: what each job did, then what the cache of each kind did, and then what each shelf did that was used.
+use Rattle.std.specs.Prelude.{ℕ, ◌+◌, ◌++◌, ◌==◌, if◌then◌else◌, List, [], ◌∷◌, codes, decimal, Option, Some, None}
 use Rattle.std.specs.List.{flat_map}
 use Rattle.ebpf_machine.specs.declared.report.Report.{Report}
 use Rattle.object_cache.specs.declared.totals.Totals.{Totals}
 use Rattle.worker_pool.specs.declared.outcome.Outcome.{Outcome}
+use Rattle.worker_pool.specs.declared.outcome.ShelfTotals.{ShelfTotals}
 
 -- a number of a job's output
 abbrev pub job_emit_line : ℕ → ℕ → List ℕ
@@ -36,5 +37,17 @@ cache_lines (cells ∷ records ∷ blocks ∷ []) =
     cache_line (codes "cell") cells ++ (cache_line (codes "record") records ++ cache_line (codes "block") blocks)
 cache_lines _ = []
 
+-- how many objects were put on a shelf and got from there, and how many it held at the end; nothing where none was put there
+abbrev pub shelf_line : ℕ → ShelfTotals → List ℕ
+shelf_line shelf t =
+    if t.puts == 0 then [] else
+    codes "shelf " ++ (decimal shelf ++ (codes " puts " ++ (decimal t.puts ++ (codes " gets " ++ (decimal t.gets ++
+    (codes " left " ++ (decimal t.left ++ codes "\n")))))))
+
+-- the shelves have the numbers of their kinds
+abbrev pub shelf_lines : List ShelfTotals → List ℕ
+shelf_lines (cells ∷ records ∷ blocks ∷ []) = shelf_line 0 cells ++ (shelf_line 1 records ++ shelf_line 2 blocks)
+shelf_lines _ = []
+
 abbrev pub outcome_lines : Outcome → List ℕ
-outcome_lines o = reports_from 0 o.reports ++ cache_lines o.totals
+outcome_lines o = reports_from 0 o.reports ++ (cache_lines o.totals ++ shelf_lines o.shelves)

@@ -7,7 +7,6 @@ use Rattle.ebpf_core.specs.Faults.{code_of}
 use Rattle.ebpf_core.specs.Replay.{world_after}
 use Rattle.ebpf_command.specs.Response.{Response, refused_response, clean_response}
 use Rattle.ebpf_command.specs.Writing.{Responding}
-use Rattle.ebpf_script.specs.declared.shelves.Shelves.TheVariants.{InReach}
 use Rattle.ebpf_script.specs.declared.reader.script.Dialect.TheVariants.{Events}
 use Rattle.ebpf_script.specs.EventCodes.{apply_name}
 use Rattle.ebpf_script.specs.Scripts.{parsed_text}
@@ -25,7 +24,7 @@ world_response verdicts (Ok w) = clean_response (verdicts ++ world_lines w)
 world_response verdicts (Err stop) = refused_response (verdicts ++ stopped_line stop.0 stop.1)
 
 abbrev pub DoesReplay : Doing
-DoesReplay parsed verdicts response = response ≡ world_response (verdict_lines InReach verdicts) (world_after (accepted_of InReach verdicts) parsed.events)
+DoesReplay parsed verdicts response = response ≡ world_response (verdict_lines verdicts) (world_after (accepted_of verdicts) parsed.events)
 
 abbrev pub RespondsReplay : Responding
-RespondsReplay text response = RespondsScript InReach DoesReplay (parsed_text Events text) response
+RespondsReplay text response = RespondsScript DoesReplay (parsed_text Events text) response

@@ -1,5 +1,5 @@
 -- The response of `run` to a text: the fault of the script, or the verdict on each program and then, where none is refused,
--- what came of the jobs. The pool has no shelves, so a program that calls swap is refused.
+-- what came of the jobs.
 use Rattle.std.specs.Prelude.{◌≡◌, ◌++◌, List, [], All}
 use Rattle.ebpf_verify.specs.Subject.{Subject}
 use Rattle.owners_table.specs.Owning.{SeatView}
@@ -8,7 +8,6 @@ use Rattle.worker_pool.specs.declared.outcome.Outcome.{Outcome}
 use Rattle.worker_pool.specs.Outcomes.{IsOutcome}
 use Rattle.ebpf_command.specs.Response.{clean_response}
 use Rattle.ebpf_command.specs.Writing.{Responding}
-use Rattle.ebpf_script.specs.declared.shelves.Shelves.TheVariants.{Absent}
 use Rattle.ebpf_script.specs.declared.reader.script.Dialect.TheVariants.{Jobs}
 use Rattle.ebpf_script.specs.OutcomeLines.{outcome_lines}
 use Rattle.ebpf_script.specs.Scripts.{parsed_text}
@@ -19,13 +18,13 @@ use Rattle.ebpf_script.specs.Verdicts.{verdict_lines, accepted_of}
 pub record MayCome (programs : List Subject) (jobs : List Job) (o : Outcome) : Type 0 where
   pub before : List SeatView
   pub after : List SeatView
-  pub unused : All (λ s. s.notes ≡ []) before
+  pub unused : All (λ s. (s.notes ≡ []) × (s.fetches ≡ [])) before
   pub is : IsOutcome programs jobs before after o
 
 -- behind the verdicts, an outcome of the jobs with the accepted programs
 abbrev pub DoesRun : Doing
 DoesRun parsed verdicts response =
-    (o : Outcome) × MayCome (accepted_of Absent verdicts) parsed.jobs o × (response ≡ clean_response (verdict_lines Absent verdicts ++ outcome_lines o))
+    (o : Outcome) × MayCome (accepted_of verdicts) parsed.jobs o × (response ≡ clean_response (verdict_lines verdicts ++ outcome_lines o))
 
 abbrev pub RespondsRun : Responding
-RespondsRun text response = RespondsScript Absent DoesRun (parsed_text Jobs text) response
+RespondsRun text response = RespondsScript DoesRun (parsed_text Jobs text) response

@@ -3,7 +3,6 @@ use Rattle.std.specs.Prelude.{◌≡◌, ℕ, Bool, true, false, List, Result, O
 use Rattle.ebpf_command.specs.declared.done.FaultCode.{FaultCode}
 use Rattle.ebpf_command.specs.Lines.{fault_line}
 use Rattle.ebpf_command.specs.Response.{Response, refused_response}
-use Rattle.ebpf_script.specs.declared.shelves.Shelves.{Shelves}
 use Rattle.ebpf_script.specs.ParsedScript.{ParsedScript}
 use Rattle.ebpf_script.specs.Verdicts.{Verdict, AreOn, verdict_lines, is_any_refused}
 
@@ -12,12 +11,12 @@ abbrev pub Doing : Type 1
 Doing = ParsedScript → List Verdict → Response → Type 0
 
 -- the verdicts alone where a program is refused, or else what the command does
-abbrev pub RespondsUnless : Shelves → Bool → List Verdict → (Response → Type 0) → Response → Type 0
-RespondsUnless shelves true verdicts Does response = response ≡ refused_response (verdict_lines shelves verdicts)
-RespondsUnless shelves false verdicts Does response = Does response
+abbrev pub RespondsUnless : Bool → List Verdict → (Response → Type 0) → Response → Type 0
+RespondsUnless true verdicts Does response = response ≡ refused_response (verdict_lines verdicts)
+RespondsUnless false verdicts Does response = Does response
 
--- the line of a fault alone, or else the verdicts, as they are told with these shelves, and what the command does
-abbrev pub RespondsScript : Shelves → Doing → Result ParsedScript (ℕ × FaultCode) → Response → Type 0
-RespondsScript shelves Does (Err fault) response = response ≡ refused_response (fault_line fault.1 fault.0)
-RespondsScript shelves Does (Ok parsed) response =
-    (verdicts : List Verdict) × AreOn parsed.programs verdicts × RespondsUnless shelves (is_any_refused shelves verdicts) verdicts (Does parsed verdicts) response
+-- the line of a fault alone, or else the verdicts, and what the command does
+abbrev pub RespondsScript : Doing → Result ParsedScript (ℕ × FaultCode) → Response → Type 0
+RespondsScript Does (Err fault) response = response ≡ refused_response (fault_line fault.1 fault.0)
+RespondsScript Does (Ok parsed) response =
+    (verdicts : List Verdict) × AreOn parsed.programs verdicts × RespondsUnless (is_any_refused verdicts) verdicts (Does parsed verdicts) response

@@ -1,4 +1,4 @@
--- The verdicts on the programs of a script, and what a command tells of them: their lines, where it has these shelves.
+-- The verdicts on the programs of a script, and their lines.
 use Rattle.std.specs.Prelude.{◌≡◌, ℕ, ◌++◌, Bool, true, false, List, [], ◌∷◌, length, map, codes, decimal}
 use Rattle.std.specs.List.{flat_map, list_any}
 use Rattle.ebpf_insn.specs.Program.{instructions}
@@ -10,8 +10,6 @@ use Rattle.ebpf_command.specs.declared.judge.Judged.{Judged}
 use Rattle.ebpf_command.specs.declared.judge.Judged.TheVariants.{Accepted, Refused}
 use Rattle.ebpf_command.specs.Codes.{refusal_name}
 use Rattle.ebpf_command.specs.Judging.{IsJudged}
-use Rattle.ebpf_script.specs.declared.shelves.Shelves.{Shelves}
-use Rattle.ebpf_script.specs.Exchanges.{told}
 use Rattle.ebpf_script.specs.ParsedScript.{Named}
 
 -- what a program of a script is judged to be, with what it declares and the kinds that there are
@@ -33,21 +31,21 @@ abbrev pub judged_line : List ℕ → Judged → List ℕ
 judged_line name (Accepted s) = name ++ (codes " accepted " ++ (decimal (length (instructions s.program)) ++ codes "\n"))
 judged_line name (Refused code slot) = name ++ (codes " refused " ++ (refusal_name code ++ (codes " " ++ (decimal slot ++ codes "\n"))))
 
-abbrev pub verdict_lines : Shelves → List Verdict → List ℕ
-verdict_lines shelves verdicts = flat_map (λ v. judged_line v.program.name (told shelves v.judged)) verdicts
+abbrev pub verdict_lines : List Verdict → List ℕ
+verdict_lines verdicts = flat_map (λ v. judged_line v.program.name v.judged) verdicts
 
 -- the programs that are accepted
 abbrev pub accepted_in : Judged → List Subject
 accepted_in (Accepted s) = s ∷ []
 accepted_in (Refused code slot) = []
 
-abbrev pub accepted_of : Shelves → List Verdict → List Subject
-accepted_of shelves verdicts = flat_map (λ v. accepted_in (told shelves v.judged)) verdicts
+abbrev pub accepted_of : List Verdict → List Subject
+accepted_of verdicts = flat_map (λ v. accepted_in v.judged) verdicts
 
 -- whether a program is refused
 abbrev pub is_refused : Judged → Bool
 is_refused (Accepted s) = false
 is_refused (Refused code slot) = true
 
-abbrev pub is_any_refused : Shelves → List Verdict → Bool
-is_any_refused shelves verdicts = list_any (λ v. is_refused (told shelves v.judged)) verdicts
+abbrev pub is_any_refused : List Verdict → Bool
+is_any_refused verdicts = list_any (λ v. is_refused v.judged) verdicts

@@ -1,14 +1,13 @@
 -- The verdicts that are kept.
 use Rattle.std.specs.Prelude.{◌≡◌, List, string_bytes}
-use Rattle.ebpf_script.specs.declared.shelves.Shelves.{Shelves}
 use Rattle.ebpf_script.specs.declared.verdicts.Verdicts.{Verdicts}
 use Rattle.ebpf_script.specs.ParsedScript.{Named}
 use Rattle.ebpf_script.specs.Verdicts.{Verdict, AreOn, verdict_lines, accepted_of, is_any_refused}
 
--- they are verdicts on these programs, told with these shelves: their lines, the programs that are accepted, and whether one is refused
-pub record AreKept (shelves : Shelves) (programs : List Named) (kept : Verdicts) : Type 0 where
+-- they are verdicts on these programs: their lines, the programs that are accepted, and whether one is refused
+pub record AreKept (programs : List Named) (kept : Verdicts) : Type 0 where
   pub verdicts : List Verdict
   pub on : AreOn programs verdicts
-  pub text : string_bytes kept.text ≡ verdict_lines shelves verdicts
-  pub accepted : kept.accepted.items ≡ accepted_of shelves verdicts
-  pub refused : kept.refused ≡ is_any_refused shelves verdicts
+  pub text : string_bytes kept.text ≡ verdict_lines verdicts
+  pub accepted : kept.accepted.items ≡ accepted_of verdicts
+  pub refused : kept.refused ≡ is_any_refused verdicts

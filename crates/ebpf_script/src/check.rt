@@ -6,11 +6,9 @@ ghost use Rattle.ebpf_command.specs.Writing.{Writes, WritesBeginning, Reads};
 ghost use Rattle.ebpf_script.specs.CheckText.{RespondsCheck, DoesCheck};
 ghost use Rattle.ebpf_script.specs.ReadScripts.{parsed_script};
 ghost use Rattle.ebpf_script.specs.ScriptText.{RespondsScript};
-ghost use Rattle.ebpf_script.specs.declared.shelves.Shelves.TheVariants.{InReach};
 
 use crate::reader::read_script;
 use crate::reader::script::{Dialect, Script, ScriptStop};
-use crate::shelves::Shelves;
 use crate::verdicts::verdicts_on;
 use ebpf_command::answer::{Answer, answer_fault, respond};
 use ebpf_command::done::{Done, EngineFault};
@@ -49,9 +47,9 @@ fn answer_text(alloc: Global, text: &[u8]) -> Result<Answer, AllocError>
 
 // The response to a script.
 fn answer_script(alloc: Global, script: &Script) -> Result<Answer, AllocError>
-    ensures { IfOk result (RespondsScript InReach DoesCheck (Ok (parsed_script script.now))) }
+    ensures { IfOk result (RespondsScript DoesCheck (Ok (parsed_script script.now))) }
 {
-    let verdicts = verdicts_on(alloc, &script.programs, Shelves::InReach)?;
+    let verdicts = verdicts_on(alloc, &script.programs)?;
     let done = if verdicts.refused {
         Done::Refused
     } else {

@@ -2,10 +2,10 @@
 //! does its jobs.
 //!
 //! What `check` and `replay` write is a function of what they read, errors included; of what `run` writes that much is open which
-//! calls of `new` found no object. They write nothing else: that is the contract of [`check::check`], [`replay::replay`] and
-//! [`run::run`].
+//! calls of `new` found no object, and what calls of `swap` found on a shelf. They write nothing else: that is the contract of
+//! [`check::check`], [`replay::replay`] and [`run::run`].
 //!
-//! To be read in this order: `reader`, `shelves`, `verdicts`, `check`, `event_codes`, `world_text`, `replay`, `outcome_text`, `run`.
+//! To be read in this order: `reader`, `verdicts`, `check`, `event_codes`, `world_text`, `replay`, `outcome_text`, `run`.
 #![tactic(auto)]
 
 pub mod check;
@@ -14,6 +14,5 @@ mod outcome_text;
 pub mod reader;
 pub mod replay;
 pub mod run;
-mod shelves;
 mod verdicts;
 mod world_text;

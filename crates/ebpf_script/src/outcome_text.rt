@@ -2,20 +2,21 @@
 
 ghost use Rattle.std.specs.Prelude.{◌≡◌, ◌++◌, string_bytes, OnOk};
 ghost use Rattle.std.specs.List.{flat_map};
-ghost use Rattle.ebpf_script.specs.OutcomeLines.{job_emit_line, report_lines, reports_from, cache_line, cache_lines, outcome_lines};
+ghost use Rattle.ebpf_script.specs.OutcomeLines.{job_emit_line, report_lines, reports_from, cache_line, cache_lines, shelf_line, shelf_lines, outcome_lines};
 
 use ebpf_machine::report::Report;
 use object_cache::Totals;
 use std::alloc::AllocError;
-use worker_pool::Outcome;
+use worker_pool::{Outcome, ShelfTotals};
 
-/// Writes an outcome behind a text: each job in order, and then the cache of each kind. It fails only where an allocation
-/// fails.
+/// Writes an outcome behind a text: each job in order, then the cache of each kind, and then each shelf that was used. It fails
+/// only where an allocation fails.
 pub(crate) fn write_outcome(text: &mut String, outcome: &Outcome) -> Result<(), AllocError>
     ensures { OnOk result (string_bytes text.new ≡ string_bytes text.old ++ outcome_lines outcome.now) }
 {
     write_reports(text, &outcome.reports.reports)?;
-    write_caches(text, &outcome.totals)
+    write_caches(text, &outcome.totals)?;
+    write_shelves(text, &outcome.shelves)
 }
 
 // Writes what each job did.
@@ -79,4 +80,25 @@ fn write_cache(text: &mut String, name: &str, totals: &Totals) -> Result<(), All
         text,
         "cache {name} allocs {allocs} frees {frees} nulls {nulls} missing {missing}\n"
     )
+}
+
+// Writes what the shelf of each kind did.
+fn write_shelves(text: &mut String, shelves: &[ShelfTotals; 3]) -> Result<(), AllocError>
+    ensures { OnOk result (string_bytes text.new ≡ string_bytes text.old ++ shelf_lines shelves.now) }
+{
+    let [cells, records, blocks] = shelves;
+    write_shelf(text, 0, cells)?;
+    write_shelf(text, 1, records)?;
+    write_shelf(text, 2, blocks)
+}
+
+// Writes what a shelf did, where an object was put there.
+fn write_shelf(text: &mut String, shelf: u8, totals: &ShelfTotals) -> Result<(), AllocError>
+    ensures { OnOk result (string_bytes text.new ≡ string_bytes text.old ++ shelf_line shelf totals.now) }
+{
+    let ShelfTotals { puts, gets, left } = totals;
+    if *puts == 0 {
+        return Ok(());
+    }
+    write!(text, "shelf {shelf} puts {puts} gets {gets} left {left}\n")
 }

@@ -8,12 +8,10 @@ ghost use Rattle.ebpf_command.specs.Writing.{Writes, WritesBeginning, Reads};
 ghost use Rattle.ebpf_script.specs.ReadScripts.{parsed_script};
 ghost use Rattle.ebpf_script.specs.ReplayText.{RespondsReplay, DoesReplay, world_response};
 ghost use Rattle.ebpf_script.specs.ScriptText.{RespondsScript};
-ghost use Rattle.ebpf_script.specs.declared.shelves.Shelves.TheVariants.{InReach};
 
 use crate::event_codes::apply_name;
 use crate::reader::read_script;
 use crate::reader::script::{Dialect, Script, ScriptStop};
-use crate::shelves::Shelves;
 use crate::verdicts::verdicts_on;
 use crate::world_text::write_world;
 use ebpf_command::answer::{Answer, answer_fault, respond};
@@ -57,9 +55,9 @@ fn answer_text(alloc: Global, text: &[u8]) -> Result<Answer, AllocError>
 
 // The response to a script.
 fn answer_script(alloc: Global, script: &Script) -> Result<Answer, AllocError>
-    ensures { IfOk result (RespondsScript InReach DoesReplay (Ok (parsed_script script.now))) }
+    ensures { IfOk result (RespondsScript DoesReplay (Ok (parsed_script script.now))) }
 {
-    let verdicts = verdicts_on(alloc, &script.programs, Shelves::InReach)?;
+    let verdicts = verdicts_on(alloc, &script.programs)?;
     if verdicts.refused {
         return Ok(Answer {
             text: verdicts.text,

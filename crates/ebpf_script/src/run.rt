@@ -9,12 +9,10 @@ ghost use Rattle.ebpf_script.specs.ReadScripts.{parsed_script};
 ghost use Rattle.ebpf_script.specs.Runnable.{IsRunnable};
 ghost use Rattle.ebpf_script.specs.RunText.{RespondsRun, DoesRun, MayCome};
 ghost use Rattle.ebpf_script.specs.ScriptText.{RespondsScript};
-ghost use Rattle.ebpf_script.specs.declared.shelves.Shelves.TheVariants.{Absent};
 
 use crate::outcome_text::write_outcome;
 use crate::reader::read_script;
 use crate::reader::script::{Dialect, Script, ScriptStop};
-use crate::shelves::Shelves;
 use crate::verdicts::verdicts_on;
 use ebpf_command::answer::{Answer, answer_fault, respond};
 use ebpf_command::done::{Done, EngineFault};
@@ -31,9 +29,8 @@ const PAGES: u32 = 256;
 // The slots of an arena of so many pages.
 const SLOTS: u32 = 65_536;
 
-/// Reads a script of jobs, judges its programs, has the jobs done by this many workers, and writes what came of each and of the
-/// caches. The reaper makes this many passes beside them, and those of the script's lines. A program that calls `swap` is told as
-/// refused, since the pool has no shelves yet.
+/// Reads a script of jobs, judges its programs, has the jobs done by this many workers, and writes what came of each, of the
+/// caches and of the shelves. The reaper makes this many passes beside them, and those of the script's lines.
 ///
 /// # Errors
 /// `Input` where a read failed and `NoMemory` where an allocation failed: nothing was written then. `Output` where a write
@@ -94,9 +91,9 @@ fn answer_script<R: Threads + Wait + Sync>(
     requires workers { (1 ≤ workers) × (workers ≤ 64) }
     requires reaps { reaps + script.passes < 2 ^ 32 }
     requires runnable { IsRunnable (parsed_script script) }
-    ensures { IfOk result (RespondsScript Absent DoesRun (Ok (parsed_script script))) }
+    ensures { IfOk result (RespondsScript DoesRun (Ok (parsed_script script))) }
 {
-    let verdicts = verdicts_on(alloc, &script.programs, Shelves::Absent)?;
+    let verdicts = verdicts_on(alloc, &script.programs)?;
     let mut text = verdicts.text;
     if verdicts.refused {
         return Ok(Answer {

@@ -6,7 +6,6 @@ ghost use Rattle.ebpf_script.specs.Verdicts.{Verdict, AreOn, verdict_lines, acce
 ghost use Rattle.ebpf_script.specs.VerdictsKept.{AreKept};
 
 use crate::reader::script::ProgramText;
-use crate::shelves::{Shelves, told};
 use ebpf_command::judge::{Judged, judge};
 use ebpf_state::kinds::kinds;
 use ebpf_verify::verified::Verified;
@@ -22,13 +21,12 @@ pub struct Verdicts {
     pub refused: bool,
 }
 
-/// Judges each program of a script, for runs with these shelves. It fails only where an allocation fails.
+/// Judges each program of a script. It fails only where an allocation fails.
 pub(crate) fn verdicts_on(
     alloc: Global,
     programs: &IndexMap<String, ProgramText>,
-    shelves: Shelves,
 ) -> Result<Verdicts, AllocError>
-    ensures { IfOk result (AreKept shelves (map named programs.now.entries)) }
+    ensures { IfOk result (AreKept (map named programs.now.entries)) }
 {
     let rows = kinds();
     let mut verdicts = Verdicts {
@@ -38,7 +36,7 @@ pub(crate) fn verdicts_on(
     };
     for (name, program) in programs.iter() {
         let judged = judge(alloc, &program.bytes, program.decl, &rows)?;
-        verdicts.add(name.as_str(), told(shelves, judged))?;
+        verdicts.add(name.as_str(), judged)?;
     }
     Ok(verdicts)
 }

@@ -10,6 +10,10 @@ pub record ShelfHandView : Type 0 where
   pub puts : ℕ
   pub gets : ℕ
 
+-- a hand that has done nothing
+abbrev pub new_hand : ShelfHandView
+new_hand = record { puts = 0; gets = 0 }
+
 -- one object, or none
 abbrev pub one_if : {X : Type 0} → Option X → ℕ
 one_if None = 0

@@ -9,8 +9,8 @@
 //! *The reason.* No clause names what a lock holds between two calls. But each exchange is entered in the books and in the shares
 //! of them that the hand has, so when a shelf is closed with all its hands, what they count is what the books count.
 
-ghost use Rattle.std.specs.Prelude.{◌≡◌, ◌+◌, ◌<◌, ◌≤◌, vec_len, sum_by};
-ghost use Rattle.object_cache.specs.ShelfView.{HasSpares, one_if};
+ghost use Rattle.std.specs.Prelude.{◌≡◌, ◌+◌, ◌^◌, ◌<◌, ◌≤◌, vec_len, sum_by};
+ghost use Rattle.object_cache.specs.ShelfView.{HasSpares, new_hand, one_if};
 
 use crate::count::count;
 use crate::spare::Spare;
@@ -168,7 +168,7 @@ impl<K: Kind, A: Ledger, B: Ledger> Shelf<K, A, B> {
     pub fn hand(&mut self) -> ShelfHand<A, B>
         requires { self.old.hands < 64 }
         ensures made { self.new.hands ≡ self.old.hands + 1 }
-        ensures fresh { result ≡ record { puts = 0; gets = 0 } }
+        ensures fresh { result ≡ new_hand }
     {
         let Some(spare) = self.spares[self.hands as usize].take() else {
             unreachable!()
@@ -193,6 +193,7 @@ impl<K: Kind, A: Ledger, B: Ledger> Shelf<K, A, B> {
     ) -> Option<Obj<K, Held>>
         ensures puts { hand.new.puts ≡ hand.old.puts + one_if given }
         ensures gets { hand.new.gets ≡ hand.old.gets + one_if result }
+        ensures few { hand.new.puts ≤ 2 ^ 56 }
     {
         if given.is_some() {
             count(rt, &mut hand.puts);

@@ -4,7 +4,7 @@ ghost use Rattle.std.specs.Prelude.{◌≡◌};
 ghost use Rattle.ebpf_machine.specs.Kinds.{known_kinds};
 ghost use Rattle.ebpf_machine.specs.World.{kinds_of};
 
-use crate::store::{Store, Sums};
+use crate::store::{Given, Store, Sums};
 use ebpf_machine::report::{Reply, Report};
 use ebpf_machine::whole::run_to_exit;
 use ebpf_verify::verified::Verified;
@@ -12,16 +12,17 @@ use std::alloc::{AllocError, Global};
 use std::marker::Brand;
 use std::sync::ledger::{Blank, Ledger};
 
-// Runs a program alone, with these answers: its report, and what it was granted and refused of each kind.
+// Runs a program alone, with what its calls are given: its report, and what it was granted and refused of each kind, and put on
+// shelves and got from there.
 pub(crate) fn alone(
     alloc: Global,
     verified: &Verified,
     context: Vec<u8>,
-    answers: Vec<Reply>,
+    given: Given,
 ) -> Result<(Report, Sums), AllocError>
     requires { kinds_of verified.now.rows ≡ known_kinds }
 {
-    alone_in::<Brand>(alloc, verified, context, answers, Blank::new(2))
+    alone_in::<Brand>(alloc, verified, context, given, Blank::new(4))
 }
 
 // The same with a new ledger.
@@ -29,14 +30,14 @@ fn alone_in<L: Ledger>(
     alloc: Global,
     verified: &Verified,
     context: Vec<u8>,
-    answers: Vec<Reply>,
+    given: Given,
     blank: Blank,
 ) -> Result<(Report, Sums), AllocError>
     requires name { blank.name ≡ L.name }
-    requires parts { (blank.parts ≡ L.parts) × (L.parts ≡ 2) }
+    requires parts { (blank.parts ≡ L.parts) × (L.parts ≡ 4) }
     requires kinds { kinds_of verified.now.rows ≡ known_kinds }
 {
-    let mut store = Store::<L>::new(alloc, answers, blank);
+    let mut store = Store::<L>::new(alloc, given, blank);
     let Ok(report) = run_to_exit(alloc, verified, context, &mut store) else {
         return Err(AllocError);
     };

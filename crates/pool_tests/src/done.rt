@@ -5,7 +5,7 @@ ghost use Rattle.ebpf_machine.specs.Kinds.{AreKnown};
 use crate::alone::{alone, tell};
 use crate::facts::holds;
 use crate::jobs::{Setting, jobs_of};
-use crate::store::Sums;
+use crate::store::{Given, Sums};
 use crate::table::{are_free, claim_first, table_of};
 use ebpf_machine::report::Report;
 use ebpf_verify::verified::Verified;
@@ -16,9 +16,7 @@ use std::sync::Wait;
 use std::thread::Threads;
 use worker_pool::{Gate, Host, Job, Outcome, PoolFault, run_jobs};
 
-// Does the jobs of a setting, and tells what came of them: the fault, or for each run of like reports how many there are of
-// them, then the totals and the clashes. The seats come back as many and with no slot, each report is that of the program
-// alone, and the totals are the sums of the reports.
+// Does the jobs of a setting, and tells what came of them: the fault or the outcome.
 pub(crate) fn done<G: Gate + Sync, R: Threads + Wait + Abort + Sync>(
     rt: &R,
     alloc: Global,
@@ -26,6 +24,23 @@ pub(crate) fn done<G: Gate + Sync, R: Threads + Wait + Abort + Sync>(
     setting: &Setting<'_>,
     gate: &G,
 ) -> Result<String, AllocError>
+    requires { AreKnown programs.items }
+{
+    match outcome_of(rt, alloc, programs, setting, gate)? {
+        Ok(outcome) => told(alloc, &outcome),
+        Err(fault) => format!(in alloc; "{fault:?}"),
+    }
+}
+
+// Does the jobs of a setting. The seats come back as many and with no slot, each report is that of the program alone, and the
+// totals are the sums of the reports.
+pub(crate) fn outcome_of<G: Gate + Sync, R: Threads + Wait + Abort + Sync>(
+    rt: &R,
+    alloc: Global,
+    programs: Vec<Verified>,
+    setting: &Setting<'_>,
+    gate: &G,
+) -> Result<Result<Outcome, PoolFault>, AllocError>
     requires { AreKnown programs.items }
 {
     let jobs = jobs_of(alloc, &programs, setting)?;
@@ -47,14 +62,16 @@ pub(crate) fn done<G: Gate + Sync, R: Threads + Wait + Abort + Sync>(
         Ok(outcome) => {
             let sums = compared(rt, alloc, &host.programs, &jobs, &outcome)?;
             add_up(rt, &outcome, &sums, setting.claimed);
-            told(alloc, &outcome)
+            shelves_add_up(rt, &outcome, &sums);
+            Ok(Ok(outcome))
         }
         Err(PoolFault::NoMemory) => Err(AllocError),
-        Err(fault) => format!(in alloc; "{fault:?}"),
+        Err(fault) => Ok(Err(fault)),
     }
 }
 
-// Compares each report with its program run alone, and adds up what was granted and refused of each kind.
+// Compares each report with its program run alone, and adds up what was granted and refused of each kind, and put on its shelf and
+// got from there.
 fn compared(
     rt: &impl Abort,
     alloc: Global,
@@ -66,19 +83,21 @@ fn compared(
 {
     let reports = &outcome.reports.reports;
     holds(rt, "there is a report a job", reports.len() == jobs.len());
-    let mut all = Sums {
-        granted: [0; 3],
-        refused: [0; 3],
-    };
+    let mut all = Sums::new();
     for (job, report) in jobs.iter().zip(reports) {
         let verified = programs.get(job.program).ok_or(AllocError)?;
         let context = job.context.bytes.to_vec(alloc)?;
-        let answers = report.answers.replies.to_vec(alloc)?;
-        let (expected, sums) = alone(alloc, verified, context, answers)?;
+        let given = Given {
+            answers: report.answers.replies.to_vec(alloc)?,
+            taken: report.taken.bytes.to_vec(alloc)?,
+        };
+        let (expected, sums) = alone(alloc, verified, context, given)?;
         let is_same = tell(alloc, report)? == tell(alloc, &expected)?;
         holds(rt, "a job is done as its program alone", is_same);
         add(&mut all.granted, &sums.granted);
         add(&mut all.refused, &sums.refused);
+        add(&mut all.puts, &sums.puts);
+        add(&mut all.gets, &sums.gets);
     }
     Ok(all)
 }
@@ -110,8 +129,27 @@ fn add_up(rt: &impl Abort, outcome: &Outcome, sums: &Sums, claimed: u32) {
     holds(rt, "the clashes add up", clashed == 0);
 }
 
-// An outcome in words.
-fn told(alloc: Global, outcome: &Outcome) -> Result<String, AllocError> {
+// That what each shelf did is these sums, with one object left there at most, and that nothing strayed.
+fn shelves_add_up(rt: &impl Abort, outcome: &Outcome, sums: &Sums) {
+    holds(rt, "nothing strayed", outcome.strays == 0);
+    for (shelf, (puts, gets)) in outcome.shelves.iter().zip(sums.puts.iter().zip(&sums.gets)) {
+        let is_so = shelf.puts == *puts && shelf.gets == *gets;
+        holds(rt, "the reports add up to what the shelf did", is_so);
+        let is_left = shelf.left <= 1 && puts.wrapping_sub(*gets) == shelf.left;
+        holds(rt, "what was put was got or is left", is_left);
+    }
+}
+
+// An outcome in words: for each run of like reports how many there are of them, then its totals.
+pub(crate) fn told(alloc: Global, outcome: &Outcome) -> Result<String, AllocError> {
+    let mut told = reports_told(alloc, outcome)?;
+    let totals = totals_told(alloc, outcome)?;
+    told.push_str(totals.as_str())?;
+    Ok(told)
+}
+
+// The reports in words.
+fn reports_told(alloc: Global, outcome: &Outcome) -> Result<String, AllocError> {
     let mut told = String::new(alloc);
     let mut last = String::new(alloc);
     let mut count: u64 = 0;
@@ -127,9 +165,33 @@ fn told(alloc: Global, outcome: &Outcome) -> Result<String, AllocError> {
     if count > 0 {
         write!(told, "{count} of {last}; ")?;
     }
+    Ok(told)
+}
+
+// The totals of the caches in words, the clashes, what each shelf did that anything was put on, and the strays where there are any.
+pub(crate) fn totals_told(alloc: Global, outcome: &Outcome) -> Result<String, AllocError> {
+    let mut told = String::new(alloc);
     for totals in &outcome.totals {
         write!(told, "{}/{}/{} ", totals.allocs, totals.frees, totals.nulls)?;
     }
     write!(told, "clashes {}", outcome.clashes)?;
+    tell_shelves(&mut told, outcome)?;
+    if outcome.strays > 0 {
+        write!(told, " strays {}", outcome.strays)?;
+    }
     Ok(told)
+}
+
+// Adds what each shelf did that anything was put on: what was put there, what was got from there and what was left.
+fn tell_shelves(told: &mut String, outcome: &Outcome) -> Result<(), AllocError> {
+    for (number, shelf) in outcome.shelves.iter().enumerate() {
+        if shelf.puts > 0 {
+            write!(
+                told,
+                " shelf {number} {}/{}/{}",
+                shelf.puts, shelf.gets, shelf.left
+            )?;
+        }
+    }
+    Ok(())
 }

@@ -123,7 +123,7 @@ impl Gate for Watch {
     }
 }
 
-// That jobs of program a are done so under a gate, and pass it.
+// That the jobs of a setting are done so under a gate, and pass it.
 fn is_done<R: Threads + Wait + Abort + Sync>(
     rt: &R,
     alloc: Global,
@@ -187,5 +187,23 @@ fn a_job_waits_for_all_others_and_for_the_reaper(rt: HostRuntime) -> Result<(), 
         [pass, first],
         100_000_000,
         "200 of exit 5 executed 9 peak 1 output [] answers g; 200/200/0 0/0/0 0/0/0 clashes 0",
+    )
+}
+
+#[test]
+fn a_job_takes_what_another_worker_left_on_a_shelf(rt: HostRuntime) -> Result<(), AllocError> {
+    let first = Hold {
+        is_pass: false,
+        number: 0,
+        answered: 1,
+        passes: 0,
+    };
+    is_done(
+        &rt,
+        rt.alloc(),
+        "2 16 0 0 2 ih",
+        [first, first],
+        10_000_000,
+        "1 of exit 5 executed 9 peak 1 output [] answers s; 1 of exit 1 executed 10 peak 1 output [] answers ge; 1/1/0 0/0/0 0/0/0 clashes 0 shelf 0 1/1/0",
     )
 }

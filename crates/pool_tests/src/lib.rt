@@ -1,9 +1,10 @@
 //! Tests of the pool of workers, as its user calls it.
 //!
 //! What `run_jobs` promises is proved where it stands. What is tried here is what no contract says: that jobs are done where
-//! memory is there, by workers that really run side by side; that the promises mean the numbers that a person expects; which fault
-//! is told where there are several; and that every want of memory is answered. Where there are many cases they are rows of one
-//! text. What a job reports is compared with its program run alone, over a store of the tests' own.
+//! memory is there, by workers that really run side by side; that what a job leaves on a shelf is taken by another once, and whole;
+//! that the promises mean the numbers that a person expects; which fault is told where there are several; and that every want of
+//! memory is answered. Where there are many cases they are rows of one text. What a job reports is compared with its program run
+//! alone, over a store of the tests' own.
 //!
 //! The store is no test, since the definitions that speak of it are read without the tests too.
 #![tactic(auto)]
@@ -24,7 +25,11 @@ mod memory;
 mod programs;
 #[cfg(test)]
 mod rows;
+#[cfg(test)]
+mod shelves;
 mod store;
+#[cfg(test)]
+mod strays;
 #[cfg(test)]
 mod table;
 #[cfg(test)]

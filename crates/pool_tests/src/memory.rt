@@ -31,6 +31,16 @@ fn one_worker_adds_up_whatever_memory_is_refused(rt: HostRuntime) {
 }
 
 #[test]
+fn a_shelf_adds_up_whatever_memory_is_refused(rt: HostRuntime) {
+    is_answered(&rt, rt.alloc(), "1 2 0 0 3 hhi");
+}
+
+#[test]
+fn three_shelves_add_up_whatever_memory_is_refused(rt: HostRuntime) {
+    is_answered(&rt, rt.alloc(), "3 4 2 0 12 jklmno");
+}
+
+#[test]
 fn workers_add_up_whatever_memory_is_refused(rt: HostRuntime) {
     is_answered(&rt, rt.alloc(), "3 4 2 0 12 abf");
 }

@@ -22,6 +22,12 @@ no job, and a pass | 3 4 1 0 0 a | 0/0/0 0/0/0 0/0/0 clashes 0
 contexts are the jobs' own | 2 4 0 0 3 ccc | 1 of exit 7 executed 4 peak 0 output [] answers ; 1 of exit 10 executed 4 peak 0 output [] answers ; 1 of exit 13 executed 4 peak 0 output [] answers ; 0/0/0 0/0/0 0/0/0 clashes 0
 outputs are the jobs' own | 2 4 0 0 2 d | 1 of exit 2 executed 7 peak 0 output [0, 7] answers ; 1 of exit 2 executed 7 peak 0 output [1, 7] answers ; 0/0/0 0/0/0 0/0/0 clashes 0
 objects are the jobs' own | 1 4 0 0 2 f | 1 of exit 1 executed 12 peak 1 output [0] answers g; 1 of exit 1 executed 12 peak 1 output [1] answers g; 0/0/0 2/2/0 0/0/0 clashes 0
+a job takes what the one before left on a shelf | 1 1 0 0 2 hi | 1 of exit 1 executed 10 peak 1 output [] answers ge; 1 of exit 5 executed 9 peak 1 output [] answers s; 1/1/0 0/0/0 0/0/0 clashes 0 shelf 0 1/1/0
+what the last job left goes back | 1 1 0 0 2 hh | 1 of exit 1 executed 10 peak 1 output [] answers ge; 1 of exit 1 executed 12 peak 1 output [] answers gs; 2/2/0 0/0/0 0/0/0 clashes 0 shelf 0 2/1/1
+nothing stands on a shelf | 1 1 0 0 1 i | 1 of exit 0 executed 5 peak 0 output [] answers e; 0/0/0 0/0/0 0/0/0 clashes 0
+an object keeps what is written to it on a shelf | 1 4 0 0 4 mjmm | 1 of exit 2 executed 6 peak 0 output [] answers e; 1 of exit 1 executed 12 peak 1 output [] answers ge; 1 of exit 2 executed 13 peak 1 output [1, 1] answers s; 1 of exit 2 executed 6 peak 0 output [] answers e; 1/1/0 0/0/0 0/0/0 clashes 0 shelf 0 1/1/0
+each kind has a shelf of its own | 1 4 0 0 6 jklmno | 3 of exit 1 executed 12 peak 1 output [] answers ge; 1 of exit 2 executed 13 peak 1 output [0, 0] answers s; 1 of exit 2 executed 13 peak 1 output [1, 1] answers s; 1 of exit 2 executed 13 peak 1 output [2, 2] answers s; 1/1/0 1/1/0 1/1/0 clashes 0 shelf 0 1/1/0 shelf 1 1/1/0 shelf 2 1/1/0
+what stands on a shelf has the one page | 1 1 0 0 2 hk | 1 of exit 1 executed 10 peak 1 output [] answers ge; 1 of exit 0 executed 5 peak 0 output [] answers n; 1/1/0 0/0/1 0/0/0 clashes 0 shelf 0 1/0/1
 
 no page | 1 0 0 0 1 a | Pages
 257 pages | 1 257 0 0 1 a | Pages

@@ -4,7 +4,7 @@ ghost use Rattle.std.specs.Prelude.{◌≡◌, ◌≤◌, All, IfOk};
 ghost use Rattle.worker_pool.specs.Outcomes.{IsIdle};
 
 use crate::facts::holds;
-use owners_table::mark::Mark;
+use owners_table::mark::{Mark, WORDS_OF_A_RUN};
 use owners_table::owners::{OwnerSeat, Owners};
 use std::alloc::{AllocError, Global};
 use std::process::Abort;
@@ -40,7 +40,7 @@ pub(crate) fn claim_first(rt: &impl Abort, owners: &Owners, seat: &mut OwnerSeat
     }
 }
 
-// That so many of the first slots have an owner, and no others, once the table is closed.
+// That runs have so many of the first slots, and no others, and that no shelf has one, once the table is closed.
 pub(crate) fn are_free(
     rt: &impl Abort,
     alloc: Global,
@@ -55,7 +55,7 @@ pub(crate) fn are_free(
     let mut seats = seats;
     seats.push(other)?;
     let words = owners.close(alloc, seats)?;
-    let owned = words.iter().take_while(|word| **word > 0).count();
+    let owned = words.iter().take_while(|word| is_of_a_run(**word)).count();
     let free = words.iter().filter(|word| **word == 0).count();
     holds(
         rt,
@@ -63,4 +63,24 @@ pub(crate) fn are_free(
         owned == claimed as usize && owned + free == words.len(),
     );
     Ok(())
+}
+
+// How many slots runs have, and shelves, once the table is closed.
+pub(crate) fn owned(
+    alloc: Global,
+    owners: Owners,
+    seats: Vec<OwnerSeat>,
+) -> Result<(usize, usize), AllocError>
+    requires { All (IsIdle owners) seats.items }
+{
+    let words = owners.close(alloc, seats)?;
+    let runs = words.iter().filter(|word| is_of_a_run(**word)).count();
+    let free = words.iter().filter(|word| **word == 0).count();
+    let shelves = words.len().wrapping_sub(runs).wrapping_sub(free);
+    Ok((runs, shelves))
+}
+
+// Whether a slot with this word is a run's.
+fn is_of_a_run(word: u64) -> bool {
+    word >= WORDS_OF_A_RUN
 }

@@ -10,7 +10,7 @@ ghost use Rattle.ebpf_machine.specs.World.{kinds_of};
 use crate::alone::tell;
 use crate::facts::is_told;
 use crate::programs::programs_of;
-use crate::store::Store;
+use crate::store::{Given, Store};
 use ebpf_machine::objects::Objects;
 use ebpf_machine::report::Reply;
 use ebpf_machine::run::{Run, Turn};
@@ -84,20 +84,20 @@ fn trace_in<L: Ledger>(
     rt: &impl Abort,
     alloc: Global,
     verified: &Verified,
-    answers: Vec<Reply>,
+    given: Given,
     limit: u64,
     by_steps: bool,
     blank: Blank,
 ) -> String
     requires name { blank.name ≡ L.name }
-    requires parts { (blank.parts ≡ L.parts) × (L.parts ≡ 2) }
+    requires parts { (blank.parts ≡ L.parts) × (L.parts ≡ 4) }
     requires kinds { kinds_of verified.now.rows ≡ known_kinds }
 {
-    let mut store = Store::<L>::new(alloc, answers, blank);
+    let mut store = Store::<L>::new(alloc, given, blank);
     trace_over(rt, alloc, verified, &mut store, limit, by_steps)
 }
 
-// The same, with an answer for each letter.
+// The same, with an answer for each letter. What comes off a shelf has only zeros in it.
 fn trace(
     rt: &impl Abort,
     alloc: Global,
@@ -108,19 +108,22 @@ fn trace(
 ) -> String
     requires { kinds_of verified.now.rows ≡ known_kinds }
 {
-    let answers = replies(rt, alloc, letters);
-    let blank = Blank::new(2);
-    trace_in::<Brand>(rt, alloc, verified, answers, limit, by_steps, blank)
+    let given = Given {
+        answers: replies(rt, alloc, letters),
+        taken: Vec::new(alloc),
+    };
+    let blank = Blank::new(4);
+    trace_in::<Brand>(rt, alloc, verified, given, limit, by_steps, blank)
 }
 
 // The answers of letters.
 fn replies(rt: &impl Abort, alloc: Global, letters: &str) -> Vec<Reply> {
     let mut replies = Vec::new(alloc);
     for letter in letters.as_bytes() {
-        let reply = if *letter == b'g' {
-            Reply::Granted
-        } else {
-            Reply::Null
+        let reply = match *letter {
+            b'g' => Reply::Granted,
+            b's' => Reply::Shelf,
+            _ => Reply::Null,
         };
         replies.push(reply).expect(rt, "out of memory");
     }
@@ -142,7 +145,7 @@ fn is_alike(rt: &impl Abort, alloc: Global, verified: &Verified, answers: &str)
 fn a_run_is_its_steps(rt: HostRuntime) {
     let programs = programs_of(rt.alloc()).expect(&rt, "out of memory");
     for verified in &programs {
-        for answers in ["gg", "gn", "nn"] {
+        for answers in ["gg", "gn", "nn", "gs", "ss"] {
             is_alike(&rt, rt.alloc(), verified, answers);
         }
     }

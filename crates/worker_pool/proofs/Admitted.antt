@@ -7,7 +7,7 @@ use Rattle.worker_pool.specs.declared.jobs.Job.{Job}
 use Rattle.worker_pool.specs.declared.outcome.Host.{Host}
 use Rattle.worker_pool.specs.declared.outcome.TheConstants.{MAX_WORKERS, MAX_JOBS}
 use Rattle.worker_pool.specs.declared.fault.PoolFault.TheVariants.{Pages, Workers, Jobs}
-use Rattle.worker_pool.specs.Admission.{pool_fault, job_fault, has_program, has_context, is_declared, without_program, without_context, with_swap}
+use Rattle.worker_pool.specs.Admission.{pool_fault, job_fault, has_program, has_context, is_declared, without_program, without_context}
 use Rattle.worker_pool.specs.Working.{CanRun}
 
 -- jobs and workers that have no fault
@@ -21,11 +21,10 @@ unless : {X : Type 0} (t : Bool) (x : X) (rest : Option X) → (if t then Some x
 unless true x rest e = absurd (cc)
 unless false x rest e = (refl, e)
 
-none_of : (program context swap : Option ℕ) → job_fault program context swap ≡ None → (program ≡ None) × (context ≡ None)
-none_of None None None e = (refl, refl)
-none_of None None (Some s) e = absurd (cc)
-none_of None (Some c) swap e = absurd (cc)
-none_of (Some p) context swap e = absurd (cc)
+none_of : (program context : Option ℕ) → job_fault program context ≡ None → (program ≡ None) × (context ≡ None)
+none_of None None e = (refl, refl)
+none_of None (Some c) e = absurd (cc)
+none_of (Some p) context e = absurd (cc)
 
 -- where no position is found, no element passes
 past_all : {X : Type 0} (p : X → Bool) (xs : List X) → position p xs ≡ None → length xs ≤ position_or_len p xs
@@ -72,7 +71,7 @@ admitted host workers jobs e =
     let pages = unless _ Pages _ e in
     let team = unless _ Workers _ pages.1 in
     let list = unless _ Jobs _ team.1 in
-    let both = none_of (without_program host.programs.items jobs) (without_context host.programs.items jobs) (with_swap host.programs.items jobs) list.1 in
+    let both = none_of (without_program host.programs.items jobs) (without_context host.programs.items jobs) list.1 in
     let programs = none_passes (λ job. not (has_program host.programs.items job)) jobs (past_all (λ job. not (has_program host.programs.items job)) jobs both.0) in
     let contexts = none_passes (λ job. not (has_context host.programs.items job)) jobs (past_all (λ job. not (has_context host.programs.items job)) jobs both.1) in
     let team_is = team.0 in

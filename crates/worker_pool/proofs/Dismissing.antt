@@ -1,14 +1,15 @@
 -- A worker more is taken apart.
-use Rattle.std.proofs.Common.{◌≡◌, ◌≤◌, ◌+◌, ◌*◌, ◌^◌, ◌&&◌, ℕ, Bool, true, false, Some, All, List, [], ◌∷◌, ◌++◌, length, map, reverse, refl, sym, ap, subst, ◌∙◌, arith, length-append}
+use Rattle.std.proofs.Common.{◌≡◌, ◌≤◌, ◌<◌, ◌+◌, ◌*◌, ◌^◌, ◌&&◌, ℕ, Bool, true, false, Some, All, List, [], ◌∷◌, ◌++◌, length, map, reverse, refl, sym, ap, subst, ◌∙◌, arith, length-append}
 use Rattle.std.specs.Prelude.{sum_by}
 use Rattle.std.proofs.lemmas.List.{map_push, reverse-append, reverse-reverse, append_assoc, append-nil}
 use Rattle.std.proofs.lemmas.List.Elements.{All-push, All-nil}
 use Rattle.std.proofs.lemmas.List.Sums.{sum_by_push}
 use Rattle.owners_table.proofs.Joining.{all_front, all_last}
 use Rattle.worker_pool.specs.declared.worker.Worker.{Worker}
-use Rattle.worker_pool.specs.declared.worker.Hands.{Hands}
+use Rattle.worker_pool.specs.declared.hands.Hands.{Hands}
 use Rattle.worker_pool.specs.declared.crew.Parts.{Parts}
-use Rattle.worker_pool.specs.Crews.{ArePartsOf, AreNone, IsBack, hands_or, hands_of, seat_in, clashes_in}
+use Rattle.worker_pool.specs.declared.crew.Done.{Done}
+use Rattle.worker_pool.specs.Crews.{ArePartsOf, AreNone, IsBack, hands_or, hands_of, seat_in, clashes_in, strays_in}
 use Rattle.worker_pool.proofs.Turned.{sum_turned, length_turned, all_turned}
 
 -- one more behind what is made of each
@@ -20,97 +21,108 @@ both true true e = (refl, refl)
 both true false e = absurd (cc)
 both false b e = absurd (cc)
 
-module _ {A0 B0 A1 B1 A2 B2 : Type 0} where
+module _ {L : Type 0} where
   -- some of the workers were taken apart, the last one first, and these are left
-  pub record AreApart (all left : List (Worker A0 B0 A1 B1 A2 B2)) (p : Parts A0 B0 A1 B1 A2 B2) (clashes : ℕ) (is_through : Bool) : Type 0 where
-    pub done : List (Worker A0 B0 A1 B1 A2 B2)
+  pub record AreApart (all left : List (Worker L)) (p : Parts L) (told : Done) : Type 0 where
+    pub done : List (Worker L)
     pub split : all ≡ left ++ reverse done
     pub parts : ArePartsOf done p
-    pub lost : clashes ≡ sum_by clashes_in done
-    pub few : clashes ≤ length done * 2 ^ 56
-    pub told : is_through ≡ true → All (λ w. w.is_through ≡ true) done
+    pub clashes : told.clashes ≡ sum_by clashes_in done
+    pub strays : told.strays ≡ sum_by strays_in done
+    pub few : (told.clashes ≤ length done * 2 ^ 56) × (told.strays ≤ length done * 2 ^ 56)
+    pub through : told.is_through ≡ true → All (λ w. w.is_through ≡ true) done
     pub back : All IsBack left
 
   -- so many were taken apart
-  pub done_are : (all left : List (Worker A0 B0 A1 B1 A2 B2)) (p : Parts A0 B0 A1 B1 A2 B2) (clashes : ℕ) (is_through : Bool) (h : AreApart all left p clashes is_through) → length h.done + length left ≡ length all
-  done_are all left p clashes is_through h =
+  pub done_are : (all left : List (Worker L)) (p : Parts L) (told : Done) (h : AreApart all left p told) → length h.done + length left ≡ length all
+  done_are all left p told h =
       let sum = ap length h.split ∙ length-append left (reverse h.done) in
       omega (arith, sum, length_turned h.done)
 
-  pub last_back : (all left rest : List (Worker A0 B0 A1 B1 A2 B2)) (w : Worker A0 B0 A1 B1 A2 B2) (p : Parts A0 B0 A1 B1 A2 B2) (clashes : ℕ) (is_through : Bool) → left ≡ rest ++ w ∷ [] → AreApart all left p clashes is_through → IsBack w
-  last_back all left rest w p clashes is_through is h = all_last IsBack rest w (subst (All IsBack) is h.back)
+  pub last_back : (all left rest : List (Worker L)) (w : Worker L) (p : Parts L) (told : Done) → left ≡ rest ++ w ∷ [] → AreApart all left p told → IsBack w
+  last_back all left rest w p told is h = all_last IsBack rest w (subst (All IsBack) is h.back)
 
   -- one worker more, with these hands
-  module _ (all left rest : List (Worker A0 B0 A1 B1 A2 B2)) (w : Worker A0 B0 A1 B1 A2 B2) (hands : Hands A0 B0 A1 B1 A2 B2) (p : Parts A0 B0 A1 B1 A2 B2) (clashes : ℕ) (is_through : Bool)
-      (is : left ≡ rest ++ w ∷ []) (hands_are : w.hands ≡ Some hands) (h : AreApart all left p clashes is_through) where
-    pub few_more : hands.clashes ≤ 2 ^ 56
+  module _ (all left rest : List (Worker L)) (w : Worker L) (hands : Hands L) (p : Parts L) (told : Done)
+      (is : left ≡ rest ++ w ∷ []) (hands_are : w.hands ≡ Some hands) (h : AreApart all left p told) where
+    pub few_more : (hands.clashes ≤ 2 ^ 56) × (hands.strays ≤ 2 ^ 56)
     few_more =
-        let back = last_back all left rest w p clashes is_through is h in
+        let back = last_back all left rest w p told is h in
         let same : Some back.hands ≡ Some hands = sym back.hands_are ∙ hands_are in
         let clashes_same : back.hands.clashes ≡ hands.clashes = ap (λ o. (hands_or o).clashes) same in
-        omega (arith, back.few, clashes_same)
+        let strays_same : back.hands.strays ≡ hands.strays = ap (λ o. (hands_or o).strays) same in
+        (omega (arith, back.few.0, clashes_same), omega (arith, back.few.1, strays_same))
 
     split_more : all ≡ rest ++ reverse (h.done ++ w ∷ [])
     split_more =
         let turned : reverse (h.done ++ w ∷ []) ≡ w ∷ reverse h.done = reverse-append h.done (w ∷ []) in
         h.split ∙ ap (λ l. l ++ reverse h.done) is ∙ append_assoc rest (w ∷ []) (reverse h.done) ∙ ap (λ l. rest ++ l) (sym turned)
 
-    lost_more : clashes + hands.clashes ≡ sum_by clashes_in (h.done ++ w ∷ [])
-    lost_more =
-        let sum = sum_by_push clashes_in h.done w in
-        let here : clashes_in w ≡ hands.clashes = ap (λ o. (hands_or o).clashes) hands_are in
-        omega (arith, sum, here, h.lost)
+    -- a count of the workers that were taken apart
+    more : (f : Hands L → ℕ) (n : ℕ) → n ≡ sum_by (λ v. f (hands_of v)) h.done → n + f hands ≡ sum_by (λ v. f (hands_of v)) (h.done ++ w ∷ [])
+    more f n is_sum =
+        let sum = sum_by_push (λ v. f (hands_of v)) h.done w in
+        let here : f (hands_of w) ≡ f hands = ap (λ o. f (hands_or o)) hands_are in
+        omega (arith, sum, here, is_sum)
 
-    few_all : clashes + hands.clashes ≤ length (h.done ++ w ∷ []) * 2 ^ 56
-    few_all =
+    few_all : (n m : ℕ) → n ≤ length h.done * 2 ^ 56 → m ≤ 2 ^ 56 → n + m ≤ length (h.done ++ w ∷ []) * 2 ^ 56
+    few_all n m few one =
         let len = length-append h.done (w ∷ []) in
         let more : length (h.done ++ w ∷ []) * 2 ^ 56 ≡ length h.done * 2 ^ 56 + 2 ^ 56 = ap (λ n. n * 2 ^ 56) len ∙ omega arith in
-        omega (arith, more, few_more, h.few)
+        omega (arith, more, few, one)
 
-    told_more : (is_through && w.is_through) ≡ true → All (λ v. v.is_through ≡ true) (h.done ++ w ∷ [])
-    told_more e =
-        let t = both is_through w.is_through e in
-        All-push (λ v. v.is_through ≡ true) h.done w (h.told t.0) t.1
+    through_more : (told.is_through && w.is_through) ≡ true → All (λ v. v.is_through ≡ true) (h.done ++ w ∷ [])
+    through_more e =
+        let t = both told.is_through w.is_through e in
+        All-push (λ v. v.is_through ≡ true) h.done w (h.through t.0) t.1
 
-    pub one_apart : (p' : Parts A0 B0 A1 B1 A2 B2)
+    pub one_apart : (p' : Parts L)
         → p'.hands.cells.items ≡ p.hands.cells.items ++ hands.cells ∷ []
         → p'.hands.records.items ≡ p.hands.records.items ++ hands.records ∷ []
         → p'.hands.blocks.items ≡ p.hands.blocks.items ++ hands.blocks ∷ []
+        → p'.shelf_hands.cells.items ≡ p.shelf_hands.cells.items ++ hands.shelf_cells ∷ []
+        → p'.shelf_hands.records.items ≡ p.shelf_hands.records.items ++ hands.shelf_records ∷ []
+        → p'.shelf_hands.blocks.items ≡ p.shelf_hands.blocks.items ++ hands.shelf_blocks ∷ []
         → p'.seats.items ≡ p.seats.items ++ hands.seat ∷ []
         → p'.drawers.items ≡ p.drawers.items ++ w.ticket ∷ []
         → p'.answered.items ≡ p.answered.items ++ w.answered ∷ []
-        → AreApart all rest p' (clashes + hands.clashes) (is_through && w.is_through)
-    one_apart p' cells records blocks seats drawers answered = record {
+        → AreApart all rest p' (record { clashes = told.clashes + hands.clashes; strays = told.strays + hands.strays; is_through = told.is_through && w.is_through })
+    one_apart p' cells records blocks shelf_cells shelf_records shelf_blocks seats drawers answered = record {
       done = h.done ++ w ∷ [];
       split = split_more;
       parts = record {
         cells = pushed (λ v. (hands_of v).cells) h.done w _ _ _ h.parts.cells cells (ap (λ o. (hands_or o).cells) hands_are);
         records = pushed (λ v. (hands_of v).records) h.done w _ _ _ h.parts.records records (ap (λ o. (hands_or o).records) hands_are);
         blocks = pushed (λ v. (hands_of v).blocks) h.done w _ _ _ h.parts.blocks blocks (ap (λ o. (hands_or o).blocks) hands_are);
+        shelf_cells = pushed (λ v. (hands_of v).shelf_cells) h.done w _ _ _ h.parts.shelf_cells shelf_cells (ap (λ o. (hands_or o).shelf_cells) hands_are);
+        shelf_records = pushed (λ v. (hands_of v).shelf_records) h.done w _ _ _ h.parts.shelf_records shelf_records (ap (λ o. (hands_or o).shelf_records) hands_are);
+        shelf_blocks = pushed (λ v. (hands_of v).shelf_blocks) h.done w _ _ _ h.parts.shelf_blocks shelf_blocks (ap (λ o. (hands_or o).shelf_blocks) hands_are);
         seats = pushed seat_in h.done w _ _ _ h.parts.seats seats (ap (λ o. (hands_or o).seat) hands_are);
         drawers = pushed (λ v. v.ticket) h.done w _ _ _ h.parts.drawers drawers refl;
         answered = pushed (λ v. v.answered) h.done w _ _ _ h.parts.answered answered refl;
       };
-      lost = lost_more;
-      few = few_all;
-      told = told_more;
+      clashes = more (λ k. k.clashes) told.clashes h.clashes;
+      strays = more (λ k. k.strays) told.strays h.strays;
+      few = (few_all told.clashes hands.clashes h.few.0 few_more.0, few_all told.strays hands.strays h.few.1 few_more.1);
+      through = through_more;
       back = all_front IsBack rest w (subst (All IsBack) is h.back);
     }
 
   -- none was taken apart yet
-  pub none_apart : (all : List (Worker A0 B0 A1 B1 A2 B2)) (p : Parts A0 B0 A1 B1 A2 B2) → All IsBack all → AreNone (length all) p → AreApart all all p 0 true
+  pub none_apart : (all : List (Worker L)) (p : Parts L) → All IsBack all → AreNone (length all) p → AreApart all all p (record { clashes = 0; strays = 0; is_through = true })
   none_apart all p back none = record {
     done = [];
     split = sym (append-nil all);
-    parts = record { cells = none.cells.0; records = none.records.0; blocks = none.blocks.0; seats = none.seats.0; drawers = none.drawers.0; answered = none.answered.0 };
-    lost = refl;
-    few = omega arith;
-    told = λ e. All-nil (λ v. v.is_through ≡ true);
+    parts = record { cells = none.cells.0; records = none.records.0; blocks = none.blocks.0; shelf_cells = none.shelf_cells.0; shelf_records = none.shelf_records.0; shelf_blocks = none.shelf_blocks.0; seats = none.seats.0; drawers = none.drawers.0; answered = none.answered.0 };
+    clashes = refl;
+    strays = refl;
+    few = (omega arith, omega arith);
+    through = λ e. All-nil (λ v. v.is_through ≡ true);
     back = back;
   }
 
   -- all were taken apart
-  module _ (all left : List (Worker A0 B0 A1 B1 A2 B2)) (p : Parts A0 B0 A1 B1 A2 B2) (clashes : ℕ) (is_through : Bool) (none : left ≡ []) (h : AreApart all left p clashes is_through) where
+  module _ (all left : List (Worker L)) (p : Parts L) (told : Done) (none : left ≡ []) (h : AreApart all left p told) where
     all_done : all ≡ reverse h.done
     all_done = h.split ∙ ap (λ l. l ++ reverse h.done) none
 
@@ -120,8 +132,11 @@ module _ {A0 B0 A1 B1 A2 B2 : Type 0} where
     pub parts_of_all : ArePartsOf (reverse all) p
     parts_of_all = subst (λ l. ArePartsOf l p) (sym turned) h.parts
 
-    pub lost_of_all : clashes ≡ sum_by clashes_in all
-    lost_of_all = h.lost ∙ sym (ap (sum_by clashes_in) all_done ∙ sum_turned clashes_in h.done)
+    pub clashes_of_all : told.clashes ≡ sum_by clashes_in all
+    clashes_of_all = h.clashes ∙ sym (ap (sum_by clashes_in) all_done ∙ sum_turned clashes_in h.done)
 
-    pub told_of_all : is_through ≡ true → All (λ w. w.is_through ≡ true) all
-    told_of_all e = subst (All (λ w. w.is_through ≡ true)) (sym all_done) (all_turned (λ w. w.is_through ≡ true) h.done (h.told e))
+    pub strays_of_all : told.strays ≡ sum_by strays_in all
+    strays_of_all = h.strays ∙ sym (ap (sum_by strays_in) all_done ∙ sum_turned strays_in h.done)
+
+    pub through_of_all : told.is_through ≡ true → All (λ w. w.is_through ≡ true) all
+    through_of_all e = subst (All (λ w. w.is_through ≡ true)) (sym all_done) (all_turned (λ w. w.is_through ≡ true) h.done (h.through e))

@@ -13,25 +13,26 @@ count_of slot es = count_by (λ e. e.0 == slot) es
 abbrev pub Once : List (ℕ × ℕ) → Type 0
 Once es = (slot : ℕ) → count_of slot es ≤ 1
 
-abbrev one_if : Bool → ℕ
-one_if b = if b then 1 else 0
+-- 1 where it holds
+abbrev pub one_at : Bool → ℕ
+one_at b = if b then 1 else 0
 
-same : (x : ℕ) → (x == x) ≡ true
+pub same : (x : ℕ) → (x == x) ≡ true
 same x = grind (arith, nat_tests)
 
-differ : (a b : ℕ) → (a ≡ b → ⊥) → (a == b) ≡ false
+pub differ : (a b : ℕ) → (a ≡ b → ⊥) → (a == b) ≡ false
 differ a b apart = grind (arith, nat_tests)
 
 none_of : (n : ℕ) → (0 < n → ⊥) → n ≡ 0
 none_of zero none = refl
 none_of (suc n) none = absurd (none (omega arith))
 
-count_of-cons : (x : ℕ) (e : ℕ × ℕ) (es : List (ℕ × ℕ)) → count_of x (e ∷ es) ≡ one_if (e.0 == x) + count_of x es
+pub count_of-cons : (x : ℕ) (e : ℕ × ℕ) (es : List (ℕ × ℕ)) → count_of x (e ∷ es) ≡ one_at (e.0 == x) + count_of x es
 count_of-cons x e es = sum_by-cons (λ (e : ℕ × ℕ). if e.0 == x then 1 else 0) e es
 
 -- one entry of the slot goes, and no other
-count_of-without : (slot x : ℕ) (es : List (ℕ × ℕ)) → Holds slot es → count_of x (without slot es) + one_if (slot == x) ≡ count_of x es
-count_of-without slot x es has = weigh-without (λ k w. one_if (k == x)) slot es has
+count_of-without : (slot x : ℕ) (es : List (ℕ × ℕ)) → Holds slot es → count_of x (without slot es) + one_at (slot == x) ≡ count_of x es
+count_of-without slot x es has = weigh-without (λ k w. one_at (k == x)) slot es has
 
 pub length-without : (slot : ℕ) (es : List (ℕ × ℕ)) → Holds slot es → length (without slot es) + 1 ≡ length es
 length-without slot [] has = absurd (omega arith)
@@ -41,7 +42,7 @@ length-without slot (e ∷ es) has = go (λ has. length-without slot es has) (e.
     go again true is = omega arith
     go again false is =
         let k = count_of-cons slot e es in
-        let o : one_if (e.0 == slot) ≡ 0 = ap one_if is in
+        let o : one_at (e.0 == slot) ≡ 0 = ap one_at is in
         let r = again (omega arith) in
         omega arith
 
@@ -54,13 +55,13 @@ once_claimed slot word old new is none once x = at (slot == x) refl
         let e : slot ≡ x = grind (arith, nat_tests) in
         let n = ap (count_of x) is in
         let c = count_of-cons x (slot, word) old in
-        let o = ap one_if eq in
+        let o = ap one_at eq in
         let z : count_of x old ≡ 0 = none_of (count_of x old) (λ h. none (rw e h)) in
         omega arith
     at false eq =
         let n = ap (count_of x) is in
         let c = count_of-cons x (slot, word) old in
-        let o = ap one_if eq in
+        let o = ap one_at eq in
         let p = once x in
         omega arith
 
@@ -80,12 +81,16 @@ pub held_before : (s slot x : ℕ) (old new : List (ℕ × ℕ)) → s ≡ slot 
 held_before s slot x old new e is has once now =
     let c = count_of-without slot x old (rw (sym e) has) in
     let n = ap (count_of x) is in
-    (omega arith, λ f. let g : slot ≡ x = sym e ∙ sym f in let t : (slot == x) ≡ true = rw g (same x) in let o : one_if (slot == x) ≡ 1 = ap one_if t in let k : count_of x old ≤ 1 = once x in omega arith)
+    (omega arith, λ f. let g : slot ≡ x = sym e ∙ sym f in let t : (slot == x) ≡ true = rw g (same x) in let o : one_at (slot == x) ≡ 1 = ap one_at t in let k : count_of x old ≤ 1 = once x in omega arith)
 
 -- another slot that was held is held after it
 pub held_after : (s slot x : ℕ) (old new : List (ℕ × ℕ)) → s ≡ slot → new ≡ without slot old → Holds s old → Holds x old → x ≢ s → Holds x new
 held_after s slot x old new e is has other apart =
     let c = count_of-without slot x old (rw (sym e) has) in
     let n = ap (count_of x) is in
-    let o : one_if (slot == x) ≡ 0 = ap one_if (differ slot x (λ f. apart (sym f ∙ sym e))) in
+    let o : one_at (slot == x) ≡ 0 = ap one_at (differ slot x (λ f. apart (sym f ∙ sym e))) in
     omega arith
+
+-- a list without its first entry
+pub without_first : (slot word : ℕ) (es all : List (ℕ × ℕ)) → all ≡ (slot, word) ∷ es → without slot all ≡ es
+without_first slot word es all is = ap (without slot) is ∙ ap (λ b. if b then es else (slot, word) ∷ without slot es) (same slot)

@@ -2,6 +2,9 @@ pub mod Holding
 pub mod Claiming
 pub mod Sums
 pub mod Evens
+pub mod Exchanging
+pub mod Passing
+pub mod Returning
 pub mod Placing
 pub mod PlacingAll
 pub mod Recruiting

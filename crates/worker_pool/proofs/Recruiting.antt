@@ -4,20 +4,24 @@ use Rattle.std.specs.Vec.{vec_capacity}
 use Rattle.std.proofs.lemmas.List.{map_push, reverse-append, append_assoc}
 use Rattle.owners_table.proofs.Joining.{all_front, all_last}
 use Rattle.object_cache.specs.HandView as hand
+use Rattle.object_cache.specs.ShelfView.{new_hand}
 use Rattle.owners_table.specs.Owning.{OwnersView}
 use Rattle.owners_table.specs.Drawing.{TicketsView, TicketView}
 use Rattle.owners_table.specs.Drawing as drawing
 use Rattle.worker_pool.specs.declared.worker.Worker.{Worker}
-use Rattle.worker_pool.specs.declared.worker.Hands.{Hands}
+use Rattle.worker_pool.specs.declared.hands.Hands.{Hands}
 use Rattle.worker_pool.specs.declared.crew.Parts.{Parts}
 use Rattle.worker_pool.specs.Outcomes.{IsIdle}
 use Rattle.worker_pool.specs.Working.{IsFresh}
 
 -- memory for the parts of so many workers
-pub record HasRoom {A0 B0 A1 B1 A2 B2 : Type 0} (count : ℕ) (p : Parts A0 B0 A1 B1 A2 B2) : Type 0 where
+pub record HasRoom {L : Type 0} (count : ℕ) (p : Parts L) : Type 0 where
   pub cells : count ≤ vec_capacity p.hands.cells
   pub records : count ≤ vec_capacity p.hands.records
   pub blocks : count ≤ vec_capacity p.hands.blocks
+  pub shelf_cells : count ≤ vec_capacity p.shelf_hands.cells
+  pub shelf_records : count ≤ vec_capacity p.shelf_hands.records
+  pub shelf_blocks : count ≤ vec_capacity p.shelf_hands.blocks
   pub seats : count ≤ vec_capacity p.seats
   pub drawers : count ≤ vec_capacity p.drawers
   pub answered : count ≤ vec_capacity p.answered
@@ -39,13 +43,13 @@ module _ {X : Type 0} (P : X → Type 0) (count done : ℕ) (xs ys : List X) (x 
   last_is = all_last P ys x (subst (All P) is all)
 
 -- a worker of parts with which nothing was done
-pub fresh_worker : {A0 B0 A1 B1 A2 B2 : Type 0} (o : OwnersView) (t : TicketsView) (w : Worker A0 B0 A1 B1 A2 B2) (h : Hands A0 B0 A1 B1 A2 B2) → w.hands ≡ Some h
-    → h.cells ≡ hand.fresh → h.records ≡ hand.fresh → h.blocks ≡ hand.fresh → h.clashes ≡ 0 → IsIdle o h.seat
+pub fresh_worker : {L : Type 0} (o : OwnersView) (t : TicketsView) (w : Worker L) (h : Hands L) → w.hands ≡ Some h
+    → h.cells ≡ hand.fresh → h.records ≡ hand.fresh → h.blocks ≡ hand.fresh → h.shelf_cells ≡ new_hand → h.shelf_records ≡ new_hand → h.shelf_blocks ≡ new_hand → IsIdle o h.seat
     → w.ticket ≡ drawing.fresh t.table t.limit → w.answered.items ≡ [] → IsFresh o t w
-fresh_worker o t w h is cells records blocks clashes idle ticket answered = record {
+fresh_worker o t w h is cells records blocks shelf_cells shelf_records shelf_blocks idle ticket answered = record {
   hands = h;
   hands_are = is;
-  unused = record { cells = cells; records = records; blocks = blocks; clashes = clashes; table = idle.table; held = idle.held };
+  unused = record { cells = cells; records = records; blocks = blocks; shelf_cells = shelf_cells; shelf_records = shelf_records; shelf_blocks = shelf_blocks; table = idle.table; held = idle.held };
   ticket = (ap (λ (s : TicketView). s.table) ticket, ap (λ (s : TicketView). s.limit) ticket);
   drawn = ap (λ (s : TicketView). s.drawn) ticket;
   passed = ap (λ (s : TicketView). s.passed) ticket;

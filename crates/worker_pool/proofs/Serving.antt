@@ -3,53 +3,64 @@ use Rattle.std.proofs.Common.{◌≡◌, ◌<◌, ◌+◌, ℕ, true, All, List,
 use Rattle.std.specs.Prelude.{sum_by}
 use Rattle.ebpf_verify.specs.Subject.{Subject}
 use Rattle.object_cache.specs.HandView.{HandView}
+use Rattle.object_cache.specs.ShelfView.{ShelfHandView}
 use Rattle.owners_table.specs.Owning.{OwnersView, SeatView}
 use Rattle.owners_table.specs.Drawing.{TicketsView, IsOf, times}
 use Rattle.worker_pool.specs.declared.jobs.Job.{Job}
 use Rattle.worker_pool.specs.declared.jobs.Numbered.{Numbered}
 use Rattle.worker_pool.specs.declared.worker.Worker.{Worker}
-use Rattle.worker_pool.specs.declared.worker.Hands.{Hands}
+use Rattle.worker_pool.specs.declared.hands.Hands.{Hands}
 use Rattle.worker_pool.specs.declared.crew.Parts.{Parts}
 use Rattle.worker_pool.specs.declared.crew.Done.{Done}
 use Rattle.worker_pool.specs.Claims.{lost}
-use Rattle.worker_pool.specs.Crews.{ArePartsOf, IsBack, hands_or, hands_of, seat_in, clashes_in}
+use Rattle.worker_pool.specs.Crews.{ArePartsOf, IsBack, hands_or, hands_of, seat_in, clashes_in, strays_in}
 use Rattle.worker_pool.specs.Outcomes.{IsIdle}
 use Rattle.worker_pool.specs.Places.{times_in}
-use Rattle.worker_pool.specs.Serving.{AreServed, all_allocs, all_nulls, reports_of}
-use Rattle.worker_pool.specs.Working.{IsEven, IsFresh, IsDone, Answers, granted_by, refused_by}
+use Rattle.worker_pool.specs.Serving.{AreServed, all_allocs, all_nulls, all_gets, reports_of}
+use Rattle.worker_pool.specs.Working.{IsEven, IsFresh, IsDone, Answers, granted_by, refused_by, fetched_by}
 use Rattle.worker_pool.proofs.Turned.{sum_turned, sum_mapped, all_mapped, as_many}
-use Rattle.worker_pool.proofs.Shares.{sum_same, three_sums, sum_two, sum_two_less, sum_grown, all_by_index, any_of_all, part_sum, part_all, part_len, drawn_reported}
+use Rattle.worker_pool.proofs.Shares.{sum_same, three_sums, sum_two, sum_two_less, sum_even, sum_grown, all_by_index, any_of_all, part_sum, part_all, part_len, drawn_reported}
 
-module _ {A0 B0 A1 B1 A2 B2 : Type 0} (programs : List Subject) (jobs : List Job) (o : OwnersView) (t : TicketsView) where
-  abbrev allocs_in : Worker A0 B0 A1 B1 A2 B2 → ℕ
+module _ {L : Type 0} (programs : List Subject) (jobs : List Job) (o : OwnersView) (t : TicketsView) where
+  abbrev allocs_in : Worker L → ℕ
   allocs_in w = (hands_of w).cells.allocs + (hands_of w).records.allocs + (hands_of w).blocks.allocs
 
-  abbrev nulls_in : Worker A0 B0 A1 B1 A2 B2 → ℕ
+  abbrev nulls_in : Worker L → ℕ
   nulls_in w = (hands_of w).cells.nulls + (hands_of w).records.nulls + (hands_of w).blocks.nulls
 
-  abbrev granted_in : Worker A0 B0 A1 B1 A2 B2 → ℕ
+  abbrev gets_in : Worker L → ℕ
+  gets_in w = (hands_of w).shelf_cells.gets + (hands_of w).shelf_records.gets + (hands_of w).shelf_blocks.gets
+
+  abbrev granted_in : Worker L → ℕ
   granted_in w = granted_by w.answered.items
 
-  abbrev refused_in : Worker A0 B0 A1 B1 A2 B2 → ℕ
+  abbrev refused_in : Worker L → ℕ
   refused_in w = refused_by w.answered.items
 
-  abbrev noted_in : Worker A0 B0 A1 B1 A2 B2 → ℕ
+  abbrev fetched_in : Worker L → ℕ
+  fetched_in w = fetched_by w.answered.items
+
+  abbrev noted_in : Worker L → ℕ
   noted_in w = length (seat_in w).notes
 
-  abbrev lost_in : Worker A0 B0 A1 B1 A2 B2 → ℕ
+  abbrev fetches_in : Worker L → ℕ
+  fetches_in w = length (seat_in w).fetches
+
+  abbrev lost_in : Worker L → ℕ
   lost_in w = lost (seat_in w).notes
 
   -- what a worker did, over its parts alone
-  record IsShare (w : Worker A0 B0 A1 B1 A2 B2) : Type 0 where
-    pub even : IsEven (hands_of w).cells (hands_of w).records (hands_of w).blocks
+  record IsShare (w : Worker L) : Type 0 where
+    pub even : IsEven (hands_of w).cells (hands_of w).records (hands_of w).blocks (hands_of w).shelf_cells (hands_of w).shelf_records (hands_of w).shelf_blocks
     pub idle : IsIdle o (seat_in w)
     pub ticket : IsOf t w.ticket
     pub good : All (Answers programs jobs) w.answered.items
     pub drawn : w.is_through ≡ true → (w.ticket.passed ≡ true) × ((x : ℕ) → x < length jobs → times x w.ticket.drawn ≡ times_in x w.answered.items)
     pub granted : allocs_in w ≡ granted_in w + clashes_in w
     pub refused : nulls_in w + clashes_in w ≡ refused_in w
+    pub fetched : gets_in w ≡ fetched_in w + strays_in w
 
-  module _ (before after : Worker A0 B0 A1 B1 A2 B2) (f : IsFresh o t before) (d : IsDone programs jobs t before after) where
+  module _ (before after : Worker L) (f : IsFresh o t before) (d : IsDone programs jobs t before after) where
     now_has : hands_of after ≡ d.new
     now_has = ap hands_or d.new_are
 
@@ -57,26 +68,30 @@ module _ {A0 B0 A1 B1 A2 B2 : Type 0} (programs : List Subject) (jobs : List Job
     had = ap hands_or d.old_are
 
     was_idle : d.old.seat.table ≡ o.table
-    was_idle = ap (λ (h : Hands A0 B0 A1 B1 A2 B2). h.seat.table) (ap hands_or (sym d.old_are ∙ f.hands_are)) ∙ f.unused.table
+    was_idle = ap (λ (h : Hands L). h.seat.table) (ap hands_or (sym d.old_are ∙ f.hands_are)) ∙ f.unused.table
 
     is_share : IsShare after
     is_share = record {
-      even = subst (λ (h : Hands A0 B0 A1 B1 A2 B2). IsEven h.cells h.records h.blocks) (sym now_has) d.served.even;
+      even = subst (λ (h : Hands L). IsEven h.cells h.records h.blocks h.shelf_cells h.shelf_records h.shelf_blocks) (sym now_has) d.served.even;
       idle = record {
-        table = ap (λ (h : Hands A0 B0 A1 B1 A2 B2). h.seat.table) now_has ∙ (d.served.table ∙ was_idle);
-        held = ap (λ (h : Hands A0 B0 A1 B1 A2 B2). h.seat.held) now_has ∙ d.served.held;
+        table = ap (λ (h : Hands L). h.seat.table) now_has ∙ (d.served.table ∙ was_idle);
+        held = ap (λ (h : Hands L). h.seat.held) now_has ∙ d.served.held;
       };
       ticket = d.served.tickets;
       good = d.served.good;
       drawn = λ e. let told = d.served.drawn e in (told.0, λ x below. drawn_reported x told.1 after.ticket.drawn after.answered.items told.3 (omega (arith, below, told.2)));
       granted =
-          let a = ap (λ (h : Hands A0 B0 A1 B1 A2 B2). h.cells.allocs + h.records.allocs + h.blocks.allocs) now_has in
-          let k = ap (λ (h : Hands A0 B0 A1 B1 A2 B2). h.clashes) now_has in
+          let a = ap (λ (h : Hands L). h.cells.allocs + h.records.allocs + h.blocks.allocs) now_has in
+          let k = ap (λ (h : Hands L). h.clashes) now_has in
           omega (arith, a, k, d.served.granted);
       refused =
-          let n = ap (λ (h : Hands A0 B0 A1 B1 A2 B2). h.cells.nulls + h.records.nulls + h.blocks.nulls) now_has in
-          let k = ap (λ (h : Hands A0 B0 A1 B1 A2 B2). h.clashes) now_has in
+          let n = ap (λ (h : Hands L). h.cells.nulls + h.records.nulls + h.blocks.nulls) now_has in
+          let k = ap (λ (h : Hands L). h.clashes) now_has in
           omega (arith, n, k, d.served.refused);
+      fetched =
+          let g = ap (λ (h : Hands L). h.shelf_cells.gets + h.shelf_records.gets + h.shelf_blocks.gets) now_has in
+          let k = ap (λ (h : Hands L). h.strays) now_has in
+          omega (arith, g, k, d.served.fetched);
     }
 
     pub is_back : IsBack after
@@ -84,20 +99,27 @@ module _ {A0 B0 A1 B1 A2 B2 : Type 0} (programs : List Subject) (jobs : List Job
 
     noted_grew : noted_in after ≡ noted_in before + allocs_in after
     noted_grew =
-        let new = ap (λ (h : Hands A0 B0 A1 B1 A2 B2). length h.seat.notes) now_has in
-        let old = ap (λ (h : Hands A0 B0 A1 B1 A2 B2). length h.seat.notes) had in
-        let a = ap (λ (h : Hands A0 B0 A1 B1 A2 B2). h.cells.allocs + h.records.allocs + h.blocks.allocs) now_has in
+        let new = ap (λ (h : Hands L). length h.seat.notes) now_has in
+        let old = ap (λ (h : Hands L). length h.seat.notes) had in
+        let a = ap (λ (h : Hands L). h.cells.allocs + h.records.allocs + h.blocks.allocs) now_has in
         omega (arith, new, old, a, d.served.notes)
+
+    fetches_grew : fetches_in after ≡ fetches_in before + gets_in after
+    fetches_grew =
+        let new = ap (λ (h : Hands L). length h.seat.fetches) now_has in
+        let old = ap (λ (h : Hands L). length h.seat.fetches) had in
+        let g = ap (λ (h : Hands L). h.shelf_cells.gets + h.shelf_records.gets + h.shelf_blocks.gets) now_has in
+        omega (arith, new, old, g, d.served.fetches)
 
     lost_grew : lost_in after ≡ lost_in before + clashes_in after
     lost_grew =
-        let new = ap (λ (h : Hands A0 B0 A1 B1 A2 B2). lost h.seat.notes) now_has in
-        let old = ap (λ (h : Hands A0 B0 A1 B1 A2 B2). lost h.seat.notes) had in
-        let k = ap (λ (h : Hands A0 B0 A1 B1 A2 B2). h.clashes) now_has in
+        let new = ap (λ (h : Hands L). lost h.seat.notes) now_has in
+        let old = ap (λ (h : Hands L). lost h.seat.notes) had in
+        let k = ap (λ (h : Hands L). h.clashes) now_has in
         omega (arith, new, old, k, d.served.lost)
 
-  module _ (olds news : List (Worker A0 B0 A1 B1 A2 B2)) (len : length news ≡ length olds) (fresh : All (IsFresh o t) olds)
-      (done_each : (i : ℕ) (d : Worker A0 B0 A1 B1 A2 B2) → i < length olds → IsDone programs jobs t (slice_index_or olds i d) (slice_index_or news i d)) where
+  module _ (olds news : List (Worker L)) (len : length news ≡ length olds) (fresh : All (IsFresh o t) olds)
+      (done_each : (i : ℕ) (d : Worker L) → i < length olds → IsDone programs jobs t (slice_index_or olds i d) (slice_index_or news i d)) where
     pub all_back : All IsBack news
     all_back = all_by_index IsBack olds news len (λ i d l. is_back (slice_index_or olds i d) (slice_index_or news i d) (fresh i d l) (done_each i d l))
 
@@ -107,28 +129,43 @@ module _ {A0 B0 A1 B1 A2 B2 : Type 0} (programs : List Subject) (jobs : List Job
     all_noted : sum_by noted_in news ≡ sum_by noted_in olds + sum_by allocs_in news
     all_noted = sum_grown noted_in allocs_in olds news len (λ i d l. noted_grew (slice_index_or olds i d) (slice_index_or news i d) (fresh i d l) (done_each i d l))
 
+    all_fetches : sum_by fetches_in news ≡ sum_by fetches_in olds + sum_by gets_in news
+    all_fetches = sum_grown fetches_in gets_in olds news len (λ i d l. fetches_grew (slice_index_or olds i d) (slice_index_or news i d) (fresh i d l) (done_each i d l))
+
     all_lost : sum_by lost_in news ≡ sum_by lost_in olds + sum_by clashes_in news
     all_lost = sum_grown lost_in clashes_in olds news len (λ i d l. lost_grew (slice_index_or olds i d) (slice_index_or news i d) (fresh i d l) (done_each i d l))
 
-    module _ (seats : List SeatView) (p : Parts A0 B0 A1 B1 A2 B2) (done : Done) (some : 0 < length olds) (seats_are : map seat_in olds ≡ reverse seats)
-        (parts : ArePartsOf (reverse news) p) (clashes : done.clashes ≡ sum_by clashes_in news) (told : done.is_through ≡ true → All (λ w. w.is_through ≡ true) news) where
+    module _ (seats : List SeatView) (p : Parts L) (done : Done) (some : 0 < length olds) (seats_are : map seat_in olds ≡ reverse seats)
+        (parts : ArePartsOf (reverse news) p) (clashes : done.clashes ≡ sum_by clashes_in news) (strays : done.strays ≡ sum_by strays_in news) (told : done.is_through ≡ true → All (λ w. w.is_through ≡ true) news) where
       count : length news ≡ length seats
       count = len ∙ as_many seat_in olds seats seats_are
 
       cells : (h : HandView → ℕ) → sum_by h p.hands.cells.items ≡ sum_by (λ w. h (hands_of w).cells) news
       cells h = part_sum (λ w. (hands_of w).cells) news p.hands.cells.items parts.cells h
 
+      shelf_cells : (h : ShelfHandView → ℕ) → sum_by h p.shelf_hands.cells.items ≡ sum_by (λ w. h (hands_of w).shelf_cells) news
+      shelf_cells h = part_sum (λ w. (hands_of w).shelf_cells) news p.shelf_hands.cells.items parts.shelf_cells h
+
       records : (h : HandView → ℕ) → sum_by h p.hands.records.items ≡ sum_by (λ w. h (hands_of w).records) news
       records h = part_sum (λ w. (hands_of w).records) news p.hands.records.items parts.records h
 
+      shelf_records : (h : ShelfHandView → ℕ) → sum_by h p.shelf_hands.records.items ≡ sum_by (λ w. h (hands_of w).shelf_records) news
+      shelf_records h = part_sum (λ w. (hands_of w).shelf_records) news p.shelf_hands.records.items parts.shelf_records h
+
       blocks : (h : HandView → ℕ) → sum_by h p.hands.blocks.items ≡ sum_by (λ w. h (hands_of w).blocks) news
       blocks h = part_sum (λ w. (hands_of w).blocks) news p.hands.blocks.items parts.blocks h
+
+      shelf_blocks : (h : ShelfHandView → ℕ) → sum_by h p.shelf_hands.blocks.items ≡ sum_by (λ w. h (hands_of w).shelf_blocks) news
+      shelf_blocks h = part_sum (λ w. (hands_of w).shelf_blocks) news p.shelf_hands.blocks.items parts.shelf_blocks h
 
       allocs_three : sum_by allocs_in news ≡ all_allocs p
       allocs_three = omega (arith, three_sums (λ w. (hands_of w).cells.allocs) (λ w. (hands_of w).records.allocs) (λ w. (hands_of w).blocks.allocs) news, cells (λ h. h.allocs), records (λ h. h.allocs), blocks (λ h. h.allocs))
 
       nulls_three : sum_by nulls_in news ≡ all_nulls p
       nulls_three = omega (arith, three_sums (λ w. (hands_of w).cells.nulls) (λ w. (hands_of w).records.nulls) (λ w. (hands_of w).blocks.nulls) news, cells (λ h. h.nulls), records (λ h. h.nulls), blocks (λ h. h.nulls))
+
+      gets_three : sum_by gets_in news ≡ all_gets p
+      gets_three = omega (arith, three_sums (λ w. (hands_of w).shelf_cells.gets) (λ w. (hands_of w).shelf_records.gets) (λ w. (hands_of w).shelf_blocks.gets) news, shelf_cells (λ h. h.gets), shelf_records (λ h. h.gets), shelf_blocks (λ h. h.gets))
 
       reported : (h : List Numbered → ℕ) → sum_by h (reports_of p) ≡ sum_by (λ w. h w.answered.items) news
       reported h = sum_mapped h (λ l. l.items) p.answered.items ∙ part_sum (λ w. w.answered) news p.answered.items parts.answered (λ l. h l.items)
@@ -143,26 +180,39 @@ module _ {A0 B0 A1 B1 A2 B2 : Type 0} (programs : List Subject) (jobs : List Job
       all_served = record {
         cells = record {
           all = part_len (λ w. (hands_of w).cells) news p.hands.cells.items parts.cells ∙ count;
-          even = cells (λ h. h.frees) ∙ sum_same (λ w. (hands_of w).cells.frees) (λ w. (hands_of w).cells.allocs) news (λ i d l. (shares i d l).even.cells_even) ∙ sym (cells (λ h. h.allocs));
+          all_shelf = part_len (λ w. (hands_of w).shelf_cells) news p.shelf_hands.cells.items parts.shelf_cells ∙ count;
+          even =
+              let each = sum_even (λ w. (hands_of w).cells.frees) (λ w. (hands_of w).shelf_cells.puts) (λ w. (hands_of w).cells.allocs) (λ w. (hands_of w).shelf_cells.gets) news (λ i d l. (shares i d l).even.cells_even) in
+              omega (arith, each, cells (λ h. h.frees), shelf_cells (λ h. h.puts), cells (λ h. h.allocs), shelf_cells (λ h. h.gets));
         };
         records = record {
           all = part_len (λ w. (hands_of w).records) news p.hands.records.items parts.records ∙ count;
-          even = records (λ h. h.frees) ∙ sum_same (λ w. (hands_of w).records.frees) (λ w. (hands_of w).records.allocs) news (λ i d l. (shares i d l).even.records_even) ∙ sym (records (λ h. h.allocs));
+          all_shelf = part_len (λ w. (hands_of w).shelf_records) news p.shelf_hands.records.items parts.shelf_records ∙ count;
+          even =
+              let each = sum_even (λ w. (hands_of w).records.frees) (λ w. (hands_of w).shelf_records.puts) (λ w. (hands_of w).records.allocs) (λ w. (hands_of w).shelf_records.gets) news (λ i d l. (shares i d l).even.records_even) in
+              omega (arith, each, records (λ h. h.frees), shelf_records (λ h. h.puts), records (λ h. h.allocs), shelf_records (λ h. h.gets));
         };
         blocks = record {
           all = part_len (λ w. (hands_of w).blocks) news p.hands.blocks.items parts.blocks ∙ count;
-          even = blocks (λ h. h.frees) ∙ sum_same (λ w. (hands_of w).blocks.frees) (λ w. (hands_of w).blocks.allocs) news (λ i d l. (shares i d l).even.blocks_even) ∙ sym (blocks (λ h. h.allocs));
+          all_shelf = part_len (λ w. (hands_of w).shelf_blocks) news p.shelf_hands.blocks.items parts.shelf_blocks ∙ count;
+          even =
+              let each = sum_even (λ w. (hands_of w).blocks.frees) (λ w. (hands_of w).shelf_blocks.puts) (λ w. (hands_of w).blocks.allocs) (λ w. (hands_of w).shelf_blocks.gets) news (λ i d l. (shares i d l).even.blocks_even) in
+              omega (arith, each, blocks (λ h. h.frees), shelf_blocks (λ h. h.puts), blocks (λ h. h.allocs), shelf_blocks (λ h. h.gets));
         };
         seats_all = part_len seat_in news p.seats.items parts.seats ∙ count;
         idle = part_all seat_in news p.seats.items parts.seats (IsIdle o) (λ i d l. (shares i d l).idle);
         noted = omega (arith, after_noted (λ s. length s.notes), all_noted, before_noted (λ s. length s.notes), allocs_three);
         lost = omega (arith, after_noted (λ s. lost s.notes), all_lost, before_noted (λ s. lost s.notes), clashes);
+        fetches = omega (arith, after_noted (λ s. length s.fetches), all_fetches, before_noted (λ s. length s.fetches), gets_three);
         granted =
             let each = sum_two allocs_in granted_in clashes_in news (λ i d l. (shares i d l).granted) in
             omega (arith, each, allocs_three, reported granted_by, clashes);
         refused =
             let each = sum_two_less nulls_in clashes_in refused_in news (λ i d l. (shares i d l).refused) in
             omega (arith, each, nulls_three, reported refused_by, clashes);
+        fetched =
+            let each = sum_two gets_in fetched_in strays_in news (λ i d l. (shares i d l).fetched) in
+            omega (arith, each, gets_three, reported fetched_by, strays);
         good = all_mapped (All (Answers programs jobs)) (λ l. l.items) p.answered.items
             (part_all (λ w. w.answered) news p.answered.items parts.answered (λ l. All (Answers programs jobs) l.items) (λ i d l. (shares i d l).good));
         drawers_all = part_len (λ w. w.ticket) news p.drawers.items parts.drawers ∙ count;

@@ -33,6 +33,12 @@ module _ {X : Type 0} where
       let rest = sum_two_less a k g xs (rest_of (λ y. a y + k y ≡ g y) x xs h) in
       omega (arith, sum_by-cons a x xs, sum_by-cons g x xs, sum_by-cons k x xs, h 0 x (omega arith), rest)
 
+  pub sum_even : (a b c d : X → ℕ) (xs : List X) → All (λ x. a x + b x ≡ c x + d x) xs → sum_by a xs + sum_by b xs ≡ sum_by c xs + sum_by d xs
+  sum_even a b c d [] h = refl
+  sum_even a b c d (x ∷ xs) h =
+      let rest = sum_even a b c d xs (rest_of (λ y. a y + b y ≡ c y + d y) x xs h) in
+      omega (arith, sum_by-cons a x xs, sum_by-cons b x xs, sum_by-cons c x xs, sum_by-cons d x xs, h 0 x (omega arith), rest)
+
   pub three_sums : (a b c : X → ℕ) (xs : List X) → sum_by (λ x. a x + b x + c x) xs ≡ sum_by a xs + sum_by b xs + sum_by c xs
   three_sums a b c [] = refl
   three_sums a b c (x ∷ xs) =

@@ -8,3 +8,4 @@ pub mod Books
 pub mod Crews
 pub mod Places
 pub mod Serving
+pub mod Clearing

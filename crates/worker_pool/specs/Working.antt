@@ -2,20 +2,21 @@
 use Rattle.std.specs.Prelude.{◌≡◌, ◌<◌, ◌≤◌, ◌+◌, ◌^◌, ℕ, Bool, true, false, List, [], ◌∷◌, ◌++◌, length, map, All, sum_by, slice_get, Some}
 use Rattle.ebpf_verify.specs.Subject.{Subject}
 use Rattle.object_cache.specs.HandView.{HandView, fresh}
+use Rattle.object_cache.specs.ShelfView.{ShelfHandView, new_hand}
 use Rattle.owners_table.specs.Owning.{OwnersView}
 use Rattle.owners_table.specs.Drawing.{TicketsView, TicketView, IsOf}
 use Rattle.worker_pool.specs.declared.jobs.Job.{Job}
 use Rattle.worker_pool.specs.declared.jobs.Numbered.{Numbered}
 use Rattle.worker_pool.specs.declared.worker.Worker.{Worker}
-use Rattle.worker_pool.specs.declared.worker.Hands.{Hands}
-use Rattle.ebpf_machine.specs.Whole.{IsReportOf, granted, refused}
+use Rattle.worker_pool.specs.declared.hands.Hands.{Hands}
+use Rattle.ebpf_machine.specs.Whole.{IsReportOf, granted, refused, fetched}
 use Rattle.worker_pool.specs.Claims.{lost}
 
--- each hand gave back what it took
-pub record IsEven (cells records blocks : HandView) : Type 0 where
-  pub cells_even : cells.frees ≡ cells.allocs
-  pub records_even : records.frees ≡ records.allocs
-  pub blocks_even : blocks.frees ≡ blocks.allocs
+-- of each kind, what the hands took from the cache and got from the shelf went back there or onto the shelf
+pub record IsEven (cells records blocks : HandView) (cell_shelf record_shelf block_shelf : ShelfHandView) : Type 0 where
+  pub cells_even : cells.frees + cell_shelf.puts ≡ cells.allocs + cell_shelf.gets
+  pub records_even : records.frees + record_shelf.puts ≡ records.allocs + record_shelf.gets
+  pub blocks_even : blocks.frees + block_shelf.puts ≡ blocks.allocs + block_shelf.gets
 
 -- the job's program is there, and the context has its length
 pub record CanRun (programs : List Subject) (job : Job) : Type 0 where
@@ -30,29 +31,34 @@ pub record Answers (programs : List Subject) (jobs : List Job) (n : Numbered) : 
   pub subject_is : slice_get programs job.program ≡ Some subject
   pub report : IsReportOf subject job.context n.report
 
--- how many answers of their calls of new were objects, and how many null
+-- how many answers of their calls of new were objects, and how many null; how many answers of their calls of swap were objects
 abbrev pub granted_by : List Numbered → ℕ
 granted_by ns = sum_by (λ n. granted n.report.answers) ns
 
 abbrev pub refused_by : List Numbered → ℕ
 refused_by ns = sum_by (λ n. refused n.report.answers) ns
 
+abbrev pub fetched_by : List Numbered → ℕ
+fetched_by ns = sum_by (λ n. fetched n.report.answers) ns
+
 abbrev pub number_of : Numbered → ℕ
 number_of n = n.job
 
-module _ {A0 B0 A1 B1 A2 B2 : Type 0} where
+module _ {L : Type 0} where
   -- nothing was taken, and the seat holds nothing
-  pub record IsUnused (o : OwnersView) (h : Hands A0 B0 A1 B1 A2 B2) : Type 0 where
+  pub record IsUnused (o : OwnersView) (h : Hands L) : Type 0 where
     pub cells : h.cells ≡ fresh
     pub records : h.records ≡ fresh
     pub blocks : h.blocks ≡ fresh
-    pub clashes : h.clashes ≡ 0
+    pub shelf_cells : h.shelf_cells ≡ new_hand
+    pub shelf_records : h.shelf_records ≡ new_hand
+    pub shelf_blocks : h.shelf_blocks ≡ new_hand
     pub table : h.seat.table ≡ o.table
     pub held : h.seat.held ≡ []
 
   -- a worker that has done nothing
-  pub record IsFresh (o : OwnersView) (t : TicketsView) (w : Worker A0 B0 A1 B1 A2 B2) : Type 0 where
-    pub hands : Hands A0 B0 A1 B1 A2 B2
+  pub record IsFresh (o : OwnersView) (t : TicketsView) (w : Worker L) : Type 0 where
+    pub hands : Hands L
     pub hands_are : w.hands ≡ Some hands
     pub unused : IsUnused o hands
     pub ticket : IsOf t w.ticket
@@ -61,23 +67,25 @@ module _ {A0 B0 A1 B1 A2 B2 : Type 0} where
     pub answered : w.answered.items ≡ []
 
   -- what a worker did with its hands, its seat and its ticket
-  pub record IsServed (programs : List Subject) (jobs : List Job) (t : TicketsView) (before after : Hands A0 B0 A1 B1 A2 B2) (ticket : TicketView) (answered : List Numbered) (is_through : Bool) : Type 0 where
-    pub even : IsEven after.cells after.records after.blocks
+  pub record IsServed (programs : List Subject) (jobs : List Job) (t : TicketsView) (before after : Hands L) (ticket : TicketView) (answered : List Numbered) (is_through : Bool) : Type 0 where
+    pub even : IsEven after.cells after.records after.blocks after.shelf_cells after.shelf_records after.shelf_blocks
     pub table : after.seat.table ≡ before.seat.table
     pub held : after.seat.held ≡ []
     pub notes : length after.seat.notes ≡ length before.seat.notes + (after.cells.allocs + after.records.allocs + after.blocks.allocs)
-    pub few : after.clashes ≤ 2 ^ 56
+    pub fetches : length after.seat.fetches ≡ length before.seat.fetches + (after.shelf_cells.gets + after.shelf_records.gets + after.shelf_blocks.gets)
+    pub few : (after.clashes ≤ 2 ^ 56) × (after.strays ≤ 2 ^ 56)
     pub lost : lost after.seat.notes ≡ lost before.seat.notes + after.clashes
     pub tickets : IsOf t ticket
     pub good : All (Answers programs jobs) answered
     pub drawn : is_through ≡ true → (ticket.passed ≡ true) × (n : ℕ) × (length jobs ≤ n) × (ticket.drawn ≡ map number_of answered ++ n ∷ [])
     pub granted : after.cells.allocs + after.records.allocs + after.blocks.allocs ≡ granted_by answered + after.clashes
     pub refused : after.cells.nulls + after.records.nulls + after.blocks.nulls + after.clashes ≡ refused_by answered
+    pub fetched : after.shelf_cells.gets + after.shelf_records.gets + after.shelf_blocks.gets ≡ fetched_by answered + after.strays
 
   -- the worker after its work
-  pub record IsDone (programs : List Subject) (jobs : List Job) (t : TicketsView) (before after : Worker A0 B0 A1 B1 A2 B2) : Type 0 where
-    pub old : Hands A0 B0 A1 B1 A2 B2
-    pub new : Hands A0 B0 A1 B1 A2 B2
+  pub record IsDone (programs : List Subject) (jobs : List Job) (t : TicketsView) (before after : Worker L) : Type 0 where
+    pub old : Hands L
+    pub new : Hands L
     pub old_are : before.hands ≡ Some old
     pub new_are : after.hands ≡ Some new
     pub served : IsServed programs jobs t old new after.ticket after.answered.items after.is_through

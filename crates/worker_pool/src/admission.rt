@@ -1,7 +1,7 @@
 //! What is asked of jobs before any worker is started.
 
 ghost use Rattle.std.specs.Prelude.{◌≡◌, ◌↔◌, ◌≤◌, ◌<◌, Ok, Err, All, length, slice_get, position, IfSome, IfNone, IfErr, IfOk, OnOk};
-ghost use Rattle.worker_pool.specs.Admission.{has_program, has_context, has_swap, without_program, without_context, with_swap, pool_fault};
+ghost use Rattle.worker_pool.specs.Admission.{has_program, has_context, without_program, without_context, pool_fault};
 
 use crate::fault::PoolFault;
 use crate::jobs::Job;
@@ -29,9 +29,6 @@ pub(crate) fn pool_fault(host: &Host, workers: usize, jobs: &[Job]) -> Option<Po
     if let Some(job) = without_context(&host.programs, jobs) {
         return Some(PoolFault::Context { job });
     }
-    if let Some(job) = with_swap(&host.programs, jobs) {
-        return Some(PoolFault::Shelf { job });
-    }
     None
 }
 
@@ -49,13 +46,6 @@ fn without_context(programs: &[Verified], jobs: &[Job]) -> Option<usize>
     jobs.iter().position(|job| !has_context(programs, job))
 }
 
-// The first job whose program calls `swap`.
-fn with_swap(programs: &[Verified], jobs: &[Job]) -> Option<usize>
-    ensures { result ≡ with_swap programs.now jobs.now }
-{
-    jobs.iter().position(|job| has_swap(programs, job))
-}
-
 // Whether the job's program is there.
 fn has_program(programs: &[Verified], job: &Job) -> bool
     ensures { result ≡ has_program programs.now job.now }
@@ -69,16 +59,6 @@ fn has_context(programs: &[Verified], job: &Job) -> bool
 {
     match programs.get(job.program) {
         Some(verified) => job.context.bytes.len() == verified.decl().context as usize,
-        None => false,
-    }
-}
-
-// Whether the job's program calls `swap`.
-fn has_swap(programs: &[Verified], job: &Job) -> bool
-    ensures { result ≡ has_swap programs.now job.now }
-{
-    match programs.get(job.program) {
-        Some(verified) => verified.swaps() > 0,
         None => false,
     }
 }

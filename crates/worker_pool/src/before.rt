@@ -18,6 +18,9 @@ pub trait Before {
 
     /// How many of these had found an owner.
     ghost lost: { ℕ };
+
+    /// How many fetches it had noted.
+    ghost fetched: { ℕ };
 }
 
 impl Before for Brand {
@@ -26,4 +29,6 @@ impl Before for Brand {
     ghost noted = { 0 };
 
     ghost lost = { 0 };
+
+    ghost fetched = { 0 };
 }

@@ -1,125 +1,164 @@
-//! The caches of the three kinds, and the hands that they made.
+//! The caches and shelves of the three kinds, and the hands that they made.
 
 ghost use Rattle.std.specs.Prelude.{◌≡◌, ◌≤◌, vec_len, IfOk};
 ghost use Rattle.worker_pool.specs.Books.{IsFor};
-ghost use Rattle.worker_pool.specs.Crews.{AreHands, AreMade, AreTotalsOf};
+ghost use Rattle.worker_pool.specs.Crews.{AreOpened, AreTotalsOf};
 
-use crate::handed::HandedCache;
-use object_cache::{ArenaLock, Cache, Hand, Totals};
+use crate::handed::{Handed, KindBlanks};
+use crate::ledgers::{Gets, Ins, Names, Outs, Puts};
+use object_cache::{ArenaLock, Cache, Hand, Shelf, ShelfHand, Totals};
 use slab_layer::{BlockKind, CellKind, RecordKind};
 use std::alloc::{AllocError, Global};
 use std::sync::Wait;
-use std::sync::ledger::{Blank, Ledger};
 
 /// The caches, by their kinds.
-pub(crate) struct Caches<A0: Ledger, B0: Ledger, A1: Ledger, B1: Ledger, A2: Ledger, B2: Ledger> {
-    pub(crate) cells: Cache<CellKind, A0, B0>,
-    pub(crate) records: Cache<RecordKind, A1, B1>,
-    pub(crate) blocks: Cache<BlockKind, A2, B2>,
+pub(crate) struct Caches<L: Names> {
+    pub(crate) cells: Cache<CellKind, Outs<CellKind, L>, Ins<CellKind, L>>,
+    pub(crate) records: Cache<RecordKind, Outs<RecordKind, L>, Ins<RecordKind, L>>,
+    pub(crate) blocks: Cache<BlockKind, Outs<BlockKind, L>, Ins<BlockKind, L>>,
+}
+
+/// The shelves, by their kinds.
+pub(crate) struct Shelves<L: Names> {
+    pub(crate) cells: Shelf<CellKind, Puts<CellKind, L>, Gets<CellKind, L>>,
+    pub(crate) records: Shelf<RecordKind, Puts<RecordKind, L>, Gets<RecordKind, L>>,
+    pub(crate) blocks: Shelf<BlockKind, Puts<BlockKind, L>, Gets<BlockKind, L>>,
 }
 
 /// Hands of each cache that no worker has.
-pub(crate) struct FreeHands<
-    A0: Ledger,
-    B0: Ledger,
-    A1: Ledger,
-    B1: Ledger,
-    A2: Ledger,
-    B2: Ledger,
-> {
-    pub(crate) cells: Vec<Hand<CellKind, A0, B0>>,
-    pub(crate) records: Vec<Hand<RecordKind, A1, B1>>,
-    pub(crate) blocks: Vec<Hand<BlockKind, A2, B2>>,
+pub(crate) struct FreeHands<L: Names> {
+    pub(crate) cells: Vec<Hand<CellKind, Outs<CellKind, L>, Ins<CellKind, L>>>,
+    pub(crate) records: Vec<Hand<RecordKind, Outs<RecordKind, L>, Ins<RecordKind, L>>>,
+    pub(crate) blocks: Vec<Hand<BlockKind, Outs<BlockKind, L>, Ins<BlockKind, L>>>,
 }
 
-/// What becomes the books of the caches: for each kind, of what goes out and of what comes in.
+/// Hands of each shelf that no worker has.
+pub(crate) struct FreeShelfHands<L: Names> {
+    pub(crate) cells: Vec<ShelfHand<Puts<CellKind, L>, Gets<CellKind, L>>>,
+    pub(crate) records: Vec<ShelfHand<Puts<RecordKind, L>, Gets<RecordKind, L>>>,
+    pub(crate) blocks: Vec<ShelfHand<Puts<BlockKind, L>, Gets<BlockKind, L>>>,
+}
+
+/// Caches and shelves, and hands of them that no worker has.
+pub(crate) struct Opened<L: Names> {
+    pub(crate) caches: Caches<L>,
+    pub(crate) shelves: Shelves<L>,
+    pub(crate) hands: FreeHands<L>,
+    pub(crate) shelf_hands: FreeShelfHands<L>,
+}
+
+/// What becomes the books of each kind.
 #[derive(Drop)]
 pub(crate) struct Blanks {
-    pub(crate) cells_out: Blank,
-    pub(crate) cells_in: Blank,
-    pub(crate) records_out: Blank,
-    pub(crate) records_in: Blank,
-    pub(crate) blocks_out: Blank,
-    pub(crate) blocks_in: Blank,
+    pub(crate) cells: KindBlanks,
+    pub(crate) records: KindBlanks,
+    pub(crate) blocks: KindBlanks,
 }
 
-/// The caches, each with so many hands.
-///
-/// # Errors
-/// There was no memory. All caches that were made were closed.
-pub(crate) fn open<A0: Ledger, B0: Ledger, A1: Ledger, B1: Ledger, A2: Ledger, B2: Ledger, R: Wait>(
-    rt: &R,
-    alloc: Global,
-    arena: &ArenaLock,
-    count: usize,
-    blanks: Blanks,
-) -> Result<
-    (
-        Caches<A0, B0, A1, B1, A2, B2>,
-        FreeHands<A0, B0, A1, B1, A2, B2>,
-    ),
-    AllocError,
->
-    requires cells { IsFor blanks.cells_out A0.name A0.parts × IsFor blanks.cells_in B0.name B0.parts }
-    requires records { IsFor blanks.records_out A1.name A1.parts × IsFor blanks.records_in B1.name B1.parts }
-    requires blocks { IsFor blanks.blocks_out A2.name A2.parts × IsFor blanks.blocks_in B2.name B2.parts }
-    requires count { count ≤ 64 }
-    ensures made { IfOk result (λ r. AreMade count r.0) }
-    ensures hands { IfOk result (λ r. AreHands count r.1) }
-{
-    let Blanks {
-        cells_out,
-        cells_in,
-        records_out,
-        records_in,
-        blocks_out,
-        blocks_in,
-    } = blanks;
-    let cells = HandedCache::open(rt, alloc, arena, count, cells_out, cells_in)?;
-    let Ok(records) = HandedCache::open(rt, alloc, arena, count, records_out, records_in) else {
-        cells.close(rt, arena);
-        return Err(AllocError);
-    };
-    let Ok(blocks) = HandedCache::open(rt, alloc, arena, count, blocks_out, blocks_in) else {
-        cells.close(rt, arena);
-        records.close(rt, arena);
-        return Err(AllocError);
-    };
-    let (cells, cell_hands) = cells.apart();
-    let (records, record_hands) = records.apart();
-    let (blocks, block_hands) = blocks.apart();
-    let caches = Caches {
-        cells,
-        records,
-        blocks,
-    };
-    let hands = FreeHands {
-        cells: cell_hands,
-        records: record_hands,
-        blocks: block_hands,
-    };
-    Ok((caches, hands))
+impl<L: Names> Opened<L> {
+    /// The caches and shelves, each with so many hands.
+    ///
+    /// # Errors
+    /// There was no memory. All that were made were closed.
+    pub(crate) fn new<R: Wait>(
+        rt: &R,
+        alloc: Global,
+        arena: &ArenaLock,
+        count: usize,
+        blanks: Blanks,
+    ) -> Result<Opened<L>, AllocError>
+        requires cells { IsFor blanks.cells.outs (L.outs 0) × IsFor blanks.cells.ins (L.ins 0) }
+        requires cell_shelf { IsFor blanks.cells.puts (L.puts 0) × IsFor blanks.cells.gets (L.gets 0) }
+        requires records { IsFor blanks.records.outs (L.outs 1) × IsFor blanks.records.ins (L.ins 1) }
+        requires record_shelf { IsFor blanks.records.puts (L.puts 1) × IsFor blanks.records.gets (L.gets 1) }
+        requires blocks { IsFor blanks.blocks.outs (L.outs 2) × IsFor blanks.blocks.ins (L.ins 2) }
+        requires block_shelf { IsFor blanks.blocks.puts (L.puts 2) × IsFor blanks.blocks.gets (L.gets 2) }
+        requires count { count ≤ 64 }
+        ensures { IfOk result (AreOpened count) }
+    {
+        let Blanks {
+            cells,
+            records,
+            blocks,
+        } = blanks;
+        let cells = Handed::open(rt, alloc, arena, count, cells)?;
+        let Ok(records) = Handed::open(rt, alloc, arena, count, records) else {
+            cells.close(rt, arena);
+            return Err(AllocError);
+        };
+        let Ok(blocks) = Handed::open(rt, alloc, arena, count, blocks) else {
+            cells.close(rt, arena);
+            records.close(rt, arena);
+            return Err(AllocError);
+        };
+        Ok(Opened::of(cells, records, blocks))
+    }
+
+    // The same parts, by what they are and not by their kinds.
+    fn of(
+        cells: Handed<CellKind, L>,
+        records: Handed<RecordKind, L>,
+        blocks: Handed<BlockKind, L>,
+    ) -> Opened<L>
+        ensures caches { (result.caches.cells ≡ cells.cache) × (result.caches.records ≡ records.cache) × (result.caches.blocks ≡ blocks.cache) }
+        ensures shelves { (result.shelves.cells ≡ cells.shelf) × (result.shelves.records ≡ records.shelf) × (result.shelves.blocks ≡ blocks.shelf) }
+        ensures hands { (result.hands.cells ≡ cells.hands) × (result.hands.records ≡ records.hands) × (result.hands.blocks ≡ blocks.hands) }
+        ensures shelf_hands { (result.shelf_hands.cells ≡ cells.shelf_hands) × (result.shelf_hands.records ≡ records.shelf_hands) × (result.shelf_hands.blocks ≡ blocks.shelf_hands) }
+    {
+        let Handed {
+            cache: cells,
+            hands: cell_hands,
+            shelf: cell_shelf,
+            shelf_hands: cell_shelf_hands,
+        } = cells;
+        let Handed {
+            cache: records,
+            hands: record_hands,
+            shelf: record_shelf,
+            shelf_hands: record_shelf_hands,
+        } = records;
+        let Handed {
+            cache: blocks,
+            hands: block_hands,
+            shelf: block_shelf,
+            shelf_hands: block_shelf_hands,
+        } = blocks;
+        Opened {
+            caches: Caches {
+                cells,
+                records,
+                blocks,
+            },
+            shelves: Shelves {
+                cells: cell_shelf,
+                records: record_shelf,
+                blocks: block_shelf,
+            },
+            hands: FreeHands {
+                cells: cell_hands,
+                records: record_hands,
+                blocks: block_hands,
+            },
+            shelf_hands: FreeShelfHands {
+                cells: cell_shelf_hands,
+                records: record_shelf_hands,
+                blocks: block_shelf_hands,
+            },
+        }
+    }
 }
 
-impl<A0: Ledger, B0: Ledger, A1: Ledger, B1: Ledger, A2: Ledger, B2: Ledger> Caches<
-    A0,
-    B0,
-    A1,
-    B1,
-    A2,
-    B2,
-> {
+impl<L: Names> Caches<L> {
     /// Closes the caches with all hands that they made.
     pub(crate) fn close<R: Wait>(
         self,
         rt: &R,
         arena: &ArenaLock,
-        hands: FreeHands<A0, B0, A1, B1, A2, B2>,
+        hands: FreeHands<L>,
     ) -> [Totals; 3]
-        requires parts { (A0.parts ≡ 65) × (B0.parts ≡ 65) × (A1.parts ≡ 65) × (B1.parts ≡ 65) × (A2.parts ≡ 65) × (B2.parts ≡ 65) }
-        requires cells { vec_len hands.cells ≡ self.cells.hands }
-        requires records { vec_len hands.records ≡ self.records.hands }
-        requires blocks { vec_len hands.blocks ≡ self.blocks.hands }
+        requires cells { (vec_len hands.cells ≡ self.cells.hands) }
+        requires records { (vec_len hands.records ≡ self.records.hands) }
+        requires blocks { (vec_len hands.blocks ≡ self.blocks.hands) }
         ensures { AreTotalsOf hands result }
     {
         let Caches {

@@ -1,10 +1,14 @@
 //! The client of all caches that a worker is.
 
-ghost use Rattle.std.specs.Prelude.{◌≡◌, ◌≤◌, ◌+◌, ◌^◌, ◌==◌, [], ℕ, count_by};
-ghost use Rattle.worker_pool.specs.Claims.{lost};
+ghost use Rattle.std.specs.Prelude.{◌≡◌, ◌≢◌, ◌≤◌, ◌<◌, ◌+◌, ◌^◌, ◌==◌, [], ◌∷◌, ◌++◌, ℕ, Some, None, true, false, option_map, length, count_by, IfSome};
+ghost use Rattle.owners_table.specs.Marking.{mark_word};
+ghost use Rattle.owners_table.specs.Owning.{Holds};
+ghost use Rattle.owners_table.specs.declared.mark.TheConstants.{SHELVES, WORDS_OF_A_RUN};
+ghost use Rattle.worker_pool.specs.Claims.{lost, less};
 
 use crate::before::Before;
 use object_cache::ArenaLock;
+use owners_table::mark::Mark;
 use owners_table::owners::{OwnerSeat, Owners};
 use std::marker::PhantomData;
 use std::sync::Wait;
@@ -22,6 +26,8 @@ pub struct Client<'a, N: Before, R: Wait> {
     pub(crate) job: u32,
     /// How many objects went back since their slots had an owner.
     pub(crate) clashes: u64,
+    /// How many objects that came off a shelf went back since the table had their slots as another's.
+    pub(crate) strays: u64,
     // A reference, since the borrow checker takes no `PhantomData<N>` beside a lifetime where a callee's signature names
     // `'static`.
     pub(crate) before: PhantomData<&'a N>,
@@ -29,7 +35,7 @@ pub struct Client<'a, N: Before, R: Wait> {
     ghost table: { owners.now.table ≡ N.table },
     ghost seated: { seat.table ≡ N.table },
     ghost once: { (slot : ℕ) → count_by (λ e. e.0 == slot) seat.held ≤ 1 },
-    ghost few: { clashes ≤ 2 ^ 56 },
+    ghost few: { (clashes ≤ 2 ^ 56) × (strays ≤ 2 ^ 56) },
     ghost clashed: { lost seat.notes ≡ N.lost + clashes },
 }
 
@@ -47,7 +53,7 @@ impl<'a, N: Before, R: Wait> Client<'a, N, R> {
         requires empty { seat.held ≡ [] }
         requires lost { lost seat.notes ≡ N.lost }
         ensures seat { result.seat ≡ seat }
-        ensures none { result.clashes ≡ 0 }
+        ensures none { (result.clashes ≡ 0) × (result.strays ≡ 0) }
     {
         Client {
             rt,
@@ -56,14 +62,51 @@ impl<'a, N: Before, R: Wait> Client<'a, N, R> {
             seat,
             job: 0,
             clashes: 0,
+            strays: 0,
             before: PhantomData,
         }
     }
 
-    /// The seat, back, and how many objects went back since their slots had an owner.
-    pub(crate) fn end(self) -> (OwnerSeat, u64)
-        ensures parts { result ≡ (self.entry.seat, self.entry.clashes) }
-        ensures few { result.1 ≤ 2 ^ 56 }
+    /// Gives the slot of an object up to the shelf of this number, if there is one.
+    pub(crate) fn shelve(&mut self, slot: Option<u32>, shelf: u8)
+        requires slot { IfSome slot (λ s. (s < 65536) × Holds s self.old.seat.held) }
+        requires shelf { shelf < SHELVES }
+        ensures held { self.new.seat.held ≡ less slot self.old.seat.held }
+        ensures notes { (self.new.seat.notes ≡ self.old.seat.notes) × (self.new.seat.fetches ≡ self.old.seat.fetches) }
+        ensures rest { (self.new.clashes ≡ self.old.clashes) × (self.new.strays ≡ self.old.strays) × (self.new.job ≡ self.old.job) }
+    {
+        if let Some(slot) = slot {
+            self.owners.shelve(&mut self.seat, slot, shelf);
+        }
+    }
+
+    /// Fetches the slot of an object from the shelf of this number, where the object was found, for the job and for the call at
+    /// this slot of its program. False where the table has it as another's; or where what was left there for it was in this
+    /// slot too, since then one of the two isn't what its slot says.
+    pub(crate) fn fetch(&mut self, slot: u32, shelf: u8, left: Option<u32>, at: u16) -> bool
+        requires slot { slot < 65536 }
+        requires shelf { shelf < SHELVES }
+        requires at { at < WORDS_OF_A_RUN }
+        ensures fetched { result ≡ true → (self.new.seat.held ≡ (slot, mark_word self.old.job at) ∷ self.old.seat.held) × (Holds slot self.old.seat.held → ⊥) × (left ≢ Some slot) }
+        ensures other { result ≡ false → self.new.seat.held ≡ self.old.seat.held }
+        ensures notes { (self.new.seat.notes ≡ self.old.seat.notes) × (length self.new.seat.fetches ≡ length self.old.seat.fetches + 1) }
+        ensures rest { (self.new.clashes ≡ self.old.clashes) × (self.new.strays ≡ self.old.strays) × (self.new.job ≡ self.old.job) }
+    {
+        let mark = Mark { run: self.job, at };
+        let Ok(()) = self.owners.fetch(&mut self.seat, slot, shelf, mark) else {
+            return false;
+        };
+        if left == Some(slot) {
+            self.owners.release(&mut self.seat, slot);
+            return false;
+        }
+        true
+    }
+
+    /// The seat, back, and how many clashes and strays there were.
+    pub(crate) fn end(self) -> (OwnerSeat, u64, u64)
+        ensures parts { result ≡ (self.entry.seat, self.entry.clashes, self.entry.strays) }
+        ensures few { (result.1 ≤ 2 ^ 56) × (result.2 ≤ 2 ^ 56) }
     {
         let Client {
             rt: _,
@@ -72,8 +115,9 @@ impl<'a, N: Before, R: Wait> Client<'a, N, R> {
             seat,
             job: _,
             clashes,
+            strays,
             before: _,
         } = self;
-        (seat, clashes)
+        (seat, clashes, strays)
     }
 }

@@ -1,22 +1,24 @@
 //! What workers are made of, and what is left of them.
 
-ghost use Rattle.std.specs.Prelude.{◌≡◌, ◌≤◌, ◌<◌, [], true, All, reverse, map, sum_by, length, vec_capacity};
-ghost use Rattle.worker_pool.specs.Crews.{AreFresh, AreNone, IsBack, ArePartsOf, seat_in, clashes_in};
+ghost use Rattle.std.specs.Prelude.{◌≡◌, ◌≤◌, ◌<◌, [], ◌∷◌, ◌++◌, true, All, reverse, map, sum_by, length, vec_capacity};
+ghost use Rattle.worker_pool.specs.Crews.{AreFresh, AreNone, IsBack, ArePartsOf, seat_in, clashes_in, strays_in};
 ghost use Rattle.worker_pool.specs.Working.{IsFresh};
 
-use crate::caches::FreeHands;
+use crate::caches::{FreeHands, FreeShelfHands};
 use crate::gate::Gate;
+use crate::hands::Hands;
 use crate::jobs::Numbered;
+use crate::ledgers::Names;
 use crate::shared::Shared;
-use crate::worker::{Hands, Worker};
+use crate::worker::Worker;
 use owners_table::owners::OwnerSeat;
 use owners_table::tickets::TicketSeat;
 use std::sync::Wait;
-use std::sync::ledger::Ledger;
 
 /// For each worker its hands, its seats and its list of reports.
-pub(crate) struct Parts<A0: Ledger, B0: Ledger, A1: Ledger, B1: Ledger, A2: Ledger, B2: Ledger> {
-    pub(crate) hands: FreeHands<A0, B0, A1, B1, A2, B2>,
+pub(crate) struct Parts<L: Names> {
+    pub(crate) hands: FreeHands<L>,
+    pub(crate) shelf_hands: FreeShelfHands<L>,
     pub(crate) seats: Vec<OwnerSeat>,
     pub(crate) drawers: Vec<TicketSeat>,
     pub(crate) answered: Vec<Vec<Numbered>>,
@@ -27,25 +29,17 @@ pub(crate) struct Parts<A0: Ledger, B0: Ledger, A1: Ledger, B1: Ledger, A2: Ledg
 pub(crate) struct Done {
     /// How many objects went back since their slots had an owner.
     pub(crate) clashes: u64,
+    /// How many objects that came off a shelf went back since the table had their slots as another's.
+    pub(crate) strays: u64,
     /// Whether all were told that there are no more jobs; else memory ran out.
     pub(crate) is_through: bool,
 }
 
 /// Makes workers of the parts, which are none then.
-pub(crate) fn recruit<
-    'a,
-    A0: Ledger,
-    B0: Ledger,
-    A1: Ledger,
-    B1: Ledger,
-    A2: Ledger,
-    B2: Ledger,
-    G: Gate + 'a,
-    R: Wait + 'a,
->(
-    shared: &Shared<'a, A0, B0, A1, B1, A2, B2, G, R>,
-    parts: &mut Parts<A0, B0, A1, B1, A2, B2>,
-    workers: &mut Vec<Worker<A0, B0, A1, B1, A2, B2>>,
+pub(crate) fn recruit<'a, L: Names, G: Gate + 'a, R: Wait + 'a>(
+    shared: &Shared<'a, L, G, R>,
+    parts: &mut Parts<L>,
+    workers: &mut Vec<Worker<L>>,
 )
     requires fresh { AreFresh shared.now.owners.now shared.now.tickets.now (length parts.old.seats.items) parts.old }
     requires none { workers.old.items ≡ [] }
@@ -60,8 +54,12 @@ pub(crate) fn recruit<
                 cells: parts.hands.cells.take_last(),
                 records: parts.hands.records.take_last(),
                 blocks: parts.hands.blocks.take_last(),
+                shelf_cells: parts.shelf_hands.cells.take_last(),
+                shelf_records: parts.shelf_hands.records.take_last(),
+                shelf_blocks: parts.shelf_hands.blocks.take_last(),
                 seat: parts.seats.take_last(),
                 clashes: 0,
+                strays: 0,
             }),
             ticket: parts.drawers.take_last(),
             answered: parts.answered.take_last(),
@@ -71,34 +69,39 @@ pub(crate) fn recruit<
 }
 
 /// Takes the workers apart, the last one first.
-pub(crate) fn dismiss<A0: Ledger, B0: Ledger, A1: Ledger, B1: Ledger, A2: Ledger, B2: Ledger>(
-    workers: &mut Vec<Worker<A0, B0, A1, B1, A2, B2>>,
-    parts: &mut Parts<A0, B0, A1, B1, A2, B2>,
-) -> Done
+pub(crate) fn dismiss<L: Names>(workers: &mut Vec<Worker<L>>, parts: &mut Parts<L>) -> Done
     requires back { All IsBack workers.old.items }
     requires few { length workers.old.items ≤ 64 }
     requires none { AreNone (length workers.old.items) parts.old }
     ensures none { workers.new.items ≡ [] }
     ensures parts { ArePartsOf (reverse workers.old.items) parts.new }
     ensures clashes { result.clashes ≡ sum_by clashes_in workers.old.items }
+    ensures strays { result.strays ≡ sum_by strays_in workers.old.items }
     ensures through { result.is_through ≡ true → All (λ w. w.is_through ≡ true) workers.old.items }
 {
-    let mut clashes = 0;
-    let mut is_through = true;
+    let mut done = Done {
+        clashes: 0,
+        strays: 0,
+        is_through: true,
+    };
     for _worker in 0..workers.len() {
         let Worker {
             hands,
             ticket,
             answered,
-            is_through: was_told,
+            is_through,
         } = workers.take_last();
         let Some(
             Hands {
                 cells,
                 records,
                 blocks,
+                shelf_cells,
+                shelf_records,
+                shelf_blocks,
                 seat,
-                clashes: lost,
+                clashes,
+                strays,
             },
         ) = hands
         else {
@@ -107,14 +110,15 @@ pub(crate) fn dismiss<A0: Ledger, B0: Ledger, A1: Ledger, B1: Ledger, A2: Ledger
         parts.hands.cells.push_reserved(cells);
         parts.hands.records.push_reserved(records);
         parts.hands.blocks.push_reserved(blocks);
+        parts.shelf_hands.cells.push_reserved(shelf_cells);
+        parts.shelf_hands.records.push_reserved(shelf_records);
+        parts.shelf_hands.blocks.push_reserved(shelf_blocks);
         parts.seats.push_reserved(seat);
         parts.drawers.push_reserved(ticket);
         parts.answered.push_reserved(answered);
-        clashes += lost;
-        is_through &= was_told;
+        done.clashes += clashes;
+        done.strays += strays;
+        done.is_through &= is_through;
     }
-    Done {
-        clashes,
-        is_through,
-    }
+    done
 }

@@ -2,7 +2,7 @@
 
 use thiserror::Error;
 
-/// Why no job was done, or not all of them. The first six are found before any worker is started, in this order.
+/// Why no job was done, or not all of them. The first five are found before any worker is started, in this order.
 #[derive(Clone, Copy, Debug, Error)]
 pub enum PoolFault {
     /// The arena has no page, or more than [`vmem_arena::MAX_PAGES`].
@@ -20,9 +20,6 @@ pub enum PoolFault {
     /// This job's context doesn't have the length that its program declares; the lowest such job.
     #[error("the context of job {job} doesn't have the declared length")]
     Context { job: usize },
-    /// This job's program calls `swap`, and the pool has no shelves yet; the lowest such job.
-    #[error("the program of job {job} calls swap, and the pool has no shelves")]
-    Shelf { job: usize },
     /// There was no memory. All workers were waited for, and all caches closed.
     #[error("out of memory")]
     NoMemory,

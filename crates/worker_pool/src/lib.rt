@@ -1,31 +1,39 @@
 //! Workers that run jobs, whose programs allocate from caches that all workers share.
 //!
-//! A worker has a store, which answers the calls of `new` and `free` of the runs that it makes: a hand at the cache of each kind,
-//! and a seat at the table of owners. An object that a hand takes is a run's only once the seat has claimed its slot for the
-//! job. Where the table has another owner for it, the object goes back, the call is answered null, and the clash is counted. An
-//! object that a run frees is released before the hand has it back, so that nobody who takes it next finds its slot owned.
+//! A worker has a store, which answers the calls of `new`, `free` and `swap` of the runs that it makes: a hand at the cache and
+//! one at the shelf of each kind, and a seat at the table of owners. An object that a hand takes is a run's only once the seat
+//! has claimed its slot for the job. Where the table has another owner for it, the object goes back, the call is answered null,
+//! and the clash is counted. An object that a run frees is released before the hand has it back, so that nobody who takes it
+//! next finds its slot owned.
+//!
+//! A shelf has room for one object, which a run of one worker leaves and a run of another takes. In the table its slot is the
+//! shelf's before it stands there, and the run's that took it after that. Where it is neither, it is a stray: it goes back to the
+//! cache, the call is answered null, and the stray is counted. What the shelves hold at the end goes back too.
 //!
 //! Workers run side by side, with the reaper beside them. Each draws the number of a job, runs it over its store and keeps the
 //! report, until there are no more. [`run_jobs`] makes all this and puts the reports in the order of the jobs.
 //!
-//! What it promises: each job is done once, and its report is that of its program alone; what the caches count is what the reports
-//! say, and all that went out came back. It stands on this: the store keeps the laws of `Objects` of ebpf_machine, so whatever
-//! is proved of a run over some store holds over this one; and each number is drawn once.
+//! What it promises: each job is done once, and its report is that of its program alone; what the caches and shelves count is
+//! what the reports say, and all that went out came back. It stands on this: the store keeps the laws of `Objects` of
+//! ebpf_machine, so whatever is proved of a run over some store holds over this one; and each number is drawn once.
 //!
-//! To be read in this order: `object`, `before`, `client`, `stock`, `store`, `jobs`, `gate`, `shared`, `worker`, `team`,
-//! `outcome`, `fault`, `admission`, `room`, `handed`, `caches`, `plant`, `crew`, `place`, `pool`.
+//! To be read in this order: `object`, `before`, `client`, `ledgers`, `stock`, `hands`, `store`, `jobs`, `gate`, `handed`, `caches`,
+//! `shared`, `worker`, `team`, `outcome`, `fault`, `admission`, `room`, `plant`, `crew`, `clearing`, `place`, `pool`.
 #![tactic(auto)]
 
 mod admission;
 mod before;
 mod caches;
+mod clearing;
 mod client;
 mod count;
 mod crew;
 mod fault;
 mod gate;
 mod handed;
+mod hands;
 mod jobs;
+mod ledgers;
 mod object;
 mod outcome;
 mod place;
@@ -41,5 +49,5 @@ mod worker;
 pub use fault::PoolFault;
 pub use gate::{Gate, NoGate, Point};
 pub use jobs::Job;
-pub use outcome::{Host, MAX_JOBS, MAX_WORKERS, Outcome, Reports};
+pub use outcome::{Host, MAX_JOBS, MAX_WORKERS, Outcome, Reports, ShelfTotals};
 pub use pool::run_jobs;

@@ -33,6 +33,15 @@ impl Model for Reports {
     ghost view = { λ r. r.reports.items };
 }
 
+/// What a shelf did: how often an object was put there and how often one was got from there by runs, and how many, one at most, it
+/// held at the end.
+#[derive(Clone, Copy, Debug, PartialEq, Eq)]
+pub struct ShelfTotals {
+    pub puts: u64,
+    pub gets: u64,
+    pub left: u64,
+}
+
 /// What came of all jobs.
 #[derive(Drop)]
 pub struct Outcome {
@@ -41,4 +50,8 @@ pub struct Outcome {
     pub totals: [Totals; 3],
     /// How many objects went back to their cache since their slot had an owner.
     pub clashes: u64,
+    /// What each shelf did, in the order of the kinds' numbers. What it held at the end went back to its cache.
+    pub shelves: [ShelfTotals; 3],
+    /// How many objects that came off a shelf went back to their cache since the table had their slots as another's.
+    pub strays: u64,
 }

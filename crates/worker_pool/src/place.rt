@@ -4,6 +4,7 @@ ghost use Rattle.std.specs.Prelude.{◌≡◌, ◌⊎◌, Contains, map, ◌≤�
 ghost use Rattle.worker_pool.specs.Places.{HasExit, filled, times_in, weight, weight_of, IsIn};
 
 use crate::jobs::Numbered;
+use crate::ledgers::Puts;
 use ebpf_machine::report::Report;
 
 /// Puts all reports in the places of their jobs, which have none.

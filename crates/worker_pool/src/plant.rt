@@ -1,32 +1,24 @@
-//! All that jobs need: room, caches with their hands, and a list for workers.
+//! All that jobs need: room, caches and shelves with their hands, and a list for workers.
 
 ghost use Rattle.std.specs.Prelude.{◌≤◌, ◌<◌, IfOk};
 ghost use Rattle.worker_pool.specs.Books.{IsFor};
 ghost use Rattle.worker_pool.specs.Crews.{IsPrepared};
 
-use crate::caches::{Blanks, Caches, FreeHands, open};
+use crate::caches::{Blanks, Opened};
+use crate::ledgers::Names;
 use crate::room::Room;
 use crate::worker::Worker;
 use std::alloc::{AllocError, Global};
 use std::sync::Wait;
-use std::sync::ledger::Ledger;
 
 /// What workers are made of and work with, before there are any.
-pub(crate) struct Plant<A0: Ledger, B0: Ledger, A1: Ledger, B1: Ledger, A2: Ledger, B2: Ledger> {
+pub(crate) struct Plant<L: Names> {
     pub(crate) room: Room,
-    pub(crate) workers: Vec<Worker<A0, B0, A1, B1, A2, B2>>,
-    pub(crate) caches: Caches<A0, B0, A1, B1, A2, B2>,
-    pub(crate) hands: FreeHands<A0, B0, A1, B1, A2, B2>,
+    pub(crate) workers: Vec<Worker<L>>,
+    pub(crate) opened: Opened<L>,
 }
 
-impl<A0: Ledger, B0: Ledger, A1: Ledger, B1: Ledger, A2: Ledger, B2: Ledger> Plant<
-    A0,
-    B0,
-    A1,
-    B1,
-    A2,
-    B2,
-> {
+impl<L: Names> Plant<L> {
     /// All that so many workers and jobs need. The caches come last, so that little is to be undone.
     ///
     /// # Errors
@@ -38,24 +30,26 @@ impl<A0: Ledger, B0: Ledger, A1: Ledger, B1: Ledger, A2: Ledger, B2: Ledger> Pla
         count: usize,
         jobs: usize,
         blanks: Blanks,
-    ) -> Result<Plant<A0, B0, A1, B1, A2, B2>, AllocError>
-        requires cells { IsFor blanks.cells_out A0.name A0.parts × IsFor blanks.cells_in B0.name B0.parts }
-        requires records { IsFor blanks.records_out A1.name A1.parts × IsFor blanks.records_in B1.name B1.parts }
-        requires blocks { IsFor blanks.blocks_out A2.name A2.parts × IsFor blanks.blocks_in B2.name B2.parts }
+    ) -> Result<Plant<L>, AllocError>
+        requires cells { IsFor blanks.cells.outs (L.outs 0) × IsFor blanks.cells.ins (L.ins 0) }
+        requires cell_shelf { IsFor blanks.cells.puts (L.puts 0) × IsFor blanks.cells.gets (L.gets 0) }
+        requires records { IsFor blanks.records.outs (L.outs 1) × IsFor blanks.records.ins (L.ins 1) }
+        requires record_shelf { IsFor blanks.records.puts (L.puts 1) × IsFor blanks.records.gets (L.gets 1) }
+        requires blocks { IsFor blanks.blocks.outs (L.outs 2) × IsFor blanks.blocks.ins (L.ins 2) }
+        requires block_shelf { IsFor blanks.blocks.puts (L.puts 2) × IsFor blanks.blocks.gets (L.gets 2) }
         requires count { (0 < count) × (count ≤ 64) }
         ensures { IfOk result (IsPrepared count jobs) }
     {
         let room = Room::new(alloc, pages, count, jobs)?;
         let workers = Vec::with_capacity(alloc, count)?;
-        let Ok((caches, hands)) = open(rt, alloc, &room.arena, count, blanks) else {
+        let Ok(opened) = Opened::new(rt, alloc, &room.arena, count, blanks) else {
             workers.destroy_empty();
             return Err(AllocError);
         };
         Ok(Plant {
             room,
             workers,
-            caches,
-            hands,
+            opened,
         })
     }
 }

@@ -1,11 +1,11 @@
 //! Jobs, each done once.
 //!
 //! *The idea.* All memory is reserved first, then the caches are opened, and workers are made of their hands, the seats and lists
-//! for reports. The workers do the jobs, with the reaper beside them. Then they are taken apart again, the caches are closed over
-//! their hands, and each report goes to the place of its job.
+//! for reports. The workers do the jobs, with the reaper beside them. Then they are taken apart again, what the shelves hold goes
+//! back, the caches are closed over their hands, and each report goes to the place of its job.
 //!
 //! *The reason.* The numbers that all workers drew are all the numbers of jobs, each once: so each job has one report. What a
-//! worker's hands took is what its reports say, clashes aside, so the same holds of the sums.
+//! worker's hands took and got is what its reports say, clashes and strays aside, so the same holds of the sums.
 
 ghost use Rattle.std.specs.Prelude.{◌≡◌, ◌+◌, ◌≤◌, ◌<◌, [], None, All, length, vec_len, vec_capacity, IfOk, IfErr, OnOk, OnErr};
 ghost use Rattle.ebpf_machine.specs.Kinds.{AreKnown};
@@ -18,11 +18,14 @@ ghost use Rattle.worker_pool.specs.Serving.{AreServed};
 ghost use Rattle.worker_pool.specs.Working.{CanRun};
 
 use crate::admission::pool_fault;
-use crate::caches::Blanks;
+use crate::caches::{Blanks, Opened};
+use crate::clearing::Clearing;
 use crate::crew::{Done, Parts, dismiss, recruit};
 use crate::fault::PoolFault;
 use crate::gate::Gate;
+use crate::handed::KindBlanks;
 use crate::jobs::Job;
+use crate::ledgers::Names;
 use crate::outcome::{Host, Outcome, Reports};
 use crate::place::place_all;
 use crate::plant::Plant;
@@ -33,7 +36,6 @@ use owners_table::owners::{OwnerSeat, Owners};
 use std::alloc::{AllocError, Global};
 use std::marker::Brand;
 use std::sync::Wait;
-use std::sync::ledger::{Blank, Ledger};
 use std::thread::Threads;
 
 /// Does each job once, by a worker a seat, with the reaper beside them, and gives the seats back.
@@ -68,14 +70,11 @@ pub fn run_jobs<G: Gate + Sync, R: Threads + Wait + Sync>(
         return (seats, Err(fault));
     }
     let blanks = Blanks {
-        cells_out: Blank::new(65),
-        cells_in: Blank::new(65),
-        records_out: Blank::new(65),
-        records_in: Blank::new(65),
-        blocks_out: Blank::new(65),
-        blocks_in: Blank::new(65),
+        cells: KindBlanks::new(),
+        records: KindBlanks::new(),
+        blocks: KindBlanks::new(),
     };
-    let (seats, done) = run_in::<Brand, Brand, Brand, Brand, Brand, Brand, G, R>(
+    let (seats, done) = run_in::<Brand, G, R>(
         rt, alloc, host, owners, seats, jobs, reaps, gate, blanks,
     );
     match done {
@@ -85,16 +84,7 @@ pub fn run_jobs<G: Gate + Sync, R: Threads + Wait + Sync>(
 }
 
 // The same with new ledgers, one for each book of a cache, where there is no fault.
-fn run_in<
-    A0: Ledger + Send + Sync,
-    B0: Ledger + Send + Sync,
-    A1: Ledger + Send + Sync,
-    B1: Ledger + Send + Sync,
-    A2: Ledger + Send + Sync,
-    B2: Ledger + Send + Sync,
-    G: Gate + Sync,
-    R: Threads + Wait + Sync,
->(
+fn run_in<L: Names + Send + Sync, G: Gate + Sync, R: Threads + Wait + Sync>(
     rt: &R,
     alloc: Global,
     host: &Host,
@@ -105,9 +95,12 @@ fn run_in<
     gate: &G,
     blanks: Blanks,
 ) -> (Vec<OwnerSeat>, Result<Outcome, AllocError>)
-    requires cells { IsFor blanks.cells_out A0.name A0.parts × IsFor blanks.cells_in B0.name B0.parts }
-    requires records { IsFor blanks.records_out A1.name A1.parts × IsFor blanks.records_in B1.name B1.parts }
-    requires blocks { IsFor blanks.blocks_out A2.name A2.parts × IsFor blanks.blocks_in B2.name B2.parts }
+    requires cells { IsFor blanks.cells.outs (L.outs 0) × IsFor blanks.cells.ins (L.ins 0) }
+    requires cell_shelf { IsFor blanks.cells.puts (L.puts 0) × IsFor blanks.cells.gets (L.gets 0) }
+    requires records { IsFor blanks.records.outs (L.outs 1) × IsFor blanks.records.ins (L.ins 1) }
+    requires record_shelf { IsFor blanks.records.puts (L.puts 1) × IsFor blanks.records.gets (L.gets 1) }
+    requires blocks { IsFor blanks.blocks.outs (L.outs 2) × IsFor blanks.blocks.ins (L.ins 2) }
+    requires block_shelf { IsFor blanks.blocks.puts (L.puts 2) × IsFor blanks.blocks.gets (L.gets 2) }
     requires known { AreKnown host.now.programs.items }
     requires slots { 65536 ≤ owners.now.slots }
     requires seats { All (IsIdle owners.now) seats.items }
@@ -115,24 +108,23 @@ fn run_in<
     ensures done { IfOk result.1 (IsOutcome host.now.programs.items jobs.now seats.items result.0.items) }
     ensures seats { AreIdleAgain owners.now seats.items result.0.items }
 {
-    let Ok(plant) = Plant::<A0, B0, A1, B1, A2, B2>::new(
-        rt,
-        alloc,
-        host.pages,
-        seats.len(),
-        jobs.len(),
-        blanks,
-    ) else {
+    let Ok(plant) = Plant::<L>::new(rt, alloc, host.pages, seats.len(), jobs.len(), blanks) else {
         return (seats, Err(AllocError));
     };
     let Plant {
         mut room,
         mut workers,
-        caches,
-        hands,
+        opened,
     } = plant;
+    let Opened {
+        caches,
+        shelves,
+        hands,
+        shelf_hands,
+    } = opened;
     let mut parts = Parts {
         hands,
+        shelf_hands,
         seats,
         drawers: room.drawers,
         answered: room.answered,
@@ -142,9 +134,8 @@ fn run_in<
         alloc,
         arena: &room.arena,
         owners,
-        cells: &caches.cells,
-        records: &caches.records,
-        blocks: &caches.blocks,
+        caches: &caches,
+        shelves: &shelves,
         programs: &host.programs,
         jobs,
         tickets: &room.tickets,
@@ -153,11 +144,19 @@ fn run_in<
     let done = serve_all(&shared, reaps, &mut parts, &mut workers);
     workers.destroy_empty();
     let Parts {
-        hands,
-        seats,
+        mut hands,
+        shelf_hands,
+        mut seats,
         drawers,
         answered,
     } = parts;
+    let clearing = Clearing {
+        rt,
+        arena: &room.arena,
+        owners,
+        caches: &caches,
+    };
+    let shelves = clearing.clear(shelves, shelf_hands, &mut hands, &mut seats);
     let totals = caches.close(rt, &room.arena, hands);
     room.tickets.close(drawers);
     if !done.is_through {
@@ -170,26 +169,18 @@ fn run_in<
         },
         totals,
         clashes: done.clashes,
+        shelves,
+        strays: done.strays,
     };
     (seats, Ok(outcome))
 }
 
 // Makes workers of the parts, lets them do all jobs, and takes them apart.
-fn serve_all<
-    'a,
-    A0: Ledger + Send + Sync,
-    B0: Ledger + Send + Sync,
-    A1: Ledger + Send + Sync,
-    B1: Ledger + Send + Sync,
-    A2: Ledger + Send + Sync,
-    B2: Ledger + Send + Sync,
-    G: Gate + Sync + 'a,
-    R: Threads + Wait + Sync + 'a,
->(
-    shared: &Shared<'a, A0, B0, A1, B1, A2, B2, G, R>,
+fn serve_all<'a, L: Names + Send + Sync, G: Gate + Sync + 'a, R: Threads + Wait + Sync + 'a>(
+    shared: &Shared<'a, L, G, R>,
     reaps: u32,
-    parts: &mut Parts<A0, B0, A1, B1, A2, B2>,
-    workers: &mut Vec<Worker<A0, B0, A1, B1, A2, B2>>,
+    parts: &mut Parts<L>,
+    workers: &mut Vec<Worker<L>>,
 ) -> Done
     requires known { AreKnown shared.now.programs.now }
     requires can { All (CanRun shared.now.programs.now) shared.now.jobs.now }

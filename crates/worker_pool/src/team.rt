@@ -7,25 +7,18 @@ ghost use Rattle.worker_pool.specs.Working.{IsFresh, IsDone, CanRun};
 ghost use denote.Param.Send.{IsSync};
 
 use crate::gate::{Gate, Point};
+use crate::ledgers::Names;
 use crate::shared::Shared;
 use crate::worker::{Worker, work};
 use std::sync::Wait;
-use std::sync::ledger::Ledger;
 use std::thread;
 use std::thread::{Threads, join_mut};
 
 // All workers, each in a thread of its own where one can be made.
-fn work_all<
-    'a,
-    A0: Ledger + Send + Sync,
-    B0: Ledger + Send + Sync,
-    A1: Ledger + Send + Sync,
-    B1: Ledger + Send + Sync,
-    A2: Ledger + Send + Sync,
-    B2: Ledger + Send + Sync,
-    G: Gate + Sync + 'a,
-    R: Threads + Wait + Sync + 'a,
->(shared: &Shared<'a, A0, B0, A1, B1, A2, B2, G, R>, workers: &mut [Worker<A0, B0, A1, B1, A2, B2>])
+fn work_all<'a, L: Names + Send + Sync, G: Gate + Sync + 'a, R: Threads + Wait + Sync + 'a>(
+    shared: &Shared<'a, L, G, R>,
+    workers: &mut [Worker<L>],
+)
     requires some { 0 < length workers.old }
     requires known { AreKnown shared.now.programs.now }
     requires can { All (CanRun shared.now.programs.now) shared.now.jobs.now }
@@ -38,21 +31,11 @@ fn work_all<
 }
 
 // Passes of the reaper: the caches in the order of their numbers.
-fn reap<
-    'a,
-    A0: Ledger,
-    B0: Ledger,
-    A1: Ledger,
-    B1: Ledger,
-    A2: Ledger,
-    B2: Ledger,
-    G: Gate + 'a,
-    R: Wait + 'a,
->(shared: &Shared<'a, A0, B0, A1, B1, A2, B2, G, R>, reaps: u32) {
+fn reap<'a, L: Names, G: Gate + 'a, R: Wait + 'a>(shared: &Shared<'a, L, G, R>, reaps: u32) {
     for pass in 0..reaps {
-        shared.cells.reap_pass(shared.rt, shared.arena);
-        shared.records.reap_pass(shared.rt, shared.arena);
-        shared.blocks.reap_pass(shared.rt, shared.arena);
+        shared.caches.cells.reap_pass(shared.rt, shared.arena);
+        shared.caches.records.reap_pass(shared.rt, shared.arena);
+        shared.caches.blocks.reap_pass(shared.rt, shared.arena);
         shared.gate.at(u64::from(pass), Point::Reaped);
     }
 }
@@ -60,19 +43,10 @@ fn reap<
 /// All workers, and the reaper beside them.
 pub(crate) fn work_and_reap<
     'a,
-    A0: Ledger + Send + Sync,
-    B0: Ledger + Send + Sync,
-    A1: Ledger + Send + Sync,
-    B1: Ledger + Send + Sync,
-    A2: Ledger + Send + Sync,
-    B2: Ledger + Send + Sync,
+    L: Names + Send + Sync,
     G: Gate + Sync + 'a,
     R: Threads + Wait + Sync + 'a,
->(
-    shared: &Shared<'a, A0, B0, A1, B1, A2, B2, G, R>,
-    reaps: u32,
-    workers: &mut [Worker<A0, B0, A1, B1, A2, B2>],
-)
+>(shared: &Shared<'a, L, G, R>, reaps: u32, workers: &mut [Worker<L>])
     requires some { 0 < length workers.old }
     requires known { AreKnown shared.now.programs.now }
     requires can { All (CanRun shared.now.programs.now) shared.now.jobs.now }

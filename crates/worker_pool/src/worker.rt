@@ -4,53 +4,42 @@
 //! and draws again, until it is told that there are no more numbers.
 //!
 //! *The invariant.* The numbers that it drew are those of the reports that it keeps, in order. Each report is that of its job's
-//! program alone, with the answers that it reports. Its hands gave back all that they took, and what they took and were refused
-//! is what the reports say, clashes aside.
+//! program alone, with the answers that it reports. Of each kind its hands gave back or left on the shelf all that they took or got
+//! from there. What they took, got and were refused is what the reports say, clashes and strays aside.
 //!
 //! *The reason.* A run over whatever store leaves as many objects of each kind out as there were, and its report's answers are
 //! what the store counts. Each number is drawn once, over all workers; so each job has one report.
 
 ghost use Rattle.std.specs.Prelude.{◌≡◌, ◌≤◌, ◌<◌, ◌+◌, ◌++◌, ◌∷◌, [], ℕ, All, length, map, true, false, vec_len, vec_capacity, IfOk, OnOk, OnErr};
 ghost use Rattle.owners_table.specs.Drawing.{IsOf};
-ghost use Rattle.ebpf_machine.specs.Whole.{granted, refused};
+ghost use Rattle.ebpf_machine.specs.Whole.{granted, refused, fetched};
 ghost use Rattle.worker_pool.specs.declared.outcome.TheConstants.{MAX_JOBS};
 ghost use Rattle.worker_pool.specs.Claims.{lost};
-ghost use Rattle.worker_pool.specs.Counts.{grants_of, nulls_of};
+ghost use Rattle.worker_pool.specs.Counts.{grants_of, nulls_of, gets_of};
 ghost use Rattle.ebpf_machine.specs.Kinds.{AreKnown};
-ghost use Rattle.worker_pool.specs.Working.{IsFresh, IsUnused, IsEven, IsDone, IsServed, CanRun, Answers, granted_by, refused_by, number_of};
+ghost use Rattle.worker_pool.specs.Working.{IsFresh, IsUnused, IsEven, IsDone, IsServed, CanRun, Answers, granted_by, refused_by, fetched_by, number_of};
 
 use crate::before::Before;
 use crate::client::Client;
 use crate::gate::{Gate, Point};
+use crate::hands::Hands;
 use crate::jobs::Numbered;
+use crate::ledgers::Names;
 use crate::object::Object;
 use crate::shared::Shared;
 use crate::stock::Stock;
 use crate::store::Store;
 use ebpf_machine::whole::run_in;
 use ebpf_machine::workspace::Workspace;
-use object_cache::Hand;
-use owners_table::owners::OwnerSeat;
 use owners_table::tickets::TicketSeat;
-use slab_layer::{BlockKind, CellKind, RecordKind};
 use std::alloc::{AllocError, Global};
 use std::marker::Brand;
 use std::mem;
 use std::sync::Wait;
-use std::sync::ledger::Ledger;
-
-/// What a worker owns of the caches, and its seat at the table of owners.
-pub(crate) struct Hands<A0: Ledger, B0: Ledger, A1: Ledger, B1: Ledger, A2: Ledger, B2: Ledger> {
-    pub(crate) cells: Hand<CellKind, A0, B0>,
-    pub(crate) records: Hand<RecordKind, A1, B1>,
-    pub(crate) blocks: Hand<BlockKind, A2, B2>,
-    pub(crate) seat: OwnerSeat,
-    pub(crate) clashes: u64,
-}
 
 /// A worker. While it works its hands are its store's, and not here.
-pub(crate) struct Worker<A0: Ledger, B0: Ledger, A1: Ledger, B1: Ledger, A2: Ledger, B2: Ledger> {
-    pub(crate) hands: Option<Hands<A0, B0, A1, B1, A2, B2>>,
+pub(crate) struct Worker<L: Names> {
+    pub(crate) hands: Option<Hands<L>>,
     pub(crate) ticket: TicketSeat,
     pub(crate) answered: Vec<Numbered>,
     /// Whether it was told that there are no more jobs; else memory ran out.
@@ -58,17 +47,10 @@ pub(crate) struct Worker<A0: Ledger, B0: Ledger, A1: Ledger, B1: Ledger, A2: Led
 }
 
 /// Does jobs until there are no more, or memory runs out.
-pub(crate) fn work<
-    'a,
-    A0: Ledger,
-    B0: Ledger,
-    A1: Ledger,
-    B1: Ledger,
-    A2: Ledger,
-    B2: Ledger,
-    G: Gate + 'a,
-    R: Wait + 'a,
->(shared: &Shared<'a, A0, B0, A1, B1, A2, B2, G, R>, worker: &mut Worker<A0, B0, A1, B1, A2, B2>)
+pub(crate) fn work<'a, L: Names, G: Gate + 'a, R: Wait + 'a>(
+    shared: &Shared<'a, L, G, R>,
+    worker: &mut Worker<L>,
+)
     requires known { AreKnown shared.now.programs.now }
     requires can { All (CanRun shared.now.programs.now) shared.now.jobs.now }
     requires few { length shared.now.jobs.now ≤ MAX_JOBS }
@@ -80,7 +62,7 @@ pub(crate) fn work<
     };
     // What a job writes to lies with the thread, not beside what another worker writes to.
     let mut answered = mem::replace(&mut worker.answered, Vec::new(shared.alloc));
-    let (left, is_through) = work_with::<A0, B0, A1, B1, A2, B2, Brand, G, R>(
+    let (left, is_through) = work_with::<L, Brand, G, R>(
         shared,
         hands,
         &mut worker.ticket,
@@ -95,28 +77,17 @@ pub(crate) fn work<
 }
 
 // The same with a store of these hands, which are handed back. `N` says what the seat was before.
-fn work_with<
-    'a,
-    A0: Ledger,
-    B0: Ledger,
-    A1: Ledger,
-    B1: Ledger,
-    A2: Ledger,
-    B2: Ledger,
-    N: Before + 'a,
-    G: Gate + 'a,
-    R: Wait + 'a,
->(
-    shared: &Shared<'a, A0, B0, A1, B1, A2, B2, G, R>,
-    hands: Hands<A0, B0, A1, B1, A2, B2>,
+fn work_with<'a, L: Names, N: Before + 'a, G: Gate + 'a, R: Wait + 'a>(
+    shared: &Shared<'a, L, G, R>,
+    hands: Hands<L>,
     ticket: &mut TicketSeat,
     answered: &mut Vec<Numbered>,
-) -> (Hands<A0, B0, A1, B1, A2, B2>, bool)
+) -> (Hands<L>, bool)
     requires known { AreKnown shared.now.programs.now }
     requires can { All (CanRun shared.now.programs.now) shared.now.jobs.now }
     requires few { length shared.now.jobs.now ≤ MAX_JOBS }
     requires unused { IsUnused shared.now.owners.now hands }
-    requires before { (hands.seat.table ≡ N.table) × (length hands.seat.notes ≡ N.noted) × (lost hands.seat.notes ≡ N.lost) }
+    requires before { (hands.seat.table ≡ N.table) × (length hands.seat.notes ≡ N.noted) × (lost hands.seat.notes ≡ N.lost) × (length hands.seat.fetches ≡ N.fetched) }
     requires table { IsOf shared.now.tickets.now ticket.old }
     requires none { (ticket.old.drawn ≡ []) × (ticket.old.passed ≡ false) × (answered.old.items ≡ []) }
     ensures { IsServed shared.now.programs.now shared.now.jobs.now shared.now.tickets.now hands result.0 ticket.new answered.new.items result.1 }
@@ -125,60 +96,37 @@ fn work_with<
         cells,
         records,
         blocks,
+        shelf_cells,
+        shelf_records,
+        shelf_blocks,
         seat,
         clashes: _,
+        strays: _,
     } = hands;
+    let (caches, shelves) = (shared.caches, shared.shelves);
     let client: Client<'a, N, R> = Client::new(shared.rt, shared.arena, shared.owners, seat);
-    let cells = Stock::new(shared.cells, cells);
-    let records = Stock::new(shared.records, records);
-    let blocks = Stock::new(shared.blocks, blocks);
-    let mut store: Store<'a, A0, B0, A1, B1, A2, B2, N, R> = Store::new(
-        client, cells, records, blocks,
-    );
+    let cells = Stock::new(&caches.cells, cells, &shelves.cells, shelf_cells);
+    let records = Stock::new(&caches.records, records, &shelves.records, shelf_records);
+    let blocks = Stock::new(&caches.blocks, blocks, &shelves.blocks, shelf_blocks);
+    let mut store: Store<'a, L, N, R> = Store::new(client, cells, records, blocks);
     let is_through = serve(shared, &mut store, ticket, answered);
-    let Store {
-        client,
-        cells,
-        records,
-        blocks,
-        misses: _,
-    } = store;
-    let (seat, clashes) = client.end();
-    let left = Hands {
-        cells: cells.end(),
-        records: records.end(),
-        blocks: blocks.end(),
-        seat,
-        clashes,
-    };
-    (left, is_through)
+    (store.end(), is_through)
 }
 
 // Draws tickets and does their jobs. False where memory ran out.
-fn serve<
-    'a,
-    A0: Ledger,
-    B0: Ledger,
-    A1: Ledger,
-    B1: Ledger,
-    A2: Ledger,
-    B2: Ledger,
-    N: Before + 'a,
-    G: Gate + 'a,
-    R: Wait + 'a,
->(
-    shared: &Shared<'a, A0, B0, A1, B1, A2, B2, G, R>,
-    store: &mut Store<'a, A0, B0, A1, B1, A2, B2, N, R>,
+fn serve<'a, L: Names, N: Before + 'a, G: Gate + 'a, R: Wait + 'a>(
+    shared: &Shared<'a, L, G, R>,
+    store: &mut Store<'a, L, N, R>,
     ticket: &mut TicketSeat,
     answered: &mut Vec<Numbered>,
 ) -> bool
     requires known { AreKnown shared.now.programs.now }
     requires can { All (CanRun shared.now.programs.now) shared.now.jobs.now }
     requires few { length shared.now.jobs.now ≤ MAX_JOBS }
-    requires even { IsEven store.old.cells.hand store.old.records.hand store.old.blocks.hand }
+    requires even { IsEven store.old.cells.hand store.old.records.hand store.old.blocks.hand store.old.cells.shelf_hand store.old.records.shelf_hand store.old.blocks.shelf_hand }
     requires table { IsOf shared.now.tickets.now ticket.old }
     requires none { (ticket.old.drawn ≡ []) × (ticket.old.passed ≡ false) × (answered.old.items ≡ []) }
-    ensures even { IsEven store.new.cells.hand store.new.records.hand store.new.blocks.hand }
+    ensures even { IsEven store.new.cells.hand store.new.records.hand store.new.blocks.hand store.new.cells.shelf_hand store.new.records.shelf_hand store.new.blocks.shelf_hand }
     ensures table { IsOf shared.now.tickets.now ticket.new }
     ensures good { All (Answers shared.now.programs.now shared.now.jobs.now) answered.new.items }
     ensures drawn { result ≡ true → (ticket.new.passed ≡ true) × (n : ℕ) × (length shared.now.jobs.now ≤ n) ×
@@ -187,6 +135,8 @@ fn serve<
         grants_of store.old.cells.hand store.old.records.hand store.old.blocks.hand store.old.client.clashes + granted_by answered.new.items }
     ensures refused { nulls_of store.new.cells.hand store.new.records.hand store.new.blocks.hand store.new.client.clashes ≡
         nulls_of store.old.cells.hand store.old.records.hand store.old.blocks.hand store.old.client.clashes + refused_by answered.new.items }
+    ensures fetched { gets_of store.new.cells.shelf_hand store.new.records.shelf_hand store.new.blocks.shelf_hand store.new.client.strays ≡
+        gets_of store.old.cells.shelf_hand store.old.records.shelf_hand store.old.blocks.shelf_hand store.old.client.strays + fetched_by answered.new.items }
 {
     let Ok(mut workspace) = Workspace::new(shared.alloc) else {
         return false;
@@ -205,21 +155,10 @@ fn serve<
 }
 
 // Does the job of a number, and keeps its report.
-fn answer<
-    'a,
-    A0: Ledger,
-    B0: Ledger,
-    A1: Ledger,
-    B1: Ledger,
-    A2: Ledger,
-    B2: Ledger,
-    N: Before + 'a,
-    G: Gate + 'a,
-    R: Wait + 'a,
->(
-    shared: &Shared<'a, A0, B0, A1, B1, A2, B2, G, R>,
+fn answer<'a, L: Names, N: Before + 'a, G: Gate + 'a, R: Wait + 'a>(
+    shared: &Shared<'a, L, G, R>,
     number: u64,
-    store: &mut Store<'a, A0, B0, A1, B1, A2, B2, N, R>,
+    store: &mut Store<'a, L, N, R>,
     answered: &mut Vec<Numbered>,
     workspace: Workspace<Object>,
 ) -> Result<Workspace<Object>, AllocError>
@@ -227,19 +166,23 @@ fn answer<
     requires can { All (CanRun shared.now.programs.now) shared.now.jobs.now }
     requires few { length shared.now.jobs.now ≤ MAX_JOBS }
     requires number { number < length shared.now.jobs.now }
-    requires even { IsEven store.old.cells.hand store.old.records.hand store.old.blocks.hand }
-    ensures even { IsEven store.new.cells.hand store.new.records.hand store.new.blocks.hand }
+    requires even { IsEven store.old.cells.hand store.old.records.hand store.old.blocks.hand store.old.cells.shelf_hand store.old.records.shelf_hand store.old.blocks.shelf_hand }
+    ensures even { IsEven store.new.cells.hand store.new.records.hand store.new.blocks.hand store.new.cells.shelf_hand store.new.records.shelf_hand store.new.blocks.shelf_hand }
     ensures answered { OnOk result ((n : Numbered) × (n.job ≡ number) × Answers shared.now.programs.now shared.now.jobs.now n ×
         (answered.new.items ≡ answered.old.items ++ n ∷ []) ×
         (grants_of store.new.cells.hand store.new.records.hand store.new.blocks.hand store.new.client.clashes ≡
         grants_of store.old.cells.hand store.old.records.hand store.old.blocks.hand store.old.client.clashes + granted n.report.answers) ×
         (nulls_of store.new.cells.hand store.new.records.hand store.new.blocks.hand store.new.client.clashes ≡
-        nulls_of store.old.cells.hand store.old.records.hand store.old.blocks.hand store.old.client.clashes + refused n.report.answers)) }
+        nulls_of store.old.cells.hand store.old.records.hand store.old.blocks.hand store.old.client.clashes + refused n.report.answers) ×
+        (gets_of store.new.cells.shelf_hand store.new.records.shelf_hand store.new.blocks.shelf_hand store.new.client.strays ≡
+        gets_of store.old.cells.shelf_hand store.old.records.shelf_hand store.old.blocks.shelf_hand store.old.client.strays + fetched n.report.answers)) }
     ensures failed { OnErr result ((answered.new.items ≡ answered.old.items) ×
         (grants_of store.new.cells.hand store.new.records.hand store.new.blocks.hand store.new.client.clashes ≡
         grants_of store.old.cells.hand store.old.records.hand store.old.blocks.hand store.old.client.clashes) ×
         (nulls_of store.new.cells.hand store.new.records.hand store.new.blocks.hand store.new.client.clashes ≡
-        nulls_of store.old.cells.hand store.old.records.hand store.old.blocks.hand store.old.client.clashes)) }
+        nulls_of store.old.cells.hand store.old.records.hand store.old.blocks.hand store.old.client.clashes) ×
+        (gets_of store.new.cells.shelf_hand store.new.records.shelf_hand store.new.blocks.shelf_hand store.new.client.strays ≡
+        gets_of store.old.cells.shelf_hand store.old.records.shelf_hand store.old.blocks.shelf_hand store.old.client.strays)) }
 {
     let job = &shared.jobs[number as usize];
     let Ok(context) = room_for(shared.alloc, answered, &job.context.bytes) else {

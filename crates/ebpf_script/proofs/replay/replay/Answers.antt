@@ -1,16 +1,15 @@
 use Rattle.std.proofs.Common.{rules}
 use Rattle.ebpf_command.proofs.Written.{response_through, begun_through, response_of_shown}
-use Rattle.ebpf_script.specs.declared.shelves.Shelves.TheVariants.{InReach}
 use Rattle.ebpf_script.specs.declared.reader.script.Dialect.TheVariants.{Events}
 use Rattle.ebpf_script.specs.ReplayText.{RespondsReplay, DoesReplay}
 use Rattle.ebpf_script.proofs.ScriptTextLemmas.{script_cuts}
 use Rattle.ebpf_script.proofs.replay.replay.Goals as goal
 
 pub returns-clause-response : goal.returns-clause-response
-returns-clause-response g c = response_through RespondsReplay _ _ _ _ c.respond.ensures.response (λ all response k. response_of_shown RespondsReplay (script_cuts InReach Events DoesReplay) all response k.0 k.2 (let h = k.1 in search rules))
+returns-clause-response g c = response_through RespondsReplay _ _ _ _ c.respond.ensures.response (λ all response k. response_of_shown RespondsReplay (script_cuts Events DoesReplay) all response k.0 k.2 (let h = k.1 in search rules))
 
 pub returns-clause-consumed : goal.returns-clause-consumed
 returns-clause-consumed g c = c.respond.ensures.consumed
 
 pub returns-clause-beginning : goal.returns-clause-beginning
-returns-clause-beginning g c = begun_through RespondsReplay _ _ _ _ c.respond.ensures.beginning (λ all response k. response_of_shown RespondsReplay (script_cuts InReach Events DoesReplay) all response k.0 k.2 (let h = k.1 in search rules))
+returns-clause-beginning g c = begun_through RespondsReplay _ _ _ _ c.respond.ensures.beginning (λ all response k. response_of_shown RespondsReplay (script_cuts Events DoesReplay) all response k.0 k.2 (let h = k.1 in search rules))

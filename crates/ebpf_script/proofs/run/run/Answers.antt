@@ -1,13 +1,12 @@
 use Rattle.std.proofs.Common.{rules}
 use Rattle.ebpf_command.proofs.Written.{response_through, begun_through, response_of_shown}
-use Rattle.ebpf_script.specs.declared.shelves.Shelves.TheVariants.{Absent}
 use Rattle.ebpf_script.specs.declared.reader.script.Dialect.TheVariants.{Jobs}
 use Rattle.ebpf_script.specs.RunText.{RespondsRun, DoesRun}
 use Rattle.ebpf_script.proofs.ScriptTextLemmas.{script_cuts}
 use Rattle.ebpf_script.proofs.run.run.Goals as goal
 
 pub returns-clause-response : goal.returns-clause-response
-returns-clause-response g c = response_through RespondsRun _ _ _ _ c.respond.ensures.response (λ all response k. response_of_shown RespondsRun (script_cuts Absent Jobs DoesRun) all response k.0 k.2 (let h = k.1 in search rules))
+returns-clause-response g c = response_through RespondsRun _ _ _ _ c.respond.ensures.response (λ all response k. response_of_shown RespondsRun (script_cuts Jobs DoesRun) all response k.0 k.2 (let h = k.1 in search rules))
 
 pub returns-clause-beginning : goal.returns-clause-beginning
-returns-clause-beginning g c = begun_through RespondsRun _ _ _ _ c.respond.ensures.beginning (λ all response k. response_of_shown RespondsRun (script_cuts Absent Jobs DoesRun) all response k.0 k.2 (let h = k.1 in search rules))
+returns-clause-beginning g c = begun_through RespondsRun _ _ _ _ c.respond.ensures.beginning (λ all response k. response_of_shown RespondsRun (script_cuts Jobs DoesRun) all response k.0 k.2 (let h = k.1 in search rules))

@@ -19,5 +19,5 @@ loop-name-preserved c =
       is = rw (← c.deref.ensures.value) c.in_ok-judged.ensures;
     } in
     let left = ap (map named) c.in-Some.ensures.steps in
-    let before = subst (λ (xs : List Named). AreKeptBefore c.args.shelves (map named c.args.programs.now.entries) xs c.loop-name.verdicts) left c.loop-name.invariant in
-    kept_next c.args.shelves (map named c.args.programs.now.entries) (map named c.next.new.self) c.loop-name.verdicts c.add.new.self verdict before (rw (← c.as_str.ensures.value, ← c.told.ensures) c.in_ok-add.ensures.text) (rw (← c.told.ensures) c.in_ok-add.ensures.accepted) (rw (← c.told.ensures) c.in_ok-add.ensures.refused)
+    let before = subst (λ (xs : List Named). AreKeptBefore (map named c.args.programs.now.entries) xs c.loop-name.verdicts) left c.loop-name.invariant in
+    kept_next (map named c.args.programs.now.entries) (map named c.next.new.self) c.loop-name.verdicts c.add.new.self verdict before (rw (← c.as_str.ensures.value) c.in_ok-add.ensures.text) c.in_ok-add.ensures.accepted c.in_ok-add.ensures.refused

@@ -5,7 +5,7 @@ use Rattle.worker_pool.proofs.crew.dismiss.Given as goal
 
 abbrev pub invariant-loop-worker : goal.invariant-loop-worker
 invariant-loop-worker g l = record {
-  apart : AreApart l.fn.workers.items l.workers.items l.parts l.clashes l.is_through;
+  apart : AreApart l.fn.workers.items l.workers.items l.parts l.done;
   room : HasRoom (length l.fn.workers.items) l.parts;
   len : length l.workers.items + l._worker ≡ length l.fn.workers.items;
 }

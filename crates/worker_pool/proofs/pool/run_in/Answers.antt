@@ -9,8 +9,32 @@ use Rattle.worker_pool.proofs.Admitted.{admitted}
 use Rattle.worker_pool.proofs.Outcoming.{outcome, placed_once, answered_inside}
 use Rattle.worker_pool.proofs.pool.run_in.Goals as goal
 
-pub new-requires-clause-count : goal.new-requires-clause-count
-new-requires-clause-count g c = let a = admitted _ _ _ c.requires.fine in let some = a.some in let few = a.few in search rules
+-- the first part of each is that what is passed is not too large
+pub new-requires : goal.new-requires
+new-requires g c =
+    let a = admitted _ _ _ c.requires.fine in
+    let some = a.some in
+    let few = a.few in
+    let r = c.requires in (omega arith, (r.cells, (r.cell_shelf, (r.records, (r.record_shelf, (r.blocks, (r.block_shelf, search rules)))))))
+
+pub clear-shelves-requires : goal.clear-shelves-requires
+clear-shelves-requires g c =
+    let s = c.serve_all-done.ensures.served in
+    let made = c.in-Ok.ensures.opened.shelves in
+    let a = admitted _ _ _ c.requires.fine in
+    let some = a.some in (
+      omega arith,
+      (
+        (let l = s.cells.all_shelf in let m = made.cells in search rules),
+        (
+          (let l = s.records.all_shelf in let m = made.records in search rules),
+          (
+            (let l = s.blocks.all_shelf in let m = made.blocks in search rules),
+            ((let x = s.cells.all in let y = s.records.all in let z = s.blocks.all in let w = s.seats_all in search rules), s.idle),
+          ),
+        ),
+      ),
+    )
 
 pub serve_all-done-requires-clause-can : goal.serve_all-done-requires-clause-can
 serve_all-done-requires-clause-can g c κs within = let a = admitted _ _ _ c.requires.fine in subst (λ ps. All (CanRun ps) c.args.jobs.now) (sym c.deref.ensures.value) a.can
@@ -47,11 +71,11 @@ returns-clause-done g c =
     let fits : NeverWraps c.in-Ok.plant.room.tickets.limit c.in-Ok.plant.room.tickets.seats = search rules in
     let drawers = s.drawers_all in
     let all : vec_len c.serve_all-done.new.parts.drawers ≡ c.in-Ok.plant.room.tickets.seats = search rules in
-    let made : Outcome = record { reports = c.place_all.new.places.items; totals = c.close-totals.result; clashes = c.serve_all-done.result.clashes } in
+    let made : Outcome = record { reports = c.place_all.new.places.items; totals = c.close-totals.result; clashes = c.serve_all-done.result.clashes; shelves = c.clear-shelves.result; strays = c.serve_all-done.result.strays } in
     let limit : c.in-Ok.plant.room.tickets.limit ≡ length c.args.jobs.now = search rules in
     let len : length c.place_all.new.places.items ≡ length c.args.jobs.now = search rules in
     let e = c.place_all.ensures in
-    subst (λ ps. IsOutcome ps c.args.jobs.now c.args.seats.items c.serve_all-done.new.parts.seats.items made) c.deref.ensures.value
+    subst (λ ps. IsOutcome ps c.args.jobs.now c.args.seats.items c.clear-shelves.new.seats.items made) c.deref.ensures.value
     (outcome _ _ _ _ _ _ _ through s (c.close.ensures.once fits) c.in-Ok.plant.room.reports.items c.in-Ok.ensures.reports.1
     (λ x below. c.close.ensures.each fits all (s.through through) x (omega (arith, below, limit)))
-    c.place_all.new.places.items len e.filled e.weight e.from c.close-totals.result c.close-totals.ensures made refl refl refl)
+    c.place_all.new.places.items len e.filled e.weight e.from c.clear-shelves.new.hands c.clear-shelves.new.seats.items c.clear-shelves.result c.clear-shelves.ensures c.close-totals.result c.close-totals.ensures made refl refl refl refl refl)

@@ -1,19 +1,14 @@
+use Rattle.std.proofs.Common.{ℕ, ◌==◌, if◌then◌else◌}
 use Rattle.worker_pool.proofs.pool.run_jobs.Given as goal
 
-abbrev pub ghosts-run_in-A0-Ledger : goal.ghosts-run_in-A0-Ledger
-ghosts-run_in-A0-Ledger g a = record { name = a.blanks.cells_out.name; parts = a.blanks.cells_out.parts }
+-- the name of a kind's book, where these are the names of the three
+abbrev by_kind : (cells records blocks kind : ℕ) → ℕ
+by_kind cells records blocks kind = if kind == 0 then cells else if kind == 1 then records else blocks
 
-abbrev pub ghosts-run_in-B0-Ledger : goal.ghosts-run_in-B0-Ledger
-ghosts-run_in-B0-Ledger g a = record { name = a.blanks.cells_in.name; parts = a.blanks.cells_in.parts }
-
-abbrev pub ghosts-run_in-A1-Ledger : goal.ghosts-run_in-A1-Ledger
-ghosts-run_in-A1-Ledger g a = record { name = a.blanks.records_out.name; parts = a.blanks.records_out.parts }
-
-abbrev pub ghosts-run_in-B1-Ledger : goal.ghosts-run_in-B1-Ledger
-ghosts-run_in-B1-Ledger g a = record { name = a.blanks.records_in.name; parts = a.blanks.records_in.parts }
-
-abbrev pub ghosts-run_in-A2-Ledger : goal.ghosts-run_in-A2-Ledger
-ghosts-run_in-A2-Ledger g a = record { name = a.blanks.blocks_out.name; parts = a.blanks.blocks_out.parts }
-
-abbrev pub ghosts-run_in-B2-Ledger : goal.ghosts-run_in-B2-Ledger
-ghosts-run_in-B2-Ledger g a = record { name = a.blanks.blocks_in.name; parts = a.blanks.blocks_in.parts }
+abbrev pub ghosts-run_in : goal.ghosts-run_in
+ghosts-run_in g a = record {
+  outs = by_kind a.blanks.cells.outs.name a.blanks.records.outs.name a.blanks.blocks.outs.name;
+  ins = by_kind a.blanks.cells.ins.name a.blanks.records.ins.name a.blanks.blocks.ins.name;
+  puts = by_kind a.blanks.cells.puts.name a.blanks.records.puts.name a.blanks.blocks.puts.name;
+  gets = by_kind a.blanks.cells.gets.name a.blanks.records.gets.name a.blanks.blocks.gets.name;
+}

@@ -1,5 +1,5 @@
 use Rattle.std.proofs.Common.{rules, ◌≡◌, All, true, sum_by, length, map, reverse, sym, ap, subst, ◌∙◌, arith}
-use Rattle.worker_pool.specs.Crews.{ArePartsOf, seat_in, clashes_in}
+use Rattle.worker_pool.specs.Crews.{ArePartsOf, seat_in, clashes_in, strays_in}
 use Rattle.worker_pool.specs.Working.{IsFresh}
 use Rattle.worker_pool.proofs.Turned.{as_many, written_back}
 use Rattle.worker_pool.proofs.Serving.{all_served}
@@ -21,4 +21,5 @@ returns-clause-served g c =
     (omega (arith, some, c.requires.some.0)) seats
     (subst (λ l. ArePartsOf (reverse l) c.dismiss.new.parts) back d.parts)
     (d.clashes ∙ ap (sum_by clashes_in) back)
+    (d.strays ∙ ap (sum_by strays_in) back)
     (λ e. subst (All (λ w. w.is_through ≡ true)) back (d.through e))

@@ -13,10 +13,11 @@ pub returns-clause-even : goal.returns-clause-even
 returns-clause-even g c =
     let o = c.args.store.now in
     let n = c.run_in.new.objects in
-    evens o.cells.hand o.records.hand o.blocks.hand n.cells.hand n.records.hand n.blocks.hand o.cells.few o.records.few o.blocks.few n.cells.few n.records.few n.blocks.few c.run_in.ensures.outs c.requires.even
+    evens o.cells.hand o.records.hand o.blocks.hand n.cells.hand n.records.hand n.blocks.hand
+    o.cells.shelf_hand o.records.shelf_hand o.blocks.shelf_hand n.cells.shelf_hand n.records.shelf_hand n.blocks.shelf_hand o.cells.few o.records.few o.blocks.few n.cells.few n.records.few n.blocks.few c.run_in.ensures.outs c.requires.even
 
 pub returns-clause-answered : goal.returns-clause-answered
-returns-clause-answered g c = (n, refl, answered, items, c.in-Ok-run_in.ensures.granted, c.in-Ok-run_in.ensures.nulls) where
+returns-clause-answered g c = (n, refl, answered, items, c.in-Ok-run_in.ensures.granted, c.in-Ok-run_in.ensures.nulls, c.in-Ok-run_in.ensures.gets) where
   n : Numbered
   n = record { job = c.args.number; report = c.in-Ok-run_in.report }
 

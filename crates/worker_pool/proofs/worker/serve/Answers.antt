@@ -4,7 +4,7 @@ use Rattle.std.proofs.lemmas.List.{map_push}
 use Rattle.owners_table.specs.Drawing.{TicketView, IsOf}
 use Rattle.worker_pool.specs.declared.jobs.Numbered.{Numbered}
 use Rattle.worker_pool.specs.Working.{Answers, number_of}
-use Rattle.worker_pool.proofs.Sums.{granted_more, refused_more}
+use Rattle.worker_pool.proofs.Sums.{granted_more, refused_more, fetched_more}
 use Rattle.worker_pool.proofs.worker.serve.Goals as goal
 
 pub loop-preserved : goal.loop-preserved
@@ -22,6 +22,7 @@ loop-preserved g c =
       good = subst (λ (l : List Numbered). All (Answers c.args.shared.now.programs.now c.args.shared.now.jobs.now) l) (sym a.3) (All-push (Answers c.args.shared.now.programs.now c.args.shared.now.jobs.now) before a.0 i.good a.2);
       granted = granted_more _ _ _ before _ a.0 a.3 i.granted a.4;
       refused = refused_more _ _ _ before _ a.0 a.3 i.refused a.5;
+      fetched = fetched_more _ _ _ before _ a.0 a.3 i.fetched a.6;
     }
 
 pub returns-in_default-answer-clause-good : goal.returns-in_default-answer-clause-good

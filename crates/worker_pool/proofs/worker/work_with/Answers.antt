@@ -1,31 +1,35 @@
 use Rattle.std.proofs.Common.{◌≡◌, ℕ, ◌+◌, refl, ap, sym, ◌∙◌, arith}
 use Rattle.std.proofs.lemmas.List.{nil_from_length}
-use Rattle.worker_pool.specs.Counts.{grants_of, nulls_of}
+use Rattle.worker_pool.specs.Counts.{grants_of, nulls_of, gets_of}
 use Rattle.worker_pool.proofs.worker.work_with.Goals as goal
 
 pub returns : goal.returns
 returns g c =
     let s = c.serve-is_through.new.store in
     let e = c.serve-is_through.ensures in
-    let u = c.requires.unused in
+    let n = c.new-store.ensures in
     let new = c.new-store.result in
-    let hands = c.new-store.ensures.hands in
+    let hands = n.hands in
+    let shelves = n.shelf_hands in
     let allocs = s.cells.hand.allocs + s.records.hand.allocs + s.blocks.hand.allocs in
-    let cells = hands.0 ∙ (c.new-cells.ensures ∙ u.cells) in
-    let records = hands.1 ∙ (c.new-records.ensures ∙ u.records) in
-    let blocks = hands.2 ∙ (c.new-blocks.ensures ∙ u.blocks) in
-    let no_grants : grants_of new.cells.hand new.records.hand new.blocks.hand new.client.clashes ≡ 0 = rw (cells, records, blocks, c.new-store.ensures.client.1) refl in
-    let no_nulls : nulls_of new.cells.hand new.records.hand new.blocks.hand new.client.clashes ≡ 0 = rw (cells, records, blocks, c.new-store.ensures.client.1) refl in
-    rw (c.end-seat.ensures.parts, c.end.ensures, c.end-2.ensures, c.end-3.ensures) (record {
+    let gets = s.cells.shelf_hand.gets + s.records.shelf_hand.gets + s.blocks.shelf_hand.gets in
+    let no_grants : grants_of new.cells.hand new.records.hand new.blocks.hand new.client.clashes ≡ 0 = rw (hands.0, hands.1, hands.2, n.client.1) refl in
+    let no_nulls : nulls_of new.cells.hand new.records.hand new.blocks.hand new.client.clashes ≡ 0 = rw (hands.0, hands.1, hands.2, n.client.1) refl in
+    let no_gets : gets_of new.cells.shelf_hand new.records.shelf_hand new.blocks.shelf_hand new.client.strays ≡ 0 = rw (shelves.0, shelves.1, shelves.2, n.client.2) refl in
+    let b = c.requires.before in
+    let end = c.end.ensures in
+    rw (end.hands.0, end.hands.1, end.hands.2, end.shelf_hands.0, end.shelf_hands.1, end.shelf_hands.2, end.seat.0, end.seat.1, end.seat.2) (record {
       even = e.even;
-      table = s.client.seated ∙ sym c.requires.before.0;
+      table = s.client.seated ∙ sym b.0;
       held = nil_from_length _ (omega (arith, s.held, e.even.cells_even, e.even.records_even, e.even.blocks_even));
-      notes = s.noted ∙ sym (ap (λ (n : ℕ). n + allocs) c.requires.before.1);
+      notes = s.noted ∙ sym (ap (λ (n : ℕ). n + allocs) b.1);
+      fetches = s.fetched ∙ sym (ap (λ (n : ℕ). n + gets) b.3);
       few = s.client.few;
-      lost = s.client.clashed ∙ sym (ap (λ (n : ℕ). n + s.client.clashes) c.requires.before.2);
+      lost = s.client.clashed ∙ sym (ap (λ (n : ℕ). n + s.client.clashes) b.2);
       tickets = e.table;
       good = e.good;
       drawn = e.drawn;
       granted = omega (arith, e.granted, no_grants, s.clashes);
       refused = omega (arith, e.refused, no_nulls);
+      fetched = omega (arith, e.fetched, no_gets, s.strays);
     })

@@ -29,6 +29,6 @@ invariant_of-client-2 g c =
       table = client.table;
       seated = claim.table ∙ client.seated;
       once = once_same client.seat.held _ claim.taken.0 client.once;
-      few = c.count.ensures.few;
+      few = (c.count.ensures.few, client.few.1);
       clashed = lost_one_more _ _ _ _ _ client.seat.notes _ claim.taken.1 c.count.ensures.one_more client.clashed;
     }

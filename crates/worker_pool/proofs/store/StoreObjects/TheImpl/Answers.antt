@@ -1,31 +1,25 @@
--- A store whose swap answers none, and takes back what it is given, keeps the laws of swap.
-use Rattle.std.proofs.Common.{◌≡◌, ℕ, Option, Some, None, IfSome, IfNone, refl, ap, arith}
-use Rattle.ebpf_machine.specs.Store.{one_of}
+-- An exchange keeps the laws of swap.
+use Rattle.std.proofs.Common.{◌≡◌, refl}
+use Rattle.owners_table.specs.Owning.{Holds}
+use Rattle.worker_pool.specs.Object.{slot_of, kind_of}
+use Rattle.worker_pool.proofs.Passing.{slots, whatever, even_none, one_got, none_got, is_held, is_apart, is_gone, is_still_held, first_of}
 use Rattle.worker_pool.proofs.store.StoreObjects.TheImpl.Goals as goal
 
-no_object : {X : Type 0} (P : X → Type 0) (o : Option X) → o ≡ None → IfSome o P
-no_object P None e = tt
-no_object P (Some x) e = absurd (cc)
-
-in_any_case : {X : Type 0} (P : Type 0) (o : Option X) → P → IfNone o P
-in_any_case P None p = p
-in_any_case P (Some x) p = tt
-
 pub swap-tells : goal.swap-tells
-swap-tells g c = record {
-  fetched = no_object _ c.result c.ensures.none;
-  missed = in_any_case _ c.result tt;
-  out = no_object _ c.result c.ensures.none;
-  apart = no_object _ c.result c.ensures.none;
-  takes = (c.ensures.granted, c.ensures.refused);
-  fetched_count = no_object _ c.result c.ensures.none;
-  missed_count = in_any_case _ c.result (c.ensures.missed, refl);
-  outs = λ k.
-      let none : one_of c.result c.args.shelf k ≡ 0 = ap (λ o. one_of o c.args.shelf k) c.ensures.none in
-      let outs = c.ensures.outs k in
-      omega (arith, none, outs);
-  gone = c.ensures.gone;
-  shelf = λ what stood. absurd stood;
-  other_shelves = λ other what apart stood. absurd stood;
-  others = λ other out apart. (c.ensures.others other out apart, refl);
-}
+swap-tells g c =
+    let e = c.ensures in
+    let held = c.args.self.now.client.seat.held in
+    let given = first_of c.args.given (λ o. Holds (slot_of o) held) (λ o. kind_of o ≡ c.args.shelf) c.requires.given in record {
+      fetched = whatever c.result;
+      missed = even_none c.result;
+      out = is_held (slots c.args.given) c.result c.args.shelf _ held _ e.seat e.kind;
+      apart = is_apart (slots c.args.given) c.result _ held _ e.seat;
+      takes = (e.granted, e.refused);
+      fetched_count = one_got c.result _ _ _ _ e.gets e.misses;
+      missed_count = none_got c.result _ _ _ _ e.gets e.misses;
+      outs = e.outs;
+      gone = is_gone c.args.given (slots c.result) _ held _ given c.args.self.now.client.once e.seat;
+      shelf = λ what stood. absurd stood;
+      other_shelves = λ other what apart stood. absurd stood;
+      others = λ other now apart. (is_still_held c.args.given (slots c.result) _ other held _ given e.seat now apart, refl);
+    }
