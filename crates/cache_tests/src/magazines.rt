@@ -12,14 +12,14 @@ use std::process::Abort;
 // More than any layer or depot here holds.
 const MANY: u32 = 64;
 
-fn layer_of<K: Kind>(rt: &impl Abort, alloc: Global) -> Layer<K> {
+pub(crate) fn layer_of<K: Kind>(rt: &impl Abort, alloc: Global) -> Layer<K> {
     match Layer::new(alloc) {
         Ok(layer) => layer,
         Err(_) => panic!(rt; "no memory"),
     }
 }
 
-fn magazine_of<K: Kind>(rt: &impl Abort, alloc: Global) -> Magazine<K>
+pub(crate) fn magazine_of<K: Kind>(rt: &impl Abort, alloc: Global) -> Magazine<K>
     ensures { result ≡ [] }
 {
     match Magazine::new(alloc) {
