@@ -2,6 +2,7 @@
 //! once. The script tests/want-of-memory refuses one allocation after another, and looks for each line that is told here.
 
 ghost use Rattle.std.specs.Prelude.{◌≡◌, []};
+ghost use Rattle.magazine.specs.LayerView.{IsEmpty};
 ghost use Rattle.slab_layer.specs.Slots.{Has};
 ghost use Rattle.vmem_arena.specs.Spans.{pages_of};
 
@@ -40,7 +41,9 @@ fn grow_again<R: Abort + Print>(rt: &R, slabs: &mut Slabs<CellKind>, span: Span)
     holds(rt, slabs.grow(back).is_ok());
 }
 
-fn layer_again<R: Abort + Print>(rt: &R, alloc: Global) -> Layer<CellKind> {
+fn layer_again<R: Abort + Print>(rt: &R, alloc: Global) -> Layer<CellKind>
+    ensures { IsEmpty result }
+{
     let Ok(layer) = Layer::new(alloc) else {
         tells(rt, "a layer");
         return layer_of(rt, alloc);
