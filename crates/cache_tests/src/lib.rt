@@ -15,6 +15,8 @@ mod facts;
 #[cfg(test)]
 mod magazines;
 #[cfg(test)]
+mod memory;
+#[cfg(test)]
 mod owners;
 #[cfg(test)]
 mod shelves;

@@ -1,6 +1,7 @@
 //! Objects that go through a layer and the depot, and how many of them each holds.
 
 ghost use Rattle.std.specs.Prelude.{◌≡◌, []};
+ghost use Rattle.magazine.specs.LayerView.{IsEmpty};
 
 use crate::arena::arena_of;
 use crate::slabs::grown;
@@ -12,14 +13,16 @@ use std::process::Abort;
 // More than any layer or depot here holds.
 const MANY: u32 = 64;
 
-fn layer_of<K: Kind>(rt: &impl Abort, alloc: Global) -> Layer<K> {
+pub(crate) fn layer_of<K: Kind>(rt: &impl Abort, alloc: Global) -> Layer<K>
+    ensures { IsEmpty result }
+{
     match Layer::new(alloc) {
         Ok(layer) => layer,
         Err(_) => panic!(rt; "no memory"),
     }
 }
 
-fn magazine_of<K: Kind>(rt: &impl Abort, alloc: Global) -> Magazine<K>
+pub(crate) fn magazine_of<K: Kind>(rt: &impl Abort, alloc: Global) -> Magazine<K>
     ensures { result ≡ [] }
 {
     match Magazine::new(alloc) {

@@ -20,6 +20,7 @@ use ebpf_command::done::FaultCode;
 use ebpf_command::input::MAX_INPUT;
 use indexmap::IndexMap;
 use std::alloc::Global;
+use std::hash::BuildHasherDefault;
 
 /// The script that a text of this dialect is parsed to.
 ///
@@ -41,7 +42,7 @@ pub fn read_script(alloc: Global, dialect: Dialect, text: &[u8]) -> Result<Scrip
         }));
     }
     let mut script = Script {
-        programs: IndexMap::new(alloc),
+        programs: IndexMap::with_hasher(alloc, BuildHasherDefault::new()),
         events: Vec::new(alloc),
         pages: None,
         jobs: Vec::new(alloc),

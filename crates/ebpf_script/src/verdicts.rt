@@ -5,11 +5,10 @@ ghost use Rattle.ebpf_script.specs.ReadScripts.{named};
 ghost use Rattle.ebpf_script.specs.Verdicts.{Verdict, AreOn, verdict_lines, accepted_of, is_any_refused, judged_line, accepted_in, is_refused};
 ghost use Rattle.ebpf_script.specs.VerdictsKept.{AreKept};
 
-use crate::reader::script::ProgramText;
+use crate::reader::script::Programs;
 use ebpf_command::judge::{Judged, judge};
 use ebpf_state::kinds::kinds;
 use ebpf_verify::verified::Verified;
-use indexmap::IndexMap;
 use std::alloc::{AllocError, Global};
 
 /// The verdicts on the programs of a script: their lines, the programs that are accepted, and whether one is
@@ -22,10 +21,7 @@ pub struct Verdicts {
 }
 
 /// Judges each program of a script. It fails only where an allocation fails.
-pub(crate) fn verdicts_on(
-    alloc: Global,
-    programs: &IndexMap<String, ProgramText>,
-) -> Result<Verdicts, AllocError>
+pub(crate) fn verdicts_on(alloc: Global, programs: &Programs) -> Result<Verdicts, AllocError>
     ensures { IfOk result (AreKept (map named programs.now.entries)) }
 {
     let rows = kinds();

@@ -24,7 +24,7 @@ pub(crate) fn script_of(rt: &impl Abort, alloc: Global, dialect: Dialect, text: 
 }
 
 // A program of a script, accepted.
-fn accepted(rt: &impl Abort, alloc: Global, program: &ProgramText) -> Verified
+pub(crate) fn accepted(rt: &impl Abort, alloc: Global, program: &ProgramText) -> Verified
     ensures { kinds_of result.rows ≡ known_kinds }
 {
     match judge(alloc, &program.bytes, program.decl, &kinds()) {

@@ -37,6 +37,8 @@ mod programs;
 #[cfg(test)]
 mod range;
 #[cfg(test)]
+mod refused;
+#[cfg(test)]
 mod run;
 #[cfg(test)]
 mod script;

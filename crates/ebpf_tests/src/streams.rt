@@ -6,11 +6,14 @@ use ebpf_one::list::list;
 use ebpf_one::one::one;
 use ebpf_script::check::check;
 use ebpf_script::replay::replay;
+use ebpf_script::run::run;
 use std::alloc::Global;
 use std::io;
 use std::io::{Read, Write};
 use std::process::Abort;
+use std::sync::Wait;
 use std::test::*;
+use std::thread::Threads;
 
 // Gives a text and then a byte over and over, up to so many bytes a call. Then it ends, or fails for a cause. One that
 // stumbles fails at its first call alone.
@@ -113,7 +116,7 @@ fn ample(alloc: Global) -> Sink {
 }
 
 // Each command, with an input and the text that it tells of it.
-static COMMANDS: [(&str, &str, &str); 4] = [
+static COMMANDS: [(&str, &str, &str); 5] = [
     (
         "one",
         "b7000000070000009500000000000000",
@@ -137,10 +140,19 @@ start a -\nstart a -\nexec 1\nexec 0\nexec 0\n",
 run 0 exit 7 executed 2\nrun 1 going 1 executed 1\n\
 kind 0 slots 0 held 0\nkind 1 slots 0 held 0\nkind 2 slots 0 held 0\n",
     ),
+    (
+        "run",
+        "program a 0 0 b7000000070000009500000000000000\narena 16\nrun a -\n",
+        "a accepted 2\njob 0 exit 7 executed 2 peak 0\n\
+cache cell allocs 0 frees 0 nulls 0 missing 0\n\
+cache record allocs 0 frees 0 nulls 0 missing 0\n\
+cache block allocs 0 frees 0 nulls 0 missing 0\n",
+    ),
 ];
 
 // Calls the command of this name.
-fn call(
+fn call<R: Threads + Wait + Sync>(
+    rt: &R,
     alloc: Global,
     command: &str,
     reader: &mut Source<'_>,
@@ -150,16 +162,22 @@ fn call(
         "one" => one(alloc, reader, writer, "-", 0, false),
         "list" => list(alloc, reader, writer),
         "check" => check(alloc, reader, writer),
-        _ => replay(alloc, reader, writer),
+        "replay" => replay(alloc, reader, writer),
+        _ => run(rt, alloc, reader, writer, 2, 1),
     }
 }
 
 // Calls a command on a reader that is to fail, and checks that nothing is written.
-fn fails_to_read(rt: &impl Abort, alloc: Global, command: &str, reader: Source<'_>) {
+fn fails_to_read<R: Abort + Threads + Wait + Sync>(
+    rt: &R,
+    alloc: Global,
+    command: &str,
+    reader: Source<'_>,
+) {
     let (cut, times) = (reader.text.len(), reader.times);
     let mut reader = reader;
     let mut writer = ample(alloc);
-    let outcome = call(alloc, command, &mut reader, &mut writer);
+    let outcome = call(rt, alloc, command, &mut reader, &mut writer);
     assert!(rt;
         matches!(outcome, Err(EngineFault::Input)) && writer.got.is_empty(),
         "{command} after {cut} bytes of the text and {times} of a flood"
@@ -193,14 +211,19 @@ fn a_read_that_fails_once_is_not_made_again(rt: HostRuntime) {
 }
 
 // Calls a command whose writer fails at its first write, or each time that it is flushed, and checks that it says so.
-fn fails_to_write(rt: &impl Abort, alloc: Global, row: (&str, &str, &str), at_flush: bool) {
+fn fails_to_write<R: Abort + Threads + Wait + Sync>(
+    rt: &R,
+    alloc: Global,
+    row: (&str, &str, &str),
+    at_flush: bool,
+) {
     let (command, input, told) = row;
     let mut reader = flood(0, 0, None);
     reader.text = input.as_bytes();
     let mut writer = ample(alloc);
     writer.stumbles = !at_flush;
     writer.fails_to_flush = at_flush;
-    let outcome = call(alloc, command, &mut reader, &mut writer);
+    let outcome = call(rt, alloc, command, &mut reader, &mut writer);
     let came = if at_flush { told } else { "" };
     let is_told = matches!(outcome, Err(EngineFault::Output));
     holds(
@@ -220,14 +243,20 @@ fn a_write_or_a_flush_that_fails_once_is_told(rt: HostRuntime) {
 
 // Calls a command on its input with such a reader and writer, and checks that as much of the text comes as there is room
 // for, and that the command says so where that isn't all.
-fn writes_to(rt: &impl Abort, alloc: Global, row: (&str, &str, &str), give: usize, writer: Sink) {
+fn writes_to<R: Abort + Threads + Wait + Sync>(
+    rt: &R,
+    alloc: Global,
+    row: (&str, &str, &str),
+    give: usize,
+    writer: Sink,
+) {
     let (command, input, told) = row;
     let (take, room, fails) = (writer.most, writer.room, writer.fails);
     let mut reader = flood(0, 0, None);
     reader.text = input.as_bytes();
     reader.most = give;
     let mut writer = writer;
-    let outcome = call(alloc, command, &mut reader, &mut writer);
+    let outcome = call(rt, alloc, command, &mut reader, &mut writer);
     let is_told = match outcome {
         Ok(Done::Clean) => room >= told.len() && writer.is_flushed,
         Err(EngineFault::Output) => room < told.len(),
@@ -250,8 +279,8 @@ fn a_reader_gives_what_it_can(rt: HostRuntime) {
 }
 
 // Calls a command with room for so many bytes, where the writer then fails or takes nothing.
-fn writes_with_room(
-    rt: &impl Abort,
+fn writes_with_room<R: Abort + Threads + Wait + Sync>(
+    rt: &R,
     alloc: Global,
     row: (&str, &str, &str),
     take: usize,
@@ -287,10 +316,15 @@ fn a_failed_write_leaves_a_beginning(rt: HostRuntime) {
 }
 
 // Gives a command 16 MiB of a byte, behind which the reader fails: it is told off after the first byte too many.
-fn reads_no_further(rt: &impl Abort, alloc: Global, command: &str, byte: u8) {
+fn reads_no_further<R: Abort + Threads + Wait + Sync>(
+    rt: &R,
+    alloc: Global,
+    command: &str,
+    byte: u8,
+) {
     let mut reader = flood(byte, 16 * 1024 * 1024, Some(io::ErrorKind::Other));
     let mut writer = ample(alloc);
-    let done = call(alloc, command, &mut reader, &mut writer).expect(rt, "it is told");
+    let done = call(rt, alloc, command, &mut reader, &mut writer).expect(rt, "it is told");
     let is_fault = writer.got.as_slice() == b"fault S1 line 0\n".as_slice();
     let is_left = reader.times == 16 * 1024 * 1024 - 1_048_577;
     holds(
@@ -310,11 +344,11 @@ fn a_long_input_is_not_read_to_its_end(rt: HostRuntime) {
 }
 
 // Gives a command 64 of a byte. A script may have comments and blank lines alone.
-fn is_told_off(rt: &impl Abort, alloc: Global, command: &str, byte: u8) {
+fn is_told_off<R: Abort + Threads + Wait + Sync>(rt: &R, alloc: Global, command: &str, byte: u8) {
     let mut reader = flood(byte, 64, None);
     let mut writer = ample(alloc);
-    let done = call(alloc, command, &mut reader, &mut writer).expect(rt, "it is told");
-    let takes_scripts = matches!(command, "check" | "replay");
+    let done = call(rt, alloc, command, &mut reader, &mut writer).expect(rt, "it is told");
+    let takes_scripts = matches!(command, "check" | "replay" | "run");
     let is_passed = takes_scripts && b"#\t\n\r ".contains(&byte);
     assert!(rt;
         matches!(done, Done::Clean) == is_passed,

@@ -6,6 +6,7 @@ use ebpf_command::done::{FaultCode, Stop};
 use ebpf_core::event::Event;
 use ebpf_verify::decl::Decl;
 use indexmap::IndexMap;
+use std::hash::{BuildHasherDefault, DefaultHasher};
 use worker_pool::Job;
 
 /// Which lines a script may have beside its programs.
@@ -24,10 +25,14 @@ pub struct ProgramText {
     pub decl: Decl,
 }
 
-/// The programs of a script by their names, in the order of their lines, and what its dialect has beside them.
+/// Programs by their names, in the order of their lines. Whoever writes a script picks the names, so they are hashed by SipHash:
+/// names that share a place of the table can be searched for, and not just be written down.
+pub type Programs = IndexMap<String, ProgramText, BuildHasherDefault<DefaultHasher>>;
+
+/// The programs of a script, and what its dialect has beside them.
 #[derive(Drop)]
 pub struct Script {
-    pub programs: IndexMap<String, ProgramText>,
+    pub programs: Programs,
     pub events: Vec<Event>,
     /// The pages of the arena, where a line says how many.
     pub pages: Option<u32>,

@@ -1,0 +1,106 @@
+//! Calls whose memory may be refused: each leaves what was there, and then does when it is made again what it would have done at
+//! once. The script tests/want-of-memory refuses one allocation after another, and looks for each line that is told here.
+
+ghost use Rattle.std.specs.Prelude.{◌≡◌};
+ghost use Rattle.ebpf_machine.specs.Kinds.{AreKnown, known_kinds};
+ghost use Rattle.ebpf_machine.specs.World.{kinds_of};
+
+use crate::accepted::{accepted, script_of};
+use crate::programs::holds;
+use ebpf_command::judge::{Judged, judge};
+use ebpf_core::event::Event;
+use ebpf_core::fault::ApplyFault;
+use ebpf_core::world::{Status, World};
+use ebpf_script::reader::read_script;
+use ebpf_script::reader::script::{Dialect, ProgramText, Script, ScriptStop};
+use ebpf_state::kinds::kinds;
+use ebpf_verify::verified::Verified;
+use std::alloc::Global;
+use std::process::Abort;
+
+// One run asks for a cell and is granted slot 7, and another starts; slot 3 leaves again.
+const SCRIPT: &str = "\
+program cell 1 1 b701000000000000850000000100000015000500000000007a000000050000007906000000000000bf010000000000008500000002000000bf600000000000009500000000000000
+grow 0 7
+grow 0 3
+start cell 09
+exec 0
+exec 0 7
+start cell 0a
+reap 0 3
+exec 0
+";
+
+fn tells(rt: &impl Print, call: &str) {
+    let _ = println!(rt; "refused: {call}");
+}
+
+fn read_again<R: Abort + Print>(rt: &R, alloc: Global) -> Script {
+    match read_script(alloc, Dialect::Events, SCRIPT.as_bytes()) {
+        Ok(script) => script,
+        Err(stop) => {
+            holds(rt, "want of memory", matches!(stop, ScriptStop::NoMemory));
+            tells(rt, "a script");
+            script_of(rt, alloc, Dialect::Events, SCRIPT)
+        }
+    }
+}
+
+fn judge_again<R: Abort + Print>(rt: &R, alloc: Global, program: &ProgramText) -> Verified
+    ensures { kinds_of result.rows ≡ known_kinds }
+{
+    match judge(alloc, &program.bytes, program.decl, &kinds()) {
+        Ok(Judged::Accepted(verified)) => verified,
+        Ok(_) => panic!(rt; "the program is refused"),
+        Err(_) => {
+            tells(rt, "a verdict");
+            accepted(rt, alloc, program)
+        }
+    }
+}
+
+fn programs_again<R: Abort + Print>(rt: &R, alloc: Global, script: &Script) -> Vec<Verified>
+    ensures { AreKnown result.items }
+{
+    let mut programs = Vec::new(alloc);
+    for (_, program) in script.programs.iter() {
+        let verified = judge_again(rt, alloc, program);
+        if let Err(failed) = programs.push(verified) {
+            let is_pushed = programs.push(failed.value).is_ok();
+            holds(rt, "memory is refused once", is_pushed);
+        }
+    }
+    programs
+}
+
+// An event, and the same where that is refused memory: the world is as it was then.
+fn apply_again<R: Abort + Print>(rt: &R, world: &mut World<'_>, event: Event, same: Event) {
+    let (runs, executed, slots) = (world.runs(), world.executed(0), world.ledger(0).len());
+    let Err(fault) = world.apply(event) else {
+        return;
+    };
+    let is_starting = matches!(same, Event::Start { .. });
+    tells(rt, if is_starting { "a start" } else { "a slot" });
+    holds(rt, "want of memory", matches!(fault, ApplyFault::NoMemory));
+    holds(rt, "as many runs", world.runs() == runs);
+    holds(rt, "as far", world.executed(0) == executed);
+    holds(rt, "as many slots", world.ledger(0).len() == slots);
+    holds(rt, "memory is refused once", world.apply(same).is_ok());
+}
+
+#[test]
+fn each_call_is_made_again_where_memory_is_refused(rt: HostRuntime) {
+    let alloc = rt.alloc();
+    let script = read_again(&rt, alloc);
+    let mut same = read_again(&rt, alloc).events.into_iter();
+    let programs = programs_again(&rt, alloc, &script);
+    let mut world = World::new(alloc, &programs).expect(&rt, "it takes no memory");
+    for event in script.events {
+        let same = same.next().expect(&rt, "there are as many events");
+        apply_again(&rt, &mut world, event, same);
+    }
+    holds(&rt, "two runs", world.runs() == 2);
+    let is_third = matches!(world.status(0), Some(Status::Going(3)));
+    holds(&rt, "three instructions", is_third);
+    holds(&rt, "a slot", matches!(world.ledger(0), [7]));
+}
