@@ -30,7 +30,7 @@ impl Model for Answer {
     ghost view = { λ a. record { text = string_bytes a.text; done = a.done } };
 }
 
-/// The answer to a fault: its line alone.
+/// The answer to a fault: its line alone. It fails only where an allocation fails.
 pub fn answer_fault(alloc: Global, code: FaultCode, line: usize) -> Result<Answer, AllocError>
     ensures { IfOk result (λ answer. answer ≡ refused_response (fault_line code line)) }
 {

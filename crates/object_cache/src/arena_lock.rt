@@ -15,6 +15,9 @@ pub struct ArenaLock {
 
 impl ArenaLock {
     /// An arena of this many pages, 1 to `MAX_PAGES` of vmem_arena, all of them free.
+    ///
+    /// # Errors
+    /// `Pages` for any other number; `NoMemory` where an allocation failed.
     pub fn new(alloc: Global, pages: u32) -> Result<ArenaLock, ArenaFault>
         ensures pages { (result ≡ Err ArenaFault.Pages) ↔ ((pages ≡ 0) ⊎ (MAX_PAGES < pages)) }
     {

@@ -49,6 +49,9 @@ impl<K: Kind, A: Ledger, B: Ledger> Model for Cache<K, A, B> {
 impl<K: Kind, A: Ledger, B: Ledger> Cache<K, A, B> {
     /// A cache with no object and no page, for up to 64 hands. The blanks become its two books: of what leaves it for
     /// hands, and of what comes in from them.
+    ///
+    /// # Errors
+    /// It fails only where an allocation fails; the blanks are gone then.
     pub fn new(alloc: Global, outs: Blank, ins: Blank) -> Result<Cache<K, A, B>, AllocError>
         requires names { (outs.name ≡ A.name) × (ins.name ≡ B.name) }
         requires parts { (outs.parts ≡ A.parts) × (ins.parts ≡ B.parts) }
@@ -73,6 +76,9 @@ impl<K: Kind, A: Ledger, B: Ledger> Cache<K, A, B> {
     }
 
     /// Makes a hand, one of 64 at most.
+    ///
+    /// # Errors
+    /// It fails only where an allocation fails, and the cache stays as it is.
     pub fn hand(&mut self, alloc: Global) -> Result<Hand<K, A, B>, AllocError>
         requires { self.old.hands < 64 }
         ensures made { OnOk result (self.new.hands ≡ self.old.hands + 1) }

@@ -55,6 +55,10 @@ impl<K: Kind, A: Ledger, B: Ledger> Hand<K, A, B> {
     ///
     /// The parts of the depot are looked at one after another. While no other hand is at work, all of them are searched; else
     /// a take may be refused although the depot had a full magazine at each moment.
+    ///
+    /// # Errors
+    /// `NoSpan` where the arena had no page for the slabs, and `NoMemory` where a page's objects found no memory: nothing was
+    /// taken, which is counted.
     #[inline(always)]
     pub fn take<R: Wait>(
         &mut self,

@@ -94,6 +94,9 @@ impl Owners {
     }
 
     /// Takes the slot for the mark where it is free, by one compare-exchange, which is when the claim takes effect.
+    ///
+    /// # Errors
+    /// The owner that was found: nothing was taken.
     pub fn claim(&self, seat: &mut OwnerSeat, slot: u32, mark: Mark) -> Result<(), Taken>
         requires table { seat.old.table ≡ self.now.table }
         requires slot { slot < self.now.slots }
