@@ -1,6 +1,6 @@
 //! Accepted programs, from scripts.
 
-ghost use Rattle.std.specs.Prelude.{◌≡◌};
+ghost use Rattle.std.specs.Prelude.{◌≡◌, IfSome};
 ghost use Rattle.ebpf_machine.specs.World.{kinds_of};
 ghost use Rattle.ebpf_machine.specs.Kinds.{known_kinds};
 ghost use Rattle.ebpf_machine.specs.Kinds.{AreKnown};
@@ -23,13 +23,28 @@ pub(crate) fn script_of(rt: &impl Abort, alloc: Global, dialect: Dialect, text: 
     }
 }
 
+// A program of a script, accepted; `None` where memory is refused.
+pub(crate) fn accepted_once(
+    rt: &impl Abort,
+    alloc: Global,
+    program: &ProgramText,
+) -> Option<Verified>
+    ensures { IfSome result (λ verified. kinds_of verified.rows ≡ known_kinds) }
+{
+    match judge(alloc, &program.bytes, program.decl, &kinds()) {
+        Ok(Judged::Accepted(verified)) => Some(verified),
+        Ok(_) => panic!(rt; "a program is refused"),
+        Err(_) => None,
+    }
+}
+
 // A program of a script, accepted.
 pub(crate) fn accepted(rt: &impl Abort, alloc: Global, program: &ProgramText) -> Verified
     ensures { kinds_of result.rows ≡ known_kinds }
 {
-    match judge(alloc, &program.bytes, program.decl, &kinds()) {
-        Ok(Judged::Accepted(verified)) => verified,
-        _ => panic!(rt; "a program is refused"),
+    match accepted_once(rt, alloc, program) {
+        Some(verified) => verified,
+        None => panic!(rt; "there is no memory"),
     }
 }
 

@@ -2,18 +2,16 @@
 //! once. The script tests/want-of-memory refuses one allocation after another, and looks for each line that is told here.
 
 ghost use Rattle.std.specs.Prelude.{◌≡◌};
-ghost use Rattle.ebpf_machine.specs.Kinds.{AreKnown, known_kinds};
+ghost use Rattle.ebpf_machine.specs.Kinds.{known_kinds};
 ghost use Rattle.ebpf_machine.specs.World.{kinds_of};
 
-use crate::accepted::{accepted, script_of};
+use crate::accepted::{accepted, accepted_once, script_of};
 use crate::programs::holds;
-use ebpf_command::judge::{Judged, judge};
 use ebpf_core::event::Event;
 use ebpf_core::fault::ApplyFault;
 use ebpf_core::world::{Status, World};
 use ebpf_script::reader::read_script;
-use ebpf_script::reader::script::{Dialect, ProgramText, Script, ScriptStop};
-use ebpf_state::kinds::kinds;
+use ebpf_script::reader::script::{Dialect, Script, ScriptStop};
 use ebpf_verify::verified::Verified;
 use std::alloc::Global;
 use std::process::Abort;
@@ -46,31 +44,17 @@ fn read_again<R: Abort + Print>(rt: &R, alloc: Global) -> Script {
     }
 }
 
-fn judge_again<R: Abort + Print>(rt: &R, alloc: Global, program: &ProgramText) -> Verified
+fn judge_again<R: Abort + Print>(rt: &R, alloc: Global, script: &Script) -> Verified
     ensures { kinds_of result.rows ≡ known_kinds }
 {
-    match judge(alloc, &program.bytes, program.decl, &kinds()) {
-        Ok(Judged::Accepted(verified)) => verified,
-        Ok(_) => panic!(rt; "the program is refused"),
-        Err(_) => {
-            tells(rt, "a verdict");
-            accepted(rt, alloc, program)
-        }
-    }
-}
-
-fn programs_again<R: Abort + Print>(rt: &R, alloc: Global, script: &Script) -> Vec<Verified>
-    ensures { AreKnown result.items }
-{
-    let mut programs = Vec::new(alloc);
-    for (_, program) in script.programs.iter() {
-        let verified = judge_again(rt, alloc, program);
-        if let Err(failed) = programs.push(verified) {
-            let is_pushed = programs.push(failed.value).is_ok();
-            holds(rt, "memory is refused once", is_pushed);
-        }
-    }
-    programs
+    let Some((_, program)) = script.programs.get_index(0) else {
+        panic!(rt; "the script has no program");
+    };
+    let Some(verified) = accepted_once(rt, alloc, program) else {
+        tells(rt, "a verdict");
+        return accepted(rt, alloc, program);
+    };
+    verified
 }
 
 // An event, and the same where that is refused memory: the world is as it was then.
@@ -93,7 +77,7 @@ fn each_call_is_made_again_where_memory_is_refused(rt: HostRuntime) {
     let alloc = rt.alloc();
     let script = read_again(&rt, alloc);
     let mut same = read_again(&rt, alloc).events.into_iter();
-    let programs = programs_again(&rt, alloc, &script);
+    let programs = [judge_again(&rt, alloc, &script)];
     let mut world = World::new(alloc, &programs).expect(&rt, "it takes no memory");
     for event in script.events {
         let same = same.next().expect(&rt, "there are as many events");
