@@ -74,6 +74,6 @@ WORST = [
     Worst('replay: runs with room for output', ['replay'], line_of('a', 0, 0, EMIT * 2046 + ZERO + EXIT), lambda _: b'start a -\n'),
     Worst('replay: runs with room for blocks', ['replay'], line_of('a', 0, 1, of_swaps()), lambda _: b'start a -\n'),
     Worst('run: jobs of many instructions', ['run', '--workers', '2'], line_of('a', 0, 0, padded(b'')), lambda _: b'run a -\n'),
-    Worst('run: jobs with room for blocks', ['run', '--workers', '2'], line_of('a', 0, 1, of_swaps()), lambda _: b'run a -\n'),
+    Worst('run: jobs with room for blocks', ['run'], line_of('a', 0, 1, of_swaps()), lambda _: b'run a -\n'),
     Worst('run: jobs with much output', ['run', '--workers', '2'], line_of('a', 0, 0, EMIT * 2046 + ZERO + EXIT), lambda _: b'run a -\n'),
 ]
