@@ -4,6 +4,5 @@ pub mod RulesBounded
 pub mod Pointers
 pub mod Leading
 pub mod Entries
-pub mod Tracing
 pub mod Sends
 pub mod Counted

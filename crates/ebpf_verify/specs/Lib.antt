@@ -8,4 +8,3 @@ pub mod CallCount
 pub mod Rules
 pub mod Entry
 pub mod Verdict
-pub mod Traces

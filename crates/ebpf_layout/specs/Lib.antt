@@ -1,5 +1,0 @@
-pub mod Paths
-pub mod Refusal
-pub mod Layout
-pub mod Search
-pub mod Writing
