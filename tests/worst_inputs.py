@@ -66,6 +66,7 @@ ALIKE = 'ACmk5m0-k71p6U3odA2TtdvX'
 
 WORST = [
     Worst('one: branches over a full stack', ['one', '--context', '00', '--held', '64'], of_branches().hex().encode(), lambda _: b''),
+    Worst('explain: branches over a full stack', ['explain', '--context', '00', '--held', '64'], of_branches().hex().encode(), lambda _: b''),
     Worst('list: jumps with long numbers', ['list'], b'', lambda at: slot(0x65, 9, 0, -30000, -2**31).hex().encode() if at < SLOTS else b'#' * MOST),
     Worst('check: branches over a full stack', ['check'], b'', lambda at: line_of(at, 1, 64, of_branches())),
     Worst('check: names that look alike', ['check'], b'', lambda at: line_of(f'{ALIKE}{at:08x}', 0, 0, b'')),

@@ -15,7 +15,7 @@ pub const MAX_SLOTS: usize = 4096;
 /// A program: 1 to [`MAX_SLOTS`] slots, each with the instruction that begins there or, in the second half of a wide
 /// instruction, with none.
 ///
-/// Contracts see it as the list of its slots. Only [`crate::decode::decode`] makes one.
+/// Contracts see it as the list of its slots. [`crate::decode::decode`] makes one of bytes.
 #[derive(Drop)]
 pub struct Program {
     slots: Vec<Option<Insn>>,
@@ -36,8 +36,8 @@ impl Model for Program {
 }
 
 impl Program {
-    // The program of these slots, and how many instructions they hold.
-    pub(crate) fn new(slots: Vec<Option<Insn>>, len: usize) -> Program
+    /// The program of these slots, which hold so many instructions.
+    pub fn new(slots: Vec<Option<Insn>>, len: usize) -> Program
         requires formed { IsWellFormed slots.items }
         requires count { len ≡ length (instructions slots.items) }
         ensures { result ≡ slots.items }

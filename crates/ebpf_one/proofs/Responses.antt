@@ -3,6 +3,7 @@ use Rattle.std.proofs.Common.{◌≡◌, ℕ, ◌<◌, Bool, List, length, Optio
 use Rattle.std.proofs.lemmas.List.{length-take-le}
 use Rattle.std.proofs.lemmas.Bool.{lt-ltb}
 use Rattle.ebpf_state.specs.declared.kinds.KindRow.{KindRow}
+use Rattle.ebpf_insn.specs.Decoding.{decode_fault}
 use Rattle.ebpf_verify.specs.declared.decl.Decl.{Decl}
 use Rattle.ebpf_command.specs.declared.done.FaultCode.{FaultCode}
 use Rattle.ebpf_command.specs.declared.done.FaultCode.TheVariants.{S1}
@@ -12,6 +13,8 @@ use Rattle.ebpf_command.specs.Judging.{IsJudged}
 use Rattle.ebpf_command.specs.Response.{Response}
 use Rattle.ebpf_command.proofs.Written.{CutsLong}
 use Rattle.ebpf_one.specs.Asked.{Asked, asked_for, bytes_in, input_fault, fault_of}
+use Rattle.ebpf_one.specs.ExplainText.{ExplainsTo, ExplainsAsked, ExplainsBytes, ExplainsDecoded}
+use Rattle.ebpf_one.specs.LayOutText.{LaysOut, LaysOutGiven}
 use Rattle.ebpf_one.specs.ListText.{RespondsList, RespondsGiven}
 use Rattle.ebpf_one.specs.OneText.{Responds, RespondsAsked, RespondsBytes, RespondsJudged, AreGiven}
 
@@ -52,3 +55,23 @@ pub Responds-asked : (input context : List ℕ) (held : ℕ) (nulls : Bool) (a :
 Responds-asked input context held nulls a response fine same h =
     let P : Option FaultCode → Type 0 = λ f. RespondsAsked f (asked_for input context held) nulls response in
     subst P (sym fine) (subst (λ (x : Asked). RespondsBytes x nulls response) same h)
+
+-- and so does `explain`
+pub explain_cuts : (context : List ℕ) (held : ℕ) → CutsLong (ExplainsTo context held)
+explain_cuts context held =
+    cuts_at (λ input. fault_of input context held) (λ f input response. ExplainsAsked f (asked_for input context held) response) (λ input long. fault_of_long input context held long) (λ a b response h. h)
+
+-- what the bytes of a request are explained to be
+pub explained_bytes : (a : Asked) (seen : List ℕ) (decl : Decl) (rows : List KindRow) (response : Response) → seen ≡ a.bytes → AreGiven a decl rows → ExplainsDecoded (decode_fault seen) seen decl rows response → ExplainsBytes a response
+explained_bytes a seen decl rows response same given h =
+    (decl, rows, given, subst (λ (bytes : List ℕ). ExplainsDecoded (decode_fault bytes) bytes decl rows response) same h)
+
+-- what the bytes that an input asks for are explained to be is what the input is
+pub Explains-asked : (input context : List ℕ) (held : ℕ) (a : Asked) (response : Response) → fault_of input context held ≡ None → a ≡ asked_for input context held → ExplainsBytes a response → ExplainsTo context held input response
+Explains-asked input context held a response fine same h =
+    let P : Option FaultCode → Type 0 = λ f. ExplainsAsked f (asked_for input context held) response in
+    subst P (sym fine) (subst (λ (x : Asked). ExplainsBytes x response) same h)
+
+-- and so does `lay-out`
+pub lay_out_cuts : CutsLong LaysOut
+lay_out_cuts = cuts_at input_fault (λ f input response. LaysOutGiven f (bytes_in input) response) input_fault_long (λ a b response h. h)

@@ -11,6 +11,14 @@ const ONE_EXAMPLE: &str = "Example: echo 'b700000007000000 9500000000000000' | e
 // Behind the help of `list`.
 const LIST_EXAMPLE: &str = "Example: echo 'b700000007000000 9500000000000000' | ebpf_run list";
 
+// Behind the help of `explain`.
+const EXPLAIN_EXAMPLE: &str =
+    "Example: echo 'b700000007000000 9500000000000000' | ebpf_run explain";
+
+// Behind the help of `lay-out`.
+const LAY_OUT_EXAMPLE: &str =
+    "Example: echo '05000100000000009500000000000000b7000000070000000500fdff00000000' | ebpf_run lay-out";
+
 // Behind the help of `check`.
 const CHECK_EXAMPLE: &str =
     "Example: printf '%s\\n' 'program p 0 0 b7000000070000009500000000000000' 'run p -' | ebpf_run check";
@@ -33,12 +41,14 @@ const MAX_REAPS: u32 = 1000;
 pub enum Task<'a> {
     One(OneOptions<'a>),
     List,
+    Explain(OneOptions<'a>),
+    LayOut,
     Check,
     Replay,
     Run(RunOptions),
 }
 
-/// The options of `one`.
+/// The options of `one` and of `explain`, which runs nothing.
 #[derive(Clone, Copy)]
 pub struct OneOptions<'a> {
     /// The context as hex, or `-` for the empty one.
@@ -63,6 +73,7 @@ pub struct RunOptions {
 /// The commands with their options.
 pub fn command<'a>(alloc: Global) -> Result<Command<'a>, AllocError> {
     let one = one_command(alloc)?;
+    let explain = explain_command(alloc)?;
     let all = Command::new(alloc, "ebpf_run")
         .about("Runs small eBPF programs")
         .version("0.1.0")
@@ -70,6 +81,8 @@ pub fn command<'a>(alloc: Global) -> Result<Command<'a>, AllocError> {
         .subcommand_required(true)
         .subcommand(one)?;
     all.subcommand(list_command(alloc))?
+        .subcommand(explain)?
+        .subcommand(lay_out_command(alloc))?
         .subcommand(check_command(alloc))?
         .subcommand(replay_command(alloc))?
         .subcommand(run_command(alloc)?)
@@ -79,7 +92,21 @@ fn one_command<'a>(alloc: Global) -> Result<Command<'a>, AllocError> {
     let one = Command::new(alloc, "one")
         .about("Runs the program whose hex is on standard input")
         .after_help(ONE_EXAMPLE);
-    one.arg(context_option(alloc))?
+    with_options_of_one(alloc, one)
+}
+
+fn explain_command<'a>(alloc: Global) -> Result<Command<'a>, AllocError> {
+    let explain = Command::new(alloc, "explain")
+        .about(
+            "Tells what is known before each instruction of the program whose hex is on standard input, and why it is refused",
+        )
+        .after_help(EXPLAIN_EXAMPLE);
+    with_options_of_one(alloc, explain)
+}
+
+fn with_options_of_one<'a>(alloc: Global, command: Command<'a>) -> Result<Command<'a>, AllocError> {
+    command
+        .arg(context_option(alloc))?
         .arg(held_option(alloc))?
         .arg(nulls_option(alloc))
 }
@@ -112,6 +139,14 @@ fn list_command<'a>(alloc: Global) -> Command<'a> {
     Command::new(alloc, "list")
         .about("Lists the instructions of the program whose hex is on standard input")
         .after_help(LIST_EXAMPLE)
+}
+
+fn lay_out_command<'a>(alloc: Global) -> Command<'a> {
+    Command::new(alloc, "lay-out")
+        .about(
+            "Writes the program whose hex is on standard input in an order in which every jump leads forward",
+        )
+        .after_help(LAY_OUT_EXAMPLE)
 }
 
 fn check_command<'a>(alloc: Global) -> Command<'a> {
@@ -154,16 +189,23 @@ fn reaps_option<'a>(alloc: Global) -> Arg<'a> {
 /// The task that the words of the command line ask for, where they are a command.
 pub fn task_of<'a>(matches: &ArgMatches<'a>) -> Option<Task<'a>> {
     match matches.subcommand() {
-        Some(("one", given)) => Some(Task::One(OneOptions {
-            context: given.get_str("context").unwrap_or("-"),
-            held: given.get_one::<u8>("held").unwrap_or(0),
-            nulls: given.get_flag("nulls"),
-        })),
+        Some(("one", given)) => Some(Task::One(one_options(given))),
         Some(("list", _)) => Some(Task::List),
+        Some(("explain", given)) => Some(Task::Explain(one_options(given))),
+        Some(("lay-out", _)) => Some(Task::LayOut),
         Some(("check", _)) => Some(Task::Check),
         Some(("replay", _)) => Some(Task::Replay),
         Some(("run", given)) => Some(Task::Run(run_options(given)?)),
         _ => None,
+    }
+}
+
+// The options of `one`.
+fn one_options<'a>(given: &ArgMatches<'a>) -> OneOptions<'a> {
+    OneOptions {
+        context: given.get_str("context").unwrap_or("-"),
+        held: given.get_one::<u8>("held").unwrap_or(0),
+        nulls: given.get_flag("nulls"),
     }
 }
 

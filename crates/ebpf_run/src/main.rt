@@ -1,8 +1,8 @@
 //! Runs small eBPF programs from the command line.
 //!
 //! This crate reads the command line and has the standard streams. What a command writes is a function of what it reads and
-//! of its options, errors included, and it writes nothing else: that is the contract of [`ebpf_one::one::one`] and
-//! [`ebpf_one::list::list`], of [`ebpf_script::check::check`] and [`ebpf_script::replay::replay`]. What `run` writes is such a
+//! of its options, errors included, and it writes nothing else: that is the contract of [`ebpf_one::one::one`],
+//! [`ebpf_one::list::list`], [`ebpf_one::explain::explain`] and [`ebpf_one::lay_out::lay_out`], of [`ebpf_script::check::check`] and [`ebpf_script::replay::replay`]. What `run` writes is such a
 //! text for some outcome of the jobs, since threads decide which requests for objects are granted and what is found on a shelf: that
 //! is the contract of [`ebpf_script::run::run`]. These are all that it calls.
 #![tactic(auto)]
@@ -13,6 +13,8 @@ use crate::command::{Task, command, task_of};
 use clap::Error;
 use clap::error::ErrorKind;
 use ebpf_command::done::{Done, EngineFault};
+use ebpf_one::explain::explain;
+use ebpf_one::lay_out::lay_out;
 use ebpf_one::list::list;
 use ebpf_one::one::one;
 use ebpf_script::check::check;
@@ -78,6 +80,14 @@ fn perform<R: AllocGlobal + Input + Print + Threads + Wait + Sync>(
             options.nulls,
         ),
         Task::List => list(alloc, &mut reader, &mut writer),
+        Task::Explain(options) => explain(
+            alloc,
+            &mut reader,
+            &mut writer,
+            options.context,
+            options.held,
+        ),
+        Task::LayOut => lay_out(alloc, &mut reader, &mut writer),
         Task::Check => check(alloc, &mut reader, &mut writer),
         Task::Replay => replay(alloc, &mut reader, &mut writer),
         Task::Run(options) => run_script(

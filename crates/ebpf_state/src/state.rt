@@ -21,7 +21,8 @@ ghost use Rattle.ebpf_state.specs.References.{settled_value, settled_word, forgo
 
 use crate::held::{Held, forget_held, hold_reference, settle_held};
 use crate::stack::{
-    StackFault, StoreFault, bytes_in, is_whole_word, load_at, may_point, place_of, store_at,
+    StackFault, StoreFault, bytes_in, is_whole_word, known_word, load_at, may_point, place_of,
+    store_at,
 };
 use crate::value::Abs;
 use crate::word::Word;
@@ -83,7 +84,7 @@ impl From<AllocError> for JoinFault {
 
 impl State {
     ghost use Rattle.ebpf_state.specs.References.{holding, kind_held, settled, forgotten};
-    ghost use Rattle.ebpf_state.specs.Stack.{loaded, stored, Stores};
+    ghost use Rattle.ebpf_state.specs.Stack.{loaded, stored, word_of, Stores};
     ghost use Rattle.ebpf_state.specs.StateView.{StateView};
     ghost use Rattle.ebpf_state.specs.States.{first_state, joined_state, then_joined, register_of, with_register, Joins, JoinsInto};
 
@@ -140,6 +141,22 @@ impl State {
         held.iter()
             .find(|reference| reference.call == call)
             .map(|reference| reference.kind)
+    }
+
+    /// The references that are held, in the order of their calls.
+    pub fn references(&self) -> &[Held]
+        ensures { result.now ≡ self.now.held }
+    {
+        &self.facts.held
+    }
+
+    /// What is known of the word of the stack with this number, 0 to 63: of the bytes from `8 * number - 512` on, from the frame
+    /// pointer. Nothing is known of a word with another number.
+    pub fn word(&self, number: usize) -> Word
+        ensures value { result ≡ word_of self.now.words number }
+        ensures proper { IsProperWord result }
+    {
+        known_word(&self.facts.words, number)
     }
 
     /// What is known of a register.

@@ -13,6 +13,8 @@ mod check;
 #[cfg(test)]
 mod events;
 #[cfg(test)]
+mod explain;
+#[cfg(test)]
 mod faults;
 #[cfg(test)]
 mod flow;
@@ -20,6 +22,8 @@ mod flow;
 mod helpers;
 #[cfg(test)]
 mod insn;
+#[cfg(test)]
+mod layout;
 #[cfg(test)]
 mod library;
 #[cfg(test)]

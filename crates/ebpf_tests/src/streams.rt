@@ -2,6 +2,7 @@
 
 use crate::programs::holds;
 use ebpf_command::done::{Done, EngineFault};
+use ebpf_one::explain::explain;
 use ebpf_one::list::list;
 use ebpf_one::one::one;
 use ebpf_script::check::check;
@@ -116,7 +117,7 @@ fn ample(alloc: Global) -> Sink {
 }
 
 // Each command, with an input and the text that it tells of it.
-static COMMANDS: [(&str, &str, &str); 5] = [
+static COMMANDS: [(&str, &str, &str); 6] = [
     (
         "one",
         "b7000000070000009500000000000000",
@@ -126,6 +127,11 @@ static COMMANDS: [(&str, &str, &str); 5] = [
         "list",
         "b7000000070000009500000000000000",
         "0: mov64 r0, 7\n1: exit\n",
+    ),
+    (
+        "explain",
+        "b7000000070000009500000000000000",
+        "  r1 context+0  r10 stack+0\n0: mov64 r0, 7\n  r0 7  r1 context+0  r10 stack+0\n1: exit\naccepted 2\n",
     ),
     (
         "check",
@@ -161,6 +167,7 @@ fn call<R: Threads + Wait + Sync>(
     match command {
         "one" => one(alloc, reader, writer, "-", 0, false),
         "list" => list(alloc, reader, writer),
+        "explain" => explain(alloc, reader, writer, "-", 0),
         "check" => check(alloc, reader, writer),
         "replay" => replay(alloc, reader, writer),
         _ => run(rt, alloc, reader, writer, 2, 1),

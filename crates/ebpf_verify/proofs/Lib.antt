@@ -4,5 +4,6 @@ pub mod RulesBounded
 pub mod Pointers
 pub mod Leading
 pub mod Entries
+pub mod Tracing
 pub mod Sends
 pub mod Counted

@@ -8,3 +8,4 @@ pub mod CallCount
 pub mod Rules
 pub mod Entry
 pub mod Verdict
+pub mod Traces

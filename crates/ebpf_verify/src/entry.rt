@@ -1,6 +1,6 @@
 //! What is known before a slot, of all runs that come there.
 
-ghost use Rattle.std.specs.Prelude.{◌≡◌, OnOk, false};
+ghost use Rattle.std.specs.Prelude.{◌≡◌, IfOk, OnOk, false};
 
 use ebpf_state::state::State;
 use std::alloc::AllocError;
@@ -19,6 +19,20 @@ pub enum EntryState {
 impl EntryState {
     ghost use Rattle.ebpf_verify.specs.declared.entry.EntryState.TheVariants.{Unreached};
     ghost use Rattle.ebpf_verify.specs.Entry.{with_state};
+
+    /// The same once more.
+    ///
+    /// # Errors
+    /// It fails only where an allocation fails.
+    pub(crate) fn copy(&self) -> Result<EntryState, AllocError>
+        ensures { IfOk result (λ e. e ≡ self.now) }
+    {
+        Ok(match self {
+            EntryState::Unreached => EntryState::Unreached,
+            EntryState::Known(state) => EntryState::Known(state.copy()?),
+            EntryState::Conflict => EntryState::Conflict,
+        })
+    }
 
     /// Some run comes.
     pub(crate) fn is_reached(&self) -> bool

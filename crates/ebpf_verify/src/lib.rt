@@ -2,17 +2,17 @@
 //!
 //! [`verify::verify`] walks a program once, in the order of its slots, and keeps for each slot what is known of every
 //! run that comes there. It refuses the lowest slot whose rule refuses what is known there; where it refuses none, it
-//! makes a [`verified::Verified`], and no run of that program traps.
+//! makes a [`verified::Verified`], and no run of that program traps. [`trace::trace_verdict`] tells what the verdict stands on.
 //!
 //! To be read in this order: `fault`, `decl`, `pointer`, `operations`, `branches`, `memory`, `helper`, `call_count`, `calls`, `rules`, `entry`,
-//! `propagate`, `verify`, `verified`.
+//! `propagate`, `verify`, `trace`, `verified`.
 #![tactic(auto)]
 
 mod branches;
 mod call_count;
 mod calls;
 pub mod decl;
-mod entry;
+pub mod entry;
 pub mod fault;
 pub mod helper;
 mod memory;
@@ -20,5 +20,6 @@ mod operations;
 mod pointer;
 mod propagate;
 mod rules;
+pub mod trace;
 pub mod verified;
 pub mod verify;

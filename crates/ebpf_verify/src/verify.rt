@@ -74,8 +74,8 @@ pub fn verify(
     })
 }
 
-// What is known before each slot at first: the first state comes to slot 0, and nothing to the others.
-fn first_entries(alloc: Global, slots: usize) -> Result<Vec<EntryState>, AllocError>
+/// What is known before each slot at first: the first state comes to slot 0, and nothing to the others.
+pub(crate) fn first_entries(alloc: Global, slots: usize) -> Result<Vec<EntryState>, AllocError>
     ensures len { IfOk result (λ v. length v.items ≡ slots) }
     ensures first { IfOk result (λ v. (k : ℕ) → k < slots → entry_in v.items k ≡ first_entry k) }
 {
@@ -91,8 +91,8 @@ fn first_entries(alloc: Global, slots: usize) -> Result<Vec<EntryState>, AllocEr
     Ok(entries)
 }
 
-// Takes what came to a slot, and sends it on, or says why it is refused.
-fn visit(
+/// Takes what came to a slot, and sends it on, or says why it is refused.
+pub(crate) fn visit(
     flowed: &Flowed,
     decl: Decl,
     rows: &[KindRow],

@@ -1,0 +1,15 @@
+pub mod Values
+pub mod Registers
+pub mod StackWords
+pub mod Held
+pub mod Known
+pub mod Slots
+pub mod Hex
+pub mod DecodeSentences
+pub mod FlowSentences
+pub mod Reads
+pub mod Accesses
+pub mod MemoryFaults
+pub mod CallFaults
+pub mod Mendings
+pub mod VerifySentences

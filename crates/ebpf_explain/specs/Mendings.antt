@@ -1,0 +1,43 @@
+-- What would mend a refused slot, as text.
+use Rattle.std.specs.Prelude.{ℕ, ℤ, pos, List, codes, Option, Some, None}
+use Rattle.ebpf_insn.specs.declared.insn.Insn.{Insn}
+use Rattle.ebpf_insn.specs.declared.insn.Insn.TheVariants as insn
+use Rattle.ebpf_verify.specs.declared.fault.VerifyCode.{VerifyCode}
+use Rattle.ebpf_verify.specs.declared.fault.VerifyCode.TheVariants.{V1, V2, V3, V4, V5, V6, V7, V8, V9, V10, V11, V12, V13, V14, V15, V16, V17, V18, V19}
+use Rattle.ebpf_verify.specs.declared.helper.Helper.{Helper}
+use Rattle.ebpf_verify.specs.declared.helper.Helper.TheVariants.{New, Free, Emit, Swap}
+use Rattle.ebpf_verify.specs.Calls.{helper_of}
+
+-- the codes of calls refuse calls alone; any other instruction has the number 0
+abbrev pub number_called : Insn → ℤ
+number_called (insn.Call number) = number
+number_called _ = pos 0
+
+-- what a helper asks of its arguments
+abbrev pub asked_of : Option Helper → List ℕ
+asked_of (Some New) = codes "r1 is to be a constant 0, 1 or 2"
+asked_of (Some Free) = codes "r1 is to be an object at its first byte"
+asked_of (Some Emit) = codes "r1 is to be a number"
+asked_of (Some Swap) = codes "r1 is to be a constant 0, 1 or 2, and r2 either 0 or an object of that kind at its first byte"
+asked_of None = codes "look at its arguments"
+
+abbrev pub mending : Insn → VerifyCode → List ℕ
+mending i V1 = codes "set it first (a call unsets r1 to r5, and free what points to its object)"
+mending i V2 = codes "copy it to another register first"
+mending i V3 = codes "move pointers by 64-bit sums with a number, and a stack pointer by a constant"
+mending i V4 = codes "bound the number, and keep within 2^29 bytes of the base"
+mending i V5 = codes "compare numbers, and an answer with 0 alone, by jeq or jne at 64 bits"
+mending i V6 = codes "keep within them"
+mending i V7 = codes "store to each of them first"
+mending i V8 = codes "bound the offset first, or declare a longer context"
+mending i V9 = codes "copy it to the stack first"
+mending i V10 = codes "bound the offset first"
+mending i V11 = codes "compare it first, and use it where it is not 0"
+mending i V12 = codes "store it as eight bytes at a multiple of 8 from r10, and load it so"
+mending i V13 = codes "load and store through r10, r1, an object or a pointer made of them"
+mending i V14 = codes "call 1 (new), 2 (free), 3 (emit) or 4 (swap)"
+mending i V15 = asked_of (helper_of (number_called i))
+mending i V16 = codes "free one, put one onto a shelf, or declare more"
+mending i V17 = codes "free each, or put it onto a shelf, on every path to this slot"
+mending i V18 = codes "return a number"
+mending i V19 = codes "free what one path holds and the other does not, before they meet"

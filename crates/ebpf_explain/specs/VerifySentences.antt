@@ -1,0 +1,57 @@
+-- Why the verifier refuses a slot, in one sentence.
+use Rattle.std.specs.Prelude.{ℕ, length, List, ◌++◌, codes, decimal, Option, Some, None}
+use Rattle.ebpf_insn.specs.declared.register.Reg.{Reg}
+use Rattle.ebpf_insn.specs.declared.insn.Insn.{Insn}
+use Rattle.ebpf_text.specs.Operands.{register_text}
+use Rattle.ebpf_state.specs.declared.kinds.KindRow.{KindRow}
+use Rattle.ebpf_state.specs.StateView.{StateView}
+use Rattle.ebpf_verify.specs.declared.decl.Decl.{Decl}
+use Rattle.ebpf_verify.specs.declared.fault.VerifyCode.{VerifyCode}
+use Rattle.ebpf_verify.specs.declared.fault.VerifyCode.TheVariants.{V1, V2, V3, V4, V5, V6, V7, V8, V9, V10, V11, V12, V13, V14, V15, V16, V17, V18, V19}
+use Rattle.ebpf_explain.specs.Reads.{registers_read, answers_read, fault_with_reads, first_unset, first_answer}
+use Rattle.ebpf_explain.specs.Accesses.{access_of}
+use Rattle.ebpf_explain.specs.MemoryFaults.{access_with, outside, outside_object, context_written, number_as_address}
+use Rattle.ebpf_explain.specs.CallFaults.{no_helper, call_with, too_many_held, held_at_exit, no_number_at_exit}
+use Rattle.ebpf_explain.specs.Mendings.{number_called, mending}
+
+abbrev pub name_or_register : Option Reg → List ℕ
+name_or_register None = codes "a register"
+name_or_register (Some r) = register_text r
+
+abbrev pub unset_register : Option Reg → List ℕ
+unset_register register = codes "reads " ++ (name_or_register register ++ codes ", which is not set on every path to it")
+
+abbrev pub answer_text : Option ℕ → List ℕ
+answer_text None = codes "an answer"
+answer_text (Some call) = codes "the answer of slot " ++ decimal call
+
+abbrev pub unknown_answer : Option ℕ → List ℕ
+unknown_answer call = codes "uses " ++ (answer_text call ++ codes ", which was not compared with 0")
+
+-- what the instruction does that it may not, with what is known
+abbrev pub fault : Insn → StateView → VerifyCode → Decl → List KindRow → List ℕ
+fault i s V1 decl rows = unset_register (first_unset s (registers_read i))
+fault i s V2 decl rows = codes "writes r10, the frame pointer"
+fault i s V3 decl rows = fault_with_reads (codes "has no meaning for what it is given") s (registers_read i)
+fault i s V4 decl rows = fault_with_reads (codes "moves a pointer by a number of either sign, or too far") s (registers_read i)
+fault i s V5 decl rows = fault_with_reads (codes "compares what is no number") s (registers_read i)
+fault i s V6 decl rows = access_with (access_of i) s (codes ", and the stack has the 512 bytes below r10")
+fault i s V7 decl rows = access_with (access_of i) s (codes ", some of which are not set on every path to it")
+fault i s V8 decl rows = outside (access_of i) s (codes ", and the context has ") (Some decl.context)
+fault i s V9 decl rows = context_written (access_of i)
+fault i s V10 decl rows = outside_object (access_of i) s (codes ", and the object has ") rows
+fault i s V11 decl rows = unknown_answer (first_answer s (answers_read i))
+fault i s V12 decl rows =
+    fault_with_reads (codes "moves a pointer or an answer other than as a whole aligned word of the stack") s (registers_read i)
+fault i s V13 decl rows = number_as_address (access_of i) s
+fault i s V14 decl rows = no_helper (number_called i)
+fault i s V15 decl rows = call_with (number_called i) (codes " with arguments that it does not take") s (registers_read i)
+fault i s V16 decl rows = too_many_held (length s.held)
+fault i s V17 decl rows = held_at_exit s.held rows
+fault i s V18 decl rows = no_number_at_exit s
+fault i s V19 decl rows = codes "is where paths meet that hold different objects, or of which one has compared an answer"
+
+-- a line: two blanks, the slot, what it does that it may not, and what would mend it
+abbrev pub verify_sentence : ℕ → Insn → StateView → VerifyCode → Decl → List KindRow → List ℕ
+verify_sentence slot i s code decl rows =
+    codes "  slot " ++ (decimal slot ++ (codes " " ++ (fault i s code decl rows ++ (codes ": " ++ (mending i code ++ codes "\n")))))

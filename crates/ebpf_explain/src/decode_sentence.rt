@@ -1,0 +1,83 @@
+//! Why bytes are no program, in a sentence.
+
+ghost use Rattle.std.specs.Prelude.{◌≡◌, ◌++◌, string_bytes, OnOk};
+ghost use Rattle.ebpf_explain.specs.DecodeSentences.{decode_sentence, decode_words};
+
+use crate::hex::{write_byte, write_eight};
+use ebpf_insn::fault::DecodeCode;
+use std::alloc::AllocError;
+
+/// Writes behind a text why a slot of these bytes is refused, as a line: what is wrong with it, and the bytes where it
+/// shows. Bytes that aren't there count as zeros.
+///
+/// # Errors
+/// It fails only where an allocation fails, and some of the line may be written then.
+pub fn write_decode_sentence(
+    text: &mut String,
+    bytes: &[u8],
+    slot: usize,
+    code: DecodeCode,
+) -> Result<(), AllocError>
+    ensures { OnOk result (string_bytes text.new ≡ string_bytes text.old ++ decode_sentence bytes.now slot code) }
+{
+    text.push_str("  ")?;
+    write_words(text, bytes, slot, code)?;
+    text.push_str("\n")
+}
+
+// What is wrong with the bytes, or with a slot.
+fn write_words(
+    text: &mut String,
+    bytes: &[u8],
+    slot: usize,
+    code: DecodeCode,
+) -> Result<(), AllocError>
+    ensures { OnOk result (string_bytes text.new ≡ string_bytes text.old ++ decode_words bytes.now slot code) }
+{
+    match code {
+        DecodeCode::I1 => write!(
+            text,
+            "there are {} bytes: a program has whole slots of 8 bytes, and one at least",
+            bytes.len()
+        ),
+        DecodeCode::I2 => {
+            write!(text, "slot {slot} has the opcode 0x")?;
+            write_byte(text, bytes, slot, 0)?;
+            text.push_str(", which is no instruction")
+        }
+        DecodeCode::I3 => {
+            write!(text, "slot {slot} names a register above 10: 0x")?;
+            write_byte(text, bytes, slot, 1)
+        }
+        DecodeCode::I4 => {
+            write!(
+                text,
+                "slot {slot} has something in a field that its instruction does not use: "
+            )?;
+            write_eight(text, bytes, slot, 0)
+        }
+        DecodeCode::I5 => write!(text, "slot {slot} is a wide load without its second slot"),
+        DecodeCode::I6 => {
+            write!(
+                text,
+                "slot {slot} is a wide load whose second slot has more than a number: "
+            )?;
+            write_eight(text, bytes, slot, 8)
+        }
+        DecodeCode::I7 => {
+            write!(
+                text,
+                "slot {slot} has an offset or an immediate that its operation does not have: "
+            )?;
+            write_eight(text, bytes, slot, 0)
+        }
+        DecodeCode::I8 => {
+            write!(text, "slot {slot} is a form that is left out: ")?;
+            write_eight(text, bytes, slot, 0)?;
+            text.push_str(
+                " (an atomic operation, a call of a function, or a load of a map's address)",
+            )
+        }
+        DecodeCode::I9 => text.push_str("the program has more than 4096 slots"),
+    }
+}

@@ -1,0 +1,79 @@
+//! Why a program's flow is refused, in a sentence.
+
+ghost use Rattle.std.specs.Prelude.{◌≡◌, ◌++◌, string_bytes, OnOk};
+ghost use Rattle.ebpf_explain.specs.FlowSentences.{flow_sentence, flow_words, jump_text};
+
+use crate::values::write_offset;
+use ebpf_flow::fault::FlowCode;
+use ebpf_insn::insn::Insn;
+use std::alloc::AllocError;
+
+/// Writes behind a text why a slot is refused, as a line: its number, what is wrong with its instruction in a program of
+/// so many slots, and how that is mended.
+///
+/// # Errors
+/// It fails only where an allocation fails, and some of the line may be written then.
+pub fn write_flow_sentence(
+    text: &mut String,
+    slot: usize,
+    insn: &Insn,
+    slots: usize,
+    code: FlowCode,
+) -> Result<(), AllocError>
+    ensures { OnOk result (string_bytes text.new ≡ string_bytes text.old ++ flow_sentence slot insn.now slots code) }
+{
+    write!(text, "  slot {slot} ")?;
+    write_words(text, insn, slots, code)?;
+    text.push_str("\n")
+}
+
+// What is wrong with an instruction, and how it is mended.
+fn write_words(
+    text: &mut String,
+    insn: &Insn,
+    slots: usize,
+    code: FlowCode,
+) -> Result<(), AllocError>
+    ensures { OnOk result (string_bytes text.new ≡ string_bytes text.old ++ flow_words insn.now slots code) }
+{
+    match code {
+        FlowCode::F1 => {
+            text.push_str("jumps ")?;
+            write_jump(text, insn)?;
+            write!(
+                text,
+                " slots on, and the program has {slots} slots: let it lead to one of them"
+            )
+        }
+        FlowCode::F2 => {
+            text.push_str("jumps ")?;
+            write_jump(text, insn)?;
+            text.push_str(
+                " slots on, to the second half of a wide instruction: let it lead to an instruction",
+            )
+        }
+        FlowCode::F3 => {
+            text.push_str("jumps back, by ")?;
+            write_jump(text, insn)?;
+            text.push_str(
+                " slots: programs go forward only, so unroll a loop, and lay blocks out in the order in which they are run",
+            )
+        }
+        FlowCode::F4 => text.push_str("goes on behind the last slot: end the program with exit"),
+        FlowCode::F5 => text.push_str(
+            "is reached by no path from slot 0 that goes forward: leave it out, or let a jump before it lead to it",
+        ),
+    }
+}
+
+// How many slots on a jump goes: none where it is no jump.
+fn write_jump(text: &mut String, insn: &Insn) -> Result<(), AllocError>
+    ensures { OnOk result (string_bytes text.new ≡ string_bytes text.old ++ jump_text insn.now) }
+{
+    match *insn {
+        Insn::Jump { offset } => write_offset(text, offset as i64),
+        Insn::JumpFar { offset } => write_offset(text, offset as i64),
+        Insn::Branch { offset, .. } => write_offset(text, offset as i64),
+        _ => text.push_str("+0"),
+    }
+}

@@ -1,0 +1,63 @@
+//! What would mend a refused slot, in words.
+
+ghost use Rattle.std.specs.Prelude.{◌≡◌};
+ghost use Rattle.ebpf_explain.specs.Mendings.{number_called, asked_of, mending};
+
+use ebpf_insn::insn::Insn;
+use ebpf_verify::fault::VerifyCode;
+use ebpf_verify::helper::{Helper, helper_of};
+
+// What would mend a slot that is refused with a code. Only of arguments does it depend on the instruction.
+pub(crate) fn mending(insn: &Insn, code: VerifyCode) -> &'static str
+    ensures { result.now ≡ mending insn.now code }
+{
+    match code {
+        VerifyCode::V1 =>
+            "set it first (a call unsets r1 to r5, and free what points to its object)",
+        VerifyCode::V2 => "copy it to another register first",
+        VerifyCode::V3 => {
+            "move pointers by 64-bit sums with a number, and a stack pointer by a constant"
+        }
+        VerifyCode::V4 => "bound the number, and keep within 2^29 bytes of the base",
+        VerifyCode::V5 => "compare numbers, and an answer with 0 alone, by jeq or jne at 64 bits",
+        VerifyCode::V6 => "keep within them",
+        VerifyCode::V7 => "store to each of them first",
+        VerifyCode::V8 => "bound the offset first, or declare a longer context",
+        VerifyCode::V9 => "copy it to the stack first",
+        VerifyCode::V10 => "bound the offset first",
+        VerifyCode::V11 => "compare it first, and use it where it is not 0",
+        VerifyCode::V12 => "store it as eight bytes at a multiple of 8 from r10, and load it so",
+        VerifyCode::V13 => "load and store through r10, r1, an object or a pointer made of them",
+        VerifyCode::V14 => "call 1 (new), 2 (free), 3 (emit) or 4 (swap)",
+        VerifyCode::V15 => asked_of(helper_of(number_called(insn))),
+        VerifyCode::V16 => "free one, put one onto a shelf, or declare more",
+        VerifyCode::V17 => "free each, or put it onto a shelf, on every path to this slot",
+        VerifyCode::V18 => "return a number",
+        VerifyCode::V19 => "free what one path holds and the other does not, before they meet",
+    }
+}
+
+// The number of the helper that is called. The codes of calls refuse no other instruction; any other has the number 0.
+pub(crate) fn number_called(insn: &Insn) -> i32
+    ensures { result ≡ number_called insn.now }
+{
+    match *insn {
+        Insn::Call { number } => number,
+        _ => 0,
+    }
+}
+
+// What a helper asks of its arguments.
+fn asked_of(helper: Option<Helper>) -> &'static str
+    ensures { result.now ≡ asked_of helper }
+{
+    match helper {
+        Some(Helper::New) => "r1 is to be a constant 0, 1 or 2",
+        Some(Helper::Free) => "r1 is to be an object at its first byte",
+        Some(Helper::Emit) => "r1 is to be a number",
+        Some(Helper::Swap) => {
+            "r1 is to be a constant 0, 1 or 2, and r2 either 0 or an object of that kind at its first byte"
+        }
+        None => "look at its arguments",
+    }
+}

@@ -1,0 +1,47 @@
+//! The references that are held, in words, each written behind a text. Writing fails only where an allocation fails.
+
+ghost use Rattle.std.specs.Prelude.{◌≡◌, ◌++◌, string_bytes, OnOk};
+ghost use Rattle.std.specs.List.{flat_map};
+ghost use Rattle.ebpf_explain.specs.Held.{held_word, kind_text};
+
+use ebpf_state::held::Held;
+use ebpf_state::kinds::KindRow;
+use std::alloc::AllocError;
+
+// The words of these references, in their order.
+pub(crate) fn write_references(
+    text: &mut String,
+    references: &[Held],
+    rows: &[KindRow],
+) -> Result<(), AllocError>
+    ensures { OnOk result (string_bytes text.new ≡ string_bytes text.old ++ flat_map (held_word rows.now) references.now) }
+{
+    for reference in references {
+        write_reference(text, *reference, rows)?;
+    }
+    Ok(())
+}
+
+// The word of a reference. One that was not compared with null yet may be of no object.
+fn write_reference(text: &mut String, reference: Held, rows: &[KindRow]) -> Result<(), AllocError>
+    ensures { OnOk result (string_bytes text.new ≡ string_bytes text.old ++ held_word rows.now reference) }
+{
+    if reference.tested {
+        text.push_str("  holds ")?;
+    } else {
+        text.push_str("  may hold ")?;
+    }
+    write!(text, "{} (", reference.call)?;
+    write_kind(text, reference.kind, rows)?;
+    text.push_str(")")
+}
+
+// The name of a kind, or its number where there is no row for it.
+fn write_kind(text: &mut String, kind: u8, rows: &[KindRow]) -> Result<(), AllocError>
+    ensures { OnOk result (string_bytes text.new ≡ string_bytes text.old ++ kind_text rows.now kind) }
+{
+    match rows.get(kind as usize) {
+        Some(row) => text.push_str(row.name),
+        None => write!(text, "{kind}"),
+    }
+}

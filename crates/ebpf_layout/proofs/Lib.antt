@@ -1,0 +1,9 @@
+pub mod Lists
+pub mod PathLemmas
+pub mod Searching
+pub mod Reaching
+pub mod Codes
+pub mod Written
+pub mod WritingSlots
+pub mod Places
+pub mod Fine

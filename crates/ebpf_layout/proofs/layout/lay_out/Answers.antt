@@ -1,0 +1,33 @@
+use Rattle.ebpf_layout.proofs.Codes.{well_formed}
+use Rattle.ebpf_layout.proofs.Places.{IsDone, is_laid_out, jumps_forward, some_code}
+use Rattle.ebpf_layout.proofs.Fine.{flow_is_fine}
+use Rattle.ebpf_layout.proofs.layout.lay_out.Goals as goal
+
+pub new-requires-clause-formed : goal.new-requires-clause-formed
+new-requires-clause-formed c =
+    let p = c.args.program.now in
+    let o = c.in_ok-order.order in
+    let w = c.in_ok-code.field-0 in
+    let done : IsDone p o.marks.items o.slots.items w.places.items w.code.items w.count =
+    record { ordered = c.in_ok-order.ensures.ordered; fine = c.in_ok-check_edges.ensures.fine; writing = c.in_ok-code.ensures.written; all = c.in_ok-code.ensures.all } in
+    rw c.reverse.ensures.items (well_formed w.code.items w.count done.writing.coded (some_code p o.marks.items o.slots.items w.places.items w.code.items w.count done))
+
+pub returns-clause-laid_out : goal.returns-clause-laid_out
+returns-clause-laid_out c =
+    let p = c.args.program.now in
+    let o = c.in_ok-order.order in
+    let w = c.in_ok-code.field-0 in
+    let done : IsDone p o.marks.items o.slots.items w.places.items w.code.items w.count =
+    record { ordered = c.in_ok-order.ensures.ordered; fine = c.in_ok-check_edges.ensures.fine; writing = c.in_ok-code.ensures.written; all = c.in_ok-code.ensures.all } in
+    rw (c.new.ensures, c.reverse.ensures.items) (is_laid_out p o.marks.items o.slots.items w.places.items w.code.items w.count done)
+
+pub returns-clause-fine : goal.returns-clause-fine
+returns-clause-fine c =
+    let p = c.args.program.now in
+    let o = c.in_ok-order.order in
+    let w = c.in_ok-code.field-0 in
+    let done : IsDone p o.marks.items o.slots.items w.places.items w.code.items w.count =
+    record { ordered = c.in_ok-order.ensures.ordered; fine = c.in_ok-check_edges.ensures.fine; writing = c.in_ok-code.ensures.written; all = c.in_ok-code.ensures.all } in
+    rw (c.new.ensures, c.reverse.ensures.items)
+    (flow_is_fine p _ (is_laid_out p o.marks.items o.slots.items w.places.items w.code.items w.count done) done.ordered.formed done.fine
+    (λ k i e. jumps_forward p o.marks.items o.slots.items w.places.items w.code.items w.count k i done e))

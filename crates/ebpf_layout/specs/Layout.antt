@@ -1,0 +1,46 @@
+-- What it means that a program is another one laid out anew.
+use Rattle.std.specs.Prelude.{◌≡◌, ◌≢◌, ◌⊎◌, ◌+◌, ℕ, ℤ, List, Option, Some}
+use Rattle.ebpf_insn.specs.declared.insn.Insn.{Insn}
+use Rattle.ebpf_insn.specs.declared.insn.Insn.TheVariants as insn
+use Rattle.ebpf_insn.specs.Program.{insn_at}
+use Rattle.ebpf_flow.specs.Edges.{edges_at}
+use Rattle.ebpf_layout.specs.Paths.{IsReached}
+
+-- an instruction with another displacement; one that doesn't jump has none and stays
+abbrev pub moved : Insn → ℤ → Insn
+moved (insn.Jump offset) z = insn.Jump z
+moved (insn.JumpFar offset) z = insn.JumpFar z
+moved (insn.Branch width condition left right offset) z = insn.Branch width condition left right z
+moved i z = i
+
+-- at a slot of the new program stands this instruction, but for its displacement
+abbrev pub IsMoved : List (Option Insn) → ℕ → Insn → Type 0
+IsMoved q at i = (z : ℤ) × (insn_at q at ≡ Some (moved i z))
+
+-- at a slot of the new program stands a jump whose only edge leads to a slot
+abbrev pub IsJumpTo : List (Option Insn) → ℕ → ℕ → Type 0
+IsJumpTo q at to = (z : ℤ) × (insn_at q at ≡ Some (insn.Jump z)) × ((edges_at q at).jump ≡ Some to)
+
+-- what stands at a slot falls to another, or to a jump that leads there
+abbrev pub FallsTo : List (Option Insn) → ℕ → ℕ → Type 0
+FallsTo q from to = (next : ℕ) × ((edges_at q from).fall ≡ Some next) × ((next ≡ to) ⊎ IsJumpTo q next to)
+
+-- at a slot of the new program stands what was reached at some slot of the old one
+abbrev pub IsKept : List (Option Insn) → (ℕ → ℕ) → ℕ → Type 0
+IsKept p place at = (slot : ℕ) × IsReached p slot × (place slot ≡ at)
+
+-- a jump was added right behind a reached instruction, to where that one fell; it passes over something
+abbrev pub IsAdded : List (Option Insn) → List (Option Insn) → (ℕ → ℕ) → ℕ → Type 0
+IsAdded p q place at = (slot : ℕ) × (to : ℕ) × IsReached p slot × ((edges_at p slot).fall ≡ Some to)
+    × ((edges_at q (place slot)).fall ≡ Some at) × IsJumpTo q at (place to) × (at + 1 ≢ place to)
+
+-- q is p laid out anew
+pub record IsLaidOut (p q : List (Option Insn)) : Type 0 where
+  -- where what stood at a slot stands now
+  pub place : ℕ → ℕ
+  pub first : place 0 ≡ 0
+  pub apart : (a b : ℕ) → IsReached p a → IsReached p b → place a ≡ place b → a ≡ b
+  pub same : (slot : ℕ) (i : Insn) → IsReached p slot → insn_at p slot ≡ Some i → IsMoved q (place slot) i
+  pub jumps : (slot to : ℕ) → IsReached p slot → (edges_at p slot).jump ≡ Some to → (edges_at q (place slot)).jump ≡ Some (place to)
+  pub falls : (slot to : ℕ) → IsReached p slot → (edges_at p slot).fall ≡ Some to → FallsTo q (place slot) (place to)
+  pub only : (at : ℕ) (i : Insn) → insn_at q at ≡ Some i → IsKept p place at ⊎ IsAdded p q place at

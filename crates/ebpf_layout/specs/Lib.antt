@@ -1,0 +1,5 @@
+pub mod Paths
+pub mod Refusal
+pub mod Layout
+pub mod Search
+pub mod Writing

@@ -1,0 +1,90 @@
+-- The response of `explain` to its input and options: what is known before each instruction that the verifier looks at, and then the
+-- verdict; of what doesn't come so far, why.
+use Rattle.std.specs.Prelude.{◌≡◌, ℕ, ◌++◌, List, [], length, Option, Some, None}
+use Rattle.ebpf_insn.specs.declared.fault.DecodeCode.{DecodeCode}
+use Rattle.ebpf_insn.specs.declared.insn.Insn.{Insn}
+use Rattle.ebpf_insn.specs.Program.{instructions, insn_at}
+use Rattle.ebpf_insn.specs.Encoding.{IsProgram}
+use Rattle.ebpf_insn.specs.Decoding.{decode_fault}
+use Rattle.ebpf_flow.specs.declared.fault.FlowCode.{FlowCode}
+use Rattle.ebpf_flow.specs.Flow.{flow_fault}
+use Rattle.ebpf_state.specs.declared.kinds.KindRow.{KindRow}
+use Rattle.ebpf_verify.specs.declared.decl.Decl.{Decl}
+use Rattle.ebpf_state.specs.States.{first_state}
+use Rattle.ebpf_verify.specs.declared.entry.EntryState.{EntryState}
+use Rattle.ebpf_verify.specs.declared.entry.EntryState.TheVariants.{Known, Conflict}
+use Rattle.ebpf_verify.specs.declared.fault.VerifyCode.{VerifyCode}
+use Rattle.ebpf_verify.specs.Entry.{entry_in}
+use Rattle.ebpf_verify.specs.Subject.{Subject}
+use Rattle.ebpf_verify.specs.Traces.{looked_at, entries_below}
+use Rattle.ebpf_verify.specs.Verdict.{verdict}
+use Rattle.ebpf_explain.specs.DecodeSentences.{decode_sentence}
+use Rattle.ebpf_explain.specs.FlowSentences.{flow_sentence}
+use Rattle.ebpf_explain.specs.VerifySentences.{verify_sentence}
+use Rattle.ebpf_explain.specs.Slots.{slot_lines}
+use Rattle.ebpf_explain.specs.StackWords.{texts_below}
+use Rattle.ebpf_command.specs.declared.codes.RefusalCode.{RefusalCode}
+use Rattle.ebpf_command.specs.declared.codes.RefusalCode.TheVariants.{Decode, Flow, Verify}
+use Rattle.ebpf_command.specs.declared.done.FaultCode.{FaultCode}
+use Rattle.ebpf_command.specs.Codes.{refusal_name}
+use Rattle.ebpf_command.specs.Lines.{fault_line}
+use Rattle.ebpf_command.specs.Response.{Response, refused_response, clean_response}
+use Rattle.ebpf_command.specs.Writing.{Responding}
+use Rattle.ebpf_one.specs.Asked.{Asked, asked_for, fault_of}
+use Rattle.ebpf_one.specs.Lines.{refused_line, accepted_line}
+use Rattle.ebpf_one.specs.OneText.{AreGiven}
+
+-- why an instruction is refused, by what comes to its slot; where paths hold different objects nothing else is told of what is known
+abbrev pub reason : Option Insn → EntryState → (slot : ℕ) → VerifyCode → Decl → List KindRow → List ℕ
+reason (Some i) (Known s) slot code decl rows = verify_sentence slot i s code decl rows
+reason (Some i) Conflict slot code decl rows = verify_sentence slot i first_state code decl rows
+reason _ _ slot code decl rows = []
+
+-- what is known before each of the slots that these come to, beside the instructions
+abbrev pub known_lines : Subject → List EntryState → List ℕ
+known_lines s entries = texts_below (length entries) (slot_lines s.program entries s.rows)
+
+-- the listing up to the refused slot and why that is refused, or the listing of all
+abbrev pub explained_by : Option (ℕ × VerifyCode) → Subject → List EntryState → Response
+explained_by (Some refusal) s entries =
+    refused_response (known_lines s entries ++ (refused_line (refusal_name (Verify refusal.1)) refusal.0
+    ++ reason (insn_at s.program refusal.0) (entry_in entries refusal.0) refusal.0 refusal.1 s.decl s.rows))
+explained_by None s entries = clean_response (known_lines s entries ++ accepted_line (length (instructions s.program)))
+
+-- by the entries that the verifier looks at
+abbrev pub explained : Subject → Response
+explained s = explained_by (verdict s) s (entries_below s.program (looked_at (verdict s) (length s.program)))
+
+-- why the edges of an instruction are refused
+abbrev pub misled_at : Option Insn → (slot slots : ℕ) → FlowCode → List ℕ
+misled_at None slot slots code = []
+misled_at (Some i) slot slots code = flow_sentence slot i slots code
+
+abbrev pub misled_response : List (Option Insn) → ℕ → FlowCode → Response
+misled_response p slot code = refused_response (refused_line (refusal_name (Flow code)) slot ++ misled_at (insn_at p slot) slot (length p) code)
+
+-- a program is refused for its flow, or goes on to the verifier
+abbrev pub ExplainsFlow : Option (ℕ × FlowCode) → Subject → Response → Type 0
+ExplainsFlow (Some refusal) s response = response ≡ misled_response s.program refusal.0 refusal.1
+ExplainsFlow None s response = response ≡ explained s
+
+-- bytes are refused as no program, or are the program that they encode
+abbrev pub ExplainsDecoded : Option (ℕ × DecodeCode) → List ℕ → Decl → List KindRow → Response → Type 0
+ExplainsDecoded (Some refusal) bytes decl rows response =
+    response ≡ refused_response (refused_line (refusal_name (Decode refusal.1)) refusal.0 ++ decode_sentence bytes refusal.0 refusal.1)
+ExplainsDecoded None bytes decl rows response =
+    (p : List (Option Insn)) × IsProgram bytes p × ExplainsFlow (flow_fault p) (record { program = p; decl = decl; rows = rows }) response
+
+-- the bytes are judged with what is declared
+abbrev pub ExplainsBytes : Asked → Response → Type 0
+ExplainsBytes a response =
+    (decl : Decl) × (rows : List KindRow) × AreGiven a decl rows × ExplainsDecoded (decode_fault a.bytes) a.bytes decl rows response
+
+-- the input or an option can't be used, or bytes are asked for
+abbrev pub ExplainsAsked : Option FaultCode → Asked → Response → Type 0
+ExplainsAsked (Some code) a response = response ≡ refused_response (fault_line code 0)
+ExplainsAsked None a response = ExplainsBytes a response
+
+-- the response of `explain` by the context's text and the most objects to hold
+abbrev pub ExplainsTo : List ℕ → ℕ → Responding
+ExplainsTo context held input response = ExplainsAsked (fault_of input context held) (asked_for input context held) response

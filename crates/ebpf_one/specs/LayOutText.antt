@@ -1,0 +1,68 @@
+-- The response of `lay-out` to its input: the hex of the program laid out anew, or why it can't be.
+use Rattle.std.specs.Prelude.{◌≡◌, ◌≢◌, ◌⊎◌, ℕ, ◌++◌, List, [], length, Option, Some, None, codes, decimal}
+use Rattle.hex.specs.Hex.{encode_lower}
+use Rattle.ebpf_insn.specs.declared.fault.DecodeCode.{DecodeCode}
+use Rattle.ebpf_insn.specs.declared.insn.Insn.{Insn}
+use Rattle.ebpf_insn.specs.Program.{insn_at}
+use Rattle.ebpf_insn.specs.Encoding.{IsProgram}
+use Rattle.ebpf_insn.specs.Decoding.{decode_fault}
+use Rattle.ebpf_flow.specs.Flow.{flow_fault}
+use Rattle.ebpf_layout.specs.declared.fault.LayoutFault.{LayoutFault}
+use Rattle.ebpf_layout.specs.declared.fault.LayoutFault.TheVariants.{Flow, Loop, Slots, NoMemory}
+use Rattle.ebpf_layout.specs.Layout.{IsLaidOut}
+use Rattle.ebpf_layout.specs.Refusal.{IsLayoutFault}
+use Rattle.ebpf_explain.specs.DecodeSentences.{decode_sentence}
+use Rattle.ebpf_command.specs.declared.codes.RefusalCode.TheVariants.{Decode}
+use Rattle.ebpf_command.specs.declared.done.FaultCode.{FaultCode}
+use Rattle.ebpf_command.specs.Codes.{refusal_name, flow_name}
+use Rattle.ebpf_command.specs.Lines.{fault_line}
+use Rattle.ebpf_command.specs.Response.{Response, refused_response, clean_response}
+use Rattle.ebpf_command.specs.Writing.{Responding}
+use Rattle.ebpf_one.specs.Asked.{bytes_in, input_fault}
+use Rattle.ebpf_one.specs.ExplainText.{misled_at}
+use Rattle.ebpf_one.specs.Lines.{refused_line}
+
+-- the bytes of a program as hex, on one line
+abbrev pub IsHexOf : List (Option Insn) → Response → Type 0
+IsHexOf q response = (bytes : List ℕ) × IsProgram bytes q × (response ≡ clean_response (encode_lower bytes ++ codes "\n"))
+
+-- why a program can't be laid out: an edge that leads to no instruction, an edge that closes a loop, or too many slots
+abbrev pub layout_lines : List (Option Insn) → LayoutFault → List ℕ
+layout_lines p (Flow slot code) = refused_line (flow_name code) slot ++ misled_at (insn_at p slot) slot (length p) code
+layout_lines p (Loop from to) =
+    codes "loop " ++ (decimal from ++ (codes " " ++ (decimal to ++ (codes "\n  slot " ++ (decimal from ++ (codes " leads to slot " ++ (decimal to ++
+    codes ", from which a path leads back to it: unroll the loop\n")))))))
+layout_lines p Slots = codes "refused I9 4096\n  with the jumps that have to be added the program has more than 4096 slots\n"
+layout_lines p NoMemory = []
+
+-- the program is laid out, and its flow is fine then
+pub record IsLaidWell (p : List (Option Insn)) (response : Response) : Type 0 where
+  pub program : List (Option Insn)
+  pub laid_out : IsLaidOut p program
+  pub fine : flow_fault program ≡ None
+  pub told : IsHexOf program response
+
+-- or it can't be, for this cause
+pub record IsNotLaid (p : List (Option Insn)) (response : Response) : Type 0 where
+  pub fault : LayoutFault
+  pub is : IsLayoutFault p fault
+  pub none : fault ≢ NoMemory
+  pub told : response ≡ refused_response (layout_lines p fault)
+
+abbrev pub LaysOutProgram : List (Option Insn) → Response → Type 0
+LaysOutProgram p response = IsLaidWell p response ⊎ IsNotLaid p response
+
+-- bytes are refused as no program, or are the program that they encode
+abbrev pub LaysOutDecoded : Option (ℕ × DecodeCode) → List ℕ → Response → Type 0
+LaysOutDecoded (Some refusal) bytes response =
+    response ≡ refused_response (refused_line (refusal_name (Decode refusal.1)) refusal.0 ++ decode_sentence bytes refusal.0 refusal.1)
+LaysOutDecoded None bytes response = (p : List (Option Insn)) × IsProgram bytes p × LaysOutProgram p response
+
+-- the input can't be used, or gives bytes
+abbrev pub LaysOutGiven : Option FaultCode → List ℕ → Response → Type 0
+LaysOutGiven (Some code) bytes response = response ≡ refused_response (fault_line code 0)
+LaysOutGiven None bytes response = LaysOutDecoded (decode_fault bytes) bytes response
+
+-- the response of `lay-out` to an input
+abbrev pub LaysOut : Responding
+LaysOut input response = LaysOutGiven (input_fault input) (bytes_in input) response

@@ -1,0 +1,242 @@
+//! The command `explain`: what is known before each instruction of one program, and the verdict that stands on it.
+
+ghost use Rattle.std.specs.Prelude.{◌≡◌, ◌≢◌, ◌++◌, List, Option, IfOk, IfErr, OnOk, length, string_bytes};
+ghost use Rattle.ebpf_flow.specs.Flow.{flow_fault};
+ghost use Rattle.ebpf_insn.specs.declared.insn.Insn.{Insn};
+ghost use Rattle.ebpf_insn.specs.Decoding.{decode_fault};
+ghost use Rattle.ebpf_insn.specs.Encoding.{IsProgram};
+ghost use Rattle.ebpf_insn.specs.Program.{insn_at};
+ghost use Rattle.ebpf_verify.specs.Entry.{entry_in};
+ghost use Rattle.ebpf_explain.specs.DecodeSentences.{decode_sentence};
+ghost use Rattle.ebpf_command.specs.declared.codes.RefusalCode.TheVariants.{Decode};
+ghost use Rattle.ebpf_state.specs.Kinds.{AreKinds};
+ghost use Rattle.ebpf_command.specs.declared.done.EngineFault.TheVariants.{Output};
+ghost use Rattle.ebpf_command.specs.Codes.{refusal_name};
+ghost use Rattle.ebpf_command.specs.Response.{refused_response};
+ghost use Rattle.ebpf_command.specs.Writing.{Writes, WritesBeginning, Reads};
+ghost use Rattle.ebpf_one.specs.Lines.{refused_line};
+ghost use Rattle.ebpf_one.specs.ExplainText.{ExplainsTo, ExplainsBytes, ExplainsDecoded, ExplainsFlow, explained, misled_at, misled_response, reason};
+
+use crate::request::{Request, requested};
+use crate::text::refused_line;
+use ebpf_command::answer::{Answer, answer_fault, respond};
+use ebpf_command::codes::RefusalCode;
+use ebpf_command::done::{Done, EngineFault, Stop};
+use ebpf_explain::decode_sentence::write_decode_sentence;
+use ebpf_explain::flow_sentence::write_flow_sentence;
+use ebpf_explain::slots::write_slots;
+use ebpf_explain::verify_sentence::write_verify_sentence;
+use ebpf_flow::check::check;
+use ebpf_flow::fault::{FlowCode, FlowFault};
+use ebpf_flow::flowed::Flowed;
+use ebpf_insn::decode::decode;
+use ebpf_insn::fault::{DecodeCode, DecodeFault};
+use ebpf_insn::program::Program;
+use ebpf_state::kinds::{KindRow, kinds};
+use ebpf_state::state::State;
+use ebpf_verify::decl::Decl;
+use ebpf_verify::entry::EntryState;
+use ebpf_verify::fault::VerifyCode;
+use ebpf_verify::trace::trace_verdict;
+use std::alloc::{AllocError, Global};
+use std::io::{Read, Write};
+
+/// Reads a program as hex and writes what is known before each of its instructions, up to the one that is refused, and then
+/// the verdict. The program isn't run. The options are those of [`crate::one::one`].
+///
+/// # Errors
+/// `Input` where a read failed and `NoMemory` where an allocation failed: nothing was written then. `Output` where a write
+/// failed or took nothing.
+pub fn explain<R: Read, W: Write>(
+    alloc: Global,
+    reader: &mut R,
+    writer: &mut W,
+    context: &str,
+    held: u8,
+) -> Result<Done, EngineFault>
+    // The text of the input and the options is written, and nothing else.
+    ensures response { Writes (ExplainsTo context.now held) (R.remaining reader.old) (W.contents writer.old) (W.contents writer.new) result }
+    ensures consumed { Reads (R.remaining reader.old) (R.remaining reader.new) result }
+    ensures untouched { IfErr result (λ fault. fault ≢ Output → writer.new ≡ writer.old) }
+    ensures beginning { WritesBeginning (ExplainsTo context.now held) (R.remaining reader.old) (W.contents writer.old) (W.contents writer.new) result }
+{
+    respond(alloc, reader, writer, |input| {
+        explain_input(alloc, input, context, held)
+    })
+}
+
+// The response to an input and the options.
+fn explain_input(alloc: Global, input: &[u8], context: &str, held: u8) -> Result<Answer, AllocError>
+    ensures { IfOk result (ExplainsTo context.now held input.now) }
+{
+    match requested(alloc, input, context, held) {
+        Ok(request) => explain_request(alloc, request),
+        Err(Stop::Fault(code)) => answer_fault(alloc, code, 0),
+        Err(Stop::NoMemory) => Err(AllocError),
+    }
+}
+
+// The response to the bytes of a request.
+fn explain_request(alloc: Global, request: Request) -> Result<Answer, AllocError>
+    requires { request.decl.context ≡ length request.context.items }
+    ensures { IfOk result (ExplainsBytes (record { bytes = request.bytes.items; context = request.context.items; held = request.decl.held })) }
+{
+    explain_bytes(alloc, &request.bytes, request.decl, &kinds())
+}
+
+// The response to bytes, with what is declared and the kinds.
+fn explain_bytes(
+    alloc: Global,
+    bytes: &[u8],
+    decl: Decl,
+    rows: &[KindRow],
+) -> Result<Answer, AllocError>
+    requires { AreKinds rows.now }
+    ensures { IfOk result (ExplainsDecoded (decode_fault bytes.now) bytes.now decl rows.now) }
+{
+    match decode(alloc, bytes) {
+        Ok(program) => explain_program(alloc, bytes, program, decl, rows),
+        Err(DecodeFault::Bad { slot, code }) => answer_undecoded(alloc, bytes, slot, code),
+        Err(DecodeFault::NoMemory) => Err(AllocError),
+    }
+}
+
+// The answer to bytes that are no program.
+pub(crate) fn answer_undecoded(
+    alloc: Global,
+    bytes: &[u8],
+    slot: u16,
+    code: DecodeCode,
+) -> Result<Answer, AllocError>
+    ensures { IfOk result (λ answer. answer ≡ refused_response (refused_line (refusal_name (Decode code)) slot ++ decode_sentence bytes.now slot code)) }
+{
+    let mut text = refused_line(alloc, RefusalCode::Decode(code).name(), slot)?;
+    write_decode_sentence(&mut text, bytes, slot as usize, code)?;
+    Ok(Answer {
+        text,
+        done: Done::Refused,
+    })
+}
+
+// The response to a program that these bytes encode.
+fn explain_program(
+    alloc: Global,
+    bytes: &[u8],
+    program: Program,
+    decl: Decl,
+    rows: &[KindRow],
+) -> Result<Answer, AllocError>
+    requires kinds { AreKinds rows.now }
+    requires encoded { IsProgram bytes.now program }
+    ensures { IfOk result (ExplainsFlow (flow_fault program) (record { program = program; decl = decl; rows = rows.now })) }
+{
+    match check(alloc, program) {
+        Ok(flowed) => explain_flowed(alloc, &flowed, decl, rows),
+        Err(FlowFault::Bad { slot, code }) => answer_misled(alloc, bytes, slot, code),
+        Err(FlowFault::NoMemory) => Err(AllocError),
+    }
+}
+
+// The answer to a program whose flow is at fault. It is decoded once more, since the check keeps none that it refuses.
+fn answer_misled(
+    alloc: Global,
+    bytes: &[u8],
+    slot: u16,
+    code: FlowCode,
+) -> Result<Answer, AllocError>
+    ensures { IfOk result (λ answer. (p : List (Option Insn)) → IsProgram bytes.now p → answer ≡ misled_response p slot code) }
+{
+    let Ok(program) = decode(alloc, bytes) else {
+        return Err(AllocError);
+    };
+    let mut text = refused_line(alloc, RefusalCode::Flow(code).name(), slot)?;
+    write_misled(&mut text, &program, slot as usize, code)?;
+    Ok(Answer {
+        text,
+        done: Done::Refused,
+    })
+}
+
+// Writes why the edges of a slot are refused.
+pub(crate) fn write_misled(
+    text: &mut String,
+    program: &Program,
+    slot: usize,
+    code: FlowCode,
+) -> Result<(), AllocError>
+    ensures { OnOk result (string_bytes text.new ≡ string_bytes text.old ++ misled_at (insn_at program.now slot) slot (length program.now) code) }
+{
+    match program.at(slot) {
+        Some(insn) => write_flow_sentence(text, slot, insn, program.slots(), code),
+        None => Ok(()),
+    }
+}
+
+// The response to a program whose flow has no fault.
+fn explain_flowed(
+    alloc: Global,
+    flowed: &Flowed,
+    decl: Decl,
+    rows: &[KindRow],
+) -> Result<Answer, AllocError>
+    requires { AreKinds rows.now }
+    ensures { IfOk result (λ answer. answer ≡ explained (record { program = flowed.now; decl = decl; rows = rows.now })) }
+{
+    let trace = trace_verdict(alloc, flowed, decl, rows)?;
+    let program = flowed.program();
+    let mut text = String::new(alloc);
+    write_slots(alloc, &mut text, program, &trace.entries, rows)?;
+    let Some((slot, code)) = trace.refusal else {
+        let len = program.len();
+        write!(text, "accepted {len}\n")?;
+        return Ok(Answer {
+            text,
+            done: Done::Clean,
+        });
+    };
+    let name = RefusalCode::Verify(code).name();
+    write!(text, "refused {name} {slot}\n")?;
+    write_reason(
+        alloc,
+        &mut text,
+        program,
+        &trace.entries,
+        slot as usize,
+        code,
+        decl,
+        rows,
+    )?;
+    Ok(Answer {
+        text,
+        done: Done::Refused,
+    })
+}
+
+// Writes why an instruction is refused, by what comes to its slot. Where paths meet that hold different objects, no state is
+// known, and any serves.
+fn write_reason(
+    alloc: Global,
+    text: &mut String,
+    program: &Program,
+    entries: &[EntryState],
+    slot: usize,
+    code: VerifyCode,
+    decl: Decl,
+    rows: &[KindRow],
+) -> Result<(), AllocError>
+    ensures { OnOk result (string_bytes text.new ≡ string_bytes text.old ++ reason (insn_at program.now slot) (entry_in entries.now slot) slot code decl rows.now) }
+{
+    let Some(insn) = program.at(slot) else {
+        return Ok(());
+    };
+    match entries.get(slot) {
+        Some(EntryState::Known(state)) => {
+            write_verify_sentence(text, slot, insn, state, code, decl, rows)
+        }
+        Some(EntryState::Conflict) => {
+            let state = State::start(alloc)?;
+            write_verify_sentence(text, slot, insn, &state, code, decl, rows)
+        }
+        _ => Ok(()),
+    }
+}

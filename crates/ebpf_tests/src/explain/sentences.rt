@@ -1,0 +1,108 @@
+//! Why bytes are no program, and why a flow is refused, in sentences written down by hand.
+
+use crate::programs::{bytes_of, column, is_told, program_of};
+use ebpf_explain::decode_sentence::write_decode_sentence;
+use ebpf_explain::flow_sentence::write_flow_sentence;
+use ebpf_flow::check::check;
+use ebpf_flow::fault::FlowFault;
+use ebpf_insn::decode::decode;
+use ebpf_insn::fault::{DecodeCode, DecodeFault};
+use std::alloc::Global;
+use std::process::Abort;
+use std::test::*;
+
+// What a row shows, the bytes, and the line that is told of them.
+const BYTES: &str = "\
+no bytes |  |   there are 0 bytes: a program has whole slots of 8 bytes, and one at least
+half a slot | 95000000 |   there are 4 bytes: a program has whole slots of 8 bytes, and one at least
+no opcode | 0d00000000000000 |   slot 0 has the opcode 0x0d, which is no instruction
+no opcode in the second slot | 9500000000000000ff00000000000000 |   slot 1 has the opcode 0xff, which is no instruction
+a low nibble of 11 | b70b000000000000 |   slot 0 names a register above 10: 0x0b
+a high nibble of 11 | b7b0000000000000 |   slot 0 names a register above 10: 0xb0
+an exit with an immediate | 9500000000000000950000000100afff |   slot 1 has something in a field that its instruction does not use: 950000000100afff
+a wide load at the end | 1801000001000000 |   slot 0 is a wide load without its second slot
+a wide load and another | 950000000000000018010000010000001861000001000000 |   slot 1 is a wide load whose second slot has more than a number: 1861000001000000
+a move of 32 bits at 32 bits | bc10200000000000 |   slot 0 has an offset or an immediate that its operation does not have: bc10200000000000
+an atomic operation | c300000000000000 |   slot 0 is a form that is left out: c300000000000000 (an atomic operation, a call of a function, or a load of a map's address)";
+
+// What a row shows, the program, and the line that is told of it.
+const PROGRAMS: &str = "\
+a jump past the last slot | 05000500000000009500000000000000 |   slot 0 jumps +5 slots on, and the program has 2 slots: let it lead to one of them
+a jump below slot 0 | 0500fdff000000009500000000000000 |   slot 0 jumps -3 slots on, and the program has 2 slots: let it lead to one of them
+a jump into a wide load | 0500010000000000180000000100000000000000000000009500000000000000 |   slot 0 jumps +1 slots on, to the second half of a wide instruction: let it lead to an instruction
+a jump to itself | 0500ffff00000000 |   slot 0 jumps back, by -1 slots: programs go forward only, so unroll a loop, and lay blocks out in the order in which they are run
+a far jump to itself | 06000000ffffffff |   slot 0 jumps back, by -1 slots: programs go forward only, so unroll a loop, and lay blocks out in the order in which they are run
+a branch back | b7000000070000001500feff000000009500000000000000 |   slot 1 jumps back, by -2 slots: programs go forward only, so unroll a loop, and lay blocks out in the order in which they are run
+a move at the end | b700000007000000 |   slot 0 goes on behind the last slot: end the program with exit
+an exit after an exit | 95000000000000009500000000000000 |   slot 1 is reached by no path from slot 0 that goes forward: leave it out, or let a jump before it lead to it";
+
+// The line of bytes that are no program.
+fn line_of_bytes(rt: &impl Abort, alloc: Global, digits: &str) -> String {
+    let bytes = bytes_of(rt, alloc, digits);
+    let fault = decode(alloc, &bytes).err().expect(rt, "it is a program");
+    let mut text = String::new(alloc);
+    if let DecodeFault::Bad { slot, code } = fault {
+        write_decode_sentence(&mut text, &bytes, slot as usize, code).expect(rt, "out of memory");
+    }
+    text
+}
+
+// The line of a program whose flow is refused.
+fn line_of_program(rt: &impl Abort, alloc: Global, digits: &str) -> String {
+    let program = program_of(rt, alloc, digits);
+    let same = program_of(rt, alloc, digits);
+    let fault = check(alloc, same).err().expect(rt, "it is taken");
+    let mut text = String::new(alloc);
+    if let FlowFault::Bad { slot, code } = fault {
+        let slot = slot as usize;
+        let insn = program.at(slot).expect(rt, "it is a second half");
+        write_flow_sentence(&mut text, slot, insn, program.slots(), code).expect(
+            rt,
+            "out of memory",
+        );
+    }
+    text
+}
+
+// That a line is told, with a newline behind it.
+fn is_line(rt: &impl Abort, row: &str, told: &str, expected: &str) {
+    let line = told.strip_suffix("\n").expect(rt, "there is no newline");
+    is_told(rt, row, line, expected);
+}
+
+#[test]
+fn each_code_of_decoding_has_its_sentence(rt: HostRuntime) {
+    for row in BYTES.lines() {
+        let (_, columns) = column(&rt, row);
+        let (digits, expected) = column(&rt, columns);
+        let told = line_of_bytes(&rt, rt.alloc(), digits);
+        is_line(&rt, row, told.as_str(), expected);
+    }
+}
+
+#[test]
+fn each_code_of_the_flow_has_its_sentence(rt: HostRuntime) {
+    for row in PROGRAMS.lines() {
+        let (_, columns) = column(&rt, row);
+        let (digits, expected) = column(&rt, columns);
+        let told = line_of_program(&rt, rt.alloc(), digits);
+        is_line(&rt, row, told.as_str(), expected);
+    }
+}
+
+#[test]
+fn a_byte_that_is_not_there_is_zero(rt: HostRuntime) {
+    let mut text = String::new(rt.alloc());
+    write_decode_sentence(&mut text, &[0x95, 1], 0, DecodeCode::I4).expect(&rt, "out of memory");
+    write_decode_sentence(&mut text, &[0x95, 1], usize::MAX, DecodeCode::I6).expect(
+        &rt,
+        "out of memory",
+    );
+    write_decode_sentence(&mut text, &[], 4096, DecodeCode::I9).expect(&rt, "out of memory");
+    let expected =
+        "  slot 0 has something in a field that its instruction does not use: 9501000000000000
+  slot 18446744073709551615 is a wide load whose second slot has more than a number: 0000000000000000
+  the program has more than 4096 slots
+";
+    is_told(&rt, "bytes that are not there", text.as_str(), expected);
+}

@@ -1,0 +1,24 @@
+-- What the verdict stands on.
+use Rattle.std.specs.Prelude.{◌≡◌, ◌++◌, ℕ, zero, suc, List, [], ◌∷◌, length, Option, Some, None}
+use Rattle.ebpf_insn.specs.declared.insn.Insn.{Insn}
+use Rattle.ebpf_verify.specs.declared.entry.EntryState.{EntryState}
+use Rattle.ebpf_verify.specs.declared.fault.VerifyCode.{VerifyCode}
+use Rattle.ebpf_verify.specs.declared.trace.Trace.{Trace}
+use Rattle.ebpf_verify.specs.Subject.{Subject}
+use Rattle.ebpf_verify.specs.Entry.{entry_of}
+use Rattle.ebpf_verify.specs.Verdict.{verdict}
+
+-- how many slots are looked at: those up to the refused one
+abbrev pub looked_at : Option (ℕ × VerifyCode) → ℕ → ℕ
+looked_at None slots = slots
+looked_at (Some refusal) slots = suc refusal.0
+
+-- the entries of the slots below m, in their order
+unfoldable pub entries_below : List (Option Insn) → ℕ → List EntryState
+entries_below p zero = []
+entries_below p (suc m) = entries_below p m ++ entry_of p m ∷ []
+
+-- the verdict, and the entry of each slot that is looked at
+pub record IsTrace (s : Subject) (t : Trace) : Type 0 where
+  pub refusal : t.refusal ≡ verdict s
+  pub entries : t.entries.items ≡ entries_below s.program (looked_at (verdict s) (length s.program))
