@@ -7,3 +7,8 @@ pub mod Written
 pub mod WritingSlots
 pub mod Places
 pub mod Fine
+pub mod Renamed
+pub mod Acted
+pub mod Displaced
+pub mod Stepping
+pub mod Alike

@@ -9,7 +9,7 @@ use Rattle.ebpf_insn.specs.declared.insn.Insn.TheVariants as insn
 use Rattle.ebpf_insn.specs.Program.{flattened, insn_at, slots_in}
 use Rattle.ebpf_flow.specs.Edges.{falls, jump_of, fall_of, edges_of, edges_at}
 use Rattle.ebpf_layout.specs.declared.mark.Mark.{Mark}
-use Rattle.ebpf_layout.specs.declared.mark.Mark.TheVariants.{Done}
+use Rattle.ebpf_layout.specs.declared.mark.Mark.TheVariants.{New, Open, Done}
 use Rattle.ebpf_layout.specs.Paths.{LeadBy, IsReached}
 use Rattle.ebpf_layout.specs.Refusal.{edge_fault_at}
 use Rattle.ebpf_layout.specs.Layout.{moved, IsJumpTo, FallsTo, IsKept, IsAdded, IsLaidOut}
@@ -66,22 +66,22 @@ all_in p marks order slot h fine reached =
     let zero = last_in p marks order h in
     led_fine p marks order h fine 0 reached.steps slot zero.0 zero.1 reached.lead
 
-abbrev number_of : Mark → ℕ
-number_of (Done n) = n
-number_of _ = 0
+-- where what was at a slot stands; what was not reached has a place of its own behind the code
+abbrev place_of : Mark → List ℕ → List (Option Insn) → ℕ → ℕ
+place_of (Done n) places code slot = length code - 1 - get_or places n 0
+place_of _ places code slot = length code + slot
 
--- where what was at a slot stands
 abbrev pub place_in : List Mark → List ℕ → List (Option Insn) → ℕ → ℕ
-place_in marks places code slot = length code - 1 - get_or places (number_of (mark_at marks slot)) 0
+place_in marks places code slot = place_of (mark_at marks slot) places code slot
 
 pub place_is : (p : List (Option Insn)) (marks : List Mark) (order places : List ℕ) (code : List (Option Insn)) (count slot at : ℕ) → IsDone p marks order places code count
     → StandsAt order places slot at → place_in marks places code slot + at + 1 ≡ length code
 place_is p marks order places code count slot at d s =
     let done = d.ordered.marked.order_mark slot s.number s.ordered in
-    let number : number_of (mark_at marks slot) ≡ s.number = ap number_of done in
-    let read : get_or places (number_of (mark_at marks slot)) 0 ≡ at = ap (λ (n : ℕ). get_or places n 0) number ∙ get_or_from_slice_get places s.number at 0 s.placed in
+    let read : get_or places s.number 0 ≡ at = get_or_from_slice_get places s.number at 0 s.placed in
     let inside = d.writing.written.inside s.number at s.placed in
-    omega arith
+    let there : length code - 1 - get_or places s.number 0 + at + 1 ≡ length code = omega arith in
+    rw done there
 
 -- what was reached, with where it stands
 pub record Stands (p : List (Option Insn)) (marks : List Mark) (order places : List ℕ) (code : List (Option Insn)) (slot : ℕ) : Type 0 where
@@ -132,19 +132,19 @@ fall_some (insn.JumpFar offset) slot to k e = absurd (none-some to e)
 fall_some insn.Exit slot to k e = absurd (none-some to e)
 fall_some _ slot to k e = refl
 
-fall_moved : (i : Insn) (z : ℤ) (slot to k : ℕ) → fall_of i slot ≡ Some to → fall_of (moved i z) k ≡ Some (k + slots_in i)
+pub fall_moved : (i : Insn) (z : ℤ) (slot to k : ℕ) → fall_of i slot ≡ Some to → fall_of (moved i z) k ≡ Some (k + slots_in i)
 fall_moved i z slot to k e = rw (falls-moved i z, slots_in-moved i z) (fall_some i slot to k e)
 
-jump_edge : (q : List (Option Insn)) (k : ℕ) (i : Insn) (to : ℕ) → insn_at q k ≡ Some i → jump_of i k ≡ Some to → (edges_at q k).jump ≡ Some to
+pub jump_edge : (q : List (Option Insn)) (k : ℕ) (i : Insn) (to : ℕ) → insn_at q k ≡ Some i → jump_of i k ≡ Some to → (edges_at q k).jump ≡ Some to
 jump_edge q k i to at e = subst (λ (o : Option Insn). (edges_of o k).jump ≡ Some to) (sym at) e
 
-fall_edge : (q : List (Option Insn)) (k : ℕ) (i : Insn) (to : ℕ) → insn_at q k ≡ Some i → fall_of i k ≡ Some to → (edges_at q k).fall ≡ Some to
+pub fall_edge : (q : List (Option Insn)) (k : ℕ) (i : Insn) (to : ℕ) → insn_at q k ≡ Some i → fall_of i k ≡ Some to → (edges_at q k).fall ≡ Some to
 fall_edge q k i to at e = subst (λ (o : Option Insn). (edges_of o k).fall ≡ Some to) (sym at) e
 
-jump_of_edge : (p : List (Option Insn)) (slot : ℕ) (i : Insn) (to : ℕ) → insn_at p slot ≡ Some i → (edges_at p slot).jump ≡ Some to → jump_of i slot ≡ Some to
+pub jump_of_edge : (p : List (Option Insn)) (slot : ℕ) (i : Insn) (to : ℕ) → insn_at p slot ≡ Some i → (edges_at p slot).jump ≡ Some to → jump_of i slot ≡ Some to
 jump_of_edge p slot i to at e = subst (λ (o : Option Insn). (edges_of o slot).jump ≡ Some to) at e
 
-fall_of_edge : (p : List (Option Insn)) (slot : ℕ) (i : Insn) (to : ℕ) → insn_at p slot ≡ Some i → (edges_at p slot).fall ≡ Some to → fall_of i slot ≡ Some to
+pub fall_of_edge : (p : List (Option Insn)) (slot : ℕ) (i : Insn) (to : ℕ) → insn_at p slot ≡ Some i → (edges_at p slot).fall ≡ Some to → fall_of i slot ≡ Some to
 fall_of_edge p slot i to at e = subst (λ (o : Option Insn). (edges_of o slot).fall ≡ Some to) at e
 
 jump_to : (p : List (Option Insn)) (marks : List Mark) (order places : List ℕ) (code : List (Option Insn)) (count slot at k : ℕ) → IsDone p marks order places code count
@@ -207,6 +207,27 @@ laid_apart p marks order places code count a b d x y same =
       | inr (inr after) ↦ absurd (omega (arith, d.writing.written.rising n m y.at x.at after y.stands.placed x.stands.placed))
     ]
 
+-- a slot that was done stands somewhere, and any other has a place behind the code
+place_cases : (p : List (Option Insn)) (marks : List Mark) (order places : List ℕ) (code : List (Option Insn)) (count slot : ℕ) → IsDone p marks order places code count
+    → (mark : Mark) → mark_at marks slot ≡ mark → Stands p marks order places code slot ⊎ (place_in marks places code slot ≡ length code + slot)
+place_cases p marks order places code count slot d New e = inr (rw e refl)
+place_cases p marks order places code count slot d (Open n) e = inr (rw e refl)
+place_cases p marks order places code count slot d (Done n) e = inl (stands_in p marks order places code count slot d (n, d.ordered.marked.order_slot slot n e))
+
+all_apart : (p : List (Option Insn)) (marks : List Mark) (order places : List ℕ) (code : List (Option Insn)) (count a b : ℕ) → IsDone p marks order places code count
+    → place_in marks places code a ≡ place_in marks places code b → a ≡ b
+all_apart p marks order places code count a b d same =
+    elim (place_cases p marks order places code count a d (mark_at marks a) refl) [
+      | inl x ↦ elim (place_cases p marks order places code count b d (mark_at marks b) refl) [
+            | inl y ↦ laid_apart p marks order places code count a b d x y same
+            | inr behind ↦ let place = x.place in absurd (omega arith)
+          ]
+      | inr gone ↦ elim (place_cases p marks order places code count b d (mark_at marks b) refl) [
+            | inl y ↦ let place = y.place in absurd (omega arith)
+            | inr behind ↦ omega arith
+          ]
+    ]
+
 laid_only : (p : List (Option Insn)) (marks : List Mark) (order places : List ℕ) (code : List (Option Insn)) (count k : ℕ) (i : Insn) → IsDone p marks order places code count
     → insn_at (reverse code) k ≡ Some i → IsKept p (place_in marks places code) k ⊎ IsAdded p (reverse code) (place_in marks places code) k
 laid_only p marks order places code count k i d e =
@@ -238,7 +259,9 @@ pub is_laid_out : (p : List (Option Insn)) (marks : List Mark) (order places : L
 is_laid_out p marks order places code count d = record {
   place = place_in marks places code;
   first = laid_first p marks order places code count d;
-  apart = λ a b x y same. laid_apart p marks order places code count a b d (stands_if_reached p marks order places code count a d x) (stands_if_reached p marks order places code count b d y) same;
+  apart = λ a b same. all_apart p marks order places code count a b d same;
+  there = λ slot reached. let n = all_in p marks order slot d.ordered d.fine reached in (d.ordered.ordered n.0 slot n.1).1;
+  led = d.fine;
   same = λ slot i reached at.
       let s = stands_if_reached p marks order places code count slot d reached in
       let one : s.insn ≡ i = same_Some s.insn i (sym s.owned ∙ at) in

@@ -1,10 +1,11 @@
 -- What it means that a program is another one laid out anew.
-use Rattle.std.specs.Prelude.{◌≡◌, ◌≢◌, ◌⊎◌, ◌+◌, ℕ, ℤ, List, Option, Some}
+use Rattle.std.specs.Prelude.{◌≡◌, ◌≢◌, ◌⊎◌, ◌+◌, ℕ, ℤ, false, List, Option, Some, None, is_none}
 use Rattle.ebpf_insn.specs.declared.insn.Insn.{Insn}
 use Rattle.ebpf_insn.specs.declared.insn.Insn.TheVariants as insn
 use Rattle.ebpf_insn.specs.Program.{insn_at}
 use Rattle.ebpf_flow.specs.Edges.{edges_at}
 use Rattle.ebpf_layout.specs.Paths.{IsReached}
+use Rattle.ebpf_layout.specs.Refusal.{edge_fault_at}
 
 -- an instruction with another displacement; one that doesn't jump has none and stays
 abbrev pub moved : Insn → ℤ → Insn
@@ -36,10 +37,12 @@ IsAdded p q place at = (slot : ℕ) × (to : ℕ) × IsReached p slot × ((edges
 
 -- q is p laid out anew
 pub record IsLaidOut (p q : List (Option Insn)) : Type 0 where
-  -- where what stood at a slot stands now
+  -- where what stood at a slot stands now; what was not reached has a place of its own, where nothing stands
   pub place : ℕ → ℕ
   pub first : place 0 ≡ 0
-  pub apart : (a b : ℕ) → IsReached p a → IsReached p b → place a ≡ place b → a ≡ b
+  pub apart : (a b : ℕ) → place a ≡ place b → a ≡ b
+  pub there : (slot : ℕ) → IsReached p slot → is_none (insn_at p slot) ≡ false
+  pub led : (slot : ℕ) → IsReached p slot → edge_fault_at p slot ≡ None
   pub same : (slot : ℕ) (i : Insn) → IsReached p slot → insn_at p slot ≡ Some i → IsMoved q (place slot) i
   pub jumps : (slot to : ℕ) → IsReached p slot → (edges_at p slot).jump ≡ Some to → (edges_at q (place slot)).jump ≡ Some (place to)
   pub falls : (slot to : ℕ) → IsReached p slot → (edges_at p slot).fall ≡ Some to → FallsTo q (place slot) (place to)

@@ -1,5 +1,6 @@
 pub mod Paths
 pub mod Refusal
 pub mod Layout
+pub mod Running
 pub mod Search
 pub mod Writing

@@ -3,6 +3,7 @@
 ghost use Rattle.std.specs.Prelude.{◌≡◌, IfOk, IfErr, None};
 ghost use Rattle.ebpf_flow.specs.Flow.{flow_fault};
 ghost use Rattle.ebpf_layout.specs.Layout.{IsLaidOut};
+ghost use Rattle.ebpf_layout.specs.Running.{RunAlike};
 ghost use Rattle.ebpf_layout.specs.Refusal.{IsLayoutFault};
 
 use crate::fault::LayoutFault;
@@ -21,6 +22,7 @@ use std::alloc::Global;
 pub fn lay_out(alloc: Global, program: &Program) -> Result<Program, LayoutFault>
     ensures laid_out { IfOk result (IsLaidOut program.now) }
     ensures fine { IfOk result (λ q. flow_fault q ≡ None) }
+    ensures alike { IfOk result (RunAlike program.now) }
     ensures refused { IfErr result (IsLayoutFault program.now) }
 {
     let order = order_of(alloc, program)?;

@@ -1,7 +1,7 @@
 -- The world against what each run sees of it: owners and ledgers, one event, and the run alone.
 pub mod Owners
 pub mod ObjectsSeen
-pub mod TrapsSeen
+pub mod Telling
 pub mod ObjectsFound
 pub mod Moves
 pub mod Exchanges
@@ -9,7 +9,7 @@ pub mod ObjectPointers
 pub mod OwnedParts
 pub mod Acts
 pub mod Owned
-pub mod CellsSeen
+pub mod CellsTold
 pub mod Projection
 pub mod Pointing
 pub mod Steps

@@ -4,6 +4,7 @@ pub mod Cells
 pub mod StackWords
 pub mod Tags
 pub mod Effect
+pub mod Renaming
 pub mod Bytes
 pub mod World
 pub mod Kinds

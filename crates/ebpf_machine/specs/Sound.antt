@@ -94,18 +94,18 @@ pub record IsRun {H : Type 0} (r : RunState H) : Type 0 where
 -- ---- owners, ledgers and pointers of a world fit together
 
 -- a value is a pointer to the object of a name
-abbrev pub Names : Option (Value Name) → Name → Type 0
+abbrev pub Names : {N : Type 0} → Option (Value N) → N → Type 0
 Names (Some (Pointer (Object name) k)) n = name ≡ n
 Names _ n = ⊥
 
-abbrev pub NamesPart : Cell Name → Name → Type 0
+abbrev pub NamesPart : {N : Type 0} → Cell N → N → Type 0
 NamesPart (Part v j) n = Names (Some v) n
 NamesPart _ n = ⊥
 
 -- a run has a pointer to the object of a name
-pub data HasPointer (frame : Frame Name) (n : Name) : Type 0 where
-  InRegister : (v : Option (Value Name)) → Contains frame.registers v → Names v n → HasPointer frame n
-  InCell : (c : Cell Name) → Contains frame.stack c → NamesPart c n → HasPointer frame n
+pub data HasPointer {N : Type 0} (frame : Frame N) (n : N) : Type 0 where
+  InRegister : (v : Option (Value N)) → Contains frame.registers v → Names v n → HasPointer frame n
+  InCell : (c : Cell N) → Contains frame.stack c → NamesPart c n → HasPointer frame n
 
 -- pointers of a run to what one call was granted are to one slot
 abbrev pub HasOneSlot : Frame Name → Type 0

@@ -12,7 +12,8 @@ use Rattle.ebpf_machine.specs.Values.{TooManyObjects, Frame}
 use Rattle.ebpf_machine.specs.Effect.{Act, Nothing, Write, Ask, Free, Exchange, Effect, Goes, Ends, Traps, with_value}
 use Rattle.ebpf_machine.specs.World.{Name, World, Running, Owner, Run, AnsweredCall, Answer, Absent, Null, Slot, is_in, is_home, is_shelf, standing, held_by, holds_of, ledger_of, kinds_of, image_at, kind_in, name_of}
 use Rattle.ebpf_machine.specs.Events.{with_run, with_bytes, with_owner, put_on, fetched, shelf_told, exchanged, moved_to, ended, trapped, replied, granted, done_by}
-use Rattle.ebpf_machine.specs.View.{RunView, ObjectView, value_seen, register_seen, frame_seen, object_in, view_of, view_in, slots_in, new_object, shelved_object, without_given, CallResult, reply_in}
+use Rattle.ebpf_machine.specs.Renaming.{value_renamed, register_renamed}
+use Rattle.ebpf_machine.specs.View.{RunView, ObjectView, frame_seen, object_in, view_of, view_in, slots_in, new_object, shelved_object, without_given, CallResult, reply_in}
 use Rattle.ebpf_machine.specs.View as view
 use Rattle.ebpf_machine.specs.Step.{Served, Granted, served_by, served_from, result_of}
 use Rattle.ebpf_machine.specs.Advance.{slots_without, slots_exchanged, slots_acted, slots_after}
@@ -22,21 +23,15 @@ use Rattle.ebpf_machine.proofs.World.Owners.{slot_of_call, held_given, held_gran
 use Rattle.ebpf_machine.proofs.World.OwnedParts.{nothing_yet}
 use Rattle.ebpf_machine.proofs.World.Exchanges.{IsOwnGiven, IsNotGiven, stands, standing_there, kind_on_shelf, given_slot, call_given, slot_held, held_without, held_put, held_exchanged, others_put, others_fetched, objects_left, slots_left}
 use Rattle.ebpf_machine.proofs.World.ObjectsSeen.{objects_of, objects_written, others_written, objects_given, others_given_back, objects_granted, others_unchanged}
-use Rattle.ebpf_machine.proofs.World.TrapsSeen.{trap_seen}
+use Rattle.ebpf_machine.proofs.World.Telling.{by_call, act_told, effect_told}
 pub use Rattle.ebpf_machine.proofs.World.Owners.{owner_of}
 
 -- what a run sees of what its instruction asks, and of an effect
 abbrev pub act_seen : Act Name → Act ℕ
-act_seen Nothing = Nothing
-act_seen (Write name at bytes) = Write name.call at bytes
-act_seen (Ask kind) = Ask kind
-act_seen (Free name) = Free name.call
-act_seen (Exchange shelf given) = Exchange shelf (call_given given)
+act_seen act = act_told by_call act
 
 abbrev pub effect_seen : Effect Name → Effect ℕ
-effect_seen (Goes act to frame) = Goes (act_seen act) to (frame_seen frame)
-effect_seen (Ends n) = Ends n
-effect_seen (Traps trap) = Traps (trap_seen trap)
+effect_seen e = effect_told by_call e
 
 -- the slot that is answered is home, and of the kind
 abbrev pub IsGrantable : World → ℕ → Answer → Type 0
@@ -82,14 +77,14 @@ other_seen v w run other now ne written same =
 
 -- ---- a reply
 
-frame_replied : (frame : Frame Name) (v : Value Name) → frame_seen (with_value frame R0 v) ≡ with_value (frame_seen frame) R0 (value_seen v)
-frame_replied frame v = ap (λ (registers : List (Option (Value ℕ))). record (frame_seen frame) { registers = registers }) (map-set register_seen frame.registers 0 (Some v))
+frame_replied : (frame : Frame Name) (v : Value Name) → frame_seen (with_value frame R0 v) ≡ with_value (frame_seen frame) R0 (value_renamed by_call.name v)
+frame_replied frame v = ap (λ (registers : List (Option (Value ℕ))). record (frame_seen frame) { registers = registers }) (map-set (register_renamed by_call.name) frame.registers 0 (Some v))
 
 -- the view of a run that goes on with a reply, and with these objects
 reply_seen : (w v : World) (run : ℕ) (r : Running) (kind to : ℕ) (told : CallResult) (x : Value Name) (frame : Frame Name) (objects : List ObjectView) → objects_of v run ≡ objects
-    → view_of v run (replied kind (reply_in told) x to frame r) ≡ record (view.replied told (value_seen x) to (frame_seen frame) (view_of w run r)) { objects = objects }
+    → view_of v run (replied kind (reply_in told) x to frame r) ≡ record (view.replied told (value_renamed by_call.name x) to (frame_seen frame) (view_of w run r)) { objects = objects }
 reply_seen w v run r kind to told x frame objects same =
-    let now : RunView = record (view.replied told (value_seen x) to (frame_seen frame) (view_of w run r)) { objects = objects } in
+    let now : RunView = record (view.replied told (value_renamed by_call.name x) to (frame_seen frame) (view_of w run r)) { objects = objects } in
     let frames = frame_replied frame x in
     let replies = map_push (λ (t : AnsweredCall). t.reply) r.calls (record { at = r.pc; kind = kind; reply = reply_in told }) in
     λ i. record now { frame = frames i; objects = same i; replies = replies i }

@@ -30,10 +30,12 @@ use Rattle.ebpf_machine.specs.Cells.{place_in, stored_at}
 use Rattle.ebpf_machine.specs.Effect.{Found, Environment, Act, Nothing, Write, Ask, Free, Exchange, Effect, Goes, Ends, Traps, effect_at, effect, unary, alu_value, with_value, written, is_taken, loaded, rewritten, written_at, writes_object, effect_of_store, without_arguments, with_zero, effect_of_new, effect_of_freeing, effect_of_free, effect_of_emit, exchanges, effect_of_giving, effect_of_swapping, effect_of_swap, effect_of_call, effect_of_jump, effect_of_branch, effect_of_exit, result_number}
 use Rattle.ebpf_machine.specs.World.{Name, Kind, World, Running}
 use Rattle.ebpf_machine.specs.Events.{Asking, Unasked, OfNoKind, OfKind, AtShelf, asking_for, asking_shelf, asking_helper, asking, asking_of}
-use Rattle.ebpf_machine.specs.View.{RunView, without_given, register_seen, frame_seen, view_of, environment_of_view, effect_of_view}
+use Rattle.ebpf_machine.specs.Renaming.{register_renamed}
+use Rattle.ebpf_machine.specs.View.{RunView, without_given, frame_seen, view_of, environment_of_view, effect_of_view}
 use Rattle.ebpf_machine.specs.Step.{asking_in}
 use Rattle.ebpf_machine.specs.Sound.{IsOwned}
-use Rattle.ebpf_machine.proofs.World.Projection.{read-seen}
+use Rattle.ebpf_machine.proofs.World.Telling.{by_call}
+use Rattle.ebpf_machine.proofs.World.Projection.{read-told}
 use Rattle.ebpf_machine.proofs.World.Steps.{GoesOn, IsNext}
 
 abbrev pub asked_by : {N : Type 0} → Act N → Asking
@@ -207,22 +209,22 @@ there_goes o pc a frame act to after does = (subst (AsksFor a (asking o a.kinds 
 
 -- ---- what the run sees of it
 
-register_asks : (x : Option (Value Name)) (kinds : ℕ) → asking_for (register_seen x) kinds ≡ asking_for x kinds
+register_asks : (x : Option (Value Name)) (kinds : ℕ) → asking_for (register_renamed by_call.name x) kinds ≡ asking_for x kinds
 register_asks None kinds = refl
 register_asks (Some (Number n)) kinds = refl
 register_asks (Some (Pointer base k)) kinds = refl
 
-shelf_asks : (x : Option (Value Name)) (kinds : ℕ) → asking_shelf (register_seen x) kinds ≡ asking_shelf x kinds
+shelf_asks : (x : Option (Value Name)) (kinds : ℕ) → asking_shelf (register_renamed by_call.name x) kinds ≡ asking_shelf x kinds
 shelf_asks None kinds = refl
 shelf_asks (Some (Number n)) kinds = refl
 shelf_asks (Some (Pointer base k)) kinds = refl
 
 helper_asks : (helper : Option Helper) (kinds : ℕ) (frame : Frame Name) → asking_helper helper kinds (frame_seen frame) ≡ asking_helper helper kinds frame
 helper_asks None kinds frame = refl
-helper_asks (Some helper.New) kinds frame = ap (λ (x : Option (Value ℕ)). asking_for x kinds) (read-seen frame R1) ∙ register_asks (read frame R1) kinds
+helper_asks (Some helper.New) kinds frame = ap (λ (x : Option (Value ℕ)). asking_for x kinds) (read-told by_call frame R1) ∙ register_asks (read frame R1) kinds
 helper_asks (Some helper.Free) kinds frame = refl
 helper_asks (Some helper.Emit) kinds frame = refl
-helper_asks (Some helper.Swap) kinds frame = ap (λ (x : Option (Value ℕ)). asking_shelf x kinds) (read-seen frame R1) ∙ shelf_asks (read frame R1) kinds
+helper_asks (Some helper.Swap) kinds frame = ap (λ (x : Option (Value ℕ)). asking_shelf x kinds) (read-told by_call frame R1) ∙ shelf_asks (read frame R1) kinds
 
 insn_asks : (i : Insn) (kinds : ℕ) (frame : Frame Name) → asking (Some i) kinds (frame_seen frame) ≡ asking (Some i) kinds frame
 insn_asks (insn.Call number) kinds frame = helper_asks (helper_of number) kinds frame

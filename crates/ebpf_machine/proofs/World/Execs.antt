@@ -25,7 +25,8 @@ use Rattle.ebpf_machine.proofs.World.Exchanges.{IsOwnGiven}
 use Rattle.ebpf_machine.proofs.World.Acts.{act_seen, effect_seen, served_act, served_effect, IsGrantable, IsOwnAct, IsOwnEffect, own_view, own_slots, others_view, others_slots}
 use Rattle.ebpf_machine.proofs.World.Standing.{HasRoomFor, shelves_done, standing_alike}
 use Rattle.ebpf_machine.proofs.World.Owned.{IsForward, owned_done}
-use Rattle.ebpf_machine.proofs.World.Projection.{IsSeenAs, effect_at-seen}
+use Rattle.ebpf_machine.proofs.World.Telling.{by_call}
+use Rattle.ebpf_machine.proofs.World.Projection.{IsToldAs, effect_at-told}
 use Rattle.ebpf_machine.proofs.World.Pointing.{plain_goes}
 use Rattle.ebpf_machine.proofs.World.Asking.{IsThere, IsGivenThere, asked_by, asked_goes, asked_ends, asking_seen, there_goes}
 use Rattle.ebpf_machine.proofs.World.Steps.{IsNext, next_of}
@@ -92,7 +93,7 @@ and_false true = refl
 and_false false = refl
 
 -- what a run meets in the world is seen by it
-met : (w : World) (run : ℕ) (r : Running) → IsOwned w → slice_get w.runs run ≡ Some r → IsSeenAs (environment w run r) (environment_of_view (view_of w run r)) r.frame
+met : (w : World) (run : ℕ) (r : Running) → IsOwned w → slice_get w.runs run ≡ Some r → IsToldAs by_call (environment w run r) (environment_of_view (view_of w run r)) r.frame
 met w run r owned there = record {
   context = refl;
   kinds = kinds_alike w run r owned there;
@@ -112,7 +113,7 @@ met w run r owned there = record {
         equal a b e = grind (arith, nat_tests)
 
 seen_effect : (w : World) (run : ℕ) (r : Running) → IsOwned w → slice_get w.runs run ≡ Some r → effect_seen (effect_of_run w run r) ≡ effect_of_view (view_of w run r)
-seen_effect w run r owned there = sym (effect_at-seen (insn_at r.subject.program r.pc) r.pc (environment w run r) (environment_of_view (view_of w run r)) r.frame (met w run r owned there))
+seen_effect w run r owned there = sym (effect_at-told by_call (insn_at r.subject.program r.pc) r.pc (environment w run r) (environment_of_view (view_of w run r)) r.frame (met w run r owned there))
 
 -- each object of a run has as many bytes as its kind says
 pub sized_in : (w : World) (run : ℕ) (r : Running) → IsOwned w → slice_get w.runs run ≡ Some r → AreSized (view_of w run r)

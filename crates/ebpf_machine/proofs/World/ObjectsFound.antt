@@ -11,7 +11,7 @@ use Rattle.ebpf_machine.specs.Sound.{IsOwned, HasPointer}
 use Rattle.ebpf_machine.proofs.Lists.ListLemmas.{IsFound, Contains-kept, any_from, any_one, find_is, find-map}
 use Rattle.ebpf_machine.proofs.World.Owners.{owner_of, held_owner}
 use Rattle.ebpf_machine.proofs.World.ObjectsSeen.{objects_of}
-use Rattle.ebpf_machine.proofs.World.TrapsSeen.{found_seen}
+use Rattle.ebpf_machine.proofs.World.Telling.{by_call, found_told}
 
 pub is_call-own : (run at : ℕ) (h : Holder) → is_call run at h ≡ true → h ≡ Run run at
 is_call-own run at (Run r a) e =
@@ -53,7 +53,7 @@ own_found w run n found e = by (is_held_by w run n) (is_anothers w run n.slot) r
   by false false held e = absurd (cc)
 
 -- as a run that sees itself it finds the same; another run's object and nobody's are one to it
-pub objects_found : (w : World) (run : ℕ) (r : Running) (n : Name) → IsOwned w → slice_get w.runs run ≡ Some r → HasPointer r.frame n → object_at (objects_of w run) n.call ≡ found_seen (object_for w run n)
+pub objects_found : (w : World) (run : ℕ) (r : Running) (n : Name) → IsOwned w → slice_get w.runs run ≡ Some r → HasPointer r.frame n → object_at (objects_of w run) n.call ≡ found_told by_call (object_for w run n)
 objects_found w run r n owned there has =
     ap found_in (find-map (λ (o : ObjectView). o.call == n.call) (object_in w) (held_by w run))
     ∙ by (find named (held_by w run)) (find_is named (held_by w run))
@@ -61,11 +61,11 @@ objects_found w run r n owned there has =
     named : Owner → Bool
     named o = call_of o.holder == n.call
 
-    none : (t : Bool) → Err UseAfterFree ≡ found_seen (cond t (Err AnotherRunsObject) (Err UseAfterFree))
+    none : (t : Bool) → Err UseAfterFree ≡ found_told by_call (cond t (Err AnotherRunsObject) (Err UseAfterFree))
     none true = refl
     none false = refl
 
-    by : (o : Option Owner) → IsFound named (held_by w run) o → found_in (option_map (object_in w) o) ≡ found_seen (object_for w run n)
+    by : (o : Option Owner) → IsFound named (held_by w run) o → found_in (option_map (object_in w) o) ≡ found_told by_call (object_for w run n)
     by (Some o) found =
         let held = held_owner w run o found.0 in
         let holder : o.holder ≡ Run run n.call = held.1 ∙ ap (λ (k : ℕ). Run run k) (eqb-true (call_of o.holder) n.call found.1) in

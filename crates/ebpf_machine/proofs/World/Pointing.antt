@@ -34,7 +34,7 @@ use Rattle.ebpf_machine.specs.declared.value.Cell.{Cell}
 use Rattle.ebpf_machine.specs.declared.value.Cell.TheVariants.{Unset, Byte, Part}
 use Rattle.ebpf_machine.specs.Cells.{cell_at, are_parts, pointer_from, number_from, loaded_number, loaded_word, loaded_at, place_in, read_at, cell_of, left_over, touches, is_among, stored_cell, stored_cells, is_pointer, stored_at}
 use Rattle.ebpf_machine.specs.Sound.{Names, NamesPart, HasPointer, InRegister, InCell}
-use Rattle.ebpf_machine.proofs.World.CellsSeen.{HasPart, cell_points}
+use Rattle.ebpf_machine.proofs.World.CellsTold.{HasPart, cell_points}
 
 -- an element of a list of which one place was written is the one that was written, or was there
 in_set : {X : Type 0} → (xs : List X) (k : ℕ) (a x : X) (i : ℕ) → i < length (set xs k a) → get_or (set xs k a) i x ≡ x → (a ≡ x) ⊎ Contains xs x
@@ -48,12 +48,12 @@ in_set (y ∷ ys) (suc k) a x (suc i) lt e = later (in_set ys k a x i (omega (ar
   later (inr there) = inr (suc there.0, let inside = there.1 in omega arith, there.2)
 
 -- a register that is a pointer to an object is one of the registers
-in_registers : (xs : List (Option (Value Name))) (k : ℕ) (n : Name) → Names (get_or xs k None) n → Contains xs (get_or xs k None)
+in_registers : {N : Type 0} → (xs : List (Option (Value N))) (k : ℕ) (n : N) → Names (get_or xs k None) n → Contains xs (get_or xs k None)
 in_registers [] k n h = absurd h
 in_registers (x ∷ xs) zero n h = (0, omega arith, refl)
 in_registers (x ∷ xs) (suc k) n h = let there = in_registers xs k n h in let inside = there.1 in (suc there.0, omega arith, there.2)
 
-pub read_points : (frame : Frame Name) (r : Reg) (n : Name) → Names (read frame r) n → HasPointer frame n
+pub read_points : {N : Type 0} → (frame : Frame N) (r : Reg) (n : N) → Names (read frame r) n → HasPointer frame n
 read_points frame r n h = InRegister (read frame r) (in_registers frame.registers (number_of r) n h) h
 
 pub source_points : (frame : Frame Name) (width : Width) (src : Source) (n : Name) → Names (source_value frame width src) n → HasPointer frame n

@@ -1,6 +1,7 @@
 use Rattle.ebpf_layout.proofs.Codes.{well_formed}
 use Rattle.ebpf_layout.proofs.Places.{IsDone, is_laid_out, jumps_forward, some_code}
 use Rattle.ebpf_layout.proofs.Fine.{flow_is_fine}
+use Rattle.ebpf_layout.proofs.Alike.{run_alike}
 use Rattle.ebpf_layout.proofs.layout.lay_out.Goals as goal
 
 pub new-requires-clause-formed : goal.new-requires-clause-formed
@@ -20,6 +21,15 @@ returns-clause-laid_out c =
     let done : IsDone p o.marks.items o.slots.items w.places.items w.code.items w.count =
     record { ordered = c.in_ok-order.ensures.ordered; fine = c.in_ok-check_edges.ensures.fine; writing = c.in_ok-code.ensures.written; all = c.in_ok-code.ensures.all } in
     rw (c.new.ensures, c.reverse.ensures.items) (is_laid_out p o.marks.items o.slots.items w.places.items w.code.items w.count done)
+
+pub returns-clause-alike : goal.returns-clause-alike
+returns-clause-alike c =
+    let p = c.args.program.now in
+    let o = c.in_ok-order.order in
+    let w = c.in_ok-code.field-0 in
+    let done : IsDone p o.marks.items o.slots.items w.places.items w.code.items w.count =
+    record { ordered = c.in_ok-order.ensures.ordered; fine = c.in_ok-check_edges.ensures.fine; writing = c.in_ok-code.ensures.written; all = c.in_ok-code.ensures.all } in
+    rw (c.new.ensures, c.reverse.ensures.items) (run_alike p _ (is_laid_out p o.marks.items o.slots.items w.places.items w.code.items w.count done))
 
 pub returns-clause-fine : goal.returns-clause-fine
 returns-clause-fine c =
