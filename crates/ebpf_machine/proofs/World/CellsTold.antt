@@ -47,7 +47,7 @@ cell_points frame n h = InCell (cell_at frame.stack h.0) (part_among frame.stack
 
 -- names that two lists of cells have parts of are one on one side where they are on the other
 abbrev AreAlike : {N M : Type 0} → (N → M) → (N → N → Bool) → (M → M → Bool) → List (Cell N) → Type 0
-AreAlike name one seen stack = (n m : N) → HasPart stack n → HasPart stack m → seen (name n) (name m) ≡ one n m
+AreAlike {N} name one seen stack = (n m : N) → HasPart stack n → HasPart stack m → seen (name n) (name m) ≡ one n m
 
 base-told : {N M : Type 0} → (how : Telling N M) → (one : N → N → Bool) (seen : M → M → Bool) (a b : Base N) → ((n m : N) → a ≡ Object n → b ≡ Object m → seen (how.name n) (how.name m) ≡ one n m) → is_same_base seen (base_renamed how.name a) (base_renamed how.name b) ≡ is_same_base one a b
 base-told how one seen Stack Stack alike = refl
@@ -63,7 +63,7 @@ base-told how one seen (Object n) (Object m) alike = alike n m refl refl
 pointer-told : {N M : Type 0} → (how : Telling N M) → (one : N → N → Bool) (seen : M → M → Bool) (v u : Value N) → ((n m : N) → Names (Some v) n → Names (Some u) m → seen (how.name n) (how.name m) ≡ one n m) → is_same_pointer seen (value_renamed how.name v) (value_renamed how.name u) ≡ is_same_pointer one v u
 pointer-told how one seen (Number x) u alike = refl
 pointer-told how one seen (Pointer a k) (Number x) alike = refl
-pointer-told how one seen (Pointer a k) (Pointer b j) alike =
+pointer-told {N} {M} how one seen (Pointer a k) (Pointer b j) alike =
     ap (λ (t : Bool). t && int_eq k j) (base-told how one seen a b (λ n m e f. named n m e f)) where
       named : (n m : N) → a ≡ Object n → b ≡ Object m → seen (how.name n) (how.name m) ≡ one n m
       named n m e f = alike n m (of_object a k n e) (of_object b j m f) where

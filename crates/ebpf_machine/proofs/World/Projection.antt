@@ -1,6 +1,6 @@
 -- An instruction does to a run that is told otherwise, as it is told, what it does to the run.
 use Rattle.std.proofs.Common.{◌≡◌, ℕ, zero, suc, ◌+◌, ℤ, pos, ◌+ℤ◌, Bool, true, false, cond, List, [], ◌∷◌, length, get_or, set, Option, Some, None, Result, Ok, Err, refl, sym, ap, ◌∙◌}
-use Rattle.std.specs.Prelude.{map, nat_lt, ◌&&◌, ◌==◌}
+use Rattle.std.specs.Prelude.{map, nat_lt, option_map, ◌&&◌, ◌==◌}
 use Rattle.std.specs.Ordering.{int_eq}
 use Rattle.std.proofs.lemmas.List.{map-set}
 use Rattle.ebpf_insn.specs.declared.register.Reg.{Reg}
@@ -46,7 +46,7 @@ get_or-told how (x ∷ xs) (suc k) = get_or-told how xs k
 set-told : {N M : Type 0} → (how : Telling N M) → (xs : List (Option (Value N))) (k : ℕ) (v : Value N) → map (register_renamed how.name) (set xs k (Some v)) ≡ set (map (register_renamed how.name) xs) k (Some (value_renamed how.name v))
 set-told how [] k v = refl
 set-told how (x ∷ xs) zero v = refl
-set-told how (x ∷ xs) (suc k) v = ap (λ (ys : List (Option (Value M))). register_renamed how.name x ∷ ys) (set-told how xs k v)
+set-told {N} {M} how (x ∷ xs) (suc k) v = ap (λ (ys : List (Option (Value M))). register_renamed how.name x ∷ ys) (set-told how xs k v)
 
 pub read-told : {N M : Type 0} → (how : Telling N M) → (frame : Frame N) (r : Reg) → read (frame_renamed how.name frame) r ≡ register_renamed how.name (read frame r)
 read-told how frame r = get_or-told how frame.registers (number_of r)
@@ -117,7 +117,7 @@ effect_of_branch-told how next target frame (Ok true) = effect_of_jump-told how 
 effect_of_branch-told how next target frame (Ok false) = refl
 
 pub with_value-told : {N M : Type 0} → (how : Telling N M) → (frame : Frame N) (dst : Reg) (v : Value N) → with_value (frame_renamed how.name frame) dst (value_renamed how.name v) ≡ frame_renamed how.name (with_value frame dst v)
-with_value-told how frame dst v = ap (λ (regs : List (Option (Value M))). record (frame_renamed how.name frame) { registers = regs }) (sym (set-told how frame.registers (number_of dst) v))
+with_value-told {N} {M} how frame dst v = ap (λ (regs : List (Option (Value M))). record (frame_renamed how.name frame) { registers = regs }) (sym (set-told how frame.registers (number_of dst) v))
 
 chosen-told : {N M : Type 0} → (how : Telling N M) → (t : Bool) (to : ℕ) (frame : Frame N) → cond t (Traps FramePointerWritten) (Goes Nothing to (frame_renamed how.name frame)) ≡ effect_told how (cond t (Traps FramePointerWritten) (Goes Nothing to frame))
 chosen-told how true to frame = refl
@@ -200,10 +200,10 @@ effect_of_store-told how to a b frame size offset (Some base) (Some v) same has 
 -- ---- calls
 
 unset-told : {N M : Type 0} → (how : Telling N M) → (frame : Frame N) (r : Reg) → unset (frame_renamed how.name frame) r ≡ frame_renamed how.name (unset frame r)
-unset-told how frame r = ap (λ (registers : List (Option (Value M))). record (frame_renamed how.name frame) { registers = registers }) (sym (map-set (register_renamed how.name) frame.registers (number_of r) None))
+unset-told {N} {M} how frame r = ap (λ (registers : List (Option (Value M))). record (frame_renamed how.name frame) { registers = registers }) (sym (map-set (register_renamed how.name) frame.registers (number_of r) None))
 
 arguments-told : {N M : Type 0} → (how : Telling N M) → (frame : Frame N) → without_arguments (frame_renamed how.name frame) ≡ frame_renamed how.name (without_arguments frame)
-arguments-told how frame =
+arguments-told {N} {M} how frame =
     ap (λ (f : Frame M). unset (unset (unset (unset f R2) R3) R4) R5) (unset-told how frame R1)
     ∙ ap (λ (f : Frame M). unset (unset (unset f R3) R4) R5) (unset-told how (unset frame R1) R2)
     ∙ ap (λ (f : Frame M). unset (unset f R4) R5) (unset-told how (unset (unset frame R1) R2) R3)
@@ -211,10 +211,10 @@ arguments-told how frame =
     ∙ unset-told how (unset (unset (unset (unset frame R1) R2) R3) R4) R5
 
 zero-told : {N M : Type 0} → (how : Telling N M) → (frame : Frame N) → with_zero (frame_renamed how.name frame) ≡ frame_renamed how.name (with_zero frame)
-zero-told how frame = ap (λ (f : Frame M). with_value f R0 (Number 0)) (arguments-told how frame) ∙ with_value-told how (without_arguments frame) R0 (Number 0)
+zero-told {N} {M} how frame = ap (λ (f : Frame M). with_value f R0 (Number 0)) (arguments-told how frame) ∙ with_value-told how (without_arguments frame) R0 (Number 0)
 
 goes-told : {N M : Type 0} → (how : Telling N M) → (act : Act N) (to : ℕ) (frame : Frame N) (after : Frame M) → after ≡ frame_renamed how.name frame → Goes (act_told how act) to after ≡ effect_told how (Goes act to frame)
-goes-told how act to frame after same = ap (λ (f : Frame M). Goes (act_told how act) to f) same
+goes-told {N} {M} how act to frame after same = ap (λ (f : Frame M). Goes (act_told how act) to f) same
 
 -- a call goes on, or is a bad one
 or_bad-told : {N M : Type 0} → (how : Telling N M) → (t : Bool) (e : Effect N) → cond t (effect_told how e) (Traps BadCall) ≡ effect_told how (cond t e (Traps BadCall))
