@@ -39,7 +39,9 @@ freed_placed : (place : ℕ → ℕ) (call : ℕ) (objects : List ObjectView) �
     → filter (λ o. not (o.call == place call)) (map (object_placed place) objects) ≡ map (object_placed place) (filter (λ o. not (o.call == call)) objects)
 freed_placed place call [] apart = refl
 freed_placed place call (o ∷ objects) apart = rw (same_names place o.call call apart, freed_placed place call objects apart) (by (not (o.call == call))) where
+  rest : List ObjectView
   rest = filter (λ (x : ObjectView). not (x.call == call)) objects
+
   by : (t : Bool) → cond t (object_placed place o ∷ map (object_placed place) rest) (map (object_placed place) rest) ≡ map (object_placed place) (cond t (o ∷ rest) rest)
   by true = refl
   by false = refl
@@ -75,8 +77,13 @@ answer_follows q place executed Null to there frame kind v = inl (refl, refl, re
 answer_follows q place executed Empty to there frame kind v = inl (refl, refl, replied_placed q place executed Null (Number 0) to there frame v.objects (map (object_placed place) v.objects) v.taken v refl)
 answer_follows q place executed (Shelved bytes) to there frame kind v = inl (refl, refl, replied_placed q place executed Null (Number 0) to there frame v.objects (map (object_placed place) v.objects) v.taken v refl)
 answer_follows q place executed Granted to there frame kind v = rw (length-map v.objects (object_placed place)) (by (nat_le v.subject.decl.held (length v.objects))) where
+  granted : RunView
   granted = told_on Granted (Pointer (Object v.pc) (pos 0)) to frame (v.objects ++ new_object v kind ∷ []) v.taken v
+
+  laid : RunView
   laid = laid_view q place executed v
+
+  followed : RunView
   followed = told_on Granted (Pointer (Object (place v.pc)) (pos 0)) there (frame_renamed place frame) (laid.objects ++ new_object laid kind ∷ []) v.taken laid
 
   by : (t : Bool) → Follows q place (executed + 1) to there v (cond t (trapped TooManyObjects v) granted) (cond t (trapped TooManyObjects laid) followed)
@@ -96,9 +103,16 @@ exchange_follows q place executed Null to there frame shelf given v apart = inl 
 exchange_follows q place executed Granted to there frame shelf given v apart = inl (refl, refl, emptied q place executed to there frame given v apart)
 exchange_follows q place executed (Shelved bytes) to there frame shelf given v apart =
     rw (left_placed place given v.objects apart, length-map (without_given given v.objects) (object_placed place)) (by (nat_le v.subject.decl.held (length left))) where
+      left : List ObjectView
       left = without_given given v.objects
+
+      laid : RunView
       laid = laid_view q place executed v
+
+      got : RunView
       got = told_on (Shelved bytes) (Pointer (Object v.pc) (pos 0)) to frame (left ++ shelved_object v shelf bytes ∷ []) (v.taken ++ bytes) v
+
+      followed : RunView
       followed = told_on (Shelved bytes) (Pointer (Object (place v.pc)) (pos 0)) there (frame_renamed place frame) (map (object_placed place) left ++ shelved_object laid shelf bytes ∷ []) (v.taken ++ bytes) laid
 
       by : (t : Bool) → Follows q place (executed + 1) to there v (cond t (trapped TooManyObjects v) got) (cond t (trapped TooManyObjects laid) followed)

@@ -128,7 +128,7 @@ insn_led (insn.Alu width o dst src) there next at pc a frame none = written_led 
 insn_led (insn.Sext width bits dst src) there next at pc a frame none = written_led there next frame dst _
 insn_led (insn.Neg width dst) there next at pc a frame none = written_led there next frame dst _
 insn_led (insn.Swap order bits dst) there next at pc a frame none = written_led there next frame dst _
-insn_led (insn.Wide dst value) there next at pc a frame none = written_led there next frame dst _
+insn_led (insn.Wide dst value) there next at pc a frame none = written_led there next frame dst (Ok (Number value))
 insn_led (insn.Jump offset) there next at pc a frame none = absurd (none-some offset (sym none))
 insn_led (insn.JumpFar offset) there next at pc a frame none = absurd (none-some offset (sym none))
 insn_led (insn.Branch width condition left right offset) there next at pc a frame none = absurd (none-some offset (sym none))
@@ -174,18 +174,18 @@ jump_alike : (i : Insn) (pc : ℕ) (j : Insn) (at to there : ℕ) (frame : Frame
     → Alike i pc j at (effect_of_jump (jump_of i pc) frame) (effect_of_jump (jump_of j at) frame)
 jump_alike i pc j at to there frame e f = Jumped Nothing frame to there e f (ap (λ (t : Option ℕ). effect_of_jump t frame) e) (ap (λ (t : Option ℕ). effect_of_jump t frame) f)
 
-branch_alike : (i : Insn) (pc : ℕ) (j : Insn) (at to there : ℕ) (frame : Frame ℕ) (taken : Result Bool Trap) → falls i ≡ true → slots_in i ≡ 1 → jump_of i pc ≡ Some to → jump_of j at ≡ Some there
+branch_alike : (i : Insn) (pc : ℕ) (j : Insn) (at to there : ℕ) (frame : Frame ℕ) (taken : Result Bool Trap) → falls i ≡ true → jump_of i pc ≡ Some to → jump_of j at ≡ Some there
     → Alike i pc j at (effect_of_branch (pc + slots_in i) (jump_of i pc) frame taken) (effect_of_branch (at + slots_in i) (jump_of j at) frame taken)
-branch_alike i pc j at to there frame (Err trap) falling one e f = Trapped trap refl refl
-branch_alike i pc j at to there frame (Ok true) falling one e f = jump_alike i pc j at to there frame e f
-branch_alike i pc j at to there frame (Ok false) falling one e f = Fell Nothing frame falling refl refl
+branch_alike i pc j at to there frame (Err trap) falling e f = Trapped trap refl refl
+branch_alike i pc j at to there frame (Ok true) falling e f = jump_alike i pc j at to there frame e f
+branch_alike i pc j at to there frame (Ok false) falling e f = Fell Nothing frame falling refl refl
 
 pub displaced : (i : Insn) (z : ℤ) (pc at : ℕ) (a : Environment ℕ) (frame : Frame ℕ) → BothJump i pc (moved i z) at → Alike i pc (moved i z) at (effect i pc a frame) (effect (moved i z) at a frame)
 displaced (insn.Jump offset) z pc at a frame both = let b = both offset refl in jump_alike (insn.Jump offset) pc (insn.Jump z) at b.0 b.1 frame b.2 b.3
 displaced (insn.JumpFar offset) z pc at a frame both = let b = both offset refl in jump_alike (insn.JumpFar offset) pc (insn.JumpFar z) at b.0 b.1 frame b.2 b.3
 displaced (insn.Branch width condition left right offset) z pc at a frame both =
     let b = both offset refl in
-    branch_alike (insn.Branch width condition left right offset) pc (insn.Branch width condition left right z) at b.0 b.1 frame (is_taken width condition right (read frame left) (source_value frame width right)) refl refl b.2 b.3
+    branch_alike (insn.Branch width condition left right offset) pc (insn.Branch width condition left right z) at b.0 b.1 frame (is_taken width condition right (read frame left) (source_value frame width right)) refl b.2 b.3
 displaced insn.Exit z pc at a frame both = exit_alike pc at a.holds (read frame R0)
 displaced (insn.Alu width o dst src) z pc at a frame both = plain (insn.Alu width o dst src) pc at a frame refl refl
 displaced (insn.Sext width bits dst src) z pc at a frame both = plain (insn.Sext width bits dst src) pc at a frame refl refl

@@ -51,7 +51,9 @@ found_placed : (place : ℕ → ℕ) (call : ℕ) (objects : List ObjectView) �
     → find (λ o. o.call == place call) (map (object_placed place) objects) ≡ option_map (object_placed place) (find (λ o. o.call == call) objects)
 found_placed place call [] apart = refl
 found_placed place call (o ∷ objects) apart = rw (same_names place o.call call apart) (by (o.call == call) (found_placed place call objects apart)) where
+  rest : Option ObjectView
   rest = find (λ (x : ObjectView). x.call == call) objects
+
   by : (t : Bool) → find (λ x. x.call == place call) (map (object_placed place) objects) ≡ option_map (object_placed place) rest
       → cond t (Some (object_placed place o)) (find (λ x. x.call == place call) (map (object_placed place) objects)) ≡ option_map (object_placed place) (cond t (Some o) rest)
   by true e = refl

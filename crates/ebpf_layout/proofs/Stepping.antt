@@ -30,6 +30,7 @@ use Rattle.ebpf_layout.proofs.Displaced.{Alike, Ended, Trapped, Fell, Jumped, Bo
 
 jump_led : (p : List (Option Insn)) (slot : ℕ) (d : ℤ) (i : Insn) → displacement_of i ≡ Some d → edge_fault p slot (Some i) ≡ None → (to : ℕ) × (jump_of i slot ≡ Some to)
 jump_led p slot d i jumps fine = by (jump_of i slot) refl where
+  parts : (jump_fault p slot (displacement_of i) ≡ None) × (fall_fault p slot i ≡ None)
   parts = none_of (jump_fault p slot (displacement_of i)) (fall_fault p slot i) fine
 
   outside : jump_of i slot ≡ None → Some F1 ≡ None
