@@ -1,7 +1,7 @@
 -- What an instruction asks for changes the run in the new program as it changes the run in the old one.
-use Rattle.std.proofs.Common.{◌≡◌, ℕ, ◌+◌, pos, Bool, true, false, cond, not, List, [], ◌∷◌, ◌++◌, length, Option, Some, None, refl, sym, ap, ◌∙◌, inl, inr, ◌⊎◌}
+use Rattle.std.proofs.Common.{◌≡◌, ℕ, ◌+◌, pos, Bool, true, false, cond, not, List, [], ◌∷◌, ◌++◌, length, Option, Some, None, refl, ap, ◌∙◌, inl, inr, ◌⊎◌}
 use Rattle.std.specs.Prelude.{map, filter, nat_le, ◌==◌, option_map}
-use Rattle.std.proofs.lemmas.List.{length-map, map-append}
+use Rattle.std.proofs.lemmas.List.{length-map}
 use Rattle.ebpf_insn.specs.declared.insn.Insn.{Insn}
 use Rattle.ebpf_insn.specs.declared.register.Reg.TheVariants.{R0}
 use Rattle.ebpf_machine.specs.declared.value.Value.{Value}
@@ -9,7 +9,7 @@ use Rattle.ebpf_machine.specs.declared.value.Value.TheVariants.{Number, Pointer}
 use Rattle.ebpf_machine.specs.declared.value.Base.TheVariants.{Object}
 use Rattle.ebpf_machine.specs.Bytes.{patched}
 use Rattle.ebpf_machine.specs.Values.{Frame, TooManyObjects}
-use Rattle.ebpf_machine.specs.Effect.{Act, Nothing, Write, Ask, Free, Exchange, with_value}
+use Rattle.ebpf_machine.specs.Effect.{Act, Nothing, Write, Ask, Free, Exchange}
 use Rattle.ebpf_machine.specs.Renaming.{frame_renamed, value_renamed}
 use Rattle.ebpf_machine.specs.View.{ObjectView, RunView, CallResult, Null, Granted, Empty, Shelved, trapped, replied, new_object, shelved_object, answered, without_given, exchanged, patched_at, acted}
 use Rattle.ebpf_machine.proofs.World.Telling.{act_told}

@@ -14,7 +14,7 @@ use Rattle.ebpf_machine.specs.View.{RunView, ObjectView, CallResult, stepped_fro
 use Rattle.ebpf_machine.proofs.World.Lone.{one_on}
 use Rattle.ebpf_layout.specs.Paths.{IsReached}
 use Rattle.ebpf_layout.specs.Layout.{IsLaidOut}
-use Rattle.ebpf_layout.specs.Running.{first_view, run_on, content, IsAsFar, run_of, RunAlike}
+use Rattle.ebpf_layout.specs.Running.{run_on, content, IsAsFar, run_of, RunAlike}
 use Rattle.ebpf_layout.proofs.PathLemmas.{path_none}
 use Rattle.ebpf_layout.proofs.Renamed.{object_placed, laid_view}
 use Rattle.ebpf_layout.proofs.Stepping.{step_kept}

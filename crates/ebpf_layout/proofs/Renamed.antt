@@ -1,11 +1,11 @@
 -- A run as it sees itself, and the same run in the new program: its objects are named by where the calls stand now.
-use Rattle.std.proofs.Common.{◌≡◌, ℕ, Bool, true, false, cond, List, [], ◌∷◌, length, Option, Some, None, Ok, Err, refl, sym, ap, ◌∙◌, inl, inr}
+use Rattle.std.proofs.Common.{◌≡◌, ℕ, Bool, true, false, cond, List, [], ◌∷◌, Option, Some, None, refl, sym, ap, ◌∙◌, inl, inr}
 use Rattle.std.specs.Prelude.{map, ◌==◌, option_map}
 use Rattle.std.specs.List.{find}
 use Rattle.std.proofs.lemmas.Bool.{cases_eq, eq-eqb, ne_eqb}
 use Rattle.std.proofs.lemmas.List.{length-map}
 use Rattle.ebpf_insn.specs.declared.insn.Insn.{Insn}
-use Rattle.ebpf_machine.specs.Values.{Trap, UseAfterFree, AnotherRunsObject}
+use Rattle.ebpf_machine.specs.Values.{Trap, AnotherRunsObject}
 use Rattle.ebpf_machine.specs.Renaming.{frame_renamed}
 use Rattle.ebpf_machine.specs.View.{ObjectView, RunView, found_in, object_at, environment_of_view}
 use Rattle.ebpf_machine.proofs.World.Telling.{Telling, trap_told, found_told}

@@ -1,28 +1,27 @@
 -- One instruction of the old program is one of the new program, or two where a jump was added behind it.
-use Rattle.std.proofs.Common.{◌≡◌, ℕ, ◌+◌, ℤ, false, true, List, Option, Some, None, refl, sym, ap, subst, ◌∙◌, inl, inr, ◌⊎◌}
+use Rattle.std.proofs.Common.{◌≡◌, ℕ, ◌+◌, ℤ, List, Option, Some, None, refl, sym, ap, subst, ◌∙◌, inl, inr, ◌⊎◌}
 use Rattle.std.proofs.lemmas.Option.{none-some, same_Some}
 use Rattle.ebpf_insn.specs.declared.insn.Insn.{Insn}
 use Rattle.ebpf_insn.specs.declared.insn.Insn.TheVariants as insn
 use Rattle.ebpf_insn.specs.Program.{insn_at, slots_in}
-use Rattle.ebpf_flow.specs.declared.fault.FlowCode.{FlowCode}
 use Rattle.ebpf_flow.specs.declared.fault.FlowCode.TheVariants.{F1}
-use Rattle.ebpf_flow.specs.Edges.{falls, displacement_of, target_of, jump_of, fall_of, edges_at}
+use Rattle.ebpf_flow.specs.Edges.{displacement_of, target_of, jump_of, fall_of}
 use Rattle.ebpf_machine.specs.Values.{Frame}
 use Rattle.ebpf_machine.specs.Effect.{Act, Nothing, Effect, Goes, Ends, Traps, effect_at, effect, effect_of_jump}
 use Rattle.ebpf_machine.specs.Values.{Trap}
 use Rattle.ebpf_machine.specs.Renaming.{frame_renamed}
-use Rattle.ebpf_machine.specs.World.{Status, Going}
-use Rattle.ebpf_machine.specs.View.{RunView, CallResult, environment_of_view, effect_of_view, done_by, ended, trapped, acted, moved_to, stepped}
-use Rattle.ebpf_machine.proofs.World.Telling.{act_told, effect_told, trap_told}
+use Rattle.ebpf_machine.specs.World.{Going}
+use Rattle.ebpf_machine.specs.View.{RunView, CallResult, environment_of_view, effect_of_view, done_by, ended, trapped, acted, stepped}
+use Rattle.ebpf_machine.proofs.World.Telling.{act_told, effect_told}
 use Rattle.ebpf_machine.proofs.World.Projection.{effect_at-told}
 use Rattle.ebpf_machine.proofs.World.Replies.{stepped_going}
 use Rattle.ebpf_layout.specs.Paths.{IsReached}
-use Rattle.ebpf_layout.specs.Refusal.{target_fault, jump_fault, fall_fault, edge_fault, edge_fault_at}
-use Rattle.ebpf_layout.specs.Layout.{moved, IsJumpTo, FallsTo, IsLaidOut}
+use Rattle.ebpf_layout.specs.Refusal.{target_fault, jump_fault, fall_fault, edge_fault}
+use Rattle.ebpf_layout.specs.Layout.{moved, IsJumpTo, IsLaidOut}
 use Rattle.ebpf_layout.proofs.PathLemmas.{path_more, fall_is_edge, jump_is_edge}
 use Rattle.ebpf_layout.proofs.Reaching.{none_of, ordered_insn}
 use Rattle.ebpf_layout.proofs.Places.{fall_edge, jump_edge, fall_of_edge, jump_of_edge, fall_moved}
-use Rattle.ebpf_layout.proofs.Renamed.{AreApart, placed, laid_view, trap_kept, met}
+use Rattle.ebpf_layout.proofs.Renamed.{placed, laid_view, trap_kept, met}
 use Rattle.ebpf_layout.proofs.Acted.{Follows, act_follows}
 use Rattle.ebpf_layout.proofs.Displaced.{Alike, Ended, Trapped, Fell, Jumped, BothJump, displaced}
 

@@ -1,5 +1,5 @@
 -- How what an instruction does is told where objects have other names.
-use Rattle.std.proofs.Common.{◌≡◌, ℕ, Bool, true, cond, List, Option, Result, Ok, Err, refl}
+use Rattle.std.proofs.Common.{ℕ, Bool, true, cond, Result, Ok, Err}
 use Rattle.std.specs.Prelude.{option_map}
 use Rattle.ebpf_machine.specs.Values.{Trap, UseAfterFree, AnotherRunsObject}
 use Rattle.ebpf_machine.specs.Effect.{Found, Act, Nothing, Write, Ask, Free, Exchange, Effect, Goes, Ends, Traps}
