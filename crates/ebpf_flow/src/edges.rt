@@ -47,9 +47,9 @@ pub(crate) fn edges_from(
     Ok(Edges { fall, jump })
 }
 
-// How many slots past the next one an instruction may jump.
+/// How many slots past the next one an instruction may jump, forward or back; none where it doesn't jump (RFC 9669, section 4.3).
 #[inline(always)]
-fn displacement_of(insn: Insn) -> Option<i64>
+pub fn displacement_of(insn: Insn) -> Option<i64>
     ensures value { result ≡ displacement_of insn }
     ensures low { IfSome result (λ z. negsuc 2147483647 ≤ℤ z) }
     ensures high { IfSome result (λ z. z ≤ℤ pos 2147483647) }
@@ -120,9 +120,9 @@ fn fall_from(
     }
 }
 
-// The instruction goes on to the slot after it.
+/// The instruction goes on to the slot after it, or may: all do but a jump without condition and an exit.
 #[inline(always)]
-fn falls(insn: Insn) -> bool
+pub fn falls(insn: Insn) -> bool
     ensures { result ≡ falls insn }
 {
     match insn {

@@ -1,27 +1,13 @@
 //! Where an instruction leads, forward or back.
 
-ghost use Rattle.std.specs.Prelude.{◌≡◌, ◌≤◌, ◌<◌, ◌+◌, ℕ, ℤ, pos, negsuc, ◌+ℤ◌, ◌≤ℤ◌, Option, Some, None, length};
-ghost use Rattle.std.specs.Prelude.{IfSome, false, true};
-ghost use Rattle.ebpf_insn.specs.Program.{insn_at, slots_in};
-ghost use Rattle.ebpf_flow.specs.Edges.{falls, displacement_of, fall_of, target_of, jump_of, edges_at};
+ghost use Rattle.std.specs.Prelude.{◌≡◌, ◌<◌, pos, negsuc, ◌≤ℤ◌, Some};
+ghost use Rattle.ebpf_insn.specs.Program.{insn_at};
+ghost use Rattle.ebpf_flow.specs.Edges.{fall_of, target_of, jump_of, edges_at};
 ghost use Rattle.ebpf_layout.specs.Search.{standing};
 
+use ebpf_flow::edges::{displacement_of, falls};
 use ebpf_insn::insn::Insn;
 use ebpf_insn::program::Program;
-
-// How many slots past the next one an instruction may jump.
-pub(crate) fn displacement_of(insn: Insn) -> Option<i64>
-    ensures value { result ≡ displacement_of insn }
-    ensures low { IfSome result (λ z. negsuc 2147483647 ≤ℤ z) }
-    ensures high { IfSome result (λ z. z ≤ℤ pos 2147483647) }
-{
-    match insn {
-        Insn::Jump { offset } => Some(offset as i64),
-        Insn::JumpFar { offset } => Some(offset as i64),
-        Insn::Branch { offset, .. } => Some(offset as i64),
-        _ => None,
-    }
-}
 
 // The slot that a jump by so many slots leads to: none below slot 0.
 pub(crate) fn target_of(slot: usize, displacement: i64) -> Option<usize>
@@ -42,16 +28,6 @@ pub(crate) fn jump_of(insn: Insn, slot: usize) -> Option<usize>
     match displacement_of(insn) {
         Some(displacement) => target_of(slot, displacement),
         None => None,
-    }
-}
-
-// The instruction goes on to the slot after it.
-pub(crate) fn falls(insn: Insn) -> bool
-    ensures { result ≡ falls insn }
-{
-    match insn {
-        Insn::Jump { .. } | Insn::JumpFar { .. } | Insn::Exit => false,
-        _ => true,
     }
 }
 

@@ -8,10 +8,11 @@ ghost use Rattle.ebpf_layout.specs.Refusal.{edge_fault, edge_fault_at, jump_faul
 ghost use Rattle.ebpf_layout.specs.Search.{IsOrder, IsDone, mark_at};
 ghost use Rattle.ebpf_flow.specs.Edges.{displacement_of, target_of};
 
-use crate::edges::{displacement_of, falls, target_of};
+use crate::edges::target_of;
 use crate::fault::LayoutFault;
 use crate::mark::Mark;
 use crate::search::Order;
+use ebpf_flow::edges::{displacement_of, falls};
 use ebpf_flow::fault::FlowCode;
 use ebpf_insn::insn::Insn;
 use ebpf_insn::program::Program;

@@ -2,6 +2,7 @@
 
 use crate::programs::{column, is_told, program_of};
 use ebpf_flow::check::check;
+use ebpf_flow::edges::{displacement_of, falls};
 use std::alloc::Global;
 use std::process::Abort;
 use std::test::*;
@@ -37,4 +38,14 @@ fn a_move_leads_to_the_exit_after_it(rt: HostRuntime) {
     assert!(rt; matches!(of_move.fall, Some(1)) && of_move.jump.is_none());
     let of_exit = flowed.successors(1);
     assert!(rt; of_exit.fall.is_none() && of_exit.jump.is_none());
+}
+
+#[test]
+fn a_branch_falls_and_jumps_back(rt: HostRuntime) {
+    // if r0 == 0 goto -1, exit
+    let program = program_of(&rt, rt.alloc(), "1500ffff000000009500000000000000");
+    let branch = *program.at(0).expect(&rt, "no instruction");
+    assert!(rt; displacement_of(branch) == Some(-1) && falls(branch));
+    let exit = *program.at(1).expect(&rt, "no instruction");
+    assert!(rt; displacement_of(exit).is_none() && !falls(exit));
 }
