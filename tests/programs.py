@@ -1,4 +1,4 @@
-"""What the tests of the built program share: the cases of the table commands.txt, calls of the program, and how a run of `one` ends."""
+"""What the tests of the built program share: the cases of the table commands.txt, calls of the program, and how `one` ends."""
 
 import re
 import subprocess

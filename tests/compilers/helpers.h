@@ -1,4 +1,5 @@
-// The helpers, as each of the two compilers calls them, and as functions of native.c where a program is compiled for the machine itself.
+// The helpers: as each of the two compilers calls them by their numbers, and as functions of native.c where a program is compiled
+// for the machine itself. There nothing is put into its caller, so that each branch of the C is counted once.
 typedef unsigned char byte;
 typedef unsigned int word;
 typedef unsigned long number;

@@ -1,6 +1,7 @@
 // What becomes of an ICMP message, which is emitted too: 0 it is dropped, 1 it is passed on, 2 it is answered.
 //
-// The context is the header of the message: type, code, sum and four bytes more. A code that its type doesn't have leads to one exit.
+// The context is the header of the message: type, code, sum and four bytes more. Each code that its type doesn't have leads to one
+// exit.
 //
 // context 8, held 0
 // icmp.gcc.hex: gcc 12.2.0, bpf-gcc -Os -ffreestanding

@@ -1,7 +1,7 @@
 // Reads the header of a message: 0, or why it is none, which is emitted too.
 //
-// The context is the header: version, type with two flags above it, length with the high byte first, a sum, and a byte that is reserved. All that is
-// wrong with it leads to one exit.
+// The context is the header: version, type with two flags above it, length with the high byte first, a sum, and a byte that is
+// reserved. All that is wrong with it leads to one exit.
 //
 // context 6, held 0
 // message.gcc.hex: gcc 12.2.0, bpf-gcc -Os -ffreestanding
