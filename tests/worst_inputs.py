@@ -78,3 +78,9 @@ WORST = [
     Worst('run: jobs with room for blocks', ['run'], line_of('a', 0, 1, of_swaps()), lambda _: b'run a -\n'),
     Worst('run: jobs with much output', ['run', '--workers', '2'], line_of('a', 0, 0, EMIT * 2046 + ZERO + EXIT), lambda _: b'run a -\n'),
 ]
+
+# programs of as many slots as one may have, to be explained
+EXPLAINED = [
+    *(worst for worst in WORST if worst.words[0] == 'explain'),
+    Worst('explain: a straight program', ['explain'], padded(b'').hex().encode(), lambda _: b''),
+]
