@@ -65,11 +65,11 @@ told_on result value to frame objects taken v = record (replied result value to 
 replied_placed : (q : List (Option Insn)) (place : ℕ → ℕ) (executed : ℕ) (result : CallResult) (value : Value ℕ) (to there : ℕ) (frame : Frame ℕ) (objects new : List ObjectView) (taken : List ℕ) (v : RunView)
     → new ≡ map (object_placed place) objects
     → told_on result (value_renamed place value) there (frame_renamed place frame) new taken (laid_view q place executed v)
-      ≡ record (laid_view q place (executed + 1) (told_on result value to frame objects taken v)) { pc = there }
+    ≡ record (laid_view q place (executed + 1) (told_on result value to frame objects taken v)) { pc = there }
 replied_placed q place executed result value to there frame objects new taken v same =
     ap (λ (os : List ObjectView). told_on result (value_renamed place value) there (frame_renamed place frame) os taken (laid_view q place executed v)) same
     ∙ ap (λ (f : Frame ℕ). record (told_on result (value_renamed place value) there (frame_renamed place frame) (map (object_placed place) objects) taken (laid_view q place executed v)) { frame = f })
-      (with_value-told (placed place) frame R0 value)
+    (with_value-told (placed place) frame R0 value)
 
 answer_follows : (q : List (Option Insn)) (place : ℕ → ℕ) (executed : ℕ) (result : CallResult) (to there : ℕ) (frame : Frame ℕ) (kind : ℕ) (v : RunView)
     → Follows q place (executed + 1) to there v (answered result to frame kind v) (answered result there (frame_renamed place frame) kind (laid_view q place executed v))
@@ -92,7 +92,7 @@ answer_follows q place executed Granted to there frame kind v = rw (length-map v
 
 emptied : (q : List (Option Insn)) (place : ℕ → ℕ) (executed to there : ℕ) (frame : Frame ℕ) (given : Option ℕ) (v : RunView) → AreApart place
     → told_on Empty (Number 0) there (frame_renamed place frame) (without_given (option_map place given) (map (object_placed place) v.objects)) v.taken (laid_view q place executed v)
-      ≡ record (laid_view q place (executed + 1) (told_on Empty (Number 0) to frame (without_given given v.objects) v.taken v)) { pc = there }
+    ≡ record (laid_view q place (executed + 1) (told_on Empty (Number 0) to frame (without_given given v.objects) v.taken v)) { pc = there }
 emptied q place executed to there frame given v apart =
     replied_placed q place executed Empty (Number 0) to there frame (without_given given v.objects) (without_given (option_map place given) (map (object_placed place) v.objects)) v.taken v (left_placed place given v.objects apart)
 
@@ -117,15 +117,25 @@ exchange_follows q place executed (Shelved bytes) to there frame shelf given v a
 
       by : (t : Bool) → Follows q place (executed + 1) to there v (cond t (trapped TooManyObjects v) got) (cond t (trapped TooManyObjects laid) followed)
       by true = inr (refl, refl)
-      by false = inl (refl, refl, replied_placed q place executed (Shelved bytes) (Pointer (Object v.pc) (pos 0)) to there frame (left ++ shelved_object v shelf bytes ∷ [])
-          (map (object_placed place) left ++ shelved_object laid shelf bytes ∷ []) (v.taken ++ bytes) v (pushed_placed place left (shelved_object v shelf bytes)))
+      by false = inl (
+        refl,
+        refl,
+        replied_placed q place executed (Shelved bytes) (Pointer (Object v.pc) (pos 0)) to there frame (left ++ shelved_object v shelf bytes ∷ [])
+            (map (object_placed place) left ++ shelved_object laid shelf bytes ∷ []) (v.taken ++ bytes) v (pushed_placed place left (shelved_object v shelf bytes)),
+      )
 
 pub act_follows : (q : List (Option Insn)) (place : ℕ → ℕ) (executed : ℕ) (act : Act ℕ) (result : CallResult) (to there : ℕ) (frame : Frame ℕ) (v : RunView) → AreApart place
     → Follows q place (executed + 1) to there v (acted act result to frame v) (acted (act_told (placed place) act) result there (frame_renamed place frame) (laid_view q place executed v))
 act_follows q place executed Nothing result to there frame v apart = inl (refl, refl, refl)
-act_follows q place executed (Write call at bytes) result to there frame v apart = inl (refl, refl,
-    ap (λ (os : List ObjectView). record (laid_view q place executed v) { pc = there; frame = frame_renamed place frame; executed = executed + 1; objects = os }) (written_placed place call at bytes v.objects apart))
+act_follows q place executed (Write call at bytes) result to there frame v apart = inl (
+  refl,
+  refl,
+  ap (λ (os : List ObjectView). record (laid_view q place executed v) { pc = there; frame = frame_renamed place frame; executed = executed + 1; objects = os }) (written_placed place call at bytes v.objects apart),
+)
 act_follows q place executed (Ask kind) result to there frame v apart = answer_follows q place executed result to there frame kind v
-act_follows q place executed (Free call) result to there frame v apart = inl (refl, refl,
-    ap (λ (os : List ObjectView). record (laid_view q place executed v) { pc = there; frame = frame_renamed place frame; executed = executed + 1; objects = os }) (freed_placed place call v.objects apart))
+act_follows q place executed (Free call) result to there frame v apart = inl (
+  refl,
+  refl,
+  ap (λ (os : List ObjectView). record (laid_view q place executed v) { pc = there; frame = frame_renamed place frame; executed = executed + 1; objects = os }) (freed_placed place call v.objects apart),
+)
 act_follows q place executed (Exchange shelf given) result to there frame v apart = exchange_follows q place executed result to there frame shelf given v apart

@@ -219,13 +219,13 @@ all_apart : (p : List (Option Insn)) (marks : List Mark) (order places : List �
 all_apart p marks order places code count a b d same =
     elim (place_cases p marks order places code count a d (mark_at marks a) refl) [
       | inl x ↦ elim (place_cases p marks order places code count b d (mark_at marks b) refl) [
-            | inl y ↦ laid_apart p marks order places code count a b d x y same
-            | inr behind ↦ let place = x.place in absurd (omega arith)
-          ]
+        | inl y ↦ laid_apart p marks order places code count a b d x y same
+        | inr behind ↦ let place = x.place in absurd (omega arith)
+      ]
       | inr gone ↦ elim (place_cases p marks order places code count b d (mark_at marks b) refl) [
-            | inl y ↦ let place = y.place in absurd (omega arith)
-            | inr behind ↦ omega arith
-          ]
+        | inl y ↦ let place = y.place in absurd (omega arith)
+        | inr behind ↦ omega arith
+      ]
     ]
 
 laid_only : (p : List (Option Insn)) (marks : List Mark) (order places : List ℕ) (code : List (Option Insn)) (count k : ℕ) (i : Insn) → IsDone p marks order places code count

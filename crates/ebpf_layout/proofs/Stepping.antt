@@ -102,7 +102,7 @@ jumps_on q place executed next to now other going jump same =
     let w : RunView = record (laid_view q place executed now) { pc = next } in
     let target : jump_of (insn.Jump jump.0) next ≡ Some (place to) = jump_of_edge q next (insn.Jump jump.0) (place to) jump.1 jump.2 in
     let goes : effect_of_view w ≡ Goes Nothing (place to) w.frame =
-        ap (λ (o : Option Insn). effect_at o next (environment_of_view w) w.frame) jump.1 ∙ ap (λ (t : Option ℕ). effect_of_jump t w.frame) target in
+    ap (λ (o : Option Insn). effect_at o next (environment_of_view w) w.frame) jump.1 ∙ ap (λ (t : Option ℕ). effect_of_jump t w.frame) target in
     stepped_going w other going ∙ ap (λ (e : Effect ℕ). done_by e other w) goes ∙ ap (λ (k : ℕ). record (laid_view q place (executed + 1) now) { pc = place k }) (sym same)
 
 -- what follows of an act that goes on at a slot of the new program, if that is the place or a jump there
@@ -166,7 +166,7 @@ by_effect p q laid v executed i z e f result other going reached at there old ne
     let edge = fall_edge p v.pc i to at falls_to in
     let way = laid.falls v.pc to reached edge in
     let next : laid.place v.pc + slots_in i ≡ way.0 =
-        same_Some (laid.place v.pc + slots_in i) way.0 (sym (fall_moved i z v.pc to (laid.place v.pc) falls_to) ∙ fall_of_edge q (laid.place v.pc) (moved i z) way.0 there way.1) in
+    same_Some (laid.place v.pc + slots_in i) way.0 (sym (fall_moved i z v.pc to (laid.place v.pc) falls_to) ∙ fall_of_edge q (laid.place v.pc) (moved i z) way.0 there way.1) in
     let goes = led_alike act (act_told (placed laid.place) g.acts) to way.0 frame (frame_renamed laid.place g.left) g.told in
     goes_along p q laid v executed g.acts g.left to way.0 result other going reached (path_more p 0 v.pc to reached (fall_is_edge p v.pc to edge))
     (old ∙ g.was) (new ∙ is ∙ ap (λ (k : ℕ). Goes act k frame) next ∙ goes) way.2
