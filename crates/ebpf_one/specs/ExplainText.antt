@@ -31,6 +31,7 @@ use Rattle.ebpf_command.specs.Lines.{fault_line}
 use Rattle.ebpf_command.specs.Response.{Response, refused_response, clean_response}
 use Rattle.ebpf_command.specs.Writing.{Responding}
 use Rattle.ebpf_one.specs.Asked.{Asked, asked_for, fault_of}
+use Rattle.ebpf_one.specs.InputFaults.{fault_sentence}
 use Rattle.ebpf_one.specs.Lines.{refused_line, accepted_line}
 use Rattle.ebpf_one.specs.OneText.{AreGiven}
 
@@ -80,11 +81,11 @@ abbrev pub ExplainsBytes : Asked → Response → Type 0
 ExplainsBytes a response =
     (decl : Decl) × (rows : List KindRow) × AreGiven a decl rows × ExplainsDecoded (decode_fault a.bytes) a.bytes decl rows response
 
--- the input or an option can't be used, or bytes are asked for
-abbrev pub ExplainsAsked : Option FaultCode → Asked → Response → Type 0
-ExplainsAsked (Some code) a response = response ≡ refused_response (fault_line code 0)
-ExplainsAsked None a response = ExplainsBytes a response
+-- the input or an option can't be used, and why, or bytes are asked for
+abbrev pub ExplainsAsked : Option FaultCode → (input context : List ℕ) (held : ℕ) → Response → Type 0
+ExplainsAsked (Some code) input context held response = response ≡ refused_response (fault_line code 0 ++ fault_sentence input context held code)
+ExplainsAsked None input context held response = ExplainsBytes (asked_for input context held) response
 
 -- the response of `explain` by the context's text and the most objects to hold
 abbrev pub ExplainsTo : List ℕ → ℕ → Responding
-ExplainsTo context held input response = ExplainsAsked (fault_of input context held) (asked_for input context held) response
+ExplainsTo context held input response = ExplainsAsked (fault_of input context held) input context held response

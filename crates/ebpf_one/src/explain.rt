@@ -12,16 +12,20 @@ ghost use Rattle.ebpf_command.specs.declared.codes.RefusalCode.TheVariants.{Deco
 ghost use Rattle.ebpf_state.specs.Kinds.{AreKinds};
 ghost use Rattle.ebpf_command.specs.declared.done.EngineFault.TheVariants.{Output};
 ghost use Rattle.ebpf_command.specs.Codes.{refusal_name};
+ghost use Rattle.ebpf_command.specs.Lines.{fault_line};
 ghost use Rattle.ebpf_command.specs.Response.{refused_response};
 ghost use Rattle.ebpf_command.specs.Writing.{Writes, WritesBeginning, Reads};
+ghost use Rattle.ebpf_one.specs.InputFaults.{fault_sentence};
 ghost use Rattle.ebpf_one.specs.Lines.{refused_line};
 ghost use Rattle.ebpf_one.specs.ExplainText.{ExplainsTo, ExplainsBytes, ExplainsDecoded, ExplainsFlow, explained, misled_at, misled_response, reason};
 
+use crate::input_faults::write_fault_sentence;
 use crate::request::{Request, requested};
 use crate::text::refused_line;
-use ebpf_command::answer::{Answer, answer_fault, respond};
+use ebpf_command::answer::{Answer, respond};
 use ebpf_command::codes::RefusalCode;
-use ebpf_command::done::{Done, EngineFault, Stop};
+use ebpf_command::done::{Done, EngineFault, FaultCode, Stop};
+use ebpf_command::text::fault_line;
 use ebpf_explain::decode_sentence::write_decode_sentence;
 use ebpf_explain::flow_sentence::write_flow_sentence;
 use ebpf_explain::slots::write_slots;
@@ -71,9 +75,27 @@ fn explain_input(alloc: Global, input: &[u8], context: &str, held: u8) -> Result
 {
     match requested(alloc, input, context, held) {
         Ok(request) => explain_request(alloc, request),
-        Err(Stop::Fault(code)) => answer_fault(alloc, code, 0),
+        Err(Stop::Fault(code)) => answer_unused(alloc, input, context, held, code),
         Err(Stop::NoMemory) => Err(AllocError),
     }
+}
+
+// The answer to an input and options that can't be used.
+fn answer_unused(
+    alloc: Global,
+    input: &[u8],
+    context: &str,
+    held: u8,
+    code: FaultCode,
+) -> Result<Answer, AllocError>
+    ensures { IfOk result (λ answer. answer ≡ refused_response (fault_line code 0 ++ fault_sentence input.now context.now held code)) }
+{
+    let mut text = fault_line(alloc, code, 0)?;
+    write_fault_sentence(alloc, &mut text, input, context, held, code)?;
+    Ok(Answer {
+        text,
+        done: Done::Refused,
+    })
 }
 
 // The response to the bytes of a request.
