@@ -13,3 +13,4 @@ pub mod MemoryFaults
 pub mod CallFaults
 pub mod Mendings
 pub mod VerifySentences
+pub mod Reasons

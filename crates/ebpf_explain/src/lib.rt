@@ -6,7 +6,8 @@
 //! known there, and what would mend it. What is written is a function of what is told, defined in specs/.
 //!
 //! To be read in this order: `values`, `registers`, `stack_words`, `references`, `known`, `slots`; `hex`,
-//! `decode_sentence`, `flow_sentence`; `reads`, `accesses`, `memory_faults`, `mending`, `call_faults`, `verify_sentence`.
+//! `decode_sentence`, `flow_sentence`; `reads`, `accesses`, `memory_faults`, `mending`, `call_faults`, `verify_sentence`;
+//! `reason`.
 #![tactic(auto)]
 
 mod accesses;
@@ -18,6 +19,7 @@ pub mod known;
 mod memory_faults;
 mod mending;
 mod reads;
+pub mod reason;
 mod references;
 mod registers;
 pub mod slots;

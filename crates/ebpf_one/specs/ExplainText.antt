@@ -1,6 +1,6 @@
 -- The response of `explain` to its input and options: what is known before each instruction that the verifier looks at, and then the
 -- verdict; of what doesn't come so far, why.
-use Rattle.std.specs.Prelude.{◌≡◌, ℕ, ◌++◌, List, [], length, Option, Some, None}
+use Rattle.std.specs.Prelude.{◌≡◌, ℕ, ◌++◌, List, length, Option, Some, None}
 use Rattle.ebpf_insn.specs.declared.fault.DecodeCode.{DecodeCode}
 use Rattle.ebpf_insn.specs.declared.insn.Insn.{Insn}
 use Rattle.ebpf_insn.specs.Program.{instructions, insn_at}
@@ -10,17 +10,14 @@ use Rattle.ebpf_flow.specs.declared.fault.FlowCode.{FlowCode}
 use Rattle.ebpf_flow.specs.Flow.{flow_fault}
 use Rattle.ebpf_state.specs.declared.kinds.KindRow.{KindRow}
 use Rattle.ebpf_verify.specs.declared.decl.Decl.{Decl}
-use Rattle.ebpf_state.specs.States.{first_state}
 use Rattle.ebpf_verify.specs.declared.entry.EntryState.{EntryState}
-use Rattle.ebpf_verify.specs.declared.entry.EntryState.TheVariants.{Known, Conflict}
 use Rattle.ebpf_verify.specs.declared.fault.VerifyCode.{VerifyCode}
 use Rattle.ebpf_verify.specs.Entry.{entry_in}
 use Rattle.ebpf_verify.specs.Subject.{Subject}
 use Rattle.ebpf_verify.specs.Traces.{looked_at, entries_below}
 use Rattle.ebpf_verify.specs.Verdict.{verdict}
 use Rattle.ebpf_explain.specs.DecodeSentences.{decode_sentence}
-use Rattle.ebpf_explain.specs.FlowSentences.{flow_sentence}
-use Rattle.ebpf_explain.specs.VerifySentences.{verify_sentence}
+use Rattle.ebpf_explain.specs.Reasons.{misled_at, reason}
 use Rattle.ebpf_explain.specs.Slots.{slot_lines}
 use Rattle.ebpf_explain.specs.StackWords.{texts_below}
 use Rattle.ebpf_command.specs.declared.codes.RefusalCode.{RefusalCode}
@@ -34,12 +31,6 @@ use Rattle.ebpf_one.specs.Asked.{Asked, asked_for, fault_of}
 use Rattle.ebpf_one.specs.InputFaults.{fault_sentence}
 use Rattle.ebpf_one.specs.Lines.{refused_line, accepted_line}
 use Rattle.ebpf_one.specs.OneText.{AreGiven}
-
--- why an instruction is refused, by what comes to its slot; where paths hold different objects nothing else is told of what is known
-abbrev pub reason : Option Insn → EntryState → (slot : ℕ) → VerifyCode → Decl → List KindRow → List ℕ
-reason (Some i) (Known s) slot code decl rows = verify_sentence slot i s code decl rows
-reason (Some i) Conflict slot code decl rows = verify_sentence slot i first_state code decl rows
-reason _ _ slot code decl rows = []
 
 -- what is known before each of the slots that these come to, beside the instructions
 abbrev pub known_lines : Subject → List EntryState → List ℕ
@@ -55,11 +46,6 @@ explained_by None s entries = clean_response (known_lines s entries ++ accepted_
 -- by the entries that the verifier looks at
 abbrev pub explained : Subject → Response
 explained s = explained_by (verdict s) s (entries_below s.program (looked_at (verdict s) (length s.program)))
-
--- why the edges of an instruction are refused
-abbrev pub misled_at : Option Insn → (slot slots : ℕ) → FlowCode → List ℕ
-misled_at None slot slots code = []
-misled_at (Some i) slot slots code = flow_sentence slot i slots code
 
 abbrev pub misled_response : List (Option Insn) → ℕ → FlowCode → Response
 misled_response p slot code = refused_response (refused_line (refusal_name (Flow code)) slot ++ misled_at (insn_at p slot) slot (length p) code)

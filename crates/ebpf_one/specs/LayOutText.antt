@@ -12,6 +12,7 @@ use Rattle.ebpf_layout.specs.declared.fault.LayoutFault.TheVariants.{Flow, Loop,
 use Rattle.ebpf_layout.specs.Layout.{IsLaidOut}
 use Rattle.ebpf_layout.specs.Refusal.{IsLayoutFault}
 use Rattle.ebpf_explain.specs.DecodeSentences.{decode_sentence}
+use Rattle.ebpf_explain.specs.Reasons.{misled_at}
 use Rattle.ebpf_command.specs.declared.codes.RefusalCode.TheVariants.{Decode}
 use Rattle.ebpf_command.specs.declared.done.FaultCode.{FaultCode}
 use Rattle.ebpf_command.specs.Codes.{refusal_name, flow_name}
@@ -19,7 +20,6 @@ use Rattle.ebpf_command.specs.Lines.{fault_line}
 use Rattle.ebpf_command.specs.Response.{Response, refused_response, clean_response}
 use Rattle.ebpf_command.specs.Writing.{Responding}
 use Rattle.ebpf_one.specs.Asked.{bytes_in, input_fault}
-use Rattle.ebpf_one.specs.ExplainText.{misled_at}
 use Rattle.ebpf_one.specs.Lines.{refused_line}
 
 -- the bytes of a program as hex, on one line

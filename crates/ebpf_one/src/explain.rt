@@ -1,12 +1,10 @@
 //! The command `explain`: what is known before each instruction of one program, and the verdict that stands on it.
 
-ghost use Rattle.std.specs.Prelude.{◌≡◌, ◌≢◌, ◌++◌, List, Option, IfOk, IfErr, OnOk, length, string_bytes};
+ghost use Rattle.std.specs.Prelude.{◌≡◌, ◌≢◌, ◌++◌, List, Option, IfOk, IfErr, length};
 ghost use Rattle.ebpf_flow.specs.Flow.{flow_fault};
 ghost use Rattle.ebpf_insn.specs.declared.insn.Insn.{Insn};
 ghost use Rattle.ebpf_insn.specs.Decoding.{decode_fault};
 ghost use Rattle.ebpf_insn.specs.Encoding.{IsProgram};
-ghost use Rattle.ebpf_insn.specs.Program.{insn_at};
-ghost use Rattle.ebpf_verify.specs.Entry.{entry_in};
 ghost use Rattle.ebpf_explain.specs.DecodeSentences.{decode_sentence};
 ghost use Rattle.ebpf_command.specs.declared.codes.RefusalCode.TheVariants.{Decode};
 ghost use Rattle.ebpf_state.specs.Kinds.{AreKinds};
@@ -17,7 +15,7 @@ ghost use Rattle.ebpf_command.specs.Response.{refused_response};
 ghost use Rattle.ebpf_command.specs.Writing.{Writes, WritesBeginning, Reads};
 ghost use Rattle.ebpf_one.specs.InputFaults.{fault_sentence};
 ghost use Rattle.ebpf_one.specs.Lines.{refused_line};
-ghost use Rattle.ebpf_one.specs.ExplainText.{ExplainsTo, ExplainsBytes, ExplainsDecoded, ExplainsFlow, explained, misled_at, misled_response, reason};
+ghost use Rattle.ebpf_one.specs.ExplainText.{ExplainsTo, ExplainsBytes, ExplainsDecoded, ExplainsFlow, explained, misled_response};
 
 use crate::input_faults::write_fault_sentence;
 use crate::request::{Request, requested};
@@ -27,9 +25,8 @@ use ebpf_command::codes::RefusalCode;
 use ebpf_command::done::{Done, EngineFault, FaultCode, Stop};
 use ebpf_command::text::fault_line;
 use ebpf_explain::decode_sentence::write_decode_sentence;
-use ebpf_explain::flow_sentence::write_flow_sentence;
+use ebpf_explain::reason::{write_misled, write_reason};
 use ebpf_explain::slots::write_slots;
-use ebpf_explain::verify_sentence::write_verify_sentence;
 use ebpf_flow::check::check;
 use ebpf_flow::fault::{FlowCode, FlowFault};
 use ebpf_flow::flowed::Flowed;
@@ -37,10 +34,7 @@ use ebpf_insn::decode::decode;
 use ebpf_insn::fault::{DecodeCode, DecodeFault};
 use ebpf_insn::program::Program;
 use ebpf_state::kinds::{KindRow, kinds};
-use ebpf_state::state::State;
 use ebpf_verify::decl::Decl;
-use ebpf_verify::entry::EntryState;
-use ebpf_verify::fault::VerifyCode;
 use ebpf_verify::trace::trace_verdict;
 use std::alloc::{AllocError, Global};
 use std::io::{Read, Write};
@@ -179,21 +173,6 @@ fn answer_misled(
     })
 }
 
-// Writes why the edges of a slot are refused.
-pub(crate) fn write_misled(
-    text: &mut String,
-    program: &Program,
-    slot: usize,
-    code: FlowCode,
-) -> Result<(), AllocError>
-    ensures { OnOk result (string_bytes text.new ≡ string_bytes text.old ++ misled_at (insn_at program.now slot) slot (length program.now) code) }
-{
-    match program.at(slot) {
-        Some(insn) => write_flow_sentence(text, slot, insn, program.slots(), code),
-        None => Ok(()),
-    }
-}
-
 // The response to a program whose flow has no fault.
 fn explain_flowed(
     alloc: Global,
@@ -232,33 +211,4 @@ fn explain_flowed(
         text,
         done: Done::Refused,
     })
-}
-
-// Writes why an instruction is refused, by what comes to its slot. Where paths meet that hold different objects, no state is
-// known, and any serves.
-fn write_reason(
-    alloc: Global,
-    text: &mut String,
-    program: &Program,
-    entries: &[EntryState],
-    slot: usize,
-    code: VerifyCode,
-    decl: Decl,
-    rows: &[KindRow],
-) -> Result<(), AllocError>
-    ensures { OnOk result (string_bytes text.new ≡ string_bytes text.old ++ reason (insn_at program.now slot) (entry_in entries.now slot) slot code decl rows.now) }
-{
-    let Some(insn) = program.at(slot) else {
-        return Ok(());
-    };
-    match entries.get(slot) {
-        Some(EntryState::Known(state)) => {
-            write_verify_sentence(text, slot, insn, state, code, decl, rows)
-        }
-        Some(EntryState::Conflict) => {
-            let state = State::start(alloc)?;
-            write_verify_sentence(text, slot, insn, &state, code, decl, rows)
-        }
-        _ => Ok(()),
-    }
 }

@@ -7,12 +7,13 @@ ghost use Rattle.ebpf_command.specs.Response.{refused_response};
 ghost use Rattle.ebpf_command.specs.Writing.{Writes, WritesBeginning, Reads};
 ghost use Rattle.ebpf_one.specs.LayOutText.{LaysOut, LaysOutDecoded, LaysOutProgram, IsHexOf, layout_lines};
 
-use crate::explain::{answer_undecoded, write_misled};
+use crate::explain::answer_undecoded;
 use crate::request::given_bytes;
 use crate::text::refused_line;
 use ebpf_command::answer::{Answer, answer_fault, respond};
 use ebpf_command::codes::RefusalCode;
 use ebpf_command::done::{Done, EngineFault, Stop};
+use ebpf_explain::reason::write_misled;
 use ebpf_insn::decode::decode;
 use ebpf_insn::encode::encode;
 use ebpf_insn::fault::DecodeFault;
