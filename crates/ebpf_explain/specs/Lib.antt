@@ -14,3 +14,4 @@ pub mod CallFaults
 pub mod Mendings
 pub mod VerifySentences
 pub mod Reasons
+pub mod Why

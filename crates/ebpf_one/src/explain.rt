@@ -25,8 +25,9 @@ use ebpf_command::codes::RefusalCode;
 use ebpf_command::done::{Done, EngineFault, FaultCode, Stop};
 use ebpf_command::text::fault_line;
 use ebpf_explain::decode_sentence::write_decode_sentence;
-use ebpf_explain::reason::{write_misled, write_reason};
+use ebpf_explain::reason::write_reason;
 use ebpf_explain::slots::write_slots;
+use ebpf_explain::why::write_misled_in;
 use ebpf_flow::check::check;
 use ebpf_flow::fault::{FlowCode, FlowFault};
 use ebpf_flow::flowed::Flowed;
@@ -153,7 +154,7 @@ fn explain_program(
     }
 }
 
-// The answer to a program whose flow is at fault. It is decoded once more, since the check keeps none that it refuses.
+// The answer to a program whose flow is at fault.
 fn answer_misled(
     alloc: Global,
     bytes: &[u8],
@@ -162,11 +163,8 @@ fn answer_misled(
 ) -> Result<Answer, AllocError>
     ensures { IfOk result (λ answer. (p : List (Option Insn)) → IsProgram bytes.now p → answer ≡ misled_response p slot code) }
 {
-    let Ok(program) = decode(alloc, bytes) else {
-        return Err(AllocError);
-    };
     let mut text = refused_line(alloc, RefusalCode::Flow(code).name(), slot)?;
-    write_misled(&mut text, &program, slot as usize, code)?;
+    write_misled_in(alloc, &mut text, bytes, slot, code)?;
     Ok(Answer {
         text,
         done: Done::Refused,
