@@ -114,12 +114,7 @@ fn write_unread(text: &mut String, part: Part, bytes: &[u8]) -> Result<(), Alloc
 }
 
 // What the first byte is that may not stand there, and how it is mended.
-fn write_other_byte(
-    text: &mut String,
-    part: Part,
-    place: usize,
-    byte: u8,
-) -> Result<(), AllocError>
+fn write_other_byte(text: &mut String, part: Part, place: usize, byte: u8) -> Result<(), AllocError>
     ensures { OnOk result (string_bytes text.new ≡ string_bytes text.old ++ other_byte part place byte) }
 {
     let name = part.name();
