@@ -5,9 +5,9 @@
 //! [`verify_sentence::write_verify_sentence`] tell in a line why one of the three checks refuses a slot, with what stands or is
 //! known there, and what would mend it. What is written is a function of what is told, defined in specs/.
 //!
-//! To be read in this order: `values`, `registers`, `stack_words`, `references`, `known`, `slots`; `hex`,
+//! To be read in this order: `values`, `registers`, `stack_words`, `references`, `known`, `lost`, `slots`; `hex`,
 //! `decode_sentence`, `flow_sentence`; `reads`, `accesses`, `memory_faults`, `mending`, `call_faults`, `verify_sentence`;
-//! `reason`.
+//! `meeting`, `reason`.
 #![tactic(auto)]
 
 mod accesses;
@@ -16,6 +16,8 @@ pub mod decode_sentence;
 pub mod flow_sentence;
 mod hex;
 pub mod known;
+mod lost;
+mod meeting;
 mod memory_faults;
 mod mending;
 mod reads;

@@ -1,11 +1,10 @@
 -- What comes to a slot, from one slot after another, and the entries of a trace.
-use Rattle.std.proofs.Common.{◌≡◌, ℕ, zero, suc, ◌+◌, ◌<◌, ◌≤◌, ◌++◌, List, [], ◌∷◌, length, Bool, true, false, cond, Option, Some, None, refl, sym, ap, ◌∙◌, add-one, arith, append_assoc, inl, inr, get_or, set, Result, Ok, Err, OnOk}
+use Rattle.std.proofs.Common.{◌≡◌, ℕ, zero, suc, ◌+◌, ◌<◌, ◌++◌, List, [], ◌∷◌, length, Bool, true, false, cond, Option, Some, None, refl, sym, ap, ◌∙◌, add-one, arith, append_assoc, inl, inr, get_or, set, Result, Ok, Err, OnOk}
 use Rattle.std.proofs.lemmas.Bool.{cases_lt}
 use Rattle.std.proofs.lemmas.List.{append-nil, get_or_append_left, get_or_default, get_or-set_other, get_or_push, length_push}
 use Rattle.ebpf_insn.specs.declared.insn.Insn.{Insn}
 use Rattle.ebpf_insn.specs.Program.{insn_at}
-use Rattle.ebpf_insn.specs.Faults.{lowest}
-use Rattle.ebpf_insn.proofs.FaultLemmas.{none_below, lowest_is, IsLowest}
+use Rattle.ebpf_insn.proofs.FaultLemmas.{none_below, lowest_is}
 use Rattle.ebpf_flow.specs.declared.edges.Edges.{Edges}
 use Rattle.ebpf_flow.specs.Edges.{edges_at, leads_to}
 use Rattle.ebpf_state.specs.StateView.{StateView}
