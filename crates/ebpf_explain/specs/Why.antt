@@ -12,6 +12,7 @@ use Rattle.ebpf_state.specs.declared.kinds.KindRow.{KindRow}
 use Rattle.ebpf_verify.specs.declared.decl.Decl.{Decl}
 use Rattle.ebpf_verify.specs.declared.entry.EntryState.{EntryState}
 use Rattle.ebpf_verify.specs.declared.fault.VerifyCode.{VerifyCode}
+use Rattle.ebpf_verify.specs.Comers.{comers}
 use Rattle.ebpf_verify.specs.Entry.{entry_in}
 use Rattle.ebpf_verify.specs.Subject.{Subject}
 use Rattle.ebpf_verify.specs.Traces.{looked_at, entries_below}
@@ -22,7 +23,7 @@ use Rattle.ebpf_explain.specs.Reasons.{reason, misled_at}
 -- by the entries that the verifier looks at
 abbrev pub why_refused : Option (ℕ × VerifyCode) → Subject → List EntryState → List ℕ
 why_refused None s entries = []
-why_refused (Some refusal) s entries = reason (insn_at s.program refusal.0) (entry_in entries refusal.0) refusal.0 refusal.1 s.decl s.rows
+why_refused (Some refusal) s entries = reason (insn_at s.program refusal.0) (entry_in entries refusal.0) (comers s.program refusal.0) refusal.0 refusal.1 s.decl s.rows
 
 abbrev pub why_verified : Subject → List ℕ
 why_verified s = why_refused (verdict s) s (entries_below s.program (looked_at (verdict s) (length s.program)))

@@ -6,9 +6,9 @@
 //! known there, and what would mend it; [`why::write_why`] does so of the bytes of a program. What is written is a function of what
 //! is told, defined in specs/.
 //!
-//! To be read in this order: `values`, `registers`, `stack_words`, `references`, `known`, `slots`; `hex`,
+//! To be read in this order: `values`, `registers`, `stack_words`, `references`, `known`, `lost`, `slots`; `hex`,
 //! `decode_sentence`, `flow_sentence`; `reads`, `accesses`, `memory_faults`, `mending`, `call_faults`, `verify_sentence`;
-//! `reason`, `why`.
+//! `meeting`, `reason`, `why`.
 #![tactic(auto)]
 
 mod accesses;
@@ -17,6 +17,8 @@ pub mod decode_sentence;
 pub mod flow_sentence;
 mod hex;
 pub mod known;
+mod lost;
+mod meeting;
 mod memory_faults;
 mod mending;
 mod reads;

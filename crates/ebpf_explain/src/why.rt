@@ -101,11 +101,10 @@ fn write_why_flowed(
     let Some((slot, code)) = trace.refusal else {
         return Ok(());
     };
-    let program = flowed.program();
     write_reason(
         alloc,
         text,
-        program,
+        flowed,
         &trace.entries,
         slot as usize,
         code,

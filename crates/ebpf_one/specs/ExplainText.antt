@@ -12,6 +12,7 @@ use Rattle.ebpf_state.specs.declared.kinds.KindRow.{KindRow}
 use Rattle.ebpf_verify.specs.declared.decl.Decl.{Decl}
 use Rattle.ebpf_verify.specs.declared.entry.EntryState.{EntryState}
 use Rattle.ebpf_verify.specs.declared.fault.VerifyCode.{VerifyCode}
+use Rattle.ebpf_verify.specs.Comers.{comers}
 use Rattle.ebpf_verify.specs.Entry.{entry_in}
 use Rattle.ebpf_verify.specs.Subject.{Subject}
 use Rattle.ebpf_verify.specs.Traces.{looked_at, entries_below}
@@ -32,7 +33,7 @@ use Rattle.ebpf_one.specs.InputFaults.{fault_sentence}
 use Rattle.ebpf_one.specs.Lines.{refused_line, accepted_line}
 use Rattle.ebpf_one.specs.OneText.{AreGiven}
 
--- what is known before each of the slots that these come to, beside the instructions
+-- what is known before each of the slots that these come to, and what is lost there, beside the instructions
 abbrev pub known_lines : Subject → List EntryState → List ℕ
 known_lines s entries = texts_below (length entries) (slot_lines s.program entries s.rows)
 
@@ -40,7 +41,7 @@ known_lines s entries = texts_below (length entries) (slot_lines s.program entri
 abbrev pub explained_by : Option (ℕ × VerifyCode) → Subject → List EntryState → Response
 explained_by (Some refusal) s entries =
     refused_response (known_lines s entries ++ (refused_line (refusal_name (Verify refusal.1)) refusal.0
-    ++ reason (insn_at s.program refusal.0) (entry_in entries refusal.0) refusal.0 refusal.1 s.decl s.rows))
+    ++ reason (insn_at s.program refusal.0) (entry_in entries refusal.0) (comers s.program refusal.0) refusal.0 refusal.1 s.decl s.rows))
 explained_by None s entries = clean_response (known_lines s entries ++ accepted_line (length (instructions s.program)))
 
 -- by the entries that the verifier looks at

@@ -182,11 +182,10 @@ fn explain_flowed(
     ensures { IfOk result (λ answer. answer ≡ explained (record { program = flowed.now; decl = decl; rows = rows.now })) }
 {
     let trace = trace_verdict(alloc, flowed, decl, rows)?;
-    let program = flowed.program();
     let mut text = String::new(alloc);
-    write_slots(alloc, &mut text, program, &trace.entries, rows)?;
+    write_slots(alloc, &mut text, flowed, decl, &trace.entries, rows)?;
     let Some((slot, code)) = trace.refusal else {
-        let len = program.len();
+        let len = flowed.program().len();
         write!(text, "accepted {len}\n")?;
         return Ok(Answer {
             text,
@@ -198,7 +197,7 @@ fn explain_flowed(
     write_reason(
         alloc,
         &mut text,
-        program,
+        flowed,
         &trace.entries,
         slot as usize,
         code,

@@ -7,3 +7,4 @@ pub mod Entries
 pub mod Tracing
 pub mod Sends
 pub mod Counted
+pub mod Coming

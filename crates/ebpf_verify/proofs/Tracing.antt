@@ -8,7 +8,7 @@ use Rattle.ebpf_verify.specs.declared.fault.VerifyFault.TheVariants.{Refused}
 use Rattle.ebpf_verify.specs.Subject.{Subject}
 use Rattle.ebpf_verify.specs.Entry.{arrived}
 use Rattle.ebpf_verify.specs.Traces.{entries_below, looked_at, IsTrace}
-use Rattle.ebpf_verify.specs.Verdict.{verdict, IsSlotFault, IsVerifyFault}
+use Rattle.ebpf_verify.specs.Verdict.{IsSlotFault, IsVerifyFault}
 use Rattle.ebpf_verify.specs.declared.trace.Trace.{Trace}
 
 -- before the first slot

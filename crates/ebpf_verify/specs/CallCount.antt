@@ -1,5 +1,5 @@
 -- How many calls a program has, and how many calls of swap among them.
-use Rattle.std.specs.Prelude.{ℕ, Bool, true, false, List, drop, count_by, Option, Some, None}
+use Rattle.std.specs.Prelude.{ℕ, Bool, true, false, List, drop, count_by, Option, Some}
 use Rattle.ebpf_insn.specs.declared.insn.Insn.{Insn}
 use Rattle.ebpf_insn.specs.declared.insn.Insn.TheVariants.{Call}
 use Rattle.ebpf_verify.specs.declared.call_count.Counted.{Counted}

@@ -9,3 +9,4 @@ pub mod Rules
 pub mod Entry
 pub mod Verdict
 pub mod Traces
+pub mod Comers

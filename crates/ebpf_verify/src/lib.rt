@@ -2,15 +2,17 @@
 //!
 //! [`verify::verify`] walks a program once, in the order of its slots, and keeps for each slot what is known of every
 //! run that comes there. It refuses the lowest slot whose rule refuses what is known there; where it refuses none, it
-//! makes a [`verified::Verified`], and no run of that program traps. [`trace::trace_verdict`] tells what the verdict stands on.
+//! makes a [`verified::Verified`], and no run of that program traps. [`trace::trace_verdict`] tells what the verdict stands on,
+//! and [`comers::comers_to`] what each state of that is the join of.
 //!
 //! To be read in this order: `fault`, `decl`, `pointer`, `operations`, `branches`, `memory`, `helper`, `call_count`, `calls`, `rules`, `entry`,
-//! `propagate`, `verify`, `trace`, `verified`.
+//! `propagate`, `verify`, `trace`, `comers`, `verified`.
 #![tactic(auto)]
 
 mod branches;
 mod call_count;
 mod calls;
+pub mod comers;
 pub mod decl;
 pub mod entry;
 pub mod fault;

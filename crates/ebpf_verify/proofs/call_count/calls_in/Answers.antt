@@ -1,4 +1,4 @@
-use Rattle.std.proofs.Common.{◌≡◌, ◌<◌, ◌+◌, ◌∙◌, ap, sym, length, arith, rules}
+use Rattle.std.proofs.Common.{◌<◌, ◌∙◌, ap, sym, length, arith, rules}
 use Rattle.ebpf_verify.specs.CallCount.{is_counted}
 use Rattle.ebpf_verify.proofs.Counted.{counted_call, counted_other}
 use Rattle.ebpf_verify.proofs.call_count.calls_in.Goals.{then-is_counted, else-is_counted}
