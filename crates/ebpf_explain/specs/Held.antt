@@ -12,6 +12,9 @@ abbrev pub kind_text : List KindRow → ℕ → List ℕ
 kind_text rows kind = name_in (slice_get rows kind) kind
 
 -- the slot of the call that was granted the object, and the object's kind; before it was compared with null there may be none
+abbrev pub held_text : List KindRow → Held → List ℕ
+held_text rows h =
+    (if h.tested then codes "holds " else codes "may hold ") ++ (decimal h.call ++ (codes " (" ++ (kind_text rows h.kind ++ codes ")")))
+
 abbrev pub held_word : List KindRow → Held → List ℕ
-held_word rows h =
-    (if h.tested then codes "  holds " else codes "  may hold ") ++ (decimal h.call ++ (codes " (" ++ (kind_text rows h.kind ++ codes ")")))
+held_word rows h = codes "  " ++ held_text rows h

@@ -3,6 +3,7 @@ pub mod Registers
 pub mod StackWords
 pub mod Held
 pub mod Known
+pub mod Lost
 pub mod Slots
 pub mod Hex
 pub mod DecodeSentences
@@ -13,4 +14,6 @@ pub mod MemoryFaults
 pub mod CallFaults
 pub mod Mendings
 pub mod VerifySentences
+pub mod Meeting
 pub mod Reasons
+pub mod Why

@@ -3,12 +3,13 @@ use Rattle.std.specs.Prelude.{ℕ, List, [], Option, Some, None}
 use Rattle.ebpf_insn.specs.declared.insn.Insn.{Insn}
 use Rattle.ebpf_flow.specs.declared.fault.FlowCode.{FlowCode}
 use Rattle.ebpf_state.specs.declared.kinds.KindRow.{KindRow}
-use Rattle.ebpf_state.specs.States.{first_state}
+use Rattle.ebpf_verify.specs.declared.comers.Comer.{Comer}
 use Rattle.ebpf_verify.specs.declared.decl.Decl.{Decl}
 use Rattle.ebpf_verify.specs.declared.entry.EntryState.{EntryState}
 use Rattle.ebpf_verify.specs.declared.entry.EntryState.TheVariants.{Known, Conflict}
 use Rattle.ebpf_verify.specs.declared.fault.VerifyCode.{VerifyCode}
 use Rattle.ebpf_explain.specs.FlowSentences.{flow_sentence}
+use Rattle.ebpf_explain.specs.Meeting.{meeting_sentence}
 use Rattle.ebpf_explain.specs.VerifySentences.{verify_sentence}
 
 -- why the edges of an instruction are refused
@@ -16,8 +17,8 @@ abbrev pub misled_at : Option Insn → (slot slots : ℕ) → FlowCode → List 
 misled_at None slot slots code = []
 misled_at (Some i) slot slots code = flow_sentence slot i slots code
 
--- why an instruction is refused, by what comes to its slot; where paths hold different objects nothing else is told of what is known
-abbrev pub reason : Option Insn → EntryState → (slot : ℕ) → VerifyCode → Decl → List KindRow → List ℕ
-reason (Some i) (Known s) slot code decl rows = verify_sentence slot i s code decl rows
-reason (Some i) Conflict slot code decl rows = verify_sentence slot i first_state code decl rows
-reason _ _ slot code decl rows = []
+-- why an instruction is refused, by what comes to its slot, as a whole and state by state
+abbrev pub reason : Option Insn → EntryState → List Comer → (slot : ℕ) → VerifyCode → Decl → List KindRow → List ℕ
+reason (Some i) (Known s) cs slot code decl rows = verify_sentence slot i s code decl rows
+reason (Some i) Conflict cs slot code decl rows = meeting_sentence slot cs rows
+reason _ _ cs slot code decl rows = []

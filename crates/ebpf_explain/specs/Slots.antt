@@ -6,22 +6,22 @@ use Rattle.ebpf_text.specs.Listing.{line_of}
 use Rattle.ebpf_state.specs.declared.kinds.KindRow.{KindRow}
 use Rattle.ebpf_verify.specs.declared.entry.EntryState.{EntryState}
 use Rattle.ebpf_verify.specs.declared.entry.EntryState.TheVariants.{Unreached, Known, Conflict}
+use Rattle.ebpf_verify.specs.declared.comers.Comer.{Comer}
+use Rattle.ebpf_verify.specs.Comers.{comers}
 use Rattle.ebpf_verify.specs.Entry.{entry_in}
 use Rattle.ebpf_explain.specs.Known.{known_words}
+use Rattle.ebpf_explain.specs.Lost.{lost_line}
 
--- what is known of the runs that come there, if any do
-abbrev pub entry_line : List KindRow → EntryState → List ℕ
-entry_line rows (Known s) = known_words s rows ++ codes "\n"
-entry_line rows Unreached = codes "  never entered\n"
-entry_line rows Conflict = codes "  paths meet that hold different objects\n"
-
-abbrev pub insn_lines : List KindRow → ℕ → Insn → EntryState → List ℕ
-insn_lines rows slot i entry = entry_line rows entry ++ line_of slot i
+-- what is known of the runs that come there, if any do, and what is lost of what each that comes knows
+abbrev pub entry_line : List KindRow → List Comer → EntryState → List ℕ
+entry_line rows cs (Known s) = known_words s rows ++ (codes "\n" ++ lost_line cs s)
+entry_line rows cs Unreached = codes "  never entered\n"
+entry_line rows cs Conflict = codes "  paths meet that hold different objects\n"
 
 -- a second half of an instruction has no lines
-abbrev pub lines_at : List KindRow → ℕ → Option Insn → EntryState → List ℕ
-lines_at rows slot None entry = []
-lines_at rows slot (Some i) entry = insn_lines rows slot i entry
+abbrev pub lines_at : List KindRow → ℕ → Option Insn → List Comer → EntryState → List ℕ
+lines_at rows slot None cs entry = []
+lines_at rows slot (Some i) cs entry = entry_line rows cs entry ++ line_of slot i
 
 abbrev pub slot_lines : List (Option Insn) → List EntryState → List KindRow → ℕ → List ℕ
-slot_lines p entries rows slot = lines_at rows slot (insn_at p slot) (entry_in entries slot)
+slot_lines p entries rows slot = lines_at rows slot (insn_at p slot) (comers p slot) (entry_in entries slot)

@@ -12,7 +12,7 @@ use ebpf_state::state::State;
 use std::alloc::AllocError;
 
 // All registers, in the order of their numbers.
-const REGISTERS: [Reg; 11] = [
+pub(crate) const REGISTERS: [Reg; 11] = [
     Reg::R0,
     Reg::R1,
     Reg::R2,

@@ -3,11 +3,12 @@
 //! [`known::write_known`] tells what is known before a slot, and [`slots::write_slots`] writes a listing with such a line before
 //! each instruction. [`decode_sentence::write_decode_sentence`], [`flow_sentence::write_flow_sentence`] and
 //! [`verify_sentence::write_verify_sentence`] tell in a line why one of the three checks refuses a slot, with what stands or is
-//! known there, and what would mend it. What is written is a function of what is told, defined in specs/.
+//! known there, and what would mend it; [`why::write_why`] does so of the bytes of a program. What is written is a function of what
+//! is told, defined in specs/.
 //!
-//! To be read in this order: `values`, `registers`, `stack_words`, `references`, `known`, `slots`; `hex`,
+//! To be read in this order: `values`, `registers`, `stack_words`, `references`, `known`, `lost`, `slots`; `hex`,
 //! `decode_sentence`, `flow_sentence`; `reads`, `accesses`, `memory_faults`, `mending`, `call_faults`, `verify_sentence`;
-//! `reason`.
+//! `meeting`, `reason`, `why`.
 #![tactic(auto)]
 
 mod accesses;
@@ -16,6 +17,8 @@ pub mod decode_sentence;
 pub mod flow_sentence;
 mod hex;
 pub mod known;
+mod lost;
+mod meeting;
 mod memory_faults;
 mod mending;
 mod reads;
@@ -26,3 +29,4 @@ pub mod slots;
 mod stack_words;
 mod values;
 pub mod verify_sentence;
+pub mod why;

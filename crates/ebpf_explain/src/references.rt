@@ -2,7 +2,7 @@
 
 ghost use Rattle.std.specs.Prelude.{◌≡◌, ◌++◌, string_bytes, OnOk};
 ghost use Rattle.std.specs.List.{flat_map};
-ghost use Rattle.ebpf_explain.specs.Held.{held_word, kind_text};
+ghost use Rattle.ebpf_explain.specs.Held.{held_text, held_word, kind_text};
 
 use ebpf_state::held::Held;
 use ebpf_state::kinds::KindRow;
@@ -22,14 +22,26 @@ pub(crate) fn write_references(
     Ok(())
 }
 
-// The word of a reference. One that was not compared with null yet may be of no object.
+// The word of a reference.
 fn write_reference(text: &mut String, reference: Held, rows: &[KindRow]) -> Result<(), AllocError>
     ensures { OnOk result (string_bytes text.new ≡ string_bytes text.old ++ held_word rows.now reference) }
 {
+    text.push_str("  ")?;
+    write_held(text, reference, rows)
+}
+
+// What a reference holds. One that was not compared with null yet may be of no object.
+pub(crate) fn write_held(
+    text: &mut String,
+    reference: Held,
+    rows: &[KindRow],
+) -> Result<(), AllocError>
+    ensures { OnOk result (string_bytes text.new ≡ string_bytes text.old ++ held_text rows.now reference) }
+{
     if reference.tested {
-        text.push_str("  holds ")?;
+        text.push_str("holds ")?;
     } else {
-        text.push_str("  may hold ")?;
+        text.push_str("may hold ")?;
     }
     write!(text, "{} (", reference.call)?;
     write_kind(text, reference.kind, rows)?;

@@ -59,7 +59,7 @@ Responds-asked input context held nulls a response fine same h =
 -- and so does `explain`
 pub explain_cuts : (context : List ℕ) (held : ℕ) → CutsLong (ExplainsTo context held)
 explain_cuts context held =
-    cuts_at (λ input. fault_of input context held) (λ f input response. ExplainsAsked f (asked_for input context held) response) (λ input long. fault_of_long input context held long) (λ a b response h. h)
+    cuts_at (λ input. fault_of input context held) (λ f input response. ExplainsAsked f input context held response) (λ input long. fault_of_long input context held long) (λ a b response h. h)
 
 -- what the bytes of a request are explained to be
 pub explained_bytes : (a : Asked) (seen : List ℕ) (decl : Decl) (rows : List KindRow) (response : Response) → seen ≡ a.bytes → AreGiven a decl rows → ExplainsDecoded (decode_fault seen) seen decl rows response → ExplainsBytes a response
@@ -69,7 +69,7 @@ explained_bytes a seen decl rows response same given h =
 -- what the bytes that an input asks for are explained to be is what the input is
 pub Explains-asked : (input context : List ℕ) (held : ℕ) (a : Asked) (response : Response) → fault_of input context held ≡ None → a ≡ asked_for input context held → ExplainsBytes a response → ExplainsTo context held input response
 Explains-asked input context held a response fine same h =
-    let P : Option FaultCode → Type 0 = λ f. ExplainsAsked f (asked_for input context held) response in
+    let P : Option FaultCode → Type 0 = λ f. ExplainsAsked f input context held response in
     subst P (sym fine) (subst (λ (x : Asked). ExplainsBytes x response) same h)
 
 -- and so does `lay-out`

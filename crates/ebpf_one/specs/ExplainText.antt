@@ -12,6 +12,7 @@ use Rattle.ebpf_state.specs.declared.kinds.KindRow.{KindRow}
 use Rattle.ebpf_verify.specs.declared.decl.Decl.{Decl}
 use Rattle.ebpf_verify.specs.declared.entry.EntryState.{EntryState}
 use Rattle.ebpf_verify.specs.declared.fault.VerifyCode.{VerifyCode}
+use Rattle.ebpf_verify.specs.Comers.{comers}
 use Rattle.ebpf_verify.specs.Entry.{entry_in}
 use Rattle.ebpf_verify.specs.Subject.{Subject}
 use Rattle.ebpf_verify.specs.Traces.{looked_at, entries_below}
@@ -28,10 +29,11 @@ use Rattle.ebpf_command.specs.Lines.{fault_line}
 use Rattle.ebpf_command.specs.Response.{Response, refused_response, clean_response}
 use Rattle.ebpf_command.specs.Writing.{Responding}
 use Rattle.ebpf_one.specs.Asked.{Asked, asked_for, fault_of}
+use Rattle.ebpf_one.specs.InputFaults.{fault_sentence}
 use Rattle.ebpf_one.specs.Lines.{refused_line, accepted_line}
 use Rattle.ebpf_one.specs.OneText.{AreGiven}
 
--- what is known before each of the slots that these come to, beside the instructions
+-- what is known before each of the slots that these come to, and what is lost there, beside the instructions
 abbrev pub known_lines : Subject → List EntryState → List ℕ
 known_lines s entries = texts_below (length entries) (slot_lines s.program entries s.rows)
 
@@ -39,7 +41,7 @@ known_lines s entries = texts_below (length entries) (slot_lines s.program entri
 abbrev pub explained_by : Option (ℕ × VerifyCode) → Subject → List EntryState → Response
 explained_by (Some refusal) s entries =
     refused_response (known_lines s entries ++ (refused_line (refusal_name (Verify refusal.1)) refusal.0
-    ++ reason (insn_at s.program refusal.0) (entry_in entries refusal.0) refusal.0 refusal.1 s.decl s.rows))
+    ++ reason (insn_at s.program refusal.0) (entry_in entries refusal.0) (comers s.program refusal.0) refusal.0 refusal.1 s.decl s.rows))
 explained_by None s entries = clean_response (known_lines s entries ++ accepted_line (length (instructions s.program)))
 
 -- by the entries that the verifier looks at
@@ -66,11 +68,11 @@ abbrev pub ExplainsBytes : Asked → Response → Type 0
 ExplainsBytes a response =
     (decl : Decl) × (rows : List KindRow) × AreGiven a decl rows × ExplainsDecoded (decode_fault a.bytes) a.bytes decl rows response
 
--- the input or an option can't be used, or bytes are asked for
-abbrev pub ExplainsAsked : Option FaultCode → Asked → Response → Type 0
-ExplainsAsked (Some code) a response = response ≡ refused_response (fault_line code 0)
-ExplainsAsked None a response = ExplainsBytes a response
+-- the input or an option can't be used, and why, or bytes are asked for
+abbrev pub ExplainsAsked : Option FaultCode → (input context : List ℕ) (held : ℕ) → Response → Type 0
+ExplainsAsked (Some code) input context held response = response ≡ refused_response (fault_line code 0 ++ fault_sentence input context held code)
+ExplainsAsked None input context held response = ExplainsBytes (asked_for input context held) response
 
 -- the response of `explain` by the context's text and the most objects to hold
 abbrev pub ExplainsTo : List ℕ → ℕ → Responding
-ExplainsTo context held input response = ExplainsAsked (fault_of input context held) (asked_for input context held) response
+ExplainsTo context held input response = ExplainsAsked (fault_of input context held) input context held response

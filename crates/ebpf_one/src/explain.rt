@@ -10,19 +10,24 @@ ghost use Rattle.ebpf_command.specs.declared.codes.RefusalCode.TheVariants.{Deco
 ghost use Rattle.ebpf_state.specs.Kinds.{AreKinds};
 ghost use Rattle.ebpf_command.specs.declared.done.EngineFault.TheVariants.{Output};
 ghost use Rattle.ebpf_command.specs.Codes.{refusal_name};
+ghost use Rattle.ebpf_command.specs.Lines.{fault_line};
 ghost use Rattle.ebpf_command.specs.Response.{refused_response};
 ghost use Rattle.ebpf_command.specs.Writing.{Writes, WritesBeginning, Reads};
+ghost use Rattle.ebpf_one.specs.InputFaults.{fault_sentence};
 ghost use Rattle.ebpf_one.specs.Lines.{refused_line};
 ghost use Rattle.ebpf_one.specs.ExplainText.{ExplainsTo, ExplainsBytes, ExplainsDecoded, ExplainsFlow, explained, misled_response};
 
+use crate::input_faults::write_fault_sentence;
 use crate::request::{Request, requested};
 use crate::text::refused_line;
-use ebpf_command::answer::{Answer, answer_fault, respond};
+use ebpf_command::answer::{Answer, respond};
 use ebpf_command::codes::RefusalCode;
-use ebpf_command::done::{Done, EngineFault, Stop};
+use ebpf_command::done::{Done, EngineFault, FaultCode, Stop};
+use ebpf_command::text::fault_line;
 use ebpf_explain::decode_sentence::write_decode_sentence;
-use ebpf_explain::reason::{write_misled, write_reason};
+use ebpf_explain::reason::write_reason;
 use ebpf_explain::slots::write_slots;
+use ebpf_explain::why::write_misled_in;
 use ebpf_flow::check::check;
 use ebpf_flow::fault::{FlowCode, FlowFault};
 use ebpf_flow::flowed::Flowed;
@@ -65,9 +70,27 @@ fn explain_input(alloc: Global, input: &[u8], context: &str, held: u8) -> Result
 {
     match requested(alloc, input, context, held) {
         Ok(request) => explain_request(alloc, request),
-        Err(Stop::Fault(code)) => answer_fault(alloc, code, 0),
+        Err(Stop::Fault(code)) => answer_unused(alloc, input, context, held, code),
         Err(Stop::NoMemory) => Err(AllocError),
     }
+}
+
+// The answer to an input and options that can't be used.
+fn answer_unused(
+    alloc: Global,
+    input: &[u8],
+    context: &str,
+    held: u8,
+    code: FaultCode,
+) -> Result<Answer, AllocError>
+    ensures { IfOk result (λ answer. answer ≡ refused_response (fault_line code 0 ++ fault_sentence input.now context.now held code)) }
+{
+    let mut text = fault_line(alloc, code, 0)?;
+    write_fault_sentence(alloc, &mut text, input, context, held, code)?;
+    Ok(Answer {
+        text,
+        done: Done::Refused,
+    })
 }
 
 // The response to the bytes of a request.
@@ -131,7 +154,7 @@ fn explain_program(
     }
 }
 
-// The answer to a program whose flow is at fault. It is decoded once more, since the check keeps none that it refuses.
+// The answer to a program whose flow is at fault.
 fn answer_misled(
     alloc: Global,
     bytes: &[u8],
@@ -140,11 +163,8 @@ fn answer_misled(
 ) -> Result<Answer, AllocError>
     ensures { IfOk result (λ answer. (p : List (Option Insn)) → IsProgram bytes.now p → answer ≡ misled_response p slot code) }
 {
-    let Ok(program) = decode(alloc, bytes) else {
-        return Err(AllocError);
-    };
     let mut text = refused_line(alloc, RefusalCode::Flow(code).name(), slot)?;
-    write_misled(&mut text, &program, slot as usize, code)?;
+    write_misled_in(alloc, &mut text, bytes, slot, code)?;
     Ok(Answer {
         text,
         done: Done::Refused,
@@ -162,11 +182,10 @@ fn explain_flowed(
     ensures { IfOk result (λ answer. answer ≡ explained (record { program = flowed.now; decl = decl; rows = rows.now })) }
 {
     let trace = trace_verdict(alloc, flowed, decl, rows)?;
-    let program = flowed.program();
     let mut text = String::new(alloc);
-    write_slots(alloc, &mut text, program, &trace.entries, rows)?;
+    write_slots(alloc, &mut text, flowed, decl, &trace.entries, rows)?;
     let Some((slot, code)) = trace.refusal else {
-        let len = program.len();
+        let len = flowed.program().len();
         write!(text, "accepted {len}\n")?;
         return Ok(Answer {
             text,
@@ -178,7 +197,7 @@ fn explain_flowed(
     write_reason(
         alloc,
         &mut text,
-        program,
+        flowed,
         &trace.entries,
         slot as usize,
         code,

@@ -43,7 +43,7 @@ pub enum Task<'a> {
     List,
     Explain(OneOptions<'a>),
     LayOut,
-    Check,
+    Check(CheckOptions),
     Replay,
     Run(RunOptions),
 }
@@ -57,6 +57,13 @@ pub struct OneOptions<'a> {
     pub held: u8,
     /// Whether each call of `new` is answered null.
     pub nulls: bool,
+}
+
+/// The option of `check`.
+#[derive(Clone, Copy)]
+pub struct CheckOptions {
+    /// Whether it is told why each refused program is.
+    pub explain: bool,
 }
 
 /// The options of `run`.
@@ -74,6 +81,7 @@ pub struct RunOptions {
 pub fn command<'a>(alloc: Global) -> Result<Command<'a>, AllocError> {
     let one = one_command(alloc)?;
     let explain = explain_command(alloc)?;
+    let check = check_command(alloc)?;
     let all = Command::new(alloc, "ebpf_run")
         .about("Runs small eBPF programs")
         .version("0.1.0")
@@ -83,7 +91,7 @@ pub fn command<'a>(alloc: Global) -> Result<Command<'a>, AllocError> {
     all.subcommand(list_command(alloc))?
         .subcommand(explain)?
         .subcommand(lay_out_command(alloc))?
-        .subcommand(check_command(alloc))?
+        .subcommand(check)?
         .subcommand(replay_command(alloc))?
         .subcommand(run_command(alloc)?)
 }
@@ -149,10 +157,18 @@ fn lay_out_command<'a>(alloc: Global) -> Command<'a> {
         .after_help(LAY_OUT_EXAMPLE)
 }
 
-fn check_command<'a>(alloc: Global) -> Command<'a> {
+fn check_command<'a>(alloc: Global) -> Result<Command<'a>, AllocError> {
     Command::new(alloc, "check")
         .about("Checks the script on standard input: programs, and jobs that run them")
         .after_help(CHECK_EXAMPLE)
+        .arg(explain_option(alloc))
+}
+
+fn explain_option<'a>(alloc: Global) -> Arg<'a> {
+    Arg::new(alloc, "explain")
+        .long("explain")
+        .action(ArgAction::SetTrue)
+        .help("Writes why, under each refused program")
 }
 
 fn replay_command<'a>(alloc: Global) -> Command<'a> {
@@ -193,7 +209,7 @@ pub fn task_of<'a>(matches: &ArgMatches<'a>) -> Option<Task<'a>> {
         Some(("list", _)) => Some(Task::List),
         Some(("explain", given)) => Some(Task::Explain(one_options(given))),
         Some(("lay-out", _)) => Some(Task::LayOut),
-        Some(("check", _)) => Some(Task::Check),
+        Some(("check", given)) => Some(Task::Check(check_options(given))),
         Some(("replay", _)) => Some(Task::Replay),
         Some(("run", given)) => Some(Task::Run(run_options(given)?)),
         _ => None,
@@ -206,6 +222,13 @@ fn one_options<'a>(given: &ArgMatches<'a>) -> OneOptions<'a> {
         context: given.get_str("context").unwrap_or("-"),
         held: given.get_one::<u8>("held").unwrap_or(0),
         nulls: given.get_flag("nulls"),
+    }
+}
+
+// The option of `check`.
+fn check_options(given: &ArgMatches<'_>) -> CheckOptions {
+    CheckOptions {
+        explain: given.get_flag("explain"),
     }
 }
 

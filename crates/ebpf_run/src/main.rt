@@ -2,7 +2,8 @@
 //!
 //! This crate reads the command line and has the standard streams. What a command writes is a function of what it reads and
 //! of its options, errors included, and it writes nothing else: that is the contract of [`ebpf_one::one::one`],
-//! [`ebpf_one::list::list`], [`ebpf_one::explain::explain`] and [`ebpf_one::lay_out::lay_out`], of [`ebpf_script::check::check`] and [`ebpf_script::replay::replay`]. What `run` writes is such a
+//! [`ebpf_one::list::list`], [`ebpf_one::explain::explain`] and [`ebpf_one::lay_out::lay_out`], of [`ebpf_script::check::check`],
+//! [`ebpf_script::explained_check::explained_check`] and [`ebpf_script::replay::replay`]. What `run` writes is such a
 //! text for some outcome of the jobs, since threads decide which requests for objects are granted and what is found on a shelf: that
 //! is the contract of [`ebpf_script::run::run`]. These are all that it calls.
 #![tactic(auto)]
@@ -18,6 +19,7 @@ use ebpf_one::lay_out::lay_out;
 use ebpf_one::list::list;
 use ebpf_one::one::one;
 use ebpf_script::check::check;
+use ebpf_script::explained_check::explained_check;
 use ebpf_script::replay::replay;
 use ebpf_script::run::run as run_script;
 use std::process::ExitCode;
@@ -88,7 +90,10 @@ fn perform<R: AllocGlobal + Input + Print + Threads + Wait + Sync>(
             options.held,
         ),
         Task::LayOut => lay_out(alloc, &mut reader, &mut writer),
-        Task::Check => check(alloc, &mut reader, &mut writer),
+        Task::Check(options) if options.explain => {
+            explained_check(alloc, &mut reader, &mut writer)
+        }
+        Task::Check(_) => check(alloc, &mut reader, &mut writer),
         Task::Replay => replay(alloc, &mut reader, &mut writer),
         Task::Run(options) => run_script(
             rt,

@@ -3,6 +3,7 @@ pub mod NumberLemmas
 pub mod ScriptLemmas
 pub mod LinesLemmas
 pub mod VerdictLemmas
+pub mod ExplainedLemmas
 pub mod WorldLemmas
 pub mod RunnableLemmas
 pub mod PoolLemmas

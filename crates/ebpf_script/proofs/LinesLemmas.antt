@@ -1,7 +1,7 @@
 -- The lines of a script, one by one.
-use Rattle.std.proofs.Common.{◌≡◌, ℕ, ◌+◌, ◌==◌, ◌<◌, ◌≤◌, false, nat_lt, arith, List, ◌∷◌, length, get_or, drop, Option, Some, None, Result, Ok, Err, refl, sym, ◌∙◌, ap}
+use Rattle.std.proofs.Common.{◌≡◌, ℕ, ◌+◌, ◌==◌, ◌<◌, ◌≤◌, false, nat_lt, arith, List, [], ◌∷◌, length, get_or, drop, Option, Some, None, Result, Ok, Err, refl, sym, ◌∙◌, ap}
 use Rattle.std.proofs.lemmas.Bool.Decides.{nat_tests}
-use Rattle.std.proofs.lemmas.List.{at_drop_more, at_drop_all}
+use Rattle.std.proofs.lemmas.List.{at_drop_more, at_drop_all, get_or_default, get_or_past}
 use Rattle.std.proofs.lemmas.List.Splits.{length-slice_split}
 use Rattle.std.proofs.lemmas.List.Sums.{count_by-le-length}
 use Rattle.ebpf_command.specs.declared.done.FaultCode.{FaultCode}
@@ -73,3 +73,12 @@ passes_with parsed PassLine = omega arith
 -- a line adds one pass at most
 pub one_pass : (shape : Shape) (old new : Script) → Adds shape old new → new.passes ≤ old.passes + 1
 one_pass shape old new adds = omega (arith, passes_with (parsed_script old) shape, ap (λ (s : ParsedScript). s.passes) adds.parsed)
+
+-- ---- a line by its index
+
+pub line_at : (lines : List (List ℕ)) (line : List ℕ) (n index : ℕ) → n < length lines → line ≡ get_or lines n line → n ≡ index → line ≡ get_or lines index []
+line_at lines line n index inside same is = same ∙ (get_or_default lines n line [] inside ∙ ap (λ (k : ℕ). get_or lines k []) is)
+
+-- behind the last there is none
+pub line_past : (lines : List (List ℕ)) (index : ℕ) → length lines ≤ index → get_or lines index [] ≡ []
+line_past lines index past = get_or_past lines index [] past

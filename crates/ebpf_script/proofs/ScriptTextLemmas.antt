@@ -7,6 +7,8 @@ use Rattle.ebpf_command.specs.declared.done.FaultCode.TheVariants.{S1}
 use Rattle.ebpf_command.specs.Input.{read_of}
 use Rattle.ebpf_command.proofs.Written.{CutsLong}
 use Rattle.ebpf_script.specs.declared.reader.script.Dialect.{Dialect}
+use Rattle.ebpf_script.specs.declared.reader.script.Dialect.TheVariants.{Jobs}
+use Rattle.ebpf_script.specs.ExplainedCheckText.{RespondsExplainedCheck, ExplainsParsed}
 use Rattle.ebpf_script.specs.ParsedScript.{ParsedScript}
 use Rattle.ebpf_script.specs.Scripts.{parsed_text}
 use Rattle.ebpf_script.specs.ScriptText.{Doing, RespondsScript}
@@ -20,3 +22,9 @@ script_cuts dialect Does input response long h =
     let cut : length (read_of input) ≡ 1048577 = length-take-le 1048577 input (omega (arith, long)) in
     let P : Result ParsedScript (ℕ × FaultCode) → Type 0 = λ r. RespondsScript Does r response in
     subst P (sym (parsed_text_long dialect input (omega (arith, long)))) (subst P (parsed_text_long dialect (read_of input) (omega (arith, cut))) h)
+
+pub explained_cuts : CutsLong RespondsExplainedCheck
+explained_cuts input response long h =
+    let cut : length (read_of input) ≡ 1048577 = length-take-le 1048577 input (omega (arith, long)) in
+    let cut_off : ExplainsParsed (Err (0, S1)) (read_of input) response = subst (λ (r : Result ParsedScript (ℕ × FaultCode)). ExplainsParsed r (read_of input) response) (parsed_text_long Jobs (read_of input) (omega (arith, cut))) h in
+    subst (λ (r : Result ParsedScript (ℕ × FaultCode)). ExplainsParsed r input response) (sym (parsed_text_long Jobs input (omega (arith, long)))) cut_off

@@ -10,10 +10,14 @@ pub mod Runnable
 pub mod ReadScripts
 pub mod Verdicts
 pub mod VerdictsKept
+pub mod Explained
+pub mod ExplainedKept
 pub mod EventCodes
 pub mod WorldLines
 pub mod OutcomeLines
 pub mod ScriptText
 pub mod CheckText
+pub mod ScriptFaults
+pub mod ExplainedCheckText
 pub mod ReplayText
 pub mod RunText

@@ -1,13 +1,17 @@
 //! The verdicts on the programs of a script.
 
 ghost use Rattle.std.specs.Prelude.{◌≡◌, ◌++◌, ◌||◌, map, string_bytes, IfOk, OnOk};
+ghost use Rattle.ebpf_state.specs.Kinds.{AreKinds};
+ghost use Rattle.ebpf_script.specs.ExplainedKept.{AreExplained, IsOneMore};
 ghost use Rattle.ebpf_script.specs.ReadScripts.{named};
 ghost use Rattle.ebpf_script.specs.Verdicts.{Verdict, AreOn, verdict_lines, accepted_of, is_any_refused, judged_line, accepted_in, is_refused};
 ghost use Rattle.ebpf_script.specs.VerdictsKept.{AreKept};
 
 use crate::reader::script::Programs;
 use ebpf_command::judge::{Judged, judge};
-use ebpf_state::kinds::kinds;
+use ebpf_explain::why::write_why;
+use ebpf_state::kinds::{KindRow, kinds};
+use ebpf_verify::decl::Decl;
 use ebpf_verify::verified::Verified;
 use std::alloc::{AllocError, Global};
 
@@ -37,7 +41,48 @@ pub(crate) fn verdicts_on(alloc: Global, programs: &Programs) -> Result<Verdicts
     Ok(verdicts)
 }
 
+/// Judges each program of a script, and tells why it is refused. It fails only where an allocation fails.
+pub(crate) fn explained_verdicts_on(
+    alloc: Global,
+    programs: &Programs,
+) -> Result<Verdicts, AllocError>
+    ensures { IfOk result (AreExplained (map named programs.now.entries)) }
+{
+    let rows = kinds();
+    let mut verdicts = Verdicts {
+        text: String::new(alloc),
+        accepted: Vec::new(alloc),
+        refused: false,
+    };
+    for (name, program) in programs.iter() {
+        verdicts.add_explained(alloc, name.as_str(), &program.bytes, program.decl, &rows)?;
+    }
+    Ok(verdicts)
+}
+
 impl Verdicts {
+    // The verdict on one program more, and why it is refused.
+    fn add_explained(
+        &mut self,
+        alloc: Global,
+        name: &str,
+        bytes: &[u8],
+        decl: Decl,
+        rows: &[KindRow],
+    ) -> Result<(), AllocError>
+        requires { AreKinds rows.now }
+        ensures { OnOk result (IsOneMore name.now bytes.now decl rows.now self.old self.new) }
+    {
+        let judged = judge(alloc, bytes, decl, rows)?;
+        let is_refused = is_refused(&judged);
+        self.add(name, judged)?;
+        if is_refused {
+            write_why(alloc, &mut self.text, bytes, decl, rows)
+        } else {
+            Ok(())
+        }
+    }
+
     // One verdict more.
     fn add(&mut self, name: &str, judged: Judged) -> Result<(), AllocError>
         ensures text { OnOk result (string_bytes self.new.text ≡ string_bytes self.old.text ++ judged_line name.now judged) }
@@ -58,4 +103,11 @@ impl Verdicts {
         }
         Ok(())
     }
+}
+
+// Whether a program is refused.
+fn is_refused(judged: &Judged) -> bool
+    ensures { result ≡ is_refused judged.now }
+{
+    matches!(judged, Judged::Refused { .. })
 }

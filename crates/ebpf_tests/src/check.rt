@@ -1,8 +1,9 @@
-//! What `check` tells of scripts.
+//! What `check` tells of scripts, with `--explain` and without.
 
 use crate::programs::{column, holds, is_told};
 use ebpf_command::done::Done;
 use ebpf_script::check::check;
+use ebpf_script::explained_check::explained_check;
 use std::alloc::Global;
 use std::process::Abort;
 use std::test::*;
@@ -65,8 +66,15 @@ program a! 4097 0 zz | fault S4 line 1;
 program a 0 65 - | fault S4 line 1;
 program a 0 0 -;program a 0 0 - | fault S6 line 2;";
 
+// The same of scripts whose refusals are explained.
+const EXPLAINED: &str = "\
+program a 0 0 b7000000070000009500000000000000; | a accepted 2;
+program a 0 0 95;program b 0 0 b7000000070000009500000000000000;program c 4 0 71100400000000009500000000000000;program d 0 0 05000100000000009500000000000000; | a refused I1 0;  there are 1 bytes: a program has whole slots of 8 bytes, and one at least;b accepted 2;c refused V8 0;  slot 0 reads 1 byte at [r1+4],  r1 context+0, and the context has 4 bytes: bound the offset first, or declare a longer context;d refused F1 0;  slot 0 jumps +1 slots on, and the program has 2 slots: let it lead to one of them;
+program a 0 0 b7010000000000008500000001000000b7000000000000009500000000000000;run a - | a refused V16 1;  slot 1 asks for an object while 0 are held, as many as the program declares: free one, put one onto a shelf, or declare more;
+program a 0 1 b7010000000000008500000001000000b7000000000000009500000000000000;run a - | a refused V17 3;  slot 3 exits while objects are held,  may hold 1 (cell): free each, or put it onto a shelf, on every path to this slot;";
+
 // Tries a row.
-fn is_checked(rt: &impl Abort, alloc: Global, row: &str) {
+fn is_checked(rt: &impl Abort, alloc: Global, row: &str, explains: bool) {
     let (script, expected) = column(rt, row);
     let script = script.replace(alloc, ';', "\n").expect(rt, "out of memory");
     let expected = expected
@@ -74,7 +82,12 @@ fn is_checked(rt: &impl Abort, alloc: Global, row: &str) {
         .expect(rt, "out of memory");
     let mut reader = script.as_bytes();
     let mut written = Vec::new(alloc);
-    let done = check(alloc, &mut reader, &mut written).expect(rt, "it is told");
+    let done = if explains {
+        explained_check(alloc, &mut reader, &mut written)
+    } else {
+        check(alloc, &mut reader, &mut written)
+    };
+    let done = done.expect(rt, "it is told");
     let told = str::from_utf8(&written).expect(rt, "it is a text");
     is_told(rt, row, told, expected.as_str());
     let is_refused = told.contains(" refused ") || told.starts_with("fault ");
@@ -85,7 +98,14 @@ fn is_checked(rt: &impl Abort, alloc: Global, row: &str) {
 fn the_programs_of_a_script_are_judged(rt: HostRuntime) {
     for row in SCRIPTS.lines() {
         if !row.starts_with('#') {
-            is_checked(&rt, rt.alloc(), row);
+            is_checked(&rt, rt.alloc(), row, false);
         }
+    }
+}
+
+#[test]
+fn why_programs_are_refused_is_explained(rt: HostRuntime) {
+    for row in EXPLAINED.lines() {
+        is_checked(&rt, rt.alloc(), row, true);
     }
 }

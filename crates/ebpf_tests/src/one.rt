@@ -1,7 +1,8 @@
-//! What `one` tells where a caller asks for more held objects than the command line lets through.
+//! What `one` and `explain` tell where a caller asks for more held objects than the command line lets through.
 
 use crate::programs::holds;
 use ebpf_command::done::Done;
+use ebpf_one::explain::explain;
 use ebpf_one::one::one;
 use std::alloc::Global;
 use std::process::Abort;
@@ -20,6 +21,30 @@ static HELD: [(&str, &str, u8, &str); 4] = [
     ("9500000000000000", "zz", 65, "fault S4 line 0\n"),
     // the input goes before it
     ("b70", "-", 65, "fault S5 line 0\n"),
+];
+
+// The same, and what is told by `explain`.
+static EXPLAINED: [(&str, &str, u8, &str); 3] = [
+    (
+        "9500000000000000",
+        "-",
+        65,
+        "fault S4 line 0\n  65 objects are to be held: at most 64 can be declared\n",
+    ),
+    // it goes before the context
+    (
+        "9500000000000000",
+        "zz",
+        255,
+        "fault S4 line 0\n  255 objects are to be held: at most 64 can be declared\n",
+    ),
+    // the input goes before it
+    (
+        "b70",
+        "-",
+        65,
+        "fault S5 line 0\n  the input has 3 hex digits, an odd number: two make a byte\n",
+    ),
 ];
 
 // Tries a row, with nulls or without.
@@ -41,5 +66,26 @@ fn more_than_64_held_is_a_fault(rt: HostRuntime) {
     for row in HELD.iter().copied() {
         is_told_so(&rt, rt.alloc(), row, false);
         is_told_so(&rt, rt.alloc(), row, true);
+    }
+}
+
+// Tries a row of `explain`.
+fn is_explained_so(rt: &impl Abort, alloc: Global, row: (&str, &str, u8, &str)) {
+    let (input, context, held, told) = row;
+    let mut reader = input.as_bytes();
+    let mut written = Vec::new(alloc);
+    let done = explain(alloc, &mut reader, &mut written, context, held).expect(rt, "it is told");
+    let is_refused = matches!(done, Done::Refused);
+    holds(
+        rt,
+        told,
+        is_refused && written.as_slice() == told.as_bytes(),
+    );
+}
+
+#[test]
+fn more_than_64_held_is_explained(rt: HostRuntime) {
+    for row in EXPLAINED.iter().copied() {
+        is_explained_so(&rt, rt.alloc(), row);
     }
 }

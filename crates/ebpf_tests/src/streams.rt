@@ -6,6 +6,7 @@ use ebpf_one::explain::explain;
 use ebpf_one::list::list;
 use ebpf_one::one::one;
 use ebpf_script::check::check;
+use ebpf_script::explained_check::explained_check;
 use ebpf_script::replay::replay;
 use ebpf_script::run::run;
 use std::alloc::Global;
@@ -117,7 +118,7 @@ fn ample(alloc: Global) -> Sink {
 }
 
 // Each command, with an input and the text that it tells of it.
-static COMMANDS: [(&str, &str, &str); 6] = [
+static COMMANDS: [(&str, &str, &str); 7] = [
     (
         "one",
         "b7000000070000009500000000000000",
@@ -135,6 +136,11 @@ static COMMANDS: [(&str, &str, &str); 6] = [
     ),
     (
         "check",
+        "program a 0 0 b7000000070000009500000000000000\narena 16\nrun a -\nreap\n",
+        "a accepted 2\n",
+    ),
+    (
+        "check --explain",
         "program a 0 0 b7000000070000009500000000000000\narena 16\nrun a -\nreap\n",
         "a accepted 2\n",
     ),
@@ -169,6 +175,7 @@ fn call<R: Threads + Wait + Sync>(
         "list" => list(alloc, reader, writer),
         "explain" => explain(alloc, reader, writer, "-", 0),
         "check" => check(alloc, reader, writer),
+        "check --explain" => explained_check(alloc, reader, writer),
         "replay" => replay(alloc, reader, writer),
         _ => run(rt, alloc, reader, writer, 2, 1),
     }
@@ -332,7 +339,7 @@ fn reads_no_further<R: Abort + Threads + Wait + Sync>(
     let mut reader = flood(byte, 16 * 1024 * 1024, Some(io::ErrorKind::Other));
     let mut writer = ample(alloc);
     let done = call(rt, alloc, command, &mut reader, &mut writer).expect(rt, "it is told");
-    let is_fault = writer.got.as_slice() == b"fault S1 line 0\n".as_slice();
+    let is_fault = writer.got.starts_with(b"fault S1 line 0\n");
     let is_left = reader.times == 16 * 1024 * 1024 - 1_048_577;
     holds(
         rt,
@@ -355,7 +362,7 @@ fn is_told_off<R: Abort + Threads + Wait + Sync>(rt: &R, alloc: Global, command:
     let mut reader = flood(byte, 64, None);
     let mut writer = ample(alloc);
     let done = call(rt, alloc, command, &mut reader, &mut writer).expect(rt, "it is told");
-    let takes_scripts = matches!(command, "check" | "replay" | "run");
+    let takes_scripts = matches!(command, "check" | "check --explain" | "replay" | "run");
     let is_passed = takes_scripts && b"#\t\n\r ".contains(&byte);
     assert!(rt;
         matches!(done, Done::Clean) == is_passed,

@@ -3,10 +3,13 @@
 use crate::programs::{bytes_of, column, is_told, program_of};
 use ebpf_explain::decode_sentence::write_decode_sentence;
 use ebpf_explain::flow_sentence::write_flow_sentence;
+use ebpf_explain::why::write_why;
 use ebpf_flow::check::check;
 use ebpf_flow::fault::FlowFault;
 use ebpf_insn::decode::decode;
 use ebpf_insn::fault::{DecodeCode, DecodeFault};
+use ebpf_state::kinds::kinds;
+use ebpf_verify::decl::Decl;
 use std::alloc::Global;
 use std::process::Abort;
 use std::test::*;
@@ -64,6 +67,15 @@ fn line_of_program(rt: &impl Abort, alloc: Global, digits: &str) -> String {
     text
 }
 
+// Why the bytes of a program that declares nothing are refused.
+fn why(rt: &impl Abort, alloc: Global, digits: &str) -> String {
+    let bytes = bytes_of(rt, alloc, digits);
+    let decl = Decl::new(0, 0).expect(rt, "nothing is declared");
+    let mut text = String::new(alloc);
+    write_why(alloc, &mut text, &bytes, decl, &kinds()).expect(rt, "out of memory");
+    text
+}
+
 // That a line is told, with a newline behind it.
 fn is_line(rt: &impl Abort, row: &str, told: &str, expected: &str) {
     let line = told.strip_suffix("\n").expect(rt, "there is no newline");
@@ -77,6 +89,7 @@ fn each_code_of_decoding_has_its_sentence(rt: HostRuntime) {
         let (digits, expected) = column(&rt, columns);
         let told = line_of_bytes(&rt, rt.alloc(), digits);
         is_line(&rt, row, told.as_str(), expected);
+        is_line(&rt, row, why(&rt, rt.alloc(), digits).as_str(), expected);
     }
 }
 
@@ -87,7 +100,19 @@ fn each_code_of_the_flow_has_its_sentence(rt: HostRuntime) {
         let (digits, expected) = column(&rt, columns);
         let told = line_of_program(&rt, rt.alloc(), digits);
         is_line(&rt, row, told.as_str(), expected);
+        is_line(&rt, row, why(&rt, rt.alloc(), digits).as_str(), expected);
     }
+}
+
+// The verifier's sentences are those of tests/commands.txt; of an accepted program there is none.
+#[test]
+fn why_tells_of_the_verifier_too(rt: HostRuntime) {
+    let told = why(&rt, rt.alloc(), "9500000000000000");
+    let expected =
+        "  slot 0 reads r0, which is not set on every path to it: set it first (a call unsets r1 to r5, and free what points to its object)";
+    is_line(&rt, "r0 is unset", told.as_str(), expected);
+    let told = why(&rt, rt.alloc(), "b7000000070000009500000000000000");
+    is_told(&rt, "an accepted program", told.as_str(), "");
 }
 
 #[test]

@@ -1,0 +1,248 @@
+//! What is lost where paths meet, in words, each written behind a text. Writing fails only where an allocation fails.
+
+ghost use Rattle.std.specs.Prelude.{◌≡◌, ◌++◌, string_bytes, OnOk, Some, slice_get};
+ghost use Rattle.std.specs.List.{flat_map};
+ghost use Rattle.ebpf_explain.specs.Lost.{apart_from, first_apart, first_without, headed, is_lost, known_by, known_from, line_with, lost_at, lost_line, lost_words, other_than, place_name, spilled, value_at};
+ghost use Rattle.ebpf_explain.specs.StackWords.{texts_below};
+ghost use Rattle.ebpf_explain.specs.declared.lost.Place.TheVariants.{Register, Slot};
+ghost use Rattle.ebpf_state.specs.Abstract.{is_unset, joined_value};
+
+use crate::known::REGISTERS;
+use crate::values::write_value;
+use ebpf_insn::register::Reg;
+use ebpf_state::state::State;
+use ebpf_state::value::Abs;
+use ebpf_state::word::Word;
+use ebpf_verify::comers::Comer;
+use std::alloc::{AllocError, Global};
+
+/// Where a state may know a value.
+#[derive(Clone, Copy)]
+pub(crate) enum Place {
+    /// In a register.
+    Register(Reg),
+    /// In the word of the stack with this number.
+    Slot(u8),
+}
+
+// The line of what each state that comes knows, and the join of them does not.
+pub(crate) fn write_lost(
+    alloc: Global,
+    text: &mut String,
+    comers: &[Comer],
+    joined: &State,
+) -> Result<(), AllocError>
+    ensures { OnOk result (string_bytes text.new ≡ string_bytes text.old ++ lost_line comers.now joined.now) }
+{
+    if comers.len() == 0 {
+        return Ok(());
+    }
+    let mut words = String::new(alloc);
+    write_lost_words(&mut words, comers, joined)?;
+    write_headed(text, words.as_str())
+}
+
+// The line of these words, if there are any.
+fn write_headed(text: &mut String, words: &str) -> Result<(), AllocError>
+    ensures { OnOk result (string_bytes text.new ≡ string_bytes text.old ++ headed words.now) }
+{
+    if words.len() == 0 {
+        return Ok(());
+    }
+    write_line(text, words)
+}
+
+// The line of these words.
+fn write_line(text: &mut String, words: &str) -> Result<(), AllocError>
+    ensures { OnOk result (string_bytes text.new ≡ string_bytes text.old ++ line_with words.now) }
+{
+    text.push_str("  lost where paths meet:")?;
+    text.push_str(words)?;
+    text.push_str("\n")
+}
+
+// The registers and the words of the stack that are lost.
+fn write_lost_words(
+    text: &mut String,
+    comers: &[Comer],
+    joined: &State,
+) -> Result<(), AllocError>
+    ensures { OnOk result (string_bytes text.new ≡ string_bytes text.old ++ lost_words comers.now joined.now) }
+{
+    write_lost_registers(text, comers, joined, &REGISTERS)?;
+    write_lost_stack(text, comers, joined)
+}
+
+// Those of these registers that are lost.
+fn write_lost_registers(
+    text: &mut String,
+    comers: &[Comer],
+    joined: &State,
+    registers: &[Reg],
+) -> Result<(), AllocError>
+    ensures { OnOk result (string_bytes text.new ≡ string_bytes text.old ++ flat_map (λ r. lost_at (Register r) comers.now joined.now) registers.now) }
+{
+    for register in registers {
+        write_lost_at(text, Place::Register(*register), comers, joined)?;
+    }
+    Ok(())
+}
+
+// The words of the stack that are lost.
+fn write_lost_stack(
+    text: &mut String,
+    comers: &[Comer],
+    joined: &State,
+) -> Result<(), AllocError>
+    ensures { OnOk result (string_bytes text.new ≡ string_bytes text.old ++ texts_below 64 (λ number. lost_at (Slot number) comers.now joined.now)) }
+{
+    for number in 0..64 {
+        write_lost_slot(text, number, comers, joined)?;
+    }
+    Ok(())
+}
+
+// A word of the stack, if it is lost.
+fn write_lost_slot(
+    text: &mut String,
+    number: u8,
+    comers: &[Comer],
+    joined: &State,
+) -> Result<(), AllocError>
+    ensures { OnOk result (string_bytes text.new ≡ string_bytes text.old ++ lost_at (Slot number) comers.now joined.now) }
+{
+    write_lost_at(text, Place::Slot(number), comers, joined)
+}
+
+// A place, if what was known there is lost.
+fn write_lost_at(
+    text: &mut String,
+    place: Place,
+    comers: &[Comer],
+    joined: &State,
+) -> Result<(), AllocError>
+    ensures { OnOk result (string_bytes text.new ≡ string_bytes text.old ++ lost_at place comers.now joined.now) }
+{
+    if !is_lost(place, comers, joined) {
+        return Ok(());
+    }
+    write_place_name(text, place)?;
+    write_apart(text, place, comers)
+}
+
+// Whether each state that comes knows something of a place, and the join of them nothing.
+fn is_lost(place: Place, comers: &[Comer], joined: &State) -> bool
+    ensures { result ≡ is_lost place comers.now joined.now }
+{
+    value_at(place, joined).is_unset() && first_without(place, comers).is_none()
+}
+
+// The first that comes and knows nothing of a place.
+fn first_without(place: Place, comers: &[Comer]) -> Option<usize>
+    ensures { result ≡ first_without place comers.now }
+{
+    comers.iter()
+        .position(|comer| value_at(place, &comer.state).is_unset())
+}
+
+// The first that comes and knows what can't be joined with a value.
+fn first_apart(place: Place, value: Abs, comers: &[Comer]) -> Option<usize>
+    ensures { result ≡ first_apart place value comers.now }
+{
+    comers.iter()
+        .position(|comer| are_apart(value, value_at(place, &comer.state)))
+}
+
+// What a state knows of a place.
+fn value_at(place: Place, state: &State) -> Abs
+    ensures { result ≡ value_at place state.now }
+{
+    match place {
+        Place::Register(register) => state.reg(register),
+        Place::Slot(number) => spilled(state.word(number as usize)),
+    }
+}
+
+// What is known of a word that was stored as a whole.
+fn spilled(word: Word) -> Abs
+    ensures { result ≡ spilled word }
+{
+    match word {
+        Word::Spill(value) => value,
+        Word::Bytes(_) => Abs::Unset,
+    }
+}
+
+// Whether two values have nothing in common.
+fn are_apart(left: Abs, right: Abs) -> bool
+    ensures { result ≡ is_unset (joined_value left right) }
+{
+    match (left, right) {
+        (Abs::Num(_), Abs::Num(_)) => false,
+        (Abs::Stk(a), Abs::Stk(b)) => a != b,
+        (Abs::Ctx(_, _), Abs::Ctx(_, _)) => false,
+        (Abs::Ob(r, _, _), Abs::Ob(q, _, _)) => r != q,
+        (Abs::May(r), Abs::May(q)) => r != q,
+        _ => true,
+    }
+}
+
+// A register by its name, or a word of the stack by where it begins.
+fn write_place_name(text: &mut String, place: Place) -> Result<(), AllocError>
+    ensures { OnOk result (string_bytes text.new ≡ string_bytes text.old ++ place_name place) }
+{
+    match place {
+        Place::Register(register) => write!(text, "  r{}", register.number()),
+        Place::Slot(number) => {
+            let below = 512u16.saturating_sub(8 * number as u16);
+            write!(text, "  [r10-{below}]")
+        }
+    }
+}
+
+// The value that comes first, and one that can't be joined with it, or else the last.
+fn write_apart(text: &mut String, place: Place, comers: &[Comer]) -> Result<(), AllocError>
+    ensures { OnOk result (string_bytes text.new ≡ string_bytes text.old ++ apart_from place (slice_get comers.now 0) comers.now) }
+{
+    let Some(first) = comers.get(0) else {
+        return Ok(());
+    };
+    let other = other_than(place, value_at(place, &first.state), comers);
+    write_known_by(text, place, comers, 0)?;
+    text.push_str(",")?;
+    write_known_by(text, place, comers, other)
+}
+
+// The first that comes and can't be joined with a value, or else the last.
+fn other_than(place: Place, value: Abs, comers: &[Comer]) -> usize
+    ensures { result ≡ other_than place value comers.now }
+{
+    match first_apart(place, value, comers) {
+        Some(other) => other,
+        None => comers.len().saturating_sub(1),
+    }
+}
+
+// What one that comes knows of a place.
+fn write_known_by(
+    text: &mut String,
+    place: Place,
+    comers: &[Comer],
+    number: usize,
+) -> Result<(), AllocError>
+    ensures { OnOk result (string_bytes text.new ≡ string_bytes text.old ++ known_by place comers.now number) }
+{
+    match comers.get(number) {
+        Some(comer) => write_known(text, place, comer),
+        None => Ok(()),
+    }
+}
+
+// What is known of a place, and from which slot it comes.
+fn write_known(text: &mut String, place: Place, comer: &Comer) -> Result<(), AllocError>
+    ensures { OnOk result (string_bytes text.new ≡ string_bytes text.old ++ known_from place (Some comer.now)) }
+{
+    text.push_str(" ")?;
+    write_value(text, value_at(place, &comer.state))?;
+    write!(text, " from {}", comer.from)
+}

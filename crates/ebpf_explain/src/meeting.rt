@@ -1,0 +1,139 @@
+//! Why a slot is refused where paths meet that hold different objects, in words, each written behind a text. Writing fails only
+//! where an allocation fails.
+
+ghost use Rattle.std.specs.Prelude.{◌≡◌, ◌++◌, string_bytes, OnOk, slice_get};
+ghost use Rattle.std.specs.List.{flat_map};
+ghost use Rattle.ebpf_explain.specs.Meeting.{both_paths, coming, held_from, holds_other, meeting_sentence, next_held, pair_text, paths_apart, paths_from};
+ghost use Rattle.ebpf_state.specs.States.{is_same_held};
+
+use crate::references::write_held;
+use ebpf_state::held::Held;
+use ebpf_state::kinds::KindRow;
+use ebpf_verify::comers::Comer;
+use std::alloc::AllocError;
+
+// No two are found that differ.
+const UNKNOWN: &str =
+    "paths meet that hold different objects, or of which one has compared an answer";
+
+// The sentence: which two paths meet, and what each of them holds.
+pub(crate) fn write_meeting(
+    text: &mut String,
+    slot: usize,
+    comers: &[Comer],
+    rows: &[KindRow],
+) -> Result<(), AllocError>
+    ensures { OnOk result (string_bytes text.new ≡ string_bytes text.old ++ meeting_sentence slot comers.now rows.now) }
+{
+    write!(text, "  slot {slot} is where ")?;
+    write_paths(text, comers, rows)?;
+    text.push_str(": free what one path holds and the other does not, before they meet\n")
+}
+
+// The first that comes, and the first that doesn't hold the same.
+fn write_paths(text: &mut String, comers: &[Comer], rows: &[KindRow]) -> Result<(), AllocError>
+    ensures { OnOk result (string_bytes text.new ≡ string_bytes text.old ++ paths_from rows.now (slice_get comers.now 0) comers.now) }
+{
+    match comers.get(0) {
+        Some(first) => write_from(text, first, comers, rows),
+        None => text.push_str(UNKNOWN),
+    }
+}
+
+// One that comes, and the first that doesn't hold the same.
+fn write_from(
+    text: &mut String,
+    first: &Comer,
+    comers: &[Comer],
+    rows: &[KindRow],
+) -> Result<(), AllocError>
+    ensures { OnOk result (string_bytes text.new ≡ string_bytes text.old ++ paths_apart rows.now first.now (holds_other first.now.state.held comers.now) comers.now) }
+{
+    match holds_other(first.state.references(), comers) {
+        Some(number) => write_both(text, first, comers, number, rows),
+        None => text.push_str(UNKNOWN),
+    }
+}
+
+// One that comes, and the one with this number.
+fn write_both(
+    text: &mut String,
+    first: &Comer,
+    comers: &[Comer],
+    number: usize,
+    rows: &[KindRow],
+) -> Result<(), AllocError>
+    ensures { OnOk result (string_bytes text.new ≡ string_bytes text.old ++ both_paths rows.now first.now (slice_get comers.now number)) }
+{
+    match comers.get(number) {
+        Some(other) => write_pair(text, first, other, rows),
+        None => text.push_str(UNKNOWN),
+    }
+}
+
+// Two that come, and what each holds.
+fn write_pair(
+    text: &mut String,
+    first: &Comer,
+    other: &Comer,
+    rows: &[KindRow],
+) -> Result<(), AllocError>
+    ensures { OnOk result (string_bytes text.new ≡ string_bytes text.old ++ pair_text rows.now first.now other.now) }
+{
+    write_coming(text, first, rows)?;
+    text.push_str(", and ")?;
+    write_coming(text, other, rows)?;
+    text.push_str(", meet")
+}
+
+// The first that comes and doesn't hold the same.
+fn holds_other(held: &[Held], comers: &[Comer]) -> Option<usize>
+    ensures { result ≡ holds_other held.now comers.now }
+{
+    comers.iter()
+        .position(|comer| !is_same_held(held, comer.state.references()))
+}
+
+// The same references are held, tested alike.
+fn is_same_held(left: &[Held], right: &[Held]) -> bool
+    ensures { result ≡ is_same_held left.now right.now }
+{
+    left == right
+}
+
+// What comes, and what it holds.
+fn write_coming(text: &mut String, comer: &Comer, rows: &[KindRow]) -> Result<(), AllocError>
+    ensures { OnOk result (string_bytes text.new ≡ string_bytes text.old ++ coming rows.now comer.now) }
+{
+    write!(text, "slot {}, which ", comer.from)?;
+    write_holdings(text, comer.state.references(), rows)
+}
+
+// What these references hold.
+fn write_holdings(text: &mut String, held: &[Held], rows: &[KindRow]) -> Result<(), AllocError>
+    ensures { OnOk result (string_bytes text.new ≡ string_bytes text.old ++ held_from rows.now (slice_get held.now 0) held.now) }
+{
+    let Some(first) = held.get(0) else {
+        return text.push_str("holds nothing");
+    };
+    write_held(text, *first, rows)?;
+    write_others(text, &held[1..], rows)
+}
+
+// What these references hold too.
+fn write_others(text: &mut String, held: &[Held], rows: &[KindRow]) -> Result<(), AllocError>
+    ensures { OnOk result (string_bytes text.new ≡ string_bytes text.old ++ flat_map (next_held rows.now) held.now) }
+{
+    for reference in held {
+        write_next(text, *reference, rows)?;
+    }
+    Ok(())
+}
+
+// What one more reference holds.
+fn write_next(text: &mut String, reference: Held, rows: &[KindRow]) -> Result<(), AllocError>
+    ensures { OnOk result (string_bytes text.new ≡ string_bytes text.old ++ next_held rows.now reference) }
+{
+    text.push_str(", ")?;
+    write_held(text, reference, rows)
+}

@@ -1,0 +1,75 @@
+-- Why an input or an option can't be used, as the sentence of a line: what it is, what stands there, and what is expected.
+use Rattle.std.specs.Prelude.{ℕ, ◌∷◌, ◌++◌, ◌||◌, Bool, nat_lt, if◌then◌else◌, List, [], length, filter, codes, decimal, Option, Some, None, is_none, unwrap_or, slice_get}
+use Rattle.std.specs.Char.{is_ascii_graphic}
+use Rattle.std.specs.List.{prefix_len}
+use Rattle.hex.specs.Hex.{is_hex_digit}
+use Rattle.ebpf_explain.specs.Hex.{hex_digits}
+use Rattle.ebpf_command.specs.declared.done.FaultCode.{FaultCode}
+use Rattle.ebpf_command.specs.declared.done.FaultCode.TheVariants.{S1, S4, S5}
+use Rattle.ebpf_command.specs.HexText.{hex_or_dash}
+use Rattle.ebpf_one.specs.declared.input_faults.Part.{Part}
+use Rattle.ebpf_one.specs.declared.input_faults.Part.TheVariants.{Input, Context}
+use Rattle.ebpf_one.specs.ProgramText.{is_blank, program_bytes}
+
+abbrev pub part_name : Part → List ℕ
+part_name Input = codes "input"
+part_name Context = codes "context"
+
+-- hex digits may stand in either, and blanks in the input
+abbrev pub may_stand : Part → ℕ → Bool
+may_stand Input byte = is_hex_digit byte || is_blank byte
+may_stand Context byte = is_hex_digit byte
+
+-- where the first byte is that may not stand there; the length, where each may
+abbrev pub place_of_other : Part → List ℕ → ℕ
+place_of_other part text = prefix_len (may_stand part) text
+
+-- a byte that prints is told as itself, and any other by its hex digits
+abbrev pub shown_byte : ℕ → List ℕ
+shown_byte byte = if is_ascii_graphic byte then byte ∷ [] else codes "0x" ++ hex_digits byte
+
+-- how it is mended: bytes that don't print are likely to be those of the program
+abbrev pub mending_of : Part → ℕ → List ℕ
+mending_of Context byte = codes "leave out 0x, commas and blanks"
+mending_of Input byte = if is_ascii_graphic byte then codes "leave out 0x and commas" else codes "xxd -p makes hex of the bytes of a program"
+
+abbrev pub other_byte : Part → ℕ → ℕ → List ℕ
+other_byte part place byte =
+    codes "byte " ++ (decimal place ++ (codes " of the " ++ (part_name part ++ (codes " is "
+    ++ (shown_byte byte ++ (codes ", and no hex digit: " ++ mending_of part byte))))))
+
+abbrev pub odd_digits : Part → ℕ → List ℕ
+odd_digits part digits = codes "the " ++ (part_name part ++ (codes " has " ++ (decimal digits ++ codes " hex digits, an odd number: two make a byte")))
+
+-- by the first byte that may not stand there, if there is one
+abbrev pub unread_by : Part → List ℕ → Option ℕ → List ℕ
+unread_by part text (Some byte) = other_byte part (place_of_other part text) byte
+unread_by part text None = odd_digits part (length (filter is_hex_digit text))
+
+-- why a text is no hex
+abbrev pub unread : Part → List ℕ → List ℕ
+unread part text = unread_by part text (slice_get text (place_of_other part text))
+
+abbrev pub too_many_held : ℕ → List ℕ
+too_many_held held = decimal held ++ codes " objects are to be held: at most 64 can be declared"
+
+abbrev pub long_context : ℕ → List ℕ
+long_context len = codes "the context has " ++ (decimal len ++ codes " bytes: at most 4096 can be declared")
+
+-- what is declared that is too much
+abbrev pub too_much : (context : List ℕ) (held : ℕ) → List ℕ
+too_much context held = if nat_lt 64 held then too_many_held held else long_context (length (unwrap_or (hex_or_dash context) []))
+
+-- the input is no hex, or else the context is none
+abbrev pub unread_of : (input context : List ℕ) → List ℕ
+unread_of input context = if is_none (program_bytes input) then unread Input input else unread Context context
+
+-- by the first code that applies; no other is given to an input and options
+abbrev pub fault_words : (input context : List ℕ) (held : ℕ) → FaultCode → List ℕ
+fault_words input context held S1 = codes "the input has more than 1048576 bytes: a program has at most 4096 slots, each of 16 hex digits"
+fault_words input context held S4 = too_much context held
+fault_words input context held S5 = unread_of input context
+fault_words input context held _ = []
+
+abbrev pub fault_sentence : (input context : List ℕ) (held : ℕ) → FaultCode → List ℕ
+fault_sentence input context held code = codes "  " ++ (fault_words input context held code ++ codes "\n")

@@ -1,0 +1,27 @@
+-- The verdicts on the programs of a script, each with why the program is refused.
+use Rattle.std.specs.Prelude.{◌≡◌, ℕ, ◌++◌, List, [], map}
+use Rattle.std.specs.List.{flat_map}
+use Rattle.ebpf_state.specs.declared.kinds.KindRow.{KindRow}
+use Rattle.ebpf_verify.specs.declared.decl.Decl.{Decl}
+use Rattle.ebpf_command.specs.declared.judge.Judged.{Judged}
+use Rattle.ebpf_command.specs.declared.judge.Judged.TheVariants.{Accepted, Refused}
+use Rattle.ebpf_explain.specs.Why.{IsWhy}
+use Rattle.ebpf_script.specs.Verdicts.{Verdict, judged_line}
+
+-- the sentence that tells why; of a program that is accepted there is none
+abbrev pub IsTold : Judged → List ℕ → Decl → List KindRow → List ℕ → Type 0
+IsTold (Accepted s) bytes decl rows why = why ≡ []
+IsTold (Refused code slot) bytes decl rows why = IsWhy bytes decl rows why
+
+-- a verdict, and what is told behind its line
+pub record Explained : Type 0 where
+  pub verdict : Verdict
+  pub why : List ℕ
+  pub is : IsTold verdict.judged verdict.program.bytes verdict.decl verdict.rows why
+
+-- each line, and what is told behind it
+abbrev pub explained_lines : List Explained → List ℕ
+explained_lines explained = flat_map (λ e. judged_line e.verdict.program.name e.verdict.judged ++ e.why) explained
+
+abbrev pub verdicts_of : List Explained → List Verdict
+verdicts_of explained = map (λ e. e.verdict) explained
