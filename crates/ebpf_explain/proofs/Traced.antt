@@ -3,7 +3,7 @@ use Rattle.std.proofs.Common.{◌≡◌, ◌<◌, ℕ, suc, length, Option, Some
 use Rattle.ebpf_verify.specs.declared.fault.VerifyCode.{VerifyCode}
 use Rattle.ebpf_verify.specs.declared.trace.Trace.{Trace}
 use Rattle.ebpf_verify.specs.Subject.{Subject}
-use Rattle.ebpf_verify.specs.Traces.{entries_below, looked_at, IsTrace}
+use Rattle.ebpf_verify.specs.Traces.{looked_at, IsTrace}
 use Rattle.ebpf_verify.specs.Verdict.{verdict}
 use Rattle.ebpf_verify.proofs.Coming.{length-below}
 

@@ -1,5 +1,5 @@
 -- What a load or a store does to memory, as text.
-use Rattle.std.specs.Prelude.{ℕ, pos, Bool, true, false, if◌then◌else◌, ◌==◌, List, ◌++◌, codes, decimal}
+use Rattle.std.specs.Prelude.{ℕ, pos, true, false, if◌then◌else◌, ◌==◌, List, ◌++◌, codes, decimal}
 use Rattle.ebpf_insn.specs.declared.register.Reg.TheVariants.{R10}
 use Rattle.ebpf_insn.specs.declared.insn.Size.TheVariants.{B}
 use Rattle.ebpf_insn.specs.declared.insn.Insn.{Insn}

@@ -1,5 +1,5 @@
 -- Why bytes are no program, as the sentence of a line.
-use Rattle.std.specs.Prelude.{ℕ, List, length, ◌++◌, codes, decimal}
+use Rattle.std.specs.Prelude.{ℕ, List, length, ◌++◌, codes, decimal, if◌then◌else◌, ◌==◌}
 use Rattle.ebpf_insn.specs.declared.fault.DecodeCode.{DecodeCode}
 use Rattle.ebpf_insn.specs.declared.fault.DecodeCode.TheVariants.{I1, I2, I3, I4, I5, I6, I7, I8, I9}
 use Rattle.ebpf_explain.specs.Hex.{byte_digits, eight_digits}
@@ -7,9 +7,15 @@ use Rattle.ebpf_explain.specs.Hex.{byte_digits, eight_digits}
 abbrev pub slot_text : ℕ → List ℕ
 slot_text slot = codes "slot " ++ decimal slot
 
+-- how many bytes there are, and how many a program has
+abbrev pub count_words : ℕ → List ℕ
+count_words count =
+    if count == 1 then codes "there is " ++ (decimal count ++ codes " byte: a program has whole slots of 8 bytes, and one at least")
+    else codes "there are " ++ (decimal count ++ codes " bytes: a program has whole slots of 8 bytes, and one at least")
+
 -- what is wrong with the bytes, or with those of a slot
 abbrev pub decode_words : List ℕ → ℕ → DecodeCode → List ℕ
-decode_words bytes slot I1 = codes "there are " ++ (decimal (length bytes) ++ codes " bytes: a program has whole slots of 8 bytes, and one at least")
+decode_words bytes slot I1 = count_words (length bytes)
 decode_words bytes slot I2 = slot_text slot ++ (codes " has the opcode 0x" ++ (byte_digits bytes slot 0 ++ codes ", which is no instruction"))
 decode_words bytes slot I3 = slot_text slot ++ (codes " names a register above 10: 0x" ++ byte_digits bytes slot 1)
 decode_words bytes slot I4 = slot_text slot ++ (codes " has something in a field that its instruction does not use: " ++ eight_digits bytes slot 0)

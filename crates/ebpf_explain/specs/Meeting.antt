@@ -1,5 +1,5 @@
 -- Why a slot is refused where paths meet that hold different objects.
-use Rattle.std.specs.Prelude.{ℕ, not, List, [], ◌++◌, codes, decimal, drop, Option, Some, None, slice_get}
+use Rattle.std.specs.Prelude.{ℕ, not, List, ◌++◌, codes, decimal, drop, Option, Some, None, slice_get}
 use Rattle.std.specs.List.{flat_map, position}
 use Rattle.ebpf_state.specs.declared.held.Held.{Held}
 use Rattle.ebpf_state.specs.declared.kinds.KindRow.{KindRow}

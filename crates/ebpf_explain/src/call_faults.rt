@@ -49,10 +49,17 @@ pub(crate) fn write_call_with(
 pub(crate) fn write_too_many_held(text: &mut String, held: usize) -> Result<(), AllocError>
     ensures { OnOk result (string_bytes text.new ≡ string_bytes text.old ++ too_many_held held) }
 {
-    write!(
-        text,
-        "asks for an object while {held} are held, as many as the program declares"
-    )
+    if held == 1 {
+        write!(
+            text,
+            "asks for an object while {held} is held, as many as the program declares"
+        )
+    } else {
+        write!(
+            text,
+            "asks for an object while {held} are held, as many as the program declares"
+        )
+    }
 }
 
 // An object is held at the exit.

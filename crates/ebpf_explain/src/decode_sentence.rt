@@ -1,7 +1,7 @@
 //! Why bytes are no program, in a sentence.
 
 ghost use Rattle.std.specs.Prelude.{◌≡◌, ◌++◌, string_bytes, OnOk};
-ghost use Rattle.ebpf_explain.specs.DecodeSentences.{decode_sentence, decode_words};
+ghost use Rattle.ebpf_explain.specs.DecodeSentences.{count_words, decode_sentence, decode_words};
 
 use crate::hex::{write_byte, write_eight};
 use ebpf_insn::fault::DecodeCode;
@@ -35,11 +35,7 @@ fn write_words(
     ensures { OnOk result (string_bytes text.new ≡ string_bytes text.old ++ decode_words bytes.now slot code) }
 {
     match code {
-        DecodeCode::I1 => write!(
-            text,
-            "there are {} bytes: a program has whole slots of 8 bytes, and one at least",
-            bytes.len()
-        ),
+        DecodeCode::I1 => write_count(text, bytes.len()),
         DecodeCode::I2 => {
             write!(text, "slot {slot} has the opcode 0x")?;
             write_byte(text, bytes, slot, 0)?;
@@ -79,5 +75,22 @@ fn write_words(
             )
         }
         DecodeCode::I9 => text.push_str("the program has more than 4096 slots"),
+    }
+}
+
+// How many bytes there are, and how many a program has.
+fn write_count(text: &mut String, count: usize) -> Result<(), AllocError>
+    ensures { OnOk result (string_bytes text.new ≡ string_bytes text.old ++ count_words count) }
+{
+    if count == 1 {
+        write!(
+            text,
+            "there is {count} byte: a program has whole slots of 8 bytes, and one at least"
+        )
+    } else {
+        write!(
+            text,
+            "there are {count} bytes: a program has whole slots of 8 bytes, and one at least"
+        )
     }
 }

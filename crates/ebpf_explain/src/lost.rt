@@ -62,11 +62,7 @@ fn write_line(text: &mut String, words: &str) -> Result<(), AllocError>
 }
 
 // The registers and the words of the stack that are lost.
-fn write_lost_words(
-    text: &mut String,
-    comers: &[Comer],
-    joined: &State,
-) -> Result<(), AllocError>
+fn write_lost_words(text: &mut String, comers: &[Comer], joined: &State) -> Result<(), AllocError>
     ensures { OnOk result (string_bytes text.new ≡ string_bytes text.old ++ lost_words comers.now joined.now) }
 {
     write_lost_registers(text, comers, joined, &REGISTERS)?;
@@ -89,11 +85,7 @@ fn write_lost_registers(
 }
 
 // The words of the stack that are lost.
-fn write_lost_stack(
-    text: &mut String,
-    comers: &[Comer],
-    joined: &State,
-) -> Result<(), AllocError>
+fn write_lost_stack(text: &mut String, comers: &[Comer], joined: &State) -> Result<(), AllocError>
     ensures { OnOk result (string_bytes text.new ≡ string_bytes text.old ++ texts_below 64 (λ number. lost_at (Slot number) comers.now joined.now)) }
 {
     for number in 0..64 {
@@ -141,7 +133,8 @@ fn is_lost(place: Place, comers: &[Comer], joined: &State) -> bool
 fn first_without(place: Place, comers: &[Comer]) -> Option<usize>
     ensures { result ≡ first_without place comers.now }
 {
-    comers.iter()
+    comers
+        .iter()
         .position(|comer| value_at(place, &comer.state).is_unset())
 }
 
@@ -149,7 +142,8 @@ fn first_without(place: Place, comers: &[Comer]) -> Option<usize>
 fn first_apart(place: Place, value: Abs, comers: &[Comer]) -> Option<usize>
     ensures { result ≡ first_apart place value comers.now }
 {
-    comers.iter()
+    comers
+        .iter()
         .position(|comer| are_apart(value, value_at(place, &comer.state)))
 }
 

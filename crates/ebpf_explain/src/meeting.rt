@@ -90,7 +90,8 @@ fn write_pair(
 fn holds_other(held: &[Held], comers: &[Comer]) -> Option<usize>
     ensures { result ≡ holds_other held.now comers.now }
 {
-    comers.iter()
+    comers
+        .iter()
         .position(|comer| !is_same_held(held, comer.state.references()))
 }
 

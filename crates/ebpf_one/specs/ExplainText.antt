@@ -21,7 +21,6 @@ use Rattle.ebpf_explain.specs.DecodeSentences.{decode_sentence}
 use Rattle.ebpf_explain.specs.Reasons.{misled_at, reason}
 use Rattle.ebpf_explain.specs.Slots.{slot_lines}
 use Rattle.ebpf_explain.specs.StackWords.{texts_below}
-use Rattle.ebpf_command.specs.declared.codes.RefusalCode.{RefusalCode}
 use Rattle.ebpf_command.specs.declared.codes.RefusalCode.TheVariants.{Decode, Flow, Verify}
 use Rattle.ebpf_command.specs.declared.done.FaultCode.{FaultCode}
 use Rattle.ebpf_command.specs.Codes.{refusal_name}

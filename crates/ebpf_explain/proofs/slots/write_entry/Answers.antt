@@ -1,4 +1,4 @@
-use Rattle.std.proofs.Common.{List, ◌≡◌, ap, ◌∙◌, string_bytes}
+use Rattle.std.proofs.Common.{List, ap, ◌∙◌, string_bytes}
 use Rattle.ebpf_verify.specs.declared.comers.Comer.{Comer}
 use Rattle.ebpf_verify.specs.declared.entry.EntryState.TheVariants.{Unreached, Conflict}
 use Rattle.ebpf_verify.specs.Comers.{comers}
