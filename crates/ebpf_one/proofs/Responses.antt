@@ -12,6 +12,7 @@ use Rattle.ebpf_command.specs.Input.{read_of}
 use Rattle.ebpf_command.specs.Judging.{IsJudged}
 use Rattle.ebpf_command.specs.Response.{Response}
 use Rattle.ebpf_command.proofs.Written.{CutsLong}
+use Rattle.ebpf_one.specs.declared.form.Form.{Form}
 use Rattle.ebpf_one.specs.Asked.{Asked, asked_for, bytes_in, input_fault, fault_of}
 use Rattle.ebpf_one.specs.ExplainText.{ExplainsTo, ExplainsAsked, ExplainsBytes, ExplainsDecoded}
 use Rattle.ebpf_one.specs.LayOutText.{LaysOut, LaysOutGiven}
@@ -19,11 +20,11 @@ use Rattle.ebpf_one.specs.ListText.{RespondsList, RespondsGiven}
 use Rattle.ebpf_one.specs.OneText.{Responds, RespondsAsked, RespondsBytes, RespondsJudged, AreGiven}
 
 -- an input that is too long is S1, whatever it holds
-input_fault_long : (input : List ℕ) → 1048576 < length input → input_fault input ≡ Some S1
-input_fault_long input long = rw (lt-ltb 1048576 (length input) long) refl
+input_fault_long : (form : Form) (input : List ℕ) → 1048576 < length input → input_fault form input ≡ Some S1
+input_fault_long form input long = rw (lt-ltb 1048576 (length input) long) refl
 
-fault_of_long : (input context : List ℕ) (held : ℕ) → 1048576 < length input → fault_of input context held ≡ Some S1
-fault_of_long input context held long = rw (lt-ltb 1048576 (length input) long) refl
+fault_of_long : (form : Form) (input context : List ℕ) (held : ℕ) → 1048576 < length input → fault_of form input context held ≡ Some S1
+fault_of_long form input context held long = rw (lt-ltb 1048576 (length input) long) refl
 
 -- the responses to an input by the fault that it has
 abbrev RespondsBy : Type 1
@@ -37,13 +38,13 @@ cuts_at fault Responds is_long same input response long h =
     subst (λ (f : Option FaultCode). Responds f input response) (sym (is_long input (omega (arith, long)))) (same (read_of input) input response of_beginning)
 
 -- so `one` responds to an input that is too long as to its beginning
-pub one_cuts : (context : List ℕ) (held : ℕ) (nulls : Bool) → CutsLong (Responds context held nulls)
-one_cuts context held nulls =
-    cuts_at (λ input. fault_of input context held) (λ f input response. RespondsAsked f (asked_for input context held) nulls response) (λ input long. fault_of_long input context held long) (λ a b response h. h)
+pub one_cuts : (form : Form) (context : List ℕ) (held : ℕ) (nulls : Bool) → CutsLong (Responds form context held nulls)
+one_cuts form context held nulls =
+    cuts_at (λ input. fault_of form input context held) (λ f input response. RespondsAsked f (asked_for form input context held) nulls response) (λ input long. fault_of_long form input context held long) (λ a b response h. h)
 
 -- and so does `list`
-pub list_cuts : CutsLong RespondsList
-list_cuts = cuts_at input_fault (λ f input response. RespondsGiven f (bytes_in input) response) input_fault_long (λ a b response h. h)
+pub list_cuts : (form : Form) → CutsLong (RespondsList form)
+list_cuts form = cuts_at (input_fault form) (λ f input response. RespondsGiven f (bytes_in form input) response) (input_fault_long form) (λ a b response h. h)
 
 -- the bytes of a request are judged to be this, to which this is the response
 pub response_of_judged : (a : Asked) (seen : List ℕ) (decl : Decl) (rows : List KindRow) (was judged : Judged) (nulls : Bool) (response : Response) → seen ≡ a.bytes → AreGiven a decl rows → IsJudged seen decl rows was → was ≡ judged → RespondsJudged judged a.context nulls response → RespondsBytes a nulls response
@@ -51,15 +52,15 @@ response_of_judged a seen decl rows was judged nulls response same given is e h 
     (decl, rows, judged, given, subst (λ (j : Judged). IsJudged a.bytes decl rows j) e (subst (λ (bytes : List ℕ). IsJudged bytes decl rows was) same is), h)
 
 -- the response to the bytes that an input asks for is the response to the input
-pub Responds-asked : (input context : List ℕ) (held : ℕ) (nulls : Bool) (a : Asked) (response : Response) → fault_of input context held ≡ None → a ≡ asked_for input context held → RespondsBytes a nulls response → Responds context held nulls input response
-Responds-asked input context held nulls a response fine same h =
-    let P : Option FaultCode → Type 0 = λ f. RespondsAsked f (asked_for input context held) nulls response in
+pub Responds-asked : (form : Form) (input context : List ℕ) (held : ℕ) (nulls : Bool) (a : Asked) (response : Response) → fault_of form input context held ≡ None → a ≡ asked_for form input context held → RespondsBytes a nulls response → Responds form context held nulls input response
+Responds-asked form input context held nulls a response fine same h =
+    let P : Option FaultCode → Type 0 = λ f. RespondsAsked f (asked_for form input context held) nulls response in
     subst P (sym fine) (subst (λ (x : Asked). RespondsBytes x nulls response) same h)
 
 -- and so does `explain`
-pub explain_cuts : (context : List ℕ) (held : ℕ) → CutsLong (ExplainsTo context held)
-explain_cuts context held =
-    cuts_at (λ input. fault_of input context held) (λ f input response. ExplainsAsked f input context held response) (λ input long. fault_of_long input context held long) (λ a b response h. h)
+pub explain_cuts : (form : Form) (context : List ℕ) (held : ℕ) → CutsLong (ExplainsTo form context held)
+explain_cuts form context held =
+    cuts_at (λ input. fault_of form input context held) (λ f input response. ExplainsAsked f form input context held response) (λ input long. fault_of_long form input context held long) (λ a b response h. h)
 
 -- what the bytes of a request are explained to be
 pub explained_bytes : (a : Asked) (seen : List ℕ) (decl : Decl) (rows : List KindRow) (response : Response) → seen ≡ a.bytes → AreGiven a decl rows → ExplainsDecoded (decode_fault seen) seen decl rows response → ExplainsBytes a response
@@ -67,11 +68,11 @@ explained_bytes a seen decl rows response same given h =
     (decl, rows, given, subst (λ (bytes : List ℕ). ExplainsDecoded (decode_fault bytes) bytes decl rows response) same h)
 
 -- what the bytes that an input asks for are explained to be is what the input is
-pub Explains-asked : (input context : List ℕ) (held : ℕ) (a : Asked) (response : Response) → fault_of input context held ≡ None → a ≡ asked_for input context held → ExplainsBytes a response → ExplainsTo context held input response
-Explains-asked input context held a response fine same h =
-    let P : Option FaultCode → Type 0 = λ f. ExplainsAsked f input context held response in
+pub Explains-asked : (form : Form) (input context : List ℕ) (held : ℕ) (a : Asked) (response : Response) → fault_of form input context held ≡ None → a ≡ asked_for form input context held → ExplainsBytes a response → ExplainsTo form context held input response
+Explains-asked form input context held a response fine same h =
+    let P : Option FaultCode → Type 0 = λ f. ExplainsAsked f form input context held response in
     subst P (sym fine) (subst (λ (x : Asked). ExplainsBytes x response) same h)
 
 -- and so does `lay-out`
-pub lay_out_cuts : CutsLong LaysOut
-lay_out_cuts = cuts_at input_fault (λ f input response. LaysOutGiven f (bytes_in input) response) input_fault_long (λ a b response h. h)
+pub lay_out_cuts : (form : Form) → CutsLong (LaysOut form)
+lay_out_cuts form = cuts_at (input_fault form) (λ f input response. LaysOutGiven f (bytes_in form input) response) (input_fault_long form) (λ a b response h. h)

@@ -27,6 +27,7 @@ use Rattle.ebpf_command.specs.Codes.{refusal_name}
 use Rattle.ebpf_command.specs.Lines.{fault_line}
 use Rattle.ebpf_command.specs.Response.{Response, refused_response, clean_response}
 use Rattle.ebpf_command.specs.Writing.{Responding}
+use Rattle.ebpf_one.specs.declared.form.Form.{Form}
 use Rattle.ebpf_one.specs.Asked.{Asked, asked_for, fault_of}
 use Rattle.ebpf_one.specs.InputFaults.{fault_sentence}
 use Rattle.ebpf_one.specs.Lines.{refused_line, accepted_line}
@@ -68,10 +69,10 @@ ExplainsBytes a response =
     (decl : Decl) × (rows : List KindRow) × AreGiven a decl rows × ExplainsDecoded (decode_fault a.bytes) a.bytes decl rows response
 
 -- the input or an option can't be used, and why, or bytes are asked for
-abbrev pub ExplainsAsked : Option FaultCode → (input context : List ℕ) (held : ℕ) → Response → Type 0
-ExplainsAsked (Some code) input context held response = response ≡ refused_response (fault_line code 0 ++ fault_sentence input context held code)
-ExplainsAsked None input context held response = ExplainsBytes (asked_for input context held) response
+abbrev pub ExplainsAsked : Option FaultCode → (form : Form) (input context : List ℕ) (held : ℕ) → Response → Type 0
+ExplainsAsked (Some code) form input context held response = response ≡ refused_response (fault_line code 0 ++ fault_sentence form input context held code)
+ExplainsAsked None form input context held response = ExplainsBytes (asked_for form input context held) response
 
--- the response of `explain` by the context's text and the most objects to hold
-abbrev pub ExplainsTo : List ℕ → ℕ → Responding
-ExplainsTo context held input response = ExplainsAsked (fault_of input context held) input context held response
+-- the response of `explain` by the form of the input, the context's text and the most objects to hold
+abbrev pub ExplainsTo : Form → List ℕ → ℕ → Responding
+ExplainsTo form context held input response = ExplainsAsked (fault_of form input context held) form input context held response

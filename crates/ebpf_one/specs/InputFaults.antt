@@ -9,7 +9,9 @@ use Rattle.ebpf_command.specs.declared.done.FaultCode.TheVariants.{S1, S4, S5}
 use Rattle.ebpf_command.specs.HexText.{hex_or_dash}
 use Rattle.ebpf_one.specs.declared.input_faults.Part.{Part}
 use Rattle.ebpf_one.specs.declared.input_faults.Part.TheVariants.{Input, Context}
-use Rattle.ebpf_one.specs.ProgramText.{is_blank, program_bytes}
+use Rattle.ebpf_one.specs.declared.form.Form.{Form}
+use Rattle.ebpf_one.specs.declared.form.Form.TheVariants.{Hex, Raw}
+use Rattle.ebpf_one.specs.ProgramText.{is_blank, spelled}
 
 abbrev pub part_name : Part → List ℕ
 part_name Input = codes "input"
@@ -31,7 +33,7 @@ shown_byte byte = if is_ascii_graphic byte then byte ∷ [] else codes "0x" ++ h
 -- how it is mended: bytes that don't print are likely to be those of the program
 abbrev pub mending_of : Part → ℕ → List ℕ
 mending_of Context byte = codes "leave out 0x, commas and blanks"
-mending_of Input byte = if is_ascii_graphic byte then codes "leave out 0x and commas" else codes "xxd -p makes hex of the bytes of a program"
+mending_of Input byte = if is_ascii_graphic byte then codes "leave out 0x and commas" else codes "--raw reads the bytes of a program, and xxd -p makes hex of them"
 
 abbrev pub other_byte : Part → ℕ → ℕ → List ℕ
 other_byte part place byte =
@@ -61,15 +63,20 @@ abbrev pub too_much : (context : List ℕ) (held : ℕ) → List ℕ
 too_much context held = if nat_lt 64 held then too_many_held held else long_context (length (unwrap_or (hex_or_dash context) []))
 
 -- the input is no hex, or else the context is none
-abbrev pub unread_of : (input context : List ℕ) → List ℕ
-unread_of input context = if is_none (program_bytes input) then unread Input input else unread Context context
+abbrev pub unread_of : Form → (input context : List ℕ) → List ℕ
+unread_of form input context = if is_none (spelled form input) then unread Input input else unread Context context
+
+-- what a slot takes of the input
+abbrev pub slot_size : Form → List ℕ
+slot_size Hex = codes "16 hex digits"
+slot_size Raw = codes "8 bytes"
 
 -- by the first code that applies; no other is given to an input and options
-abbrev pub fault_words : (input context : List ℕ) (held : ℕ) → FaultCode → List ℕ
-fault_words input context held S1 = codes "the input has more than 1048576 bytes: a program has at most 4096 slots, each of 16 hex digits"
-fault_words input context held S4 = too_much context held
-fault_words input context held S5 = unread_of input context
-fault_words input context held _ = []
+abbrev pub fault_words : Form → (input context : List ℕ) (held : ℕ) → FaultCode → List ℕ
+fault_words form input context held S1 = codes "the input has more than 1048576 bytes: a program has at most 4096 slots, each of " ++ slot_size form
+fault_words form input context held S4 = too_much context held
+fault_words form input context held S5 = unread_of form input context
+fault_words form input context held _ = []
 
-abbrev pub fault_sentence : (input context : List ℕ) (held : ℕ) → FaultCode → List ℕ
-fault_sentence input context held code = codes "  " ++ (fault_words input context held code ++ codes "\n")
+abbrev pub fault_sentence : Form → (input context : List ℕ) (held : ℕ) → FaultCode → List ℕ
+fault_sentence form input context held code = codes "  " ++ (fault_words form input context held code ++ codes "\n")

@@ -19,6 +19,7 @@ use Rattle.ebpf_command.specs.Codes.{refusal_name, flow_name}
 use Rattle.ebpf_command.specs.Lines.{fault_line}
 use Rattle.ebpf_command.specs.Response.{Response, refused_response, clean_response}
 use Rattle.ebpf_command.specs.Writing.{Responding}
+use Rattle.ebpf_one.specs.declared.form.Form.{Form}
 use Rattle.ebpf_one.specs.Asked.{bytes_in, input_fault}
 use Rattle.ebpf_one.specs.Lines.{refused_line}
 
@@ -63,6 +64,6 @@ abbrev pub LaysOutGiven : Option FaultCode → List ℕ → Response → Type 0
 LaysOutGiven (Some code) bytes response = response ≡ refused_response (fault_line code 0)
 LaysOutGiven None bytes response = LaysOutDecoded (decode_fault bytes) bytes response
 
--- the response of `lay-out` to an input
-abbrev pub LaysOut : Responding
-LaysOut input response = LaysOutGiven (input_fault input) (bytes_in input) response
+-- the response of `lay-out` to an input of a form
+abbrev pub LaysOut : Form → Responding
+LaysOut form input response = LaysOutGiven (input_fault form input) (bytes_in form input) response

@@ -17,6 +17,7 @@ ghost use Rattle.ebpf_one.specs.InputFaults.{fault_sentence};
 ghost use Rattle.ebpf_one.specs.Lines.{refused_line};
 ghost use Rattle.ebpf_one.specs.ExplainText.{ExplainsTo, ExplainsBytes, ExplainsDecoded, ExplainsFlow, explained, misled_response};
 
+use crate::form::Form;
 use crate::input_faults::write_fault_sentence;
 use crate::request::{Request, requested};
 use crate::text::refused_line;
@@ -40,7 +41,7 @@ use ebpf_verify::trace::trace_verdict;
 use std::alloc::{AllocError, Global};
 use std::io::{Read, Write};
 
-/// Reads a program as hex and writes what is known before each of its instructions, up to the one that is refused, and then
+/// Reads a program in a form and writes what is known before each of its instructions, up to the one that is refused, and then
 /// the verdict. The program isn't run. The options are those of [`crate::one::one`].
 ///
 /// # Errors
@@ -50,27 +51,34 @@ pub fn explain<R: Read, W: Write>(
     alloc: Global,
     reader: &mut R,
     writer: &mut W,
+    form: Form,
     context: &str,
     held: u8,
 ) -> Result<Done, EngineFault>
     // The text of the input and the options is written, and nothing else.
-    ensures response { Writes (ExplainsTo context.now held) (R.remaining reader.old) (W.contents writer.old) (W.contents writer.new) result }
+    ensures response { Writes (ExplainsTo form context.now held) (R.remaining reader.old) (W.contents writer.old) (W.contents writer.new) result }
     ensures consumed { Reads (R.remaining reader.old) (R.remaining reader.new) result }
     ensures untouched { IfErr result (λ fault. fault ≢ Output → writer.new ≡ writer.old) }
-    ensures beginning { WritesBeginning (ExplainsTo context.now held) (R.remaining reader.old) (W.contents writer.old) (W.contents writer.new) result }
+    ensures beginning { WritesBeginning (ExplainsTo form context.now held) (R.remaining reader.old) (W.contents writer.old) (W.contents writer.new) result }
 {
     respond(alloc, reader, writer, |input| {
-        explain_input(alloc, input, context, held)
+        explain_input(alloc, form, input, context, held)
     })
 }
 
 // The response to an input and the options.
-fn explain_input(alloc: Global, input: &[u8], context: &str, held: u8) -> Result<Answer, AllocError>
-    ensures { IfOk result (ExplainsTo context.now held input.now) }
+fn explain_input(
+    alloc: Global,
+    form: Form,
+    input: &[u8],
+    context: &str,
+    held: u8,
+) -> Result<Answer, AllocError>
+    ensures { IfOk result (ExplainsTo form context.now held input.now) }
 {
-    match requested(alloc, input, context, held) {
+    match requested(alloc, form, input, context, held) {
         Ok(request) => explain_request(alloc, request),
-        Err(Stop::Fault(code)) => answer_unused(alloc, input, context, held, code),
+        Err(Stop::Fault(code)) => answer_unused(alloc, form, input, context, held, code),
         Err(Stop::NoMemory) => Err(AllocError),
     }
 }
@@ -78,15 +86,16 @@ fn explain_input(alloc: Global, input: &[u8], context: &str, held: u8) -> Result
 // The answer to an input and options that can't be used.
 fn answer_unused(
     alloc: Global,
+    form: Form,
     input: &[u8],
     context: &str,
     held: u8,
     code: FaultCode,
 ) -> Result<Answer, AllocError>
-    ensures { IfOk result (λ answer. answer ≡ refused_response (fault_line code 0 ++ fault_sentence input.now context.now held code)) }
+    ensures { IfOk result (λ answer. answer ≡ refused_response (fault_line code 0 ++ fault_sentence form input.now context.now held code)) }
 {
     let mut text = fault_line(alloc, code, 0)?;
-    write_fault_sentence(alloc, &mut text, input, context, held, code)?;
+    write_fault_sentence(alloc, &mut text, form, input, context, held, code)?;
     Ok(Answer {
         text,
         done: Done::Refused,

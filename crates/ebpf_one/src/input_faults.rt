@@ -2,9 +2,10 @@
 
 ghost use Rattle.std.specs.Prelude.{◌≡◌, ◌++◌, length, filter, string_bytes, OnOk};
 ghost use Rattle.hex.specs.Hex.{is_hex_digit};
-ghost use Rattle.ebpf_one.specs.InputFaults.{part_name, may_stand, place_of_other, shown_byte, mending_of, other_byte, unread, unread_of, too_much, fault_words, fault_sentence};
+ghost use Rattle.ebpf_one.specs.InputFaults.{part_name, may_stand, place_of_other, shown_byte, mending_of, other_byte, unread, unread_of, slot_size, too_much, fault_words, fault_sentence};
 
-use crate::program_text::{is_blank, program_bytes};
+use crate::form::Form;
+use crate::program_text::{is_blank, spelled};
 use ebpf_command::done::FaultCode;
 use ebpf_command::hex_text::hex_or_dash;
 use ebpf_verify::decl::MAX_HELD;
@@ -24,15 +25,16 @@ pub(crate) enum Part {
 pub(crate) fn write_fault_sentence(
     alloc: Global,
     text: &mut String,
+    form: Form,
     input: &[u8],
     context: &str,
     held: u8,
     code: FaultCode,
 ) -> Result<(), AllocError>
-    ensures { OnOk result (string_bytes text.new ≡ string_bytes text.old ++ fault_sentence input.now context.now held code) }
+    ensures { OnOk result (string_bytes text.new ≡ string_bytes text.old ++ fault_sentence form input.now context.now held code) }
 {
     text.push_str("  ")?;
-    write_words(alloc, text, input, context, held, code)?;
+    write_words(alloc, text, form, input, context, held, code)?;
     text.push_str("\n")
 }
 
@@ -40,20 +42,34 @@ pub(crate) fn write_fault_sentence(
 fn write_words(
     alloc: Global,
     text: &mut String,
+    form: Form,
     input: &[u8],
     context: &str,
     held: u8,
     code: FaultCode,
 ) -> Result<(), AllocError>
-    ensures { OnOk result (string_bytes text.new ≡ string_bytes text.old ++ fault_words input.now context.now held code) }
+    ensures { OnOk result (string_bytes text.new ≡ string_bytes text.old ++ fault_words form input.now context.now held code) }
 {
     match code {
-        FaultCode::S1 => text.push_str(
-            "the input has more than 1048576 bytes: a program has at most 4096 slots, each of 16 hex digits",
-        ),
+        FaultCode::S1 => {
+            text.push_str(
+                "the input has more than 1048576 bytes: a program has at most 4096 slots, each of ",
+            )?;
+            text.push_str(slot_size(form))
+        }
         FaultCode::S4 => write_too_much(alloc, text, context, held),
-        FaultCode::S5 => write_unread_of(alloc, text, input, context),
+        FaultCode::S5 => write_unread_of(alloc, text, form, input, context),
         _ => Ok(()),
+    }
+}
+
+// What a slot takes of the input.
+fn slot_size(form: Form) -> &'static str
+    ensures { result.now ≡ slot_size form }
+{
+    match form {
+        Form::Hex => "16 hex digits",
+        Form::Raw => "8 bytes",
     }
 }
 
@@ -84,12 +100,13 @@ fn write_too_much(
 fn write_unread_of(
     alloc: Global,
     text: &mut String,
+    form: Form,
     input: &[u8],
     context: &str,
 ) -> Result<(), AllocError>
-    ensures { OnOk result (string_bytes text.new ≡ string_bytes text.old ++ unread_of input.now context.now) }
+    ensures { OnOk result (string_bytes text.new ≡ string_bytes text.old ++ unread_of form input.now context.now) }
 {
-    match program_bytes(alloc, input)? {
+    match spelled(alloc, form, input)? {
         Some(_) => write_unread(text, Part::Context, context.as_bytes()),
         None => write_unread(text, Part::Input, input),
     }
@@ -195,7 +212,7 @@ impl Part {
         match self {
             Part::Context => "leave out 0x, commas and blanks",
             Part::Input if byte.is_ascii_graphic() => "leave out 0x and commas",
-            Part::Input => "xxd -p makes hex of the bytes of a program",
+            Part::Input => "--raw reads the bytes of a program, and xxd -p makes hex of them",
         }
     }
 }

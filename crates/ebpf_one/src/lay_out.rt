@@ -8,6 +8,7 @@ ghost use Rattle.ebpf_command.specs.Writing.{Writes, WritesBeginning, Reads};
 ghost use Rattle.ebpf_one.specs.LayOutText.{LaysOut, LaysOutDecoded, LaysOutProgram, IsHexOf, layout_lines};
 
 use crate::explain::answer_undecoded;
+use crate::form::Form;
 use crate::request::given_bytes;
 use crate::text::refused_line;
 use ebpf_command::answer::{Answer, answer_fault, respond};
@@ -23,7 +24,7 @@ use ebpf_layout::layout::lay_out as lay_out_program;
 use std::alloc::{AllocError, Global};
 use std::io::{Read, Write};
 
-/// Reads a program as hex and writes it as hex with its instructions in an order in which every jump leads forward, without those
+/// Reads a program in a form and writes it as hex with its instructions in an order in which every jump leads forward, without those
 /// that are not reached; or which edge closes a loop, or why the program can't be laid out else.
 ///
 /// # Errors
@@ -33,21 +34,27 @@ pub fn lay_out<R: Read, W: Write>(
     alloc: Global,
     reader: &mut R,
     writer: &mut W,
+    form: Form,
 ) -> Result<Done, EngineFault>
     // A text of the input is written, and nothing else.
-    ensures response { Writes LaysOut (R.remaining reader.old) (W.contents writer.old) (W.contents writer.new) result }
+    ensures response { Writes (LaysOut form) (R.remaining reader.old) (W.contents writer.old) (W.contents writer.new) result }
     ensures consumed { Reads (R.remaining reader.old) (R.remaining reader.new) result }
     ensures untouched { IfErr result (λ fault. fault ≢ Output → writer.new ≡ writer.old) }
-    ensures beginning { WritesBeginning LaysOut (R.remaining reader.old) (W.contents writer.old) (W.contents writer.new) result }
+    ensures beginning { WritesBeginning (LaysOut form) (R.remaining reader.old) (W.contents writer.old) (W.contents writer.new) result }
 {
-    respond(alloc, reader, writer, |input| lay_out_input(alloc, input))
+    respond(
+        alloc,
+        reader,
+        writer,
+        |input| lay_out_input(alloc, form, input),
+    )
 }
 
 // The response to an input.
-fn lay_out_input(alloc: Global, input: &[u8]) -> Result<Answer, AllocError>
-    ensures { IfOk result (LaysOut input.now) }
+fn lay_out_input(alloc: Global, form: Form, input: &[u8]) -> Result<Answer, AllocError>
+    ensures { IfOk result (LaysOut form input.now) }
 {
-    match given_bytes(alloc, input) {
+    match given_bytes(alloc, form, input) {
         Ok(bytes) => lay_out_bytes(alloc, &bytes),
         Err(Stop::Fault(code)) => answer_fault(alloc, code, 0),
         Err(Stop::NoMemory) => Err(AllocError),

@@ -4,12 +4,13 @@
 //! is the contract of [`one::one`], of [`list::list`] and of [`explain::explain`], which stand on the contracts of the crates below. This crate adds
 //! what they ask for, the lines of their texts, and the store of objects of a single run.
 //!
-//! To be read in this order: `program_text`, `request`, `store`, `alone`, `text`, `answer`, `one`, `list`, `input_faults`, `explain`.
+//! To be read in this order: `form`, `program_text`, `request`, `store`, `alone`, `text`, `answer`, `one`, `list`, `input_faults`, `explain`.
 #![tactic(auto)]
 
 mod alone;
 mod answer;
 pub mod explain;
+pub mod form;
 mod input_faults;
 pub mod lay_out;
 pub mod list;

@@ -3,6 +3,7 @@
 ghost use Rattle.std.specs.Prelude.{◌≤◌};
 
 use clap::{Arg, ArgAction, ArgMatches, Command, value_parser};
+use ebpf_one::form::Form;
 use std::alloc::{AllocError, Global};
 
 // Behind the help of the program and of `one`.
@@ -38,11 +39,19 @@ const MAX_REAPS: u32 = 1000;
 
 /// What the command line asks for.
 #[derive(Clone, Copy)]
+pub struct Request<'a> {
+    pub task: Task<'a>,
+    /// The file to read; standard input where there is none.
+    pub file: Option<&'a str>,
+}
+
+/// A command with its options.
+#[derive(Clone, Copy)]
 pub enum Task<'a> {
     One(OneOptions<'a>),
-    List,
+    List(Form),
     Explain(OneOptions<'a>),
-    LayOut,
+    LayOut(Form),
     Check(CheckOptions),
     Replay,
     Run(RunOptions),
@@ -51,6 +60,8 @@ pub enum Task<'a> {
 /// The options of `one` and of `explain`, which runs nothing.
 #[derive(Clone, Copy)]
 pub struct OneOptions<'a> {
+    /// How the input spells the program.
+    pub form: Form,
     /// The context as hex, or `-` for the empty one.
     pub context: &'a str,
     /// The most objects that the program may hold at one time, 0 to 64.
@@ -80,25 +91,28 @@ pub struct RunOptions {
 /// The commands with their options.
 pub fn command<'a>(alloc: Global) -> Result<Command<'a>, AllocError> {
     let one = one_command(alloc)?;
+    let list = list_command(alloc)?;
     let explain = explain_command(alloc)?;
+    let lay_out = lay_out_command(alloc)?;
     let check = check_command(alloc)?;
+    let replay = replay_command(alloc)?;
     let all = Command::new(alloc, "ebpf_run")
         .about("Runs small eBPF programs")
         .version("0.1.0")
         .after_help(ONE_EXAMPLE)
         .subcommand_required(true)
         .subcommand(one)?;
-    all.subcommand(list_command(alloc))?
+    all.subcommand(list)?
         .subcommand(explain)?
-        .subcommand(lay_out_command(alloc))?
+        .subcommand(lay_out)?
         .subcommand(check)?
-        .subcommand(replay_command(alloc))?
+        .subcommand(replay)?
         .subcommand(run_command(alloc)?)
 }
 
 fn one_command<'a>(alloc: Global) -> Result<Command<'a>, AllocError> {
     let one = Command::new(alloc, "one")
-        .about("Runs the program whose hex is on standard input")
+        .about("Runs the program whose hex is in FILE or on standard input")
         .after_help(ONE_EXAMPLE);
     with_options_of_one(alloc, one)
 }
@@ -106,17 +120,36 @@ fn one_command<'a>(alloc: Global) -> Result<Command<'a>, AllocError> {
 fn explain_command<'a>(alloc: Global) -> Result<Command<'a>, AllocError> {
     let explain = Command::new(alloc, "explain")
         .about(
-            "Tells what is known before each instruction of the program whose hex is on standard input, and why it is refused",
+            "Tells what is known before each instruction of the program whose hex is in FILE or on standard input, and why it is refused",
         )
         .after_help(EXPLAIN_EXAMPLE);
     with_options_of_one(alloc, explain)
 }
 
 fn with_options_of_one<'a>(alloc: Global, command: Command<'a>) -> Result<Command<'a>, AllocError> {
-    command
+    let command = command
         .arg(context_option(alloc))?
         .arg(held_option(alloc))?
-        .arg(nulls_option(alloc))
+        .arg(nulls_option(alloc))?;
+    with_program(alloc, command)
+}
+
+// With the file of a program, and the option of its form.
+fn with_program<'a>(alloc: Global, command: Command<'a>) -> Result<Command<'a>, AllocError> {
+    command.arg(raw_option(alloc))?.arg(file_argument(alloc))
+}
+
+fn raw_option<'a>(alloc: Global) -> Arg<'a> {
+    Arg::new(alloc, "raw")
+        .long("raw")
+        .action(ArgAction::SetTrue)
+        .help("Reads the program's bytes as they are, and not as hex")
+}
+
+fn file_argument<'a>(alloc: Global) -> Arg<'a> {
+    Arg::new(alloc, "file").value_name("FILE").help(
+        "The file to read, or - for standard input, as where there is none",
+    )
 }
 
 fn context_option<'a>(alloc: Global) -> Arg<'a> {
@@ -143,25 +176,28 @@ fn nulls_option<'a>(alloc: Global) -> Arg<'a> {
         .help("Answers each call of new with null")
 }
 
-fn list_command<'a>(alloc: Global) -> Command<'a> {
-    Command::new(alloc, "list")
-        .about("Lists the instructions of the program whose hex is on standard input")
-        .after_help(LIST_EXAMPLE)
+fn list_command<'a>(alloc: Global) -> Result<Command<'a>, AllocError> {
+    let list = Command::new(alloc, "list")
+        .about("Lists the instructions of the program whose hex is in FILE or on standard input")
+        .after_help(LIST_EXAMPLE);
+    with_program(alloc, list)
 }
 
-fn lay_out_command<'a>(alloc: Global) -> Command<'a> {
-    Command::new(alloc, "lay-out")
+fn lay_out_command<'a>(alloc: Global) -> Result<Command<'a>, AllocError> {
+    let lay_out = Command::new(alloc, "lay-out")
         .about(
-            "Writes the program whose hex is on standard input in an order in which every jump leads forward",
+            "Writes the program whose hex is in FILE or on standard input in an order in which every jump leads forward",
         )
-        .after_help(LAY_OUT_EXAMPLE)
+        .after_help(LAY_OUT_EXAMPLE);
+    with_program(alloc, lay_out)
 }
 
 fn check_command<'a>(alloc: Global) -> Result<Command<'a>, AllocError> {
     Command::new(alloc, "check")
-        .about("Checks the script on standard input: programs, and jobs that run them")
+        .about("Checks the script in FILE or on standard input: programs, and jobs that run them")
         .after_help(CHECK_EXAMPLE)
-        .arg(explain_option(alloc))
+        .arg(explain_option(alloc))?
+        .arg(file_argument(alloc))
 }
 
 fn explain_option<'a>(alloc: Global) -> Arg<'a> {
@@ -171,17 +207,24 @@ fn explain_option<'a>(alloc: Global) -> Arg<'a> {
         .help("Writes why, under each refused program")
 }
 
-fn replay_command<'a>(alloc: Global) -> Command<'a> {
+fn replay_command<'a>(alloc: Global) -> Result<Command<'a>, AllocError> {
     Command::new(alloc, "replay")
-        .about("Replays the script on standard input: programs, and events over runs of them")
+        .about(
+            "Replays the script in FILE or on standard input: programs, and events over runs of them",
+        )
         .after_help(REPLAY_EXAMPLE)
+        .arg(file_argument(alloc))
 }
 
 fn run_command<'a>(alloc: Global) -> Result<Command<'a>, AllocError> {
     let run = Command::new(alloc, "run")
-        .about("Runs the script on standard input: programs, and jobs that workers do with them")
+        .about(
+            "Runs the script in FILE or on standard input: programs, and jobs that workers do with them",
+        )
         .after_help(RUN_EXAMPLE);
-    run.arg(workers_option(alloc))?.arg(reaps_option(alloc))
+    run.arg(workers_option(alloc))?
+        .arg(reaps_option(alloc))?
+        .arg(file_argument(alloc))
 }
 
 fn workers_option<'a>(alloc: Global) -> Arg<'a> {
@@ -202,23 +245,50 @@ fn reaps_option<'a>(alloc: Global) -> Arg<'a> {
         .help("How many passes the reaper makes beside those of the script, 0 to 1000")
 }
 
-/// The task that the words of the command line ask for, where they are a command.
-pub fn task_of<'a>(matches: &ArgMatches<'a>) -> Option<Task<'a>> {
-    match matches.subcommand() {
-        Some(("one", given)) => Some(Task::One(one_options(given))),
-        Some(("list", _)) => Some(Task::List),
-        Some(("explain", given)) => Some(Task::Explain(one_options(given))),
-        Some(("lay-out", _)) => Some(Task::LayOut),
-        Some(("check", given)) => Some(Task::Check(check_options(given))),
-        Some(("replay", _)) => Some(Task::Replay),
-        Some(("run", given)) => Some(Task::Run(run_options(given)?)),
+/// What the words of the command line ask for, where they are a command.
+pub fn request_of<'a>(matches: &ArgMatches<'a>) -> Option<Request<'a>> {
+    let (name, given) = matches.subcommand()?;
+    Some(Request {
+        task: task_of(name, given)?,
+        file: file_of(given),
+    })
+}
+
+// The command of this name, with the options that are given.
+fn task_of<'a>(name: &str, given: &ArgMatches<'a>) -> Option<Task<'a>> {
+    match name {
+        "one" => Some(Task::One(one_options(given))),
+        "list" => Some(Task::List(form_of(given))),
+        "explain" => Some(Task::Explain(one_options(given))),
+        "lay-out" => Some(Task::LayOut(form_of(given))),
+        "check" => Some(Task::Check(check_options(given))),
+        "replay" => Some(Task::Replay),
+        "run" => Some(Task::Run(run_options(given)?)),
         _ => None,
+    }
+}
+
+// The file that is named; a dash is none.
+fn file_of<'a>(given: &ArgMatches<'a>) -> Option<&'a str> {
+    match given.get_str("file") {
+        Some("-") => None,
+        file => file,
+    }
+}
+
+// How the input spells the program.
+fn form_of(given: &ArgMatches<'_>) -> Form {
+    if given.get_flag("raw") {
+        Form::Raw
+    } else {
+        Form::Hex
     }
 }
 
 // The options of `one`.
 fn one_options<'a>(given: &ArgMatches<'a>) -> OneOptions<'a> {
     OneOptions {
+        form: form_of(given),
         context: given.get_str("context").unwrap_or("-"),
         held: given.get_one::<u8>("held").unwrap_or(0),
         nulls: given.get_flag("nulls"),

@@ -1,6 +1,6 @@
 //! Runs small eBPF programs from the command line.
 //!
-//! This crate reads the command line and has the standard streams. What a command writes is a function of what it reads and
+//! This crate reads the command line, opens the file that is named and has the standard streams. What a command writes is a function of what it reads and
 //! of its options, errors included, and it writes nothing else: that is the contract of [`ebpf_one::one::one`],
 //! [`ebpf_one::list::list`], [`ebpf_one::explain::explain`] and [`ebpf_one::lay_out::lay_out`], of [`ebpf_script::check::check`],
 //! [`ebpf_script::explained_check::explained_check`] and [`ebpf_script::replay::replay`]. What `run` writes is such a
@@ -10,7 +10,7 @@
 
 mod command;
 
-use crate::command::{Task, command, task_of};
+use crate::command::{Request, Task, command, request_of};
 use clap::Error;
 use clap::error::ErrorKind;
 use ebpf_command::done::{Done, EngineFault};
@@ -22,11 +22,16 @@ use ebpf_script::check::check;
 use ebpf_script::explained_check::explained_check;
 use ebpf_script::replay::replay;
 use ebpf_script::run::run as run_script;
+use std::fs::File;
+use std::io::Read;
 use std::process::ExitCode;
-use std::rt::Env;
+use std::rt::{Env, Files};
 use std::sync::Wait;
 use std::thread::Threads;
 use std::{env, io};
+
+// The command could not be done.
+const FAILED: u8 = 1;
 
 // The command line can't be read, or asks for nothing that there is.
 const MISTAKEN: u8 = 2;
@@ -37,13 +42,13 @@ fn main(rt: HostRuntime) -> ExitCode {
         Err(fault) => {
             // Nobody is left to tell where standard error is closed too.
             let _ = eprintln!(rt; "ebpf_run: {fault}");
-            ExitCode::from(1)
+            ExitCode::from(FAILED)
         }
     }
 }
 
 // Does what the command line asks for, and gives the exit status.
-fn run<R: AllocGlobal + Env + Eprint + Input + Print + Threads + Wait + Sync>(
+fn run<R: AllocGlobal + Env + Eprint + Files + Input + Print + Threads + Wait + Sync>(
     rt: &R,
 ) -> Result<u8, EngineFault> {
     let alloc = rt.alloc();
@@ -58,47 +63,64 @@ fn run<R: AllocGlobal + Env + Eprint + Input + Print + Threads + Wait + Sync>(
         Ok(matches) => matches,
         Err(error) => return tell(rt, &error),
     };
-    match task_of(&matches) {
-        Some(task) => perform(rt, task),
+    match request_of(&matches) {
+        Some(request) => serve(rt, request),
         None => Ok(MISTAKEN),
     }
 }
 
-// Does a task on the standard streams, and gives the exit status.
-fn perform<R: AllocGlobal + Input + Print + Threads + Wait + Sync>(
+// Does what is asked for, on the file that is named or on standard input, and gives the exit status.
+fn serve<R: AllocGlobal + Eprint + Files + Input + Print + Threads + Wait + Sync>(
     rt: &R,
+    request: Request<'_>,
+) -> Result<u8, EngineFault> {
+    let Some(path) = request.file else {
+        return perform(rt, &mut rt.reader(), request.task);
+    };
+    match File::open(rt, path) {
+        Ok(file) => {
+            let mut file = file;
+            perform(rt, &mut file, request.task)
+        }
+        Err(error) => tell_unopened(rt, path, &error),
+    }
+}
+
+// Does a task on an input and standard output, and gives the exit status.
+fn perform<R: AllocGlobal + Print + Threads + Wait + Sync, I: Read>(
+    rt: &R,
+    reader: &mut I,
     task: Task<'_>,
 ) -> Result<u8, EngineFault> {
     let alloc = rt.alloc();
-    let mut reader = rt.reader();
     let mut writer = io::writer(rt);
     let done = match task {
         Task::One(options) => one(
             alloc,
-            &mut reader,
+            reader,
             &mut writer,
+            options.form,
             options.context,
             options.held,
             options.nulls,
         ),
-        Task::List => list(alloc, &mut reader, &mut writer),
+        Task::List(form) => list(alloc, reader, &mut writer, form),
         Task::Explain(options) => explain(
             alloc,
-            &mut reader,
+            reader,
             &mut writer,
+            options.form,
             options.context,
             options.held,
         ),
-        Task::LayOut => lay_out(alloc, &mut reader, &mut writer),
-        Task::Check(options) if options.explain => {
-            explained_check(alloc, &mut reader, &mut writer)
-        }
-        Task::Check(_) => check(alloc, &mut reader, &mut writer),
-        Task::Replay => replay(alloc, &mut reader, &mut writer),
+        Task::LayOut(form) => lay_out(alloc, reader, &mut writer, form),
+        Task::Check(options) if options.explain => { explained_check(alloc, reader, &mut writer) }
+        Task::Check(_) => check(alloc, reader, &mut writer),
+        Task::Replay => replay(alloc, reader, &mut writer),
         Task::Run(options) => run_script(
             rt,
             alloc,
-            &mut reader,
+            reader,
             &mut writer,
             options.workers,
             options.reaps,
@@ -108,6 +130,16 @@ fn perform<R: AllocGlobal + Input + Print + Threads + Wait + Sync>(
         Done::Clean => 0,
         Done::Refused => 2,
     })
+}
+
+// Prints why a file can't be opened, and gives the exit status.
+fn tell_unopened<R: Eprint>(rt: &R, path: &str, error: &io::Error) -> Result<u8, EngineFault> {
+    if error.kind() == io::ErrorKind::OutOfMemory {
+        return Err(EngineFault::NoMemory);
+    }
+    // Nobody is left to tell where standard error is closed too.
+    let _ = eprintln!(rt; "ebpf_run: {path}: {error}");
+    Ok(FAILED)
 }
 
 // Prints why the words of the command line can't be read, and gives the exit status.

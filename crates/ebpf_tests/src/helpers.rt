@@ -3,6 +3,7 @@
 use crate::events::is_replayed;
 use crate::programs::{column, holds, is_told};
 use ebpf_command::done::Done;
+use ebpf_one::form::Form;
 use ebpf_one::one::one;
 use std::alloc::Global;
 use std::process::Abort;
@@ -50,7 +51,16 @@ fn is_run(rt: &impl Abort, alloc: Global, row: &str) {
     let nulls = options.contains("--nulls");
     let mut reader = input.as_bytes();
     let mut written = Vec::new(alloc);
-    let done = one(alloc, &mut reader, &mut written, "-", held, nulls).expect(rt, "it is told");
+    let done = one(
+        alloc,
+        &mut reader,
+        &mut written,
+        Form::Hex,
+        "-",
+        held,
+        nulls,
+    )
+    .expect(rt, "it is told");
     let told = str::from_utf8(&written).expect(rt, "it is a text");
     is_told(rt, row, told, expected.as_str());
     let is_refused = told.starts_with("refused ");

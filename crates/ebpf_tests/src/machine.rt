@@ -8,6 +8,7 @@ use crate::range::{
     readings, result,
 };
 use ebpf_insn::insn::{AluOp, Cond, Width};
+use ebpf_one::form::Form;
 use ebpf_one::one::one;
 use std::alloc::Global;
 use std::process::Abort;
@@ -36,7 +37,7 @@ fn is_told_so(rt: &impl Abort, alloc: Global, program: Vec<u8>, told: &str) {
     let text = hex::encode(alloc, program).expect(rt, "out of memory");
     let mut reader = text.as_bytes();
     let mut written = Vec::new(alloc);
-    let done = one(alloc, &mut reader, &mut written, "-", 0, false);
+    let done = one(alloc, &mut reader, &mut written, Form::Hex, "-", 0, false);
     let is_done = done.is_ok();
     holds(rt, told, is_done && written.as_slice() == told.as_bytes());
 }

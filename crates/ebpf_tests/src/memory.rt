@@ -1,6 +1,7 @@
 //! What `one` tells of programs that load and store.
 
 use crate::programs::{column, is_told};
+use ebpf_one::form::Form;
 use ebpf_one::one::one;
 use std::alloc::Global;
 use std::process::Abort;
@@ -32,7 +33,16 @@ fn is_told_so(rt: &impl Abort, alloc: Global, row: &str) {
         .expect(rt, "out of memory");
     let mut reader = input.as_bytes();
     let mut written = Vec::new(alloc);
-    let _ = one(alloc, &mut reader, &mut written, context, 0, false).expect(rt, "it is told");
+    let _ = one(
+        alloc,
+        &mut reader,
+        &mut written,
+        Form::Hex,
+        context,
+        0,
+        false,
+    )
+    .expect(rt, "it is told");
     let told = str::from_utf8(&written).expect(rt, "it is a text");
     is_told(rt, row, told, expected.as_str());
 }

@@ -1,8 +1,12 @@
-//! What `one` and `explain` tell where a caller asks for more held objects than the command line lets through.
+//! What `one` and `explain` tell where a caller asks for more held objects than the command line lets through, and what the
+//! commands over one program tell of raw bytes.
 
 use crate::programs::holds;
 use ebpf_command::done::Done;
 use ebpf_one::explain::explain;
+use ebpf_one::form::Form;
+use ebpf_one::lay_out::lay_out;
+use ebpf_one::list::list;
 use ebpf_one::one::one;
 use std::alloc::Global;
 use std::process::Abort;
@@ -52,7 +56,16 @@ fn is_told_so(rt: &impl Abort, alloc: Global, row: (&str, &str, u8, &str), nulls
     let (input, context, held, told) = row;
     let mut reader = input.as_bytes();
     let mut written = Vec::new(alloc);
-    let done = one(alloc, &mut reader, &mut written, context, held, nulls).expect(rt, "it is told");
+    let done = one(
+        alloc,
+        &mut reader,
+        &mut written,
+        Form::Hex,
+        context,
+        held,
+        nulls,
+    )
+    .expect(rt, "it is told");
     let is_clean = matches!(done, Done::Clean);
     holds(
         rt,
@@ -74,7 +87,10 @@ fn is_explained_so(rt: &impl Abort, alloc: Global, row: (&str, &str, u8, &str)) 
     let (input, context, held, told) = row;
     let mut reader = input.as_bytes();
     let mut written = Vec::new(alloc);
-    let done = explain(alloc, &mut reader, &mut written, context, held).expect(rt, "it is told");
+    let done = explain(alloc, &mut reader, &mut written, Form::Hex, context, held).expect(
+        rt,
+        "it is told",
+    );
     let is_refused = matches!(done, Done::Refused);
     holds(
         rt,
@@ -87,5 +103,44 @@ fn is_explained_so(rt: &impl Abort, alloc: Global, row: (&str, &str, u8, &str)) 
 fn more_than_64_held_is_explained(rt: HostRuntime) {
     for row in EXPLAINED.iter().copied() {
         is_explained_so(&rt, rt.alloc(), row);
+    }
+}
+
+// A program that returns 7, as it is.
+const SEVEN: &[u8] = b"\xb7\0\0\0\x07\0\0\0\x95\0\0\0\0\0\0\0";
+
+// Each command, and what it tells of `SEVEN`.
+static OF_RAW: [(&str, &str); 4] = [
+    ("one", "accepted 2\nexit 7 executed 2 peak 0\n"),
+    ("list", "0: mov64 r0, 7\n1: exit\n"),
+    (
+        "explain",
+        "  r1 context+0  r10 stack+0\n0: mov64 r0, 7\n  r0 7  r1 context+0  r10 stack+0\n1: exit\naccepted 2\n",
+    ),
+    ("lay-out", "b7000000070000009500000000000000\n"),
+];
+
+// Tries a row of it.
+fn is_told_of_raw(rt: &impl Abort, alloc: Global, command: &str, told: &str) {
+    let mut reader = SEVEN;
+    let mut written = Vec::new(alloc);
+    let done = match command {
+        "one" => one(alloc, &mut reader, &mut written, Form::Raw, "-", 0, false),
+        "list" => list(alloc, &mut reader, &mut written, Form::Raw),
+        "explain" => explain(alloc, &mut reader, &mut written, Form::Raw, "-", 0),
+        _ => lay_out(alloc, &mut reader, &mut written, Form::Raw),
+    };
+    let is_clean = matches!(done, Ok(Done::Clean));
+    holds(
+        rt,
+        command,
+        is_clean && written.as_slice() == told.as_bytes(),
+    );
+}
+
+#[test]
+fn raw_bytes_are_read_as_they_are(rt: HostRuntime) {
+    for (command, told) in OF_RAW.iter().copied() {
+        is_told_of_raw(&rt, rt.alloc(), command, told);
     }
 }

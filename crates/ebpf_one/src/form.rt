@@ -1,0 +1,10 @@
+//! How an input spells a program.
+
+/// How an input spells the bytes of a program.
+#[derive(Clone, Copy)]
+pub enum Form {
+    /// As hex digits: blanks may stand anywhere between them.
+    Hex,
+    /// As the bytes themselves, whatever they are.
+    Raw,
+}
