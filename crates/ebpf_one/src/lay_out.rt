@@ -5,6 +5,7 @@ ghost use Rattle.ebpf_insn.specs.Decoding.{decode_fault};
 ghost use Rattle.ebpf_command.specs.declared.done.EngineFault.TheVariants.{Output};
 ghost use Rattle.ebpf_command.specs.Response.{refused_response};
 ghost use Rattle.ebpf_command.specs.Writing.{Writes, WritesBeginning, Reads};
+ghost use Rattle.ebpf_one.specs.Alike.{WritesAsHex};
 ghost use Rattle.ebpf_one.specs.LayOutText.{LaysOut, LaysOutDecoded, LaysOutProgram, IsHexOf, layout_lines};
 
 use crate::explain::answer_undecoded;
@@ -38,6 +39,8 @@ pub fn lay_out<R: Read, W: Write>(
 ) -> Result<Done, EngineFault>
     // A text of the input is written, and nothing else.
     ensures response { Writes (LaysOut form) (R.remaining reader.old) (W.contents writer.old) (W.contents writer.new) result }
+    // Where the input is raw bytes, it is the text of each hex text of them.
+    ensures as_hex { WritesAsHex LaysOut form (R.remaining reader.old) (W.contents writer.old) (W.contents writer.new) result }
     ensures consumed { Reads (R.remaining reader.old) (R.remaining reader.new) result }
     ensures untouched { IfErr result (λ fault. fault ≢ Output → writer.new ≡ writer.old) }
     ensures beginning { WritesBeginning (LaysOut form) (R.remaining reader.old) (W.contents writer.old) (W.contents writer.new) result }

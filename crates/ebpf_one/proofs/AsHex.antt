@@ -1,0 +1,80 @@
+-- The response to raw bytes is the response to each hex text of them.
+use Rattle.std.proofs.Common.{◌≡◌, ℕ, ◌≤◌, ◌*◌, Bool, nat_lt, false, not, List, length, filter, Result, Ok, Err, Option, Some, None, refl, sym, ◌∙◌, subst, arith}
+use Rattle.std.proofs.lemmas.List.Filters.{length-filter_both}
+use Rattle.hex.specs.Hex.{decode_of}
+use Rattle.hex.specs.declared.error.FromHexError.{FromHexError}
+use Rattle.hex.proofs.HexLemmas.{decode_of-ok}
+use Rattle.ebpf_command.specs.declared.done.Done.{Done}
+use Rattle.ebpf_command.specs.declared.done.EngineFault.{EngineFault}
+use Rattle.ebpf_command.specs.declared.done.FaultCode.{FaultCode}
+use Rattle.ebpf_command.specs.HexText.{bytes_or_none}
+use Rattle.ebpf_command.specs.Response.{Response}
+use Rattle.ebpf_command.specs.Writing.{Responding, Writes}
+use Rattle.ebpf_one.specs.declared.form.Form.{Form}
+use Rattle.ebpf_one.specs.declared.form.Form.TheVariants.{Hex, Raw}
+use Rattle.ebpf_one.specs.Alike.{IsHexText, WritesAsHex}
+use Rattle.ebpf_one.specs.Asked.{Asked, asked_for, bytes_in, input_fault, fault_of}
+use Rattle.ebpf_one.specs.LayOutText.{LaysOut, LaysOutGiven}
+use Rattle.ebpf_one.specs.ListText.{RespondsList, RespondsGiven}
+use Rattle.ebpf_one.specs.OneText.{Responds, RespondsAsked}
+use Rattle.ebpf_one.specs.ProgramText.{is_blank, program_bytes}
+use Rattle.ebpf_one.proofs.Digits.{not_above}
+
+-- the bytes are no more than the digits
+bytes_fit : (text bytes : List ℕ) (r : Result (List ℕ) FromHexError) → decode_of text ≡ r → bytes_or_none r ≡ Some bytes → length bytes ≤ length text
+bytes_fit text bytes (Ok read) e some =
+    let same : read ≡ bytes = cc some in
+    let twice = (decode_of-ok text read e).2 in
+    let twice_bytes : length text ≡ 2 * length bytes = rw (← same) twice in
+    omega (arith, twice_bytes)
+bytes_fit text bytes (Err why) e some = absurd cc
+
+-- so the bytes of a text that may be read may be read too
+raw_fits : (hex bytes : List ℕ) → IsHexText hex bytes → length bytes ≤ 1048576
+raw_fits hex bytes is =
+    let kept = length-filter_both is_blank (λ c. not (is_blank c)) (λ c. refl) hex in
+    let few = bytes_fit (filter (λ c. not (is_blank c)) hex) bytes (decode_of (filter (λ c. not (is_blank c)) hex)) refl is.digits in
+    let fits = is.fits in
+    omega (arith, kept, few, fits)
+
+pub same_input_fault : (hex bytes : List ℕ) → IsHexText hex bytes → input_fault Raw bytes ≡ input_fault Hex hex
+same_input_fault hex bytes is =
+    rw (not_above 1048576 (length bytes) (raw_fits hex bytes is), not_above 1048576 (length hex) is.fits, is.digits) refl
+
+pub same_fault : (hex bytes context : List ℕ) (held : ℕ) → IsHexText hex bytes → fault_of Raw bytes context held ≡ fault_of Hex hex context held
+same_fault hex bytes context held is =
+    rw (not_above 1048576 (length bytes) (raw_fits hex bytes is), not_above 1048576 (length hex) is.fits, is.digits) refl
+
+same_bytes : (hex bytes : List ℕ) → IsHexText hex bytes → bytes_in Raw bytes ≡ bytes_in Hex hex
+same_bytes hex bytes is = rw (is.digits) refl
+
+same_asked : (hex bytes context : List ℕ) (held : ℕ) → IsHexText hex bytes → asked_for Raw bytes context held ≡ asked_for Hex hex context held
+same_asked hex bytes context held is = rw (is.digits) refl
+
+-- what is responded to raw bytes is responded to each hex text of them
+abbrev pub AreAlike : (Form → Responding) → Type 0
+AreAlike P = (hex bytes : List ℕ) (response : Response) → IsHexText hex bytes → P Raw bytes response → P Hex hex response
+
+pub one_alike : (context : List ℕ) (held : ℕ) (nulls : Bool) → AreAlike (λ form. Responds form context held nulls)
+one_alike context held nulls hex bytes response is h =
+    subst (λ (f : Option FaultCode). RespondsAsked f (asked_for Hex hex context held) nulls response) (same_fault hex bytes context held is)
+    (subst (λ (a : Asked). RespondsAsked (fault_of Raw bytes context held) a nulls response) (same_asked hex bytes context held is) h)
+
+pub list_alike : AreAlike RespondsList
+list_alike hex bytes response is h =
+    subst (λ (f : Option FaultCode). RespondsGiven f (bytes_in Hex hex) response) (same_input_fault hex bytes is)
+    (subst (λ (xs : List ℕ). RespondsGiven (input_fault Raw bytes) xs response) (same_bytes hex bytes is) h)
+
+pub lay_out_alike : AreAlike LaysOut
+lay_out_alike hex bytes response is h =
+    subst (λ (f : Option FaultCode). LaysOutGiven f (bytes_in Hex hex) response) (same_input_fault hex bytes is)
+    (subst (λ (xs : List ℕ). LaysOutGiven (input_fault Raw bytes) xs response) (same_bytes hex bytes is) h)
+
+-- so what is written of raw bytes is the response to each hex text of them
+pub writes_as_hex : (Responds : Form → Responding) → AreAlike Responds → (form : Form) (input old new : Option (List ℕ)) (result : Result Done EngineFault) → Writes (Responds form) input old new result → WritesAsHex Responds form input old new result
+writes_as_hex Responds alike form input old new result h hex bytes raw given is =
+    of_bytes result (subst (λ (i : Option (List ℕ)). Writes (Responds Raw) i old new result) given (subst (λ (f : Form). Writes (Responds f) input old new result) raw h))
+  where
+    of_bytes : (r : Result Done EngineFault) → Writes (Responds Raw) (Some bytes) old new r → Writes (Responds Hex) (Some hex) old new r
+    of_bytes (Ok done) k = (k.0, alike hex bytes k.0 is k.1, k.2, k.3)
+    of_bytes (Err fault) k = tt
