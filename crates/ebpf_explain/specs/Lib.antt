@@ -11,6 +11,7 @@ pub mod FlowSentences
 pub mod Reads
 pub mod Accesses
 pub mod MemoryFaults
+pub mod Rooms
 pub mod CallFaults
 pub mod Mendings
 pub mod VerifySentences

@@ -1,12 +1,22 @@
 -- What would mend a refused slot, as text.
-use Rattle.std.specs.Prelude.{ℕ, ℤ, pos, List, codes, Option, Some, None}
+use Rattle.std.specs.Prelude.{ℕ, ℤ, pos, negsuc, List, codes, Option, Some, None, unwrap_or}
 use Rattle.ebpf_insn.specs.declared.insn.Insn.{Insn}
 use Rattle.ebpf_insn.specs.declared.insn.Insn.TheVariants as insn
+use Rattle.ebpf_state.specs.declared.kinds.KindRow.{KindRow}
+use Rattle.ebpf_state.specs.StateView.{StateView}
+use Rattle.ebpf_state.specs.States.{register_of}
+use Rattle.ebpf_verify.specs.declared.decl.Decl.{Decl}
+use Rattle.ebpf_verify.specs.declared.decl.TheConstants.{MAX_CONTEXT}
 use Rattle.ebpf_verify.specs.declared.fault.VerifyCode.{VerifyCode}
 use Rattle.ebpf_verify.specs.declared.fault.VerifyCode.TheVariants.{V1, V2, V3, V4, V5, V6, V7, V8, V9, V10, V11, V12, V13, V14, V15, V16, V17, V18, V19}
 use Rattle.ebpf_verify.specs.declared.helper.Helper.{Helper}
 use Rattle.ebpf_verify.specs.declared.helper.Helper.TheVariants.{New, Free, Emit, Swap}
 use Rattle.ebpf_verify.specs.Calls.{helper_of}
+use Rattle.ebpf_explain.specs.declared.accesses.Access.{Access}
+use Rattle.ebpf_explain.specs.declared.rooms.Ends.{Ends}
+use Rattle.ebpf_explain.specs.Accesses.{access_of}
+use Rattle.ebpf_explain.specs.MemoryFaults.{size_behind}
+use Rattle.ebpf_explain.specs.Rooms.{within}
 
 -- the codes of calls refuse calls alone; any other instruction has the number 0
 abbrev pub number_called : Insn → ℤ
@@ -21,23 +31,42 @@ asked_of (Some Emit) = codes "r1 is to be a number"
 asked_of (Some Swap) = codes "r1 is to be a constant 0, 1 or 2, and r2 either 0 or an object of that kind at its first byte"
 asked_of None = codes "look at its arguments"
 
-abbrev pub mending : Insn → VerifyCode → List ℕ
-mending i V1 = codes "set it first (a call unsets r1 to r5, and free what points to its object)"
-mending i V2 = codes "copy it to another register first"
-mending i V3 = codes "move pointers by 64-bit sums with a number, and a stack pointer by a constant"
-mending i V4 = codes "bound the number, and keep within 2^29 bytes of the base"
-mending i V5 = codes "compare numbers, and an answer with 0 alone, by jeq or jne at 64 bits"
-mending i V6 = codes "keep within them"
-mending i V7 = codes "store to each of them first"
-mending i V8 = codes "bound the offset first, or declare a longer context"
-mending i V9 = codes "copy it to the stack first"
-mending i V10 = codes "bound the offset first"
-mending i V11 = codes "compare it first, and use it where it is not 0"
-mending i V12 = codes "store it as eight bytes at a multiple of 8 from r10, and load it so"
-mending i V13 = codes "load and store through r10, r1, an object or a pointer made of them"
-mending i V14 = codes "call 1 (new), 2 (free), 3 (emit) or 4 (swap)"
-mending i V15 = asked_of (helper_of (number_called i))
-mending i V16 = codes "free one, put one onto a shelf, or declare more"
-mending i V17 = codes "free each, or put it onto a shelf, on every path to this slot"
-mending i V18 = codes "return a number"
-mending i V19 = codes "free what one path holds and the other does not, before they meet"
+-- by the code, and of arguments by the helper
+abbrev pub plain_mending : Insn → VerifyCode → List ℕ
+plain_mending i V1 = codes "set it first (a call unsets r1 to r5, and free what points to its object)"
+plain_mending i V2 = codes "copy it to another register first"
+plain_mending i V3 = codes "move pointers by 64-bit sums with a number, and a stack pointer by a constant"
+plain_mending i V4 = codes "bound the number, and keep within 2^29 bytes of the base"
+plain_mending i V5 = codes "compare numbers, and an answer with 0 alone, by jeq or jne at 64 bits"
+plain_mending i V6 = codes "keep within it"
+plain_mending i V7 = codes "store to each of them first"
+plain_mending i V8 = codes "keep within it"
+plain_mending i V9 = codes "copy it to the stack first"
+plain_mending i V10 = codes "keep within it"
+plain_mending i V11 = codes "compare it first, and use it where it is not 0"
+plain_mending i V12 = codes "store it as eight bytes at a multiple of 8 from r10, and load it so"
+plain_mending i V13 = codes "load and store through r10, r1, an object or a pointer made of them"
+plain_mending i V14 = codes "call 1 (new), 2 (free), 3 (emit) or 4 (swap)"
+plain_mending i V15 = asked_of (helper_of (number_called i))
+plain_mending i V16 = codes "free one, put one onto a shelf, or declare more"
+plain_mending i V17 = codes "free each, or put it onto a shelf, on every path to this slot"
+plain_mending i V18 = codes "return a number"
+plain_mending i V19 = codes "free what one path holds and the other does not, before they meet"
+
+-- the bytes of the stack, from the frame pointer
+abbrev pub stack_ends : Ends
+stack_ends = record { low = negsuc 511; high = pos 0 }
+
+-- so many bytes, from the first of them
+abbrev pub ends_of : ℕ → Ends
+ends_of size = record { low = pos 0; high = pos size }
+
+abbrev pub within_object : Access → StateView → List KindRow → List ℕ
+within_object a s rows = within a s (ends_of (unwrap_or (size_behind rows s (register_of s a.base)) 0)) 0
+
+-- what would mend a slot; an access that may be outside of something, by what is known of its base
+abbrev pub mending : Insn → StateView → VerifyCode → Decl → List KindRow → List ℕ
+mending i s V6 decl rows = within (access_of i) s stack_ends 0
+mending i s V8 decl rows = within (access_of i) s (ends_of decl.context) MAX_CONTEXT
+mending i s V10 decl rows = within_object (access_of i) s rows
+mending i s code decl rows = plain_mending i code

@@ -54,4 +54,4 @@ fault i s V19 decl rows = codes "is where paths meet that hold different objects
 -- a line: two blanks, the slot, what it does that it may not, and what would mend it
 abbrev pub verify_sentence : ℕ → Insn → StateView → VerifyCode → Decl → List KindRow → List ℕ
 verify_sentence slot i s code decl rows =
-    codes "  slot " ++ (decimal slot ++ (codes " " ++ (fault i s code decl rows ++ (codes ": " ++ (mending i code ++ codes "\n")))))
+    codes "  slot " ++ (decimal slot ++ (codes " " ++ (fault i s code decl rows ++ (codes ": " ++ (mending i s code decl rows ++ codes "\n")))))

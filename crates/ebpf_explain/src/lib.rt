@@ -8,7 +8,7 @@
 //! function of what is told, defined in specs/.
 //!
 //! To be read in this order: `values`, `registers`, `stack_words`, `references`, `known`, `lost`, `slots`; `hex`,
-//! `decode_sentence`, `flow_sentence`; `reads`, `accesses`, `memory_faults`, `mending`, `call_faults`, `verify_sentence`;
+//! `decode_sentence`, `flow_sentence`; `reads`, `accesses`, `memory_faults`, `rooms`, `mending`, `call_faults`, `verify_sentence`;
 //! `meeting`, `reason`, `why`.
 #![tactic(auto)]
 
@@ -26,6 +26,7 @@ mod reads;
 pub mod reason;
 mod references;
 mod registers;
+mod rooms;
 pub mod slots;
 mod stack_words;
 mod values;

@@ -2,10 +2,10 @@
 
 ghost use Rattle.std.specs.Prelude.{◌≡◌, ◌++◌, string_bytes, OnOk, Some, slice_get};
 ghost use Rattle.std.specs.List.{flat_map};
-ghost use Rattle.ebpf_explain.specs.Lost.{apart_from, first_apart, first_without, headed, is_lost, known_by, known_from, line_with, lost_at, lost_line, lost_words, other_than, place_name, spilled, value_at};
+ghost use Rattle.ebpf_explain.specs.Lost.{apart_from, first_apart, first_without, headed, is_lost, known_by, known_from, line_with, lost_at, lost_line, lost_words, other_than, place_name, value_at};
 ghost use Rattle.ebpf_explain.specs.StackWords.{texts_below};
 ghost use Rattle.ebpf_explain.specs.declared.lost.Place.TheVariants.{Register, Slot};
-ghost use Rattle.ebpf_state.specs.Abstract.{is_unset, joined_value};
+ghost use Rattle.ebpf_state.specs.Abstract.{IsProper, is_unset, joined_value};
 
 use crate::known::REGISTERS;
 use crate::values::write_value;
@@ -138,46 +138,35 @@ fn first_without(place: Place, comers: &[Comer]) -> Option<usize>
         .position(|comer| value_at(place, &comer.state).is_unset())
 }
 
-// The first that comes and knows what can't be joined with a value.
-fn first_apart(place: Place, value: Abs, comers: &[Comer]) -> Option<usize>
-    ensures { result ≡ first_apart place value comers.now }
+// The first that comes and knows what can't be joined with what a state knows.
+fn first_apart(place: Place, state: &State, comers: &[Comer]) -> Option<usize>
+    ensures { result ≡ first_apart place (value_at place state.now) comers.now }
 {
     comers
         .iter()
-        .position(|comer| are_apart(value, value_at(place, &comer.state)))
+        .position(|comer| are_apart(place, state, &comer.state))
 }
 
-// What a state knows of a place.
+// Whether what two states know of a place can't be joined.
+fn are_apart(place: Place, left: &State, right: &State) -> bool
+    ensures { result ≡ is_unset (joined_value (value_at place left.now) (value_at place right.now)) }
+{
+    value_at(place, left)
+        .join(value_at(place, right))
+        .is_unset()
+}
+
+// What a state knows of a place: of a word, what was stored as a whole.
 fn value_at(place: Place, state: &State) -> Abs
-    ensures { result ≡ value_at place state.now }
+    ensures value { result ≡ value_at place state.now }
+    ensures proper { IsProper result }
 {
     match place {
         Place::Register(register) => state.reg(register),
-        Place::Slot(number) => spilled(state.word(number as usize)),
-    }
-}
-
-// What is known of a word that was stored as a whole.
-fn spilled(word: Word) -> Abs
-    ensures { result ≡ spilled word }
-{
-    match word {
-        Word::Spill(value) => value,
-        Word::Bytes(_) => Abs::Unset,
-    }
-}
-
-// Whether two values have nothing in common.
-fn are_apart(left: Abs, right: Abs) -> bool
-    ensures { result ≡ is_unset (joined_value left right) }
-{
-    match (left, right) {
-        (Abs::Num(_), Abs::Num(_)) => false,
-        (Abs::Stk(a), Abs::Stk(b)) => a != b,
-        (Abs::Ctx(_, _), Abs::Ctx(_, _)) => false,
-        (Abs::Ob(r, _, _), Abs::Ob(q, _, _)) => r != q,
-        (Abs::May(r), Abs::May(q)) => r != q,
-        _ => true,
+        Place::Slot(number) => match state.word(number as usize) {
+            Word::Spill(value) => value,
+            Word::Bytes(_) => Abs::Unset,
+        },
     }
 }
 
@@ -201,17 +190,17 @@ fn write_apart(text: &mut String, place: Place, comers: &[Comer]) -> Result<(), 
     let Some(first) = comers.get(0) else {
         return Ok(());
     };
-    let other = other_than(place, value_at(place, &first.state), comers);
+    let other = other_than(place, &first.state, comers);
     write_known_by(text, place, comers, 0)?;
     text.push_str(",")?;
     write_known_by(text, place, comers, other)
 }
 
-// The first that comes and can't be joined with a value, or else the last.
-fn other_than(place: Place, value: Abs, comers: &[Comer]) -> usize
-    ensures { result ≡ other_than place value comers.now }
+// The first that comes and can't be joined with a state there, or else the last.
+fn other_than(place: Place, state: &State, comers: &[Comer]) -> usize
+    ensures { result ≡ other_than place (value_at place state.now) comers.now }
 {
-    match first_apart(place, value, comers) {
+    match first_apart(place, state, comers) {
         Some(other) => other,
         None => comers.len().saturating_sub(1),
     }

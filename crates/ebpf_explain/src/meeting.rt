@@ -4,11 +4,11 @@
 ghost use Rattle.std.specs.Prelude.{◌≡◌, ◌++◌, string_bytes, OnOk, slice_get};
 ghost use Rattle.std.specs.List.{flat_map};
 ghost use Rattle.ebpf_explain.specs.Meeting.{both_paths, coming, held_from, holds_other, meeting_sentence, next_held, pair_text, paths_apart, paths_from};
-ghost use Rattle.ebpf_state.specs.States.{is_same_held};
 
 use crate::references::write_held;
 use ebpf_state::held::Held;
 use ebpf_state::kinds::KindRow;
+use ebpf_state::state::is_same_held;
 use ebpf_verify::comers::Comer;
 use std::alloc::AllocError;
 
@@ -93,13 +93,6 @@ fn holds_other(held: &[Held], comers: &[Comer]) -> Option<usize>
     comers
         .iter()
         .position(|comer| !is_same_held(held, comer.state.references()))
-}
-
-// The same references are held, tested alike.
-fn is_same_held(left: &[Held], right: &[Held]) -> bool
-    ensures { result ≡ is_same_held left.now right.now }
-{
-    left == right
 }
 
 // What comes, and what it holds.

@@ -64,7 +64,7 @@ pub(crate) fn write_outside_object(
 }
 
 // How many bytes the object has that a value points to, where that is known.
-fn size_behind(rows: &[KindRow], state: &State, value: Abs) -> Option<u32>
+pub(crate) fn size_behind(rows: &[KindRow], state: &State, value: Abs) -> Option<u32>
     ensures { result ≡ size_behind rows.now state.now value }
 {
     match value {

@@ -1,15 +1,70 @@
-//! What would mend a refused slot, in words.
+//! What would mend a refused slot, in words. Writing fails only where an allocation fails.
 
-ghost use Rattle.std.specs.Prelude.{◌≡◌};
-ghost use Rattle.ebpf_explain.specs.Mendings.{number_called, asked_of, mending};
+ghost use Rattle.std.specs.Prelude.{◌≡◌, ◌++◌, string_bytes, OnOk};
+ghost use Rattle.ebpf_explain.specs.Mendings.{number_called, asked_of, plain_mending, ends_of, within_object, mending};
 
+use crate::accesses::{Access, access_of};
+use crate::memory_faults::size_behind;
+use crate::rooms::{Ends, write_within};
 use ebpf_insn::insn::Insn;
+use ebpf_state::kinds::KindRow;
+use ebpf_state::state::State;
+use ebpf_verify::decl::{Decl, MAX_CONTEXT};
 use ebpf_verify::fault::VerifyCode;
 use ebpf_verify::helper::{Helper, helper_of};
+use std::alloc::AllocError;
+
+// The bytes of the stack, from the frame pointer.
+const STACK: Ends = Ends { low: -512, high: 0 };
+
+// Writes behind a text what would mend a slot: of an access that may be outside of something, by what is known of its base.
+pub(crate) fn write_mending(
+    text: &mut String,
+    insn: &Insn,
+    state: &State,
+    code: VerifyCode,
+    decl: Decl,
+    rows: &[KindRow],
+) -> Result<(), AllocError>
+    ensures { OnOk result (string_bytes text.new ≡ string_bytes text.old ++ mending insn.now state.now code decl rows.now) }
+{
+    match code {
+        VerifyCode::V6 => write_within(text, access_of(insn), state, STACK, 0),
+        VerifyCode::V8 => {
+            let context = ends_of(decl.context);
+            write_within(text, access_of(insn), state, context, MAX_CONTEXT)
+        }
+        VerifyCode::V10 => write_within_object(text, access_of(insn), state, rows),
+        _ => text.push_str(plain_mending(insn, code)),
+    }
+}
+
+// What mends an access that may be outside of an object.
+fn write_within_object(
+    text: &mut String,
+    access: Access,
+    state: &State,
+    rows: &[KindRow],
+) -> Result<(), AllocError>
+    ensures { OnOk result (string_bytes text.new ≡ string_bytes text.old ++ within_object access state.now rows.now) }
+{
+    let size = size_behind(rows, state, state.reg(access.base)).unwrap_or(0);
+    write_within(text, access, state, ends_of(size), 0)
+}
+
+// So many bytes, from the first of them.
+fn ends_of(size: u32) -> Ends
+    ensures { result ≡ ends_of size }
+{
+    Ends {
+        low: 0,
+        high: size as i64,
+    }
+}
 
 // What would mend a slot that is refused with a code. Only of arguments does it depend on the instruction.
-pub(crate) fn mending(insn: &Insn, code: VerifyCode) -> &'static str
-    ensures { result.now ≡ mending insn.now code }
+fn plain_mending(insn: &Insn, code: VerifyCode) -> &'static str
+    ensures { result.now ≡ plain_mending insn.now code }
 {
     match code {
         VerifyCode::V1 =>
@@ -20,11 +75,9 @@ pub(crate) fn mending(insn: &Insn, code: VerifyCode) -> &'static str
         }
         VerifyCode::V4 => "bound the number, and keep within 2^29 bytes of the base",
         VerifyCode::V5 => "compare numbers, and an answer with 0 alone, by jeq or jne at 64 bits",
-        VerifyCode::V6 => "keep within them",
+        VerifyCode::V6 | VerifyCode::V8 | VerifyCode::V10 => "keep within it",
         VerifyCode::V7 => "store to each of them first",
-        VerifyCode::V8 => "bound the offset first, or declare a longer context",
         VerifyCode::V9 => "copy it to the stack first",
-        VerifyCode::V10 => "bound the offset first",
         VerifyCode::V11 => "compare it first, and use it where it is not 0",
         VerifyCode::V12 => "store it as eight bytes at a multiple of 8 from r10, and load it so",
         VerifyCode::V13 => "load and store through r10, r1, an object or a pointer made of them",

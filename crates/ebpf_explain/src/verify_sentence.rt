@@ -12,7 +12,7 @@ use crate::memory_faults::{
     write_access_with, write_context_written, write_number_as_address, write_outside,
     write_outside_object,
 };
-use crate::mending::{mending, number_called};
+use crate::mending::{number_called, write_mending};
 use crate::reads::{answers_read, first_answer, first_unset, registers_read, write_with_reads};
 use ebpf_insn::insn::Insn;
 use ebpf_insn::register::Reg;
@@ -42,7 +42,7 @@ pub fn write_verify_sentence(
     write!(text, "  slot {slot} ")?;
     write_fault(text, insn, state, code, decl, rows)?;
     text.push_str(": ")?;
-    text.push_str(mending(insn, code))?;
+    write_mending(text, insn, state, code, decl, rows)?;
     text.push_str("\n")
 }
 

@@ -295,8 +295,8 @@ impl State {
     }
 }
 
-// The same references are held, tested alike.
-fn is_same_held(left: &[Held], right: &[Held]) -> bool
+/// Whether two hold the same references, tested alike and in the same order: only then can what is known be joined.
+pub fn is_same_held(left: &[Held], right: &[Held]) -> bool
     ensures { result ≡ is_same_held left.now right.now }
 {
     left == right

@@ -54,8 +54,8 @@ impl Abs {
         }
     }
 
-    /// What is known where two paths meet, one of which knows each.
-    pub(crate) fn join(self, other: Abs) -> Abs
+    /// What is known where two paths meet, one of which knows each: `Unset`, where the two have nothing in common.
+    pub fn join(self, other: Abs) -> Abs
         requires left { IsProper self }
         requires right { IsProper other }
         ensures value { result ≡ joined_value self other }

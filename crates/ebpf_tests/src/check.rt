@@ -69,7 +69,7 @@ program a 0 0 -;program a 0 0 - | fault S6 line 2;";
 // The same of scripts whose refusals are explained.
 const EXPLAINED: &str = "\
 program a 0 0 b7000000070000009500000000000000; | a accepted 2;
-program a 0 0 95;program b 0 0 b7000000070000009500000000000000;program c 4 0 71100400000000009500000000000000;program d 0 0 05000100000000009500000000000000; | a refused I1 0;  there is 1 byte: a program has whole slots of 8 bytes, and one at least;b accepted 2;c refused V8 0;  slot 0 reads 1 byte at [r1+4],  r1 context+0, and the context has 4 bytes: bound the offset first, or declare a longer context;d refused F1 0;  slot 0 jumps +1 slots on, and the program has 2 slots: let it lead to one of them;
+program a 0 0 95;program b 0 0 b7000000070000009500000000000000;program c 4 0 71100400000000009500000000000000;program d 0 0 05000100000000009500000000000000; | a refused I1 0;  there is 1 byte: a program has whole slots of 8 bytes, and one at least;b accepted 2;c refused V8 0;  slot 0 reads 1 byte at [r1+4],  r1 context+0, and the context has 4 bytes: use an offset of 0..3 from r1, or declare a context of 5 bytes;d refused F1 0;  slot 0 jumps +1 slots on, and the program has 2 slots: let it lead to one of them;
 program a 0 0 b7010000000000008500000001000000b7000000000000009500000000000000;run a - | a refused V16 1;  slot 1 asks for an object while 0 are held, as many as the program declares: free one, put one onto a shelf, or declare more;
 program a 0 1 b7010000000000008500000001000000b7000000000000009500000000000000;run a - | a refused V17 3;  slot 3 exits while objects are held,  may hold 1 (cell): free each, or put it onto a shelf, on every path to this slot;";
 
