@@ -1,0 +1,2 @@
+pub mod Stocking
+pub mod ByKind
