@@ -1,5 +1,5 @@
 -- The objects of a machine: a stock of each kind, and what is said of an object of whatever kind there.
-use Rattle.std.specs.Prelude.{◌≡◌, ◌≢◌, ◌+◌, ◌*◌, ℕ, ◌==◌, if◌then◌else◌, [], Option, None, option_map}
+use Rattle.std.specs.Prelude.{◌≡◌, ◌≢◌, ◌+◌, ◌*◌, ℕ, ◌==◌, if◌then◌else◌, List, [], Option, Some, None, option_map}
 use Rattle.run_object.specs.declared.Object.{Object}
 use Rattle.run_object.specs.Object.{kind_of, slot_of, bytes_of}
 use Rattle.ebpf_host.specs.declared.stocks.Stocks.{Stocks}
@@ -41,3 +41,10 @@ standing_on s kind = option_map (renumbered kind) (stock_of s kind).shelf
 -- how many objects of a kind runs hold, counted from one on
 abbrev pub held_of : Stocks → ℕ → ℕ
 held_of s kind = held_count (stock_of s kind)
+
+-- what a call of swap is told: what stands on the shelf, or that nothing does
+abbrev pub StandsThere : Stocks → (shelf slot : ℕ) (bytes : List ℕ) → Type 0
+StandsThere s shelf slot bytes = standing_on s shelf ≡ Some (shelved_at slot bytes)
+
+abbrev pub StandsNone : Stocks → ℕ → Type 0
+StandsNone s shelf = standing_on s shelf ≡ None

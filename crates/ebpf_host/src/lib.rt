@@ -2,4 +2,5 @@
 #![tactic(auto)]
 
 mod stock;
-mod stocks;
+mod store;
+pub mod stocks;

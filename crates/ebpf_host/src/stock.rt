@@ -93,17 +93,17 @@ impl<K: Kind> Stock<K> {
         mem::replace(&mut self.shelf, given)
     }
 
-    /// Gives up the pages that have nothing out, and says how many the arena took.
-    pub(crate) fn reap(&mut self, arena: &mut Arena) -> u32
+    /// Gives the lowest page that has nothing out back to the arena. False where there is no such page; then nothing changed.
+    pub(crate) fn reap(&mut self, arena: &mut Arena) -> bool
         ensures shelf { self.new.shelf ≡ self.old.shelf }
     {
-        let mut pages = 0;
-        while let Some(span) = self.slabs.reap() {
-            if arena.give(span) {
-                pages += 1;
+        match self.slabs.reap() {
+            Some(span) => {
+                arena.give(span);
+                true
             }
+            None => false,
         }
-        pages
     }
 
     /// Ends the stock, with all its objects. Its pages stay out.

@@ -1,6 +1,6 @@
 //! The objects of a machine, of all kinds.
 
-ghost use Rattle.std.specs.Prelude.{◌≡◌, ◌<◌, None, option_map, IfSome, IfNone, length};
+ghost use Rattle.std.specs.Prelude.{◌≡◌, ◌<◌, ℕ, None, option_map, IfSome, IfNone, length};
 ghost use Rattle.ebpf_machine.specs.Kinds.{known_kinds};
 ghost use Rattle.ebpf_machine.specs.World.{image_at};
 ghost use Rattle.run_object.specs.Object.{bytes_of, kind_of, slot_of};
@@ -9,9 +9,9 @@ ghost use Rattle.ebpf_host.specs.Stocks.{Holds, OthersStay, as_shelved, stock_of
 
 use crate::stock::Stock;
 use run_object::{Object, block, cell, record};
-use slab_layer::{BlockKind, CellKind, RecordKind};
+use slab_layer::{BlockKind, CellKind, Kind, RecordKind};
 use std::alloc::Global;
-use vmem_arena::Arena;
+use vmem_arena::{Arena, MAX_PAGES};
 
 /// An arena, and a stock of each kind that gets its pages there. It must be ended.
 pub struct Stocks {
@@ -97,11 +97,19 @@ impl Stocks {
         }
     }
 
-    /// Gives the pages that have nothing out back to the arena, and says how many.
-    pub(crate) fn reap(&mut self) -> u32 {
-        let cells = self.cells.reap(&mut self.arena);
-        let records = self.records.reap(&mut self.arena);
-        cells + records + self.blocks.reap(&mut self.arena)
+    /// Gives the pages that have nothing out back to the arena. What stands on the shelves stays there.
+    pub(crate) fn reap(&mut self)
+        ensures { (kind : ℕ) → (stock_of self.new kind).shelf ≡ (stock_of self.old kind).shelf }
+    {
+        let Stocks {
+            arena,
+            cells,
+            records,
+            blocks,
+        } = self;
+        reap_all(cells, arena);
+        reap_all(records, arena);
+        reap_all(blocks, arena);
     }
 
     /// Ends the stocks, with all their objects.
@@ -115,5 +123,16 @@ impl Stocks {
         cells.end();
         records.end();
         blocks.end();
+    }
+}
+
+// Gives all pages of a stock that have nothing out back to the arena.
+fn reap_all<K: Kind>(stock: &mut Stock<K>, arena: &mut Arena)
+    ensures { stock.new.shelf ≡ stock.old.shelf }
+{
+    for _page in 0..MAX_PAGES {
+        if !stock.reap(arena) {
+            return;
+        }
     }
 }

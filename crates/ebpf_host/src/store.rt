@@ -2,10 +2,9 @@
 
 ghost use Rattle.std.specs.Prelude.{◌≡◌, ◌≢◌, ◌<◌, ◌+◌, ℕ, Option, option_map, IfSome, IfNone, length};
 ghost use Rattle.ebpf_machine.specs.Kinds.{known_kinds};
-ghost use Rattle.ebpf_machine.specs.Store.{Shelved, one_of};
-ghost use Rattle.run_object.specs.Object.{bytes_of, kind_of};
-ghost use Rattle.ebpf_host.specs.Stock.{one_if};
-ghost use Rattle.ebpf_host.specs.Stocks.{Holds, held_of, number_of, renumbered, standing_on};
+ghost use Rattle.run_object.specs.Object.{kind_of};
+ghost use Rattle.ebpf_host.specs.Stock.{Exchanges};
+ghost use Rattle.ebpf_host.specs.Stocks.{Holds, OthersStay, as_shelved, stock_of};
 
 use crate::stocks::Stocks;
 use ebpf_machine::objects::Objects;
@@ -26,7 +25,8 @@ impl<'m, G: Ledger, N: Ledger, F: Ledger, M: Ledger> Objects for Store<'m, G, N,
     ghost use Rattle.std.specs.Prelude.{◌≡◌, ◌≢◌, ◌<◌, ◌+◌, ℕ, length, Option, option_map, IfSome, IfNone};
     ghost use Rattle.ebpf_machine.specs.Kinds.{known_kinds};
     ghost use Rattle.run_object.specs.Object.{kind_of, bytes_of, has_size};
-    ghost use Rattle.ebpf_host.specs.Stocks.{Holds, held_of, number_of, standing_on, shelved_in};
+    ghost use Rattle.ebpf_host.specs.Stock.{Exchanges};
+    ghost use Rattle.ebpf_host.specs.Stocks.{Holds, OthersStay, StandsThere, StandsNone, as_shelved, held_of, number_of, standing_on, stock_of};
 
     type Held = Object;
 
@@ -64,7 +64,17 @@ impl<'m, G: Ledger, N: Ledger, F: Ledger, M: Ledger> Objects for Store<'m, G, N,
         self.stocks.give(object);
     }
 
-    fn swap(&mut self, shelf: u8, given: Option<Object>, _at: u16) -> Option<Object> {
+    // Its clauses are those of the trait in words of this store, since no parameter of such a type takes them from there.
+    fn swap(&mut self, shelf: u8, given: Option<Object>, _at: u16) -> Option<Object>
+        requires shelf { shelf < length known_kinds }
+        requires given { IfSome given (λ g. Holds self.old.stocks.now g × (kind_of g ≡ shelf)) }
+        ensures kind { IfSome result (λ o. kind_of o ≡ shelf) }
+        ensures exchanged { Exchanges (stock_of self.old.stocks.now shelf) (stock_of self.new.stocks.now shelf) (option_map as_shelved given) (option_map as_shelved result) }
+        ensures others { OthersStay self.old.stocks.now self.new.stocks.now shelf }
+        ensures takes { (self.new.grants ≡ self.old.grants) × (self.new.nulls ≡ self.old.nulls) }
+        ensures fetched { IfSome result (λ _. (self.new.gets ≡ self.old.gets + 1) × (self.new.misses ≡ self.old.misses)) }
+        ensures missed { IfNone result ((self.new.misses ≡ self.old.misses + 1) × (self.new.gets ≡ self.old.gets)) }
+    {
         let object = self.stocks.swap(shelf, given);
         if object.is_some() {
             self.gets.add_one();
