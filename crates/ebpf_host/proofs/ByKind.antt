@@ -1,5 +1,5 @@
 -- The stocks of all kinds, where one of them has changed: what is said of any object, of whatever kind.
-use Rattle.std.proofs.Common.{◌≡◌, ◌≢◌, ◌⊎◌, inl, inr, ℕ, ◌+◌, ◌*◌, ◌<◌, ◌==◌, if◌then◌else◌, Option, Some, None, List, length, refl, sym, ap, ◌∙◌, subst, arith}
+use Rattle.std.proofs.Common.{◌≡◌, ◌≢◌, ◌⊎◌, inl, inr, ℕ, ◌+◌, ◌*◌, ◌<◌, ◌==◌, if◌then◌else◌, Bool, true, false, Option, Some, None, List, length, refl, sym, ap, ◌∙◌, subst, arith}
 use Rattle.std.specs.Prelude.{option_map, IfSome, IfNone}
 use Rattle.std.proofs.lemmas.Bool.{cases_eq}
 use Rattle.std.proofs.lemmas.Bool.Decides.{nat_tests}
@@ -10,7 +10,7 @@ use Rattle.run_object.specs.Object.{kind_of, slot_of, bytes_of, has_size}
 use Rattle.ebpf_host.specs.declared.stocks.Stocks.{Stocks}
 use Rattle.ebpf_host.specs.Stock.{StockView, Shelved, IsHeld, Takes, Gives, Exchanges, one_if, held_count, shelved_at}
 use Rattle.ebpf_host.proofs.Stocking.{one_at_most}
-use Rattle.ebpf_host.specs.Stocks.{OthersStay, Holds, as_shelved, number_in, number_of, renumbered, standing_on, stock_of, held_of}
+use Rattle.ebpf_host.specs.Stocks.{OthersStay, Holds, as_shelved, no_stock, number_in, number_of, renumbered, standing_on, stock_of, held_of}
 
 -- ---- numbers
 
@@ -22,6 +22,16 @@ same_slot k l s t few_k few_l same = omega (arith, few_k, few_l, same)
 
 few_kinds : (o : Object) → kind_of o < 3
 few_kinds o = (has_size o).1
+
+-- ---- stocks of all kinds
+
+either : (P : StockView → Type 0) {x y : StockView} (first : P x) (second : P y) (b : Bool) → P (if b then x else y)
+either P first second true = first
+either P first second false = second
+
+-- what is said of each stock is said of that of any number
+pub of_each : (P : StockView → Type 0) (s : Stocks) → P s.cells → P s.records → P s.blocks → P no_stock → (kind : ℕ) → P (stock_of s kind)
+of_each P s cells records blocks none kind = either P cells (either P records (either P blocks none (kind == 2)) (kind == 1)) (kind == 0)
 
 -- ---- one stock has changed
 

@@ -1,2 +1,3 @@
 pub mod Stocking
 pub mod ByKind
+pub mod CutOff

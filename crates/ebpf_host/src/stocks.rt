@@ -13,17 +13,20 @@ use slab_layer::{BlockKind, CellKind, Kind, RecordKind};
 use std::alloc::Global;
 use vmem_arena::{Arena, MAX_PAGES};
 
-/// An arena, and a stock of each kind that gets its pages there. It must be ended.
+/// An arena, and a stock of each kind that gets its pages there. Stocks without an arena are what a machine has while its own are lent
+/// to a run. They must be ended.
 pub struct Stocks {
-    pub(crate) arena: Arena,
+    pub(crate) arena: Option<Arena>,
     pub(crate) cells: Stock<CellKind>,
     pub(crate) records: Stock<RecordKind>,
     pub(crate) blocks: Stock<BlockKind>,
 }
 
 impl Stocks {
-    /// Stocks of an arena, with no objects yet, and nothing on the shelves. It takes no memory.
-    pub(crate) fn new(alloc: Global, arena: Arena) -> Stocks {
+    /// Stocks with no objects yet, and nothing on the shelves. It takes no memory.
+    pub(crate) fn new(alloc: Global, arena: Option<Arena>) -> Stocks
+        ensures { (kind : ℕ) → (stock_of result kind).shelf ≡ None }
+    {
         Stocks {
             arena,
             cells: Stock::new(alloc),
@@ -42,16 +45,25 @@ impl Stocks {
         ensures none { IfNone result (stock_of self.new kind ≡ stock_of self.old kind) }
         ensures others { OthersStay self.old self.new kind }
     {
+        let Stocks {
+            arena,
+            cells,
+            records,
+            blocks,
+        } = self;
+        let Some(arena) = arena else {
+            return None;
+        };
         match kind {
-            0 => match self.cells.take(&mut self.arena) {
+            0 => match cells.take(arena) {
                 Some(object) => Some(Object::Cell(object)),
                 None => None,
             },
-            1 => match self.records.take(&mut self.arena) {
+            1 => match records.take(arena) {
                 Some(object) => Some(Object::Record(object)),
                 None => None,
             },
-            2 => match self.blocks.take(&mut self.arena) {
+            2 => match blocks.take(arena) {
                 Some(object) => Some(Object::Block(object)),
                 None => None,
             },
@@ -107,9 +119,11 @@ impl Stocks {
             records,
             blocks,
         } = self;
-        reap_all(cells, arena);
-        reap_all(records, arena);
-        reap_all(blocks, arena);
+        if let Some(arena) = arena {
+            reap_all(cells, arena);
+            reap_all(records, arena);
+            reap_all(blocks, arena);
+        }
     }
 
     /// Ends the stocks, with all their objects.

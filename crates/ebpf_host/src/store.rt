@@ -12,16 +12,32 @@ use ebpf_machine::tally::Tally;
 use run_object::Object;
 use std::sync::ledger::Ledger;
 
-/// A machine's stocks, lent to a run, with the counts of what the run is answered, which contracts alone see.
-pub struct Store<'m, G: Ledger, N: Ledger, F: Ledger, M: Ledger> {
-    pub(crate) stocks: &'m mut Stocks,
+/// The stocks of a machine, while they are lent to a run, with the counts of what the run is answered, which contracts alone see.
+pub struct Store<G: Ledger, N: Ledger, F: Ledger, M: Ledger> {
+    pub(crate) stocks: Stocks,
     pub(crate) grants: Tally<G>,
     pub(crate) nulls: Tally<N>,
     pub(crate) gets: Tally<F>,
     pub(crate) misses: Tally<M>,
 }
 
-impl<'m, G: Ledger, N: Ledger, F: Ledger, M: Ledger> Objects for Store<'m, G, N, F, M> {
+impl<G: Ledger, N: Ledger, F: Ledger, M: Ledger> Store<G, N, F, M> {
+    /// The stocks, back.
+    pub(crate) fn end(self) -> Stocks
+        ensures { result ≡ self.stocks }
+    {
+        let Store {
+            stocks,
+            grants: _,
+            nulls: _,
+            gets: _,
+            misses: _,
+        } = self;
+        stocks
+    }
+}
+
+impl<G: Ledger, N: Ledger, F: Ledger, M: Ledger> Objects for Store<G, N, F, M> {
     ghost use Rattle.std.specs.Prelude.{◌≡◌, ◌≢◌, ◌<◌, ◌+◌, ℕ, length, Option, option_map, IfSome, IfNone};
     ghost use Rattle.ebpf_machine.specs.Kinds.{known_kinds};
     ghost use Rattle.run_object.specs.Object.{kind_of, bytes_of, has_size};
@@ -35,19 +51,19 @@ impl<'m, G: Ledger, N: Ledger, F: Ledger, M: Ledger> Objects for Store<'m, G, N,
       kinds = known_kinds;
       kind_of = λ o. kind_of o;
       slot_of = λ o. number_of o;
-      is_out = λ s o. Holds s.stocks.now o;
+      is_out = λ s o. Holds s.stocks o;
       bytes_of = λ s o. bytes_of o;
       can_grant = λ s kind at slot. Unit {0};
       can_refuse = λ s kind. Unit {0};
-      can_fetch = λ s shelf slot bytes. StandsThere s.stocks.now shelf slot bytes;
-      can_miss = λ s shelf. StandsNone s.stocks.now shelf;
-      stand = λ s shelf what. what ≡ standing_on s.stocks.now shelf;
+      can_fetch = λ s shelf slot bytes. StandsThere s.stocks shelf slot bytes;
+      can_miss = λ s shelf. StandsNone s.stocks shelf;
+      stand = λ s shelf what. what ≡ standing_on s.stocks shelf;
       can_give = λ s. Unit {0};
       grants = λ s. s.grants;
       nulls = λ s. s.nulls;
       gets = λ s. s.gets;
       misses = λ s. s.misses;
-      outs = λ s kind. held_of s.stocks.now kind;
+      outs = λ s kind. held_of s.stocks kind;
     } };
 
     fn take(&mut self, kind: u8, _at: u16) -> Option<Object> {
@@ -67,10 +83,10 @@ impl<'m, G: Ledger, N: Ledger, F: Ledger, M: Ledger> Objects for Store<'m, G, N,
     // Its clauses are those of the trait in words of this store, since no parameter of such a type takes them from there.
     fn swap(&mut self, shelf: u8, given: Option<Object>, _at: u16) -> Option<Object>
         requires shelf { shelf < length known_kinds }
-        requires given { IfSome given (λ g. Holds self.old.stocks.now g × (kind_of g ≡ shelf)) }
+        requires given { IfSome given (λ g. Holds self.old.stocks g × (kind_of g ≡ shelf)) }
         ensures kind { IfSome result (λ o. kind_of o ≡ shelf) }
-        ensures exchanged { Exchanges (stock_of self.old.stocks.now shelf) (stock_of self.new.stocks.now shelf) (option_map as_shelved given) (option_map as_shelved result) }
-        ensures others { OthersStay self.old.stocks.now self.new.stocks.now shelf }
+        ensures exchanged { Exchanges (stock_of self.old.stocks shelf) (stock_of self.new.stocks shelf) (option_map as_shelved given) (option_map as_shelved result) }
+        ensures others { OthersStay self.old.stocks self.new.stocks shelf }
         ensures takes { (self.new.grants ≡ self.old.grants) × (self.new.nulls ≡ self.old.nulls) }
         ensures fetched { IfSome result (λ _. (self.new.gets ≡ self.old.gets + 1) × (self.new.misses ≡ self.old.misses)) }
         ensures missed { IfNone result ((self.new.misses ≡ self.old.misses + 1) × (self.new.gets ≡ self.old.gets)) }

@@ -6,8 +6,8 @@ use Rattle.ebpf_host.proofs.store.StoreObjects.TheImpl.Goals as goal
 pub swap-tells : goal.swap-tells
 swap-tells g c =
     let e = c.ensures in
-    let old = c.args.self.now.stocks.now in
-    let new = c.new.self.now.stocks.now in
+    let old = c.args.self.now.stocks in
+    let new = c.new.self.now.stocks in
     let kind = c.args.shelf in
     let given = c.args.given in
     let got = c.result in
