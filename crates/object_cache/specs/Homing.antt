@@ -1,12 +1,6 @@
--- Slots that leave slabs and come home to them.
-use Rattle.std.specs.Prelude.{◌≡◌, ◌≢◌, ◌↔◌, ℕ, List, Contains}
+-- Slots that come home to slabs.
+use Rattle.std.specs.Prelude.{◌≡◌, ℕ, List, Contains}
 use Rattle.slab_layer.specs.Slots.{Pages, place_of, IsHome, IsOut}
-
--- one slot is out that wasn't, and of the others the same are
-pub record TakesOut (old new : Pages) (slot : ℕ) : Type 0 where
-  pub was_in : IsOut old slot → ⊥
-  pub out : IsOut new slot
-  pub others : (x : ℕ) → x ≢ slot → IsOut new x ↔ IsOut old x
 
 -- those of these slots that were out are home, and nothing else changed
 pub record SendsHome (old new : Pages) (slots : List ℕ) : Type 0 where

@@ -14,12 +14,12 @@
 ghost use Rattle.std.specs.Prelude.{◌≡◌, ℕ, ◌+◌, ◌/◌, ◌^◌, ◌<◌, ◌≤◌, ◌↔◌, ◌⊎◌, [], ◌∷◌, ◌++◌, length, false, None, Contains, IsTrue, IsSome, IsOk, IfOk, OnOk, OnErr, IfSome, IfNone, MatchOption, IsPermutation};
 ghost use Rattle.vmem_arena.specs.Spans.{AreFree};
 ghost use Rattle.slab_layer.specs.declared.kind.TheConstants.{SLOTS_OF_A_PAGE};
-ghost use Rattle.slab_layer.specs.Slots.{IsHome, IsOut, Has, Moves, out_count, place_of};
+ghost use Rattle.slab_layer.specs.Slots.{IsHome, IsOut, Has, Moves, TakesOut, out_count, place_of};
 ghost use Rattle.slab_layer.specs.declared.place.Place.TheVariants.{Out};
 ghost use Rattle.magazine.specs.LayerView.{rounds_of, IsEmpty};
 ghost use Rattle.object_cache.specs.CacheView.{AreHomes};
 ghost use Rattle.object_cache.specs.Growth.{GrowsBy, KeepsOut};
-ghost use Rattle.object_cache.specs.Homing.{TakesOut, SendsHome};
+ghost use Rattle.object_cache.specs.Homing.{SendsHome};
 
 use crate::arena_lock::ArenaLock;
 use crate::cache::Cache;

@@ -2,3 +2,4 @@ pub mod Selecting
 pub mod Homes
 pub mod Changes
 pub mod Pages
+pub mod Taking

@@ -1,7 +1,7 @@
 -- Slabs as their callers see them: a finite map from slots to home or out. It is kept as a list of pages, by
 -- their number, each with the places of its objects, by their index. A page that isn't had has none. A slot's
 -- number is page * 256 + index.
-use Rattle.std.specs.Prelude.{◌≡◌, ◌≢◌, ℕ, ◌+◌, ◌*◌, ◌/◌, ◌%◌, ◌<◌, ◌≤◌, Bool, true, false, cond, List, [], ◌∷◌, slice_get, slice_index_or, Option, Some, None, IsSome}
+use Rattle.std.specs.Prelude.{◌≡◌, ◌≢◌, ◌↔◌, ℕ, ◌+◌, ◌*◌, ◌/◌, ◌%◌, ◌<◌, ◌≤◌, Bool, true, false, cond, List, [], ◌∷◌, slice_get, slice_index_or, Option, Some, None, IsSome}
 use Rattle.std.specs.List.{list_any}
 use Rattle.slab_layer.specs.declared.place.Place.{Place}
 use Rattle.slab_layer.specs.declared.place.Place.TheVariants.{Home, Out}
@@ -56,3 +56,9 @@ pub record AddsPage (old new : Pages) (page objects : ℕ) : Type 0 where
 pub record RemovesPage (old new : Pages) (page : ℕ) : Type 0 where
   pub removed : (x : ℕ) → x / 256 ≡ page → place_of new x ≡ None
   pub others : (x : ℕ) → x / 256 ≢ page → place_of new x ≡ place_of old x
+
+-- one slot is out that wasn't, and of the others the same are
+pub record TakesOut (old new : Pages) (slot : ℕ) : Type 0 where
+  pub was_in : IsOut old slot → ⊥
+  pub out : IsOut new slot
+  pub others : (x : ℕ) → x ≢ slot → IsOut new x ↔ IsOut old x

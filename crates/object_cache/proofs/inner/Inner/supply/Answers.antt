@@ -1,5 +1,5 @@
 use Rattle.std.proofs.Common.{◌/◌}
-use Rattle.object_cache.proofs.Homes.{takes_grown}
+use Rattle.slab_layer.proofs.Taking.{takes_grown}
 use Rattle.object_cache.proofs.inner.Inner.supply.Goals as goal
 
 pub returns-clause-out : goal.returns-clause-out

@@ -1,0 +1,3 @@
+pub mod Stocking
+pub mod ByKind
+pub mod CutOff

@@ -1,0 +1,23 @@
+use Rattle.std.proofs.Common.{sym, ◌∙◌}
+use Rattle.ebpf_machine.proofs.WholeRuns.Starts.{starts}
+use Rattle.ebpf_machine.proofs.WholeRuns.Told.{under_way}
+use Rattle.ebpf_host.proofs.CutOff.{within}
+use Rattle.ebpf_host.proofs.within.run_within.Goals as goal
+
+pub run-requires-clause-out : goal.run-requires-clause-out
+run-requires-clause-out g c = (starts g.O.Objects.store c.args.objects.now _ _ c.in_ok-run.run' c.in_ok-run.ensures.started (c.in_ok-run.ensures.sound _)).out
+
+pub run-requires-clause-alone : goal.run-requires-clause-alone
+run-requires-clause-alone g c = (starts g.O.Objects.store c.args.objects.now _ _ c.in_ok-run.run' c.in_ok-run.ensures.started (c.in_ok-run.ensures.sound _)).alone
+
+pub returns-clause-report : goal.returns-clause-report
+returns-clause-report g c =
+    let o = g.O.Objects.store in
+    let end = c.end.ensures in
+    let start = starts o c.args.objects.now _ _ c.in_ok-run.run' c.in_ok-run.ensures.started (c.in_ok-run.ensures.sound _) in
+    let was = under_way o _ _ _ _ _ _ c.in_ok-run.run' c.run.new.self g.met.O.Objects.has_size (c.requires.kinds ∙ sym c.args.program.now.kinds) start c.run.ensures.turns.turns in
+    within o _ _ _ _ c.args.limit c.in_ok-run.run' c.run.new.self c.end.result.0 c.in_ok-run.ensures.started was c.run.ensures.turns (record {
+      finished = record { exit = end.exit; executed = end.executed; answers = end.answers; taken = end.taken; bounded = end.bounded; declared = end.declared; alone = end.alone };
+      output = end.output;
+      given_up = end.given_up;
+    })

@@ -1,0 +1,4 @@
+pub mod Stock
+pub mod Stocks
+pub mod Reports
+pub mod Loading

@@ -1,0 +1,20 @@
+//! Programs in a host's own process, one run at a time.
+//!
+//! A host loads a [`program::Program`] once and runs it any number of times on a [`machine::Machine`], which has the memory of runs and
+//! the objects that programs take. Nothing here starts a thread or takes a lock: a host that wants several runs at a time has a
+//! machine for each.
+//!
+//! What it promises: a loaded program is one that the verifier accepts, and a refusal is the verdict with its sentence; a report is that
+//! of the program alone with the answers that its calls got, whatever ran on the machine before; a run within a limit does as many
+//! instructions as it says. It stands on this: the store of a machine keeps the laws of `Objects` of ebpf_machine.
+//!
+//! To be read in this order: `refusal`, `program`, `stock`, `stocks`, `store`, `within`, `machine`.
+#![tactic(auto)]
+
+pub mod machine;
+pub mod program;
+pub mod refusal;
+mod stock;
+pub mod stocks;
+mod store;
+mod within;

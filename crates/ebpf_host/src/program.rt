@@ -1,0 +1,61 @@
+//! A program that a host has loaded.
+
+ghost use Rattle.std.specs.Prelude.{◌≡◌, IfOk, IfErr};
+ghost use Rattle.ebpf_machine.specs.Kinds.{known_kinds};
+ghost use Rattle.ebpf_machine.specs.World.{kinds_of};
+ghost use Rattle.ebpf_host.specs.Loading.{IsLoaded, IsLoadFault, IsRefusedAs, IsJudgedWith};
+ghost use Rattle.ebpf_verify.specs.Verdict.{AreRows};
+
+use crate::refusal::{LoadFault, Refusal};
+use ebpf_command::codes::RefusalCode;
+use ebpf_command::judge::{Judged, judge};
+use ebpf_explain::why::write_why;
+use ebpf_state::kinds::kinds;
+use ebpf_verify::decl::Decl;
+use ebpf_verify::verified::Verified;
+use std::alloc::{AllocError, Global};
+
+/// A program of which no run traps, judged once, to be run any number of times. Only [`Program::load`] makes one.
+#[derive(Drop)]
+pub struct Program {
+    pub(crate) verified: Verified,
+    ghost kinds: { kinds_of verified.rows ≡ known_kinds },
+}
+
+impl Program {
+    /// Loads the raw instruction slots of a program, eight bytes each, to be run on contexts of this many bytes, 0 to 4,096, with
+    /// at most so many objects held at one time, 0 to 64.
+    ///
+    /// # Errors
+    /// `Declaration` where one of the two numbers is too large; `Refused` where the bytes are no program of which no run traps; `NoMemory`
+    /// where an allocation failed.
+    pub fn load(
+        alloc: Global,
+        bytes: &[u8],
+        context: u32,
+        held: u8,
+    ) -> Result<Program, LoadFault>
+        ensures loaded { IfOk result (λ p. IsLoaded bytes.now context held p.verified) }
+        ensures refused { IfErr result (IsLoadFault bytes.now context held) }
+    {
+        let Some(decl) = Decl::new(context, held) else {
+            return Err(LoadFault::Declaration);
+        };
+        let rows = kinds();
+        match judge(alloc, bytes, decl, &rows)? {
+            Judged::Accepted(verified) => Ok(Program { verified }),
+            Judged::Refused { code, slot } => {
+                let mut sentence = String::new(alloc);
+                write_why(alloc, &mut sentence, bytes, decl, &rows)?;
+                Err(LoadFault::Refused(Refusal { code, slot, sentence }))
+            }
+        }
+    }
+
+    /// How many bytes its context has.
+    pub fn context(&self) -> u32
+        ensures { result ≡ self.now.verified.decl.context }
+    {
+        self.verified.decl().context
+    }
+}

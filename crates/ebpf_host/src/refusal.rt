@@ -1,0 +1,37 @@
+//! Why bytes are not loaded as a program.
+
+use ebpf_command::codes::RefusalCode;
+use std::alloc::AllocError;
+
+/// Why bytes are no program of which no run traps.
+#[derive(Drop)]
+pub struct Refusal {
+    /// The stage that refuses them, with its code.
+    pub code: RefusalCode,
+    /// The lowest slot that is at fault.
+    pub slot: u16,
+    /// What is wrong there, with the values that are known, and what would mend it: a line that ends with a newline.
+    pub sentence: String,
+}
+
+/// Why a program is not loaded.
+#[derive(Drop)]
+pub enum LoadFault {
+    /// The bytes are refused.
+    Refused(Refusal),
+    /// The context is declared to be longer than 4,096 bytes, or more than 64 objects are declared.
+    Declaration,
+    /// An allocation failed.
+    NoMemory,
+}
+
+impl From<AllocError> for LoadFault {
+    ghost use Rattle.std.specs.Prelude.{◌≡◌};
+    ghost use Rattle.ebpf_host.specs.declared.refusal.LoadFault.TheVariants.{NoMemory};
+
+    ghost from_gives = { λ _ e. e ≡ NoMemory };
+
+    fn from(_e: AllocError) -> LoadFault {
+        LoadFault::NoMemory
+    }
+}

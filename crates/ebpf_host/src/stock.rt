@@ -1,0 +1,141 @@
+//! The objects of one kind.
+//!
+//! *The idea* (Bonwick 1994, section 3). A machine serves one run at a time, so it needs no magazines and no locks: an object comes
+//! from the slabs and goes back to them. The slabs get their pages from the machine's arena.
+//!
+//! *The invariant.* What stands on the shelf is out of the slabs.
+//!
+//! *The reason.* So no call of `new` is granted the slot of what stands on the shelf, and it is there, with its bytes, for whatever
+//! run takes it from there.
+
+ghost use Rattle.std.specs.Prelude.{◌≡◌, ◌/◌, ℕ, false, replicate, None, Option, option_map, IsTrue, IfSome, IfNone};
+ghost use Rattle.slab_layer.specs.Slots.{IsHome, IsOut, out_count};
+ghost use Rattle.ebpf_host.specs.Stock.{IsHeld, Takes, Gives, Exchanges, GrowsBy, shelved_at};
+
+use slab_layer::{Held, Home, Kind, Obj, Slabs};
+use std::alloc::Global;
+use std::marker::Model;
+use std::mem;
+use vmem_arena::Arena;
+
+/// The slabs of a kind, and a shelf that has room for one object. It must be ended.
+pub struct Stock<K: Kind> {
+    slabs: Slabs<K>,
+    shelf: Option<Obj<K, Held>>,
+}
+
+impl<K: Kind> Model for Stock<K> {
+    ghost use Rattle.std.specs.Prelude.{option_map, IfSome};
+    ghost use Rattle.slab_layer.specs.Slots.{IsOut};
+    ghost use Rattle.ebpf_host.specs.Stock.{StockView, shelved_at};
+
+    ghost Value = { StockView };
+
+    ghost view = { λ s. record { pages = s.slabs; shelf = option_map (λ o. shelved_at o.slot o.bytes.items) s.shelf } };
+
+    ghost invariant = { λ s. IfSome s.shelf (λ o. IsOut s.slabs o.slot) };
+}
+
+impl<K: Kind> Stock<K> {
+    /// No slabs, and nothing on the shelf. It takes no memory.
+    pub(crate) fn new(alloc: Global) -> Stock<K>
+        ensures { result.shelf ≡ None }
+    {
+        Stock {
+            slabs: Slabs::new(alloc),
+            shelf: None,
+        }
+    }
+
+    // An object that is home, after a page more where none is.
+    fn take_home(&mut self, arena: &mut Arena) -> Option<Obj<K, Home>>
+        ensures taken { IfSome result (λ o. Takes self.old self.new o.slot) }
+        ensures none { IfNone result (self.new ≡ self.old) }
+    {
+        if let Some(object) = self.slabs.take() {
+            return Some(object);
+        }
+        if !grow(&mut self.slabs, arena) {
+            return None;
+        }
+        match self.slabs.take() {
+            Some(object) => Some(object),
+            None => unreachable!(),
+        }
+    }
+
+    /// Takes an object with its kind's image, after a page more where none is home. None where the arena has no page, or
+    /// memory for its objects ran out; then nothing changed here.
+    pub(crate) fn take(&mut self, arena: &mut Arena) -> Option<Obj<K, Held>>
+        ensures image { IfSome result (λ o. o.bytes.items ≡ replicate K.SIZE K.FILL) }
+        ensures taken { IfSome result (λ o. Takes self.old self.new o.slot) }
+        ensures none { IfNone result (self.new ≡ self.old) }
+    {
+        match self.take_home(arena) {
+            Some(object) => Some(object.construct().hold()),
+            None => None,
+        }
+    }
+
+    /// Takes an object back.
+    pub(crate) fn give(&mut self, object: Obj<K, Held>)
+        requires { IsHeld self.old object.slot }
+        ensures { Gives self.old self.new object.slot }
+    {
+        self.slabs.give(object.restore().retire());
+    }
+
+    /// Exchanges what is given, if anything, for what stands on the shelf.
+    pub(crate) fn swap(&mut self, given: Option<Obj<K, Held>>) -> Option<Obj<K, Held>>
+        requires { IfSome given (λ o. IsHeld self.old o.slot) }
+        ensures { Exchanges self.old self.new (option_map (λ o. shelved_at o.slot o.bytes.items) given) (option_map (λ o. shelved_at o.slot o.bytes.items) result) }
+    {
+        mem::replace(&mut self.shelf, given)
+    }
+
+    /// Gives the lowest page that has nothing out back to the arena. False where there is no such page; then nothing changed.
+    pub(crate) fn reap(&mut self, arena: &mut Arena) -> bool
+        ensures shelf { self.new.shelf ≡ self.old.shelf }
+    {
+        match self.slabs.reap() {
+            Some(span) => {
+                arena.give(span);
+                true
+            }
+            None => false,
+        }
+    }
+
+    /// Ends the stock, with all its objects. Its pages stay out.
+    pub(crate) fn end(self) {
+        let Stock { mut slabs, shelf } = self;
+        if let Some(object) = shelf {
+            slabs.give(object.restore().retire());
+        }
+        slabs.end();
+    }
+}
+
+// Adds a page of the arena to slabs that have no object at home. It answers false where there is none, or where memory for its objects
+// runs out; then the slabs are as they were.
+fn grow<K: Kind>(slabs: &mut Slabs<K>, arena: &mut Arena) -> bool
+    ensures grown { IsTrue result → GrowsBy slabs.old slabs.new (4096 / K.SIZE) }
+    ensures home { IsTrue result → (slot : ℕ) × IsHome slabs.new slot }
+    ensures counted { IsTrue result → out_count slabs.new ≡ out_count slabs.old }
+    ensures unchanged { result ≡ false → slabs.new ≡ slabs.old }
+{
+    let Ok(span) = arena.take(1) else {
+        return false;
+    };
+    if slabs.has(span.first()) {
+        arena.give(span);
+        return false;
+    }
+    match slabs.grow(span) {
+        Ok(()) => true,
+        Err(back) => {
+            arena.give(back);
+            false
+        }
+    }
+}

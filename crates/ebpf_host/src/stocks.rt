@@ -1,0 +1,152 @@
+//! The objects of a machine, of all kinds.
+
+ghost use Rattle.std.specs.Prelude.{◌≡◌, ◌<◌, ℕ, None, option_map, IfSome, IfNone, length};
+ghost use Rattle.ebpf_machine.specs.Kinds.{known_kinds};
+ghost use Rattle.ebpf_machine.specs.World.{image_at};
+ghost use Rattle.run_object.specs.Object.{bytes_of, kind_of, slot_of};
+ghost use Rattle.ebpf_host.specs.Stock.{Exchanges, Gives, Takes};
+ghost use Rattle.ebpf_host.specs.Stocks.{Holds, OthersStay, as_shelved, stock_of};
+
+use crate::stock::Stock;
+use run_object::{Object, block, cell, record};
+use slab_layer::{BlockKind, CellKind, Kind, RecordKind};
+use std::alloc::Global;
+use vmem_arena::{Arena, MAX_PAGES};
+
+/// An arena, and a stock of each kind that gets its pages there. Stocks without an arena are what a machine has while its own are lent
+/// to a run. They must be ended.
+pub struct Stocks {
+    pub(crate) arena: Option<Arena>,
+    pub(crate) cells: Stock<CellKind>,
+    pub(crate) records: Stock<RecordKind>,
+    pub(crate) blocks: Stock<BlockKind>,
+}
+
+impl Stocks {
+    /// Stocks with no objects yet, and nothing on the shelves. It takes no memory.
+    pub(crate) fn new(alloc: Global, arena: Option<Arena>) -> Stocks
+        ensures { (kind : ℕ) → (stock_of result kind).shelf ≡ None }
+    {
+        Stocks {
+            arena,
+            cells: Stock::new(alloc),
+            records: Stock::new(alloc),
+            blocks: Stock::new(alloc),
+        }
+    }
+
+    /// Takes an object of a kind, with its image. None where the arena has no page for it, or where memory for its objects ran
+    /// out; then nothing changed here.
+    pub(crate) fn take(&mut self, kind: u8) -> Option<Object>
+        requires { kind < length known_kinds }
+        ensures kind { IfSome result (λ o. kind_of o ≡ kind) }
+        ensures image { IfSome result (λ o. bytes_of o ≡ image_at known_kinds kind) }
+        ensures taken { IfSome result (λ o. Takes (stock_of self.old kind) (stock_of self.new kind) (slot_of o)) }
+        ensures none { IfNone result (stock_of self.new kind ≡ stock_of self.old kind) }
+        ensures others { OthersStay self.old self.new kind }
+    {
+        let Stocks {
+            arena,
+            cells,
+            records,
+            blocks,
+        } = self;
+        let Some(arena) = arena else {
+            return None;
+        };
+        match kind {
+            0 => match cells.take(arena) {
+                Some(object) => Some(Object::Cell(object)),
+                None => None,
+            },
+            1 => match records.take(arena) {
+                Some(object) => Some(Object::Record(object)),
+                None => None,
+            },
+            2 => match blocks.take(arena) {
+                Some(object) => Some(Object::Block(object)),
+                None => None,
+            },
+            _ => unreachable!(),
+        }
+    }
+
+    /// Takes an object back.
+    pub(crate) fn give(&mut self, object: Object)
+        requires { Holds self.old object }
+        ensures given { Gives (stock_of self.old (kind_of object)) (stock_of self.new (kind_of object)) (slot_of object) }
+        ensures others { OthersStay self.old self.new (kind_of object) }
+    {
+        match object {
+            Object::Cell(object) => self.cells.give(object),
+            Object::Record(object) => self.records.give(object),
+            Object::Block(object) => self.blocks.give(object),
+        }
+    }
+
+    /// Exchanges an object of a shelf's kind, or nothing, for what stands there.
+    pub(crate) fn swap(&mut self, shelf: u8, given: Option<Object>) -> Option<Object>
+        requires shelf { shelf < length known_kinds }
+        requires given { IfSome given (λ g. Holds self.old g × (kind_of g ≡ shelf)) }
+        ensures kind { IfSome result (λ o. kind_of o ≡ shelf) }
+        ensures exchanged { Exchanges (stock_of self.old shelf) (stock_of self.new shelf) (option_map as_shelved given) (option_map as_shelved result) }
+        ensures others { OthersStay self.old self.new shelf }
+    {
+        match shelf {
+            0 => match self.cells.swap(cell(given)) {
+                Some(object) => Some(Object::Cell(object)),
+                None => None,
+            },
+            1 => match self.records.swap(record(given)) {
+                Some(object) => Some(Object::Record(object)),
+                None => None,
+            },
+            2 => match self.blocks.swap(block(given)) {
+                Some(object) => Some(Object::Block(object)),
+                None => None,
+            },
+            _ => unreachable!(),
+        }
+    }
+
+    /// Gives the pages that have nothing out back to the arena. What stands on the shelves stays there.
+    pub(crate) fn reap(&mut self)
+        ensures { (kind : ℕ) → (stock_of self.new kind).shelf ≡ (stock_of self.old kind).shelf }
+    {
+        let Stocks {
+            arena,
+            cells,
+            records,
+            blocks,
+        } = self;
+        if let Some(arena) = arena {
+            reap_all(cells, arena);
+            reap_all(records, arena);
+            reap_all(blocks, arena);
+        }
+    }
+
+    /// Ends the stocks, with all their objects.
+    pub(crate) fn end(self) {
+        let Stocks {
+            arena: _,
+            cells,
+            records,
+            blocks,
+        } = self;
+        cells.end();
+        records.end();
+        blocks.end();
+    }
+}
+
+// Gives all pages of a stock that have nothing out back to the arena.
+fn reap_all<K: Kind>(stock: &mut Stock<K>, arena: &mut Arena)
+    ensures { stock.new.shelf ≡ stock.old.shelf }
+{
+    for _page in 0..MAX_PAGES {
+        if !stock.reap(arena) {
+            return;
+        }
+    }
+}

@@ -1,0 +1,38 @@
+//! A run within a limit of instructions.
+
+ghost use Rattle.std.specs.Prelude.{◌≡◌, length, IfOk, IfErr, OnOk, OnErr};
+ghost use Rattle.ebpf_machine.specs.Kinds.{known_kinds};
+ghost use Rattle.ebpf_machine.specs.Turns.{IsStartFault};
+ghost use Rattle.ebpf_host.specs.Reports.{IsReportWithin};
+
+use crate::program::Program;
+use ebpf_machine::objects::Objects;
+use ebpf_machine::report::Report;
+use ebpf_machine::run::{Run, StartFault};
+use ebpf_machine::workspace::Workspace;
+use std::alloc::Global;
+
+/// Runs a program on a context, with the objects of a store, in the memory of a run that has ended, which is left for the next one. After
+/// `limit` instructions the run is given up, and what it holds goes back.
+///
+/// # Errors
+/// `ContextLength` where the context doesn't have the declared length; `NoMemory` where an allocation failed. The memory is freed then.
+pub(crate) fn run_within<O: Objects>(
+    alloc: Global,
+    workspace: Workspace<O::Held>,
+    program: &Program,
+    context: Vec<u8>,
+    objects: &mut O,
+    limit: u64,
+) -> Result<(Report, Workspace<O::Held>), StartFault>
+    requires kinds { O.store.kinds ≡ known_kinds }
+    requires room { (store : O) → O.store.can_give store }
+    ensures report { IfOk result (λ r. IsReportWithin program.now.verified context.items limit r.0) }
+    ensures length { OnOk result (length context.items ≡ program.now.verified.decl.context) }
+    ensures refused { IfErr result (IsStartFault (length context.items) program.now.verified.decl.context) }
+    ensures unchanged { OnErr result (objects.new ≡ objects.old) }
+{
+    let mut run = Run::start_in(alloc, workspace, &program.verified, context)?;
+    run.run(objects, limit);
+    Ok(run.end(objects))
+}
