@@ -146,10 +146,7 @@ fn run_on<G: Ledger, N: Ledger, F: Ledger, M: Ledger>(
     nulls: Blank,
     gets: Blank,
     misses: Blank,
-) -> (
-    Stocks,
-    Result<(Report, Workspace<Object>), StartFault>,
-)
+) -> (Stocks, Result<(Report, Workspace<Object>), StartFault>)
     requires grants { (grants.name ≡ G.name) × (grants.parts ≡ G.parts) × (G.parts ≡ 1) }
     requires nulls { (nulls.name ≡ N.name) × (nulls.parts ≡ N.parts) × (N.parts ≡ 1) }
     requires gets { (gets.name ≡ F.name) × (gets.parts ≡ F.parts) × (F.parts ≡ 1) }

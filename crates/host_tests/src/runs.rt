@@ -92,11 +92,35 @@ fn a_program_runs_any_number_of_times(rt: HostRuntime) {
     let mut machine = machine_of(&rt, alloc, 1);
     let cell = loaded(&rt, alloc, CELL, 0, 1);
     for _run in 0..3 {
-        runs(&rt, alloc, &mut machine, &cell, "", 100, "exit 5 executed 9 peak 1");
+        runs(
+            &rt,
+            alloc,
+            &mut machine,
+            &cell,
+            "",
+            100,
+            "exit 5 executed 9 peak 1",
+        );
     }
     // It is given up with the cell in its hands, which the next run may take.
-    runs(&rt, alloc, &mut machine, &cell, "", 4, "given up executed 4 peak 1");
-    runs(&rt, alloc, &mut machine, &cell, "", 9, "exit 5 executed 9 peak 1");
+    runs(
+        &rt,
+        alloc,
+        &mut machine,
+        &cell,
+        "",
+        4,
+        "given up executed 4 peak 1",
+    );
+    runs(
+        &rt,
+        alloc,
+        &mut machine,
+        &cell,
+        "",
+        9,
+        "exit 5 executed 9 peak 1",
+    );
     runs(
         &rt,
         alloc,
@@ -114,13 +138,45 @@ fn a_page_serves_another_kind_once_it_is_reaped(rt: HostRuntime) {
     let mut machine = machine_of(&rt, alloc, 1);
     let cell = loaded(&rt, alloc, CELL, 0, 1);
     let block = loaded(&rt, alloc, BLOCK, 0, 1);
-    runs(&rt, alloc, &mut machine, &cell, "", 100, "exit 5 executed 9 peak 1");
-    runs(&rt, alloc, &mut machine, &block, "", 100, "exit 0 executed 4 peak 0");
+    runs(
+        &rt,
+        alloc,
+        &mut machine,
+        &cell,
+        "",
+        100,
+        "exit 5 executed 9 peak 1",
+    );
+    runs(
+        &rt,
+        alloc,
+        &mut machine,
+        &block,
+        "",
+        100,
+        "exit 0 executed 4 peak 0",
+    );
     machine.reap();
-    runs(&rt, alloc, &mut machine, &block, "", 100, "exit 1 executed 7 peak 1");
+    runs(
+        &rt,
+        alloc,
+        &mut machine,
+        &block,
+        "",
+        100,
+        "exit 1 executed 7 peak 1",
+    );
     let both = loaded(&rt, alloc, BOTH, 0, 2);
     let mut wide = machine_of(&rt, alloc, 2);
-    runs(&rt, alloc, &mut wide, &both, "", 100, "exit 3 executed 13 peak 2");
+    runs(
+        &rt,
+        alloc,
+        &mut wide,
+        &both,
+        "",
+        100,
+        "exit 3 executed 13 peak 2",
+    );
 }
 
 #[test]
@@ -129,17 +185,46 @@ fn what_a_run_leaves_on_a_shelf_is_there_for_the_next(rt: HostRuntime) {
     let mut machine = machine_of(&rt, alloc, 1);
     let leave = loaded(&rt, alloc, LEAVE, 1, 1);
     let fetch = loaded(&rt, alloc, FETCH, 0, 1);
-    runs(&rt, alloc, &mut machine, &fetch, "", 100, "exit 0 executed 6 peak 0");
-    runs(&rt, alloc, &mut machine, &leave, "2a", 100, "exit 0 executed 11 peak 1");
+    runs(
+        &rt,
+        alloc,
+        &mut machine,
+        &fetch,
+        "",
+        100,
+        "exit 0 executed 6 peak 0",
+    );
+    runs(
+        &rt,
+        alloc,
+        &mut machine,
+        &leave,
+        "2a",
+        100,
+        "exit 0 executed 11 peak 1",
+    );
     machine.reap();
-    runs(&rt, alloc, &mut machine, &fetch, "", 100, "emit 42 exit 0 executed 11 peak 1");
+    runs(
+        &rt,
+        alloc,
+        &mut machine,
+        &fetch,
+        "",
+        100,
+        "emit 42 exit 0 executed 11 peak 1",
+    );
 }
 
 #[test]
 fn what_is_refused_is_told_why(rt: HostRuntime) {
     let alloc = rt.alloc();
     let bytes = bytes_of(&rt, alloc, "61100000000000009500000000000000");
-    assert!(rt; matches!(Program::load(alloc, &bytes, 4097, 0), Err(LoadFault::Declaration)));
+    assert!(rt;
+        matches!(
+            Program::load(alloc, &bytes, 4097, 0),
+            Err(LoadFault::Declaration)
+        )
+    );
     match Program::load(alloc, &bytes, 3, 0) {
         Err(LoadFault::Refused(refusal)) => {
             assert!(rt; refusal.code.name() == "V8" && refusal.slot == 0);
