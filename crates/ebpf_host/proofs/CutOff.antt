@@ -58,8 +58,7 @@ module _ {S H : Type 0} (o : Store S H) (first now : S) (subject : Subject) (con
 
       cut : (x : Option ℕ) → t.exit ≡ x → IfNone t.exit (turns.number ≡ limit) → IfNone t.exit (IsGivenUp (seen_in o now t) report) → IfNone report.exit ((report.executed ≡ limit) × IsCutOff subject context report)
       cut (Some n) e all up = subst (λ (y : Option ℕ). IfNone y ((report.executed ≡ limit) × IsCutOff subject context report)) (sym (ended.finished.exit ∙ e)) tt
-      cut None e all up = subst (λ (y : Option ℕ). IfNone y ((report.executed ≡ limit) × IsCutOff subject context report)) (sym (ended.finished.exit ∙ e))
-          (
-            (let here : turns.number ≡ limit = subst (λ (y : Option ℕ). IfNone y (turns.number ≡ limit)) e all in omega (arith, executed, counted, here)),
-            cut_off e was executed ended.output (subst (λ (y : Option ℕ). IfNone y (IsGivenUp (seen_in o now t) report)) e up),
-          )
+      cut None e all up = subst (λ (y : Option ℕ). IfNone y ((report.executed ≡ limit) × IsCutOff subject context report)) (sym (ended.finished.exit ∙ e)) (
+        (let here : turns.number ≡ limit = subst (λ (y : Option ℕ). IfNone y (turns.number ≡ limit)) e all in omega (arith, executed, counted, here)),
+        cut_off e was executed ended.output (subst (λ (y : Option ℕ). IfNone y (IsGivenUp (seen_in o now t) report)) e up),
+      )

@@ -24,7 +24,7 @@ use std::sync::ledger::{Blank, Ledger};
 use vmem_arena::{Arena, ArenaFault};
 
 /// The memory of runs and the objects that they take, give back and leave on shelves. It serves one run at a time, of whatever
-/// program; what a run leaves on a shelf is there for the next. It must be ended.
+/// program; what a run leaves on a shelf is there for the next. All of it ends with the machine.
 pub struct Machine {
     alloc: Global,
     stocks: Stocks,
@@ -118,9 +118,10 @@ impl Machine {
     {
         self.stocks.reap();
     }
+}
 
-    /// Ends the machine, with all its objects and its memory.
-    pub fn end(self) {
+impl Drop for Machine {
+    fn drop(self) {
         let Machine {
             alloc: _,
             stocks,
@@ -145,10 +146,7 @@ fn run_on<G: Ledger, N: Ledger, F: Ledger, M: Ledger>(
     nulls: Blank,
     gets: Blank,
     misses: Blank,
-) -> (
-    Stocks,
-    Result<(Report, Workspace<Object>), StartFault>,
-)
+) -> (Stocks, Result<(Report, Workspace<Object>), StartFault>)
     requires grants { (grants.name ≡ G.name) × (grants.parts ≡ G.parts) × (G.parts ≡ 1) }
     requires nulls { (nulls.name ≡ N.name) × (nulls.parts ≡ N.parts) × (N.parts ≡ 1) }
     requires gets { (gets.name ≡ F.name) × (gets.parts ≡ F.parts) × (F.parts ≡ 1) }

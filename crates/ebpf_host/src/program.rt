@@ -29,12 +29,7 @@ impl Program {
     /// # Errors
     /// `Declaration` where one of the two numbers is too large; `Refused` where the bytes are no program of which no run traps; `NoMemory`
     /// where an allocation failed.
-    pub fn load(
-        alloc: Global,
-        bytes: &[u8],
-        context: u32,
-        held: u8,
-    ) -> Result<Program, LoadFault>
+    pub fn load(alloc: Global, bytes: &[u8], context: u32, held: u8) -> Result<Program, LoadFault>
         ensures loaded { IfOk result (λ p. IsLoaded bytes.now context held p.verified) }
         ensures refused { IfErr result (IsLoadFault bytes.now context held) }
     {
@@ -47,7 +42,11 @@ impl Program {
             Judged::Refused { code, slot } => {
                 let mut sentence = String::new(alloc);
                 write_why(alloc, &mut sentence, bytes, decl, &rows)?;
-                Err(LoadFault::Refused(Refusal { code, slot, sentence }))
+                Err(LoadFault::Refused(Refusal {
+                    code,
+                    slot,
+                    sentence,
+                }))
             }
         }
     }

@@ -4,8 +4,8 @@ use Rattle.std.specs.Prelude.{option_map}
 use Rattle.object_cache.specs.ShelfView.{one_if}
 use Rattle.owners_table.specs.Owning.{Holds}
 use Rattle.worker_pool.specs.Claims.{HasPassed, less, more}
-use Rattle.worker_pool.specs.Object.{slot_of, kind_of}
-use Rattle.worker_pool.specs.declared.object.Object.{Object}
+use Rattle.run_object.specs.Object.{slot_of, kind_of}
+use Rattle.run_object.specs.declared.Object.{Object}
 use Rattle.worker_pool.proofs.Exchanging.{gone, held_got, held_less, held_more}
 use Rattle.worker_pool.proofs.Holding.{Once}
 

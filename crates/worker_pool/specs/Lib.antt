@@ -1,4 +1,3 @@
-pub mod Object
 pub mod Claims
 pub mod Counts
 pub mod Working

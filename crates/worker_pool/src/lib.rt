@@ -17,7 +17,7 @@
 //! what the reports say, and all that went out came back. It stands on this: the store keeps the laws of `Objects` of
 //! ebpf_machine, so whatever is proved of a run over some store holds over this one; and each number is drawn once.
 //!
-//! To be read in this order: `object`, `before`, `client`, `ledgers`, `stock`, `hands`, `store`, `jobs`, `gate`, `handed`, `caches`,
+//! To be read in this order: `before`, `client`, `ledgers`, `stock`, `hands`, `store`, `jobs`, `gate`, `handed`, `caches`,
 //! `shared`, `worker`, `team`, `outcome`, `fault`, `admission`, `room`, `plant`, `crew`, `clearing`, `place`, `pool`.
 #![tactic(auto)]
 
@@ -34,7 +34,6 @@ mod handed;
 mod hands;
 mod jobs;
 mod ledgers;
-mod object;
 mod outcome;
 mod place;
 mod plant;

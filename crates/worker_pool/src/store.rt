@@ -9,16 +9,16 @@ ghost use Rattle.owners_table.specs.Owning.{Holds};
 ghost use Rattle.owners_table.specs.declared.mark.TheConstants.{WORDS_OF_A_RUN};
 ghost use Rattle.worker_pool.specs.Claims.{HasPassed};
 ghost use Rattle.worker_pool.specs.Counts.{grants_of, nulls_of, gets_of, outs_of};
-ghost use Rattle.worker_pool.specs.Object.{kind_of, slot_of};
+ghost use Rattle.run_object.specs.Object.{kind_of, slot_of};
 
 use crate::before::Before;
 use crate::client::Client;
 use crate::count::count;
 use crate::hands::Hands;
 use crate::ledgers::Names;
-use crate::object::{Object, block, cell, record};
 use crate::stock::Stock;
 use ebpf_machine::objects::Objects;
+use run_object::{Object, block, cell, record};
 use slab_layer::{BlockKind, CellKind, RecordKind};
 use std::sync::Wait;
 
@@ -146,7 +146,7 @@ impl<'a, L: Names, N: Before, R: Wait> Objects for Store<'a, L, N, R> {
     ghost use Rattle.owners_table.specs.Owning.{Holds};
     ghost use Rattle.owners_table.specs.declared.mark.TheConstants.{WORDS_OF_A_RUN};
     ghost use Rattle.worker_pool.specs.Counts.{grants_of, nulls_of, gets_of, outs_of};
-    ghost use Rattle.worker_pool.specs.Object.{kind_of, slot_of, bytes_of, has_size};
+    ghost use Rattle.run_object.specs.Object.{kind_of, slot_of, bytes_of, has_size};
 
     type Held = Object;
 
@@ -222,19 +222,11 @@ impl<'a, L: Names, N: Before, R: Wait> Objects for Store<'a, L, N, R> {
     }
 
     fn bytes<'b>(&'b self, held: &'b Object) -> &'b [u8] {
-        match held {
-            Object::Cell(object) => object.bytes(),
-            Object::Record(object) => object.bytes(),
-            Object::Block(object) => object.bytes(),
-        }
+        held.bytes()
     }
 
     fn write(&mut self, held: &mut Object, place: usize, bytes: &[u8]) {
-        match held {
-            Object::Cell(object) => object.write(place, bytes),
-            Object::Record(object) => object.write(place, bytes),
-            Object::Block(object) => object.write(place, bytes),
-        }
+        held.write(place, bytes);
     }
 
     ghost has_size = { λ s o out. has_size o };

@@ -1,7 +1,7 @@
 -- An exchange keeps the laws of swap.
 use Rattle.std.proofs.Common.{◌≡◌, refl}
 use Rattle.owners_table.specs.Owning.{Holds}
-use Rattle.worker_pool.specs.Object.{slot_of, kind_of}
+use Rattle.run_object.specs.Object.{slot_of, kind_of}
 use Rattle.worker_pool.proofs.Passing.{slots, whatever, even_none, one_got, none_got, is_held, is_apart, is_gone, is_still_held, first_of}
 use Rattle.worker_pool.proofs.store.StoreObjects.TheImpl.Goals as goal
 

@@ -1,5 +1,5 @@
 use Rattle.std.proofs.Common.{refl, ap}
-use Rattle.worker_pool.specs.Object.{slot_of}
+use Rattle.run_object.specs.Object.{slot_of}
 use Rattle.worker_pool.proofs.Holding.{held_before, held_after}
 use Rattle.worker_pool.proofs.store.StoreObjects.give.Goals as goal
 

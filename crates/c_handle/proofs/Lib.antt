@@ -1,0 +1,2 @@
+pub mod Loosened
+pub mod Values

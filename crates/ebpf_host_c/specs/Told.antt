@@ -1,0 +1,33 @@
+-- What C is told.
+use Rattle.std.specs.Prelude.{◌≡◌, ℕ, Bool, ◌++◌, List, length, take, drop, Option, Some, None, is_some, unwrap_or, string_bytes}
+use Rattle.ebpf_verify.specs.Subject.{Subject}
+use Rattle.ebpf_machine.specs.declared.report.Report.{Report}
+use Rattle.ebpf_machine.specs.Whole.{granted, refused, fetched, missed}
+use Rattle.ebpf_host.specs.declared.refusal.Refusal.{Refusal}
+use Rattle.ebpf_host.specs.Loading.{IsRefusedAs}
+use Rattle.ebpf_host.specs.Reports.{IsReportWithin}
+use Rattle.ebpf_host_c.specs.declared.Refused.{Refused}
+use Rattle.ebpf_host_c.specs.declared.Reported.{Reported}
+
+-- as many of the items as there is room for, and the rest of the room as it was
+abbrev pub copied : {X : Type 0} → List X → List X → List X
+copied items room = take (length room) items ++ drop (length items) room
+
+-- a refusal, with its sentence as far as there is room
+pub record IsRefusalTold (bytes : List ℕ) (context held : ℕ) (room text : List ℕ) (told : Refused) : Type 0 where
+  pub refusal : Refusal
+  pub is : IsRefusedAs bytes context held refusal
+  pub slot : told.slot ≡ refusal.slot
+  pub length_is : told.length ≡ length (string_bytes refusal.sentence)
+  pub sentence : text ≡ copied (string_bytes refusal.sentence) room
+
+-- a report, with the output as far as there is room
+pub record IsReportTold (s : Subject) (context : List ℕ) (limit : ℕ) (room output : List ℕ) (told : Reported) : Type 0 where
+  pub report : Report
+  pub is : IsReportWithin s context limit report
+  pub exited : told.exited ≡ is_some report.exit
+  pub exit : told.exit ≡ unwrap_or report.exit 0
+  pub executed : told.executed ≡ report.executed
+  pub peak : told.peak ≡ report.peak
+  pub outputs : told.outputs ≡ length report.output
+  pub numbers : output ≡ copied report.output room

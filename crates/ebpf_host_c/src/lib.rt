@@ -1,0 +1,261 @@
+//! The library `ebpf_host` as C calls it: `include/ebpf_host.h` declares these functions, and says what each does.
+//!
+//! A handle is a word that C sets to zero before the first call and otherwise only passes on. Each function makes one call of
+//! ebpf_host, states what that promises, and tells the outcome by a status. Nothing here starts a thread or takes a lock.
+#![tactic(auto)]
+
+ghost use Rattle.std.specs.Prelude.{◌≡◌, ◌≢◌, ◌⊎◌, ◌<◌, None, is_some, length, string_bytes, unwrap_or};
+ghost use Rattle.std.specs.Option.{MatchOption};
+ghost use Rattle.vmem_arena.specs.declared.arena.TheConstants.{MAX_PAGES};
+ghost use Rattle.ebpf_host.specs.Loading.{IsLoaded};
+ghost use Rattle.ebpf_host_c.specs.Told.{IsRefusalTold, IsReportTold, copied};
+
+use ebpf_handle::machine::MachineHandle;
+use ebpf_handle::program::ProgramHandle;
+use ebpf_host::machine::Machine;
+use ebpf_host::program::Program;
+use ebpf_host::refusal::{LoadFault, Refusal};
+use ebpf_machine::report::Report;
+use ebpf_machine::run::StartFault;
+use std::alloc::Global;
+use vmem_arena::ArenaFault;
+
+/// The call did what it says.
+pub const DONE: u32 = 0;
+
+/// The bytes are refused.
+pub const REFUSED: u32 = 1;
+
+/// A declared number, of bytes or of objects, is out of its range.
+pub const DECLARATION: u32 = 2;
+
+/// The number of pages is out of its range.
+pub const PAGES: u32 = 3;
+
+/// The context doesn't have the declared length.
+pub const CONTEXT: u32 = 4;
+
+/// A handle holds nothing.
+pub const EMPTY: u32 = 5;
+
+/// An allocation failed.
+pub const NO_MEMORY: u32 = 6;
+
+/// Why bytes are refused.
+#[repr(C)]
+#[derive(Drop)]
+pub struct Refused {
+    /// The letter of the stage that refuses them, `I`, `F` or `V`, and the digits behind it; zero where there is none.
+    pub code: [u8; 4],
+    /// The lowest slot that is at fault.
+    pub slot: u32,
+    /// How many bytes the sentence has.
+    pub length: u64,
+}
+
+/// What a run did.
+#[repr(C)]
+#[derive(Drop)]
+pub struct Reported {
+    /// The number that it returned, 0 where it was given up.
+    pub exit: u64,
+    /// How many instructions it did.
+    pub executed: u64,
+    /// The most objects that it held at one time.
+    pub peak: u64,
+    /// How many numbers it added to its output.
+    pub outputs: u64,
+    /// Whether it exited within the limit.
+    pub exited: bool,
+}
+
+// Copies as many items as there is room for.
+fn copy<T: Copy>(items: &[T], room: &mut [T])
+    ensures { room.new ≡ copied items.now room.old }
+{
+    if items.len() <= room.len() {
+        room[..items.len()].copy_from_slice(items);
+    } else {
+        room.copy_from_slice(&items[..room.len()]);
+    }
+}
+
+/// Loads a program, and frees what the handle held before. A refusal is told by `refused`, and its sentence by `text`, as far as there
+/// is room.
+#[unsafe(no_mangle)]
+pub extern "C" fn ebpf_program_load(
+    alloc: Global,
+    program: &mut ProgramHandle,
+    bytes: &[u8],
+    context: u32,
+    held: u8,
+    text: &mut [u8],
+    refused: &mut Refused,
+) -> u32
+    ensures loaded { result ≡ 0 → MatchOption program.new.value ⊥ (λ p. IsLoaded bytes.now context held p.verified) }
+    ensures refused { result ≡ 1 → IsRefusalTold bytes.now context held text.old text.new refused.new }
+    ensures declaration { result ≡ 2 → (4096 < context) ⊎ (64 < held) }
+    ensures kept { result ≢ 0 → program.new.value ≡ program.old.value }
+{
+    match Program::load(alloc, bytes, context, held) {
+        Ok(loaded) => match Box::new(alloc, loaded) {
+            Ok(boxed) => {
+                program.put(alloc, boxed);
+                DONE
+            }
+            Err(_) => NO_MEMORY,
+        },
+        Err(LoadFault::Refused(refusal)) => {
+            tell_refusal(refusal, text, refused);
+            REFUSED
+        }
+        Err(LoadFault::Declaration) => DECLARATION,
+        Err(LoadFault::NoMemory) => NO_MEMORY,
+    }
+}
+
+// Tells a refusal.
+fn tell_refusal(refusal: Refusal, text: &mut [u8], refused: &mut Refused)
+    ensures slot { refused.new.slot ≡ refusal.slot }
+    ensures length { refused.new.length ≡ length (string_bytes refusal.sentence) }
+    ensures sentence { text.new ≡ copied (string_bytes refusal.sentence) text.old }
+{
+    let name = refusal.code.name().as_bytes();
+    let mut code = [0; 4];
+    copy(name, &mut code);
+    let sentence = refusal.sentence.as_bytes();
+    copy(sentence, text);
+    *refused = Refused {
+        code,
+        slot: u32::from(refusal.slot),
+        length: sentence.len() as u64,
+    };
+}
+
+/// Frees a program. The handle holds nothing then, and may be freed again.
+#[unsafe(no_mangle)]
+pub extern "C" fn ebpf_program_free(alloc: Global, program: &mut ProgramHandle)
+    ensures { program.new.value ≡ None }
+{
+    drop(program.take(alloc));
+}
+
+/// Makes a machine whose objects lie on up to so many pages, and frees what the handle held before.
+#[unsafe(no_mangle)]
+pub extern "C" fn ebpf_machine_new(alloc: Global, machine: &mut MachineHandle, pages: u32) -> u32
+    ensures made { result ≡ 0 → MatchOption machine.new.value ⊥ (λ _. Unit {0}) }
+    ensures pages { result ≡ 3 → (pages ≡ 0) ⊎ (MAX_PAGES < pages) }
+    ensures kept { result ≢ 0 → machine.new.value ≡ machine.old.value }
+{
+    match Machine::new(alloc, pages) {
+        Ok(made) => match Box::new(alloc, made) {
+            Ok(boxed) => {
+                machine.put(alloc, boxed);
+                DONE
+            }
+            Err(_) => NO_MEMORY,
+        },
+        Err(ArenaFault::Pages) => PAGES,
+        Err(ArenaFault::NoMemory) => NO_MEMORY,
+    }
+}
+
+/// Frees a machine with all its objects. The handle holds nothing then, and may be freed again.
+#[unsafe(no_mangle)]
+pub extern "C" fn ebpf_machine_free(alloc: Global, machine: &mut MachineHandle)
+    ensures { machine.new.value ≡ None }
+{
+    drop(machine.take(alloc));
+}
+
+/// Gives the pages of a machine on which there is no object that is held or stands on a shelf back to its arena.
+#[unsafe(no_mangle)]
+pub extern "C" fn ebpf_machine_reap(alloc: Global, machine: &mut MachineHandle) -> u32
+    ensures { MatchOption machine.old.value (result ≡ 5) (λ _. result ≡ 0) }
+{
+    match machine.take(alloc) {
+        None => EMPTY,
+        Some(mut held) => {
+            held.reap();
+            machine.put(alloc, held);
+            DONE
+        }
+    }
+}
+
+/// Runs a program on a context, `limit` instructions at most, and tells what it did: by `report`, and its output by `output`, as far as
+/// there is room.
+#[unsafe(no_mangle)]
+pub extern "C" fn ebpf_machine_run(
+    alloc: Global,
+    machine: &mut MachineHandle,
+    program: &mut ProgramHandle,
+    context: &[u8],
+    limit: u64,
+    output: &mut [u64],
+    report: &mut Reported,
+) -> u32
+    ensures report { result ≡ 0 → MatchOption program.old.value ⊥ (λ p. IsReportTold p.verified context.now limit output.old output.new report.new) }
+    ensures context { result ≡ 4 → MatchOption program.old.value ⊥ (λ p. length context.now ≢ p.verified.decl.context) }
+    ensures empty { result ≡ 5 → (machine.old.value ≡ None) ⊎ (program.old.value ≡ None) }
+    ensures kept { program.new.value ≡ program.old.value }
+{
+    let Some(mut held) = machine.take(alloc) else {
+        return EMPTY;
+    };
+    let Some(loaded) = program.take(alloc) else {
+        machine.put(alloc, held);
+        return EMPTY;
+    };
+    let status = run_held(alloc, &mut held, &loaded, context, limit, output, report);
+    machine.put(alloc, held);
+    program.put(alloc, loaded);
+    status
+}
+
+// The same with what the handles hold.
+fn run_held(
+    alloc: Global,
+    machine: &mut Machine,
+    program: &Program,
+    context: &[u8],
+    limit: u64,
+    output: &mut [u64],
+    report: &mut Reported,
+) -> u32
+    ensures report { result ≡ 0 → IsReportTold program.now.verified context.now limit output.old output.new report.new }
+    ensures context { result ≡ 4 → length context.now ≢ program.now.verified.decl.context }
+    ensures others { (result ≢ 1) × (result ≢ 2) × (result ≢ 3) × (result ≢ 5) }
+{
+    let Ok(bytes) = context.to_vec(alloc) else {
+        return NO_MEMORY;
+    };
+    match machine.run(program, bytes, limit) {
+        Ok(done) => {
+            tell_report(&done, output, report);
+            DONE
+        }
+        Err(StartFault::ContextLength) => CONTEXT,
+        Err(StartFault::NoMemory) => NO_MEMORY,
+    }
+}
+
+// Tells a report.
+fn tell_report(done: &Report, output: &mut [u64], report: &mut Reported)
+    ensures numbers { output.new ≡ copied done.now.output output.old }
+    ensures exited { report.new.exited ≡ is_some done.now.exit }
+    ensures exit { report.new.exit ≡ unwrap_or done.now.exit 0 }
+    ensures executed { report.new.executed ≡ done.now.executed }
+    ensures peak { report.new.peak ≡ done.now.peak }
+    ensures outputs { report.new.outputs ≡ length done.now.output }
+{
+    let numbers = &done.output.numbers;
+    copy(numbers, output);
+    *report = Reported {
+        exit: done.exit.unwrap_or(0),
+        executed: done.executed,
+        peak: done.peak,
+        outputs: numbers.len() as u64,
+        exited: done.exit.is_some(),
+    };
+}
