@@ -10,7 +10,7 @@ pub struct Refusal {
     pub code: RefusalCode,
     /// The lowest slot that is at fault.
     pub slot: u16,
-    /// What is wrong there, with the values that are known, and what would mend it: a line that ends with a newline.
+    /// What is wrong there, with the values that are known, and what would mend it: a line, indented by two blanks.
     pub sentence: String,
 }
 

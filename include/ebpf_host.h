@@ -1,0 +1,96 @@
+/* Programs of eBPF (RFC 9669) in a host's own process: loaded and verified once, run any number of times.
+ *
+ * A program that is loaded never traps: whatever the context, it reads and writes nothing outside its own frame, its context and its
+ * objects, does at most as many instructions as it has, holds at most as many objects as it declared and gives all of them back.
+ *
+ * Handles. A handle is a struct of one word. Set it to zero before its first call ("ebpf_program p = {0};"), pass it by address, never
+ * copy it, and free it at the end. An empty handle may be passed to every function: it is told by EBPF_EMPTY, and freeing it does
+ * nothing. A call that fails leaves a handle as it was.
+ *
+ * Pointers. A pointer with a length has to point to as many items, which nothing else touches during the call; with length 0 it has to be
+ * a pointer all the same, not null. No two of the pointers of one call may overlap, but for two that are only read.
+ *
+ * Threads. Nothing here starts a thread, takes a lock or keeps a global. A handle is used by one thread, which may differ from call to
+ * call where something orders the calls (a lock, a join). Threads that run at the same time have handles of their own.
+ *
+ * Memory comes from malloc, realloc and free. Where there is none, the call answers EBPF_NO_MEMORY. Not to be called from a signal
+ * handler, nor between fork and exec in a process with threads. */
+#ifndef EBPF_HOST_H
+#define EBPF_HOST_H
+
+#include <stdbool.h>
+#include <stddef.h>
+#include <stdint.h>
+
+#ifdef __cplusplus
+extern "C" {
+#endif
+
+/* How a call ended. */
+typedef uint32_t ebpf_status;
+enum {
+    EBPF_DONE = 0,        /* it did what it says */
+    EBPF_REFUSED = 1,     /* the bytes are no program that can be run: see ebpf_refusal */
+    EBPF_DECLARATION = 2, /* more than 4,096 bytes of context, or more than 64 objects, are declared */
+    EBPF_PAGES = 3,       /* a machine has 1 to 256 pages */
+    EBPF_CONTEXT = 4,     /* the context doesn't have the length that the program declares */
+    EBPF_EMPTY = 5,       /* a handle holds nothing */
+    EBPF_NO_MEMORY = 6    /* an allocation failed */
+};
+
+/* A program that was accepted. */
+typedef struct ebpf_program { void *word; } ebpf_program;
+
+/* The memory of runs, and the objects that they take, give back and leave on shelves: one run at a time, of whatever program. */
+typedef struct ebpf_machine { void *word; } ebpf_machine;
+
+/* Why bytes are refused. */
+typedef struct ebpf_refusal {
+    char code[4];    /* the code, as "V8", with zeros behind it */
+    uint32_t slot;   /* the lowest slot of eight bytes that is at fault */
+    uint64_t length; /* how many bytes the sentence has */
+} ebpf_refusal;
+
+/* What a run did. */
+typedef struct ebpf_report {
+    uint64_t exit;     /* the number that it returned; 0 where it did not exit */
+    uint64_t executed; /* how many instructions it did */
+    uint64_t peak;     /* the most objects that it held at one time */
+    uint64_t outputs;  /* how many numbers it added to its output */
+    bool exited;       /* whether it exited within the limit */
+} ebpf_report;
+
+/* Loads a program: its raw instruction slots, eight bytes each, as its text section has them. It is to be run on contexts of this many
+ * bytes, 0 to 4096, and may hold so many objects at one time, 0 to 64. What the handle held before is freed.
+ *
+ * EBPF_REFUSED: the bytes are refused; *refusal says by which code and where, and text begins with a sentence that says why, a line indented by
+ * two blanks, as far as text_length bytes have room, with no zero behind it. 1,024 bytes are mostly enough. EBPF_DECLARATION, EBPF_NO_MEMORY. */
+ebpf_status ebpf_program_load(ebpf_program *program, const uint8_t *bytes, size_t length, uint32_t context, uint8_t held,
+                              char *text, size_t text_length, ebpf_refusal *refusal);
+
+/* Frees a program. The handle is empty then. */
+void ebpf_program_free(ebpf_program *program);
+
+/* Makes a machine, whose objects lie on up to so many pages of 4,096 bytes, 1 to 256; a page is allocated when it is first needed. What
+ * the handle held before is freed. EBPF_PAGES, EBPF_NO_MEMORY. */
+ebpf_status ebpf_machine_new(ebpf_machine *machine, uint32_t pages);
+
+/* Frees a machine with its objects. The handle is empty then. */
+void ebpf_machine_free(ebpf_machine *machine);
+
+/* Gives back the pages of a machine on which nothing is held and nothing stands on a shelf, so that objects of any kind may lie there.
+ * EBPF_EMPTY. */
+ebpf_status ebpf_machine_reap(ebpf_machine *machine);
+
+/* Runs a program on a context, limit instructions at most; no program does more than 4,096. A run that has not exited by then is given
+ * up, which is no error. Its numbers of output are written to output, as far as output_length of them have room; report->outputs says
+ * how many there were. A call of new that finds no page or no memory is answered null, which is no error. What the run leaves on a
+ * shelf is there for the next run on the machine. EBPF_CONTEXT, EBPF_EMPTY, EBPF_NO_MEMORY: nothing was run. */
+ebpf_status ebpf_machine_run(ebpf_machine *machine, ebpf_program *program, const uint8_t *context, size_t context_length,
+                             uint64_t limit, uint64_t *output, size_t output_length, ebpf_report *report);
+
+#ifdef __cplusplus
+}
+#endif
+
+#endif

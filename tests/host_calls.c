@@ -1,0 +1,151 @@
+/* Each function of include/ebpf_host.h with each of its statuses; handles that go from one thread to another; and each allocation refused
+ * in turn: malloc and realloc are those below, by the linker's --wrap. */
+#include <assert.h>
+#include <pthread.h>
+#include <stdio.h>
+#include <stdlib.h>
+#include <string.h>
+
+#include "ebpf_host.h"
+
+static long left = -1; /* how many allocations are still served; below zero, all */
+static int refused;    /* whether one was refused */
+
+void *__real_malloc(size_t size);
+void *__real_realloc(void *old, size_t size);
+void *__wrap_malloc(size_t size);
+void *__wrap_realloc(void *old, size_t size);
+
+static int serves(void) {
+    if (left < 0) return 1;
+    if (left == 0) {
+        refused = 1;
+        return 0;
+    }
+    left--;
+    return 1;
+}
+
+void *__wrap_malloc(size_t size) { return serves() ? __real_malloc(size) : NULL; }
+void *__wrap_realloc(void *old, size_t size) { return serves() ? __real_realloc(old, size) : NULL; }
+
+static ebpf_machine machine;
+static ebpf_program program;
+static ebpf_report report;
+static ebpf_refusal refusal;
+static char text[256];
+static uint64_t output[4];
+
+static size_t bytes_of(const char *digits, uint8_t *bytes) {
+    size_t length = strlen(digits) / 2;
+    for (size_t i = 0; i < length; i++) sscanf(digits + 2 * i, "%2hhx", &bytes[i]);
+    return length;
+}
+
+static ebpf_status load(const char *digits, uint32_t context, uint8_t held) {
+    uint8_t bytes[512];
+    size_t length = bytes_of(digits, bytes);
+    return ebpf_program_load(&program, bytes, length, context, held, text, sizeof text, &refusal);
+}
+
+static ebpf_status run(const char *context, uint64_t limit) {
+    uint8_t bytes[16];
+    size_t length = bytes_of(context, bytes);
+    return ebpf_machine_run(&machine, &program, bytes, length, limit, output, 4, &report);
+}
+
+/* takes a cell, reads back the 5 that it wrote there, and returns it; 0 where it gets none */
+#define CELL "b701000000000000850000000100000015000500000000007a00000005000000" \
+             "7906000000000000bf010000000000008500000002000000bf600000000000009500000000000000"
+/* emits the byte of the context and returns 7 */
+#define EMIT "71110000000000008500000003000000b7000000070000009500000000000000"
+/* reads four bytes of the context */
+#define READ "61100000000000009500000000000000"
+
+static void each_status(void) {
+    assert(run("", 9) == EBPF_EMPTY && ebpf_machine_reap(&machine) == EBPF_EMPTY);
+    assert(ebpf_machine_new(&machine, 0) == EBPF_PAGES && ebpf_machine_new(&machine, 257) == EBPF_PAGES);
+    assert(ebpf_machine_new(&machine, 1) == EBPF_DONE);
+    assert(run("", 9) == EBPF_EMPTY);
+    assert(load(READ, 4097, 0) == EBPF_DECLARATION && load(READ, 4, 65) == EBPF_DECLARATION);
+    assert(load(READ, 3, 0) == EBPF_REFUSED);
+    assert(!strcmp(refusal.code, "V8") && refusal.slot == 0 && refusal.length > 20);
+    assert(!strncmp(text, "  slot 0 reads 4 bytes", 22));
+    assert(run("000000", 9) == EBPF_EMPTY);
+
+    assert(load(EMIT, 1, 0) == EBPF_DONE);
+    assert(run("", 9) == EBPF_CONTEXT);
+    assert(run("2a", 9) == EBPF_DONE);
+    assert(report.exited && report.exit == 7 && report.executed == 4 && report.peak == 0);
+    assert(report.outputs == 1 && output[0] == 42);
+    assert(run("2a", 3) == EBPF_DONE);
+    assert(!report.exited && report.exit == 0 && report.executed == 3 && report.outputs == 1);
+
+    assert(load(CELL, 0, 1) == EBPF_DONE); /* the other is freed */
+    for (int i = 0; i < 3; i++) {
+        assert(run("", 100) == EBPF_DONE);
+        assert(report.exit == 5 && report.executed == 9 && report.peak == 1 && report.outputs == 0);
+    }
+    assert(ebpf_machine_reap(&machine) == EBPF_DONE);
+    assert(run("", 100) == EBPF_DONE && report.exit == 5);
+
+    ebpf_machine_free(&machine);
+    assert(run("", 100) == EBPF_EMPTY);
+    ebpf_program_free(&program);
+    assert(!machine.word && !program.word);
+    ebpf_machine_free(&machine);
+    ebpf_program_free(&program);
+}
+
+/* a sentence is cut where there is no more room, and nothing behind is written */
+static void a_short_text(void) {
+    uint8_t bytes[16];
+    size_t length = bytes_of(READ, bytes);
+    char room[6] = "......";
+    assert(ebpf_program_load(&program, bytes, length, 3, 0, room, 4, &refusal) == EBPF_REFUSED);
+    assert(!memcmp(room, "  sl..", 6));
+}
+
+static void *on_another_thread(void *unused) {
+    (void)unused;
+    assert(run("", 100) == EBPF_DONE && report.exit == 5);
+    ebpf_machine_free(&machine);
+    ebpf_program_free(&program);
+    return NULL;
+}
+
+static void one_thread_after_another(void) {
+    pthread_t other;
+    assert(ebpf_machine_new(&machine, 2) == EBPF_DONE && load(CELL, 0, 1) == EBPF_DONE && run("", 100) == EBPF_DONE);
+    assert(pthread_create(&other, NULL, on_another_thread, NULL) == 0);
+    assert(pthread_join(other, NULL) == 0);
+}
+
+/* The calls with so many allocations served: each answers want of memory and leaves what was there, or does what it says. Whether one
+ * was refused. */
+static int served(long allocations) {
+    refused = 0;
+    left = allocations;
+    ebpf_status made = ebpf_machine_new(&machine, 1);
+    ebpf_status loaded = load(CELL, 0, 1);
+    ebpf_status ran = made == EBPF_DONE && loaded == EBPF_DONE ? run("", 100) : EBPF_NO_MEMORY;
+    left = -1;
+    assert(made == EBPF_DONE || (made == EBPF_NO_MEMORY && !machine.word));
+    assert(loaded == EBPF_DONE || (loaded == EBPF_NO_MEMORY && !program.word));
+    assert(ran == EBPF_NO_MEMORY || (report.exited && (report.exit == 5 || (refused && report.exit == 0))));
+    if (made == EBPF_DONE && loaded == EBPF_DONE) assert(run("", 100) == EBPF_DONE && report.exit == 5);
+    ebpf_machine_free(&machine);
+    ebpf_program_free(&program);
+    return refused;
+}
+
+int main(void) {
+    each_status();
+    a_short_text();
+    one_thread_after_another();
+    long allocations = 0;
+    while (served(allocations)) allocations++;
+    assert(allocations > 10);
+    printf("host: %ld refused allocations\n", allocations);
+    return 0;
+}
