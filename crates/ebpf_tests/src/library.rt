@@ -1,4 +1,4 @@
-//! The library as its users call it. README shows this function.
+//! The library as its users call it: a run in a world.
 
 use crate::programs::{bytes_of, holds};
 use ebpf_core::event::{Answer, Event};
