@@ -57,6 +57,10 @@ typedef struct ebpf_report {
     uint64_t executed; /* how many instructions it did */
     uint64_t peak;     /* the most objects that it held at one time */
     uint64_t outputs;  /* how many numbers it added to its output */
+    uint64_t granted;  /* how many calls of new were granted an object */
+    uint64_t refused;  /* how many were answered null */
+    uint64_t fetched;  /* how many calls of swap found an object on the shelf */
+    uint64_t missed;   /* how many found nothing there */
     bool exited;       /* whether it exited within the limit */
 } ebpf_report;
 

@@ -59,6 +59,9 @@ static ebpf_status run(const char *context, uint64_t limit) {
              "7906000000000000bf010000000000008500000002000000bf600000000000009500000000000000"
 /* emits the byte of the context and returns 7 */
 #define EMIT "71110000000000008500000003000000b7000000070000009500000000000000"
+/* takes what stands on the shelf of records, and gives it back */
+#define FETCH "b701000001000000b70200000000000085000000040000001500020000000000" \
+              "bf010000000000008500000002000000b7000000000000009500000000000000"
 /* reads four bytes of the context */
 #define READ "61100000000000009500000000000000"
 
@@ -85,7 +88,11 @@ static void each_status(void) {
     for (int i = 0; i < 3; i++) {
         assert(run("", 100) == EBPF_DONE);
         assert(report.exit == 5 && report.executed == 9 && report.peak == 1 && report.outputs == 0);
+        assert(report.granted == 1 && report.refused == 0 && report.fetched == 0 && report.missed == 0);
     }
+    assert(load(FETCH, 0, 1) == EBPF_DONE);
+    assert(run("", 100) == EBPF_DONE && report.missed == 1 && report.fetched == 0);
+    assert(load(CELL, 0, 1) == EBPF_DONE);
     assert(ebpf_machine_reap(&machine) == EBPF_DONE);
     assert(run("", 100) == EBPF_DONE && report.exit == 5);
 

@@ -7,7 +7,7 @@ import sys
 
 
 class Report(ctypes.Structure):
-    _fields_ = [(name, ctypes.c_uint64) for name in ("exit", "executed", "peak", "outputs")] + [("exited", ctypes.c_bool)]
+    _fields_ = [(name, ctypes.c_uint64) for name in ("exit", "executed", "peak", "outputs", "granted", "refused", "fetched", "missed")] + [("exited", ctypes.c_bool)]
 
 
 library = ctypes.CDLL(sys.argv[1])

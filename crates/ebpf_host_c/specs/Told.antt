@@ -1,8 +1,8 @@
 -- What C is told.
-use Rattle.std.specs.Prelude.{◌≡◌, ℕ, Bool, ◌++◌, List, length, take, drop, Option, Some, None, is_some, unwrap_or, string_bytes}
+use Rattle.std.specs.Prelude.{◌≡◌, ℕ, Bool, ◌++◌, List, length, filter, take, drop, Option, Some, None, is_some, unwrap_or, string_bytes}
 use Rattle.ebpf_verify.specs.Subject.{Subject}
 use Rattle.ebpf_machine.specs.declared.report.Report.{Report}
-use Rattle.ebpf_machine.specs.Whole.{granted, refused, fetched, missed}
+use Rattle.ebpf_machine.specs.Whole.{is_granted, is_null, is_fetched, is_empty}
 use Rattle.ebpf_host.specs.declared.refusal.Refusal.{Refusal}
 use Rattle.ebpf_host.specs.Loading.{IsRefusedAs}
 use Rattle.ebpf_host.specs.Reports.{IsReportWithin}
@@ -31,3 +31,7 @@ pub record IsReportTold (s : Subject) (context : List ℕ) (limit : ℕ) (room o
   pub peak : told.peak ≡ report.peak
   pub outputs : told.outputs ≡ length report.output
   pub numbers : output ≡ copied report.output room
+  pub granted : told.granted ≡ length (filter is_granted report.answers)
+  pub refused : told.refused ≡ length (filter is_null report.answers)
+  pub fetched : told.fetched ≡ length (filter is_fetched report.answers)
+  pub missed : told.missed ≡ length (filter is_empty report.answers)

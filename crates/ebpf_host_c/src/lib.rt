@@ -4,9 +4,10 @@
 //! ebpf_host, states what that promises, and tells the outcome by a status. Nothing here starts a thread or takes a lock.
 #![tactic(auto)]
 
-ghost use Rattle.std.specs.Prelude.{◌≡◌, ◌≢◌, ◌⊎◌, ◌<◌, None, is_some, length, string_bytes, unwrap_or};
+ghost use Rattle.std.specs.Prelude.{◌≡◌, ◌≢◌, ◌⊎◌, ◌<◌, None, filter, is_some, length, string_bytes, unwrap_or};
 ghost use Rattle.std.specs.Option.{MatchOption};
 ghost use Rattle.vmem_arena.specs.declared.arena.TheConstants.{MAX_PAGES};
+ghost use Rattle.ebpf_machine.specs.Whole.{is_granted, is_null, is_fetched, is_empty};
 ghost use Rattle.ebpf_host.specs.Loading.{IsLoaded};
 ghost use Rattle.ebpf_host_c.specs.Told.{IsRefusalTold, IsReportTold, copied};
 
@@ -15,7 +16,7 @@ use ebpf_handle::program::ProgramHandle;
 use ebpf_host::machine::Machine;
 use ebpf_host::program::Program;
 use ebpf_host::refusal::{LoadFault, Refusal};
-use ebpf_machine::report::Report;
+use ebpf_machine::report::{Reply, Report};
 use ebpf_machine::run::StartFault;
 use std::alloc::Global;
 use vmem_arena::ArenaFault;
@@ -65,6 +66,14 @@ pub struct Reported {
     pub peak: u64,
     /// How many numbers it added to its output.
     pub outputs: u64,
+    /// How many calls of `new` were granted an object.
+    pub granted: u64,
+    /// How many calls of `new` were answered null.
+    pub refused: u64,
+    /// How many calls of `swap` found an object on the shelf.
+    pub fetched: u64,
+    /// How many calls of `swap` found nothing there.
+    pub missed: u64,
     /// Whether it exited within the limit.
     pub exited: bool,
 }
@@ -240,6 +249,38 @@ fn run_held(
     }
 }
 
+// How many replies there are of each kind.
+#[derive(Clone, Copy)]
+struct Counts {
+    granted: usize,
+    refused: usize,
+    fetched: usize,
+    missed: usize,
+}
+
+fn counts_of(replies: &[Reply]) -> Counts
+    ensures granted { result.granted ≡ length (filter is_granted replies.now) }
+    ensures refused { result.refused ≡ length (filter is_null replies.now) }
+    ensures fetched { result.fetched ≡ length (filter is_fetched replies.now) }
+    ensures missed { result.missed ≡ length (filter is_empty replies.now) }
+{
+    let (mut granted, mut refused, mut fetched, mut missed) = (0, 0, 0, 0);
+    for reply in replies {
+        match reply {
+            Reply::Granted => granted += 1,
+            Reply::Null => refused += 1,
+            Reply::Shelf => fetched += 1,
+            Reply::Empty => missed += 1,
+        }
+    }
+    Counts {
+        granted,
+        refused,
+        fetched,
+        missed,
+    }
+}
+
 // Tells a report.
 fn tell_report(done: &Report, output: &mut [u64], report: &mut Reported)
     ensures numbers { output.new ≡ copied done.now.output output.old }
@@ -248,14 +289,23 @@ fn tell_report(done: &Report, output: &mut [u64], report: &mut Reported)
     ensures executed { report.new.executed ≡ done.now.executed }
     ensures peak { report.new.peak ≡ done.now.peak }
     ensures outputs { report.new.outputs ≡ length done.now.output }
+    ensures granted { report.new.granted ≡ length (filter is_granted done.now.answers) }
+    ensures refused { report.new.refused ≡ length (filter is_null done.now.answers) }
+    ensures fetched { report.new.fetched ≡ length (filter is_fetched done.now.answers) }
+    ensures missed { report.new.missed ≡ length (filter is_empty done.now.answers) }
 {
     let numbers = &done.output.numbers;
     copy(numbers, output);
+    let counts = counts_of(&done.answers.replies);
     *report = Reported {
         exit: done.exit.unwrap_or(0),
         executed: done.executed,
         peak: done.peak,
         outputs: numbers.len() as u64,
+        granted: counts.granted as u64,
+        refused: counts.refused as u64,
+        fetched: counts.fetched as u64,
+        missed: counts.missed as u64,
         exited: done.exit.is_some(),
     };
 }
