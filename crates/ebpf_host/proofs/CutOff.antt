@@ -4,12 +4,12 @@ use Rattle.std.specs.Prelude.{List, IfSome, IfNone}
 use Rattle.ebpf_insn.specs.Program.{instructions}
 use Rattle.ebpf_verify.specs.Subject.{Subject}
 use Rattle.ebpf_machine.specs.declared.report.Report.{Report}
-use Rattle.ebpf_machine.specs.Alone.{Replies, alone_after, replies_in, replies_of}
+use Rattle.ebpf_machine.specs.Alone.{alone_after, replies_in}
 use Rattle.ebpf_machine.specs.RunState.{RunState, first_state_of, status_of}
 use Rattle.ebpf_machine.specs.Step.{IsGivenUp, seen_in}
 use Rattle.ebpf_machine.specs.Store.{Store}
 use Rattle.ebpf_machine.specs.Turns.{AreTurnsWithin}
-use Rattle.ebpf_machine.specs.View.{RunView, view_in}
+use Rattle.ebpf_machine.specs.View.{view_in}
 use Rattle.ebpf_machine.specs.Whole.{IsReportOf}
 use Rattle.ebpf_machine.proofs.WholeRuns.Ends.{IsFinished, report_of, report_with}
 use Rattle.ebpf_machine.proofs.WholeRuns.Told.{IsUnderWay}

@@ -1,3 +1,4 @@
 pub mod Stocking
 pub mod ByKind
 pub mod CutOff
+pub mod Leaving

@@ -1,9 +1,9 @@
 -- A stock of which a slot is taken, and to which one is given back.
-use Rattle.std.proofs.Common.{◌≡◌, ◌≢◌, ℕ, ◌+◌, ◌/◌, ◌≤◌, Option, Some, None, refl, sym, ap, ◌∙◌, subst, arith}
+use Rattle.std.proofs.Common.{◌≡◌, ◌≢◌, ℕ, ◌+◌, ◌/◌, ◌≤◌, Option, Some, None, sym, ap, ◌∙◌, subst, arith}
 use Rattle.std.specs.Prelude.{IfSome, option_map}
-use Rattle.slab_layer.specs.declared.place.Place.TheVariants.{Home, Out}
-use Rattle.slab_layer.specs.Slots.{Pages, IsOut, Moves, TakesOut, RemovesPage, place_of, out_count}
-use Rattle.ebpf_host.specs.Stock.{StockView, Shelved, IsHeld, Takes, Gives, one_if, held_count}
+use Rattle.slab_layer.specs.declared.place.Place.TheVariants.{Home}
+use Rattle.slab_layer.specs.Slots.{Pages, IsOut, Moves, TakesOut, RemovesPage, out_count}
+use Rattle.ebpf_host.specs.Stock.{StockView, Shelved, IsHeld, Takes, Gives, one_if}
 
 pub one_at_most : {X : Type 0} (o : Option X) → one_if o ≤ 1
 one_at_most None = omega arith

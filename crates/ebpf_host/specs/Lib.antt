@@ -1,4 +1,5 @@
 pub mod Stock
 pub mod Stocks
 pub mod Reports
+pub mod Leaving
 pub mod Loading

@@ -1,5 +1,6 @@
 -- The objects of a machine: a stock of each kind, and what is said of an object of whatever kind there.
-use Rattle.std.specs.Prelude.{◌≡◌, ◌≢◌, ◌+◌, ◌*◌, ℕ, ◌==◌, if◌then◌else◌, List, [], Option, Some, None, option_map}
+use Rattle.std.specs.Prelude.{◌≡◌, ◌≢◌, ◌+◌, ◌*◌, ℕ, ◌==◌, if◌then◌else◌, List, [], Box, Option, Some, None, option_map}
+use Rattle.std.specs.Option.{MatchOption}
 use Rattle.run_object.specs.declared.Object.{Object}
 use Rattle.run_object.specs.Object.{kind_of, slot_of, bytes_of}
 use Rattle.ebpf_host.specs.declared.stocks.Stocks.{Stocks}
@@ -7,6 +8,17 @@ use Rattle.ebpf_host.specs.Stock.{StockView, Shelved, IsHeld, held_count, shelve
 
 abbrev pub no_stock : StockView
 no_stock = record { pages = []; shelf = None }
+
+abbrev pub no_stocks : Stocks
+no_stocks = record { arena = record { pages = 0; out = [] }; cells = no_stock; records = no_stock; blocks = no_stock }
+
+-- the stocks of a machine, where they are there and not lent to a run
+abbrev pub stocks_in : {Z : Type 0} → Option (Box Stocks Z) → Stocks
+stocks_in None = no_stocks
+stocks_in (Some b) = b.value
+
+abbrev pub AreThere : {Z : Type 0} → Option (Box Stocks Z) → Type 0
+AreThere s = MatchOption s ⊥ (λ _. Unit {0})
 
 -- the stock of the kind with this number
 abbrev pub stock_of : Stocks → ℕ → StockView
@@ -37,6 +49,14 @@ renumbered kind o = shelved_at (number_in kind o.slot) o.bytes
 
 abbrev pub standing_on : Stocks → ℕ → Option Shelved
 standing_on s kind = option_map (renumbered kind) (stock_of s kind).shelf
+
+-- the bytes of what stands on a shelf
+abbrev pub bytes_on : Option Shelved → Option (List ℕ)
+bytes_on what = option_map (λ o. o.bytes) what
+
+-- on the shelf of the kind with this number
+abbrev pub shelf_bytes : Stocks → ℕ → Option (List ℕ)
+shelf_bytes s kind = bytes_on (stock_of s kind).shelf
 
 -- how many objects of a kind runs hold, counted from one on
 abbrev pub held_of : Stocks → ℕ → ℕ

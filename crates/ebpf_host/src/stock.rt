@@ -51,6 +51,7 @@ impl<K: Kind> Stock<K> {
     fn take_home(&mut self, arena: &mut Arena) -> Option<Obj<K, Home>>
         ensures taken { IfSome result (λ o. Takes self.old self.new o.slot) }
         ensures none { IfNone result (self.new ≡ self.old) }
+        ensures pages { arena.new.pages ≡ arena.old.pages }
     {
         if let Some(object) = self.slabs.take() {
             return Some(object);
@@ -70,6 +71,7 @@ impl<K: Kind> Stock<K> {
         ensures image { IfSome result (λ o. o.bytes.items ≡ replicate K.SIZE K.FILL) }
         ensures taken { IfSome result (λ o. Takes self.old self.new o.slot) }
         ensures none { IfNone result (self.new ≡ self.old) }
+        ensures pages { arena.new.pages ≡ arena.old.pages }
     {
         match self.take_home(arena) {
             Some(object) => Some(object.construct().hold()),
@@ -96,6 +98,7 @@ impl<K: Kind> Stock<K> {
     /// Gives the lowest page that has nothing out back to the arena. False where there is no such page; then nothing changed.
     pub(crate) fn reap(&mut self, arena: &mut Arena) -> bool
         ensures shelf { self.new.shelf ≡ self.old.shelf }
+        ensures pages { arena.new.pages ≡ arena.old.pages }
     {
         match self.slabs.reap() {
             Some(span) => {
@@ -123,6 +126,7 @@ fn grow<K: Kind>(slabs: &mut Slabs<K>, arena: &mut Arena) -> bool
     ensures home { IsTrue result → (slot : ℕ) × IsHome slabs.new slot }
     ensures counted { IsTrue result → out_count slabs.new ≡ out_count slabs.old }
     ensures unchanged { result ≡ false → slabs.new ≡ slabs.old }
+    ensures pages { arena.new.pages ≡ arena.old.pages }
 {
     let Ok(span) = arena.take(1) else {
         return false;

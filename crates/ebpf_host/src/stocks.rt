@@ -13,10 +13,9 @@ use slab_layer::{BlockKind, CellKind, Kind, RecordKind};
 use std::alloc::Global;
 use vmem_arena::{Arena, MAX_PAGES};
 
-/// An arena, and a stock of each kind that gets its pages there. Stocks without an arena are what a machine has while its own are lent
-/// to a run. They must be ended.
+/// An arena, and a stock of each kind that gets its pages there. They must be ended.
 pub struct Stocks {
-    pub(crate) arena: Option<Arena>,
+    pub(crate) arena: Arena,
     pub(crate) cells: Stock<CellKind>,
     pub(crate) records: Stock<RecordKind>,
     pub(crate) blocks: Stock<BlockKind>,
@@ -24,8 +23,9 @@ pub struct Stocks {
 
 impl Stocks {
     /// Stocks with no objects yet, and nothing on the shelves. It takes no memory.
-    pub(crate) fn new(alloc: Global, arena: Option<Arena>) -> Stocks
-        ensures { (kind : ℕ) → (stock_of result kind).shelf ≡ None }
+    pub(crate) fn new(alloc: Global, arena: Arena) -> Stocks
+        ensures bare { (kind : ℕ) → (stock_of result kind).shelf ≡ None }
+        ensures arena { result.arena ≡ arena }
     {
         Stocks {
             arena,
@@ -44,6 +44,7 @@ impl Stocks {
         ensures taken { IfSome result (λ o. Takes (stock_of self.old kind) (stock_of self.new kind) (slot_of o)) }
         ensures none { IfNone result (stock_of self.new kind ≡ stock_of self.old kind) }
         ensures others { OthersStay self.old self.new kind }
+        ensures pages { self.new.arena.pages ≡ self.old.arena.pages }
     {
         let Stocks {
             arena,
@@ -51,9 +52,6 @@ impl Stocks {
             records,
             blocks,
         } = self;
-        let Some(arena) = arena else {
-            return None;
-        };
         match kind {
             0 => match cells.take(arena) {
                 Some(object) => Some(Object::Cell(object)),
@@ -76,6 +74,7 @@ impl Stocks {
         requires { Holds self.old object }
         ensures given { Gives (stock_of self.old (kind_of object)) (stock_of self.new (kind_of object)) (slot_of object) }
         ensures others { OthersStay self.old self.new (kind_of object) }
+        ensures pages { self.new.arena.pages ≡ self.old.arena.pages }
     {
         match object {
             Object::Cell(object) => self.cells.give(object),
@@ -91,6 +90,7 @@ impl Stocks {
         ensures kind { IfSome result (λ o. kind_of o ≡ shelf) }
         ensures exchanged { Exchanges (stock_of self.old shelf) (stock_of self.new shelf) (option_map as_shelved given) (option_map as_shelved result) }
         ensures others { OthersStay self.old self.new shelf }
+        ensures pages { self.new.arena.pages ≡ self.old.arena.pages }
     {
         match shelf {
             0 => match self.cells.swap(cell(given)) {
@@ -111,7 +111,8 @@ impl Stocks {
 
     /// Gives the pages that have nothing out back to the arena. What stands on the shelves stays there.
     pub(crate) fn reap(&mut self)
-        ensures { (kind : ℕ) → (stock_of self.new kind).shelf ≡ (stock_of self.old kind).shelf }
+        ensures shelves { (kind : ℕ) → (stock_of self.new kind).shelf ≡ (stock_of self.old kind).shelf }
+        ensures pages { self.new.arena.pages ≡ self.old.arena.pages }
     {
         let Stocks {
             arena,
@@ -119,11 +120,9 @@ impl Stocks {
             records,
             blocks,
         } = self;
-        if let Some(arena) = arena {
-            reap_all(cells, arena);
-            reap_all(records, arena);
-            reap_all(blocks, arena);
-        }
+        reap_all(cells, arena);
+        reap_all(records, arena);
+        reap_all(blocks, arena);
     }
 
     /// Ends the stocks, with all their objects.
@@ -142,7 +141,8 @@ impl Stocks {
 
 // Gives all pages of a stock that have nothing out back to the arena.
 fn reap_all<K: Kind>(stock: &mut Stock<K>, arena: &mut Arena)
-    ensures { stock.new.shelf ≡ stock.old.shelf }
+    ensures shelf { stock.new.shelf ≡ stock.old.shelf }
+    ensures pages { arena.new.pages ≡ arena.old.pages }
 {
     for _page in 0..MAX_PAGES {
         if !stock.reap(arena) {

@@ -3,6 +3,7 @@
 ghost use Rattle.std.specs.Prelude.{◌≡◌, length, IfOk, IfErr, OnOk, OnErr};
 ghost use Rattle.ebpf_machine.specs.Kinds.{known_kinds};
 ghost use Rattle.ebpf_machine.specs.Turns.{IsStartFault};
+ghost use Rattle.ebpf_host.specs.Leaving.{IsLeft};
 ghost use Rattle.ebpf_host.specs.Reports.{IsReportWithin};
 
 use crate::program::Program;
@@ -28,6 +29,7 @@ pub(crate) fn run_within<O: Objects>(
     requires kinds { O.store.kinds ≡ known_kinds }
     requires room { (store : O) → O.store.can_give store }
     ensures report { IfOk result (λ r. IsReportWithin program.now.verified context.items limit r.0) }
+    ensures shelves { IfOk result (λ r. IsLeft O.store objects.old objects.new program.now.verified context.items r.0) }
     ensures length { OnOk result (length context.items ≡ program.now.verified.decl.context) }
     ensures refused { IfErr result (IsStartFault (length context.items) program.now.verified.decl.context) }
     ensures unchanged { OnErr result (objects.new ≡ objects.old) }

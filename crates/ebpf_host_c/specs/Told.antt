@@ -1,9 +1,11 @@
 -- What C is told.
-use Rattle.std.specs.Prelude.{◌≡◌, ℕ, Bool, ◌++◌, List, length, filter, take, drop, Option, Some, None, is_some, unwrap_or, string_bytes}
+use Rattle.std.specs.Prelude.{◌≡◌, ℕ, ◌++◌, List, length, filter, take, drop, is_some, unwrap_or, string_bytes}
 use Rattle.ebpf_verify.specs.Subject.{Subject}
 use Rattle.ebpf_machine.specs.declared.report.Report.{Report}
 use Rattle.ebpf_machine.specs.Whole.{is_granted, is_null, is_fetched, is_empty}
 use Rattle.ebpf_host.specs.declared.refusal.Refusal.{Refusal}
+use Rattle.ebpf_host.specs.declared.stocks.Stocks.{Stocks}
+use Rattle.ebpf_host.specs.Leaving.{AreLeft}
 use Rattle.ebpf_host.specs.Loading.{IsRefusedAs}
 use Rattle.ebpf_host.specs.Reports.{IsReportWithin}
 use Rattle.ebpf_host_c.specs.declared.Refused.{Refused}
@@ -21,10 +23,11 @@ pub record IsRefusalTold (bytes : List ℕ) (context held : ℕ) (room text : Li
   pub length_is : told.length ≡ length (string_bytes refusal.sentence)
   pub sentence : text ≡ copied (string_bytes refusal.sentence) room
 
--- a report, with the output as far as there is room
-pub record IsReportTold (s : Subject) (context : List ℕ) (limit : ℕ) (room output : List ℕ) (told : Reported) : Type 0 where
+-- a report of a run on a machine, with the output as far as there is room
+pub record IsReportTold (old new : Stocks) (s : Subject) (context : List ℕ) (limit : ℕ) (room output : List ℕ) (told : Reported) : Type 0 where
   pub report : Report
   pub is : IsReportWithin s context limit report
+  pub left : AreLeft old new s context report
   pub exited : told.exited ≡ is_some report.exit
   pub exit : told.exit ≡ unwrap_or report.exit 0
   pub executed : told.executed ≡ report.executed

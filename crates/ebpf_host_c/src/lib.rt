@@ -4,11 +4,12 @@
 //! ebpf_host, states what that promises, and tells the outcome by a status. Nothing here starts a thread or takes a lock.
 #![tactic(auto)]
 
-ghost use Rattle.std.specs.Prelude.{◌≡◌, ◌≢◌, ◌⊎◌, ◌<◌, None, filter, is_some, length, string_bytes, unwrap_or};
+ghost use Rattle.std.specs.Prelude.{◌≡◌, ◌≢◌, ◌⊎◌, ◌<◌, ℕ, None, filter, is_some, length, string_bytes, unwrap_or};
 ghost use Rattle.std.specs.Option.{MatchOption};
 ghost use Rattle.vmem_arena.specs.declared.arena.TheConstants.{MAX_PAGES};
 ghost use Rattle.ebpf_machine.specs.Whole.{is_granted, is_null, is_fetched, is_empty};
 ghost use Rattle.ebpf_host.specs.Loading.{IsLoaded};
+ghost use Rattle.ebpf_host.specs.Stocks.{stock_of};
 ghost use Rattle.ebpf_host_c.specs.Told.{IsRefusalTold, IsReportTold, copied};
 
 use ebpf_handle::machine::MachineHandle;
@@ -152,7 +153,7 @@ pub extern "C" fn ebpf_program_free(alloc: Global, program: &mut ProgramHandle)
 /// Makes a machine whose objects lie on up to so many pages, and frees what the handle held before.
 #[unsafe(no_mangle)]
 pub extern "C" fn ebpf_machine_new(alloc: Global, machine: &mut MachineHandle, pages: u32) -> u32
-    ensures made { result ≡ 0 → MatchOption machine.new.value ⊥ (λ _. Unit {0}) }
+    ensures made { result ≡ 0 → MatchOption machine.new.value ⊥ (λ m. (m.arena.pages ≡ pages) × ((kind : ℕ) → (stock_of m kind).shelf ≡ None)) }
     ensures pages { result ≡ 3 → (pages ≡ 0) ⊎ (MAX_PAGES < pages) }
     ensures kept { result ≢ 0 → machine.new.value ≡ machine.old.value }
 {
@@ -180,7 +181,9 @@ pub extern "C" fn ebpf_machine_free(alloc: Global, machine: &mut MachineHandle)
 /// Gives the pages of a machine on which there is no object that is held or stands on a shelf back to its arena.
 #[unsafe(no_mangle)]
 pub extern "C" fn ebpf_machine_reap(alloc: Global, machine: &mut MachineHandle) -> u32
-    ensures { MatchOption machine.old.value (result ≡ 5) (λ _. result ≡ 0) }
+    ensures told { MatchOption machine.old.value (result ≡ 5) (λ _. result ≡ 0) }
+    ensures shelves { MatchOption machine.old.value (machine.new.value ≡ None) (λ old. MatchOption machine.new.value ⊥ (λ new. (kind : ℕ) → (stock_of new kind).shelf ≡ (stock_of old kind).shelf)) }
+    ensures pages { MatchOption machine.old.value (machine.new.value ≡ None) (λ old. MatchOption machine.new.value ⊥ (λ new. new.arena.pages ≡ old.arena.pages)) }
 {
     match machine.take(alloc) {
         None => EMPTY,
@@ -204,7 +207,9 @@ pub extern "C" fn ebpf_machine_run(
     output: &mut [u64],
     report: &mut Reported,
 ) -> u32
-    ensures report { result ≡ 0 → MatchOption program.old.value ⊥ (λ p. IsReportTold p.verified context.now limit output.old output.new report.new) }
+    ensures report { result ≡ 0 → MatchOption program.old.value ⊥ (λ p. MatchOption machine.old.value ⊥ (λ old. MatchOption machine.new.value ⊥ (λ new. IsReportTold old new p.verified context.now limit output.old output.new report.new))) }
+    ensures pages { MatchOption machine.old.value (machine.new.value ≡ None) (λ old. MatchOption machine.new.value ⊥ (λ new. new.arena.pages ≡ old.arena.pages)) }
+    ensures unchanged { result ≢ 0 → machine.new.value ≡ machine.old.value }
     ensures context { result ≡ 4 → MatchOption program.old.value ⊥ (λ p. length context.now ≢ p.verified.decl.context) }
     ensures empty { result ≡ 5 → (machine.old.value ≡ None) ⊎ (program.old.value ≡ None) }
     ensures kept { program.new.value ≡ program.old.value }
@@ -216,7 +221,7 @@ pub extern "C" fn ebpf_machine_run(
         machine.put(alloc, held);
         return EMPTY;
     };
-    let status = run_held(alloc, &mut held, &loaded, context, limit, output, report);
+    let status = run_held(&mut held, &loaded, context, limit, output, report);
     machine.put(alloc, held);
     program.put(alloc, loaded);
     status
@@ -224,7 +229,6 @@ pub extern "C" fn ebpf_machine_run(
 
 // The same with what the handles hold.
 fn run_held(
-    alloc: Global,
     machine: &mut Machine,
     program: &Program,
     context: &[u8],
@@ -232,14 +236,13 @@ fn run_held(
     output: &mut [u64],
     report: &mut Reported,
 ) -> u32
-    ensures report { result ≡ 0 → IsReportTold program.now.verified context.now limit output.old output.new report.new }
+    ensures report { result ≡ 0 → IsReportTold machine.old machine.new program.now.verified context.now limit output.old output.new report.new }
+    ensures pages { machine.new.arena.pages ≡ machine.old.arena.pages }
+    ensures unchanged { result ≢ 0 → machine.new ≡ machine.old }
     ensures context { result ≡ 4 → length context.now ≢ program.now.verified.decl.context }
     ensures others { (result ≢ 1) × (result ≢ 2) × (result ≢ 3) × (result ≢ 5) }
 {
-    let Ok(bytes) = context.to_vec(alloc) else {
-        return NO_MEMORY;
-    };
-    match machine.run(program, bytes, limit) {
+    match machine.run(program, context, limit) {
         Ok(done) => {
             tell_report(&done, output, report);
             DONE

@@ -41,7 +41,7 @@ other_byte part place byte =
     ++ (shown_byte byte ++ (codes ", and no hex digit: " ++ mending_of part byte))))))
 
 abbrev pub odd_digits : Part → ℕ → List ℕ
-odd_digits part digits = codes "the " ++ (part_name part ++ (codes " has " ++ (decimal digits ++ codes " hex digits, an odd number: two make a byte")))
+odd_digits part digits = codes "the " ++ (part_name part ++ (codes " has an odd number of hex digits, " ++ (decimal digits ++ codes ": two make a byte")))
 
 -- by the first byte that may not stand there, if there is one
 abbrev pub unread_by : Part → List ℕ → Option ℕ → List ℕ

@@ -124,7 +124,7 @@ fn write_unread(text: &mut String, part: Part, bytes: &[u8]) -> Result<(), Alloc
             let digits = digits_in(bytes);
             write!(
                 text,
-                "the {name} has {digits} hex digits, an odd number: two make a byte"
+                "the {name} has an odd number of hex digits, {digits}: two make a byte"
             )
         }
     }

@@ -84,6 +84,8 @@ pub struct RunOptions {
     pub workers: u32,
     /// How many passes the reaper makes beside those of the script, 0 to 1000.
     pub reaps: u32,
+    /// Whether a table of what the caches and the workers did is printed.
+    pub stats: bool,
     ghost workers_fit: { (1 ≤ workers) × (workers ≤ 64) },
     ghost reaps_fit: { reaps ≤ 1000 },
 }
@@ -224,6 +226,7 @@ fn run_command<'a>(alloc: Global) -> Result<Command<'a>, AllocError> {
         .after_help(RUN_EXAMPLE);
     run.arg(workers_option(alloc))?
         .arg(reaps_option(alloc))?
+        .arg(stats_option(alloc))?
         .arg(file_argument(alloc))
 }
 
@@ -243,6 +246,13 @@ fn reaps_option<'a>(alloc: Global) -> Arg<'a> {
         .value_parser(value_parser!(u32).range(0..=1000))
         .default_value("0")
         .help("How many passes the reaper makes beside those of the script, 0 to 1000")
+}
+
+fn stats_option<'a>(alloc: Global) -> Arg<'a> {
+    Arg::new(alloc, "stats")
+        .long("stats")
+        .action(ArgAction::SetTrue)
+        .help("Writes what the caches and the workers did to standard error")
 }
 
 /// What the words of the command line ask for, where they are a command.
@@ -310,5 +320,9 @@ fn run_options(given: &ArgMatches<'_>) -> Option<RunOptions> {
     if workers < 1 || workers > MAX_WORKERS || reaps > MAX_REAPS {
         return None;
     }
-    Some(RunOptions { workers, reaps })
+    Some(RunOptions {
+        workers,
+        reaps,
+        stats: given.get_flag("stats"),
+    })
 }

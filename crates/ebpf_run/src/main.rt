@@ -10,7 +10,7 @@
 
 mod command;
 
-use crate::command::{Request, Task, command, request_of};
+use crate::command::{Request, RunOptions, Task, command, request_of};
 use clap::Error;
 use clap::error::ErrorKind;
 use ebpf_command::done::{Done, EngineFault};
@@ -22,10 +22,11 @@ use ebpf_script::check::check;
 use ebpf_script::explained_check::explained_check;
 use ebpf_script::replay::replay;
 use ebpf_script::run::run as run_script;
+use ebpf_script::watch::{TABLE_BYTES, Watch};
 use std::fs::File;
-use std::io::Read;
+use std::io::{Read, Write};
 use std::process::ExitCode;
-use std::rt::{Env, Files};
+use std::rt::{Clock, Env, Files};
 use std::sync::Wait;
 use std::thread::Threads;
 use std::{env, io};
@@ -48,7 +49,7 @@ fn main(rt: HostRuntime) -> ExitCode {
 }
 
 // Does what the command line asks for, and gives the exit status.
-fn run<R: AllocGlobal + Env + Eprint + Files + Input + Print + Threads + Wait + Sync>(
+fn run<R: AllocGlobal + Clock + Env + Eprint + Files + Input + Print + Threads + Wait + Sync>(
     rt: &R,
 ) -> Result<u8, EngineFault> {
     let alloc = rt.alloc();
@@ -70,7 +71,7 @@ fn run<R: AllocGlobal + Env + Eprint + Files + Input + Print + Threads + Wait + 
 }
 
 // Does what is asked for, on the file that is named or on standard input, and gives the exit status.
-fn serve<R: AllocGlobal + Eprint + Files + Input + Print + Threads + Wait + Sync>(
+fn serve<R: AllocGlobal + Clock + Eprint + Files + Input + Print + Threads + Wait + Sync>(
     rt: &R,
     request: Request<'_>,
 ) -> Result<u8, EngineFault> {
@@ -87,7 +88,7 @@ fn serve<R: AllocGlobal + Eprint + Files + Input + Print + Threads + Wait + Sync
 }
 
 // Does a task on an input and standard output, and gives the exit status.
-fn perform<R: AllocGlobal + Print + Threads + Wait + Sync, I: Read>(
+fn perform<R: AllocGlobal + Clock + Eprint + Print + Threads + Wait + Sync, I: Read>(
     rt: &R,
     reader: &mut I,
     task: Task<'_>,
@@ -117,19 +118,44 @@ fn perform<R: AllocGlobal + Print + Threads + Wait + Sync, I: Read>(
         Task::Check(options) if options.explain => { explained_check(alloc, reader, &mut writer) }
         Task::Check(_) => check(alloc, reader, &mut writer),
         Task::Replay => replay(alloc, reader, &mut writer),
-        Task::Run(options) => run_script(
-            rt,
-            alloc,
-            reader,
-            &mut writer,
-            options.workers,
-            options.reaps,
-        ),
+        Task::Run(options) => run_jobs(rt, reader, &mut writer, options),
     }?;
     Ok(match done {
         Done::Clean => 0,
         Done::Refused => 2,
     })
+}
+
+// Does the jobs of a script, and prints what the caches and the workers did where that is asked for.
+fn run_jobs<R: AllocGlobal + Clock + Eprint + Threads + Wait + Sync, I: Read, W: Write>(
+    rt: &R,
+    reader: &mut I,
+    writer: &mut W,
+    options: RunOptions,
+) -> Result<Done, EngineFault> {
+    let alloc = rt.alloc();
+    // Room for the table comes first, so that where there is none nothing is run.
+    let mut table = String::new(alloc);
+    if options.stats {
+        table.reserve(TABLE_BYTES)?;
+    }
+    let mut watch = Watch::start(rt);
+    let done = run_script(
+        rt,
+        alloc,
+        reader,
+        writer,
+        options.workers,
+        options.reaps,
+        &mut watch,
+    )?;
+    if options.stats {
+        watch.write_table(&mut table)?;
+        if eprint!(rt; "{table}").is_err() {
+            return Err(EngineFault::Output);
+        }
+    }
+    Ok(done)
 }
 
 // Prints why a file can't be opened, and gives the exit status.

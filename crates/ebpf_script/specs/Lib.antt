@@ -15,6 +15,8 @@ pub mod ExplainedKept
 pub mod EventCodes
 pub mod WorldLines
 pub mod OutcomeLines
+pub mod Stats
+pub mod StatsLines
 pub mod ScriptText
 pub mod CheckText
 pub mod ScriptFaults

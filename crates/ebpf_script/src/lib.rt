@@ -7,16 +7,21 @@
 //! [`run::run`].
 //!
 //! To be read in this order: `reader`, `verdicts`, `check`, `script_fault`,
-//! `explained_check`, `event_codes`, `world_text`, `replay`, `outcome_text`, `run`.
+//! `explained_check`, `event_codes`, `world_text`, `replay`, `outcome_text`, `stats`, `outcome_stats`, `meter`, `run`, `stats_text`, `watch`.
 #![tactic(auto)]
 
 pub mod check;
 mod event_codes;
 pub mod explained_check;
+pub mod meter;
+mod outcome_stats;
 mod outcome_text;
 pub mod reader;
 pub mod replay;
 pub mod run;
 mod script_fault;
+pub mod stats;
+mod stats_text;
 mod verdicts;
+pub mod watch;
 mod world_text;

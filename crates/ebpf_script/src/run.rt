@@ -10,6 +10,8 @@ ghost use Rattle.ebpf_script.specs.Runnable.{IsRunnable};
 ghost use Rattle.ebpf_script.specs.RunText.{RespondsRun, DoesRun, MayCome};
 ghost use Rattle.ebpf_script.specs.ScriptText.{RespondsScript};
 
+use crate::meter::{Meter, Stage};
+use crate::outcome_stats::stats_of;
 use crate::outcome_text::write_outcome;
 use crate::reader::read_script;
 use crate::reader::script::{Dialect, Script, ScriptStop};
@@ -30,18 +32,20 @@ const PAGES: u32 = 256;
 const SLOTS: u32 = 65_536;
 
 /// Reads a script of jobs, judges its programs, has the jobs done by this many workers, and writes what came of each, of the
-/// caches and of the shelves. The reaper makes this many passes beside them, and those of the script's lines.
+/// caches and of the shelves. The reaper makes this many passes beside them, and those of the script's lines. The meter is told how far
+/// it is, and what the caches and the workers did.
 ///
 /// # Errors
 /// `Input` where a read failed and `NoMemory` where an allocation failed: nothing was written then. `Output` where a write
 /// failed or took nothing.
-pub fn run<R: Threads + Wait + Sync, I: Read, W: Write>(
+pub fn run<R: Threads + Wait + Sync, I: Read, W: Write, M: Meter>(
     rt: &R,
     alloc: Global,
     reader: &mut I,
     writer: &mut W,
     workers: u32,
     reaps: u32,
+    meter: &mut M,
 ) -> Result<Done, EngineFault>
     requires workers { (1 ≤ workers) × (workers ≤ 64) }
     requires reaps { reaps ≤ 1000 }
@@ -51,42 +55,47 @@ pub fn run<R: Threads + Wait + Sync, I: Read, W: Write>(
     ensures untouched { IfErr result (λ fault. fault ≢ Output → writer.new ≡ writer.old) }
     ensures beginning { WritesBeginning RespondsRun (I.remaining reader.old) (W.contents writer.old) (W.contents writer.new) result }
 {
-    respond(
+    let done = respond(
         alloc,
         reader,
         writer,
         |input|
             requires { (1 ≤ workers) × (workers ≤ 64) × (reaps ≤ 1000) }
-        { answer_text(rt, alloc, input, workers, reaps) },
-    )
+        { answer_text(rt, alloc, input, workers, reaps, meter) },
+    );
+    meter.ended(Stage::Writing);
+    done
 }
 
 // The response to a text.
-fn answer_text<R: Threads + Wait + Sync>(
+fn answer_text<R: Threads + Wait + Sync, M: Meter>(
     rt: &R,
     alloc: Global,
     text: &[u8],
     workers: u32,
     reaps: u32,
+    meter: &mut M,
 ) -> Result<Answer, AllocError>
     requires workers { (1 ≤ workers) × (workers ≤ 64) }
     requires reaps { reaps ≤ 1000 }
     ensures { IfOk result (RespondsRun text.now) }
 {
+    meter.ended(Stage::Reading);
     match read_script(alloc, Dialect::Jobs, text) {
-        Ok(script) => answer_script(rt, alloc, script, workers, reaps),
+        Ok(script) => answer_script(rt, alloc, script, workers, reaps, meter),
         Err(ScriptStop::Fault(fault)) => answer_fault(alloc, fault.code, fault.line),
         Err(ScriptStop::NoMemory) => Err(AllocError),
     }
 }
 
 // The response to a script.
-fn answer_script<R: Threads + Wait + Sync>(
+fn answer_script<R: Threads + Wait + Sync, M: Meter>(
     rt: &R,
     alloc: Global,
     script: Script,
     workers: u32,
     reaps: u32,
+    meter: &mut M,
 ) -> Result<Answer, AllocError>
     requires workers { (1 ≤ workers) × (workers ≤ 64) }
     requires reaps { reaps + script.passes < 2 ^ 32 }
@@ -101,6 +110,7 @@ fn answer_script<R: Threads + Wait + Sync>(
             done: Done::Refused,
         });
     }
+    meter.ended(Stage::Judging);
     let host = Host {
         pages: script.pages.unwrap_or(PAGES),
         programs: verdicts.accepted,
@@ -113,7 +123,9 @@ fn answer_script<R: Threads + Wait + Sync>(
         workers,
         reaps + script.passes,
     )?;
+    meter.ended(Stage::Running);
     write_outcome(&mut text, &outcome)?;
+    meter.came(stats_of(outcome));
     Ok(Answer {
         text,
         done: Done::Clean,

@@ -47,7 +47,7 @@ static EXPLAINED: [(&str, &str, u8, &str); 3] = [
         "b70",
         "-",
         65,
-        "fault S5 line 0\n  the input has 3 hex digits, an odd number: two make a byte\n",
+        "fault S5 line 0\n  the input has an odd number of hex digits, 3: two make a byte\n",
     ),
 ];
 

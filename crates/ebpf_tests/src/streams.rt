@@ -8,6 +8,7 @@ use ebpf_one::list::list;
 use ebpf_one::one::one;
 use ebpf_script::check::check;
 use ebpf_script::explained_check::explained_check;
+use ebpf_script::meter::NoMeter;
 use ebpf_script::replay::replay;
 use ebpf_script::run::run;
 use std::alloc::Global;
@@ -178,7 +179,7 @@ fn call<R: Threads + Wait + Sync>(
         "check" => check(alloc, reader, writer),
         "check --explain" => explained_check(alloc, reader, writer),
         "replay" => replay(alloc, reader, writer),
-        _ => run(rt, alloc, reader, writer, 2, 1),
+        _ => run(rt, alloc, reader, writer, 2, 1, &mut NoMeter),
     }
 }
 

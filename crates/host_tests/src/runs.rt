@@ -79,7 +79,7 @@ fn runs(
     expected: &str,
 ) {
     let context = bytes_of(rt, alloc, context);
-    let told = match machine.run(program, context, limit) {
+    let told = match machine.run(program, &context, limit) {
         Ok(report) => lines_of(alloc, &report).expect(rt, "no memory"),
         Err(fault) => format!(in alloc; "{fault}").expect(rt, "no memory"),
     };

@@ -95,7 +95,7 @@ impl<K: Kind, A: Ledger, B: Ledger> Cache<K, A, B> {
             layer.end();
             return Err(refused);
         }
-        let (outs, ins) = part.end();
+        let (outs, ins, _) = part.end();
         let number = self.hands as usize;
         self.hands += 1;
         Ok(Hand {
@@ -274,7 +274,8 @@ impl<K: Kind, A: Ledger, B: Ledger> Cache<K, A, B> {
             hands: _,
         } = self;
         let mut inner = inner.into_inner();
-        let (mut all_outs, mut all_ins) = gathered(rt, &mut inner, parts);
+        let (mut all_outs, mut all_ins, depot) = gathered(rt, &mut inner, parts);
+        let pages = inner.pages();
         let mut allocs = 0;
         let mut frees = 0;
         let mut nulls = 0;
@@ -298,6 +299,13 @@ impl<K: Kind, A: Ledger, B: Ledger> Cache<K, A, B> {
         }
         hands.destroy_empty();
         inner.give_pages(rt, arena);
-        Totals::new(inner.end(all_outs, all_ins), allocs, frees, nulls)
+        Totals::new(
+            inner.end(all_outs, all_ins),
+            allocs,
+            frees,
+            nulls,
+            depot,
+            pages,
+        )
     }
 }

@@ -21,6 +21,7 @@ ghost use Rattle.object_cache.specs.CacheView.{AreHomes};
 ghost use Rattle.object_cache.specs.Growth.{GrowsBy, KeepsOut};
 ghost use Rattle.object_cache.specs.Homing.{SendsHome};
 
+use crate::activity::PageCounts;
 use crate::arena_lock::ArenaLock;
 use crate::cache::Cache;
 use crate::fault::TakeFault;
@@ -63,6 +64,7 @@ pub struct Inner<K: Kind, A: Ledger, B: Ledger> {
     outs: Book<A>,
     ins: Book<B>,
     foreign: u64,
+    pages: PageCounts,
     ghost even: { out_count slabs + ins.total ≡ outs.total + foreign },
     ghost few: { foreign ≤ 2 ^ 56 },
 }
@@ -78,6 +80,7 @@ impl<K: Kind, A: Ledger, B: Ledger> Inner<K, A, B> {
             outs,
             ins,
             foreign: 0,
+            pages: PageCounts::none(),
         }
     }
 
@@ -123,7 +126,10 @@ impl<K: Kind, A: Ledger, B: Ledger> Inner<K, A, B> {
             return Err(TakeFault::NoSpan);
         }
         match self.slabs.grow(span) {
-            Ok(()) => Ok(()),
+            Ok(()) => {
+                self.pages.take();
+                Ok(())
+            }
             Err(back) => {
                 arena.give(back);
                 Err(TakeFault::NoMemory)
@@ -211,12 +217,19 @@ impl<K: Kind, A: Ledger, B: Ledger> Inner<K, A, B> {
         }
     }
 
+    /// Which pages the slabs had.
+    pub fn pages(&self) -> PageCounts {
+        self.pages
+    }
+
     /// Gives each page with nothing out back to the arena; the answer is how many it took.
     pub fn give_pages<R: Wait>(&mut self, rt: &R, arena: &ArenaLock) -> u32
         ensures out { (slot : ℕ) → IsOut self.new.slabs slot ↔ IsOut self.old.slabs slot }
         ensures busy { (page : ℕ) → Has self.new.slabs page → (slot : ℕ) × (slot / SLOTS_OF_A_PAGE ≡ page) × IsOut self.new.slabs slot }
     {
-        give_pages(&mut self.slabs, &mut *arena.arena.lock(rt))
+        let pages = give_pages(&mut self.slabs, &mut *arena.arena.lock(rt));
+        self.pages.reap(pages);
+        pages
     }
 
     /// Ends the inside, with all shares of both books: so no hand and no part of the depot has one any more.
@@ -231,6 +244,7 @@ impl<K: Kind, A: Ledger, B: Ledger> Inner<K, A, B> {
             mut outs,
             mut ins,
             foreign,
+            pages: _,
         } = self;
         outs.audit(&mut all_outs);
         ins.audit(&mut all_ins);

@@ -26,9 +26,10 @@
 //!
 //! Hands, caches and shelves must be spent by `close`, and can't be dropped.
 //!
-//! To read the files: homing, inner, part, asking, cache, hand; spare, shelf.
+//! To read the files: activity, homing, inner, part, asking, cache, hand; spare, shelf.
 #![tactic(auto)]
 
+mod activity;
 mod arena_lock;
 mod asking;
 mod cache;
@@ -42,6 +43,7 @@ mod shelf;
 mod spare;
 mod totals;
 
+pub use activity::{DepotCounts, PageCounts};
 pub use arena_lock::ArenaLock;
 pub use cache::Cache;
 pub use fault::TakeFault;

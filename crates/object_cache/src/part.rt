@@ -21,6 +21,7 @@ ghost use Rattle.magazine.specs.LayerView.{rounds_of, IsEmpty, IsFull};
 ghost use Rattle.object_cache.specs.CacheView.{AreHomes};
 ghost use Rattle.object_cache.specs.Homing.{SendsHome};
 
+use crate::activity::DepotCounts;
 use crate::cache::Cache;
 use crate::inner::Inner;
 use magazine::{Depot, Layer, Magazine};
@@ -62,6 +63,7 @@ pub struct Part<K: Kind, A: Ledger, B: Ledger> {
     depot: Depot<K>,
     outs: Share<A>,
     ins: Share<B>,
+    counts: DepotCounts,
     // It keeps what two workers write off one line of the processor's cache.
     apart: [u64; 16],
     ghost one_each: { (outs.parts ≡ 1) × (ins.parts ≡ 1) },
@@ -81,6 +83,7 @@ impl<K: Kind, A: Ledger, B: Ledger> Part<K, A, B> {
             depot: Depot::new(alloc),
             outs,
             ins,
+            counts: DepotCounts::none(),
             apart: [0; 16],
         }
     }
@@ -98,10 +101,16 @@ impl<K: Kind, A: Ledger, B: Ledger> Part<K, A, B> {
         ensures empties { OnOk result (self.new.depot.empties ≡ self.old.depot.empties + 1) }
         ensures unchanged { OnErr result ((layer.new ≡ layer.old) × (share.new.amount ≡ share.old.amount) × (self.new.depot ≡ self.old.depot)) }
     {
-        let Part { depot, outs, .. } = self;
+        let Part {
+            depot,
+            outs,
+            counts,
+            ..
+        } = self;
         if !layer.refill(depot) {
             return Err(Refusal(()));
         }
+        counts.exchange();
         outs.transfer(share, K::ROUNDS as u64);
         Ok(())
     }
@@ -120,10 +129,16 @@ impl<K: Kind, A: Ledger, B: Ledger> Part<K, A, B> {
         ensures empties { OnOk result (self.new.depot.empties + 1 ≡ self.old.depot.empties) }
         ensures unchanged { OnErr result ((layer.new ≡ layer.old) × (share.new.amount ≡ share.old.amount) × (self.new.depot ≡ self.old.depot)) }
     {
-        let Part { depot, outs, .. } = self;
+        let Part {
+            depot,
+            outs,
+            counts,
+            ..
+        } = self;
         if !layer.relieve(depot) {
             return Err(Refusal(()));
         }
+        counts.exchange();
         share.transfer(outs, K::ROUNDS as u64);
         Ok(())
     }
@@ -138,7 +153,10 @@ impl<K: Kind, A: Ledger, B: Ledger> Part<K, A, B> {
             return false;
         };
         match self.depot.add_empty(magazine) {
-            Ok(()) => true,
+            Ok(()) => {
+                self.counts.make();
+                true
+            }
             Err(back) => {
                 back.end();
                 false
@@ -202,18 +220,19 @@ impl<K: Kind, A: Ledger, B: Ledger> Part<K, A, B> {
         }
     }
 
-    /// Moves all full magazines to another part. Where memory is refused, some of them may have moved.
+    /// Moves all full magazines to another part, and what was counted. Where memory is refused, some of them may have moved.
     pub fn move_to(&mut self, heir: &mut Part<K, A, B>) -> Result<(), AllocError>
         ensures { OnOk result (self.new.depot.rounds ≡ []) }
     {
         while self.depot.move_full(&mut heir.depot)? {
             self.outs.transfer(&mut heir.outs, K::ROUNDS as u64);
         }
+        heir.counts.add(self.counts);
         Ok(())
     }
 
-    /// Ends a part that has no round. What is left are its shares, which count the same.
-    pub fn end(self) -> (Share<A>, Share<B>)
+    /// Ends a part that has no round. What is left are its shares, which count the same, and what it did.
+    pub fn end(self) -> (Share<A>, Share<B>, DepotCounts)
         requires { self.depot.rounds ≡ [] }
         ensures one_each { (result.0.parts ≡ 1) × (result.1.parts ≡ 1) }
         ensures even { (result.0.amount ≡ result.1.amount) × (2 ^ 56 ≤ result.1.amount) }
@@ -223,33 +242,35 @@ impl<K: Kind, A: Ledger, B: Ledger> Part<K, A, B> {
             depot,
             outs,
             ins,
+            counts,
             apart: _,
         } = self;
         depot.end();
-        (outs, ins)
+        (outs, ins, counts)
     }
 }
 
-/// The shares of all parts together, whose rounds go home.
+/// The shares of all parts together, whose rounds go home, and what the parts did.
 pub fn gathered<K: Kind, A: Ledger, B: Ledger, R: Wait>(
     rt: &R,
     inner: &mut Inner<K, A, B>,
     mut parts: Vec<Mutex<Part<K, A, B>>>,
-) -> (Share<A>, Share<B>)
+) -> (Share<A>, Share<B>, DepotCounts)
     requires { 0 < vec_len parts }
     ensures parts { (result.0.parts ≡ vec_len parts) × (result.1.parts ≡ vec_len parts) }
     ensures even { result.0.amount ≡ result.1.amount }
 {
     let mut first = parts.pop().unwrap().into_inner();
     first.drain(rt, inner);
-    let (mut all_outs, mut all_ins) = first.end();
+    let (mut all_outs, mut all_ins, mut all_counts) = first.end();
     while let Some(part) = parts.pop() {
         let mut part = part.into_inner();
         part.drain(rt, inner);
-        let (outs, ins) = part.end();
+        let (outs, ins, counts) = part.end();
         all_outs.merge(outs);
         all_ins.merge(ins);
+        all_counts.add(counts);
     }
     parts.destroy_empty();
-    (all_outs, all_ins)
+    (all_outs, all_ins, all_counts)
 }

@@ -2,6 +2,7 @@
 
 ghost use Rattle.std.specs.Prelude.{◌≡◌};
 
+use crate::activity::{DepotCounts, PageCounts};
 use crate::inner::Remains;
 
 /// The sums over all hands of a cache that was closed, and what became of its objects. It always holds that
@@ -18,6 +19,10 @@ pub struct Totals {
     pub missing: u64,
     /// How many objects came home whose slot wasn't out of these slabs.
     pub foreign: u64,
+    /// What the depot did.
+    pub depot: DepotCounts,
+    /// Which pages the slabs had.
+    pub pages: PageCounts,
     // Only the end of the cache's inside makes it, so no other numbers are told.
     remains: Remains,
     ghost told: { (missing ≡ remains.missing) × (foreign ≡ remains.foreign) },
@@ -25,8 +30,16 @@ pub struct Totals {
 
 impl Totals {
     /// The totals of a cache whose inside was ended, and whose hands did this often what each number counts.
-    pub(crate) fn new(remains: Remains, allocs: u64, frees: u64, nulls: u64) -> Totals
+    pub(crate) fn new(
+        remains: Remains,
+        allocs: u64,
+        frees: u64,
+        nulls: u64,
+        depot: DepotCounts,
+        pages: PageCounts,
+    ) -> Totals
         ensures hands { (result.allocs ≡ allocs) × (result.frees ≡ frees) × (result.nulls ≡ nulls) }
+        ensures counts { (result.depot ≡ depot) × (result.pages ≡ pages) }
         ensures remains { result.remains ≡ remains }
     {
         Totals {
@@ -35,6 +48,8 @@ impl Totals {
             nulls,
             missing: remains.missing(),
             foreign: remains.foreign(),
+            depot,
+            pages,
             remains,
         }
     }

@@ -1,7 +1,8 @@
 -- What comes of the jobs, from what all workers did and where the reports were put.
-use Rattle.std.proofs.Common.{◌≡◌, ◌⊎◌, inl, inr, ◌≤◌, ◌<◌, ◌+◌, if◌then◌else◌, nat_lt, is_some, ℕ, zero, suc, Bool, true, false, Option, Some, None, All, Contains, List, [], ◌∷◌, length, slice_get, slice_index_or, refl, sym, ap, subst, ◌∙◌, arith}
-use Rattle.std.specs.Prelude.{sum_by}
+use Rattle.std.proofs.Common.{◌≡◌, ◌⊎◌, inl, inr, ◌≤◌, ◌<◌, ◌+◌, if◌then◌else◌, nat_lt, is_some, ℕ, zero, suc, Bool, true, false, Option, Some, None, All, Contains, List, [], ◌∷◌, length, slice_get, slice_index_or, map, Vec, Global, refl, sym, ap, subst, ◌∙◌, arith}
+use Rattle.std.specs.Prelude.{sum_by, vec_len}
 use Rattle.std.proofs.lemmas.Bool.Decides.{nat_tests}
+use Rattle.std.proofs.lemmas.List.{length-map}
 use Rattle.std.proofs.lemmas.List.Sums.{sum_by-cons}
 use Rattle.std.proofs.lemmas.Option.{slice_get-get_or, slice_get_within}
 use Rattle.ebpf_verify.specs.Subject.{Subject}
@@ -62,6 +63,14 @@ all_three P a b c pa pb pc (suc (suc (suc k))) d l = absurd (omega (arith, l))
 
 sum_three : {X : Type 0} (h : X → ℕ) (a b c : X) → sum_by h (a ∷ b ∷ c ∷ []) ≡ h a + h b + h c
 sum_three h a b c = omega (arith, sum_by-cons h a (b ∷ c ∷ []), sum_by-cons h b (c ∷ []), sum_by-cons h c [])
+
+ones : {X : Type 0} (xs : List X) → sum_by (λ x. 1) xs ≡ length xs
+ones [] = refl
+ones (x ∷ xs) = omega (arith, sum_by-cons (λ y. 1) x xs, ones xs)
+
+counts_are : (lists : List (Vec Numbered Global)) → sum_by (λ n. n) (map (λ l. vec_len l) lists) ≡ sum_by (λ ns. length ns) (map (λ l. l.items) lists)
+counts_are [] = refl
+counts_are (l ∷ lists) = let here : vec_len l ≡ length l.items = l.ok.0 in omega (arith, here, sum_by-cons (λ n. n) (vec_len l) (map (λ k. vec_len k) lists), sum_by-cons (λ ns. length ns) l.items (map (λ k. k.items) lists), counts_are lists)
 
 -- ---- places
 
@@ -140,10 +149,14 @@ module _ {L : Type 0} (programs : List Subject) (jobs : List Job) (o : OwnersVie
       summed : (h : Report → ℕ) → sum_by h places ≡ sum_by (weight_of h) (reports_of p)
       summed h = omega (arith, full_weight h places all_full, weighs h, blank_weight h blank none)
 
+      -- each worker did as many jobs as it made reports, and all reports are here
+      all_done : (lists : List (List Numbered)) → sum_by (weight_of (λ r. 1)) lists ≡ sum_by (λ ns. length ns) lists
+      all_done lists = sum_same (weight_of (λ r. 1)) (λ ns. length ns) lists (λ i d l. ones (slice_index_or lists i d))
+
       pub outcome : (hands : FreeHands L) (after : List SeatView) (shelves : List ShelfTotals) → AreCleared o p.shelf_hands p.hands hands p.seats.items after shelves
-          → (ts : List Totals) → AreTotalsOf hands ts → (out : Outcome) → out.reports ≡ places → out.totals ≡ ts → out.clashes ≡ done.clashes → out.shelves ≡ shelves → out.strays ≡ done.strays
+          → (ts : List Totals) → AreTotalsOf hands ts → (out : Outcome) → out.reports ≡ places → out.totals ≡ ts → out.clashes ≡ done.clashes → out.shelves ≡ shelves → out.strays ≡ done.strays → out.jobs_done.items ≡ map (λ l. vec_len l) p.answered.items
           → IsOutcome programs jobs seats after out
-      outcome hands after shelves cleared ts totals out reports_are totals_are clashes_are shelves_are strays_are = record {
+      outcome hands after shelves cleared ts totals out reports_are totals_are clashes_are shelves_are strays_are jobs_are = record {
         reports = subst (AreReportsFor programs jobs) (sym reports_are) (record { all = len; each = report_for });
         even = subst (All IsEvenTotal) (sym three) (all_three IsEvenTotal totals.cells totals.records totals.blocks
             (even_total (length seats) p.hands.cells.items hands.cells.items p.shelf_hands.cells.items cleared.cells totals.cells s.cells cleared.of_cells cleared.cells_back totals.of_cells)
@@ -161,6 +174,12 @@ module _ {L : Type 0} (programs : List Subject) (jobs : List Job) (o : OwnersVie
         fetches =
             let left = ap left_in shelves_are in
             omega (arith, gets, left, s.fetches, cleared.fetches);
+        workers = ap length jobs_are ∙ length-map p.answered.items (λ l. vec_len l) ∙ s.answered_all;
+        jobs_done =
+            let sum = ap (λ ns. sum_by (λ n. n) ns) jobs_are in
+            let counted = counts_are p.answered.items in
+            let here = summed (λ r. 1) in
+            omega (arith, sum, counted, here, all_done (reports_of p), ones places, len);
       } where
         three_shelves : out.shelves ≡ cleared.cells ∷ cleared.records ∷ cleared.blocks ∷ []
         three_shelves = shelves_are ∙ cleared.are

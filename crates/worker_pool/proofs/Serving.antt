@@ -213,6 +213,7 @@ module _ {L : Type 0} (programs : List Subject) (jobs : List Job) (o : OwnersVie
         fetched =
             let each = sum_two gets_in fetched_in strays_in news (λ i d l. (shares i d l).fetched) in
             omega (arith, each, gets_three, reported fetched_by, strays);
+        answered_all = part_len (λ w. w.answered) news p.answered.items parts.answered ∙ count;
         good = all_mapped (All (Answers programs jobs)) (λ l. l.items) p.answered.items
             (part_all (λ w. w.answered) news p.answered.items parts.answered (λ l. All (Answers programs jobs) l.items) (λ i d l. (shares i d l).good));
         drawers_all = part_len (λ w. w.ticket) news p.drawers.items parts.drawers ∙ count;

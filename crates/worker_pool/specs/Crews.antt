@@ -164,5 +164,6 @@ module _ {L : Type 0} where
     pub drawers : (length p.room.drawers.items ≡ count) × All (λ s. s ≡ drawing.fresh p.room.tickets.table jobs) p.room.drawers.items
     pub answered : (length p.room.answered.items ≡ count) × All (λ l. l.items ≡ []) p.room.answered.items
     pub reports : (length p.room.reports.items ≡ jobs) × All (λ r. r.exit ≡ None) p.room.reports.items
+    pub jobs_done : (p.room.jobs_done.items ≡ []) × (count ≤ vec_capacity p.room.jobs_done)
     pub workers : (p.workers.items ≡ []) × (count ≤ vec_capacity p.workers)
     pub opened : AreOpened count p.opened

@@ -71,7 +71,7 @@ lost_by seats = sum_by (λ s. lost s.notes) seats
 abbrev pub fetches_by : List SeatView → ℕ
 fetches_by seats = sum_by (λ s. length s.fetches) seats
 
--- What came of the jobs, over seats that were these before and are those after. A clash is an object that was given and went back
+-- What came of the jobs, over seats that were these before and are those after, a seat a worker. A clash is an object that was given and went back
 -- since its slot had an owner: its call was answered null. A stray is one that came off a shelf and went back since its slot wasn't
 -- the shelf's.
 pub record IsOutcome (programs : List Subject) (jobs : List Job) (before after : List SeatView) (o : Outcome) : Type 0 where
@@ -84,6 +84,8 @@ pub record IsOutcome (programs : List Subject) (jobs : List Job) (before after :
   pub shelves : All IsEvenShelf o.shelves
   pub fetched : gets_in o.shelves ≡ fetched_in o.reports + o.strays
   pub fetches : fetches_by after ≡ fetches_by before + (gets_in o.shelves + left_in o.shelves)
+  pub workers : length o.jobs_done.items ≡ length before
+  pub jobs_done : sum_by (λ n. n) o.jobs_done.items ≡ length jobs
 
 -- as many seats as before, all of them idle
 pub record AreIdleAgain (o : OwnersView) (before after : List SeatView) : Type 0 where

@@ -58,6 +58,7 @@ module _ {L : Type 0} where
     pub granted : all_allocs p ≡ sum_by granted_by (reports_of p) + done.clashes
     pub refused : all_nulls p + done.clashes ≡ sum_by refused_by (reports_of p)
     pub fetched : all_gets p ≡ sum_by fetched_by (reports_of p) + done.strays
+    pub answered_all : length p.answered.items ≡ length seats
     pub good : All (All (Answers programs jobs)) (reports_of p)
     pub drawers_all : length p.drawers.items ≡ length seats
     pub drawers : All (IsOf t) p.drawers.items

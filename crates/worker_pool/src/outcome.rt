@@ -54,4 +54,6 @@ pub struct Outcome {
     pub shelves: [ShelfTotals; 3],
     /// How many objects that came off a shelf went back to their cache since the table had their slots as another's.
     pub strays: u64,
+    /// How many jobs each worker did, in the order of their seats.
+    pub jobs_done: Vec<u64>,
 }

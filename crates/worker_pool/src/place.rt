@@ -1,11 +1,22 @@
-//! Reports, each in the place of its job.
+//! Reports, counted by their workers, and each in the place of its job.
 
-ghost use Rattle.std.specs.Prelude.{◌≡◌, ◌⊎◌, Contains, map, ◌≤◌, ◌<◌, ◌+◌, ℕ, All, length, slice_get, vec_len, sum_by, Some};
+ghost use Rattle.std.specs.Prelude.{◌≡◌, ◌⊎◌, Contains, map, ◌≤◌, ◌<◌, ◌+◌, ℕ, [], All, length, slice_get, vec_len, vec_capacity, sum_by, Some};
 ghost use Rattle.worker_pool.specs.Places.{HasExit, filled, times_in, weight, weight_of, IsIn};
 
 use crate::jobs::Numbered;
 use crate::ledgers::Puts;
 use ebpf_machine::report::Report;
+
+/// Tells how many reports each worker made, in a list that has room for as many numbers.
+pub(crate) fn count_all(answered: &[Vec<Numbered>], counts: &mut Vec<u64>)
+    requires none { counts.old.items ≡ [] }
+    requires room { length answered.now ≤ vec_capacity counts.old }
+    ensures { counts.new.items ≡ map (λ l. vec_len l) answered.now }
+{
+    for reports in answered {
+        counts.push_reserved(reports.len() as u64);
+    }
+}
 
 /// Puts all reports in the places of their jobs, which have none.
 pub(crate) fn place_all(places: &mut Vec<Report>, answered: Vec<Vec<Numbered>>)

@@ -27,7 +27,7 @@ use crate::handed::KindBlanks;
 use crate::jobs::Job;
 use crate::ledgers::Names;
 use crate::outcome::{Host, Outcome, Reports};
-use crate::place::place_all;
+use crate::place::{count_all, place_all};
 use crate::plant::Plant;
 use crate::shared::Shared;
 use crate::team::work_and_reap;
@@ -162,6 +162,7 @@ fn run_in<L: Names + Send + Sync, G: Gate + Sync, R: Threads + Wait + Sync>(
     if !done.is_through {
         return (seats, Err(AllocError));
     }
+    count_all(&answered, &mut room.jobs_done);
     place_all(&mut room.reports, answered);
     let outcome = Outcome {
         reports: Reports {
@@ -171,6 +172,7 @@ fn run_in<L: Names + Send + Sync, G: Gate + Sync, R: Threads + Wait + Sync>(
         clashes: done.clashes,
         shelves,
         strays: done.strays,
+        jobs_done: room.jobs_done,
     };
     (seats, Ok(outcome))
 }

@@ -1,6 +1,6 @@
 //! What jobs need beside the caches.
 
-ghost use Rattle.std.specs.Prelude.{◌≡◌, ◌≤◌, ◌<◌, [], None, All, length, vec_len, IfOk};
+ghost use Rattle.std.specs.Prelude.{◌≡◌, ◌≤◌, ◌<◌, [], None, All, length, vec_len, vec_capacity, IfOk};
 ghost use Rattle.vmem_arena.specs.declared.arena.TheConstants.{MAX_PAGES};
 ghost use Rattle.owners_table.specs.Drawing.{fresh};
 
@@ -11,7 +11,7 @@ use owners_table::tickets::{TicketSeat, Tickets};
 use std::alloc::{AllocError, Global};
 
 /// The arena, a ticket for each job, and for each worker a seat to draw them with and a list of reports; and a place for the
-/// report of each job, where a report that has no exit is none.
+/// report of each job, where a report that has no exit is none; and room to say how many jobs each worker did.
 #[derive(Drop)]
 pub(crate) struct Room {
     pub(crate) arena: ArenaLock,
@@ -19,6 +19,7 @@ pub(crate) struct Room {
     pub(crate) drawers: Vec<TicketSeat>,
     pub(crate) answered: Vec<Vec<Numbered>>,
     pub(crate) reports: Vec<Report>,
+    pub(crate) jobs_done: Vec<u64>,
 }
 
 impl Room {
@@ -34,6 +35,7 @@ impl Room {
         ensures drawers { IfOk result (λ r. (length r.drawers.items ≡ workers) × All (λ s. s ≡ fresh r.tickets.table jobs) r.drawers.items) }
         ensures answered { IfOk result (λ r. (length r.answered.items ≡ workers) × All (λ l. l.items ≡ []) r.answered.items) }
         ensures reports { IfOk result (λ r. (length r.reports.items ≡ jobs) × All (λ p. p.exit ≡ None) r.reports.items) }
+        ensures jobs_done { IfOk result (λ r. (r.jobs_done.items ≡ []) × (workers ≤ vec_capacity r.jobs_done)) }
     {
         let Ok(arena) = ArenaLock::new(alloc, pages) else {
             return Err(AllocError);
@@ -45,6 +47,7 @@ impl Room {
             drawers,
             answered: blank_lists(alloc, workers)?,
             reports: blank_reports(alloc, jobs)?,
+            jobs_done: Vec::with_capacity(alloc, workers)?,
         })
     }
 }

@@ -1,4 +1,4 @@
-use Rattle.std.proofs.Common.{ℕ, ◌∙◌, List, ap, length, subst}
+use Rattle.std.proofs.Common.{◌∙◌, ap, length, subst}
 use Rattle.std.specs.Prelude.{string_bytes}
 use Rattle.ebpf_host.specs.Loading.{IsLoadFault}
 use Rattle.ebpf_host.specs.declared.refusal.Refusal.{Refusal}

@@ -114,7 +114,7 @@ pub record IsCounted {S H : Type 0} (o : Store S H) (first now : S) (r : RunStat
 abbrev pub HaveSizes : {S H : Type 0} → Store S H → S → Type 0
 HaveSizes {H = H} o s = (h : H) → o.is_out s h → (length (o.bytes_of s h) ≡ length (image_at o.kinds (o.kind_of h))) × (o.kind_of h < length o.kinds)
 
-sized_out : {S H : Type 0} (o : Store S H) (s : S) (r : RunState H) → HaveSizes o s → o.kinds ≡ kinds_of r.subject.rows → AreOut o s r.held → AreSized (seen_in o s r)
+pub sized_out : {S H : Type 0} (o : Store S H) (s : S) (r : RunState H) → HaveSizes o s → o.kinds ≡ kinds_of r.subject.rows → AreOut o s r.held → AreSized (seen_in o s r)
 sized_out o s r sizes known out =
     All-map (λ (x : ObjectView). length x.bytes ≡ length (image_at (kinds_of r.subject.rows) x.kind)) (object_seen (o.bytes_of s)) r.held
     (λ k d few. let h = out.out k d few in

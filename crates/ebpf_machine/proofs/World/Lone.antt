@@ -326,6 +326,10 @@ all_told v alone = told_seen (alone_after v.executed v.subject v.context (replie
 all_within : (v : RunView) → IsAlone v → IsWithin (told_of (alone_after v.executed v.subject v.context (replies_of v))) (replies_of v)
 all_within v alone = subst (λ (rs : Replies). IsWithin rs (replies_of v)) (sym (all_told v alone)) (record { answers = omega arith; taken = omega arith })
 
+-- replies behind those of the run change nothing of where it is
+pub alone_more : (v : RunView) (more : Replies) → IsSound v → IsAlone v → view_in (alone_after v.executed v.subject v.context (more_than (replies_of v) more)).world 0 ≡ Some v
+alone_more v more sound alone = ap (λ (a : Alone). view_in a.world 0) (after_unread v.executed v.subject v.context (replies_of v) more sound.accepted sound.context (all_within v alone)) ∙ alone
+
 -- what an event serves fits its shelf
 pub served_fits_shelf : (w : World) (v : RunView) (answer : Answer) → IsOwned w → kinds_of v.subject.rows ≡ w.kinds → FitsShelf v (result_of (served_in w (asking_in v) answer))
 served_fits_shelf w v answer owned kinds = by (asking_in v) refl where

@@ -1,7 +1,10 @@
-use Rattle.std.proofs.Common.{sym, ◌∙◌}
+use Rattle.std.proofs.Common.{ap, sym, ◌∙◌}
+use Rattle.ebpf_machine.specs.Alone.{replies_from}
+use Rattle.ebpf_machine.specs.RunState.{RunState}
 use Rattle.ebpf_machine.proofs.WholeRuns.Starts.{starts}
 use Rattle.ebpf_machine.proofs.WholeRuns.Told.{under_way}
 use Rattle.ebpf_host.proofs.CutOff.{within}
+use Rattle.ebpf_host.proofs.Leaving.{leaves}
 use Rattle.ebpf_host.proofs.within.run_within.Goals as goal
 
 pub run-requires-clause-out : goal.run-requires-clause-out
@@ -21,3 +24,12 @@ returns-clause-report g c =
       output = end.output;
       given_up = end.given_up;
     })
+
+pub returns-clause-shelves : goal.returns-clause-shelves
+returns-clause-shelves g c =
+    let o = g.O.Objects.store in
+    let end = c.end.ensures in
+    let started = c.in_ok-run.ensures.started in
+    leaves o c.args.objects.now c.run.new.objects _ _ _ c.run.ensures.turns.number c.in_ok-run.run' c.run.new.self c.end.result.0 g.met.O.Objects.has_size (c.requires.kinds ∙ sym c.args.program.now.kinds)
+    (starts o c.args.objects.now _ _ c.in_ok-run.run' started (c.in_ok-run.ensures.sound _)) (ap (λ (r : RunState _). r.executed) started) c.run.ensures.turns.turns end.shelves end.executed
+    (λ i. replies_from (end.answers i) (end.taken i))

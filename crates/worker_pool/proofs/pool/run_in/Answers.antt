@@ -1,4 +1,4 @@
-use Rattle.std.proofs.Common.{rules, ◌≡◌, ◌<◌, ℕ, All, true, length, vec_len, refl, sym, subst, arith}
+use Rattle.std.proofs.Common.{rules, ◌≡◌, ◌<◌, ℕ, All, true, length, map, vec_len, refl, sym, ap, ◌∙◌, subst, arith}
 use Rattle.owners_table.specs.Drawing.{NeverWraps}
 use Rattle.worker_pool.specs.declared.jobs.Numbered.{Numbered}
 use Rattle.worker_pool.specs.declared.outcome.Outcome.{Outcome}
@@ -71,11 +71,11 @@ returns-clause-done g c =
     let fits : NeverWraps c.in-Ok.plant.room.tickets.limit c.in-Ok.plant.room.tickets.seats = search rules in
     let drawers = s.drawers_all in
     let all : vec_len c.serve_all-done.new.parts.drawers ≡ c.in-Ok.plant.room.tickets.seats = search rules in
-    let made : Outcome = record { reports = c.place_all.new.places.items; totals = c.close-totals.result; clashes = c.serve_all-done.result.clashes; shelves = c.clear-shelves.result; strays = c.serve_all-done.result.strays } in
+    let made : Outcome = record { reports = c.place_all.new.places.items; totals = c.close-totals.result; clashes = c.serve_all-done.result.clashes; shelves = c.clear-shelves.result; strays = c.serve_all-done.result.strays; jobs_done = c.count_all.new.counts } in
     let limit : c.in-Ok.plant.room.tickets.limit ≡ length c.args.jobs.now = search rules in
     let len : length c.place_all.new.places.items ≡ length c.args.jobs.now = search rules in
     let e = c.place_all.ensures in
     subst (λ ps. IsOutcome ps c.args.jobs.now c.args.seats.items c.clear-shelves.new.seats.items made) c.deref.ensures.value
     (outcome _ _ _ _ _ _ _ through s (c.close.ensures.once fits) c.in-Ok.plant.room.reports.items c.in-Ok.ensures.reports.1
     (λ x below. c.close.ensures.each fits all (s.through through) x (omega (arith, below, limit)))
-    c.place_all.new.places.items len e.filled e.weight e.from c.clear-shelves.new.hands c.clear-shelves.new.seats.items c.clear-shelves.result c.clear-shelves.ensures c.close-totals.result c.close-totals.ensures made refl refl refl refl refl)
+    c.place_all.new.places.items len e.filled e.weight e.from c.clear-shelves.new.hands c.clear-shelves.new.seats.items c.clear-shelves.result c.clear-shelves.ensures c.close-totals.result c.close-totals.ensures made refl refl refl refl refl (c.count_all.ensures ∙ ap (map (λ l. vec_len l)) c.deref-2.ensures.value))

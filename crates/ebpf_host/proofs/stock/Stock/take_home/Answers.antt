@@ -1,9 +1,8 @@
-use Rattle.std.proofs.Common.{◌≡◌, ◌+◌, ◌/◌, ◌∙◌, ap, sym, refl, subst, arith, option_map}
-use Rattle.slab_layer.specs.Slots.{Pages, IsOut, TakesOut, out_count}
+use Rattle.std.proofs.Common.{◌≡◌, ◌+◌, ◌/◌, ap, refl, subst, arith, option_map}
+use Rattle.slab_layer.specs.Slots.{IsOut, TakesOut, out_count}
 use Rattle.slab_layer.proofs.Taking.{takes_grown}
 use Rattle.ebpf_host.specs.Stock.{StockView, Takes, shelved_at}
 use Rattle.ebpf_host.proofs.Stocking.{takes_as, stands_taken, told}
-use Rattle.ebpf_host.proofs.stock.Stock.take_home.Given.{Over}
 use Rattle.ebpf_host.proofs.stock.Stock.take_home.Goals.{After-take-2}
 use Rattle.ebpf_host.proofs.stock.Stock.take_home.Goals as goal
 

@@ -3,5 +3,5 @@ use Rattle.ebpf_machine.specs.Kinds.{known_kinds}
 use Rattle.ebpf_machine.specs.World.{image_at}
 use Rattle.ebpf_host.proofs.stocks.Stocks.take.Goals as goal
 
-pub returns-in-Some-take-3-clause-image : goal.returns-in-Some-take-3-clause-image
-returns-in-Some-take-3-clause-image c = c.in-Some-take-3.ensures.image ∙ ap (image_at known_kinds) (sym c.in-2.is)
+pub returns-in-Some-take-2-clause-image : goal.returns-in-Some-take-2-clause-image
+returns-in-Some-take-2-clause-image c = c.in-Some-take-2.ensures.image ∙ ap (image_at known_kinds) (sym c.in-2.is)

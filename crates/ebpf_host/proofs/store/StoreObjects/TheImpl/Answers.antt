@@ -1,13 +1,13 @@
 -- An exchange keeps the laws of swap.
-use Rattle.std.proofs.Common.{◌≡◌, refl}
+use Rattle.std.proofs.Common.{refl}
 use Rattle.ebpf_host.proofs.ByKind.{exchanged_counted, exchanged_others, given_gone, given_stands, got_apart, got_fetched, got_held, got_missed, shelves_stay}
 use Rattle.ebpf_host.proofs.store.StoreObjects.TheImpl.Goals as goal
 
 pub swap-tells : goal.swap-tells
 swap-tells g c =
     let e = c.ensures in
-    let old = c.args.self.now.stocks in
-    let new = c.new.self.now.stocks in
+    let old = c.args.self.now.stocks.value in
+    let new = c.new.self.now.stocks.value in
     let kind = c.args.shelf in
     let given = c.args.given in
     let got = c.result in

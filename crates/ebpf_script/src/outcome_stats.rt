@@ -1,0 +1,44 @@
+//! The counts of an outcome.
+
+ghost use Rattle.std.specs.Prelude.{◌≡◌, All, length, sum_by};
+ghost use Rattle.worker_pool.specs.Outcomes.{IsEvenTotal};
+ghost use Rattle.ebpf_script.specs.Stats.{AreStatsOf, steps_in};
+
+use crate::stats::Stats;
+use ebpf_machine::report::Report;
+use worker_pool::Outcome;
+
+/// The stats of an outcome that adds up.
+pub(crate) fn stats_of(outcome: Outcome) -> Stats
+    requires even { All IsEvenTotal outcome.totals }
+    requires done { sum_by (λ n. n) outcome.jobs_done.items ≡ length outcome.reports }
+    ensures { AreStatsOf outcome result }
+{
+    let Outcome {
+        reports,
+        totals,
+        clashes,
+        shelves: _,
+        strays,
+        jobs_done,
+    } = outcome;
+    Stats {
+        totals,
+        clashes,
+        strays,
+        jobs: reports.reports.len(),
+        steps: steps_in(&reports.reports),
+        jobs_done,
+    }
+}
+
+// How many instructions the reports tell.
+fn steps_in(reports: &[Report]) -> u128
+    ensures { result ≡ steps_in reports.now }
+{
+    let mut steps = 0;
+    for report in reports {
+        steps += u128::from(report.executed);
+    }
+    steps
+}

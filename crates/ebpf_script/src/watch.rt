@@ -1,0 +1,91 @@
+//! A meter that takes the time of each stage, and makes a table of it and of what it is told.
+
+ghost use Rattle.std.specs.Prelude.{◌≡◌, ◌++◌, None, Some, string_bytes, OnOk};
+ghost use Rattle.ebpf_script.specs.StatsLines.{table_if};
+
+use crate::meter::{Meter, Stage};
+use crate::stats::Stats;
+use crate::stats_text::write_table;
+use std::alloc::AllocError;
+use std::rt::Clock;
+use std::time::Instant;
+
+/// The bytes that a table has at most, of 64 workers and the largest numbers.
+pub const TABLE_BYTES: usize = 4096;
+
+/// How many microseconds each stage took; `None` where the clock did not tell.
+#[derive(Clone, Copy)]
+pub struct Times {
+    pub reading: Option<u64>,
+    pub judging: Option<u64>,
+    pub running: Option<u64>,
+    pub writing: Option<u64>,
+}
+
+/// A watch. A stage lasts from the end of the one before, and the first from the start.
+#[derive(Drop)]
+pub struct Watch<'a, C: Clock> {
+    clock: &'a C,
+    since: Option<Instant>,
+    times: Times,
+    stats: Option<Stats>,
+}
+
+impl<'a, C: Clock> Watch<'a, C> {
+    /// A watch that starts now.
+    pub fn start(clock: &'a C) -> Watch<'a, C>
+        ensures { result.stats ≡ None }
+    {
+        Watch {
+            clock,
+            since: Instant::now(clock).ok(),
+            times: Times {
+                reading: None,
+                judging: None,
+                running: None,
+                writing: None,
+            },
+            stats: None,
+        }
+    }
+
+    /// Writes the table of what the jobs came to and of the times behind a text; nothing where none were done. It fails only where an
+    /// allocation fails, and makes none where the text has room for [`TABLE_BYTES`].
+    pub fn write_table(&self, text: &mut String) -> Result<(), AllocError>
+        ensures { OnOk result (string_bytes text.new ≡ string_bytes text.old ++ table_if self.now.stats self.now.times) }
+    {
+        match &self.stats {
+            Some(stats) => write_table(text, stats, self.times),
+            None => Ok(()),
+        }
+    }
+}
+
+impl<'a, C: Clock> Meter for Watch<'a, C> {
+    ghost use Rattle.std.specs.Prelude.{◌≡◌, Some};
+
+    fn ended(&mut self, stage: Stage)
+        ensures { self.new.stats ≡ self.old.stats }
+    {
+        let now = Instant::now(self.clock).ok();
+        let time = micros_between(self.since, now);
+        match stage {
+            Stage::Reading => self.times.reading = time,
+            Stage::Judging => self.times.judging = time,
+            Stage::Running => self.times.running = time,
+            Stage::Writing => self.times.writing = time,
+        }
+        self.since = now;
+    }
+
+    fn came(&mut self, stats: Stats)
+        ensures { self.new.stats ≡ Some stats }
+    {
+        self.stats = Some(stats);
+    }
+}
+
+// The whole microseconds from one reading of the clock to a later one.
+fn micros_between(from: Option<Instant>, to: Option<Instant>) -> Option<u64> {
+    u64::try_from(to?.duration_since(from?).as_micros()).ok()
+}
