@@ -1,8 +1,15 @@
-use Rattle.std.proofs.Common.{rules, ◌≡◌, ◌≤◌, ◌*◌, ◌^◌, [], ◌∷◌, ◌++◌, length, ap, ◌∙◌, arith}
-use Rattle.std.proofs.lemmas.List.{nil_from_length}
+use Rattle.std.proofs.Common.{rules, ◌≡◌, ◌≤◌, ◌<◌, ◌+◌, ◌*◌, ◌^◌, ℕ, List, [], ◌∷◌, ◌++◌, length, length-append, map, ap, ◌∙◌, arith}
+use Rattle.std.proofs.lemmas.List.{nil_from_length, length-map}
 use Rattle.worker_pool.proofs.Recruiting.{at_most}
 use Rattle.worker_pool.proofs.Dismissing.{last_back, few_more, one_apart, none_apart, done_are, parts_of_all, clashes_of_all, strays_of_all, through_of_all}
 use Rattle.worker_pool.proofs.crew.dismiss.Goals as goal
+
+-- what is parted from the workers so far leaves room for one worker's more
+fits : {A W : Type 0} (items : List A) (f : W → A) (done left rest : List W) (w : W) (n all room : ℕ) → n ≡ length items → items ≡ map f done → length done + length left ≡ all → left ≡ rest ++ w ∷ [] → all ≤ room → n < room
+fits items f done left rest w n all room many are sum is holds =
+    let same = ap length are ∙ length-map done f in
+    let more = ap length is ∙ length-append rest (w ∷ []) in
+    omega (arith, many, same, sum, more, holds)
 
 pub loop-worker-init : goal.loop-worker-init
 loop-worker-init g c =
@@ -84,3 +91,30 @@ returns-clause-through g c =
     let zero : length c.loop-worker.workers.items ≡ 0 = search rules in
     let none = nil_from_length c.loop-worker.workers.items zero in
     through_of_all _ _ _ _ none i.apart
+
+pub push_reserved-requires : goal.push_reserved-requires
+push_reserved-requires g c = let i = c.loop-worker.invariant in fits _ _ i.apart.done _ _ _ _ _ _ c.loop-worker.parts.hands.cells.ok.0 i.apart.parts.cells (done_are _ _ _ _ i.apart) c.take_last-hands.ensures.items i.room.cells
+
+pub push_reserved-requires-in-loop-worker : goal.push_reserved-requires-in-loop-worker
+push_reserved-requires-in-loop-worker g c = let i = c.loop-worker.invariant in fits _ _ i.apart.done _ _ _ _ _ _ c.loop-worker.parts.hands.records.ok.0 i.apart.parts.records (done_are _ _ _ _ i.apart) c.take_last-hands.ensures.items i.room.records
+
+pub push_reserved-requires-in-loop-worker-2 : goal.push_reserved-requires-in-loop-worker-2
+push_reserved-requires-in-loop-worker-2 g c = let i = c.loop-worker.invariant in fits _ _ i.apart.done _ _ _ _ _ _ c.loop-worker.parts.hands.blocks.ok.0 i.apart.parts.blocks (done_are _ _ _ _ i.apart) c.take_last-hands.ensures.items i.room.blocks
+
+pub push_reserved-requires-in-loop-worker-3 : goal.push_reserved-requires-in-loop-worker-3
+push_reserved-requires-in-loop-worker-3 g c = let i = c.loop-worker.invariant in fits _ _ i.apart.done _ _ _ _ _ _ c.loop-worker.parts.shelf_hands.cells.ok.0 i.apart.parts.shelf_cells (done_are _ _ _ _ i.apart) c.take_last-hands.ensures.items i.room.shelf_cells
+
+pub push_reserved-requires-in-loop-worker-4 : goal.push_reserved-requires-in-loop-worker-4
+push_reserved-requires-in-loop-worker-4 g c = let i = c.loop-worker.invariant in fits _ _ i.apart.done _ _ _ _ _ _ c.loop-worker.parts.shelf_hands.records.ok.0 i.apart.parts.shelf_records (done_are _ _ _ _ i.apart) c.take_last-hands.ensures.items i.room.shelf_records
+
+pub push_reserved-requires-in-loop-worker-5 : goal.push_reserved-requires-in-loop-worker-5
+push_reserved-requires-in-loop-worker-5 g c = let i = c.loop-worker.invariant in fits _ _ i.apart.done _ _ _ _ _ _ c.loop-worker.parts.shelf_hands.blocks.ok.0 i.apart.parts.shelf_blocks (done_are _ _ _ _ i.apart) c.take_last-hands.ensures.items i.room.shelf_blocks
+
+pub push_reserved-requires-in-loop-worker-6 : goal.push_reserved-requires-in-loop-worker-6
+push_reserved-requires-in-loop-worker-6 g c = let i = c.loop-worker.invariant in fits _ _ i.apart.done _ _ _ _ _ _ c.loop-worker.parts.seats.ok.0 i.apart.parts.seats (done_are _ _ _ _ i.apart) c.take_last-hands.ensures.items i.room.seats
+
+pub push_reserved-requires-in-loop-worker-7 : goal.push_reserved-requires-in-loop-worker-7
+push_reserved-requires-in-loop-worker-7 g c = let i = c.loop-worker.invariant in fits _ _ i.apart.done _ _ _ _ _ _ c.loop-worker.parts.drawers.ok.0 i.apart.parts.drawers (done_are _ _ _ _ i.apart) c.take_last-hands.ensures.items i.room.drawers
+
+pub push_reserved-requires-in-loop-worker-8 : goal.push_reserved-requires-in-loop-worker-8
+push_reserved-requires-in-loop-worker-8 g c = let i = c.loop-worker.invariant in fits _ _ i.apart.done _ _ _ _ _ _ c.loop-worker.parts.answered.ok.0 i.apart.parts.answered (done_are _ _ _ _ i.apart) c.take_last-hands.ensures.items i.room.answered
