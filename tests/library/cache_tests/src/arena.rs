@@ -1,8 +1,5 @@
 //! Spans that are taken and come back.
 
-ghost use Rattle.std.specs.Prelude.{◌≡◌, ◌<◌, vec_len};
-ghost use Rattle.vmem_arena.specs.Spans.{pages_of};
-
 use crate::facts::holds;
 use std::alloc::Global;
 use std::process::Abort;
@@ -17,10 +14,7 @@ pub(crate) fn arena_of(rt: &impl Abort, alloc: Global, pages: u32) -> Arena {
 }
 
 // So many pages of an arena that has them.
-pub(crate) fn taken(rt: &impl Abort, arena: &mut Arena, n: u32) -> Span
-    requires { 0 < n }
-    ensures { (pages_of result).len ≡ n }
-{
+pub(crate) fn taken(rt: &impl Abort, arena: &mut Arena, n: u32) -> Span {
     match arena.take(n) {
         Ok(span) => span,
         Err(NoSpan) => panic!(rt; "the arena has no such pages"),
@@ -159,9 +153,7 @@ impl Hand {
     }
 
     // Takes n pages of the arena, where the list has as many next to one another.
-    fn take(&mut self, rt: &impl Abort, arena: &mut Arena, n: u32)
-        requires { 0 < n }
-    {
+    fn take(&mut self, rt: &impl Abort, arena: &mut Arena, n: u32) {
         let longest = longest_run(&self.taken);
         match arena.take(n) {
             Ok(span) => {
@@ -175,9 +167,7 @@ impl Hand {
     }
 
     // Gives the arena a span that is out.
-    fn give(&mut self, rt: &impl Abort, arena: &mut Arena, place: usize)
-        requires { place < vec_len self.old.spans }
-    {
+    fn give(&mut self, rt: &impl Abort, arena: &mut Arena, place: usize) {
         let span = self.spans.swap_remove(place);
         mark(rt, &mut self.taken, &span, false);
         holds(rt, arena.give(span));

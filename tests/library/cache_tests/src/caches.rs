@@ -1,8 +1,5 @@
 //! Objects that go through caches, by one hand and by many on threads side by side.
 
-ghost use Rattle.std.specs.Prelude.{◌≡◌, ◌+◌, ◌<◌, ◌≤◌, length, vec_len, vec_capacity};
-ghost use denote.Param.Send.{IsSync};
-
 use crate::facts::holds;
 use object_cache::{ArenaLock, Cache, Hand, TakeFault, Totals};
 use slab_layer::{BlockKind, CellKind, Held, Kind, Obj};
@@ -25,12 +22,7 @@ fn cache_of<K: Kind, A: Ledger, B: Ledger>(
     alloc: Global,
     outs: Blank,
     ins: Blank,
-) -> Cache<K, A, B>
-    requires names { (outs.name ≡ A.name) × (ins.name ≡ B.name) }
-    requires parts { (outs.parts ≡ A.parts) × (ins.parts ≡ B.parts) }
-    requires all { (A.parts ≡ 65) × (B.parts ≡ 65) }
-    ensures { result.hands ≡ 0 }
-{
+) -> Cache<K, A, B> {
     match Cache::new(alloc, outs, ins) {
         Ok(cache) => cache,
         Err(_) => panic!(rt; "no memory"),
@@ -43,12 +35,7 @@ fn hands_of<K: Kind, A: Ledger, B: Ledger>(
     alloc: Global,
     cache: &mut Cache<K, A, B>,
     count: u32,
-) -> Vec<Hand<K, A, B>>
-    requires none { cache.old.hands ≡ 0 }
-    requires most { count ≤ 64 }
-    ensures hands { vec_len result ≡ count }
-    ensures made { cache.new.hands ≡ count }
-{
+) -> Vec<Hand<K, A, B>> {
     let Ok(mut hands) = Vec::with_capacity(alloc, count as usize) else {
         panic!(rt; "no memory");
     };
@@ -87,9 +74,7 @@ fn give_all<K: Kind, A: Ledger, B: Ledger, R: Wait>(
     cache: &Cache<K, A, B>,
     hand: &mut Hand<K, A, B>,
     held: &mut Vec<Obj<K, Held>>,
-)
-    ensures { vec_len held.new ≡ 0 }
-{
+) {
     while let Some(object) = held.pop() {
         hand.give(rt, cache, object);
     }
@@ -121,11 +106,12 @@ fn are(totals: Totals, allocs: u64, frees: u64, nulls: u64) -> bool {
 }
 
 // One hand takes 17 cells and gives them back: 16 lie in its layer or in the depot, and one in a new magazine.
-fn seventeen<A: Ledger, B: Ledger, R: Wait + Abort>(rt: &R, alloc: Global, outs: Blank, ins: Blank)
-    requires names { (outs.name ≡ A.name) × (ins.name ≡ B.name) }
-    requires parts { (outs.parts ≡ A.parts) × (ins.parts ≡ B.parts) }
-    requires all { (A.parts ≡ 65) × (B.parts ≡ 65) }
-{
+fn seventeen<A: Ledger, B: Ledger, R: Wait + Abort>(
+    rt: &R,
+    alloc: Global,
+    outs: Blank,
+    ins: Blank,
+) {
     let arena = arena_of(rt, alloc, 4);
     let mut cache = cache_of::<CellKind, A, B>(rt, alloc, outs, ins);
     let mut hands = hands_of(rt, alloc, &mut cache, 1);
@@ -183,12 +169,7 @@ fn more_hands<K: Kind, A: Ledger, B: Ledger>(
     cache: &mut Cache<K, A, B>,
     hands: &mut Vec<Hand<K, A, B>>,
     count: u32,
-)
-    requires all { vec_len hands.old ≡ cache.old.hands }
-    requires most { cache.old.hands + count ≤ 64 }
-    ensures all { vec_len hands.new ≡ cache.new.hands }
-    ensures made { cache.new.hands ≡ cache.old.hands + count }
-{
+) {
     if hands.reserve(count as usize).is_err() {
         panic!(rt; "no memory");
     }
@@ -202,11 +183,7 @@ fn more_hands<K: Kind, A: Ledger, B: Ledger>(
 
 // Of 64 hands 32 have each put a full magazine into their part of the depot, and a pass empties all of these. They do so again,
 // and then the others are made: a part goes with each of them, and no round is lost.
-fn halves<A: Ledger, B: Ledger, R: Wait + Abort>(rt: &R, alloc: Global, outs: Blank, ins: Blank)
-    requires names { (outs.name ≡ A.name) × (ins.name ≡ B.name) }
-    requires parts { (outs.parts ≡ A.parts) × (ins.parts ≡ B.parts) }
-    requires all { (A.parts ≡ 65) × (B.parts ≡ 65) }
-{
+fn halves<A: Ledger, B: Ledger, R: Wait + Abort>(rt: &R, alloc: Global, outs: Blank, ins: Blank) {
     let arena = arena_of(rt, alloc, 4);
     let mut cache = cache_of::<CellKind, A, B>(rt, alloc, outs, ins);
     let mut hands = hands_of(rt, alloc, &mut cache, 32);
@@ -231,11 +208,7 @@ fn a_pass_empties_each_part_and_late_hands_take_no_round_away(rt: HostRuntime) {
 }
 
 // One hand takes the 8 blocks of the one page, gives them back and takes them again.
-fn eight<A: Ledger, B: Ledger, R: Wait + Abort>(rt: &R, alloc: Global, outs: Blank, ins: Blank)
-    requires names { (outs.name ≡ A.name) × (ins.name ≡ B.name) }
-    requires parts { (outs.parts ≡ A.parts) × (ins.parts ≡ B.parts) }
-    requires all { (A.parts ≡ 65) × (B.parts ≡ 65) }
-{
+fn eight<A: Ledger, B: Ledger, R: Wait + Abort>(rt: &R, alloc: Global, outs: Blank, ins: Blank) {
     let arena = arena_of(rt, alloc, 1);
     let mut cache = cache_of::<BlockKind, A, B>(rt, alloc, outs, ins);
     let mut hands = hands_of(rt, alloc, &mut cache, 1);
@@ -265,10 +238,7 @@ fn found<A: Ledger, B: Ledger, R: Wait + Abort>(
     held: &mut Vec<Obj<BlockKind, Held>>,
     giver: usize,
     taker: usize,
-)
-    requires hands { (giver < length hands.old) × (taker < length hands.old) }
-    ensures { vec_len held.new ≡ 0 }
-{
+) {
     take_all(rt, cache, arena, &mut hands[giver], held, 8);
     give_all(rt, cache, &mut hands[giver], held);
     take_all(rt, cache, arena, &mut hands[taker], held, 1);
@@ -282,11 +252,7 @@ fn found<A: Ledger, B: Ledger, R: Wait + Abort>(
 }
 
 // The first of three hands gives and the last one takes, and then the other way round.
-fn others<A: Ledger, B: Ledger, R: Wait + Abort>(rt: &R, alloc: Global, outs: Blank, ins: Blank)
-    requires names { (outs.name ≡ A.name) × (ins.name ≡ B.name) }
-    requires parts { (outs.parts ≡ A.parts) × (ins.parts ≡ B.parts) }
-    requires all { (A.parts ≡ 65) × (B.parts ≡ 65) }
-{
+fn others<A: Ledger, B: Ledger, R: Wait + Abort>(rt: &R, alloc: Global, outs: Blank, ins: Blank) {
     let arena = arena_of(rt, alloc, 1);
     let mut cache = cache_of::<BlockKind, A, B>(rt, alloc, outs, ins);
     let mut hands = hands_of(rt, alloc, &mut cache, 3);
@@ -311,14 +277,7 @@ fn strayed<A: Ledger, B: Ledger, C: Ledger, D: Ledger, R: Wait + Abort>(
     ins: Blank,
     other_outs: Blank,
     other_ins: Blank,
-)
-    requires names { (outs.name ≡ A.name) × (ins.name ≡ B.name) }
-    requires parts { (outs.parts ≡ A.parts) × (ins.parts ≡ B.parts) }
-    requires all { (A.parts ≡ 65) × (B.parts ≡ 65) }
-    requires other_names { (other_outs.name ≡ C.name) × (other_ins.name ≡ D.name) }
-    requires other_parts { (other_outs.parts ≡ C.parts) × (other_ins.parts ≡ D.parts) }
-    requires other_all { (C.parts ≡ 65) × (D.parts ≡ 65) }
-{
+) {
     let arena = arena_of(rt, alloc, 2);
     let mut here = cache_of::<BlockKind, A, B>(rt, alloc, outs, ins);
     let mut there = cache_of::<BlockKind, C, D>(rt, alloc, other_outs, other_ins);
@@ -366,10 +325,7 @@ fn take_some<K: Kind, A: Ledger, B: Ledger, R: Wait + Abort>(
     hand: &mut Hand<K, A, B>,
     held: &mut Vec<Obj<K, Held>>,
     count: u32,
-)
-    requires { vec_len held.old + count ≤ vec_capacity held.old }
-    ensures { vec_len held.new ≤ vec_len held.old + count }
-{
+) {
     for _taken in 0..count {
         match hand.take(rt, cache, arena) {
             Ok(object) => held.push_reserved(object),
@@ -387,12 +343,7 @@ fn spared<A: Ledger, B: Ledger, R: Wait + Abort>(
     cache: &Cache<CellKind, A, B>,
     hand: &mut Hand<CellKind, A, B>,
     held: &mut Vec<Obj<CellKind, Held>>,
-) -> (u32, u32)
-    requires none { vec_len held.old ≡ 0 }
-    requires room { 17 ≤ vec_capacity held.old }
-    ensures none { vec_len held.new ≡ 0 }
-    ensures most { result.0 ≤ 17 }
-{
+) -> (u32, u32) {
     take_some(rt, cache, arena, hand, held, 17);
     let taken = held.len() as u32;
     holds(rt, cache.out(rt) == taken);
@@ -412,11 +363,7 @@ fn sparing<A: Ledger, B: Ledger, R: Wait + Abort + Print>(
     alloc: Global,
     outs: Blank,
     ins: Blank,
-)
-    requires names { (outs.name ≡ A.name) × (ins.name ≡ B.name) }
-    requires parts { (outs.parts ≡ A.parts) × (ins.parts ≡ B.parts) }
-    requires all { (A.parts ≡ 65) × (B.parts ≡ 65) }
-{
+) {
     let Ok(arena) = ArenaLock::new(alloc, 4) else {
         return;
     };
@@ -478,9 +425,7 @@ fn team<A: Ledger + Send + Sync, B: Ledger + Send + Sync, R: Threads + Wait + Ab
     arena: &ArenaLock,
     turns: &u32,
     hands: &mut [Hand<CellKind, A, B>],
-)
-    requires { 0 < length hands.old }
-{
+) {
     let count = hands.len();
     for_each_mut(
         rt,
@@ -510,15 +455,11 @@ fn crew<'a, A: Ledger + Send + Sync, B: Ledger + Send + Sync, R: Threads + Wait 
     arena: &'a ArenaLock,
     turns: &'a u32,
     hands: &'a mut [Hand<CellKind, A, B>],
-)
-    requires { 0 < length hands.old }
-{
+) {
     join_mut(
         rt,
         &mut || reap(rt, cache, arena, turns),
-        &mut ||
-            requires { IsSync R.row × (0 < length hands.now) }
-        { team(rt, alloc, cache, arena, turns, hands) },
+        &mut || { team(rt, alloc, cache, arena, turns, hands) },
     );
 }
 
@@ -531,12 +472,7 @@ fn crowd<A: Ledger + Send + Sync, B: Ledger + Send + Sync, R: Threads + Wait + A
     count: u32,
     turns: u32,
     pairs: u64,
-)
-    requires names { (outs.name ≡ A.name) × (ins.name ≡ B.name) }
-    requires parts { (outs.parts ≡ A.parts) × (ins.parts ≡ B.parts) }
-    requires all { (A.parts ≡ 65) × (B.parts ≡ 65) }
-    requires hands { (0 < count) × (count ≤ 64) }
-{
+) {
     let arena = arena_of(rt, alloc, 16);
     let mut cache = cache_of::<CellKind, A, B>(rt, alloc, outs, ins);
     let mut hands = hands_of(rt, alloc, &mut cache, count);

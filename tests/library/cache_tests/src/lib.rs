@@ -4,7 +4,6 @@
 //! calls succeed where memory is there, that the definitions mean the numbers that a person expects, what a pass of the
 //! reaper does, and that threads really take, give, exchange, claim, release and draw side by side. The crates themselves have no
 //! tests, so that they are proved once.
-#![tactic(auto)]
 
 #[cfg(test)]
 mod arena;

@@ -1,8 +1,5 @@
 //! Objects that go through a layer and the depot, and how many of them each holds.
 
-ghost use Rattle.std.specs.Prelude.{◌≡◌, []};
-ghost use Rattle.magazine.specs.LayerView.{IsEmpty};
-
 use crate::arena::arena_of;
 use crate::slabs::grown;
 use magazine::{Depot, Layer, Magazine};
@@ -13,18 +10,14 @@ use std::process::Abort;
 // More than any layer or depot here holds.
 const MANY: u32 = 64;
 
-pub(crate) fn layer_of<K: Kind>(rt: &impl Abort, alloc: Global) -> Layer<K>
-    ensures { IsEmpty result }
-{
+pub(crate) fn layer_of<K: Kind>(rt: &impl Abort, alloc: Global) -> Layer<K> {
     match Layer::new(alloc) {
         Ok(layer) => layer,
         Err(_) => panic!(rt; "no memory"),
     }
 }
 
-pub(crate) fn magazine_of<K: Kind>(rt: &impl Abort, alloc: Global) -> Magazine<K>
-    ensures { result ≡ [] }
-{
+pub(crate) fn magazine_of<K: Kind>(rt: &impl Abort, alloc: Global) -> Magazine<K> {
     match Magazine::new(alloc) {
         Ok(magazine) => magazine,
         Err(_) => panic!(rt; "no memory"),

@@ -1,11 +1,6 @@
 //! Calls whose memory may be refused: each leaves what was there, and then does when it is made again what it would have done at
 //! once. The script tests/want-of-memory refuses one allocation after another, and looks for each line that is told here.
 
-ghost use Rattle.std.specs.Prelude.{◌≡◌, []};
-ghost use Rattle.magazine.specs.LayerView.{IsEmpty};
-ghost use Rattle.slab_layer.specs.Slots.{Has};
-ghost use Rattle.vmem_arena.specs.Spans.{pages_of};
-
 use crate::arena::{arena_of, taken};
 use crate::facts::holds;
 use crate::magazines::{layer_of, magazine_of};
@@ -27,10 +22,7 @@ fn arena_again<R: Abort + Print>(rt: &R, alloc: Global) -> Arena {
     arena
 }
 
-fn grow_again<R: Abort + Print>(rt: &R, slabs: &mut Slabs<CellKind>, span: Span)
-    requires one_page { (pages_of span).len ≡ 1 }
-    requires not_had { Has slabs.old (pages_of span).first → ⊥ }
-{
+fn grow_again<R: Abort + Print>(rt: &R, slabs: &mut Slabs<CellKind>, span: Span) {
     let page = span.first();
     let Err(back) = slabs.grow(span) else {
         return;
@@ -41,9 +33,7 @@ fn grow_again<R: Abort + Print>(rt: &R, slabs: &mut Slabs<CellKind>, span: Span)
     holds(rt, slabs.grow(back).is_ok());
 }
 
-fn layer_again<R: Abort + Print>(rt: &R, alloc: Global) -> Layer<CellKind>
-    ensures { IsEmpty result }
-{
+fn layer_again<R: Abort + Print>(rt: &R, alloc: Global) -> Layer<CellKind> {
     let Ok(layer) = Layer::new(alloc) else {
         tells(rt, "a layer");
         return layer_of(rt, alloc);
@@ -51,9 +41,7 @@ fn layer_again<R: Abort + Print>(rt: &R, alloc: Global) -> Layer<CellKind>
     layer
 }
 
-fn magazine_again<R: Abort + Print>(rt: &R, alloc: Global) -> Magazine<CellKind>
-    ensures { result ≡ [] }
-{
+fn magazine_again<R: Abort + Print>(rt: &R, alloc: Global) -> Magazine<CellKind> {
     let Ok(magazine) = Magazine::new(alloc) else {
         tells(rt, "a magazine");
         return magazine_of(rt, alloc);
@@ -61,11 +49,7 @@ fn magazine_again<R: Abort + Print>(rt: &R, alloc: Global) -> Magazine<CellKind>
     magazine
 }
 
-fn add_again<R: Abort + Print>(rt: &R, depot: &mut Depot<CellKind>, magazine: Magazine<CellKind>)
-    requires empty { magazine ≡ [] }
-    requires none { depot.old.rounds ≡ [] }
-    ensures none { depot.new.rounds ≡ [] }
-{
+fn add_again<R: Abort + Print>(rt: &R, depot: &mut Depot<CellKind>, magazine: Magazine<CellKind>) {
     let Err(back) = depot.add_empty(magazine) else {
         return;
     };

@@ -1,9 +1,5 @@
 //! Claims and draws, one after another and on threads side by side.
 
-ghost use Rattle.std.specs.Prelude.{◌≡◌, ◌≤◌, [], vec_len, All};
-ghost use Rattle.owners_table.specs.Owning.{fresh};
-ghost use Rattle.owners_table.specs.Drawing.{IsOf, fresh as new_seat};
-
 use crate::facts::holds;
 use owners_table::mark::{Mark, Owner};
 use owners_table::owners::{Other, OwnerSeat, Owners, Taken};
@@ -13,11 +9,7 @@ use std::process::Abort;
 use std::thread::{Threads, join};
 
 // A table of so many slots, with its two seats.
-#[tactic(auto, using(owners_table::proofs::Joining::all_last, owners_table::proofs::Joining::all_front))]
-fn table_of(rt: &impl Abort, alloc: Global, slots: u32) -> (Owners, OwnerSeat, OwnerSeat)
-    ensures slots { result.0.slots ≡ slots }
-    ensures seats { (result.1 ≡ fresh result.0.table) × (result.2 ≡ fresh result.0.table) }
-{
+fn table_of(rt: &impl Abort, alloc: Global, slots: u32) -> (Owners, OwnerSeat, OwnerSeat) {
     let Ok((owners, mut seats)) = Owners::new(alloc, slots, 2) else {
         panic!(rt; "no memory")
     };
@@ -31,9 +23,13 @@ fn table_of(rt: &impl Abort, alloc: Global, slots: u32) -> (Owners, OwnerSeat, O
 }
 
 // The words that a table leaves, closed with its two seats.
-fn words_of(rt: &impl Abort, alloc: Global, owners: Owners, a: OwnerSeat, b: OwnerSeat) -> Vec<u64>
-    requires { (a.table ≡ owners.table) × (b.table ≡ owners.table) }
-{
+fn words_of(
+    rt: &impl Abort,
+    alloc: Global,
+    owners: Owners,
+    a: OwnerSeat,
+    b: OwnerSeat,
+) -> Vec<u64> {
     let Ok(seats) = vec![in alloc; a, b] else {
         panic!(rt; "no memory")
     };
@@ -44,7 +40,6 @@ fn words_of(rt: &impl Abort, alloc: Global, owners: Owners, a: OwnerSeat, b: Own
 }
 
 #[test]
-#[tactic(auto, using(owners_table::proofs::Holding::holds_first))]
 fn a_claim_is_granted_where_the_slot_is_free(rt: HostRuntime) {
     let (owners, mut a, mut b) = table_of(&rt, rt.alloc(), 4);
     let first = Mark { run: 0, at: 1 };
@@ -65,7 +60,6 @@ fn a_claim_is_granted_where_the_slot_is_free(rt: HostRuntime) {
 }
 
 #[test]
-#[tactic(auto, using(owners_table::proofs::Holding::holds_first))]
 fn a_shelved_slot_is_fetched_from_its_own_shelf(rt: HostRuntime) {
     let (owners, mut a, mut b) = table_of(&rt, rt.alloc(), 4);
     let first = Mark { run: 0, at: 1 };
@@ -140,13 +134,7 @@ fn is_run(owner: Owner, mark: Mark) -> bool {
 }
 
 // Claims and releases the slots in turn, and counts the claims.
-#[tactic(auto, using(owners_table::proofs::Holding::holds_first, owners_table::proofs::Holding::without_first))]
-fn work(owners: &Owners, mut seat: OwnerSeat, run: u32, rounds: u32) -> (OwnerSeat, u32)
-    requires table { seat.table ≡ owners.now.table }
-    requires slots { 64 ≤ owners.now.slots }
-    requires held { seat.held ≡ [] }
-    ensures { result.0.table ≡ owners.now.table }
-{
+fn work(owners: &Owners, mut seat: OwnerSeat, run: u32, rounds: u32) -> (OwnerSeat, u32) {
     let mut granted = 0;
     let mut refused = 0;
     for round in 0..rounds {
@@ -168,14 +156,8 @@ fn two_threads_leave_every_slot_free(rt: HostRuntime) {
     let table = &owners;
     let ((a, first), (b, second)) = join(
         &rt,
-        || -> (OwnerSeat, u32)
-            requires { (a.table ≡ table.now.table) × (64 ≤ table.now.slots) × (a.held ≡ []) }
-            ensures { result.0.table ≡ table.entry.now.table }
-        { work(table, a, 1, 100_000) },
-        || -> (OwnerSeat, u32)
-            requires { (b.table ≡ table.now.table) × (64 ≤ table.now.slots) × (b.held ≡ []) }
-            ensures { result.0.table ≡ table.entry.now.table }
-        { work(table, b, 2, 100_000) },
+        || -> (OwnerSeat, u32) { work(table, a, 1, 100_000) },
+        || -> (OwnerSeat, u32) { work(table, b, 2, 100_000) },
     );
     holds(&rt, first == 100_000 && second == 100_000);
     let words = words_of(&rt, rt.alloc(), owners, a, b);
@@ -183,12 +165,7 @@ fn two_threads_leave_every_slot_free(rt: HostRuntime) {
 }
 
 // One of the seats that were made with the tickets.
-#[tactic(auto, using(owners_table::proofs::Joining::all_last, owners_table::proofs::Joining::all_front))]
-fn seat_of(rt: &impl Abort, tickets: &Tickets, seats: &mut Vec<TicketSeat>) -> TicketSeat
-    requires { All (λ s. s ≡ new_seat tickets.now.table tickets.now.limit) seats.old.items }
-    ensures seat { IsOf tickets.now result }
-    ensures rest { All (λ s. s ≡ new_seat tickets.now.table tickets.now.limit) seats.new.items }
-{
+fn seat_of(rt: &impl Abort, tickets: &Tickets, seats: &mut Vec<TicketSeat>) -> TicketSeat {
     match seats.pop() {
         Some(seat) => seat,
         None => panic!(rt; "a seat is missing"),
@@ -214,10 +191,7 @@ fn drain(
     tickets: &Tickets,
     mut seat: TicketSeat,
     most: u32,
-) -> (TicketSeat, Vec<u64>)
-    requires { IsOf tickets.now seat }
-    ensures { IsOf tickets.now result.0 }
-{
+) -> (TicketSeat, Vec<u64>) {
     let mut drawn = Vec::new(alloc);
     for _ in 0..most {
         let Some(n) = tickets.draw(&mut seat) else {
@@ -238,20 +212,11 @@ fn drain_two<R: Threads + Abort + Sync>(
     a: TicketSeat,
     b: TicketSeat,
     most: u32,
-) -> (TicketSeat, TicketSeat, Vec<u64>)
-    requires { IsOf tickets.now a × IsOf tickets.now b }
-    ensures { IsOf tickets.now result.0 × IsOf tickets.now result.1 }
-{
+) -> (TicketSeat, TicketSeat, Vec<u64>) {
     let ((a, mut all), (b, other)) = join(
         rt,
-        || -> (TicketSeat, Vec<u64>)
-            requires { IsOf tickets.now a }
-            ensures { IsOf tickets.entry.now result.0 }
-        { drain(rt, alloc, tickets, a, most) },
-        || -> (TicketSeat, Vec<u64>)
-            requires { IsOf tickets.now b }
-            ensures { IsOf tickets.entry.now result.0 }
-        { drain(rt, alloc, tickets, b, most) },
+        || -> (TicketSeat, Vec<u64>) { drain(rt, alloc, tickets, a, most) },
+        || -> (TicketSeat, Vec<u64>) { drain(rt, alloc, tickets, b, most) },
     );
     if all.extend_from_slice(other.as_slice()).is_err() {
         panic!(rt; "no memory");
@@ -271,14 +236,8 @@ fn four_threads_draw_every_number_once(rt: HostRuntime) -> Result<(), AllocError
     let all = &tickets;
     let ((a, b, drawn), (c, d, others)) = join(
         &rt,
-        || -> (TicketSeat, TicketSeat, Vec<u64>)
-            requires { IsOf all.now a × IsOf all.now b }
-            ensures { IsOf all.entry.now result.0 × IsOf all.entry.now result.1 }
-        { drain_two(host, alloc, all, a, b, 100_001) },
-        || -> (TicketSeat, TicketSeat, Vec<u64>)
-            requires { IsOf all.now c × IsOf all.now d }
-            ensures { IsOf all.entry.now result.0 × IsOf all.entry.now result.1 }
-        { drain_two(host, alloc, all, c, d, 100_001) },
+        || -> (TicketSeat, TicketSeat, Vec<u64>) { drain_two(host, alloc, all, a, b, 100_001) },
+        || -> (TicketSeat, TicketSeat, Vec<u64>) { drain_two(host, alloc, all, c, d, 100_001) },
     );
     holds(&rt, is_each_once(&rt, drawn, others, 100_000));
     tickets.close(vec![in alloc; a, b, c, d]?);

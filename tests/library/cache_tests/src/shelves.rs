@@ -1,8 +1,5 @@
 //! Cells that many threads hand to one another over a shelf.
 
-ghost use Rattle.std.specs.Prelude.{◌≡◌, ◌<◌, ◌≤◌, length, vec_len};
-ghost use denote.Param.Send.{IsSync};
-
 use crate::facts::holds;
 use object_cache::{ArenaLock, Cache, Hand, Left, Shelf, ShelfHand};
 use slab_layer::{CellKind, Held, Obj};
@@ -89,9 +86,7 @@ fn team<
     shelf: &Shelf<CellKind, C, D>,
     turns: &u32,
     traders: &mut [Trader<A, B, C, D>],
-)
-    requires { 0 < length traders.old }
-{
+) {
     let count = traders.len();
     for_each_mut(
         rt,
@@ -108,12 +103,7 @@ fn traders_of<A: Ledger, B: Ledger, C: Ledger, D: Ledger>(
     cache: &mut Cache<CellKind, A, B>,
     shelf: &mut Shelf<CellKind, C, D>,
     count: u32,
-) -> Vec<Trader<A, B, C, D>>
-    requires none { (cache.old.hands ≡ 0) × (shelf.old.hands ≡ 0) }
-    requires most { count ≤ 64 }
-    ensures traders { vec_len result ≡ count }
-    ensures made { (cache.new.hands ≡ count) × (shelf.new.hands ≡ count) }
-{
+) -> Vec<Trader<A, B, C, D>> {
     let Ok(mut traders) = Vec::with_capacity(alloc, count as usize) else {
         panic!(rt; "no memory");
     };
@@ -143,12 +133,7 @@ fn add_up<A: Ledger, B: Ledger, C: Ledger, D: Ledger>(
     rt: &impl Abort,
     alloc: Global,
     mut traders: Vec<Trader<A, B, C, D>>,
-) -> Counted<A, B, C, D>
-    requires { vec_len traders ≤ 64 }
-    ensures hands { vec_len result.hands ≡ vec_len traders }
-    ensures desks { vec_len result.desks ≡ vec_len traders }
-    ensures few { result.holders ≤ 64 }
-{
+) -> Counted<A, B, C, D> {
     let Ok(mut hands) = Vec::with_capacity(alloc, traders.len()) else {
         panic!(rt; "no memory");
     };
@@ -187,11 +172,7 @@ fn crowd<
     shelf: Shelf<CellKind, C, D>,
     count: u32,
     turns: u32,
-)
-    requires parts { (A.parts ≡ 65) × (B.parts ≡ 65) × (C.parts ≡ 65) × (D.parts ≡ 65) }
-    requires none { (cache.hands ≡ 0) × (shelf.hands ≡ 0) }
-    requires hands { (0 < count) × (count ≤ 64) }
-{
+) {
     let mut cache = cache;
     let mut shelf = shelf;
     let Ok(arena) = ArenaLock::new(alloc, 16) else {
@@ -235,12 +216,7 @@ fn opened<
     shelf_books: (Blank, Blank),
     count: u32,
     turns: u32,
-)
-    requires names { (cache_books.0.name ≡ A.name) × (cache_books.1.name ≡ B.name) × (shelf_books.0.name ≡ C.name) × (shelf_books.1.name ≡ D.name) }
-    requires parts { (cache_books.0.parts ≡ A.parts) × (cache_books.1.parts ≡ B.parts) × (shelf_books.0.parts ≡ C.parts) × (shelf_books.1.parts ≡ D.parts) }
-    requires all { (A.parts ≡ 65) × (B.parts ≡ 65) × (C.parts ≡ 65) × (D.parts ≡ 65) }
-    requires hands { (0 < count) × (count ≤ 64) }
-{
+) {
     let (outs, ins) = cache_books;
     let (puts, gets) = shelf_books;
     let Ok(cache) = Cache::<CellKind, A, B>::new(alloc, outs, ins) else {
@@ -251,9 +227,7 @@ fn opened<
 }
 
 // With so many threads, and this many exchanges by each.
-fn exchange<R: Threads + Wait + Abort + Sync>(rt: &R, alloc: Global, count: u32, turns: u32)
-    requires { (0 < count) × (count ≤ 64) }
-{
+fn exchange<R: Threads + Wait + Abort + Sync>(rt: &R, alloc: Global, count: u32, turns: u32) {
     opened::<Brand, Brand, Brand, Brand, R>(
         rt,
         alloc,

@@ -1,10 +1,5 @@
 //! Accepted programs, from scripts.
 
-ghost use Rattle.std.specs.Prelude.{◌≡◌, IfSome};
-ghost use Rattle.ebpf_machine.specs.World.{kinds_of};
-ghost use Rattle.ebpf_machine.specs.Kinds.{known_kinds};
-ghost use Rattle.ebpf_machine.specs.Kinds.{AreKnown};
-
 use crate::programs::holds;
 use ebpf_command::judge::{Judged, judge};
 use ebpf_core::event::Event;
@@ -28,9 +23,7 @@ pub(crate) fn accepted_once(
     rt: &impl Abort,
     alloc: Global,
     program: &ProgramText,
-) -> Option<Verified>
-    ensures { IfSome result (λ verified. kinds_of verified.rows ≡ known_kinds) }
-{
+) -> Option<Verified> {
     match judge(alloc, &program.bytes, program.decl, &kinds()) {
         Ok(Judged::Accepted(verified)) => Some(verified),
         Ok(_) => panic!(rt; "a program is refused"),
@@ -39,9 +32,7 @@ pub(crate) fn accepted_once(
 }
 
 // A program of a script, accepted.
-pub(crate) fn accepted(rt: &impl Abort, alloc: Global, program: &ProgramText) -> Verified
-    ensures { kinds_of result.rows ≡ known_kinds }
-{
+pub(crate) fn accepted(rt: &impl Abort, alloc: Global, program: &ProgramText) -> Verified {
     match accepted_once(rt, alloc, program) {
         Some(verified) => verified,
         None => panic!(rt; "there is no memory"),
@@ -49,9 +40,7 @@ pub(crate) fn accepted(rt: &impl Abort, alloc: Global, program: &ProgramText) ->
 }
 
 // The programs of a script of events, each accepted, and its events.
-pub(crate) fn read(rt: &impl Abort, alloc: Global, text: &str) -> (Vec<Verified>, Vec<Event>)
-    ensures { AreKnown result.0.items }
-{
+pub(crate) fn read(rt: &impl Abort, alloc: Global, text: &str) -> (Vec<Verified>, Vec<Event>) {
     let script = script_of(rt, alloc, Dialect::Events, text);
     let mut programs = Vec::new(alloc);
     for (_, program) in script.programs.iter() {

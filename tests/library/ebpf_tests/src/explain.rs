@@ -2,8 +2,6 @@
 
 mod sentences;
 
-ghost use Rattle.ebpf_state.specs.Abstract.{IsProper};
-
 use crate::programs::is_told;
 use ebpf_explain::known::write_known;
 use ebpf_insn::insn::Size;
@@ -29,9 +27,7 @@ fn is_known(rt: &impl Abort, alloc: Global, what: &str, state: &State, expected:
 }
 
 // Says that a value is stored.
-fn put(rt: &impl Abort, state: &mut State, size: Size, offset: i64, value: Abs)
-    requires { IsProper value }
-{
+fn put(rt: &impl Abort, state: &mut State, size: Size, offset: i64, value: Abs) {
     assert!(rt;
         state.store(size, offset, value).is_ok(),
         "it can't be stored"
@@ -44,9 +40,7 @@ fn ask(rt: &impl Abort, state: &mut State, call: u16, kind: u8) {
 }
 
 // The number, known exactly.
-fn number(value: u64) -> Abs
-    ensures { IsProper result }
-{
+fn number(value: u64) -> Abs {
     Abs::Num(Range::constant(value))
 }
 

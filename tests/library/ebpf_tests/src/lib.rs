@@ -4,7 +4,6 @@
 //! tests of its own. Where there are many cases they are rows of one text, which one loop reads, so a case more costs
 //! nothing: a row with a name says what it shows, and a line that begins with `#` says it of the rows below. What the built
 //! program shows is tested by tests/commands instead.
-#![tactic(auto)]
 
 #[cfg(test)]
 mod accepted;

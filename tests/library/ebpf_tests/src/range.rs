@@ -1,8 +1,6 @@
 //! Worked ranges; and the ranges of every operation and condition against Rust's own arithmetic, at both widths and for all
 //! ranges between numbers at which something changes: their corners, and their middles.
 
-ghost use Rattle.std.specs.Prelude.{◌≡◌, ◌≤◌, IfSome};
-
 use crate::programs::{column, holds};
 use ebpf_insn::insn::{AluOp, Cond, Order, Width};
 use ebpf_range::branches::refine;
@@ -80,9 +78,7 @@ fn number(rt: &impl Abort, digits: &str) -> u64 {
 }
 
 // The range whose ends stand in a row.
-fn range_of(rt: &impl Abort, ends: &str) -> Range
-    ensures { result.lo ≤ result.hi }
-{
+fn range_of(rt: &impl Abort, ends: &str) -> Range {
     let (lo, hi) = ends.split_once(' ').expect(rt, "an end is missing");
     Range::new(number(rt, lo), number(rt, hi)).expect(rt, "no range")
 }
@@ -248,23 +244,16 @@ pub(crate) const ENDS: [u64; 16] = [
 ];
 
 // The range between two of them, of which a place has one for each of its last eight bits' halves.
-fn range_at(place: usize) -> Option<Range>
-    ensures { IfSome result (λ a. a.lo ≤ a.hi) }
-{
+fn range_at(place: usize) -> Option<Range> {
     Range::new(ENDS[place / 16 % 16], ENDS[place % 16])
 }
 
-fn middle(a: Range) -> u64
-    requires { a.lo ≤ a.hi }
-{
+fn middle(a: Range) -> u64 {
     a.lo + (a.hi - a.lo) / 2
 }
 
 // The corners of two ranges, and their middles.
-fn pairs(a: Range, b: Range) -> [(u64, u64); 5]
-    requires left { a.lo ≤ a.hi }
-    requires right { b.lo ≤ b.hi }
-{
+fn pairs(a: Range, b: Range) -> [(u64, u64); 5] {
     [
         (a.lo, b.lo),
         (a.lo, b.hi),
@@ -279,10 +268,7 @@ fn is_within(n: u64, a: Range) -> bool {
 }
 
 // That the range of a result holds the results.
-fn holds_results(rt: &impl Abort, op: AluOp, width: Width, a: Range, b: Range)
-    requires left { a.lo ≤ a.hi }
-    requires right { b.lo ≤ b.hi }
-{
+fn holds_results(rt: &impl Abort, op: AluOp, width: Width, a: Range, b: Range) {
     let known = alu(op, width, a, b);
     for (x, y) in pairs(a, b) {
         let is_held = is_within(result(op, width, x, y), known);
@@ -309,10 +295,7 @@ fn every_result_lies_in_its_range(rt: HostRuntime) {
 }
 
 // That the ranges after a branch keep the numbers with which it goes that way.
-fn keeps_numbers(rt: &impl Abort, cond: Cond, width: Width, a: Range, b: Range)
-    requires left { a.lo ≤ a.hi }
-    requires right { b.lo ≤ b.hi }
-{
+fn keeps_numbers(rt: &impl Abort, cond: Cond, width: Width, a: Range, b: Range) {
     let taken = refine(cond, width, a, b, true);
     let passed = refine(cond, width, a, b, false);
     for (x, y) in pairs(a, b) {
@@ -371,9 +354,7 @@ pub(crate) fn orders(bits: u8, n: u64) -> (u64, u64) {
 }
 
 // That the ranges of the operations on one number hold what they give on a number of the range.
-fn holds_signs(rt: &impl Abort, width: Width, a: Range, n: u64)
-    requires { a.lo ≤ a.hi }
-{
+fn holds_signs(rt: &impl Abort, width: Width, a: Range, n: u64) {
     let negation = kept(width, n.wrapping_neg());
     holds(rt, "a negation", is_within(negation, neg(width, a)));
     for bits in [8, 16, 32] {
@@ -386,9 +367,7 @@ fn holds_signs(rt: &impl Abort, width: Width, a: Range, n: u64)
     }
 }
 
-fn holds_orders(rt: &impl Abort, a: Range, n: u64)
-    requires { a.lo ≤ a.hi }
-{
+fn holds_orders(rt: &impl Abort, a: Range, n: u64) {
     for bits in [16, 32, 64] {
         let (little, big) = orders(bits, n);
         holds(
@@ -419,9 +398,7 @@ fn is(rt: &impl Abort, name: &str, told: Range, lo: u64, hi: u64) {
     holds(rt, name, told.lo == lo && told.hi == hi);
 }
 
-fn range(lo: u64, hi: u64) -> Range
-    ensures { result ≡ record { lo = lo; hi = hi } }
-{
+fn range(lo: u64, hi: u64) -> Range {
     Range { lo, hi }
 }
 

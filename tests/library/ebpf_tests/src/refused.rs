@@ -1,10 +1,6 @@
 //! Calls whose memory may be refused: each leaves what was there, and then does when it is made again what it would have done at
 //! once. The script tests/want-of-memory refuses one allocation after another, and looks for each line that is told here.
 
-ghost use Rattle.std.specs.Prelude.{◌≡◌};
-ghost use Rattle.ebpf_machine.specs.Kinds.{known_kinds};
-ghost use Rattle.ebpf_machine.specs.World.{kinds_of};
-
 use crate::accepted::{accepted, accepted_once, script_of};
 use crate::programs::holds;
 use ebpf_core::event::Event;
@@ -44,9 +40,7 @@ fn read_again<R: Abort + Print>(rt: &R, alloc: Global) -> Script {
     }
 }
 
-fn judge_again<R: Abort + Print>(rt: &R, alloc: Global, script: &Script) -> Verified
-    ensures { kinds_of result.rows ≡ known_kinds }
-{
+fn judge_again<R: Abort + Print>(rt: &R, alloc: Global, script: &Script) -> Verified {
     let Some((_, program)) = script.programs.get_index(0) else {
         panic!(rt; "the script has no program");
     };

@@ -1,8 +1,5 @@
 //! Kinds of object, joins, and the functions of states on their plain uses.
 
-ghost use Rattle.ebpf_state.specs.Abstract.{IsProper};
-ghost use Rattle.ebpf_state.specs.Words.{IsProperWord};
-
 use crate::programs::holds;
 use ebpf_insn::insn::Size;
 use ebpf_insn::register::Reg;
@@ -33,24 +30,17 @@ fn kinds_are_cell_record_and_block(rt: HostRuntime) {
 }
 
 // The number, known exactly.
-fn number(value: u64) -> Abs
-    ensures { IsProper result }
-{
+fn number(value: u64) -> Abs {
     Abs::Num(Range::constant(value))
 }
 
 // A word that holds it.
-fn spilled_number(value: u64) -> Word
-    ensures { IsProperWord result }
-{
+fn spilled_number(value: u64) -> Word {
     Word::Spill(Abs::Num(Range::constant(value)))
 }
 
 // What is known of a register where two paths meet, one of which knows each.
-fn joined(rt: &impl Abort, alloc: Global, left: Abs, right: Abs) -> Abs
-    requires left { IsProper left }
-    requires right { IsProper right }
-{
+fn joined(rt: &impl Abort, alloc: Global, left: Abs, right: Abs) -> Abs {
     let mut one = State::start(alloc).expect(rt, "out of memory");
     let mut other = State::start(alloc).expect(rt, "out of memory");
     one.set(Reg::R2, left);

@@ -1,8 +1,6 @@
 //! Worlds of small programs, each written as a script: what replay answers, which events are refused, and that no order
 //! matters.
 
-ghost use Rattle.ebpf_machine.specs.Kinds.{AreKnown};
-
 use crate::accepted::read;
 use crate::programs::{column, holds, is_told};
 use ebpf_core::event::{Answer, Event};
@@ -154,9 +152,7 @@ the context is too long | E10 | start seven 09
 ";
 
 // The code and the number of the first event that isn't legal.
-fn fault_of(alloc: Global, programs: &[Verified], events: &[Event]) -> Result<String, AllocError>
-    requires { AreKnown programs.now }
-{
+fn fault_of(alloc: Global, programs: &[Verified], events: &[Event]) -> Result<String, AllocError> {
     match replay(alloc, programs, events) {
         Err(ReplayFault::Bad { index, code }) => format!(in alloc; "{code:?} {index}"),
         _ => "no fault".to_string(alloc),
@@ -171,9 +167,7 @@ fn is_refused(
     events: &[Event],
     event: Event,
     code: &str,
-)
-    requires { AreKnown programs.now }
-{
+) {
     let mut world = replay(alloc, programs, events).expect(rt, "each event is legal");
     let told = match world.apply(event) {
         Err(ApplyFault::Bad(code)) => format!(in alloc; "{code:?}"),
@@ -282,9 +276,7 @@ fn ends_with(rt: &impl Abort, alloc: Global, world: &World<'_>, run: usize, expe
 }
 
 // Tries an order: each program returns its number after five instructions.
-fn ends_alike(rt: &impl Abort, alloc: Global, programs: &[Verified], order: u16)
-    requires { AreKnown programs.now }
-{
+fn ends_alike(rt: &impl Abort, alloc: Global, programs: &[Verified], order: u16) {
     let events = events_of(alloc, order).expect(rt, "out of memory");
     let world = replay(alloc, programs, &events).expect(rt, "each event is legal");
     ends_with(rt, alloc, &world, run_of(order, 0), "exit 10 executed 5");

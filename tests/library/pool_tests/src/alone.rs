@@ -1,9 +1,5 @@
 //! What a job reports, beside its program run alone.
 
-ghost use Rattle.std.specs.Prelude.{◌≡◌};
-ghost use Rattle.ebpf_machine.specs.Kinds.{known_kinds};
-ghost use Rattle.ebpf_machine.specs.World.{kinds_of};
-
 use crate::store::{Given, Store, Sums};
 use ebpf_machine::report::{Reply, Report};
 use ebpf_machine::whole::run_to_exit;
@@ -19,9 +15,7 @@ pub(crate) fn alone(
     verified: &Verified,
     context: Vec<u8>,
     given: Given,
-) -> Result<(Report, Sums), AllocError>
-    requires { kinds_of verified.now.rows ≡ known_kinds }
-{
+) -> Result<(Report, Sums), AllocError> {
     alone_in::<Brand>(alloc, verified, context, given, Blank::new(4))
 }
 
@@ -32,11 +26,7 @@ fn alone_in<L: Ledger>(
     context: Vec<u8>,
     given: Given,
     blank: Blank,
-) -> Result<(Report, Sums), AllocError>
-    requires name { blank.name ≡ L.name }
-    requires parts { (blank.parts ≡ L.parts) × (L.parts ≡ 4) }
-    requires kinds { kinds_of verified.now.rows ≡ known_kinds }
-{
+) -> Result<(Report, Sums), AllocError> {
     let mut store = Store::<L>::new(alloc, given, blank);
     let Ok(report) = run_to_exit(alloc, verified, context, &mut store) else {
         return Err(AllocError);

@@ -1,7 +1,5 @@
 //! Jobs that are done, and what comes of them.
 
-ghost use Rattle.ebpf_machine.specs.Kinds.{AreKnown};
-
 use crate::alone::{alone, tell};
 use crate::facts::holds;
 use crate::jobs::{Setting, jobs_of};
@@ -23,9 +21,7 @@ pub(crate) fn done<G: Gate + Sync, R: Threads + Wait + Abort + Sync>(
     programs: Vec<Verified>,
     setting: &Setting<'_>,
     gate: &G,
-) -> Result<String, AllocError>
-    requires { AreKnown programs.items }
-{
+) -> Result<String, AllocError> {
     match outcome_of(rt, alloc, programs, setting, gate)? {
         Ok(outcome) => told(alloc, &outcome),
         Err(fault) => format!(in alloc; "{fault:?}"),
@@ -40,9 +36,7 @@ pub(crate) fn outcome_of<G: Gate + Sync, R: Threads + Wait + Abort + Sync>(
     programs: Vec<Verified>,
     setting: &Setting<'_>,
     gate: &G,
-) -> Result<Result<Outcome, PoolFault>, AllocError>
-    requires { AreKnown programs.items }
-{
+) -> Result<Result<Outcome, PoolFault>, AllocError> {
     let jobs = jobs_of(alloc, &programs, setting)?;
     let host = Host {
         pages: setting.pages,
@@ -78,9 +72,7 @@ fn compared(
     programs: &[Verified],
     jobs: &[Job],
     outcome: &Outcome,
-) -> Result<Sums, AllocError>
-    requires { AreKnown programs.now }
-{
+) -> Result<Sums, AllocError> {
     let reports = &outcome.reports.reports;
     holds(rt, "there is a report a job", reports.len() == jobs.len());
     let mut all = Sums::new();

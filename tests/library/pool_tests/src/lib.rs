@@ -7,7 +7,6 @@
 //! alone, over a store of the tests' own.
 //!
 //! The store is no test, since the definitions that speak of it are read without the tests too.
-#![tactic(auto)]
 
 #[cfg(test)]
 mod alone;

@@ -2,7 +2,7 @@
 
 use crate::done::done;
 use crate::jobs::setting_of;
-use crate::programs::programs_of;
+use crate::programs::programs_for;
 use std::alloc::Global;
 use std::process::Abort;
 use std::sync::Wait;
@@ -11,10 +11,11 @@ use worker_pool::NoGate;
 
 // Whatever is refused, the jobs of a setting are done and add up, or want of memory is told, with all seats back.
 fn is_answered<R: Threads + Wait + Abort + Print + Sync>(rt: &R, alloc: Global, setting: &str) {
-    let Ok(programs) = programs_of(alloc) else {
+    let setting = setting_of(setting);
+    let Ok(programs) = programs_for(alloc, setting.letters) else {
         return;
     };
-    match done(rt, alloc, programs, &setting_of(setting), &NoGate) {
+    match done(rt, alloc, programs, &setting, &NoGate) {
         Ok(told) => {
             // The script that refuses memory looks for each of the outcomes.
             let _ = println!(rt; "memory: {told}");

@@ -1,9 +1,5 @@
 //! The programs of the jobs.
 
-ghost use Rattle.std.specs.Prelude.{◌≡◌, IfOk};
-ghost use Rattle.ebpf_machine.specs.Kinds.{AreKnown, known_kinds};
-ghost use Rattle.ebpf_machine.specs.World.{kinds_of};
-
 use ebpf_command::judge::{Judged, judge};
 use ebpf_state::kinds::kinds;
 use ebpf_verify::decl::Decl;
@@ -30,32 +26,37 @@ n: the same with a record | 0 1 | b701000001000000 b702000000000000 850000000400
 o: the same with a block | 0 1 | b701000002000000 b702000000000000 8500000004000000 1500070000000000 bf07000000000000 7971000000000000 8500000003000000 7971f80100000000 8500000003000000 bf71000000000000 8500000002000000 b700000002000000 9500000000000000";
 
 // The programs, each accepted. Where one is refused, that counts as want of memory.
-pub(crate) fn programs_of(alloc: Global) -> Result<Vec<Verified>, AllocError>
-    ensures { IfOk result (λ r. AreKnown r.items) }
-{
+pub(crate) fn programs_of(alloc: Global) -> Result<Vec<Verified>, AllocError> {
+    programs_for(alloc, "abcdefghijklmno")
+}
+
+// The programs of these letters, and in the place of each other one a small one.
+pub(crate) fn programs_for(alloc: Global, letters: &str) -> Result<Vec<Verified>, AllocError> {
     let mut programs = Vec::new(alloc);
     for row in PROGRAMS.lines() {
-        let program = accepted(alloc, row)?;
-        programs.push(program)?;
+        let (letter, _) = row.split_once(": ").ok_or(AllocError)?;
+        let row = if letters.contains(letter) {
+            row
+        } else {
+            "e | 0 0 | b700000007000000 9500000000000000"
+        };
+        programs.push(accepted(alloc, row)?)?;
     }
     Ok(programs)
 }
 
 // The program of a row.
-fn accepted(alloc: Global, row: &str) -> Result<Verified, AllocError>
-    ensures { IfOk result (λ v. kinds_of v.rows ≡ known_kinds) }
-{
+fn accepted(alloc: Global, row: &str) -> Result<Verified, AllocError> {
     let (_, columns) = row.split_once(" | ").ok_or(AllocError)?;
     let (declared, slots) = columns.split_once(" | ").ok_or(AllocError)?;
     let (context, held) = declared.split_once(' ').ok_or(AllocError)?;
     let context = context.parse().unwrap_or(0);
     let held = held.parse().unwrap_or(0);
     let decl = Decl::new(context, held).ok_or(AllocError)?;
-    let mut bytes = Vec::new(alloc);
-    for slot in slots.split_whitespace() {
-        let Ok(slot) = hex::decode(alloc, slot.as_bytes()) else {
-            return Err(AllocError);
-        };
+    let mut bytes = Vec::with_capacity(alloc, slots.len())?;
+    for text in slots.split_whitespace() {
+        let mut slot = [0; 8];
+        hex::decode_to_slice(text.as_bytes(), &mut slot).map_err(|_| AllocError)?;
         bytes.extend_from_slice(&slot)?;
     }
     match judge(alloc, &bytes, decl, &kinds()) {

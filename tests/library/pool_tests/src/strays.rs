@@ -1,7 +1,5 @@
 //! Objects on the shelf of cells whose slots a seat that no worker has takes away before they come off.
 
-ghost use Rattle.std.specs.Prelude.{◌≡◌, ◌≤◌, ◌<◌};
-
 use crate::done::told;
 use crate::facts::is_told;
 use crate::jobs::{jobs_of, setting_of};
@@ -31,23 +29,15 @@ enum Deed {
 struct Outsider<'a> {
     owners: &'a Owners,
     seat: OwnerSeat,
-    ghost seated: { seat.table ≡ owners.now.table },
-    ghost slots: { 65536 ≤ owners.now.slots },
 }
 
 impl<'a> Outsider<'a> {
-    fn new(owners: &'a Owners, seat: OwnerSeat) -> Outsider<'a>
-        requires table { seat.table ≡ owners.now.table }
-        requires slots { 65536 ≤ owners.now.slots }
-    {
+    fn new(owners: &'a Owners, seat: OwnerSeat) -> Outsider<'a> {
         Outsider { owners, seat }
     }
 
     // Fetches the slot from the shelf of cells, if it is that shelf's.
-    #[tactic(auto, using(owners_table::proofs::Holding::holds_first))]
-    fn fetch(&mut self, slot: u32, deed: Deed)
-        requires { slot < 65536 }
-    {
+    fn fetch(&mut self, slot: u32, deed: Deed) {
         // No job has this number.
         let mark = Mark {
             run: u32::MAX,

@@ -1,8 +1,5 @@
 //! The table of owners, before the jobs and after them.
 
-ghost use Rattle.std.specs.Prelude.{◌≡◌, ◌≤◌, All, IfOk};
-ghost use Rattle.worker_pool.specs.Outcomes.{IsIdle};
-
 use crate::facts::holds;
 use owners_table::mark::{Mark, WORDS_OF_A_RUN};
 use owners_table::owners::{OwnerSeat, Owners};
@@ -16,11 +13,7 @@ const SLOTS: u32 = 65_536;
 pub(crate) fn table_of(
     alloc: Global,
     count: u32,
-) -> Result<(Owners, Vec<OwnerSeat>, OwnerSeat), AllocError>
-    ensures slots { IfOk result (λ r. 65536 ≤ r.0.slots) }
-    ensures seats { IfOk result (λ r. All (IsIdle r.0) r.1.items) }
-    ensures other { IfOk result (λ r. r.2.table ≡ r.0.table) }
-{
+) -> Result<(Owners, Vec<OwnerSeat>, OwnerSeat), AllocError> {
     let (owners, mut seats) = Owners::new(alloc, SLOTS, count.min(65) + 1)?;
     let Some(other) = seats.pop() else {
         unreachable!()
@@ -29,11 +22,7 @@ pub(crate) fn table_of(
 }
 
 // The seat claims so many of the first slots.
-pub(crate) fn claim_first(rt: &impl Abort, owners: &Owners, seat: &mut OwnerSeat, count: u32)
-    requires table { seat.old.table ≡ owners.now.table }
-    requires slots { 65536 ≤ owners.now.slots }
-    ensures { seat.new.table ≡ owners.now.table }
-{
+pub(crate) fn claim_first(rt: &impl Abort, owners: &Owners, seat: &mut OwnerSeat, count: u32) {
     for slot in 0..count.min(SLOTS) {
         let claim = owners.claim(seat, slot, Mark { run: 0, at: 0 });
         holds(rt, "the slot was free", claim.is_ok());
@@ -48,10 +37,7 @@ pub(crate) fn are_free(
     seats: Vec<OwnerSeat>,
     other: OwnerSeat,
     claimed: u32,
-) -> Result<(), AllocError>
-    requires seats { All (IsIdle owners) seats.items }
-    requires other { other.table ≡ owners.table }
-{
+) -> Result<(), AllocError> {
     let mut seats = seats;
     seats.push(other)?;
     let words = owners.close(alloc, seats)?;
@@ -70,9 +56,7 @@ pub(crate) fn owned(
     alloc: Global,
     owners: Owners,
     seats: Vec<OwnerSeat>,
-) -> Result<(usize, usize), AllocError>
-    requires { All (IsIdle owners) seats.items }
-{
+) -> Result<(usize, usize), AllocError> {
     let words = owners.close(alloc, seats)?;
     let runs = words.iter().filter(|word| is_of_a_run(**word)).count();
     let free = words.iter().filter(|word| **word == 0).count();

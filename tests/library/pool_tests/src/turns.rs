@@ -1,12 +1,5 @@
 //! A run by single steps, and the same so many instructions at a time.
 
-ghost use Rattle.std.specs.Prelude.{◌≡◌};
-ghost use Rattle.ebpf_machine.specs.Kinds.{AreKnown, known_kinds};
-ghost use Rattle.ebpf_machine.specs.Sound.{IsAlone};
-ghost use Rattle.ebpf_machine.specs.Step.{seen_in};
-ghost use Rattle.ebpf_machine.specs.Store.{AreOut};
-ghost use Rattle.ebpf_machine.specs.World.{kinds_of};
-
 use crate::alone::tell;
 use crate::facts::is_told;
 use crate::programs::programs_of;
@@ -24,15 +17,7 @@ use std::sync::ledger::{Blank, Ledger};
 const MOST: u64 = 4096;
 
 // Does so many instructions at most, by one call or by a step each.
-fn go<O: Objects>(run: &mut Run<'_, O::Held>, objects: &mut O, limit: u64, by_steps: bool) -> Turn
-    requires kinds { O.store.kinds ≡ kinds_of run.old.subject.rows }
-    requires room { (store : O) → O.store.can_give store }
-    requires out { AreOut O.store objects.old run.old.held }
-    requires alone { IsAlone (seen_in O.store objects.old run.old) }
-    ensures out { AreOut O.store objects.new run.new.held }
-    ensures alone { IsAlone (seen_in O.store objects.new run.new) }
-    ensures same { run.new.subject ≡ run.old.subject }
-{
+fn go<O: Objects>(run: &mut Run<'_, O::Held>, objects: &mut O, limit: u64, by_steps: bool) -> Turn {
     if !by_steps {
         return run.run(objects, limit);
     }
@@ -62,10 +47,7 @@ fn trace_over<O: Objects>(
     objects: &mut O,
     limit: u64,
     by_steps: bool,
-) -> String
-    requires kinds { O.store.kinds ≡ kinds_of verified.now.rows }
-    requires room { (store : O) → O.store.can_give store }
-{
+) -> String {
     let context = vec![in alloc; 5; verified.decl().context as usize].expect(rt, "out of memory");
     let mut run = Run::start(alloc, verified, context).expect(rt, "out of memory");
     let mut told = String::new(alloc);
@@ -88,11 +70,7 @@ fn trace_in<L: Ledger>(
     limit: u64,
     by_steps: bool,
     blank: Blank,
-) -> String
-    requires name { blank.name ≡ L.name }
-    requires parts { (blank.parts ≡ L.parts) × (L.parts ≡ 4) }
-    requires kinds { kinds_of verified.now.rows ≡ known_kinds }
-{
+) -> String {
     let mut store = Store::<L>::new(alloc, given, blank);
     trace_over(rt, alloc, verified, &mut store, limit, by_steps)
 }
@@ -105,9 +83,7 @@ fn trace(
     letters: &str,
     limit: u64,
     by_steps: bool,
-) -> String
-    requires { kinds_of verified.now.rows ≡ known_kinds }
-{
+) -> String {
     let given = Given {
         answers: replies(rt, alloc, letters),
         taken: Vec::new(alloc),
@@ -131,9 +107,7 @@ fn replies(rt: &impl Abort, alloc: Global, letters: &str) -> Vec<Reply> {
 }
 
 // That a program is run alike both ways.
-fn is_alike(rt: &impl Abort, alloc: Global, verified: &Verified, answers: &str)
-    requires { kinds_of verified.now.rows ≡ known_kinds }
-{
+fn is_alike(rt: &impl Abort, alloc: Global, verified: &Verified, answers: &str) {
     for limit in [1, 3, u64::MAX] {
         let stepped = trace(rt, alloc, verified, answers, limit, true);
         let run = trace(rt, alloc, verified, answers, limit, false);
