@@ -1,22 +1,11 @@
-/* Counts the allocations of a program and refuses the one whose number is in the environment, as a machine that is short of memory would.
- *
- * As a shared library it is loaded before the C library, and stands in front of its allocator. With WRAPPED it is an object for a linker
- * that wraps the names: a program with an allocator of its own, as one with address checks, takes no other from a library.
- */
+/* Counts the allocations of a program and refuses the one whose number is in the environment, as a machine that is short of memory would:
+ * a library that is loaded before the C library. */
 #include <errno.h>
 #include <fcntl.h>
 #include <stdlib.h>
 #include <unistd.h>
 
-#ifdef WRAPPED
-#define NAMED(name) __wrap_##name
-#define REAL(name) __real_##name
-#else
-#define NAMED(name) name
-#define REAL(name) __libc_##name
-#endif
-
-extern void *REAL(malloc)(size_t), *REAL(calloc)(size_t, size_t), *REAL(realloc)(void *, size_t), *REAL(memalign)(size_t, size_t);
+extern void *__libc_malloc(size_t), *__libc_calloc(size_t, size_t), *__libc_realloc(void *, size_t), *__libc_memalign(size_t, size_t);
 
 static unsigned long made;
 
@@ -29,13 +18,13 @@ static int is_refused(void) {
     return 1;
 }
 
-void *NAMED(malloc)(size_t size) { return is_refused() ? 0 : REAL(malloc)(size); }
-void *NAMED(calloc)(size_t count, size_t size) { return is_refused() ? 0 : REAL(calloc)(count, size); }
-void *NAMED(realloc)(void *old, size_t size) { return is_refused() ? 0 : REAL(realloc)(old, size); }
-void *NAMED(memalign)(size_t align, size_t size) { return is_refused() ? 0 : REAL(memalign)(align, size); }
-void *NAMED(aligned_alloc)(size_t align, size_t size) { return is_refused() ? 0 : REAL(memalign)(align, size); }
-int NAMED(posix_memalign)(void **to, size_t align, size_t size) {
+void *malloc(size_t size) { return is_refused() ? 0 : __libc_malloc(size); }
+void *calloc(size_t count, size_t size) { return is_refused() ? 0 : __libc_calloc(count, size); }
+void *realloc(void *old, size_t size) { return is_refused() ? 0 : __libc_realloc(old, size); }
+void *memalign(size_t align, size_t size) { return is_refused() ? 0 : __libc_memalign(align, size); }
+void *aligned_alloc(size_t align, size_t size) { return is_refused() ? 0 : __libc_memalign(align, size); }
+int posix_memalign(void **to, size_t align, size_t size) {
     if (is_refused()) return ENOMEM;
-    *to = REAL(memalign)(align, size);
+    *to = __libc_memalign(align, size);
     return *to ? 0 : ENOMEM;
 }

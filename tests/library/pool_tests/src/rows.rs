@@ -90,7 +90,7 @@ fn mixed_by<R: Threads + Wait + Abort + Sync>(
     workers: u32,
 ) -> Result<(), AllocError> {
     for pages in [1, 2, 16, 256] {
-        for count in [1, 100, 2_500] {
+        for count in [1, 100, 10_000] {
             mixed(rt, alloc, workers, pages, count)?;
         }
     }

@@ -134,14 +134,14 @@ fn is_handed_over(
 // A row: what it shows; the setting of its jobs, whose programs are of so many kinds, in turn; that many; and the totals, where
 // they are the same each time.
 const ROWS: &str = "\
-eight workers leave cells on a shelf | 8 16 100 0 1000 j | 1 | 1000/1000/0 0/0/0 0/0/0 clashes 0 shelf 0 1000/999/1
-eight workers leave records on a shelf | 8 64 100 0 1000 k | 1 | 0/0/0 1000/1000/0 0/0/0 clashes 0 shelf 1 1000/999/1
-eight workers leave blocks on a shelf | 8 256 100 0 1000 l | 1 | 0/0/0 0/0/0 1000/1000/0 clashes 0 shelf 2 1000/999/1
-eight workers leave objects on three shelves | 8 256 100 0 1500 jkl | 3 | 500/500/0 500/500/0 500/500/0 clashes 0 shelf 0 500/499/1 shelf 1 500/499/1 shelf 2 500/499/1
-eight workers leave cells and take them | 8 16 100 0 1000 jm | 1 |
-eight workers leave objects and take them | 8 256 100 0 1500 jklmno | 3 |
-two pages are too few for three kinds | 8 2 100 0 1500 jklmno | 3 |
-64 workers leave objects and take them | 64 256 100 0 1500 jklmno | 3 | ";
+eight workers leave cells on a shelf | 8 16 100 0 4000 j | 1 | 4000/4000/0 0/0/0 0/0/0 clashes 0 shelf 0 4000/3999/1
+eight workers leave records on a shelf | 8 64 100 0 4000 k | 1 | 0/0/0 4000/4000/0 0/0/0 clashes 0 shelf 1 4000/3999/1
+eight workers leave blocks on a shelf | 8 256 100 0 4000 l | 1 | 0/0/0 0/0/0 4000/4000/0 clashes 0 shelf 2 4000/3999/1
+eight workers leave objects on three shelves | 8 256 100 0 6000 jkl | 3 | 2000/2000/0 2000/2000/0 2000/2000/0 clashes 0 shelf 0 2000/1999/1 shelf 1 2000/1999/1 shelf 2 2000/1999/1
+eight workers leave cells and take them | 8 16 100 0 4000 jm | 1 |
+eight workers leave objects and take them | 8 256 100 0 6000 jklmno | 3 |
+two pages are too few for three kinds | 8 2 100 0 6000 jklmno | 3 |
+64 workers leave objects and take them | 64 256 100 0 6000 jklmno | 3 | ";
 
 // The jobs of a row are done, and hand over what they leave.
 fn is_shared<R: Threads + Wait + Abort + Sync>(
