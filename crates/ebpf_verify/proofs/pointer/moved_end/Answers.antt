@@ -1,4 +1,4 @@
-use Rattle.std.proofs.Common.{◌≡◌, ◌^◌, true, false, nat_lt, Some, None, pos, ◌+ℤ◌, ◌≤ℤ◌, negsuc, ℤ, refl, arith, sym, ◌∙◌, w64}
+use Rattle.std.proofs.Common.{◌≡◌, ◌^◌, true, false, nat_lt, Some, pos, ◌+ℤ◌, ◌≤ℤ◌, negsuc, ℤ, refl, arith, sym, ◌∙◌, w64}
 use Rattle.std.specs.Prelude.{nat_abs}
 use Rattle.std.specs.Int.{w128}
 use Rattle.std.proofs.lemmas.Int.{ints, to_z-of_z}
