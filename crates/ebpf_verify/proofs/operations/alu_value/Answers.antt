@@ -26,6 +26,7 @@ other_at_32 : (o : AluOp) (left right : Abs) (dst : Reg) → (o ≡ op.Mov → �
 other_at_32 op.Mov _ _ _ mov = absurd (mov refl)
 other_at_32 _ _ _ _ _ = record { refusal = refl; value = refl }
 
+-- the operation at the last arm is such a one, by what the arms before it took
 is_binary : (c : goal.After-binary) → IsBinary c.args.width c.args.op c.reg-in_default.result c.args.right c.args.dst
 is_binary c = elim c.in_default.branch [
     in_default-via-in-W64+in_default w ↦ let h = w.in_default in rw h.is-0 (other_at_64 _ _ _ _ h.not-Add-1 h.not-Sub-1 h.not-Mov-1)

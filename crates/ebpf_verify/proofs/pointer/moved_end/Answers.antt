@@ -13,13 +13,15 @@ use Rattle.ebpf_verify.proofs.pointer.moved_end.Goals as goal
 abbrev computed_sum : ℤ → ℤ → ℤ
 computed_sum end by = to_z w128 (of_z w128 (to_z w128 (of_z w128 (to_z w64 (of_z w64 end))) +ℤ to_z w128 (of_z w128 by)))
 
+-- an end fits 128 bits too
 wider : (end : ℤ) → SFits w64 end → SFits w128 end
 wider end fits = omega (arith, ints)
 
+-- so does the sum, since neither number is long
 sum_fits : (end by : ℤ) → SFits w64 end → negsuc (2 ^ 64) ≤ℤ by → by ≤ℤ pos (2 ^ 64) → SFits w128 (end +ℤ by)
 sum_fits end by fits low high = omega (arith, ints)
 
--- none of its casts changes the number
+-- no cast in it changes a number
 is_sum : (end by : ℤ) → SFits w64 end → SFits w128 by → negsuc (2 ^ 64) ≤ℤ by → by ≤ℤ pos (2 ^ 64) → computed_sum end by ≡ end +ℤ by
 is_sum end by fits by_fits low high =
     rw (to_z-of_z w64 end fits, to_z-of_z w128 end (wider end fits), to_z-of_z w128 by by_fits) (to_z-of_z w128 (end +ℤ by) (sum_fits end by fits low high))
