@@ -1,6 +1,7 @@
 pub mod NameLemmas
 pub mod NumberLemmas
 pub mod ScriptLemmas
+pub mod ShapeLemmas
 pub mod LinesLemmas
 pub mod VerdictLemmas
 pub mod ExplainedLemmas
