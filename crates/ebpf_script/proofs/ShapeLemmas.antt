@@ -7,7 +7,7 @@ use Rattle.ebpf_script.specs.declared.reader.script.Script.{Script}
 use Rattle.ebpf_script.specs.LineFaults.{shape_fault}
 use Rattle.ebpf_script.specs.ParsedScript.{ParsedScript}
 use Rattle.ebpf_script.specs.ReadScripts.{Adds}
-use Rattle.ebpf_script.specs.Shapes.{Shape, StartLine, ExecLine, AnsweredLine, GrowLine, ReapLine, ArenaLine, JobLine, PassLine, event_shape, job_shape}
+use Rattle.ebpf_script.specs.Shapes.{Shape, StartLine, ExecLine, AnsweredLine, GrowLine, ReapLine, ArenaLine, JobLine, event_shape, job_shape}
 
 -- what a line of one shape adds, and why it is refused, is that of a line of the same shape
 pub shaped_ok : {T E : Type 0} (r : Result T E) (shape which : Shape) (old new : Script) → shape ≡ which → OnOk r (Adds which old new) → OnOk r (Adds shape old new)
@@ -21,11 +21,7 @@ shaped_refused r shape which parsed same h = subst (λ (s : Shape). IfErr r (IsS
 pub tested : (first : List ℕ) {word wanted : List ℕ} {r b : Bool} → word ≡ wanted → r ≡ bytes_eq first word → r ≡ b → bytes_eq first wanted ≡ b
 tested first same is told = ap (bytes_eq first) (sym same) ∙ (sym is ∙ told)
 
--- the words of a line that has none, one or two behind its first
-pub no_words : {X : Type 0} (f : X → List ℕ) (xs : List X) → length xs < 1 → map f xs ≡ []
-no_words f [] below = refl
-no_words f (x ∷ xs) below = absurd (omega arith)
-
+-- the words of a line that has one or two behind its first
 pub one_word : {X : Type 0} (f : X → List ℕ) (xs : List X) (d : X) → 1 ≤ length xs → length xs < 2 → map f xs ≡ f (get_or xs 0 d) ∷ []
 one_word f [] d least below = absurd (omega arith)
 one_word f (x ∷ []) d least below = refl
@@ -57,9 +53,6 @@ pub reap_line : (first : List ℕ) (rest : List (List ℕ)) (a b : List ℕ) →
 reap_line first rest a b is start exec grow reap = rw (is, start, exec, grow, reap) refl
 
 -- the lines of jobs
-pub pass_line : (first : List ℕ) (rest : List (List ℕ)) → rest ≡ [] → bytes_eq first (codes "reap") ≡ true → job_shape first rest ≡ PassLine
-pass_line first rest is reap = rw (is, reap) refl
-
 pub arena_line : (first : List ℕ) (rest : List (List ℕ)) (a : List ℕ) → rest ≡ a ∷ [] → bytes_eq first (codes "arena") ≡ true → job_shape first rest ≡ ArenaLine a
 arena_line first rest a is arena = rw (is, arena) refl
 
