@@ -1,5 +1,5 @@
 use Rattle.ebpf_script.specs.ReadScripts.{parsed_script}
-use Rattle.ebpf_script.proofs.ShapeLemmas.{shaped_ok, shaped_refused, tested, one_word, two_words, exec_line, start_line, answered_line, grow_line, reap_line}
+use Rattle.ebpf_script.proofs.ShapeLemmas.{shaped_ok, shaped_refused, tested, one_word, two_words, exec_line, start_line, answered_line, grow_line, reap_line, no_event, no_long_event}
 use Rattle.ebpf_script.proofs.reader.line.read_event_words.Goals as goal
 
 pub returns-in-len1 : goal.returns-in-len1
@@ -47,3 +47,14 @@ returns-in-len2-4 c =
       ok = shaped_ok _ _ _ _ _ (reap_line c.args.first.now _ _ _ (two_words _ _ _ _ c.in-len2.len_at_least c.in-len2.len_below) start exec grow reap) c.read_reap.ensures.ok;
       refused = shaped_refused _ _ _ (parsed_script c.args.script.now) (reap_line c.args.first.now _ _ _ (two_words _ _ _ _ c.in-len2.len_at_least c.in-len2.len_below) start exec grow reap) c.read_reap.ensures.refused;
     }
+
+pub returns-in_default-3 : goal.returns-in_default-3
+returns-in_default-3 c =
+    let start = tested c.args.first.now c.as_slice-then-rest-lt3.ensures c.eq-then-rest-lt3.ensures c.if-eq-2.false in
+    let exec = tested c.args.first.now c.as_slice-then-rest-lt3-2.ensures c.eq-then-rest-lt3-2.ensures c.if-eq-3.false in
+    let grow = tested c.args.first.now c.as_slice-then-rest-lt3-3.ensures c.eq-then-rest-lt3-3.ensures c.if-eq-4.false in
+    let reap = tested c.args.first.now c.as_slice-then-rest-lt3-4.ensures c.eq-then-rest-lt3-4.ensures c.if-eq-5.false in
+    record { ok = tt; refused = no_event (parsed_script c.args.script.now) c.args.first.now _ c.args.rest.now c.in-len2.len_at_least c.in-len2.len_below start exec grow reap }
+
+pub returns-in_default-4 : goal.returns-in_default-4
+returns-in_default-4 c = record { ok = tt; refused = no_long_event (parsed_script c.args.script.now) c.args.first.now _ c.args.rest.now c.in_default.len_at_least }
