@@ -29,8 +29,9 @@ other_at_32 _ _ _ _ _ = record { refusal = refl; value = refl }
 -- the operation at the last arm is such a one, by what the arms before it took
 is_binary : (c : goal.After-binary) → IsBinary c.args.width c.args.op c.reg-in_default.result c.args.right c.args.dst
 is_binary c = elim c.in_default.branch [
-    in_default-via-in-W64+in_default w ↦ let h = w.in_default in rw h.is-0 (other_at_64 _ _ _ _ h.not-Add-1 h.not-Sub-1 h.not-Mov-1)
-  | in_default-via-in-W32+in_default w ↦ let h = w.in_default in rw h.is-0 (other_at_32 _ _ _ _ h.not-Mov-1) ]
+  | in_default-via-in-W64+in_default w ↦ let h = w.in_default in rw h.is-0 (other_at_64 _ _ _ _ h.not-Add-1 h.not-Sub-1 h.not-Mov-1)
+  | in_default-via-in-W32+in_default w ↦ let h = w.in_default in rw h.is-0 (other_at_32 _ _ _ _ h.not-Mov-1)
+]
 
 pub returns-in_default-clause-refused : goal.returns-in_default-clause-refused
 returns-in_default-clause-refused c = rw (← c.reg-in_default.ensures.value, (is_binary c).refusal) c.binary.ensures.refused
