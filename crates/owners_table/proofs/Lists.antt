@@ -5,7 +5,7 @@ use Rattle.std.proofs.lemmas.Bool.Decides.{nat_tests}
 use Rattle.std.proofs.lemmas.List.Sums.{sum_by-cons, sum_by-append}
 use mathlib.Core.Logic.{dite}
 use native.Mathlib.Decide.{dec_le}
-use Rattle.owners_table.specs.Owning.{entries_of, Holds, word_at, without, weigh, weigh_word, weigh_words}
+use Rattle.owners_table.specs.Owning.{entries_of, Holds, word_at, without, weigh, weigh_word, weigh_words, weigh_shelf, weigh_shelves}
 
 -- only the entries of the slot count
 abbrev pub only : ℕ → (ℕ → ℕ) → ℕ → ℕ → ℕ
@@ -51,6 +51,21 @@ pub words-change : (h : ℕ → ℕ → ℕ) (k : ℕ) (ws : List ℕ) (i x : �
 words-change h k [] i x l = absurd (omega arith)
 words-change h k (w ∷ ws) zero x l = let e : k + 0 ≡ k = omega arith in rw e (omega arith)
 words-change h k (w ∷ ws) (suc i) x l = let e : suc k + i ≡ k + suc i = omega arith in let r = words-change h (suc k) ws i x (omega arith) in let r' = rw e at r in omega (arith, r')
+
+pub shelf-none : (h : ℕ → ℕ → ℕ) (k w : ℕ) → 4096 ≤ w → weigh_shelf h k w ≡ 0
+shelf-none h k w l = grind (arith, nat_tests)
+
+pub shelf-free : (h : ℕ → ℕ → ℕ) (k : ℕ) → weigh_shelf h k 0 ≡ 0
+shelf-free h k = grind (arith, nat_tests)
+
+pub shelf-some : (h : ℕ → ℕ → ℕ) (k w : ℕ) → 0 < w → w < 4096 → weigh_shelf h k w ≡ h k w
+shelf-some h k w p l = grind (arith, nat_tests)
+
+-- one word changes
+pub shelves-change : (h : ℕ → ℕ → ℕ) (k : ℕ) (ws : List ℕ) (i x : ℕ) → i < length ws → weigh_shelves h k (set ws i x) + weigh_shelf h (k + i) (get_or ws i 0) ≡ weigh_shelves h k ws + weigh_shelf h (k + i) x
+shelves-change h k [] i x l = absurd (omega arith)
+shelves-change h k (w ∷ ws) zero x l = let e : k + 0 ≡ k = omega arith in rw e (omega arith)
+shelves-change h k (w ∷ ws) (suc i) x l = let e : suc k + i ≡ k + suc i = omega arith in let r = shelves-change h (suc k) ws i x (omega arith) in let r' = rw e at r in omega (arith, r')
 
 words-past : (slot : ℕ) (g : ℕ → ℕ) (k : ℕ) (ws : List ℕ) → slot < k → weigh_words (only slot g) k ws ≡ 0
 words-past slot g k [] l = refl

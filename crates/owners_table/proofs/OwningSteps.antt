@@ -1,7 +1,7 @@
 -- Each step keeps the rule of the owners.
 use Rattle.std.proofs.Common.{◌≡◌, ◌≢◌, ℕ, ◌+◌, ◌<◌, ◌≤◌, Bool, eqb, List, [], ◌∷◌, ◌++◌, length, get_or, set, take, drop, sym, refl, ap, ◌∙◌, subst, arith, length-set, get_or-set_same, get_or-set_other, eq-eqb, ne_eqb}
 use Rattle.std.specs.Prelude.{if◌then◌else◌, sum_by}
-use Rattle.std.proofs.lemmas.List.Sums.{sum_by-cons}
+use Rattle.std.proofs.lemmas.List.Sums.{sum_by-cons, sum_by-append}
 use mathlib.Core.Logic.{dite}
 use mathlib.Core.Option.{none, some}
 use native.Mathlib.Decide.{ℕ_discrete, dec_le}
@@ -15,10 +15,10 @@ use Rattle.owners_table.specs.declared.mark.Owner.TheVariants.{Run, Shelf}
 use Rattle.owners_table.specs.declared.mark.TheConstants.{SHELVES}
 use Rattle.owners_table.specs.declared.owning.OwnerSheet.{OwnerSheet}
 use Rattle.owners_table.specs.Marking.{IsMarkWord}
-use Rattle.owners_table.specs.Owning.{IsSlotWord, IsOwn, owner_word, Owned, Holds, word_at, without, weigh, weigh_word, weigh_words, blank, gained, after_claim, after_release, after_shelve, after_fetch, claimed, released, was_shelved, fetched, looked}
+use Rattle.owners_table.specs.Owning.{IsSlotWord, IsOwn, owner_word, Owned, Holds, word_at, without, weigh, weigh_word, weigh_words, weigh_shelf, weigh_shelves, blank, gained, after_claim, after_release, after_shelve, after_fetch, claimed, released, was_shelved, fetched, looked}
 use Rattle.owners_table.specs.Sheets.{first_or}
 use Rattle.owners_table.proofs.Sums.{sum_by-change, sum_by-member, sum_by-split, sum_by-join, sum-is_additive, length-is_additive}
-use Rattle.owners_table.proofs.Lists.{only, once, differs, differs-same, word-none, word-some, words-change, words-of_run, words-of_none, words-once, weigh-without, word_at-same}
+use Rattle.owners_table.proofs.Lists.{only, once, differs, differs-same, word-none, word-some, words-change, shelf-none, shelf-free, shelf-some, shelves-change, words-of_run, words-of_none, words-once, weigh-without, word_at-same}
 
 abbrev pub View : Type 0
 View = List OwnerSheet
@@ -30,14 +30,21 @@ Table = State (Unit {0}) View
 abbrev pub listed : (ℕ → ℕ → ℕ) → OwnerSheet → ℕ
 listed h t = weigh h t.held
 
+abbrev pub put : (ℕ → ℕ → ℕ) → OwnerSheet → ℕ
+put h t = weigh h t.shelved
+
+abbrev pub taken : (ℕ → ℕ → ℕ) → OwnerSheet → ℕ
+taken h t = weigh h t.got
+
 single : (f : OwnerSheet → ℕ) (t : OwnerSheet) → sum_by f (t ∷ []) ≡ f t
 single f t = omega arith
 
 -- a step that changes one word and the view of one seat
 placed : (slots seats : ℕ) (st : Table) → Owned slots seats st → (id : ℕ) (v w : View) (slot x : ℕ) (carried : List (ℕ × Unit {0})) → get_elem? st.views id ≡ some v → slot < slots → IsSlotWord x → length w ≡ length v
     → ((h : ℕ → ℕ → ℕ) → sum_by (listed h) w + weigh_word h slot (get_or st.words slot 0) ≡ sum_by (listed h) v + weigh_word h slot x)
+    → ((h : ℕ → ℕ → ℕ) → sum_by (put h) w + weigh_shelf h slot (get_or st.words slot 0) + sum_by (taken h) v ≡ sum_by (put h) v + weigh_shelf h slot x + sum_by (taken h) w)
     → Owned slots seats (stepped st slot x id carried w keeps)
-placed slots seats st r id v w slot x carried at inside ok as_many moved = let wide = r.wide in let within : slot < length st.words = omega arith in record {
+placed slots seats st r id v w slot x carried at inside ok as_many moved passed = let wide = r.wide in let within : slot < length st.words = omega arith in record {
   wide = length-set st.words slot x ∙ r.wide;
   spare = get_or-set_other st.words slot slots x 0 (λ e. omega arith) ∙ r.spare;
   words = λ k. dite (ℕ_discrete k slot)
@@ -49,6 +56,15 @@ placed slots seats st r id v w slot x carried at inside ok as_many moved = let w
       let q = r.listed h in
       let m = moved h in
       let s = words-change h 0 st.words slot x within in
+      let z : 0 + slot ≡ slot = omega arith in
+      let s' = rw z at s in
+      omega arith;
+  shelved = λ h.
+      let c = sum_by-change (sum_by (put h)) st.views id v w at in
+      let d = sum_by-change (sum_by (taken h)) st.views id v w at in
+      let q = r.shelved h in
+      let m = passed h in
+      let s = shelves-change h 0 st.words slot x within in
       let z : 0 + slot ≡ slot = omega arith in
       let s' = rw z at s in
       omega arith;
@@ -84,8 +100,11 @@ held-lost slot from word n es other = ap (λ (b : Bool). if b then (slot, word) 
 -- a compare-exchange from a word that is no run's to that of a mark, after which the seat's one sheet has the list that is due
 takes : (slots seats : ℕ) (st : Table) → Owned slots seats st → (id : ℕ) (t u : OwnerSheet) (slot from word : ℕ) (carried : List (ℕ × Unit {0})) → get_elem? st.views id ≡ some (t ∷ []) → slot < slots → from < 4096 → IsMarkWord word
     → u.held ≡ gained slot from word (get_or st.words slot 0) t.held
+    → u.shelved ≡ t.shelved
+    → (get_or st.words slot 0 ≡ from → (h : ℕ → ℕ → ℕ) → weigh h u.got ≡ weigh h t.got + weigh_shelf h slot from)
+    → (get_or st.words slot 0 ≢ from → u.got ≡ t.got)
     → Owned slots seats (stepped st slot (either (eqb (get_or st.words slot 0) from) word (get_or st.words slot 0)) id carried (u ∷ []) keeps)
-takes slots seats st r id t u slot from word carried here inside low run is =
+takes slots seats st r id t u slot from word carried here inside low run is stays won lost =
     let n : ℕ = get_or st.words slot 0 in
     exchanged n from word (λ z. Owned slots seats (stepped st slot z id carried (u ∷ []) keeps))
     (λ found. placed slots seats st r id (t ∷ []) (u ∷ []) slot word carried here inside (λ _. run) refl
@@ -96,19 +115,39 @@ takes slots seats st r id t u slot from word carried here inside low run is =
     let d = sum_by-cons (λ e. h e.0 e.1) (slot, word) t.held in
     let e = single (listed h) t in
     let f = single (listed h) u in
+    omega arith)
+    (λ h.
+    let a = ap (weigh_shelf h slot) found in
+    let b = shelf-none h slot word run.0 in
+    let c = won found h in
+    let d = ap (weigh h) stays in
+    let e = single (put h) t in
+    let f = single (put h) u in
+    let g = single (taken h) t in
+    let i = single (taken h) u in
     omega arith))
     (λ other. placed slots seats st r id (t ∷ []) (u ∷ []) slot n carried here inside (r.words slot) refl
     (λ h.
     let c = ap (weigh h) (is ∙ held-lost slot from word n t.held other) in
     let e = single (listed h) t in
     let f = single (listed h) u in
+    omega arith)
+    (λ h.
+    let c = ap (weigh h) (lost other) in
+    let d = ap (weigh h) stays in
+    let e = single (put h) t in
+    let f = single (put h) u in
+    let g = single (taken h) t in
+    let i = single (taken h) u in
     omega arith))
 
 -- an exchange to a word that is no run's, after which the seat's one sheet lacks the slot that it held
 leaves : (slots seats : ℕ) (st : Table) → Owned slots seats st → (id : ℕ) (t u : OwnerSheet) (slot word : ℕ) (carried : List (ℕ × Unit {0})) → get_elem? st.views id ≡ some (t ∷ []) → slot < slots → word ≤ SHELVES → Holds slot t.held
     → u.held ≡ without slot t.held
+    → u.got ≡ t.got
+    → ((h : ℕ → ℕ → ℕ) → weigh h u.shelved ≡ weigh h t.shelved + weigh_shelf h slot word)
     → Owned slots seats (stepped st slot word id carried (u ∷ []) keeps)
-leaves slots seats st r id t u slot word carried here inside low has is =
+leaves slots seats st r id t u slot word carried here inside low has is stays adds =
     let n : ℕ = get_or st.words slot 0 in
     let m = mine slots seats st r id t slot here inside has in
     placed slots seats st r id (t ∷ []) (u ∷ []) slot word carried here inside (λ l. absurd (omega arith)) refl
@@ -120,6 +159,15 @@ leaves slots seats st r id t u slot word carried here inside low has is =
     let g = ap (weigh h) is in
     let c = single (listed h) t in
     let d = single (listed h) u in
+    omega arith)
+    (λ h.
+    let a = shelf-none h slot n m.0 in
+    let c = adds h in
+    let d = ap (weigh h) stays in
+    let e = single (put h) t in
+    let f = single (put h) u in
+    let g = single (taken h) t in
+    let i = single (taken h) u in
     omega arith)
 
 -- what a claim or a fetch finds where the seat's one sheet has the slot
@@ -133,7 +181,7 @@ claims slots seats homes id me slot word t one inside run st r _ at _ =
       after_claim slot word n t ∷ [],
       keeps,
       tt,
-      takes slots seats st r id t (after_claim slot word n t) slot 0 word me.1 (at ∙ ap some one) inside (omega arith) run refl,
+      takes slots seats st r id t (after_claim slot word n t) slot 0 word me.1 (at ∙ ap some one) inside (omega arith) run refl refl (λ _ h. let z = shelf-free h slot in omega arith) (λ _. refl),
       (
         refl,
         r.words slot,
@@ -141,14 +189,14 @@ claims slots seats homes id me slot word t one inside run st r _ at _ =
       ),
     )
 
-pub fetches : (slots seats homes id : ℕ) (me : Me (Unit {0}) View) (slot from word : ℕ) (t : OwnerSheet) → me.0 ≡ t ∷ [] → slot < slots → from ≤ SHELVES → IsMarkWord word
+pub fetches : (slots seats homes id : ℕ) (me : Me (Unit {0}) View) (slot from word : ℕ) (t : OwnerSheet) → me.0 ≡ t ∷ [] → slot < slots → 0 < from → from ≤ SHELVES → IsMarkWord word
     → Allows (Owned slots seats) homes id me slot (λ n. either (eqb n from) word n) (fetched (step homes slot from word none) me)
-fetches slots seats homes id me slot from word t one inside low run st r _ at _ =
+fetches slots seats homes id me slot from word t one inside some_shelf low run st r _ at _ =
     let n : ℕ = get_or st.words slot 0 in (
       after_fetch slot from word n t ∷ [],
       keeps,
       tt,
-      takes slots seats st r id t (after_fetch slot from word n t) slot from word me.1 (at ∙ ap some one) inside (omega arith) run refl,
+      takes slots seats st r id t (after_fetch slot from word n t) slot from word me.1 (at ∙ ap some one) inside (omega arith) run refl refl (λ won h. let a = ap (weigh h) (held-won slot from from n t.got won) in let b = sum_by-cons (λ e. h e.0 e.1) (slot, from) t.got in let c = shelf-some h slot from some_shelf (omega arith) in omega arith) (λ lost. held-lost slot from from n t.got lost),
       (
         refl,
         r.words slot,
@@ -162,17 +210,17 @@ releases slots seats homes id me slot t one inside has st r _ at _ = (
   after_release slot t ∷ [],
   keeps,
   tt,
-  leaves slots seats st r id t (after_release slot t) slot 0 me.1 (at ∙ ap some one) inside (omega arith) has refl,
+  leaves slots seats st r id t (after_release slot t) slot 0 me.1 (at ∙ ap some one) inside (omega arith) has refl refl (λ h. let z = shelf-free h slot in omega arith),
   (refl, λ u e. let same : t ≡ u = ap (first_or blank) (sym one ∙ e) in ap (λ (x : OwnerSheet). after_release slot x ∷ []) same),
 )
 
-pub shelves : (slots seats homes id : ℕ) (me : Me (Unit {0}) View) (slot word : ℕ) (t : OwnerSheet) → me.0 ≡ t ∷ [] → slot < slots → word ≤ SHELVES → Holds slot t.held
+pub shelves : (slots seats homes id : ℕ) (me : Me (Unit {0}) View) (slot word : ℕ) (t : OwnerSheet) → me.0 ≡ t ∷ [] → slot < slots → 0 < word → word ≤ SHELVES → Holds slot t.held
     → Allows (Owned slots seats) homes id me slot (λ _. word) (was_shelved (step homes slot word 0 none) me)
-shelves slots seats homes id me slot word t one inside low has st r _ at _ = (
+shelves slots seats homes id me slot word t one inside some_shelf low has st r _ at _ = (
   after_shelve slot word t ∷ [],
   keeps,
   tt,
-  leaves slots seats st r id t (after_shelve slot word t) slot word me.1 (at ∙ ap some one) inside low has refl,
+  leaves slots seats st r id t (after_shelve slot word t) slot word me.1 (at ∙ ap some one) inside low has refl refl (λ h. let a = sum_by-append (λ (e : ℕ × ℕ). h e.0 e.1) t.shelved ((slot, word) ∷ []) in let b = sum_by-cons (λ (e : ℕ × ℕ). h e.0 e.1) (slot, word) [] in let c = shelf-some h slot word some_shelf (omega arith) in omega arith),
   (refl, λ u e. let same : t ≡ u = ap (first_or blank) (sym one ∙ e) in ap (λ (x : OwnerSheet). after_shelve slot word x ∷ []) same),
 )
 
@@ -188,6 +236,7 @@ splits slots seats id v st r at = record {
   words = r.words;
   sheets = sum_by-split (λ (u : View). length u) length-is_additive st.views id v at ∙ r.sheets;
   listed = λ h. sum_by-split (sum_by (listed h)) (sum-is_additive (listed h)) st.views id v at ∙ r.listed h;
+  shelved = λ h. let a = sum_by-split (sum_by (put h)) (sum-is_additive (put h)) st.views id v at in let b = sum_by-split (sum_by (taken h)) (sum-is_additive (taken h)) st.views id v at in let c = r.shelved h in omega arith;
 }
 
 pub joins : (slots seats id : ℕ) (v : View) (other : ℕ) (w : View) → Joins (Owned slots seats) id v other w (v ++ w) []
@@ -197,6 +246,7 @@ joins slots seats id v other w st r at apart there = record {
   words = r.words;
   sheets = sum_by-join (λ (u : View). length u) length-is_additive st.views id v other w at there ∙ r.sheets;
   listed = λ h. sum_by-join (sum_by (listed h)) (sum-is_additive (listed h)) st.views id v other w at there ∙ r.listed h;
+  shelved = λ h. let a = sum_by-join (sum_by (put h)) (sum-is_additive (put h)) st.views id v other w at there in let b = sum_by-join (sum_by (taken h)) (sum-is_additive (taken h)) st.views id v other w at there in let c = r.shelved h in omega arith;
 }
 
 pub looks : (slots seats homes id : ℕ) (me : Me (Unit {0}) View) (i : ℕ) → Allows (Owned slots seats) homes id me i (λ n. n) (looked (step homes i 0 0 none) me)

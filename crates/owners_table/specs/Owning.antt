@@ -70,6 +70,14 @@ abbrev pub weigh_words : (ℕ → ℕ → ℕ) → ℕ → List ℕ → ℕ
 weigh_words h slot [] = 0
 weigh_words h slot (w ∷ ws) = weigh_word h slot w + weigh_words h (suc slot) ws
 
+-- a slot's word weighs as a shelf's only where it is one
+abbrev pub weigh_shelf : (ℕ → ℕ → ℕ) → ℕ → ℕ → ℕ
+weigh_shelf h slot w = if w == 0 then 0 else if nat_lt w 4096 then h slot w else 0
+
+abbrev pub weigh_shelves : (ℕ → ℕ → ℕ) → ℕ → List ℕ → ℕ
+weigh_shelves h slot [] = 0
+weigh_shelves h slot (w ∷ ws) = weigh_shelf h slot w + weigh_shelves h (suc slot) ws
+
 -- The rule of the table. There is a sheet for each seat made. However slots and words are weighed, the lists of all sheets weigh
 -- what the words of runs weigh: they have those entries, each once, and no other.
 pub record Owned (slots seats : ℕ) (s : State (Unit {0}) (List OwnerSheet)) : Type 0 where
@@ -78,6 +86,8 @@ pub record Owned (slots seats : ℕ) (s : State (Unit {0}) (List OwnerSheet)) : 
   pub words : (slot : ℕ) → IsSlotWord (slice_index s.words slot)
   pub sheets : sheet_count s.views ≡ seats
   pub listed : (h : ℕ → ℕ → ℕ) → tally (λ t. weigh h t.held) s.views ≡ weigh_words h 0 s.words
+  -- what was shelved was got, but for what the words of shelves say
+  pub shelved : (h : ℕ → ℕ → ℕ) → tally (λ t. weigh h t.shelved) s.views ≡ weigh_shelves h 0 s.words + tally (λ t. weigh h t.got) s.views
 
 -- the entries of all lists
 abbrev pub all_held : List (List OwnerSheet) → List (ℕ × ℕ)
@@ -96,7 +106,7 @@ abbrev pub EachHasOneOwner : Type 0
 EachHasOneOwner = (slots seats : ℕ) (s : State (Unit {0}) (List OwnerSheet)) → Owned slots seats s → (slot : ℕ) → slot < slots → HasOneOwner s.words (all_held s.views) slot
 
 abbrev pub blank : OwnerSheet
-blank = record { held = []; tries = 0; notes = []; fetches = []; shelved = [] }
+blank = record { held = []; tries = 0; notes = []; fetches = []; shelved = []; got = [] }
 
 -- the list after an exchange of the slot from this word to another: it gains the slot where that word was found
 abbrev pub gained : ℕ → ℕ → ℕ → ℕ → List (ℕ × ℕ) → List (ℕ × ℕ)
@@ -104,19 +114,19 @@ gained slot from word found es = if found == from then (slot, word) ∷ es else 
 
 -- the sheet after a claim of the slot that found this word
 abbrev pub after_claim : ℕ → ℕ → ℕ → OwnerSheet → OwnerSheet
-after_claim slot word found t = record { held = gained slot 0 word found t.held; tries = t.tries + 1; notes = t.notes ++ (slot, found) ∷ []; fetches = t.fetches; shelved = t.shelved }
+after_claim slot word found t = record { held = gained slot 0 word found t.held; tries = t.tries + 1; notes = t.notes ++ (slot, found) ∷ []; fetches = t.fetches; shelved = t.shelved; got = t.got }
 
 -- the sheet after a release of the slot
 abbrev pub after_release : ℕ → OwnerSheet → OwnerSheet
-after_release slot t = record { held = without slot t.held; tries = t.tries; notes = t.notes; fetches = t.fetches; shelved = t.shelved }
+after_release slot t = record { held = without slot t.held; tries = t.tries; notes = t.notes; fetches = t.fetches; shelved = t.shelved; got = t.got }
 
 -- the sheet after the slot was shelved, with the shelf's word
 abbrev pub after_shelve : ℕ → ℕ → OwnerSheet → OwnerSheet
-after_shelve slot word t = record { held = without slot t.held; tries = t.tries; notes = t.notes; fetches = t.fetches; shelved = t.shelved ++ (slot, word) ∷ [] }
+after_shelve slot word t = record { held = without slot t.held; tries = t.tries; notes = t.notes; fetches = t.fetches; shelved = t.shelved ++ (slot, word) ∷ []; got = t.got }
 
 -- the sheet after a fetch of the slot from the shelf of the first word, that found the last
 abbrev pub after_fetch : ℕ → ℕ → ℕ → ℕ → OwnerSheet → OwnerSheet
-after_fetch slot from word found t = record { held = gained slot from word found t.held; tries = t.tries + 1; notes = t.notes; fetches = t.fetches ++ (slot, found) ∷ []; shelved = t.shelved }
+after_fetch slot from word found t = record { held = gained slot from word found t.held; tries = t.tries + 1; notes = t.notes; fetches = t.fetches ++ (slot, found) ∷ []; shelved = t.shelved; got = gained slot from from found t.got }
 
 -- where the list has the slot, the word that was found is a run's, and the one in the list
 abbrev pub IsOwn : ℕ → ℕ → List (ℕ × ℕ) → Type 0
@@ -151,16 +161,17 @@ pub record SeatView : Type 0 where
   pub notes : List (ℕ × ℕ)
   pub fetches : List (ℕ × ℕ)
   pub shelved : List (ℕ × ℕ)
+  pub got : List (ℕ × ℕ)
 
 -- a seat that was just made
 abbrev pub fresh : TableId → SeatView
-fresh table = record { table = table; held = []; tries = 0; notes = []; fetches = []; shelved = [] }
+fresh table = record { table = table; held = []; tries = 0; notes = []; fetches = []; shelved = []; got = [] }
 
 abbrev pub sheet_of : Seat (Unit {0}) (List OwnerSheet) → OwnerSheet
 sheet_of p = first_or blank p.me.0
 
 abbrev pub seat_view : Seat (Unit {0}) (List OwnerSheet) → SeatView
-seat_view p = record { table = p.table_id; held = (sheet_of p).held; tries = (sheet_of p).tries; notes = (sheet_of p).notes; fetches = (sheet_of p).fetches; shelved = (sheet_of p).shelved }
+seat_view p = record { table = p.table_id; held = (sheet_of p).held; tries = (sheet_of p).tries; notes = (sheet_of p).notes; fetches = (sheet_of p).fetches; shelved = (sheet_of p).shelved; got = (sheet_of p).got }
 
 -- the seat has one sheet
 abbrev pub IsSingle : Seat (Unit {0}) (List OwnerSheet) → Type 0
@@ -178,7 +189,7 @@ held_by seats = flat_map (λ s. s.held) seats
 
 -- what was done with a seat
 abbrev pub sheet : SeatView → OwnerSheet
-sheet s = record { held = s.held; tries = s.tries; notes = s.notes; fetches = s.fetches; shelved = s.shelved }
+sheet s = record { held = s.held; tries = s.tries; notes = s.notes; fetches = s.fetches; shelved = s.shelved; got = s.got }
 
 -- What is left of a table that was closed with these seats: the words keep the rule, the seats' lists weigh no more than they do,
 -- and as much where these are all the seats that were made

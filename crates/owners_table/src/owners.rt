@@ -106,7 +106,7 @@ impl Owners {
         ensures taken { IfErr result (λ t. (seat.new.held ≡ seat.old.held) × (seat.new.notes ≡ seat.old.notes ++ (slot, owner_word t.owner) ∷ [])) }
         // A shelf that is told is one that there is, so the word and its owner tell each other.
         ensures owner { IfErr result (λ t. IsOwner t.owner) }
-        ensures rest { (seat.new.fetches ≡ seat.old.fetches) × (seat.new.shelved ≡ seat.old.shelved) }
+        ensures rest { (seat.new.fetches ≡ seat.old.fetches) × (seat.new.shelved ≡ seat.old.shelved) × (seat.new.got ≡ seat.old.got) }
         // A seat that has the slot already is told its own.
         ensures own { Holds slot seat.old.held → IsErrAnd result (λ t. owner_word t.owner ≡ word_at slot seat.old.held) }
     {
@@ -156,8 +156,8 @@ impl Owners {
         requires shelf { shelf < SHELVES }
         ensures table { seat.new.table ≡ seat.old.table }
         ensures tries { seat.new.tries ≡ seat.old.tries + 1 }
-        ensures ok { OnOk result ((seat.new.held ≡ (slot, mark_word mark.run mark.at) ∷ seat.old.held) × (seat.new.fetches ≡ seat.old.fetches ++ (slot, shelf + 1) ∷ [])) }
-        ensures other { IfErr result (λ o. (found_word o.found ≢ shelf + 1) × (seat.new.held ≡ seat.old.held) × (seat.new.fetches ≡ seat.old.fetches ++ (slot, found_word o.found) ∷ [])) }
+        ensures ok { OnOk result ((seat.new.held ≡ (slot, mark_word mark.run mark.at) ∷ seat.old.held) × (seat.new.fetches ≡ seat.old.fetches ++ (slot, shelf + 1) ∷ []) × (seat.new.got ≡ (slot, shelf + 1) ∷ seat.old.got)) }
+        ensures other { IfErr result (λ o. (found_word o.found ≢ shelf + 1) × (seat.new.held ≡ seat.old.held) × (seat.new.fetches ≡ seat.old.fetches ++ (slot, found_word o.found) ∷ []) × (seat.new.got ≡ seat.old.got)) }
         // A shelf that is told is one that there is, so the word and its owner tell each other.
         ensures found { IfErr result (λ o. IfSome o.found IsOwner) }
         ensures rest { (seat.new.notes ≡ seat.old.notes) × (seat.new.shelved ≡ seat.old.shelved) }

@@ -19,6 +19,7 @@ pub struct OwnerSheet {
     pub notes: LinkedList<(u64, u64)>,
     pub fetches: LinkedList<(u64, u64)>,
     pub shelved: LinkedList<(u64, u64)>,
+    pub got: LinkedList<(u64, u64)>,
 }
 
 /// The rule of the owners, as a type for the table.

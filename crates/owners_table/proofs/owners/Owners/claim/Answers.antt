@@ -44,6 +44,7 @@ returns-in_default-clause-rest c =
     let e = (c.compare_exchange-found.ensures.2.2 _ c.seat.invariant.0).0 in (
       ap (λ (v : List OwnerSheet). (first_or blank v).fetches) e ∙ ap (λ (v : SeatView). v.fetches) c.seat.view_is,
       ap (λ (v : List OwnerSheet). (first_or blank v).shelved) e ∙ ap (λ (v : SeatView). v.shelved) c.seat.view_is,
+      ap (λ (v : List OwnerSheet). (first_or blank v).got) e ∙ ap (λ (v : SeatView). v.got) c.seat.view_is,
     )
 
 pub returns-in_default-clause-own : goal.returns-in_default-clause-own
@@ -81,4 +82,5 @@ returns-clause-rest c =
     let e = (c.compare_exchange-found.ensures.2.2 _ c.seat.invariant.0).0 in (
       ap (λ (v : List OwnerSheet). (first_or blank v).fetches) e ∙ ap (λ (v : SeatView). v.fetches) c.seat.view_is,
       ap (λ (v : List OwnerSheet). (first_or blank v).shelved) e ∙ ap (λ (v : SeatView). v.shelved) c.seat.view_is,
+      ap (λ (v : List OwnerSheet). (first_or blank v).got) e ∙ ap (λ (v : SeatView). v.got) c.seat.view_is,
     )

@@ -15,7 +15,7 @@ compare_exchange-found-requires c =
     let same = c.from-wanted.ensures in (
       ap (λ (v : SeatView). v.table) c.seat.view_is ∙ (c.requires.table ∙ sym (ap (λ (o : OwnersView). o.table) c.self.view_is)),
       omega arith,
-      fetches _ _ _ _ _ _ _ _ _ c.seat.invariant.0 (omega arith) (omega arith) c.word.ensures.range,
+      fetches _ _ _ _ _ _ _ _ _ c.seat.invariant.0 (omega arith) (omega arith) (omega arith) c.word.ensures.range,
     )
 
 pub invariant_of-seat : goal.invariant_of-seat
@@ -42,6 +42,8 @@ returns-then-found-wanted-clause-other c =
           ∙ (held-lost slot (c.from-wanted.result + 1) c.word.result c.compare_exchange-found.result sheet.held other ∙ ap (λ (v : SeatView). v.held) c.seat.view_is),
       ap (λ (v : List OwnerSheet). (first_or blank v).fetches) e
           ∙ (ap (λ (n : ℕ). sheet.fetches ++ (slot, n) ∷ []) (sym found) ∙ ap (λ (v : SeatView). v.fetches ++ (slot, found_word c.owner_with.result) ∷ []) c.seat.view_is),
+      ap (λ (v : List OwnerSheet). (first_or blank v).got) e
+          ∙ (held-lost slot (c.from-wanted.result + 1) (c.from-wanted.result + 1) c.compare_exchange-found.result sheet.got other ∙ ap (λ (v : SeatView). v.got) c.seat.view_is),
     )
 
 pub returns-then-found-wanted-clause-rest : goal.returns-then-found-wanted-clause-rest
@@ -73,6 +75,9 @@ returns-clause-ok c =
           ∙ (ap (λ (w : ℕ). (slot, w) ∷ sheet.held) c.word.ensures.value ∙ ap (λ (v : SeatView). (slot, mark_word c.args.mark.run c.args.mark.at) ∷ v.held) c.seat.view_is)),
       ap (λ (v : List OwnerSheet). (first_or blank v).fetches) e
           ∙ (ap (λ (n : ℕ). sheet.fetches ++ (slot, n) ∷ []) (found ∙ ap (λ (n : ℕ). n + 1) c.from-wanted.ensures) ∙ ap (λ (v : SeatView). v.fetches ++ (slot, c.args.shelf + 1) ∷ []) c.seat.view_is),
+      ap (λ (v : List OwnerSheet). (first_or blank v).got) e
+          ∙ (held-won slot (c.from-wanted.result + 1) (c.from-wanted.result + 1) c.compare_exchange-found.result sheet.got found
+          ∙ (ap (λ (w : ℕ). (slot, w) ∷ sheet.got) (ap (λ (n : ℕ). n + 1) c.from-wanted.ensures) ∙ ap (λ (v : SeatView). (slot, c.args.shelf + 1) ∷ v.got) c.seat.view_is)),
     )
 
 pub returns-clause-rest : goal.returns-clause-rest

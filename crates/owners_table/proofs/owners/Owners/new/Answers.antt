@@ -18,7 +18,7 @@ of_words-requires c =
 
 -- the view of a seat that was just dealt
 dealt : (p : Seat (Unit {0}) (List OwnerSheet)) (table : TableId) → p.table_id ≡ table → p.me.0 ≡ blank ∷ [] → seat_view p ≡ fresh table
-dealt p table e m = λ i. record { table = e i; held = (first_or blank (m i)).held; tries = (first_or blank (m i)).tries; notes = (first_or blank (m i)).notes; fetches = (first_or blank (m i)).fetches; shelved = (first_or blank (m i)).shelved }
+dealt p table e m = λ i. record { table = e i; held = (first_or blank (m i)).held; tries = (first_or blank (m i)).tries; notes = (first_or blank (m i)).notes; fetches = (first_or blank (m i)).fetches; shelved = (first_or blank (m i)).shelved; got = (first_or blank (m i)).got }
 
 pub split_seat-seat-requires : goal.split_seat-seat-requires
 split_seat-seat-requires c =

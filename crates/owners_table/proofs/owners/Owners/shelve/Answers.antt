@@ -14,7 +14,7 @@ swap-requires c =
     let same = c.from.ensures in (
       ap (λ (v : SeatView). v.table) c.seat.view_is ∙ (c.requires.table ∙ sym (ap (λ (o : OwnersView). o.table) c.self.view_is)),
       omega arith,
-      shelves _ _ _ _ _ _ _ _ c.seat.invariant.0 (omega arith) (omega arith) (subst (λ (v : SeatView). Holds c.args.slot v.held) (sym c.seat.view_is) c.requires.holds),
+      shelves _ _ _ _ _ _ _ _ c.seat.invariant.0 (omega arith) (omega arith) (omega arith) (subst (λ (v : SeatView). Holds c.args.slot v.held) (sym c.seat.view_is) c.requires.holds),
     )
 
 pub invariant_of-seat : goal.invariant_of-seat
