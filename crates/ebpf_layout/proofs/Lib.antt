@@ -12,3 +12,4 @@ pub mod Acted
 pub mod Displaced
 pub mod Stepping
 pub mod Alike
+pub mod Kept

@@ -1,3 +1,8 @@
+use Rattle.std.proofs.Common.{◌≡◌, None, List, Option, subst, sym}
+use Rattle.ebpf_insn.specs.declared.insn.Insn.{Insn}
+use Rattle.ebpf_flow.specs.Flow.{flow_fault}
+use Rattle.ebpf_layout.specs.Layout.{IsLaidOut}
+use Rattle.ebpf_layout.proofs.Kept.{kept}
 use Rattle.ebpf_layout.proofs.Codes.{well_formed}
 use Rattle.ebpf_layout.proofs.Places.{IsDone, is_laid_out, jumps_forward, some_code}
 use Rattle.ebpf_layout.proofs.Fine.{flow_is_fine}
@@ -41,3 +46,16 @@ returns-clause-fine c =
     rw (c.new.ensures, c.reverse.ensures.items)
     (flow_is_fine p _ (is_laid_out p o.marks.items o.slots.items w.places.items w.code.items w.count done) done.ordered.formed done.fine
     (λ k i e. jumps_forward p o.marks.items o.slots.items w.places.items w.code.items w.count k i done e))
+
+pub returns-then-branch-clause-laid_out : goal.returns-then-branch-clause-laid_out
+returns-then-branch-clause-laid_out c =
+    let p = c.args.program.now in
+    subst (λ (q : List (Option Insn)). IsLaidOut p q) (sym c.in_ok-copy_of.ensures) (kept p c.slots.ensures.formed (c.in_ok-is_in_order.ensures.yes c.if-branch.true))
+
+pub returns-then-branch-clause-fine : goal.returns-then-branch-clause-fine
+returns-then-branch-clause-fine c = subst (λ (q : List (Option Insn)). flow_fault q ≡ None) (sym c.in_ok-copy_of.ensures) (c.in_ok-is_in_order.ensures.yes c.if-branch.true)
+
+pub returns-then-branch-clause-alike : goal.returns-then-branch-clause-alike
+returns-then-branch-clause-alike c =
+    let p = c.args.program.now in
+    run_alike p _ (subst (λ (q : List (Option Insn)). IsLaidOut p q) (sym c.in_ok-copy_of.ensures) (kept p c.slots.ensures.formed (c.in_ok-is_in_order.ensures.yes c.if-branch.true)))
