@@ -4,7 +4,7 @@ use Rattle.std.specs.Prelude.{List, IfSome, IfNone}
 use Rattle.ebpf_insn.specs.Program.{instructions}
 use Rattle.ebpf_verify.specs.Subject.{Subject}
 use Rattle.ebpf_machine.specs.declared.report.Report.{Report}
-use Rattle.ebpf_machine.specs.Alone.{alone_after, replies_in}
+use Rattle.ebpf_machine.specs.Alone.{Replies, alone_after, replies_in}
 use Rattle.ebpf_machine.specs.RunState.{RunState, first_state_of, status_of}
 use Rattle.ebpf_machine.specs.Step.{IsGivenUp, seen_in}
 use Rattle.ebpf_machine.specs.Store.{Store}
@@ -30,6 +30,7 @@ module _ {S H : Type 0} (o : Store S H) (first now : S) (subject : Subject) (con
         ∙ up.alone;
     going = ap status_of going;
     output = sym output;
+    told = (ap (λ (p : Replies). p.answers) up.replies_are, ap (λ (p : Replies). p.taken) up.replies_are);
     peak = (λ i. (alone_after (executed i) (sym was.subject_is i) (sym was.context_is i) (replies_in report)).peak) ∙ up.peak_is;
   }
 

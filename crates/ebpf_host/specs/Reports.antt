@@ -15,6 +15,8 @@ pub record IsCutOff (s : Subject) (context : List ℕ) (r : Report) : Type 0 whe
   pub alone : view_in (alone_after r.executed s context (replies_in r)).world 0 ≡ Some run
   pub going : run.status ≡ Going
   pub output : run.frame.output ≡ r.output
+  -- the answers are those that its calls were given, no more and no fewer
+  pub told : (run.replies ≡ r.answers) × (run.taken ≡ r.taken)
   pub peak : (alone_after r.executed s context (replies_in r)).peak ≡ r.peak
 
 -- the run exited, and its report is that of the program alone; or it did as many instructions as it might, and was given up
