@@ -1,6 +1,7 @@
 -- What C is told.
-use Rattle.std.specs.Prelude.{◌≡◌, ℕ, ◌++◌, List, length, filter, take, drop, is_some, unwrap_or, string_bytes}
+use Rattle.std.specs.Prelude.{◌≡◌, ℕ, ◌++◌, List, [], ◌∷◌, length, filter, take, drop, is_some, unwrap_or, string_bytes}
 use Rattle.ebpf_verify.specs.Subject.{Subject}
+use Rattle.ebpf_command.specs.Codes.{refusal_name}
 use Rattle.ebpf_machine.specs.declared.report.Report.{Report}
 use Rattle.ebpf_machine.specs.Whole.{is_granted, is_null, is_fetched, is_empty}
 use Rattle.ebpf_host.specs.declared.refusal.Refusal.{Refusal}
@@ -19,6 +20,7 @@ copied items room = take (length room) items ++ drop (length items) room
 pub record IsRefusalTold (bytes : List ℕ) (context held : ℕ) (room text : List ℕ) (told : Refused) : Type 0 where
   pub refusal : Refusal
   pub is : IsRefusedAs bytes context held refusal
+  pub code : told.code ≡ copied (refusal_name refusal.code) (0 ∷ 0 ∷ 0 ∷ 0 ∷ [])
   pub slot : told.slot ≡ refusal.slot
   pub length_is : told.length ≡ length (string_bytes refusal.sentence)
   pub sentence : text ≡ copied (string_bytes refusal.sentence) room

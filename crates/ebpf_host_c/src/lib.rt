@@ -4,10 +4,11 @@
 //! ebpf_host, states what that promises, and tells the outcome by a status. Nothing here starts a thread or takes a lock.
 #![tactic(auto)]
 
-ghost use Rattle.std.specs.Prelude.{◌≡◌, ◌≢◌, ◌⊎◌, ◌<◌, ℕ, None, filter, is_some, length, string_bytes, unwrap_or};
+ghost use Rattle.std.specs.Prelude.{◌≡◌, ◌≢◌, ◌⊎◌, ◌<◌, ℕ, [], ◌∷◌, None, filter, is_some, length, string_bytes, unwrap_or};
 ghost use Rattle.std.specs.Option.{MatchOption};
 ghost use Rattle.vmem_arena.specs.declared.arena.TheConstants.{MAX_PAGES};
 ghost use Rattle.ebpf_machine.specs.Whole.{is_granted, is_null, is_fetched, is_empty};
+ghost use Rattle.ebpf_command.specs.Codes.{refusal_name};
 ghost use Rattle.ebpf_host.specs.Loading.{IsLoaded};
 ghost use Rattle.ebpf_host.specs.Stocks.{stock_of};
 ghost use Rattle.ebpf_host_c.specs.Told.{IsRefusalTold, IsReportTold, copied};
@@ -105,6 +106,7 @@ pub extern "C" fn ebpf_program_load(
     ensures loaded { result ≡ 0 → MatchOption program.new.value ⊥ (λ p. IsLoaded bytes.now context held p.verified) }
     ensures refused { result ≡ 1 → IsRefusalTold bytes.now context held text.old text.new refused.new }
     ensures declaration { result ≡ 2 → (4096 < context) ⊎ (64 < held) }
+    ensures statuses { (result ≡ 0) ⊎ (result ≡ 1) ⊎ (result ≡ 2) ⊎ (result ≡ 6) }
     ensures kept { result ≢ 0 → program.new.value ≡ program.old.value }
 {
     match Program::load(alloc, bytes, context, held) {
@@ -126,6 +128,7 @@ pub extern "C" fn ebpf_program_load(
 
 // Tells a refusal.
 fn tell_refusal(refusal: Refusal, text: &mut [u8], refused: &mut Refused)
+    ensures code { refused.new.code ≡ copied (refusal_name refusal.code) (0 ∷ 0 ∷ 0 ∷ 0 ∷ []) }
     ensures slot { refused.new.slot ≡ refusal.slot }
     ensures length { refused.new.length ≡ length (string_bytes refusal.sentence) }
     ensures sentence { text.new ≡ copied (string_bytes refusal.sentence) text.old }
@@ -155,6 +158,7 @@ pub extern "C" fn ebpf_program_free(alloc: Global, program: &mut ProgramHandle)
 pub extern "C" fn ebpf_machine_new(alloc: Global, machine: &mut MachineHandle, pages: u32) -> u32
     ensures made { result ≡ 0 → MatchOption machine.new.value ⊥ (λ m. (m.arena.pages ≡ pages) × ((kind : ℕ) → (stock_of m kind).shelf ≡ None)) }
     ensures pages { result ≡ 3 → (pages ≡ 0) ⊎ (MAX_PAGES < pages) }
+    ensures statuses { (result ≡ 0) ⊎ (result ≡ 3) ⊎ (result ≡ 6) }
     ensures kept { result ≢ 0 → machine.new.value ≡ machine.old.value }
 {
     match Machine::new(alloc, pages) {
@@ -211,7 +215,7 @@ pub extern "C" fn ebpf_machine_run(
     ensures pages { MatchOption machine.old.value (machine.new.value ≡ None) (λ old. MatchOption machine.new.value ⊥ (λ new. new.arena.pages ≡ old.arena.pages)) }
     ensures unchanged { result ≢ 0 → machine.new.value ≡ machine.old.value }
     ensures context { result ≡ 4 → MatchOption program.old.value ⊥ (λ p. length context.now ≢ p.verified.decl.context) }
-    ensures empty { result ≡ 5 → (machine.old.value ≡ None) ⊎ (program.old.value ≡ None) }
+    ensures empty { MatchOption machine.old.value (result ≡ 5) (λ _. MatchOption program.old.value (result ≡ 5) (λ _. (result ≡ 0) ⊎ (result ≡ 4) ⊎ (result ≡ 6))) }
     ensures kept { program.new.value ≡ program.old.value }
 {
     let Some(mut held) = machine.take(alloc) else {
@@ -240,7 +244,7 @@ fn run_held(
     ensures pages { machine.new.arena.pages ≡ machine.old.arena.pages }
     ensures unchanged { result ≢ 0 → machine.new ≡ machine.old }
     ensures context { result ≡ 4 → length context.now ≢ program.now.verified.decl.context }
-    ensures others { (result ≢ 1) × (result ≢ 2) × (result ≢ 3) × (result ≢ 5) }
+    ensures statuses { (result ≡ 0) ⊎ (result ≡ 4) ⊎ (result ≡ 6) }
 {
     match machine.run(program, context, limit) {
         Ok(done) => {
