@@ -1,7 +1,8 @@
 /* Programs of eBPF (RFC 9669) in a host's own process: loaded and verified once, run any number of times.
  *
  * A program that is loaded never traps: whatever the context, it reads and writes nothing outside its own frame, its context and its
- * objects, does at most as many instructions as it has, holds at most as many objects as it declared and gives all of them back.
+ * objects, does at most as many instructions as it has, holds at most as many objects as it declared, and gives each of them back or
+ * leaves it on a shelf of the machine.
  *
  * Handles. A handle is a struct of one word. Set it to zero before its first call ("ebpf_program p = {0};"), pass it by address, never
  * copy it, and free it at the end. An empty handle may be passed to every function: it is told by EBPF_EMPTY, and freeing it does
