@@ -17,6 +17,7 @@ pub mod WorldLines
 pub mod OutcomeLines
 pub mod Stats
 pub mod StatsLines
+pub mod Timing
 pub mod ScriptText
 pub mod CheckText
 pub mod ScriptFaults

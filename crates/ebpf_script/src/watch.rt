@@ -2,6 +2,7 @@
 
 ghost use Rattle.std.specs.Prelude.{◌≡◌, ◌++◌, None, Some, string_bytes, OnOk};
 ghost use Rattle.ebpf_script.specs.StatsLines.{table_if};
+ghost use Rattle.ebpf_script.specs.Timing.{micros_between, with_time};
 
 use crate::meter::{Meter, Stage};
 use crate::stats::Stats;
@@ -63,9 +64,12 @@ impl<'a, C: Clock> Watch<'a, C> {
 
 impl<'a, C: Clock> Meter for Watch<'a, C> {
     ghost use Rattle.std.specs.Prelude.{◌≡◌, Some};
+    ghost use Rattle.ebpf_script.specs.Timing.{micros_between, with_time};
 
+    // The time is that of this stage, from the last reading of the clock to the one that is kept. The other stages keep theirs.
     fn ended(&mut self, stage: Stage)
-        ensures { self.new.stats ≡ self.old.stats }
+        ensures kept { self.new.stats ≡ self.old.stats }
+        ensures timed { self.new.times ≡ with_time stage (micros_between self.old.since self.new.since) self.old.times }
     {
         let now = Instant::now(self.clock).ok();
         let time = micros_between(self.since, now);
@@ -86,6 +90,8 @@ impl<'a, C: Clock> Meter for Watch<'a, C> {
 }
 
 // The whole microseconds from one reading of the clock to a later one.
-fn micros_between(from: Option<Instant>, to: Option<Instant>) -> Option<u64> {
+fn micros_between(from: Option<Instant>, to: Option<Instant>) -> Option<u64>
+    ensures { result ≡ micros_between from to }
+{
     u64::try_from(to?.duration_since(from?).as_micros()).ok()
 }
