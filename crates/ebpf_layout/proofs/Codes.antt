@@ -22,7 +22,7 @@ instructions-placed _ r = refl
 pub reverse-push : (code : List (Option Insn)) (i : Insn) → reverse (code ++ reverse (placed i)) ≡ placed i ++ reverse code
 reverse-push code i = reverse-append code (reverse (placed i)) ∙ ap (λ (x : List (Option Insn)). x ++ reverse code) (reverse-reverse (placed i))
 
-pub count_fits : (code : List (Option Insn)) (count : ℕ) → IsCode code count → count ≤ 4096
+pub count_fits : (code : List (Option Insn)) (count : ℕ) → IsCode code count → count ≤ 8192
 count_fits code count h = omega (arith, h.few, h.counted, instructions-length (reverse code), length-reverse code)
 
 pub no_code : IsCode [] 0
@@ -33,7 +33,7 @@ no_code = record {
   placed = refl;
 }
 
-pub code_more : (code : List (Option Insn)) (count : ℕ) (i : Insn) → IsCode code count → IsDefined i → length code + slots_in i ≤ 4096 → IsCode (code ++ reverse (placed i)) (count + 1)
+pub code_more : (code : List (Option Insn)) (count : ℕ) (i : Insn) → IsCode code count → IsDefined i → length code + slots_in i ≤ 8192 → IsCode (code ++ reverse (placed i)) (count + 1)
 code_more code count i h defined few =
     let back = reverse-push code i in
     let parts : instructions (reverse (code ++ reverse (placed i))) ≡ i ∷ instructions (reverse code) = ap instructions back ∙ instructions-placed i (reverse code) in
@@ -46,10 +46,10 @@ code_more code count i h defined few =
     }
 
 -- the code of something is a program's
-pub well_formed : (code : List (Option Insn)) (count : ℕ) → IsCode code count → 0 < length code → IsWellFormed (reverse code)
-well_formed code count h some = record {
+pub well_formed : (code : List (Option Insn)) (count : ℕ) → IsCode code count → 0 < length code → length code ≤ 4096 → IsWellFormed (reverse code)
+well_formed code count h some few = record {
   some = omega (arith, length-reverse code);
-  few = omega (arith, length-reverse code, h.few);
+  few = omega (arith, length-reverse code);
   defined = h.defined;
   placed = h.placed;
 }

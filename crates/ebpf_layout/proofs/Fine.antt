@@ -14,7 +14,7 @@ use Rattle.ebpf_insn.specs.Encoding.{IsWellFormed}
 use Rattle.ebpf_flow.proofs.Next.{slot_zero_is_insn}
 use Rattle.ebpf_flow.proofs.Reach.{reached_by-none, reached_by-more}
 use Rattle.ebpf_layout.specs.Paths.{IsEdge, LeadBy, IsReached}
-use Rattle.ebpf_layout.specs.Refusal as refusal
+use Rattle.ebpf_layout.specs.EdgeFaults as faults
 use Rattle.ebpf_layout.specs.Layout.{moved, IsJumpTo, IsLaidOut}
 use Rattle.ebpf_layout.proofs.PathLemmas.{path_none, path_more, edge_cases, fall_is_edge, jump_is_edge}
 use Rattle.ebpf_layout.proofs.Searching.{there_inside}
@@ -150,11 +150,11 @@ sound_fine : (q : List (Option Insn)) (k : ℕ) (i : Insn) → JumpsForward q �
 sound_fine q k i h s =
     ap (insn_fault q k) s.here ∙ ap (λ (c : Option FlowCode). or_else c (fall_fault q k i)) (sound_jump q k i h s) ∙ sound_fall q k i s
 
-target_some : (p : List (Option Insn)) (t : Option ℕ) → refusal.target_fault p t ≡ None → (to : ℕ) × (t ≡ Some to)
+target_some : (p : List (Option Insn)) (t : Option ℕ) → faults.target_fault p t ≡ None → (to : ℕ) × (t ≡ Some to)
 target_some p None e = absurd (cc)
 target_some p (Some to) e = (to, refl)
 
-has_target : (p : List (Option Insn)) (slot : ℕ) (d : Option ℤ) → refusal.jump_fault p slot d ≡ None → (d ≡ None) ⊎ ((to : ℕ) × (target_of d slot ≡ Some to))
+has_target : (p : List (Option Insn)) (slot : ℕ) (d : Option ℤ) → faults.jump_fault p slot d ≡ None → (d ≡ None) ⊎ ((to : ℕ) × (target_of d slot ≡ Some to))
 has_target p slot None e = inl refl
 has_target p slot (Some z) e = inr (target_some p (target_of (Some z) slot) e)
 
@@ -170,7 +170,7 @@ there_if q k i e = ap is_none e
 -- a program of which nothing reached has a fault
 record IsWhole (p : List (Option Insn)) : Type 0 where
   pub formed : IsWellFormed p
-  pub fine : (k : ℕ) → IsReached p k → refusal.edge_fault_at p k ≡ None
+  pub fine : (k : ℕ) → IsReached p k → faults.edge_fault_at p k ≡ None
   pub there : (k : ℕ) → IsReached p k → is_none (insn_at p k) ≡ false
 
 -- where a reached slot stands is an instruction
@@ -183,8 +183,8 @@ place_there p q slot l w reached =
 kept_jumps : (p q : List (Option Insn)) (slot : ℕ) (i : Insn) (z : ℤ) → (l : IsLaidOut p q) → IsWhole p → IsReached p slot → insn_at p slot ≡ Some i → insn_at q (l.place slot) ≡ Some (moved i z)
     → Jumps q (l.place slot) (moved i z)
 kept_jumps p q slot i z l w reached at here =
-    let fine : refusal.edge_fault p slot (Some i) ≡ None = subst (λ (o : Option Insn). refusal.edge_fault p slot o ≡ None) at (w.fine slot reached) in
-    let parts = none_of (refusal.jump_fault p slot (displacement_of i)) (refusal.fall_fault p slot i) fine in
+    let fine : faults.edge_fault p slot (Some i) ≡ None = subst (λ (o : Option Insn). faults.edge_fault p slot o ≡ None) at (w.fine slot reached) in
+    let parts = none_of (faults.jump_fault p slot (displacement_of i)) (faults.fall_fault p slot i) fine in
     elim (has_target p slot (displacement_of i) parts.0) [
       | inl none ↦ inl (ap displacement_of (moved_none i z none) ∙ none)
       | inr to ↦
@@ -243,14 +243,14 @@ fine_at p q k (Some i) l w h at = elim (l.only k i at) [
 ]
 
 -- what is reached is an instruction
-reached_there : (p : List (Option Insn)) → IsWellFormed p → ((k : ℕ) → IsReached p k → refusal.edge_fault_at p k ≡ None) → (from : ℕ) (steps : List ℕ) (to : ℕ) → IsReached p from
+reached_there : (p : List (Option Insn)) → IsWellFormed p → ((k : ℕ) → IsReached p k → faults.edge_fault_at p k ≡ None) → (from : ℕ) (steps : List ℕ) (to : ℕ) → IsReached p from
     → is_none (insn_at p from) ≡ false → LeadBy p from steps to → is_none (insn_at p to) ≡ false
 reached_there p formed fine from [] to reached there same = subst (λ (k : ℕ). is_none (insn_at p k) ≡ false) same there
 reached_there p formed fine from (next ∷ rest) to reached there lead =
     let i = ordered_insn p from (insn_at p from) refl there in
     reached_there p formed fine next rest to (path_more p 0 from next reached lead.0) (edge_there p from next i.0 formed i.1 (fine from reached) lead.0) lead.1
 
-pub flow_is_fine : (p q : List (Option Insn)) → IsLaidOut p q → IsWellFormed p → ((k : ℕ) → IsReached p k → refusal.edge_fault_at p k ≡ None) → JumpsForward q → flow_fault q ≡ None
+pub flow_is_fine : (p q : List (Option Insn)) → IsLaidOut p q → IsWellFormed p → ((k : ℕ) → IsReached p k → faults.edge_fault_at p k ≡ None) → JumpsForward q → flow_fault q ≡ None
 flow_is_fine p q l formed fine h =
     let w : IsWhole p = record {
       formed = formed;

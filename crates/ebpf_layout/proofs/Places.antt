@@ -11,7 +11,7 @@ use Rattle.ebpf_flow.specs.Edges.{falls, jump_of, fall_of, edges_of, edges_at}
 use Rattle.ebpf_layout.specs.declared.mark.Mark.{Mark}
 use Rattle.ebpf_layout.specs.declared.mark.Mark.TheVariants.{New, Open, Done}
 use Rattle.ebpf_layout.specs.Paths.{LeadBy, IsReached}
-use Rattle.ebpf_layout.specs.Refusal.{edge_fault_at}
+use Rattle.ebpf_layout.specs.EdgeFaults.{edge_fault_at}
 use Rattle.ebpf_layout.specs.Layout.{moved, IsJumpTo, FallsTo, IsKept, IsAdded, IsLaidOut}
 use Rattle.ebpf_layout.specs.Search.{mark_at, IsOrder}
 use Rattle.ebpf_layout.specs.Writing.{StandsAt, JumpsTo, IsWritten, IsWriting}

@@ -14,7 +14,8 @@ use Rattle.ebpf_flow.specs.declared.fault.FlowCode.{FlowCode}
 use Rattle.ebpf_flow.specs.Edges.{falls, displacement_of, target_of, fall_of, has_edge_to, edges_of}
 use Rattle.ebpf_layout.specs.declared.mark.Mark.{Mark}
 use Rattle.ebpf_layout.specs.Paths.{IsEdge, LeadBy, IsReached}
-use Rattle.ebpf_layout.specs.Refusal.{target_fault, jump_fault, fall_fault, edge_fault, edge_fault_at, IsLowestFault}
+use Rattle.ebpf_layout.specs.EdgeFaults.{target_fault, jump_fault, fall_fault, edge_fault, edge_fault_at}
+use Rattle.ebpf_layout.specs.Refusal.{IsLowestFault}
 use Rattle.ebpf_layout.specs.Search.{mark_at, IsDone, IsOrder}
 use Rattle.ebpf_layout.proofs.PathLemmas.{edge_cases}
 use Rattle.ebpf_layout.proofs.Searching.{done_number, done_inside}

@@ -16,7 +16,7 @@ use Rattle.ebpf_machine.proofs.World.Telling.{act_told, effect_told}
 use Rattle.ebpf_machine.proofs.World.Projection.{effect_at-told}
 use Rattle.ebpf_machine.proofs.World.Replies.{stepped_going}
 use Rattle.ebpf_layout.specs.Paths.{IsReached}
-use Rattle.ebpf_layout.specs.Refusal.{target_fault, jump_fault, fall_fault, edge_fault}
+use Rattle.ebpf_layout.specs.EdgeFaults.{target_fault, jump_fault, fall_fault, edge_fault}
 use Rattle.ebpf_layout.specs.Layout.{moved, IsJumpTo, IsLaidOut}
 use Rattle.ebpf_layout.proofs.PathLemmas.{path_more, fall_is_edge, jump_is_edge}
 use Rattle.ebpf_layout.proofs.Reaching.{none_of, ordered_insn}

@@ -1,5 +1,5 @@
 -- The next of the order is written.
-use Rattle.std.proofs.Common.{◌≡◌, ℕ, ◌+◌, ◌<◌, ◌≤◌, List, [], ◌∷◌, ◌++◌, length, take, Option, Some, None, refl, sym, ap, ◌∙◌, subst, arith, inl, inr, ◌⊎◌, zero, suc}
+use Rattle.std.proofs.Common.{◌≡◌, ℕ, ◌+◌, ◌*◌, ◌<◌, ◌≤◌, List, [], ◌∷◌, ◌++◌, length, take, Option, Some, None, refl, sym, ap, ◌∙◌, subst, arith, zero, suc}
 use Rattle.std.specs.Prelude.{slice_get, IfSome}
 use Rattle.std.proofs.lemmas.Option.{none-some, slice_get_within, get_or_from_slice_get}
 use Rattle.std.proofs.lemmas.List.{take_more, length_push}
@@ -7,10 +7,8 @@ use Rattle.ebpf_insn.specs.declared.insn.Insn.{Insn}
 use Rattle.ebpf_insn.specs.Program.{insn_at, slots_in}
 use Rattle.ebpf_flow.specs.Edges.{edges_of, fall_of, jump_of}
 use Rattle.ebpf_layout.specs.declared.mark.Mark.{Mark}
-use Rattle.ebpf_layout.specs.declared.fault.LayoutFault.{LayoutFault}
-use Rattle.ebpf_layout.specs.declared.fault.LayoutFault.TheVariants.{Slots, NoMemory}
+use Rattle.ebpf_layout.specs.EdgeFaults.{edge_fault_at}
 use Rattle.ebpf_layout.specs.Paths.{IsEdge, IsReached}
-use Rattle.ebpf_layout.specs.Refusal.{edge_fault_at, IsLayoutFault}
 use Rattle.ebpf_layout.specs.Search.{size_of, slots_of, IsOrder}
 use Rattle.ebpf_layout.specs.Writing.{IsPlaced, Writes, IsCode, IsWriting}
 use Rattle.ebpf_layout.proofs.PathLemmas.{fall_is_edge, jump_is_edge}
@@ -65,15 +63,14 @@ slots_of-more p order n slot i here owned =
 one_at_least : (i : Insn) → 0 < slots_in i
 one_at_least i = search (arith)
 
-pub slot_refused : (p : List (Option Insn)) (marks : List Mark) (order places : List ℕ) (code : List (Option Insn)) (count slot : ℕ) (i : Insn) (fault : LayoutFault)
-    → IsNext p marks order places code count slot i → ((fault ≡ NoMemory) ⊎ ((fault ≡ Slots) × (4095 < length code + slots_in i))) → IsLayoutFault p fault
-slot_refused p marks order places code count slot i fault n (inl e) = rw e tt
-slot_refused p marks order places code count slot i fault n (inr h) =
+-- twice as many slots as the program has are enough
+pub slot_fits : (p : List (Option Insn)) (marks : List Mark) (order places : List ℕ) (code : List (Option Insn)) (count slot : ℕ) (i : Insn)
+    → IsNext p marks order places code count slot i → length code + 2 * slots_in i ≤ 8192
+slot_fits p marks order places code count slot i n =
     let more = slots_of-more p order (length places) slot i n.here n.owned in
     let below = slots_of-take p (length places + 1) order in
     let fits = order_fits p marks [] order n.ordered in
-    let one = one_at_least i in
-    rw h.0 (omega (arith, h.1, n.writing.short))
+    omega (arith, n.writing.short, n.ordered.formed.few)
 
 pub slot_written : (p : List (Option Insn)) (marks : List Mark) (order places : List ℕ) (code : List (Option Insn)) (count slot : ℕ) (i : Insn) (new : List (Option Insn)) (newer place : ℕ)
     → IsNext p marks order places code count slot i → IsCode new newer → Writes marks places code i (fall_of i slot) (jump_of i slot) new → place + 1 ≡ length new

@@ -32,19 +32,19 @@ moved_none (insn.JumpFar offset) z e = absurd (none-some offset (sym e))
 moved_none (insn.Branch width condition left right offset) z e = absurd (none-some offset (sym e))
 moved_none _ z e = refl
 
-fits_16 : (way : ℕ) → way ≤ 4096 → FitsSigned w16 (pos way)
+fits_16 : (way : ℕ) → way ≤ 8192 → FitsSigned w16 (pos way)
 fits_16 way few = record { sfits = omega (arith, ints) }
 
-fits_32 : (way : ℕ) → way ≤ 4096 → FitsSigned w32 (pos way)
+fits_32 : (way : ℕ) → way ≤ 8192 → FitsSigned w32 (pos way)
 fits_32 way few = record { sfits = omega (arith, ints) }
 
-pub moved_defined : (i : Insn) (way : ℕ) → way ≤ 4096 → IsDefined i → IsDefined (moved i (pos way))
+pub moved_defined : (i : Insn) (way : ℕ) → way ≤ 8192 → IsDefined i → IsDefined (moved i (pos way))
 moved_defined (insn.Jump offset) way few d = fits_16 way few
 moved_defined (insn.JumpFar offset) way few d = fits_32 way few
 moved_defined (insn.Branch width condition left right offset) way few d = (d.0, fits_16 way few)
 moved_defined _ way few d = d
 
-pub moved_to_defined : (marks : List Mark) (places : List ℕ) (code : List (Option Insn)) (i : Insn) (jump : Option ℕ) (new : Insn) → length code ≤ 4096 → IsDefined i
+pub moved_to_defined : (marks : List Mark) (places : List ℕ) (code : List (Option Insn)) (i : Insn) (jump : Option ℕ) (new : Insn) → length code ≤ 8192 → IsDefined i
     → IsMovedTo marks places code i jump new → IsDefined new
 moved_to_defined marks places code i None new few d h = rw h.0 d
 moved_to_defined marks places code i (Some to) new few d h = let way = h.1.way_is in rw h.2 (moved_defined i h.0 (omega arith) d)
@@ -159,7 +159,7 @@ leads_cases marks places code (Some to) behind h = elim (cases_Bool (eqb h.0 0))
   | inr some ↦ inr (record { to = to; falls = refl; way = h.0; far = eqb-false h.0 0 some; there = h.1; behind_is = h.2 ∙ some_jump code h.0 some })
 ]
 
-length-half : (i : Insn) → length (half_of i) + 1 ≡ slots_in i
+pub length-half : (i : Insn) → length (half_of i) + 1 ≡ slots_in i
 length-half (insn.Wide dst value) = refl
 length-half _ = refl
 
@@ -207,7 +207,7 @@ pub record IsNew (p : List (Option Insn)) (marks : List Mark) (order places : Li
 new_stands : (order places : List ℕ) (slot place : ℕ) → slice_get order (length places) ≡ Some slot → StandsAt order (places ++ place ∷ []) slot place
 new_stands order places slot place here = record { number = length places; ordered = here; placed = get_last places place }
 
-moved_size : (marks : List Mark) (places : List ℕ) (code : List (Option Insn)) (i : Insn) (jump : Option ℕ) (new : Insn) → IsMovedTo marks places code i jump new → slots_in new ≡ slots_in i
+pub moved_size : (marks : List Mark) (places : List ℕ) (code : List (Option Insn)) (i : Insn) (jump : Option ℕ) (new : Insn) → IsMovedTo marks places code i jump new → slots_in new ≡ slots_in i
 moved_size marks places code i None new h = ap slots_in h.0
 moved_size marks places code i (Some to) new h = ap slots_in h.2 ∙ slots_in-moved i (pos h.0)
 

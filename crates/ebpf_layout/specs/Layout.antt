@@ -4,8 +4,8 @@ use Rattle.ebpf_insn.specs.declared.insn.Insn.{Insn}
 use Rattle.ebpf_insn.specs.declared.insn.Insn.TheVariants as insn
 use Rattle.ebpf_insn.specs.Program.{insn_at}
 use Rattle.ebpf_flow.specs.Edges.{edges_at}
+use Rattle.ebpf_layout.specs.EdgeFaults.{edge_fault_at}
 use Rattle.ebpf_layout.specs.Paths.{IsReached}
-use Rattle.ebpf_layout.specs.Refusal.{edge_fault_at}
 
 -- an instruction with another displacement; one that doesn't jump has none and stays
 abbrev pub moved : Insn → ℤ → Insn

@@ -1,6 +1,7 @@
 pub mod Paths
-pub mod Refusal
+pub mod EdgeFaults
 pub mod Layout
+pub mod Refusal
 pub mod Running
 pub mod Search
 pub mod Writing

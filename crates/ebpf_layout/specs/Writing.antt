@@ -54,9 +54,9 @@ abbrev pub half_of : Insn → List (Option Insn)
 half_of (insn.Wide dst value) = None ∷ []
 half_of i = []
 
--- the code, read from its end, is a program's, but that it may have no slot yet
+-- the code, read from its end, is a program's, but that it may have no slot yet, or twice as many as a program has
 pub record IsCode (code : List (Option Insn)) (count : ℕ) : Type 0 where
-  pub few : length code ≤ 4096
+  pub few : length code ≤ 8192
   pub counted : count ≡ length (instructions (reverse code))
   pub defined : AllByRecursion IsDefined (instructions (reverse code))
   pub placed : reverse code ≡ flat_map placed (instructions (reverse code))

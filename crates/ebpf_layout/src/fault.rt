@@ -15,7 +15,7 @@ pub enum LayoutFault {
     /// Something reached leads to a slot from which a path leads back. Where there is such a loop it is told before anything else.
     #[error("slot {from} leads back to slot {to}")]
     Loop { from: u16, to: u16 },
-    /// With the jumps that have to be added the program has more than `MAX_SLOTS` slots.
+    /// Laid out, with the jumps that are added, the program has more than `MAX_SLOTS` slots.
     #[error("it would have more than 4096 slots")]
     Slots,
     /// An allocation failed.

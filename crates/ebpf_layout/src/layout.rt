@@ -13,15 +13,15 @@ use crate::search::order_of;
 use crate::writer::{Writer, write};
 use ebpf_flow::check::check;
 use ebpf_flow::fault::FlowFault;
-use ebpf_insn::program::Program;
+use ebpf_insn::program::{MAX_SLOTS, Program};
 use std::alloc::{AllocError, Global};
 
 /// The program with its reached instructions in an order in which each stands before those that it leads to. What an instruction
 /// falls to stands right behind it, or a jump there was added.
 ///
 /// # Errors
-/// `Loop` where no such order is; `Flow` where an edge of something reached leads to no instruction; `Slots` where the
-/// jumps that have to be added make it too long; `NoMemory` where an allocation failed.
+/// `Loop` where no such order is; `Flow` where an edge of something reached leads to no instruction; `Slots` where, laid out, it has
+/// more than `MAX_SLOTS` slots; `NoMemory` where an allocation failed.
 pub fn lay_out(alloc: Global, program: &Program) -> Result<Program, LayoutFault>
     ensures laid_out { IfOk result (IsLaidOut program.now) }
     ensures fine { IfOk result (λ q. flow_fault q ≡ None) }
@@ -43,6 +43,9 @@ pub fn lay_out(alloc: Global, program: &Program) -> Result<Program, LayoutFault>
         count,
         places: _,
     } = write(alloc, program, &order)?;
+    if code.len() > MAX_SLOTS {
+        return Err(LayoutFault::Slots);
+    }
     code.reverse();
     Ok(Program::new(code, count))
 }

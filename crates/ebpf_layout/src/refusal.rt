@@ -4,7 +4,8 @@ ghost use Rattle.std.specs.Prelude.{◌≡◌, ◌≤◌, ◌<◌, ◌+◌, ℕ,
 ghost use Rattle.std.specs.Prelude.{IfErr, IfSome, OnOk, false, true};
 ghost use Rattle.ebpf_insn.specs.Program.{insn_at, slots_in};
 ghost use Rattle.ebpf_layout.specs.Paths.{IsReached};
-ghost use Rattle.ebpf_layout.specs.Refusal.{edge_fault, edge_fault_at, jump_fault, fall_fault, target_fault, IsLayoutFault};
+ghost use Rattle.ebpf_layout.specs.EdgeFaults.{edge_fault, edge_fault_at, jump_fault, fall_fault, target_fault};
+ghost use Rattle.ebpf_layout.specs.Refusal.{IsLayoutFault};
 ghost use Rattle.ebpf_layout.specs.Search.{IsOrder, IsDone, mark_at};
 ghost use Rattle.ebpf_flow.specs.Edges.{displacement_of, target_of};
 

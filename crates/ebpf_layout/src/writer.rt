@@ -3,25 +3,23 @@
 //! An instruction is written before those that it leads to stand behind it in the program, which the order sees to. So how far it is
 //! to them is known then, whatever comes before it later.
 
-ghost use Rattle.std.specs.Prelude.{◌≡◌, ◌≤◌, ◌<◌, ◌+◌, ◌++◌, [], ◌∷◌, ◌⊎◌, ℕ, pos, List, Option, Some, None, length, slice_get, slice_index_or};
+ghost use Rattle.std.specs.Prelude.{◌≡◌, ◌≤◌, ◌<◌, ◌+◌, ◌*◌, ◌++◌, [], ◌∷◌, ◌⊎◌, ℕ, pos, List, Option, Some, None, length, slice_get, slice_index_or};
 ghost use Rattle.std.specs.Prelude.{IfOk, IfErr, IfSome, OnOk};
 ghost use Rattle.ebpf_insn.specs.declared.insn.Insn.{Insn};
 ghost use Rattle.ebpf_insn.specs.Program.{insn_at, slots_in};
 ghost use Rattle.ebpf_insn.specs.Encoding.{IsDefined};
 ghost use Rattle.ebpf_flow.specs.Edges.{displacement_of};
-ghost use Rattle.ebpf_layout.specs.declared.fault.LayoutFault.{LayoutFault};
+ghost use Rattle.ebpf_layout.specs.EdgeFaults.{edge_fault_at};
 ghost use Rattle.ebpf_layout.specs.Layout.{moved};
 ghost use Rattle.ebpf_layout.specs.Paths.{IsReached};
-ghost use Rattle.ebpf_layout.specs.Refusal.{edge_fault_at, IsLayoutFault};
 ghost use Rattle.ebpf_layout.specs.Search.{IsOrder};
 ghost use Rattle.ebpf_layout.specs.Writing.{half_of, with_jump, HasPlace, IsPlaced, IsWayTo, IsCode, LeadsOn, IsMovedTo, Writes, AreWritten, IsWriting};
 
 use crate::edges::{fall_of, jump_of};
-use crate::fault::LayoutFault;
 use crate::mark::Mark;
 use crate::search::Order;
 use ebpf_insn::insn::Insn;
-use ebpf_insn::program::{MAX_SLOTS, Program};
+use ebpf_insn::program::Program;
 use std::alloc::{AllocError, Global};
 
 /// What is written so far.
@@ -35,16 +33,12 @@ pub(crate) struct Writer {
     pub(crate) places: Vec<usize>,
 }
 
-/// The slots of the new program, from its last to its first.
-///
-/// # Errors
-/// `Slots` where it gets more than `MAX_SLOTS`; `NoMemory`.
-pub(crate) fn write(alloc: Global, program: &Program, order: &Order) -> Result<Writer, LayoutFault>
+/// The slots of the new program, from its last to its first, however many they are.
+pub(crate) fn write(alloc: Global, program: &Program, order: &Order) -> Result<Writer, AllocError>
     requires order { IsOrder program.now order.now.marks.items order.now.slots.items }
     requires fine { (slot : ℕ) → IsReached program.now slot → edge_fault_at program.now slot ≡ None }
     ensures written { IfOk result (λ w. IsWriting program.now order.now.slots.items w.places.items w.code.items w.count) }
     ensures all { IfOk result (λ w. length w.places.items ≡ length order.now.slots.items) }
-    ensures refused { IfErr result (IsLayoutFault program.now) }
 {
     let mut writer = Writer {
         code: Vec::with_capacity(alloc, program.slots())?,
@@ -63,14 +57,13 @@ fn write_slot(
     program: &Program,
     order: &Order,
     slot: usize,
-) -> Result<(), LayoutFault>
+) -> Result<(), AllocError>
     requires order { IsOrder program.now order.now.marks.items order.now.slots.items }
     requires fine { (slot : ℕ) → IsReached program.now slot → edge_fault_at program.now slot ≡ None }
     requires here { slice_get order.now.slots.items (length writer.old.places.items) ≡ Some slot }
     requires written { IsWriting program.now order.now.slots.items writer.old.places.items writer.old.code.items writer.old.count }
     ensures written { OnOk result (IsWriting program.now order.now.slots.items writer.new.places.items writer.new.code.items writer.new.count) }
     ensures all { OnOk result (length writer.new.places.items ≡ length writer.old.places.items + 1) }
-    ensures refused { IfErr result (IsLayoutFault program.now) }
 {
     match program.at(slot) {
         Some(insn) => {
@@ -91,8 +84,9 @@ fn write_insn(
     insn: Insn,
     fall: Option<usize>,
     jump: Option<usize>,
-) -> Result<(), LayoutFault>
+) -> Result<(), AllocError>
     requires code { IsCode writer.old.code.items writer.old.count }
+    requires room { length writer.old.code.items + 2 * slots_in insn ≤ 8192 }
     requires defined { IsDefined insn }
     requires fall { IfSome fall (IsPlaced order.now.marks.items writer.old.places.items writer.old.code.items) }
     requires jump { IfSome jump (IsPlaced order.now.marks.items writer.old.places.items writer.old.code.items) }
@@ -100,7 +94,6 @@ fn write_insn(
     ensures code { OnOk result (IsCode writer.new.code.items writer.new.count) }
     ensures written { OnOk result (Writes order.now.marks.items writer.old.places.items writer.old.code.items insn fall jump writer.new.code.items) }
     ensures places { OnOk result ((place : ℕ) × (place + 1 ≡ length writer.new.code.items) × (writer.new.places.items ≡ writer.old.places.items ++ place ∷ [])) }
-    ensures refused { IfErr result (λ e. (e ≡ LayoutFault.NoMemory) ⊎ ((e ≡ LayoutFault.Slots) × (4095 < length writer.old.code.items + slots_in insn))) }
 {
     write_fall(writer, order, fall)?;
     let moved = moved_to(writer, order, insn, jump);
@@ -111,13 +104,13 @@ fn write_insn(
 }
 
 // Writes a jump to what an instruction that is written next falls to, unless it stands right behind.
-fn write_fall(writer: &mut Writer, order: &Order, fall: Option<usize>) -> Result<(), LayoutFault>
+fn write_fall(writer: &mut Writer, order: &Order, fall: Option<usize>) -> Result<(), AllocError>
     requires code { IsCode writer.old.code.items writer.old.count }
+    requires room { length writer.old.code.items < 8192 }
     requires fall { IfSome fall (IsPlaced order.now.marks.items writer.old.places.items writer.old.code.items) }
     ensures code { OnOk result (IsCode writer.new.code.items writer.new.count) }
     ensures places { writer.new.places.items ≡ writer.old.places.items }
     ensures written { OnOk result (LeadsOn order.now.marks.items writer.old.places.items writer.old.code.items fall writer.new.code.items) }
-    ensures refused { IfErr result (λ e. (e ≡ LayoutFault.NoMemory) ⊎ ((e ≡ LayoutFault.Slots) × (4095 < length writer.old.code.items))) }
 {
     match fall {
         Some(to) => {
@@ -130,7 +123,7 @@ fn write_fall(writer: &mut Writer, order: &Order, fall: Option<usize>) -> Result
 
 // The instruction, with the way to what it jumps to if it is written next.
 fn moved_to(writer: &Writer, order: &Order, insn: Insn, jump: Option<usize>) -> Insn
-    requires few { length writer.now.code.items ≤ 4096 }
+    requires few { length writer.now.code.items ≤ 8192 }
     requires jump { IfSome jump (IsPlaced order.now.marks.items writer.now.places.items writer.now.code.items) }
     requires jumps { jump ≡ None → displacement_of insn ≡ None }
     ensures { IsMovedTo order.now.marks.items writer.now.places.items writer.now.code.items insn jump result }
@@ -162,13 +155,13 @@ fn way_to(writer: &Writer, place: usize) -> usize
 }
 
 // Writes a jump to a place, unless what is written next stands right before it.
-fn write_jump(writer: &mut Writer, place: usize) -> Result<(), LayoutFault>
+fn write_jump(writer: &mut Writer, place: usize) -> Result<(), AllocError>
     requires code { IsCode writer.old.code.items writer.old.count }
+    requires room { length writer.old.code.items < 8192 }
     requires place { place < length writer.old.code.items }
     ensures code { OnOk result (IsCode writer.new.code.items writer.new.count) }
     ensures places { writer.new.places.items ≡ writer.old.places.items }
     ensures written { OnOk result ((way : ℕ) × (place + way + 1 ≡ length writer.old.code.items) × (writer.new.code.items ≡ with_jump writer.old.code.items way)) }
-    ensures refused { IfErr result (λ e. (e ≡ LayoutFault.NoMemory) ⊎ ((e ≡ LayoutFault.Slots) × (4095 < length writer.old.code.items))) }
 {
     let way = way_to(writer, place);
     if way > 0 {
@@ -178,17 +171,14 @@ fn write_jump(writer: &mut Writer, place: usize) -> Result<(), LayoutFault>
 }
 
 // Writes an instruction before all that are there.
-fn push(writer: &mut Writer, insn: Insn) -> Result<(), LayoutFault>
+fn push(writer: &mut Writer, insn: Insn) -> Result<(), AllocError>
     requires code { IsCode writer.old.code.items writer.old.count }
+    requires room { length writer.old.code.items + slots_in insn ≤ 8192 }
     requires defined { IsDefined insn }
     ensures code { OnOk result (IsCode writer.new.code.items writer.new.count) }
     ensures places { writer.new.places.items ≡ writer.old.places.items }
     ensures written { OnOk result (writer.new.code.items ≡ writer.old.code.items ++ half_of insn ++ Some insn ∷ []) }
-    ensures refused { IfErr result (λ e. (e ≡ LayoutFault.NoMemory) ⊎ ((e ≡ LayoutFault.Slots) × (4096 < length writer.old.code.items + slots_in insn))) }
 {
-    if writer.code.len() + insn.slots() > MAX_SLOTS {
-        return Err(LayoutFault::Slots);
-    }
     writer.count += 1;
     push_half(&mut writer.code, insn)?;
     writer.code.push(Some(insn))?;
@@ -210,7 +200,7 @@ fn push_half(code: &mut Vec<Option<Insn>>, insn: Insn) -> Result<(), AllocError>
 
 // The instruction with another displacement, if it jumps.
 fn moved(insn: Insn, way: usize) -> Insn
-    requires { way < 4096 }
+    requires { way < 8192 }
     ensures { result ≡ moved insn (pos way) }
 {
     match insn {

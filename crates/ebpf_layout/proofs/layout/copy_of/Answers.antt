@@ -1,5 +1,4 @@
-use Rattle.std.proofs.Common.{◌≡◌, ◌+◌, ◌++◌, ◌∷◌, [], List, Option, sym, ap, ◌∙◌, arith}
-use Rattle.ebpf_insn.specs.declared.insn.Insn.{Insn}
+use Rattle.std.proofs.Common.{◌++◌, ◌∷◌, [], sym, ◌∙◌, arith}
 use Rattle.ebpf_layout.proofs.Kept.{take_next}
 use Rattle.ebpf_layout.proofs.layout.copy_of.Goals as goal
 

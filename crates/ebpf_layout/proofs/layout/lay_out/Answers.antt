@@ -1,4 +1,6 @@
-use Rattle.std.proofs.Common.{◌≡◌, None, List, Option, subst, sym}
+use Rattle.std.proofs.Common.{◌≡◌, None, List, Option, subst, sym, arith}
+use Rattle.std.specs.Prelude.{reverse}
+use Rattle.std.proofs.lemmas.List.{length-reverse}
 use Rattle.ebpf_insn.specs.declared.insn.Insn.{Insn}
 use Rattle.ebpf_flow.specs.Flow.{flow_fault}
 use Rattle.ebpf_layout.specs.Layout.{IsLaidOut}
@@ -16,7 +18,17 @@ new-requires-clause-formed c =
     let w = c.in_ok-code.field-0 in
     let done : IsDone p o.marks.items o.slots.items w.places.items w.code.items w.count =
     record { ordered = c.in_ok-order.ensures.ordered; fine = c.in_ok-check_edges.ensures.fine; writing = c.in_ok-code.ensures.written; all = c.in_ok-code.ensures.all } in
-    rw c.reverse.ensures.items (well_formed w.code.items w.count done.writing.coded (some_code p o.marks.items o.slots.items w.places.items w.code.items w.count done))
+    rw c.reverse.ensures.items (well_formed w.code.items w.count done.writing.coded (some_code p o.marks.items o.slots.items w.places.items w.code.items w.count done)
+    (omega (arith, c.len.ensures, c.if-len-gt-MAX_SLOTS.false, w.code.ok.0)))
+
+pub returns-then-len-gt-MAX_SLOTS-clause-refused : goal.returns-then-len-gt-MAX_SLOTS-clause-refused
+returns-then-len-gt-MAX_SLOTS-clause-refused c =
+    let p = c.args.program.now in
+    let o = c.in_ok-order.order in
+    let w = c.in_ok-code.field-0 in
+    let done : IsDone p o.marks.items o.slots.items w.places.items w.code.items w.count =
+    record { ordered = c.in_ok-order.ensures.ordered; fine = c.in_ok-check_edges.ensures.fine; writing = c.in_ok-code.ensures.written; all = c.in_ok-code.ensures.all } in
+    (reverse w.code.items, is_laid_out p o.marks.items o.slots.items w.places.items w.code.items w.count done, omega (arith, length-reverse w.code.items, c.len.ensures, c.if-len-gt-MAX_SLOTS.true, w.code.ok.0))
 
 pub returns-clause-laid_out : goal.returns-clause-laid_out
 returns-clause-laid_out c =

@@ -1,8 +1,8 @@
-use Rattle.std.proofs.Common.{◌≡◌, ◌+◌, ◌≤◌, ◌++◌, ◌∷◌, [], List, Option, Some, length, ap, ◌∙◌, arith, rules}
+use Rattle.std.proofs.Common.{◌≡◌, ◌++◌, ◌∷◌, [], List, Option, Some, ap, ◌∙◌, rules}
 use Rattle.std.specs.Prelude.{reverse}
 use Rattle.std.proofs.lemmas.List.{append_assoc}
 use Rattle.ebpf_insn.specs.declared.insn.Insn.{Insn}
-use Rattle.ebpf_insn.specs.Program.{placed, slots_in}
+use Rattle.ebpf_insn.specs.Program.{placed}
 use Rattle.ebpf_layout.specs.Writing.{half_of}
 use Rattle.ebpf_layout.proofs.Codes.{count_fits, code_more, halves}
 use Rattle.ebpf_layout.proofs.writer.push.Goals as goal
@@ -14,7 +14,6 @@ pub returns-clause-code : goal.returns-clause-code
 returns-clause-code c =
     let code = c.args.writer.now.code.items in
     let i = c.args.insn in
-    let few : length code + slots_in i ≤ 4096 = omega (arith, c.slots.ensures.value, c.len.ensures) in
     let written : c.push.new.self.items ≡ code ++ reverse (placed i) =
     c.in_ok-push.ensures.items ∙ ap (λ (x : List (Option Insn)). x ++ Some i ∷ []) c.in_ok-push_half.ensures ∙ append_assoc code (half_of i) (Some i ∷ []) ∙ ap (λ (x : List (Option Insn)). code ++ x) (halves i) in
-    rw written (code_more code c.args.writer.now.count i c.requires.code c.requires.defined few)
+    rw written (code_more code c.args.writer.now.count i c.requires.code c.requires.defined c.requires.room)

@@ -1,7 +1,6 @@
 use Rattle.std.proofs.Common.{sym}
-use Rattle.std.proofs.lemmas.Result.{err_from_is_err_and}
 use Rattle.ebpf_insn.proofs.ProgramLemmas.{defined_at}
-use Rattle.ebpf_layout.proofs.WritingSlots.{IsNext, placed_fall, placed_jump, slot_refused, slot_written}
+use Rattle.ebpf_layout.proofs.WritingSlots.{IsNext, placed_fall, placed_jump, slot_fits, slot_written}
 use Rattle.ebpf_layout.proofs.writer.write_slot.Goals as goal
 
 pub write_insn-requires-clause-defined : goal.write_insn-requires-clause-defined
@@ -24,15 +23,13 @@ write_insn-requires-clause-jump c =
     record { ordered = c.requires.order; fine = c.requires.fine; here = c.requires.here; owned = sym c.in-Some.ensures; writing = c.requires.written } in
     rw c.jump_of-jump.ensures (placed_jump c.args.program.now o.marks.items o.slots.items w.places.items w.code.items w.count c.args.slot c.in-Some.insn.now next)
 
-pub returns-in_err-write_insn-in-Some-clause-refused : goal.returns-in_err-write_insn-in-Some-clause-refused
-returns-in_err-write_insn-in-Some-clause-refused c =
+pub write_insn-requires-clause-room : goal.write_insn-requires-clause-room
+write_insn-requires-clause-room c =
     let w = c.args.writer.now in
     let o = c.args.order.now in
     let next : IsNext c.args.program.now o.marks.items o.slots.items w.places.items w.code.items w.count c.args.slot c.in-Some.insn.now =
     record { ordered = c.requires.order; fine = c.requires.fine; here = c.requires.here; owned = sym c.in-Some.ensures; writing = c.requires.written } in
-    let p = err_from_is_err_and c.from_residual.result c.from_residual.ensures.1 in
-    rw (p.1, p.2)
-    (slot_refused c.args.program.now o.marks.items o.slots.items w.places.items w.code.items w.count c.args.slot c.in-Some.insn.now c.in_err-write_insn-in-Some.field-0.0 next c.in_err-write_insn-in-Some.ensures.refused)
+    slot_fits c.args.program.now o.marks.items o.slots.items w.places.items w.code.items w.count c.args.slot c.in-Some.insn.now next
 
 pub returns-clause-written : goal.returns-clause-written
 returns-clause-written c =
