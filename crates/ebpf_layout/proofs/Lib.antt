@@ -2,6 +2,7 @@ pub mod Lists
 pub mod PathLemmas
 pub mod Searching
 pub mod Reaching
+pub mod Placed
 pub mod Codes
 pub mod Written
 pub mod WritingSlots

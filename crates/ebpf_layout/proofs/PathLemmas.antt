@@ -2,7 +2,8 @@
 use Rattle.std.proofs.Common.{◌≡◌, ℕ, List, [], ◌∷◌, ◌++◌, Option, Some, None, true, refl, sym, subst, inl, inr, ◌⊎◌}
 use Rattle.std.proofs.lemmas.Bool.{or_cases, eqb-true, eq-eqb, or_left, or_right}
 use Rattle.ebpf_insn.specs.declared.insn.Insn.{Insn}
-use Rattle.ebpf_flow.specs.Edges.{leads_to, edges_at}
+use Rattle.ebpf_insn.specs.Program.{insn_at}
+use Rattle.ebpf_flow.specs.Edges.{leads_to, jump_of, fall_of, edges_of, edges_at}
 use Rattle.ebpf_layout.specs.Paths.{IsEdge, LeadBy, IsPath}
 
 pub path_none : (p : List (Option Insn)) (at : ℕ) → IsPath p at at
@@ -39,3 +40,17 @@ fall_is_edge p from to e = or_left (leads_to (edges_at p from).fall to) (leads_t
 
 pub jump_is_edge : (p : List (Option Insn)) (from to : ℕ) → (edges_at p from).jump ≡ Some to → IsEdge p from to
 jump_is_edge p from to e = or_right (leads_to (edges_at p from).fall to) (leads_to (edges_at p from).jump to) (lead_to (edges_at p from).jump to e)
+
+-- ---- the edges of an instruction
+
+pub jump_edge : (q : List (Option Insn)) (k : ℕ) (i : Insn) (to : ℕ) → insn_at q k ≡ Some i → jump_of i k ≡ Some to → (edges_at q k).jump ≡ Some to
+jump_edge q k i to at e = subst (λ (o : Option Insn). (edges_of o k).jump ≡ Some to) (sym at) e
+
+pub fall_edge : (q : List (Option Insn)) (k : ℕ) (i : Insn) (to : ℕ) → insn_at q k ≡ Some i → fall_of i k ≡ Some to → (edges_at q k).fall ≡ Some to
+fall_edge q k i to at e = subst (λ (o : Option Insn). (edges_of o k).fall ≡ Some to) (sym at) e
+
+pub jump_of_edge : (p : List (Option Insn)) (slot : ℕ) (i : Insn) (to : ℕ) → insn_at p slot ≡ Some i → (edges_at p slot).jump ≡ Some to → jump_of i slot ≡ Some to
+jump_of_edge p slot i to at e = subst (λ (o : Option Insn). (edges_of o slot).jump ≡ Some to) at e
+
+pub fall_of_edge : (p : List (Option Insn)) (slot : ℕ) (i : Insn) (to : ℕ) → insn_at p slot ≡ Some i → (edges_at p slot).fall ≡ Some to → fall_of i slot ≡ Some to
+fall_of_edge p slot i to at e = subst (λ (o : Option Insn). (edges_of o slot).fall ≡ Some to) at e

@@ -7,14 +7,15 @@ use Rattle.std.proofs.lemmas.List.{get_or-reverse, length-reverse}
 use Rattle.ebpf_insn.specs.declared.insn.Insn.{Insn}
 use Rattle.ebpf_insn.specs.declared.insn.Insn.TheVariants as insn
 use Rattle.ebpf_insn.specs.Program.{flattened, insn_at, slots_in}
-use Rattle.ebpf_flow.specs.Edges.{falls, jump_of, fall_of, edges_of, edges_at}
+use Rattle.ebpf_flow.specs.Edges.{falls, jump_of, fall_of, edges_at}
 use Rattle.ebpf_layout.specs.declared.mark.Mark.{Mark}
 use Rattle.ebpf_layout.specs.declared.mark.Mark.TheVariants.{New, Open, Done}
 use Rattle.ebpf_layout.specs.Paths.{LeadBy, IsReached}
 use Rattle.ebpf_layout.specs.EdgeFaults.{edge_fault_at}
-use Rattle.ebpf_layout.specs.Layout.{moved, IsJumpTo, FallsTo, IsKept, IsAdded, IsLaidOut}
+use Rattle.ebpf_layout.specs.Layout.{moved, IsJumpTo, FallsTo, IsKept, JumpsBetween, IsAdded, IsLaidOut}
 use Rattle.ebpf_layout.specs.Search.{mark_at, IsOrder}
-use Rattle.ebpf_layout.specs.Writing.{StandsAt, JumpsTo, IsWritten, IsWriting}
+use Rattle.ebpf_layout.specs.Writing.{StandsAt, JumpsTo, IsWritten, IsAddedAt, IsWriting}
+use Rattle.ebpf_layout.proofs.PathLemmas.{jump_edge, fall_edge, jump_of_edge, fall_of_edge}
 use Rattle.ebpf_layout.proofs.Searching.{found}
 use Rattle.ebpf_layout.proofs.Reaching.{IsIn, last_number, last_in, behind_fine, ordered_insn}
 use Rattle.ebpf_layout.proofs.Written.{slots_in-moved}
@@ -135,18 +136,6 @@ fall_some _ slot to k e = refl
 pub fall_moved : (i : Insn) (z : ℤ) (slot to k : ℕ) → fall_of i slot ≡ Some to → fall_of (moved i z) k ≡ Some (k + slots_in i)
 fall_moved i z slot to k e = rw (falls-moved i z, slots_in-moved i z) (fall_some i slot to k e)
 
-pub jump_edge : (q : List (Option Insn)) (k : ℕ) (i : Insn) (to : ℕ) → insn_at q k ≡ Some i → jump_of i k ≡ Some to → (edges_at q k).jump ≡ Some to
-jump_edge q k i to at e = subst (λ (o : Option Insn). (edges_of o k).jump ≡ Some to) (sym at) e
-
-pub fall_edge : (q : List (Option Insn)) (k : ℕ) (i : Insn) (to : ℕ) → insn_at q k ≡ Some i → fall_of i k ≡ Some to → (edges_at q k).fall ≡ Some to
-fall_edge q k i to at e = subst (λ (o : Option Insn). (edges_of o k).fall ≡ Some to) (sym at) e
-
-pub jump_of_edge : (p : List (Option Insn)) (slot : ℕ) (i : Insn) (to : ℕ) → insn_at p slot ≡ Some i → (edges_at p slot).jump ≡ Some to → jump_of i slot ≡ Some to
-jump_of_edge p slot i to at e = subst (λ (o : Option Insn). (edges_of o slot).jump ≡ Some to) at e
-
-pub fall_of_edge : (p : List (Option Insn)) (slot : ℕ) (i : Insn) (to : ℕ) → insn_at p slot ≡ Some i → (edges_at p slot).fall ≡ Some to → fall_of i slot ≡ Some to
-fall_of_edge p slot i to at e = subst (λ (o : Option Insn). (edges_of o slot).fall ≡ Some to) at e
-
 jump_to : (p : List (Option Insn)) (marks : List Mark) (order places : List ℕ) (code : List (Option Insn)) (count slot at k : ℕ) → IsDone p marks order places code count
     → JumpsTo order places code at slot → k + at + 1 ≡ length code → IsJumpTo (reverse code) k (place_in marks places code slot)
 jump_to p marks order places code count slot at k d j sum =
@@ -228,6 +217,14 @@ all_apart p marks order places code count a b d same =
       ]
     ]
 
+-- what the branch before a jump that was added leads to stands between that jump and where it leads
+laid_between : (p : List (Option Insn)) (marks : List Mark) (order places : List ℕ) (code : List (Option Insn)) (count k at : ℕ) → IsDone p marks order places code count → k + at + 1 ≡ length code
+    → (a : IsAddedAt p order places code at) → JumpsBetween p (place_in marks places code) a.slot k (place_in marks places code a.to)
+laid_between p marks order places code count k at d sum a =
+    let over = place_is p marks order places code count a.over a.spot d a.between in
+    let to = place_is p marks order places code count a.to a.jumps.to d a.jumps.there in
+    (a.over, jump_edge p a.slot a.insn a.over a.owned a.leaps, omega (arith, a.below), omega (arith, a.above))
+
 laid_only : (p : List (Option Insn)) (marks : List Mark) (order places : List ℕ) (code : List (Option Insn)) (count k : ℕ) (i : Insn) → IsDone p marks order places code count
     → insn_at (reverse code) k ≡ Some i → IsKept p (place_in marks places code) k ⊎ IsAdded p (reverse code) (place_in marks places code) k
 laid_only p marks order places code count k i d e =
@@ -251,7 +248,7 @@ laid_only p marks order places code count k i d e =
             fall_edge p a.slot a.insn a.to a.owned a.falls,
             fall_edge (reverse code) (place_in marks places code a.slot) (moved s.insn (pos s.written.way)) k here (fall_moved s.insn (pos s.written.way) a.slot a.to (place_in marks places code a.slot) falls_to ∙ ap Some at),
             jump_to p marks order places code count a.to j.0 k d a.jumps j.1,
-            λ next. a.far (omega (arith, j.1, a.jumps.way_is, place_is p marks order places code count a.to a.jumps.to d a.jumps.there)),
+            laid_between p marks order places code count k j.0 d j.1 a,
           )
     ]
 

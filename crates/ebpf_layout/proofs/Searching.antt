@@ -2,7 +2,7 @@
 use Rattle.std.proofs.Common.{◌≡◌, ◌≢◌, ℕ, zero, suc, ◌+◌, ◌-◌, ◌<◌, ◌≤◌, List, [], ◌∷◌, ◌++◌, length, take, replicate, Option, Some, None, false, refl, sym, ap, ◌∙◌, subst, arith, inl, inr, ◌⊎◌}
 use Rattle.std.specs.Prelude.{slice_get, slice_set, is_none, IfSome}
 use Rattle.std.proofs.lemmas.Option.{none-some, same_Some, slice_get_within}
-use Rattle.std.proofs.lemmas.Bool.{cases_lt}
+use Rattle.std.proofs.lemmas.Bool.{cases_lt, false≢true}
 use Rattle.std.proofs.lemmas.List.{get_or-set_same, get_or-set_other, get_or-replicate, get_or_past, length-set, length_push, length-replicate, length-take-le}
 use Rattle.std.specs.List.{flat_map}
 use Rattle.ebpf_insn.specs.declared.insn.Insn.{Insn}
@@ -17,7 +17,7 @@ use Rattle.ebpf_layout.specs.Paths.{IsEdge, IsPath, IsReached}
 use Rattle.ebpf_layout.specs.declared.fault.LayoutFault.{LayoutFault}
 use Rattle.ebpf_layout.specs.declared.fault.LayoutFault.TheVariants.{Loop}
 use Rattle.ebpf_layout.specs.Refusal.{IsLoop, IsLayoutFault}
-use Rattle.ebpf_layout.specs.Search.{size_of, done_size, done_slots, slots_of, mark_at, if_there, standing, IsDone, left_at, left, IsBehind, AreMarked, IsSearch}
+use Rattle.ebpf_layout.specs.Search.{size_of, done_size, done_slots, slots_of, mark_at, if_there, standing, IsDone, is_done, left_at, left, IsBehind, AreMarked, IsSearch}
 use Rattle.ebpf_layout.proofs.Lists.{get_kept, get_last, get_pushed, get_from_take, get_taken, set_cases}
 use Rattle.ebpf_layout.proofs.PathLemmas.{path_none, path_more, path_before, edge_cases, jump_is_edge, fall_is_edge}
 
@@ -40,14 +40,19 @@ size_open (o ∷ p) [] to k all new = refl
 size_open (o ∷ p) (x ∷ marks) zero k all new = rw new refl
 size_open (o ∷ p) (x ∷ marks) (suc to) k all new = ap (λ (n : ℕ). done_size x o + n) (size_open p marks to k (omega (arith, all)) new)
 
-size_close : (p : List (Option Insn)) (marks : List Mark) (slot k n : ℕ) → length marks ≡ length p → slot < length p → mark_at marks slot ≡ Open k
-    → done_slots p (slice_set marks slot (Done n)) ≡ done_slots p marks + size_of (insn_at p slot)
-size_close [] marks slot k n all lt opened = absurd (omega arith)
-size_close (o ∷ p) [] slot k n all lt opened = absurd (omega (arith, all))
-size_close (o ∷ p) (x ∷ marks) zero k n all lt opened = rw opened (omega arith)
-size_close (o ∷ p) (x ∷ marks) (suc slot) k n all lt opened = omega (arith, size_close p marks slot k n (omega (arith, all)) (omega arith) opened)
+done_size-left : (m : Mark) (o : Option Insn) → is_done m ≡ false → done_size m o ≡ 0
+done_size-left New o left = refl
+done_size-left (Open k) o left = refl
+done_size-left (Done n) o left = absurd (cc)
 
-none_done : (p : List (Option Insn)) (n : ℕ) → done_slots p (replicate n New) ≡ 0
+pub size_done : (p : List (Option Insn)) (marks : List Mark) (slot n : ℕ) → length marks ≡ length p → slot < length p → is_done (mark_at marks slot) ≡ false
+    → done_slots p (slice_set marks slot (Done n)) ≡ done_slots p marks + size_of (insn_at p slot)
+size_done [] marks slot n all lt left = absurd (omega arith)
+size_done (o ∷ p) [] slot n all lt left = absurd (omega (arith, all))
+size_done (o ∷ p) (x ∷ marks) zero n all lt left = omega (arith, done_size-left x o left)
+size_done (o ∷ p) (x ∷ marks) (suc slot) n all lt left = omega (arith, size_done p marks slot n (omega (arith, all)) (omega arith) left)
+
+pub none_done : (p : List (Option Insn)) (n : ℕ) → done_slots p (replicate n New) ≡ 0
 none_done [] n = refl
 none_done (o ∷ p) zero = refl
 none_done (o ∷ p) (suc n) = omega (arith, none_done p n)
@@ -89,7 +94,7 @@ new_open k e = cc
 new_done : (k : ℕ) → Done k ≡ New → ⊥
 new_done k e = cc
 
-open_done : (j k : ℕ) → Open j ≡ Done k → ⊥
+pub open_done : (j k : ℕ) → Open j ≡ Done k → ⊥
 open_done j k e = cc
 
 open_same : (j k : ℕ) → Open j ≡ Open k → j ≡ k
@@ -105,7 +110,7 @@ abbrev closed : List Mark → ℕ → ℕ → List Mark
 closed marks slot n = slice_set marks slot (Done n)
 
 -- a slot that had another mark has it still
-unset : (marks : List Mark) (i slot : ℕ) (m v : Mark) → slot ≢ i → mark_at marks slot ≡ v → mark_at (slice_set marks i m) slot ≡ v
+pub unset : (marks : List Mark) (i slot : ℕ) (m v : Mark) → slot ≢ i → mark_at marks slot ≡ v → mark_at (slice_set marks i m) slot ≡ v
 unset marks i slot m v ne e = get_or-set_other marks i slot m New ne ∙ e
 
 marked_open : (marks : List Mark) (path order : List ℕ) (to : ℕ) → AreMarked marks path order → to < length marks → mark_at marks to ≡ New
@@ -250,13 +255,21 @@ behind_edge p marks path order edge to (Some i) at h done e =
     let placed = h.order_slot to number.0 number.1 in
     inr (number.0, slice_get_within order number.0 to placed, placed)
 
-behind_more : (p : List (Option Insn)) (order : List ℕ) (n slot new : ℕ) → IsBehind p order n slot → IsBehind p (order ++ new ∷ []) n slot
+pub behind_more : (p : List (Option Insn)) (order : List ℕ) (n slot new : ℕ) → IsBehind p order n slot → IsBehind p (order ++ new ∷ []) n slot
 behind_more p order n slot new h to edge = elim (h to edge) [
   | inl nothing ↦ inl nothing
   | inr m ↦ inr (m.0, m.1, get_kept order (new ∷ []) m.0 to m.2)
 ]
 
-is_behind : (p : List (Option Insn)) (marks : List Mark) (path order : List ℕ) (slot : ℕ) → AreMarked marks path order → LeadsToDone p marks (edges_at p slot).jump
+-- what an instruction leads to has a number before its own
+pub behind_number : (p : List (Option Insn)) (order : List ℕ) (n from to : ℕ) → IsBehind p order n from → IsEdge p from to → is_none (insn_at p to) ≡ false
+    → (m : ℕ) × (m < n) × (slice_get order m ≡ Some to)
+behind_number p order n from to behind edge there = elim (behind to edge) [
+  | inl none ↦ absurd (false≢true (sym there ∙ ap is_none none))
+  | inr m ↦ m
+]
+
+pub is_behind : (p : List (Option Insn)) (marks : List Mark) (path order : List ℕ) (slot : ℕ) → AreMarked marks path order → LeadsToDone p marks (edges_at p slot).jump
     → LeadsToDone p marks (edges_at p slot).fall → IsBehind p order (length order) slot
 is_behind p marks path order slot h jump fall to edge = elim (edge_cases p slot to edge) [
   | inl falls ↦ behind_edge p marks path order (edges_at p slot).fall to (insn_at p to) refl h fall falls
@@ -288,7 +301,7 @@ search_close p marks path order at slot h long top jump fall inside =
         | inl old ↦ let o = h.ordered n s old in (o.0, o.1, behind_more p order n s slot o.2)
         | inr here ↦ rw (here.0, here.1) (h.reached at slot top, h.there at slot top, behind_more p order (length order) slot slot behind)
       ];
-      size = slots_of-push p order slot ∙ ap (λ (n : ℕ). n + size_of (insn_at p slot)) h.size ∙ sym (size_close p marks slot at (length order) all (omega arith) (h.marked.path_mark slot at top));
+      size = slots_of-push p order slot ∙ ap (λ (n : ℕ). n + size_of (insn_at p slot)) h.size ∙ sym (size_done p marks slot (length order) all (omega arith) (ap is_done (h.marked.path_mark slot at top)));
       there = λ k s e. h.there k s (get_from_take at path k s e).1;
     }
 
@@ -338,8 +351,13 @@ edge_inside p marks slot (Some to) all h = omega (arith, there_inside p to h.1)
 pub smaller_open : (marks : List Mark) (to k : ℕ) → to < length marks → mark_at marks to ≡ New → left (slice_set marks to (Open k)) < left marks
 smaller_open marks to k lt new = let e : left_at (mark_at marks to) ≡ 2 = ap left_at new in omega (arith, left-set marks to (Open k) lt, e)
 
-pub smaller_done : (marks : List Mark) (slot k n : ℕ) → slot < length marks → mark_at marks slot ≡ Open k → left (slice_set marks slot (Done n)) < left marks
-smaller_done marks slot k n lt opened = let e : left_at (mark_at marks slot) ≡ 1 = ap left_at opened in omega (arith, left-set marks slot (Done n) lt, e)
+left_at-some : (m : Mark) → is_done m ≡ false → 0 < left_at m
+left_at-some New left = omega arith
+left_at-some (Open k) left = omega arith
+left_at-some (Done n) left = absurd (cc)
+
+pub smaller_done : (marks : List Mark) (slot n : ℕ) → slot < length marks → is_done (mark_at marks slot) ≡ false → left (slice_set marks slot (Done n)) < left marks
+smaller_done marks slot n lt before = omega (arith, left-set marks slot (Done n) lt, left_at-some (mark_at marks slot) before)
 
 pub follow_refused : (p : List (Option Insn)) (marks : List Mark) (path order : List ℕ) (slot : ℕ) (edge : Option ℕ) (fault : LayoutFault) → IsSearch p marks path order
     → slice_get path (length path - 1) ≡ Some slot → LeadsThere p slot edge
@@ -363,10 +381,10 @@ new_in n k = elim (cases_lt k n) [
   | inr le ↦ get_or_past (replicate n New) k New (omega (arith, length-replicate n New))
 ]
 
-new_at : (n : ℕ) (marks : List Mark) (k : ℕ) → marks ≡ replicate n New → mark_at marks k ≡ New
+pub new_at : (n : ℕ) (marks : List Mark) (k : ℕ) → marks ≡ replicate n New → mark_at marks k ≡ New
 new_at n marks k fresh = rw fresh (new_in n k)
 
-unmarked : (n : ℕ) (marks : List Mark) → marks ≡ replicate n New → AreMarked marks [] []
+pub unmarked : (n : ℕ) (marks : List Mark) → marks ≡ replicate n New → AreMarked marks [] []
 unmarked n marks fresh = record {
   path_slot = λ slot k e. absurd (new_open k (sym e ∙ new_at n marks slot fresh));
   path_mark = λ slot k e. absurd (none-some slot e);

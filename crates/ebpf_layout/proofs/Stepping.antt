@@ -20,7 +20,8 @@ use Rattle.ebpf_layout.specs.EdgeFaults.{target_fault, jump_fault, fall_fault, e
 use Rattle.ebpf_layout.specs.Layout.{moved, IsJumpTo, IsLaidOut}
 use Rattle.ebpf_layout.proofs.PathLemmas.{path_more, fall_is_edge, jump_is_edge}
 use Rattle.ebpf_layout.proofs.Reaching.{none_of, ordered_insn}
-use Rattle.ebpf_layout.proofs.Places.{fall_edge, jump_edge, fall_of_edge, jump_of_edge, fall_moved}
+use Rattle.ebpf_layout.proofs.PathLemmas.{fall_edge, jump_edge, fall_of_edge, jump_of_edge}
+use Rattle.ebpf_layout.proofs.Places.{fall_moved}
 use Rattle.ebpf_layout.proofs.Renamed.{placed, laid_view, trap_kept, met}
 use Rattle.ebpf_layout.proofs.Acted.{Follows, act_follows}
 use Rattle.ebpf_layout.proofs.Displaced.{Alike, Ended, Trapped, Fell, Jumped, BothJump, displaced}

@@ -10,6 +10,7 @@ use Rattle.ebpf_layout.specs.declared.mark.Mark.{Mark}
 use Rattle.ebpf_layout.specs.EdgeFaults.{edge_fault_at}
 use Rattle.ebpf_layout.specs.Paths.{IsEdge, IsReached}
 use Rattle.ebpf_layout.specs.Search.{size_of, slots_of, IsOrder}
+use Rattle.ebpf_layout.specs.Placing.{AreNeighbours}
 use Rattle.ebpf_layout.specs.Writing.{IsPlaced, Writes, IsCode, IsWriting}
 use Rattle.ebpf_layout.proofs.PathLemmas.{fall_is_edge, jump_is_edge}
 use Rattle.ebpf_layout.proofs.Searching.{found, slots_of-push, order_fits}
@@ -19,6 +20,7 @@ use Rattle.ebpf_layout.proofs.Written.{written_more, length-behind, new_length}
 -- the next of the order, in a program of which nothing reached has a fault
 pub record IsNext (p : List (Option Insn)) (marks : List Mark) (order places : List ℕ) (code : List (Option Insn)) (count slot : ℕ) (i : Insn) : Type 0 where
   pub ordered : IsOrder p marks order
+  pub neighbours : AreNeighbours p order
   pub fine : (k : ℕ) → IsReached p k → edge_fault_at p k ≡ None
   pub here : slice_get order (length places) ≡ Some slot
   pub owned : insn_at p slot ≡ Some i
@@ -83,7 +85,7 @@ slot_written p marks order places code count slot i new newer place n coded w la
     let long : length (places ++ place ∷ []) ≡ length places + 1 = length_push places place in
     record {
       coded = coded;
-      written = written_more p marks order places code slot i new place (record { ordered = n.ordered; here = n.here; owned = n.owned; writes = w; last = last }) n.writing.written;
+      written = written_more p marks order places code slot i new place (record { ordered = n.ordered; neighbours = n.neighbours; here = n.here; owned = n.owned; writes = w; last = last }) n.writing.written;
       short = rw long (omega (arith, n.writing.short));
     }
 

@@ -14,9 +14,11 @@ use Rattle.ebpf_layout.specs.declared.mark.Mark.{Mark}
 use Rattle.ebpf_layout.specs.declared.mark.Mark.TheVariants.{New, Done}
 use Rattle.ebpf_layout.specs.Layout.{moved}
 use Rattle.ebpf_layout.specs.Search.{mark_at, IsOrder}
+use Rattle.ebpf_layout.specs.Placing.{AreNeighbours}
 use Rattle.ebpf_layout.specs.Writing.{half_of, with_jump, HasPlace, IsWayTo, LeadsOn, IsMovedTo, Writes, StandsAt, JumpsTo, FallsRight, IsWritten, IsAddedAt, AreWritten}
 use Rattle.ebpf_layout.proofs.Lists.{get_kept, get_last, get_pushed}
-use Rattle.ebpf_layout.proofs.Searching.{done_inside, done_same}
+use Rattle.ebpf_layout.proofs.PathLemmas.{jump_is_edge, fall_edge, jump_of_edge}
+use Rattle.ebpf_layout.proofs.Searching.{done_inside, done_same, found, behind_number}
 
 -- ---- an instruction with another displacement
 
@@ -124,7 +126,12 @@ added_more p order places place code new at keeps h = record {
   to = h.to;
   falls = h.falls;
   jumps = jumps_more order places place code new at h.to keeps h.jumps;
-  far = h.far;
+  over = h.over;
+  leaps = h.leaps;
+  spot = h.spot;
+  between = stands_more order places place h.over h.spot h.between;
+  above = h.above;
+  below = h.below;
 }
 
 has_stands : (p : List (Option Insn)) (marks : List Mark) (order places : List ℕ) (slot place : ℕ) → IsOrder p marks order → HasPlace marks places slot place → StandsAt order places slot place
@@ -199,6 +206,7 @@ length-behind marks places code fall behind h = elim (leads_cases marks places c
 -- the facts of one that was written last: where it stands, and what stands there
 pub record IsNew (p : List (Option Insn)) (marks : List Mark) (order places : List ℕ) (code : List (Option Insn)) (slot : ℕ) (i : Insn) (new : List (Option Insn)) (place : ℕ) : Type 0 where
   pub ordered : IsOrder p marks order
+  pub neighbours : AreNeighbours p order
   pub here : slice_get order (length places) ≡ Some slot
   pub owned : insn_at p slot ≡ Some i
   pub writes : Writes marks places code i (fall_of i slot) (jump_of i slot) new
@@ -313,6 +321,36 @@ each_more p marks order places code slot i new place n old s at j stands owned =
       rw (← same, ← insn, here.0) (new_written p marks order places code slot i new place n)
 ]
 
+-- what an instruction jumps to was written between what it falls to and the jump there
+record Leaps (order places : List ℕ) (code : List (Option Insn)) (i : Insn) (slot fall : ℕ) : Type 0 where
+  pub over : ℕ
+  pub leaps : jump_of i slot ≡ Some over
+  pub spot : ℕ
+  pub between : StandsAt order places over spot
+  pub above : fall < spot
+  pub below : spot < length code
+
+leaps_over : (p : List (Option Insn)) (marks : List Mark) (order places : List ℕ) (code : List (Option Insn)) (slot : ℕ) (i : Insn) (new : List (Option Insn)) (place : ℕ)
+    → (n : IsNew p marks order places code slot i new place) → AreWritten p order places code → (j : HasJump marks places code (fall_of i slot) n.writes.behind)
+    → Leaps order places code i slot j.there.place
+leaps_over p marks order places code slot i new place n old j =
+    let has = j.there.has in
+    let to = n.ordered.marked.order_slot j.to has.number has.done in
+    elim (n.neighbours has.number (length places) j.to slot to n.here (fall_edge p slot i j.to n.owned j.falls)) [
+      | inl one ↦ absurd (j.far (omega (arith, j.there.way_is, old.last has.number (sym one) j.there.place has.placed)))
+      | inr w ↦
+          let k = behind_number p order (length places) slot w.0 (n.ordered.ordered (length places) slot n.here).2 (jump_is_edge p slot w.0 w.1) w.2 in
+          let spot = found places k.0 k.1 in
+          record {
+            over = w.0;
+            leaps = jump_of_edge p slot i w.0 n.owned w.1;
+            spot = spot.0;
+            between = record { number = k.0; ordered = k.2; placed = spot.1 };
+            above = old.rising has.number k.0 j.there.place spot.0 (w.3 k.0 k.2) has.placed spot.1;
+            below = old.inside k.0 spot.0 spot.1;
+          }
+    ]
+
 only_more : (p : List (Option Insn)) (marks : List Mark) (order places : List ℕ) (code : List (Option Insn)) (slot : ℕ) (i : Insn) (new : List (Option Insn)) (place : ℕ)
     → IsNew p marks order places code slot i new place → AreWritten p order places code
     → (at : ℕ) (j : Insn) → slice_get new at ≡ Some (Some j) → ((s : ℕ) × StandsAt order (places ++ place ∷ []) s at) ⊎ IsAddedAt p order (places ++ place ∷ []) new at
@@ -332,6 +370,7 @@ only_more p marks order places code slot i new place n old at j there =
             let h = jump.1 in
             let size : length w.behind ≡ length code + 1 = ap length h.behind_is ∙ length_push code (Some (insn.Jump (pos h.way))) in
             let at_end : at ≡ length code = jump.0 in
+            let l = leaps_over p marks order places code slot i new place n old h in
             inr (record {
               slot = slot;
               of = place;
@@ -348,7 +387,12 @@ only_more p marks order places code slot i new place n old at j there =
                 here = keeps_new marks places code i (fall_of i slot) (jump_of i slot) new w at _ (rw (at_end, h.behind_is) (get_last code (Some (insn.Jump (pos h.way)))));
                 way_is = rw at_end h.there.way_is;
               };
-              far = h.far;
+              over = l.over;
+              leaps = l.leaps;
+              spot = l.spot;
+              between = stands_more order places place l.over l.spot l.between;
+              above = l.above;
+              below = omega (arith, l.below);
             })
       ]
     ]

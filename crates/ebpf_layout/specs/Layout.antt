@@ -1,5 +1,5 @@
 -- What it means that a program is another one laid out anew.
-use Rattle.std.specs.Prelude.{◌≡◌, ◌≢◌, ◌⊎◌, ◌+◌, ℕ, ℤ, false, List, Option, Some, None, is_none}
+use Rattle.std.specs.Prelude.{◌≡◌, ◌⊎◌, ◌<◌, ℕ, ℤ, false, List, Option, Some, None, is_none}
 use Rattle.ebpf_insn.specs.declared.insn.Insn.{Insn}
 use Rattle.ebpf_insn.specs.declared.insn.Insn.TheVariants as insn
 use Rattle.ebpf_insn.specs.Program.{insn_at}
@@ -30,10 +30,14 @@ FallsTo q from to = (next : ℕ) × ((edges_at q from).fall ≡ Some next) × ((
 abbrev pub IsKept : List (Option Insn) → (ℕ → ℕ) → ℕ → Type 0
 IsKept p place at = (slot : ℕ) × IsReached p slot × (place slot ≡ at)
 
--- a jump was added right behind a reached instruction, to where that one fell; it passes over something
+-- what an instruction jumps to stands after one slot and before another
+abbrev pub JumpsBetween : List (Option Insn) → (ℕ → ℕ) → ℕ → ℕ → ℕ → Type 0
+JumpsBetween p place slot from to = (over : ℕ) × ((edges_at p slot).jump ≡ Some over) × (from < place over) × (place over < to)
+
+-- a jump was added right after a reached branch, to where that one fell, and what the branch jumps to stands between them
 abbrev pub IsAdded : List (Option Insn) → List (Option Insn) → (ℕ → ℕ) → ℕ → Type 0
 IsAdded p q place at = (slot : ℕ) × (to : ℕ) × IsReached p slot × ((edges_at p slot).fall ≡ Some to)
-    × ((edges_at q (place slot)).fall ≡ Some at) × IsJumpTo q at (place to) × (at + 1 ≢ place to)
+    × ((edges_at q (place slot)).fall ≡ Some at) × IsJumpTo q at (place to) × JumpsBetween p place slot at (place to)
 
 -- q is p laid out anew
 pub record IsLaidOut (p q : List (Option Insn)) : Type 0 where

@@ -4,4 +4,5 @@ pub mod Layout
 pub mod Refusal
 pub mod Running
 pub mod Search
+pub mod Placing
 pub mod Writing

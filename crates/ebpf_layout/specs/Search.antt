@@ -1,5 +1,5 @@
 -- What the search knows at each step, and the order that it ends with.
-use Rattle.std.specs.Prelude.{◌≡◌, ◌⊎◌, ◌<◌, ◌+◌, ℕ, List, [], ◌∷◌, length, Option, Some, None, slice_get, slice_index_or, is_none, false}
+use Rattle.std.specs.Prelude.{◌≡◌, ◌⊎◌, ◌<◌, ◌+◌, ℕ, List, [], ◌∷◌, length, Option, Some, None, slice_get, slice_index_or, is_none, Bool, true, false}
 use Rattle.ebpf_insn.specs.declared.insn.Insn.{Insn}
 use Rattle.ebpf_insn.specs.Program.{insn_at, slots_in}
 use Rattle.ebpf_insn.specs.Encoding.{IsWellFormed}
@@ -22,6 +22,10 @@ standing p (Some to) = if_there (insn_at p to) to
 abbrev pub IsDone : Mark → Type 0
 IsDone (Done n) = Unit {0}
 IsDone _ = ⊥
+
+abbrev pub is_done : Mark → Bool
+is_done (Done n) = true
+is_done _ = false
 
 -- how much is left to be done: each slot is opened once and closed once
 abbrev pub left_at : Mark → ℕ

@@ -1,5 +1,5 @@
 -- What is written so far of the new program, from its last slot to its first.
-use Rattle.std.specs.Prelude.{◌≡◌, ◌≢◌, ◌⊎◌, ◌<◌, ◌≤◌, ◌+◌, ◌*◌, ℕ, pos, List, [], ◌∷◌, ◌++◌, length, take, Option, Some, None, slice_get, reverse, if◌then◌else◌, ◌==◌}
+use Rattle.std.specs.Prelude.{◌≡◌, ◌⊎◌, ◌<◌, ◌≤◌, ◌+◌, ◌*◌, ℕ, pos, List, [], ◌∷◌, ◌++◌, length, take, Option, Some, None, slice_get, reverse, if◌then◌else◌, ◌==◌}
 use Rattle.std.specs.List.{flat_map, AllByRecursion}
 use Rattle.ebpf_insn.specs.declared.insn.Insn.{Insn}
 use Rattle.ebpf_insn.specs.declared.insn.Insn.TheVariants as insn
@@ -36,7 +36,7 @@ pub record IsWritten (order places : List ℕ) (code : List (Option Insn)) (i : 
   pub jump : (to : ℕ) → jump_of i slot ≡ Some to → (t : ℕ) × StandsAt order places to t × (t + way + 1 ≡ place)
   pub fall : (to : ℕ) → fall_of i slot ≡ Some to → FallsRight order places code i place to
 
--- the jump at a place was added right behind an instruction, to where that one fell
+-- the jump at a place was added right behind a branch, to where that one fell, and what the branch jumps to stands between
 pub record IsAddedAt (p : List (Option Insn)) (order places : List ℕ) (code : List (Option Insn)) (place : ℕ) : Type 0 where
   pub slot : ℕ
   pub of : ℕ
@@ -47,7 +47,12 @@ pub record IsAddedAt (p : List (Option Insn)) (order places : List ℕ) (code : 
   pub to : ℕ
   pub falls : fall_of insn slot ≡ Some to
   pub jumps : JumpsTo order places code place to
-  pub far : jumps.way ≢ 0
+  pub over : ℕ
+  pub leaps : jump_of insn slot ≡ Some over
+  pub spot : ℕ
+  pub between : StandsAt order places over spot
+  pub above : jumps.to < spot
+  pub below : spot < place
 
 -- the second half of a wide instruction
 abbrev pub half_of : Insn → List (Option Insn)

@@ -8,6 +8,7 @@ ghost use Rattle.ebpf_layout.specs.Refusal.{IsLayoutFault};
 ghost use Rattle.ebpf_layout.specs.declared.fault.LayoutFault.{LayoutFault};
 
 use crate::fault::LayoutFault;
+use crate::placing::place;
 use crate::refusal::check_edges;
 use crate::search::order_of;
 use crate::writer::{Writer, write};
@@ -17,7 +18,7 @@ use ebpf_insn::program::{MAX_SLOTS, Program};
 use std::alloc::{AllocError, Global};
 
 /// The program with its reached instructions in an order in which each stands before those that it leads to. What an instruction
-/// falls to stands right behind it, or a jump there was added.
+/// falls to comes right after it; or, after a branch whose target stands in between, a jump there.
 ///
 /// # Errors
 /// `Loop` where no such order is; `Flow` where an edge of something reached leads to no instruction; `Slots` where, laid out, it has
@@ -36,8 +37,9 @@ pub fn lay_out(alloc: Global, program: &Program) -> Result<Program, LayoutFault>
         let _ = program.slots();
         return Ok(copy_of(alloc, program)?);
     }
-    let order = order_of(alloc, program)?;
-    check_edges(program, &order)?;
+    let found = order_of(alloc, program)?;
+    check_edges(program, &found)?;
+    let order = place(alloc, program, &found)?;
     let Writer {
         mut code,
         count,

@@ -1,10 +1,9 @@
-//! The search for an order of the reached instructions.
+//! The search for what is reached, and for some order of it.
 //!
 //! It goes from slot 0 along the edges, at each instruction first along the jump and then along the fall, and back where all that
 //! an instruction leads to was done. The path is the way from slot 0 to where it stands. An instruction goes into the order when the
-//! search leaves it, behind all that it leads to; so the order is read from its end. What the search did last before it leaves an
-//! instruction is what that one falls to, if nothing else led there before, so then the two are neighbours. An edge to an
-//! instruction on the path closes a loop.
+//! search leaves it, after all that it leads to; so the order is read from its end. An edge to an instruction on the path closes a
+//! loop. That there is such an order is what `placing` needs to make that of the new program.
 
 ghost use Rattle.std.specs.Prelude.{◌≡◌, ◌≤◌, ◌<◌, ◌+◌, ◌-◌, ◌++◌, [], ◌∷◌, ℕ, Option, Some, None, length, slice_get, slice_set};
 ghost use Rattle.std.specs.Prelude.{IfOk, IfErr, IfSome, OnOk, take, is_none, true, false};

@@ -1,7 +1,7 @@
 //! The new program, written from its last slot to its first.
 //!
-//! An instruction is written before those that it leads to stand behind it in the program, which the order sees to. So how far it is
-//! to them is known then, whatever comes before it later.
+//! An instruction is written once all that it leads to is, which the order sees to. So how far it is to them is known then, and stays
+//! so when more is written before it.
 
 ghost use Rattle.std.specs.Prelude.{◌≡◌, ◌≤◌, ◌<◌, ◌+◌, ◌*◌, ◌++◌, [], ◌∷◌, ◌⊎◌, ℕ, pos, List, Option, Some, None, length, slice_get, slice_index_or};
 ghost use Rattle.std.specs.Prelude.{IfOk, IfErr, IfSome, OnOk};
@@ -12,6 +12,7 @@ ghost use Rattle.ebpf_flow.specs.Edges.{displacement_of};
 ghost use Rattle.ebpf_layout.specs.EdgeFaults.{edge_fault_at};
 ghost use Rattle.ebpf_layout.specs.Layout.{moved};
 ghost use Rattle.ebpf_layout.specs.Paths.{IsReached};
+ghost use Rattle.ebpf_layout.specs.Placing.{AreNeighbours};
 ghost use Rattle.ebpf_layout.specs.Search.{IsOrder};
 ghost use Rattle.ebpf_layout.specs.Writing.{half_of, with_jump, HasPlace, IsPlaced, IsWayTo, IsCode, LeadsOn, IsMovedTo, Writes, AreWritten, IsWriting};
 
@@ -36,6 +37,7 @@ pub(crate) struct Writer {
 /// The slots of the new program, from its last to its first, however many they are.
 pub(crate) fn write(alloc: Global, program: &Program, order: &Order) -> Result<Writer, AllocError>
     requires order { IsOrder program.now order.now.marks.items order.now.slots.items }
+    requires neighbours { AreNeighbours program.now order.now.slots.items }
     requires fine { (slot : ℕ) → IsReached program.now slot → edge_fault_at program.now slot ≡ None }
     ensures written { IfOk result (λ w. IsWriting program.now order.now.slots.items w.places.items w.code.items w.count) }
     ensures all { IfOk result (λ w. length w.places.items ≡ length order.now.slots.items) }
@@ -59,6 +61,7 @@ fn write_slot(
     slot: usize,
 ) -> Result<(), AllocError>
     requires order { IsOrder program.now order.now.marks.items order.now.slots.items }
+    requires neighbours { AreNeighbours program.now order.now.slots.items }
     requires fine { (slot : ℕ) → IsReached program.now slot → edge_fault_at program.now slot ≡ None }
     requires here { slice_get order.now.slots.items (length writer.old.places.items) ≡ Some slot }
     requires written { IsWriting program.now order.now.slots.items writer.old.places.items writer.old.code.items writer.old.count }

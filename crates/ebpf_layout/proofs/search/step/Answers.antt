@@ -1,4 +1,5 @@
-use Rattle.std.proofs.Common.{◌≡◌, ◌-◌, length, ◌∙◌, arith}
+use Rattle.std.proofs.Common.{◌≡◌, ◌-◌, length, ap, ◌∙◌, arith}
+use Rattle.ebpf_layout.specs.Search.{is_done}
 use Rattle.ebpf_layout.proofs.Searching.{top_inside, top_long, jump_leads, fall_leads, search_close, smaller_done}
 use Rattle.ebpf_layout.proofs.search.step.Goals as goal
 
@@ -43,4 +44,4 @@ returns-clause-smaller c =
     let two : c.follow-2.new.search ≡ s = c.in_ok-follow-2.ensures.same c.if-branch-2.false ∙ one in
     let inside = top_inside c.args.program.now s.marks.items s.path.items s.order.items c.args.slot c.requires.so_far c.requires.last in
     rw (c.in_ok-leave.ensures.marks, two)
-    (smaller_done s.marks.items c.args.slot (length s.path.items - 1) (length s.order.items) (omega (arith, inside, c.requires.so_far.all)) (c.requires.so_far.marked.path_mark c.args.slot (length s.path.items - 1) c.requires.last))
+    (smaller_done s.marks.items c.args.slot (length s.order.items) (omega (arith, inside, c.requires.so_far.all)) (ap is_done (c.requires.so_far.marked.path_mark c.args.slot (length s.path.items - 1) c.requires.last)))
