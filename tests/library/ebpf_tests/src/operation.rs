@@ -2,9 +2,8 @@
 
 use crate::programs::{holds, program_of};
 use ebpf_flow::check::check;
-use ebpf_insn::insn::{AluOp, Cond};
 use ebpf_insn::register::Reg;
-use ebpf_operation::operation::Operation;
+use ebpf_operation::flat::FlatOperation;
 use ebpf_operation::translate::operations_of;
 use ebpf_state::kinds::kinds;
 use ebpf_verify::decl::Decl;
@@ -17,36 +16,17 @@ const SLOTS: &str =
 00000000";
 
 // Whether these are the operations of the program.
-fn are_its(operations: &[Operation]) -> bool {
+fn are_its(operations: &[FlatOperation]) -> bool {
     matches!(
         operations,
         [
-            Operation::MovImm {
-                dst: Reg::R0,
-                number: 0xffff_ffff
-            },
-            Operation::Alu64Imm {
-                op: AluOp::Add,
-                dst: Reg::R0,
-                number: 0xffff_ffff_ffff_ffff
-            },
-            Operation::Branch64Imm {
-                cond: Cond::Eq,
-                left: Reg::R0,
-                to: 4,
-                number: 5
-            },
-            Operation::Swap {
-                bits: 16,
-                dst: Reg::R0,
-                ..
-            },
-            Operation::Wide {
-                dst: Reg::R1,
-                number: 7
-            },
-            Operation::Other,
-            Operation::Other,
+            FlatOperation::MovImm(Reg::R0, 0xffff_ffff),
+            FlatOperation::Add64Imm(Reg::R0, 0xffff_ffff_ffff_ffff),
+            FlatOperation::JEq64Imm(Reg::R0, 4, 5),
+            FlatOperation::Swap(_, 16, Reg::R0),
+            FlatOperation::Wide(Reg::R1, 7),
+            FlatOperation::Other,
+            FlatOperation::Other,
         ]
     )
 }
