@@ -1,5 +1,5 @@
-"""The inputs that were found to take the commands longest, or the most memory, for their size: each at most as long as an input may
-be, 1 MiB, and its programs at most 4096 slots."""
+"""The inputs that were found to take the commands longest, or the most memory, for their size, and what the commands must write of them:
+each at most as long as an input may be, 1 MiB, and its programs at most 4096 slots."""
 
 from typing import Callable, NamedTuple
 
@@ -13,22 +13,23 @@ EMIT = slot(0xb7, 1, immediate=5) + slot(0x85, immediate=3)
 
 
 class Worst(NamedTuple):
-    """An input of a head and any number of parts, for the command of these words."""
+    """An input of a head and any number of parts, for the command of these words, with the status and the text that it must end with."""
     name: str
     words: list
     head: bytes
     part: Callable[[int], bytes]
+    status: int
+    text: Callable[[int], str]  # by the number of parts
 
     def given(self, parts):
         """The input with so many parts."""
         return self.head + b''.join(map(self.part, range(parts)))
 
     def most(self):
-        """How many parts an input may have."""
-        size = len(self.head)
-        parts = 0
-        while size + len(self.part(parts)) <= MOST:
-            size += len(self.part(parts))
+        """How many parts an input may have: none where a part has no bytes."""
+        size, parts = len(self.head), 0
+        while (part := self.part(parts)) and size + len(part) <= MOST:
+            size += len(part)
             parts += 1
         return parts
 
@@ -60,27 +61,95 @@ def line_of(name, context, held, program):
     return f'program {name} {context} {held} {program.hex() or "-"}\n'.encode()
 
 
+def steps_of_branches():
+    """Each instruction of the program of branches, with the registers that are known before it, how many answers are on the stack and
+    how many objects may be held."""
+    yield ['r1 context+0'], 0, 0, 'mov64 r6, r1'
+    for at in range(64):
+        before = [f'r0 answer of {3 * at - 1}'] if at else []
+        yield [*before, 'r6 context+0'] if at else ['r1 context+0', 'r6 context+0'], at, at, 'mov64 r1, 0'
+        yield [*before, 'r1 0', 'r6 context+0'], at, at, 'call 1'
+        yield [f'r0 answer of {3 * at + 2}', 'r6 context+0'], at, at + 1, f'stxdw [r10-{8 * at + 8}], r0'
+    yield ['r0 answer of 191', 'r6 context+0'], 64, 64, 'mov64 r0, 0'
+    yield ['r0 0', 'r6 context+0'], 64, 64, 'ldxb r3, [r6+0]'
+    for left in range(SLOTS - 197, -1, -1):
+        yield ['r0 0', 'r3 0..255', 'r6 context+0'], 64, 64, f'jeq64 r3, 7, +{left // 2}'
+    yield ['r0 0', 'r3 0..255', 'r6 context+0'], 64, 64, 'exit'
+
+
+def explained_branches():
+    """What is known before each instruction of the program of branches, and that it exits with 64 objects."""
+    lines = []
+    for number, (registers, stored, held, instruction) in enumerate(steps_of_branches()):
+        stack = [f'[r10-{8 * at}] answer of {3 * at - 1}' for at in range(stored, 0, -1)]
+        objects = [f'may hold {3 * at - 1} (cell)' for at in range(1, held + 1)]
+        lines.append('  '.join(['', *registers, 'r10 stack+0', *stack, *objects]) + f'\n{number}: {instruction}\n')
+    lines.append(f'refused V17 {SLOTS - 1}\n')
+    lines.append('  '.join([f'  slot {SLOTS - 1} exits while objects are held,', *objects]))
+    return ''.join(lines) + ': free each, or put it onto a shelf, on every path to this slot\n'
+
+
+def explained_straight():
+    """What is known before each instruction of a padded program."""
+    rest = ['r1 context+0  r2 0  r10 stack+0\n%d: mov64 r2, 0\n'] * (SLOTS - 3)
+    lines = ['r1 context+0  r10 stack+0\n%d: mov64 r2, 0\n', *rest]
+    lines += ['r1 context+0  r2 0  r10 stack+0\n%d: mov64 r0, 0\n', 'r0 0  r1 context+0  r2 0  r10 stack+0\n%d: exit\n']
+    return ''.join('  ' + line % number for number, line in enumerate(lines)) + f'accepted {SLOTS}\n'
+
+
+def each(line, first='', last=''):
+    """The text of so many lines, each with its number, with what comes before and after."""
+    return lambda parts: first + ''.join(line.format(at) for at in range(parts)) + last
+
+
+def ledgers(records=0):
+    """The last lines of `replay`, where so many records have joined."""
+    return ''.join(f'kind {kind} slots {slots} held 0\n' for kind, slots in enumerate((0, records, 0)))
+
+
+# the last lines of `run`, where no object was granted
+CACHES = ''.join(f'cache {name} allocs 0 frees 0 nulls 0 missing 0\n' for name in ('cell', 'record', 'block'))
+
 # Names of 32 letters that the hash of a map that isn't meant for names of strangers takes for one: with its state behind the first
 # sixteen letters as the next eight, it multiplies by zero.
 ALIKE = 'ACmk5m0-k71p6U3odA2TtdvX'
 
+EMITS = EMIT * 2046 + ZERO + EXIT  # 4,094 slots
+BRANCHES, SWAPS = of_branches(), of_swaps()
+NO_PART = lambda _: b''
+
 WORST = [
-    Worst('one: branches over a full stack', ['one', '--context', '00', '--held', '64'], of_branches().hex().encode(), lambda _: b''),
-    Worst('explain: branches over a full stack', ['explain', '--context', '00', '--held', '64'], of_branches().hex().encode(), lambda _: b''),
-    Worst('list: jumps with long numbers', ['list'], b'', lambda at: slot(0x65, 9, 0, -30000, -2**31).hex().encode() if at < SLOTS else b'#' * MOST),
-    Worst('check: branches over a full stack', ['check'], b'', lambda at: line_of(at, 1, 64, of_branches())),
-    Worst('check: names that look alike', ['check'], b'', lambda at: line_of(f'{ALIKE}{at:08x}', 0, 0, b'')),
-    Worst('check: comments', ['check'], b'', lambda _: b'#\n'),
-    Worst('replay: slots join, the highest first', ['replay'], b'', lambda at: b'grow 1 %d\n' % (65535 - at) if at < 65536 else b'#' * MOST),
-    Worst('replay: runs with room for output', ['replay'], line_of('a', 0, 0, EMIT * 2046 + ZERO + EXIT), lambda _: b'start a -\n'),
-    Worst('replay: runs with room for blocks', ['replay'], line_of('a', 0, 1, of_swaps()), lambda _: b'start a -\n'),
-    Worst('run: jobs of many instructions', ['run', '--workers', '2'], line_of('a', 0, 0, padded(b'')), lambda _: b'run a -\n'),
-    Worst('run: jobs with room for blocks', ['run'], line_of('a', 0, 1, of_swaps()), lambda _: b'run a -\n'),
-    Worst('run: jobs with much output', ['run', '--workers', '2'], line_of('a', 0, 0, EMIT * 2046 + ZERO + EXIT), lambda _: b'run a -\n'),
+    Worst('one: branches over a full stack', ['one', '--context', '00', '--held', '64'], BRANCHES.hex().encode(), NO_PART,
+          2, lambda _: f'refused V17 {SLOTS - 1}\n'),
+    Worst('explain: branches over a full stack', ['explain', '--context', '00', '--held', '64'], BRANCHES.hex().encode(), NO_PART,
+          2, lambda _: explained_branches()),
+    Worst('list: jumps with long numbers', ['list'],
+          b'', lambda at: slot(0x65, 9, 0, -30000, -2**31).hex().encode() if at < SLOTS else b'#' * MOST,
+          0, each('{}: jsgt64 r9, -2147483648, -30000\n')),
+    Worst('check: branches over a full stack', ['check'], b'', lambda at: line_of(at, 1, 64, BRANCHES),
+          2, each(f'{{}} refused V17 {SLOTS - 1}\n')),
+    Worst('check: names that look alike', ['check'], b'', lambda at: line_of(f'{ALIKE}{at:08x}', 0, 0, b''),
+          2, each(f'{ALIKE}{{:08x}} refused I1 0\n')),
+    Worst('check: comments', ['check'], b'', lambda _: b'#\n',
+          0, lambda _: ''),
+    Worst('replay: slots join, the highest first', ['replay'],
+          b'', lambda at: b'grow 1 %d\n' % (65535 - at) if at < 65536 else b'#' * MOST,
+          0, ledgers),
+    Worst('replay: runs with room for output', ['replay'], line_of('a', 0, 0, EMITS), lambda _: b'start a -\n',
+          0, each('run {} going 0 executed 0\n', 'a accepted 4094\n', ledgers())),
+    Worst('replay: runs with room for blocks', ['replay'], line_of('a', 0, 1, SWAPS), lambda _: b'start a -\n',
+          0, each('run {} going 0 executed 0\n', 'a accepted 4094\n', ledgers())),
+    Worst('run: jobs of many instructions', ['run', '--workers', '2'], line_of('a', 0, 0, padded(b'')), lambda _: b'run a -\n',
+          0, each('job {} exit 0 executed 4096 peak 0\n', 'a accepted 4096\n', CACHES)),
+    Worst('run: jobs with room for blocks', ['run'], line_of('a', 0, 1, SWAPS), lambda _: b'run a -\n',
+          0, each('job {} exit 0 executed 2730 peak 0\n', 'a accepted 4094\n', CACHES)),
+    Worst('run: jobs with much output', ['run', '--workers', '2'], line_of('a', 0, 0, EMITS), lambda _: b'run a -\n',
+          1, lambda _: ''),
 ]
 
 # programs of as many slots as one may have, to be explained
 EXPLAINED = [
     *(worst for worst in WORST if worst.words[0] == 'explain'),
-    Worst('explain: a straight program', ['explain'], padded(b'').hex().encode(), lambda _: b''),
+    Worst('explain: a straight program', ['explain'], padded(b'').hex().encode(), NO_PART,
+          0, lambda _: explained_straight()),
 ]
