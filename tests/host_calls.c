@@ -1,5 +1,6 @@
-/* Each function of include/ebpf_host.h with each of its statuses; handles that go from one thread to another; and each allocation refused
- * in turn: malloc and realloc are those below, by the linker's --wrap. */
+/* Each function of include/ebpf_host.h with each of its statuses; programs that are refused, each with its code, from the file that is the
+ * argument; handles that go from one thread to another; and each allocation refused in turn: malloc and realloc are those below, by the
+ * linker's --wrap. */
 #include <assert.h>
 #include <pthread.h>
 #include <stdio.h>
@@ -104,6 +105,33 @@ static void each_status(void) {
     ebpf_program_free(&program);
 }
 
+/* a program of the file, which comes behind its row */
+struct row {
+    char code[4];
+    uint32_t slot;
+    uint32_t context;
+    uint32_t held;
+    uint32_t length;
+};
+
+/* Each program of the file is refused with its code, at its slot. How many there are. */
+static unsigned each_refusal(const char *path) {
+    static uint8_t bytes[1 << 20];
+    struct row row;
+    unsigned rows = 0;
+    FILE *file = fopen(path, "rb");
+    assert(file);
+    for (; fread(&row, sizeof row, 1, file) == 1; rows++) {
+        assert(row.length <= sizeof bytes && fread(bytes, 1, row.length, file) == row.length);
+        memset(&refusal, 0xff, sizeof refusal);
+        assert(ebpf_program_load(&program, bytes, row.length, row.context, (uint8_t)row.held, text, sizeof text, &refusal) == EBPF_REFUSED);
+        assert(!memcmp(refusal.code, row.code, 4) && refusal.slot == row.slot);
+    }
+    assert(feof(file) && !program.word);
+    fclose(file);
+    return rows;
+}
+
 /* a sentence is cut where there is no more room, and nothing behind is written */
 static void a_short_text(void) {
     uint8_t bytes[16];
@@ -146,13 +174,15 @@ static int served(long allocations) {
     return refused;
 }
 
-int main(void) {
+int main(int count, char **words) {
+    assert(count == 2);
     each_status();
+    unsigned refusals = each_refusal(words[1]);
     a_short_text();
     one_thread_after_another();
     long allocations = 0;
     while (served(allocations)) allocations++;
     assert(allocations > 10);
-    printf("host: %ld refused allocations\n", allocations);
+    printf("host: %u refused programs, %ld refused allocations\n", refusals, allocations);
     return 0;
 }

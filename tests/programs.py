@@ -27,6 +27,11 @@ def cases():
     return list(module.cases_of(module.TABLE.read_text(encoding='ascii').split('\n')).values())
 
 
+def option(words, name, default):
+    """The word behind an option, where it is there."""
+    return words[words.index(name) + 1] if name in words else default
+
+
 def called(program, words, given):
     """What a call writes."""
     return subprocess.run([program, *words], input=given, capture_output=True, timeout=SECONDS).stdout.decode()
