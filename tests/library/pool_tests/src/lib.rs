@@ -19,6 +19,8 @@ mod gates;
 #[cfg(test)]
 mod jobs;
 #[cfg(test)]
+mod marks;
+#[cfg(test)]
 mod memory;
 #[cfg(test)]
 mod programs;

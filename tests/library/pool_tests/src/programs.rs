@@ -46,7 +46,7 @@ pub(crate) fn programs_for(alloc: Global, letters: &str) -> Result<Vec<Verified>
 }
 
 // The program of a row.
-fn accepted(alloc: Global, row: &str) -> Result<Verified, AllocError> {
+pub(crate) fn accepted(alloc: Global, row: &str) -> Result<Verified, AllocError> {
     let (_, columns) = row.split_once(" | ").ok_or(AllocError)?;
     let (declared, slots) = columns.split_once(" | ").ok_or(AllocError)?;
     let (context, held) = declared.split_once(' ').ok_or(AllocError)?;
