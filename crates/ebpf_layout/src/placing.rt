@@ -4,7 +4,7 @@
 //! two are neighbours, and no jump has to be added. Otherwise the highest slot that may goes next, so a program whose edges all lead
 //! forward keeps its order. One that may is always left: the first of the search's order that isn't placed.
 
-ghost use Rattle.std.specs.Prelude.{◌≡◌, ◌≤◌, ◌<◌, ◌+◌, ◌-◌, ◌++◌, [], ◌∷◌, ℕ, Option, Some, None, length, slice_get, slice_set};
+ghost use Rattle.std.specs.Prelude.{◌≡◌, ◌≤◌, ◌<◌, ◌-◌, ◌++◌, [], ◌∷◌, ℕ, Some, length, slice_get, slice_set};
 ghost use Rattle.std.specs.Prelude.{IfOk, IfSome, OnOk, true, false};
 ghost use Rattle.ebpf_insn.specs.Encoding.{IsWellFormed};
 ghost use Rattle.ebpf_flow.specs.Edges.{edges_at};
@@ -110,7 +110,7 @@ fn highest(program: &Program, found: &Order, order: &Order, top: usize) -> usize
     unreachable!()
 }
 
-// The end of what is left below another end.
+// The end of what is left to be placed, which is `top` or lower.
 fn lowered(found: &Order, order: &Order, top: usize) -> usize
     requires { (k : ℕ) → top ≤ k → is_left found.now.marks.items order.now.marks.items k ≡ false }
     ensures inside { result ≤ top }

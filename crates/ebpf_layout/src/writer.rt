@@ -3,8 +3,8 @@
 //! An instruction is written once all that it leads to is, which the order sees to. So how far it is to them is known then, and stays
 //! so when more is written before it.
 
-ghost use Rattle.std.specs.Prelude.{◌≡◌, ◌≤◌, ◌<◌, ◌+◌, ◌*◌, ◌++◌, [], ◌∷◌, ◌⊎◌, ℕ, pos, List, Option, Some, None, length, slice_get, slice_index_or};
-ghost use Rattle.std.specs.Prelude.{IfOk, IfErr, IfSome, OnOk};
+ghost use Rattle.std.specs.Prelude.{◌≡◌, ◌≤◌, ◌<◌, ◌+◌, ◌*◌, ◌++◌, [], ◌∷◌, ℕ, pos, List, Option, Some, None, length, slice_get, slice_index_or};
+ghost use Rattle.std.specs.Prelude.{IfOk, IfSome, OnOk};
 ghost use Rattle.ebpf_insn.specs.declared.insn.Insn.{Insn};
 ghost use Rattle.ebpf_insn.specs.Program.{insn_at, slots_in};
 ghost use Rattle.ebpf_insn.specs.Encoding.{IsDefined};
