@@ -1,15 +1,15 @@
 -- What an exchange over a shelf does to the list of a seat, and to the books of a worker.
-use Rattle.std.proofs.Common.{◌≡◌, ◌≢◌, ℕ, zero, suc, ◌+◌, ◌-◌, ◌^◌, ◌<◌, ◌≤◌, Bool, true, false, Option, Some, None, IfSome, List, [], ◌∷◌, length, refl, sym, ap, subst, ◌∙◌, arith}
-use Rattle.std.specs.Prelude.{if◌then◌else◌, ◌==◌, option_map}
+use Rattle.std.proofs.Common.{◌≡◌, ◌≢◌, ℕ, ◌+◌, ◌<◌, Bool, true, false, Option, Some, None, IfSome, List, ◌∷◌, length, refl, sym, ap, subst, ◌∙◌, arith}
+use Rattle.std.specs.Prelude.{◌==◌, option_map}
 use Rattle.std.proofs.lemmas.Bool.Decides.{nat_tests}
 use Rattle.ebpf_machine.specs.Store.{one_of}
 use Rattle.object_cache.specs.HandView.{HandView}
 use Rattle.object_cache.specs.ShelfView.{ShelfHandView, one_if}
 use Rattle.owners_table.specs.Owning.{Holds, without}
 use Rattle.worker_pool.specs.Claims.{less, more, HasPassed, IsReturned, IsExchanged}
-use Rattle.worker_pool.specs.Counts.{grants_of, gets_of, out_of, outs_of}
+use Rattle.worker_pool.specs.Counts.{out_of, outs_of}
 use Rattle.worker_pool.proofs.Evens.{AreFew}
-use Rattle.worker_pool.proofs.Holding.{Once, count_of, one_at, count_of-cons, same, differ, length-without, held_before, held_after, once_claimed, once_released}
+use Rattle.worker_pool.proofs.Holding.{Once, count_of, one_at, count_of-cons, same, length-without, held_before, held_after, once_released}
 
 -- ---- the list of the seat
 

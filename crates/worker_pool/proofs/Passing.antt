@@ -1,9 +1,9 @@
 -- An exchange of objects, by the list of the seat.
-use Rattle.std.proofs.Common.{◌≡◌, ◌≢◌, ℕ, ◌+◌, Option, Some, None, IfSome, IfNone, List, refl, sym, ap, subst, arith}
+use Rattle.std.proofs.Common.{◌≡◌, ◌≢◌, ℕ, ◌+◌, Option, Some, None, IfSome, IfNone, List, sym, subst, arith}
 use Rattle.std.specs.Prelude.{option_map}
 use Rattle.object_cache.specs.ShelfView.{one_if}
 use Rattle.owners_table.specs.Owning.{Holds}
-use Rattle.worker_pool.specs.Claims.{HasPassed, less, more}
+use Rattle.worker_pool.specs.Claims.{HasPassed, less}
 use Rattle.run_object.specs.Object.{slot_of, kind_of}
 use Rattle.run_object.specs.declared.Object.{Object}
 use Rattle.worker_pool.proofs.Exchanging.{gone, held_got, held_less, held_more}

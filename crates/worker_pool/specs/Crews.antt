@@ -1,5 +1,5 @@
 -- Workers in the making, and what is left of them.
-use Rattle.std.specs.Prelude.{◌≡◌, ◌≤◌, ◌<◌, ◌+◌, ◌^◌, ℕ, List, [], ◌∷◌, All, sum_by, length, map, Option, Some, None, vec_capacity}
+use Rattle.std.specs.Prelude.{◌≡◌, ◌≤◌, ◌+◌, ◌^◌, ℕ, List, [], ◌∷◌, All, sum_by, length, map, Option, Some, None, vec_capacity}
 use Rattle.object_cache.specs.HandView.{HandView}
 use Rattle.object_cache.specs.HandView as hand
 use Rattle.object_cache.specs.ShelfView.{ShelfHandView, new_hand}

@@ -1,4 +1,4 @@
-use Rattle.std.proofs.Common.{rules, ◌≡◌, ◌<◌, ◌+◌, length, slice_index_or, refl, sym, ap, ◌∙◌}
+use Rattle.std.proofs.Common.{rules, ◌<◌, ◌+◌, length, refl, sym, ap, ◌∙◌}
 use Rattle.worker_pool.specs.Outcomes.{IsIdle, fetches_by}
 use Rattle.worker_pool.proofs.Returning.{have_returned, all_fetched, left_three, first_is, seats_all, seats_idle, seats_noted, seats_lost, seats_fetched}
 use Rattle.worker_pool.proofs.clearing.Clearing.clear.Goals as goal
