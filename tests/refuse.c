@@ -1,5 +1,6 @@
-/* Counts the allocations of a program and refuses the one whose number is in the environment, as a machine that is short of memory would:
- * a library that is loaded before the C library. */
+/* Counts the allocations of a program and refuses the one whose number is in the environment, as a machine that is short of memory would;
+ * or counts its threads, each from its first allocation on, and refuses all allocations of those past the number that is there: a library
+ * that is loaded before the C library. */
 #include <errno.h>
 #include <fcntl.h>
 #include <stdlib.h>
@@ -7,12 +8,20 @@
 
 extern void *__libc_malloc(size_t), *__libc_calloc(size_t, size_t), *__libc_realloc(void *, size_t), *__libc_memalign(size_t, size_t);
 
-static unsigned long made;
+static unsigned long made, threads;
+static __thread unsigned long thread;
 
-/* Whether this allocation is the one to refuse. A file says that there was one. */
+/* Whether this is the allocation to refuse, or one of a thread to refuse. */
+static int is_meant(void) {
+    char *at = getenv("REFUSE_AT"), *past = getenv("REFUSE_PAST_THREAD");
+    if (past && !thread) thread = __atomic_add_fetch(&threads, 1, __ATOMIC_SEQ_CST);
+    return (at && ++made == strtoul(at, 0, 10)) || (past && thread > strtoul(past, 0, 10));
+}
+
+/* Whether this allocation is refused. A file says that one was. */
 static int is_refused(void) {
-    char *at = getenv("REFUSE_AT"), *mark = getenv("REFUSE_MARK");
-    if (!at || !mark || ++made != strtoul(at, 0, 10)) return 0;
+    char *mark = getenv("REFUSE_MARK");
+    if (!mark || !is_meant()) return 0;
     close(open(mark, O_CREAT | O_WRONLY, 0600));
     errno = ENOMEM;
     return 1;

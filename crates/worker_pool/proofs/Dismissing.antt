@@ -1,25 +1,23 @@
 -- A worker more is taken apart.
-use Rattle.std.proofs.Common.{◌≡◌, ◌≤◌, ◌<◌, ◌+◌, ◌*◌, ◌^◌, ◌&&◌, ℕ, Bool, true, false, Some, All, List, [], ◌∷◌, ◌++◌, length, map, reverse, refl, sym, ap, subst, ◌∙◌, arith, length-append}
+use Rattle.std.proofs.Common.{◌≡◌, ◌≢◌, ◌⊎◌, inl, inr, ◌≤◌, ◌+◌, ◌*◌, ◌^◌, ℕ, Some, All, Any, List, [], ◌∷◌, ◌++◌, length, map, reverse, refl, sym, ap, subst, ◌∙◌, arith, length-append}
 use Rattle.std.specs.Prelude.{sum_by}
 use Rattle.std.proofs.lemmas.List.{map_push, reverse-append, reverse-reverse, append_assoc, append-nil}
 use Rattle.std.proofs.lemmas.List.Elements.{All-push, All-nil}
+use Rattle.std.proofs.lemmas.List.Quantifiers.{Any-push}
 use Rattle.std.proofs.lemmas.List.Sums.{sum_by_push}
 use Rattle.owners_table.proofs.Joining.{all_front, all_last}
+use Rattle.worker_pool.specs.declared.ending.Ending.{Ending}
+use Rattle.worker_pool.specs.declared.ending.Ending.TheVariants.{Through, Unstarted, OutOfMemory}
 use Rattle.worker_pool.specs.declared.worker.Worker.{Worker}
 use Rattle.worker_pool.specs.declared.hands.Hands.{Hands}
 use Rattle.worker_pool.specs.declared.crew.Parts.{Parts}
 use Rattle.worker_pool.specs.declared.crew.Done.{Done}
 use Rattle.worker_pool.specs.Crews.{ArePartsOf, AreNone, IsBack, hands_or, hands_of, seat_in, clashes_in, strays_in}
-use Rattle.worker_pool.proofs.Turned.{sum_turned, length_turned, all_turned}
+use Rattle.worker_pool.proofs.Turned.{sum_turned, length_turned, all_turned, any_before, any_turned}
 
 -- one more behind what is made of each
 pushed : {X Y : Type 0} (f : X → Y) (done : List X) (w : X) (y : Y) (xs ys : List Y) → xs ≡ map f done → ys ≡ xs ++ y ∷ [] → f w ≡ y → ys ≡ map f (done ++ w ∷ [])
 pushed f done w y xs ys are is same = is ∙ ap (λ l. l ++ y ∷ []) are ∙ ap (λ v. map f done ++ v ∷ []) (sym same) ∙ sym (map_push f done w)
-
-both : (a b : Bool) → (a && b) ≡ true → (a ≡ true) × (b ≡ true)
-both true true e = (refl, refl)
-both true false e = absurd (cc)
-both false b e = absurd (cc)
 
 module _ {L : Type 0} where
   -- some of the workers were taken apart, the last one first, and these are left
@@ -30,7 +28,8 @@ module _ {L : Type 0} where
     pub clashes : told.clashes ≡ sum_by clashes_in done
     pub strays : told.strays ≡ sum_by strays_in done
     pub few : (told.clashes ≤ length done * 2 ^ 56) × (told.strays ≤ length done * 2 ^ 56)
-    pub through : told.is_through ≡ true → All (λ w. w.is_through ≡ true) done
+    pub kept : told.ending ≢ OutOfMemory → All (λ w. w.ending ≢ OutOfMemory) done
+    pub through : told.ending ≡ Through → Any (λ w. w.ending ≡ Through) done
     pub back : All IsBack left
 
   -- so many were taken apart
@@ -71,12 +70,13 @@ module _ {L : Type 0} where
         let more : length (h.done ++ w ∷ []) * 2 ^ 56 ≡ length h.done * 2 ^ 56 + 2 ^ 56 = ap (λ n. n * 2 ^ 56) len ∙ omega arith in
         omega (arith, more, few, one)
 
-    through_more : (told.is_through && w.is_through) ≡ true → All (λ v. v.is_through ≡ true) (h.done ++ w ∷ [])
-    through_more e =
-        let t = both told.is_through w.is_through e in
-        All-push (λ v. v.is_through ≡ true) h.done w (h.through t.0) t.1
+    through_more : (told.ending ≡ Through) ⊎ (w.ending ≡ Through) → Any (λ v. v.ending ≡ Through) (h.done ++ w ∷ [])
+    through_more (inl before) = any_before (λ v. v.ending ≡ Through) h.done w (h.through before)
+    through_more (inr now) = Any-push (λ v. v.ending ≡ Through) h.done w now
 
-    pub one_apart : (p' : Parts L)
+    pub one_apart : (p' : Parts L) (e : Ending)
+        → (e ≢ OutOfMemory → (told.ending ≢ OutOfMemory) × (w.ending ≢ OutOfMemory))
+        → (e ≡ Through → (told.ending ≡ Through) ⊎ (w.ending ≡ Through))
         → p'.hands.cells.items ≡ p.hands.cells.items ++ hands.cells ∷ []
         → p'.hands.records.items ≡ p.hands.records.items ++ hands.records ∷ []
         → p'.hands.blocks.items ≡ p.hands.blocks.items ++ hands.blocks ∷ []
@@ -86,8 +86,8 @@ module _ {L : Type 0} where
         → p'.seats.items ≡ p.seats.items ++ hands.seat ∷ []
         → p'.drawers.items ≡ p.drawers.items ++ w.ticket ∷ []
         → p'.answered.items ≡ p.answered.items ++ w.answered ∷ []
-        → AreApart all rest p' (record { clashes = told.clashes + hands.clashes; strays = told.strays + hands.strays; is_through = told.is_through && w.is_through })
-    one_apart p' cells records blocks shelf_cells shelf_records shelf_blocks seats drawers answered = record {
+        → AreApart all rest p' (record { clashes = told.clashes + hands.clashes; strays = told.strays + hands.strays; ending = e })
+    one_apart p' e kept through cells records blocks shelf_cells shelf_records shelf_blocks seats drawers answered = record {
       done = h.done ++ w ∷ [];
       split = split_more;
       parts = record {
@@ -104,12 +104,13 @@ module _ {L : Type 0} where
       clashes = more (λ k. k.clashes) told.clashes h.clashes;
       strays = more (λ k. k.strays) told.strays h.strays;
       few = (few_all told.clashes hands.clashes h.few.0 few_more.0, few_all told.strays hands.strays h.few.1 few_more.1);
-      through = through_more;
+      kept = λ well. let both = kept well in All-push (λ v. v.ending ≢ OutOfMemory) h.done w (h.kept both.0) both.1;
+      through = λ is. through_more (through is);
       back = all_front IsBack rest w (subst (All IsBack) is h.back);
     }
 
   -- none was taken apart yet
-  pub none_apart : (all : List (Worker L)) (p : Parts L) → All IsBack all → AreNone (length all) p → AreApart all all p (record { clashes = 0; strays = 0; is_through = true })
+  pub none_apart : (all : List (Worker L)) (p : Parts L) → All IsBack all → AreNone (length all) p → AreApart all all p (record { clashes = 0; strays = 0; ending = Unstarted })
   none_apart all p back none = record {
     done = [];
     split = sym (append-nil all);
@@ -117,7 +118,8 @@ module _ {L : Type 0} where
     clashes = refl;
     strays = refl;
     few = (omega arith, omega arith);
-    through = λ e. All-nil (λ v. v.is_through ≡ true);
+    kept = λ well. All-nil (λ v. v.ending ≢ OutOfMemory);
+    through = λ is. absurd (cc);
     back = back;
   }
 
@@ -138,5 +140,8 @@ module _ {L : Type 0} where
     pub strays_of_all : told.strays ≡ sum_by strays_in all
     strays_of_all = h.strays ∙ sym (ap (sum_by strays_in) all_done ∙ sum_turned strays_in h.done)
 
-    pub through_of_all : told.is_through ≡ true → All (λ w. w.is_through ≡ true) all
-    through_of_all e = subst (All (λ w. w.is_through ≡ true)) (sym all_done) (all_turned (λ w. w.is_through ≡ true) h.done (h.through e))
+    pub kept_of_all : told.ending ≢ OutOfMemory → All (λ w. w.ending ≢ OutOfMemory) all
+    kept_of_all well = subst (All (λ w. w.ending ≢ OutOfMemory)) (sym all_done) (all_turned (λ w. w.ending ≢ OutOfMemory) h.done (h.kept well))
+
+    pub through_of_all : told.ending ≡ Through → Any (λ w. w.ending ≡ Through) all
+    through_of_all is = subst (Any (λ w. w.ending ≡ Through)) (sym all_done) (any_turned (λ w. w.ending ≡ Through) h.done (h.through is))

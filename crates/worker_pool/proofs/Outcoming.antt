@@ -13,6 +13,7 @@ use Rattle.object_cache.specs.HandView.{HandView}
 use Rattle.object_cache.specs.ShelfView.{ShelfHandView}
 use Rattle.owners_table.specs.Owning.{OwnersView, SeatView}
 use Rattle.owners_table.specs.Drawing.{TicketsView, times_drawn}
+use Rattle.worker_pool.specs.declared.ending.Ending.TheVariants.{Through}
 use Rattle.worker_pool.specs.declared.jobs.Job.{Job}
 use Rattle.worker_pool.specs.declared.jobs.Numbered.{Numbered}
 use Rattle.worker_pool.specs.declared.crew.Parts.{Parts}
@@ -104,7 +105,7 @@ even_shelf : (hands : List ShelfHandView) (t : ShelfTotals) → IsShelfTotal han
 even_shelf hands t told = record { balance = told.balance; one = told.one }
 
 module _ {L : Type 0} (programs : List Subject) (jobs : List Job) (o : OwnersView) (t : TicketsView) (seats : List SeatView) (p : Parts L) (done : Done)
-    (through : done.is_through ≡ true) (s : AreServed programs jobs o t seats p done) where
+    (through : done.ending ≡ Through) (s : AreServed programs jobs o t seats p done) where
   inside : All (All (λ n. n.job < length jobs)) (reports_of p)
   inside = answered_inside programs jobs (reports_of p) s.good
 

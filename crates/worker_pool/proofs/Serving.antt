@@ -1,11 +1,12 @@
 -- What is left of the workers together, from what each did.
-use Rattle.std.proofs.Common.{◌≡◌, ◌<◌, ◌+◌, ℕ, true, All, List, length, map, reverse, slice_index_or, sym, ap, subst, ◌∙◌, arith}
+use Rattle.std.proofs.Common.{◌≡◌, ◌≢◌, ◌<◌, ◌+◌, ℕ, true, All, Any, List, length, map, reverse, slice_index_or, sym, ap, subst, ◌∙◌, arith}
 use Rattle.std.specs.Prelude.{sum_by}
 use Rattle.ebpf_verify.specs.Subject.{Subject}
 use Rattle.object_cache.specs.HandView.{HandView}
 use Rattle.object_cache.specs.ShelfView.{ShelfHandView}
 use Rattle.owners_table.specs.Owning.{OwnersView, SeatView}
 use Rattle.owners_table.specs.Drawing.{TicketsView, IsOf, times}
+use Rattle.worker_pool.specs.declared.ending.Ending.TheVariants.{Through, OutOfMemory}
 use Rattle.worker_pool.specs.declared.jobs.Job.{Job}
 use Rattle.worker_pool.specs.declared.jobs.Numbered.{Numbered}
 use Rattle.worker_pool.specs.declared.worker.Worker.{Worker}
@@ -17,9 +18,9 @@ use Rattle.worker_pool.specs.Crews.{ArePartsOf, IsBack, hands_or, hands_of, seat
 use Rattle.worker_pool.specs.Outcomes.{IsIdle}
 use Rattle.worker_pool.specs.Places.{times_in}
 use Rattle.worker_pool.specs.Serving.{AreServed, all_allocs, all_nulls, all_gets, reports_of}
-use Rattle.worker_pool.specs.Working.{IsEven, IsFresh, IsDone, Answers, granted_by, refused_by, fetched_by}
-use Rattle.worker_pool.proofs.Turned.{sum_turned, sum_mapped, all_mapped, as_many}
-use Rattle.worker_pool.proofs.Shares.{sum_same, three_sums, sum_two, sum_two_less, sum_even, sum_grown, all_by_index, any_of_all, part_sum, part_all, part_len, drawn_reported}
+use Rattle.worker_pool.specs.Working.{IsEven, IsFresh, IsDone, Answers, HasDrawn, granted_by, refused_by, fetched_by}
+use Rattle.worker_pool.proofs.Turned.{sum_turned, sum_mapped, all_mapped, any_also, as_many}
+use Rattle.worker_pool.proofs.Shares.{sum_same, three_sums, sum_two, sum_two_less, sum_even, sum_grown, all_by_index, part_sum, part_all, part_any, part_len, drawn_by, passed_by, through_not_out}
 
 module _ {L : Type 0} (programs : List Subject) (jobs : List Job) (o : OwnersView) (t : TicketsView) where
   abbrev allocs_in : Worker L → ℕ
@@ -55,10 +56,16 @@ module _ {L : Type 0} (programs : List Subject) (jobs : List Job) (o : OwnersVie
     pub idle : IsIdle o (seat_in w)
     pub ticket : IsOf t w.ticket
     pub good : All (Answers programs jobs) w.answered.items
-    pub drawn : w.is_through ≡ true → (w.ticket.passed ≡ true) × ((x : ℕ) → x < length jobs → times x w.ticket.drawn ≡ times_in x w.answered.items)
+    pub drawn : HasDrawn jobs w.ticket w.answered.items w.ending
     pub granted : allocs_in w ≡ granted_in w + clashes_in w
     pub refused : nulls_in w + clashes_in w ≡ refused_in w
     pub fetched : gets_in w ≡ fetched_in w + strays_in w
+
+  share_drawn : (w : Worker L) → IsShare w → w.ending ≢ OutOfMemory → (x : ℕ) → x < length jobs → times x w.ticket.drawn ≡ times_in x w.answered.items
+  share_drawn w s = drawn_by jobs w.ticket w.answered.items w.ending s.drawn
+
+  share_passed : (w : Worker L) → IsShare w → w.ending ≡ Through → w.ticket.passed ≡ true
+  share_passed w s = passed_by jobs w.ticket w.answered.items w.ending s.drawn
 
   module _ (before after : Worker L) (f : IsFresh o t before) (d : IsDone programs jobs t before after) where
     now_has : hands_of after ≡ d.new
@@ -79,7 +86,7 @@ module _ {L : Type 0} (programs : List Subject) (jobs : List Job) (o : OwnersVie
       };
       ticket = d.served.tickets;
       good = d.served.good;
-      drawn = λ e. let told = d.served.drawn e in (told.0, λ x below. drawn_reported x told.1 after.ticket.drawn after.answered.items told.3 (omega (arith, below, told.2)));
+      drawn = d.served.drawn;
       granted =
           let a = ap (λ (h : Hands L). h.cells.allocs + h.records.allocs + h.blocks.allocs) now_has in
           let k = ap (λ (h : Hands L). h.clashes) now_has in
@@ -135,8 +142,9 @@ module _ {L : Type 0} (programs : List Subject) (jobs : List Job) (o : OwnersVie
     all_lost : sum_by lost_in news ≡ sum_by lost_in olds + sum_by clashes_in news
     all_lost = sum_grown lost_in clashes_in olds news len (λ i d l. lost_grew (slice_index_or olds i d) (slice_index_or news i d) (fresh i d l) (done_each i d l))
 
-    module _ (seats : List SeatView) (p : Parts L) (done : Done) (some : 0 < length olds) (seats_are : map seat_in olds ≡ reverse seats)
-        (parts : ArePartsOf (reverse news) p) (clashes : done.clashes ≡ sum_by clashes_in news) (strays : done.strays ≡ sum_by strays_in news) (told : done.is_through ≡ true → All (λ w. w.is_through ≡ true) news) where
+    module _ (seats : List SeatView) (p : Parts L) (done : Done) (seats_are : map seat_in olds ≡ reverse seats)
+        (parts : ArePartsOf (reverse news) p) (clashes : done.clashes ≡ sum_by clashes_in news) (strays : done.strays ≡ sum_by strays_in news) (kept : done.ending ≢ OutOfMemory → All (λ w. w.ending ≢ OutOfMemory) news)
+        (through : done.ending ≡ Through → Any (λ w. w.ending ≡ Through) news) where
       count : length news ≡ length seats
       count = len ∙ as_many seat_in olds seats seats_are
 
@@ -218,11 +226,11 @@ module _ {L : Type 0} (programs : List Subject) (jobs : List Job) (o : OwnersVie
             (part_all (λ w. w.answered) news p.answered.items parts.answered (λ l. All (Answers programs jobs) l.items) (λ i d l. (shares i d l).good));
         drawers_all = part_len (λ w. w.ticket) news p.drawers.items parts.drawers ∙ count;
         drawers = part_all (λ w. w.ticket) news p.drawers.items parts.drawers (IsOf t) (λ i d l. (shares i d l).ticket);
-        through = λ e. any_of_all (λ s. s.passed ≡ true) p.drawers.items
-            (omega (arith, some, len, part_len (λ w. w.ticket) news p.drawers.items parts.drawers))
-            (part_all (λ w. w.ticket) news p.drawers.items parts.drawers (λ s. s.passed ≡ true) (λ i d l. ((shares i d l).drawn (told e i d l)).0));
-        drawn = λ e x below.
+        through = λ is. part_any (λ w. w.ticket) news p.drawers.items parts.drawers (λ s. s.passed ≡ true)
+            (any_also (λ w. w.ending ≡ Through) (λ w. w.ticket.passed ≡ true) news (λ i d l. share_passed (slice_index_or news i d) (shares i d l)) (through is));
+        drawn = λ is x below.
+            let well : done.ending ≢ OutOfMemory = λ out. through_not_out (sym is ∙ out) in
             part_sum (λ w. w.ticket) news p.drawers.items parts.drawers (λ s. times x s.drawn)
-            ∙ sum_same (λ w. times x w.ticket.drawn) (λ w. times_in x w.answered.items) news (λ i d l. ((shares i d l).drawn (told e i d l)).1 x below)
+            ∙ sum_same (λ w. times x w.ticket.drawn) (λ w. times_in x w.answered.items) news (λ i d l. share_drawn (slice_index_or news i d) (shares i d l) (kept well i d l) x below)
             ∙ sym (reported (times_in x));
       }

@@ -1,14 +1,17 @@
 -- What all workers did, from what each did.
-use Rattle.std.proofs.Common.{◌≡◌, ◌<◌, ◌+◌, ◌==◌, if◌then◌else◌, ℕ, suc, All, Any, List, [], ◌∷◌, ◌++◌, length, map, reverse, slice_index_or, refl, sym, ap, subst, ◌∙◌, arith}
+use Rattle.std.proofs.Common.{◌≡◌, ◌≢◌, ◌<◌, ◌+◌, ◌==◌, if◌then◌else◌, ℕ, suc, true, All, Any, List, [], ◌∷◌, ◌++◌, length, map, reverse, slice_index_or, refl, sym, ap, subst, ◌∙◌, arith}
 use Rattle.std.specs.Prelude.{sum_by}
 use Rattle.std.proofs.lemmas.Bool.Decides.{nat_tests}
 use Rattle.std.proofs.lemmas.List.{length-map}
 use Rattle.std.proofs.lemmas.List.Sums.{sum_by-cons, sum_by_push}
-use Rattle.owners_table.specs.Drawing.{times}
+use Rattle.owners_table.specs.Drawing.{TicketView, times}
+use Rattle.worker_pool.specs.declared.ending.Ending.{Ending}
+use Rattle.worker_pool.specs.declared.ending.Ending.TheVariants.{Through, Unstarted, OutOfMemory}
+use Rattle.worker_pool.specs.declared.jobs.Job.{Job}
 use Rattle.worker_pool.specs.declared.jobs.Numbered.{Numbered}
 use Rattle.worker_pool.specs.Places.{times_in}
-use Rattle.worker_pool.specs.Working.{number_of}
-use Rattle.worker_pool.proofs.Turned.{sum_turned, length_turned, all_turned, sum_mapped, all_mapped}
+use Rattle.worker_pool.specs.Working.{HasDrawn, number_of}
+use Rattle.worker_pool.proofs.Turned.{sum_turned, length_turned, all_turned, any_turned, sum_mapped, all_mapped, any_mapped}
 
 -- ---- sums over one list
 
@@ -59,10 +62,6 @@ module _ {X : Type 0} where
   pub all_by_index : (P : X → Type 0) (olds news : List X) → length news ≡ length olds → ((i : ℕ) (d : X) → i < length olds → P (slice_index_or news i d)) → All P news
   all_by_index P olds news len h i d l = h i d (omega (arith, l, len))
 
-  pub any_of_all : (P : X → Type 0) (xs : List X) → 0 < length xs → All P xs → Any P xs
-  any_of_all P [] some h = absurd (omega (arith, some))
-  any_of_all P (x ∷ xs) some h = (0, x, some, refl, h 0 x some)
-
 -- ---- parts of workers, which lie the last one first
 
 module _ {X Y : Type 0} (f : X → Y) (ws : List X) (items : List Y) (are : items ≡ map f (reverse ws)) where
@@ -71,6 +70,9 @@ module _ {X Y : Type 0} (f : X → Y) (ws : List X) (items : List Y) (are : item
 
   pub part_all : (P : Y → Type 0) → All (λ w. P (f w)) ws → All P items
   part_all P each = subst (All P) (sym are) (all_mapped P f (reverse ws) (all_turned (λ w. P (f w)) ws each))
+
+  pub part_any : (P : Y → Type 0) → Any (λ w. P (f w)) ws → Any P items
+  part_any P one = subst (Any P) (sym are) (any_mapped P f (reverse ws) (any_turned (λ w. P (f w)) ws one))
 
   pub part_len : length items ≡ length ws
   part_len = ap length are ∙ length-map (reverse ws) f ∙ length_turned ws
@@ -81,9 +83,24 @@ abbrev pub one_if : ℕ → ℕ → ℕ
 one_if y x = if y == x then 1 else 0
 
 -- each number that was drawn and is below the limit has a report
-pub drawn_reported : (x n : ℕ) (drawn : List ℕ) (ns : List Numbered) → drawn ≡ map number_of ns ++ n ∷ [] → x < n → times x drawn ≡ times_in x ns
+drawn_reported : (x n : ℕ) (drawn : List ℕ) (ns : List Numbered) → drawn ≡ map number_of ns ++ n ∷ [] → x < n → times x drawn ≡ times_in x ns
 drawn_reported x n drawn ns are below =
     let last : one_if n x ≡ 0 = grind (arith, nat_tests) in
     let split = ap (times x) are ∙ sum_by_push (λ (y : ℕ). one_if y x) (map number_of ns) n in
     let mapped : times x (map number_of ns) ≡ times_in x ns = sum_mapped (λ (y : ℕ). one_if y x) number_of ns in
     omega (arith, split, last, mapped)
+
+pub through_not_out : Through ≡ OutOfMemory → ⊥
+through_not_out e = cc
+
+-- of a worker that ended well
+module _ (jobs : List Job) (ticket : TicketView) (answered : List Numbered) where
+  pub drawn_by : (e : Ending) → HasDrawn jobs ticket answered e → e ≢ OutOfMemory → (x : ℕ) → x < length jobs → times x ticket.drawn ≡ times_in x answered
+  drawn_by Through h well x below = drawn_reported x h.1 ticket.drawn answered h.3 (omega (arith, below, h.2))
+  drawn_by Unstarted h well x below = ap (times x) h.0 ∙ sym (ap (times_in x) h.1)
+  drawn_by OutOfMemory h well x below = absurd (well refl)
+
+  pub passed_by : (e : Ending) → HasDrawn jobs ticket answered e → e ≡ Through → ticket.passed ≡ true
+  passed_by Through h is = h.0
+  passed_by Unstarted h is = absurd (cc)
+  passed_by OutOfMemory h is = absurd (cc)

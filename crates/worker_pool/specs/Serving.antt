@@ -5,6 +5,7 @@ use Rattle.object_cache.specs.HandView.{HandView}
 use Rattle.object_cache.specs.ShelfView.{ShelfHandView}
 use Rattle.owners_table.specs.Owning.{OwnersView, SeatView}
 use Rattle.owners_table.specs.Drawing.{TicketsView, IsOf, times_drawn}
+use Rattle.worker_pool.specs.declared.ending.Ending.TheVariants.{Through}
 use Rattle.worker_pool.specs.declared.jobs.Job.{Job}
 use Rattle.worker_pool.specs.declared.jobs.Numbered.{Numbered}
 use Rattle.worker_pool.specs.declared.crew.Parts.{Parts}
@@ -44,8 +45,8 @@ module _ {L : Type 0} where
   abbrev pub reports_of : Parts L → List (List Numbered)
   reports_of p = map (λ l. l.items) p.answered.items
 
-  -- What is left of workers that had these seats. Where all are through, each number below the limit was drawn as often as there
-  -- are reports of that job.
+  -- What is left of workers that had these seats. Where they are through together, one was told that there are no more jobs, and each
+  -- number below the limit was drawn as often as there are reports of that job.
   pub record AreServed (programs : List Subject) (jobs : List Job) (o : OwnersView) (t : TicketsView) (seats : List SeatView) (p : Parts L) (done : Done) : Type 0 where
     pub cells : AreEven (length seats) p.hands.cells.items p.shelf_hands.cells.items
     pub records : AreEven (length seats) p.hands.records.items p.shelf_hands.records.items
@@ -62,5 +63,5 @@ module _ {L : Type 0} where
     pub good : All (All (Answers programs jobs)) (reports_of p)
     pub drawers_all : length p.drawers.items ≡ length seats
     pub drawers : All (IsOf t) p.drawers.items
-    pub through : done.is_through ≡ true → Any (λ s. s.passed ≡ true) p.drawers.items
-    pub drawn : done.is_through ≡ true → (x : ℕ) → x < length jobs → times_drawn x p.drawers.items ≡ sum_by (times_in x) (reports_of p)
+    pub through : done.ending ≡ Through → Any (λ s. s.passed ≡ true) p.drawers.items
+    pub drawn : done.ending ≡ Through → (x : ℕ) → x < length jobs → times_drawn x p.drawers.items ≡ sum_by (times_in x) (reports_of p)

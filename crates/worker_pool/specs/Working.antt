@@ -1,10 +1,12 @@
 -- What workers are given, and what they have done.
-use Rattle.std.specs.Prelude.{◌≡◌, ◌<◌, ◌≤◌, ◌+◌, ◌^◌, ℕ, Bool, true, false, List, [], ◌∷◌, ◌++◌, length, map, All, sum_by, slice_get, Some}
+use Rattle.std.specs.Prelude.{◌≡◌, ◌<◌, ◌≤◌, ◌+◌, ◌^◌, ℕ, ⊤, true, false, List, [], ◌∷◌, ◌++◌, length, map, All, sum_by, slice_get, Some}
 use Rattle.ebpf_verify.specs.Subject.{Subject}
 use Rattle.object_cache.specs.HandView.{HandView, fresh}
 use Rattle.object_cache.specs.ShelfView.{ShelfHandView, new_hand}
 use Rattle.owners_table.specs.Owning.{OwnersView}
 use Rattle.owners_table.specs.Drawing.{TicketsView, TicketView, IsOf}
+use Rattle.worker_pool.specs.declared.ending.Ending.{Ending}
+use Rattle.worker_pool.specs.declared.ending.Ending.TheVariants.{Through, Unstarted, OutOfMemory}
 use Rattle.worker_pool.specs.declared.jobs.Job.{Job}
 use Rattle.worker_pool.specs.declared.jobs.Numbered.{Numbered}
 use Rattle.worker_pool.specs.declared.worker.Worker.{Worker}
@@ -44,6 +46,13 @@ fetched_by ns = sum_by (λ n. fetched n.report.answers) ns
 abbrev pub number_of : Numbered → ℕ
 number_of n = n.job
 
+-- What a worker drew, by how it ended. Through: the numbers of the jobs that it answered, and a last one that no job has. Unstarted:
+-- none, and it answered no job. Nothing is said where memory ran out.
+abbrev pub HasDrawn : List Job → TicketView → List Numbered → Ending → Type 0
+HasDrawn jobs ticket answered Through = (ticket.passed ≡ true) × (n : ℕ) × (length jobs ≤ n) × (ticket.drawn ≡ map number_of answered ++ n ∷ [])
+HasDrawn jobs ticket answered Unstarted = (ticket.drawn ≡ []) × (answered ≡ [])
+HasDrawn jobs ticket answered OutOfMemory = ⊤
+
 module _ {L : Type 0} where
   -- nothing was taken, and the seat holds nothing
   pub record IsUnused (o : OwnersView) (h : Hands L) : Type 0 where
@@ -67,7 +76,7 @@ module _ {L : Type 0} where
     pub answered : w.answered.items ≡ []
 
   -- what a worker did with its hands, its seat and its ticket
-  pub record IsServed (programs : List Subject) (jobs : List Job) (t : TicketsView) (before after : Hands L) (ticket : TicketView) (answered : List Numbered) (is_through : Bool) : Type 0 where
+  pub record IsServed (programs : List Subject) (jobs : List Job) (t : TicketsView) (before after : Hands L) (ticket : TicketView) (answered : List Numbered) (ending : Ending) : Type 0 where
     pub even : IsEven after.cells after.records after.blocks after.shelf_cells after.shelf_records after.shelf_blocks
     pub table : after.seat.table ≡ before.seat.table
     pub held : after.seat.held ≡ []
@@ -77,7 +86,7 @@ module _ {L : Type 0} where
     pub lost : lost after.seat.notes ≡ lost before.seat.notes + after.clashes
     pub tickets : IsOf t ticket
     pub good : All (Answers programs jobs) answered
-    pub drawn : is_through ≡ true → (ticket.passed ≡ true) × (n : ℕ) × (length jobs ≤ n) × (ticket.drawn ≡ map number_of answered ++ n ∷ [])
+    pub drawn : HasDrawn jobs ticket answered ending
     pub granted : after.cells.allocs + after.records.allocs + after.blocks.allocs ≡ granted_by answered + after.clashes
     pub refused : after.cells.nulls + after.records.nulls + after.blocks.nulls + after.clashes ≡ refused_by answered
     pub fetched : after.shelf_cells.gets + after.shelf_records.gets + after.shelf_blocks.gets ≡ fetched_by answered + after.strays
@@ -88,4 +97,4 @@ module _ {L : Type 0} where
     pub new : Hands L
     pub old_are : before.hands ≡ Some old
     pub new_are : after.hands ≡ Some new
-    pub served : IsServed programs jobs t old new after.ticket after.answered.items after.is_through
+    pub served : IsServed programs jobs t old new after.ticket after.answered.items after.ending

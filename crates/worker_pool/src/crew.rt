@@ -1,10 +1,12 @@
 //! What workers are made of, and what is left of them.
 
-ghost use Rattle.std.specs.Prelude.{◌≡◌, ◌≤◌, ◌<◌, [], ◌∷◌, ◌++◌, true, All, reverse, map, sum_by, length, vec_capacity};
+ghost use Rattle.std.specs.Prelude.{◌≡◌, ◌≢◌, ◌≤◌, ◌<◌, [], ◌∷◌, ◌++◌, All, Any, reverse, map, sum_by, length, vec_capacity};
 ghost use Rattle.worker_pool.specs.Crews.{AreFresh, AreNone, IsBack, ArePartsOf, seat_in, clashes_in, strays_in};
 ghost use Rattle.worker_pool.specs.Working.{IsFresh};
+ghost use Rattle.worker_pool.specs.declared.ending.Ending.TheVariants.{Through, OutOfMemory};
 
 use crate::caches::{FreeHands, FreeShelfHands};
+use crate::ending::Ending;
 use crate::gate::Gate;
 use crate::hands::Hands;
 use crate::jobs::Numbered;
@@ -31,8 +33,8 @@ pub(crate) struct Done {
     pub(crate) clashes: u64,
     /// How many objects that came off a shelf went back since the table had their slots as another's.
     pub(crate) strays: u64,
-    /// Whether all were told that there are no more jobs; else memory ran out.
-    pub(crate) is_through: bool,
+    /// How they ended together.
+    pub(crate) ending: Ending,
 }
 
 /// Makes workers of the parts, which are none then.
@@ -63,7 +65,7 @@ pub(crate) fn recruit<'a, L: Names, G: Gate + 'a, R: Wait + 'a>(
             }),
             ticket: parts.drawers.take_last(),
             answered: parts.answered.take_last(),
-            is_through: false,
+            ending: Ending::Unstarted,
         });
     }
 }
@@ -77,19 +79,20 @@ pub(crate) fn dismiss<L: Names>(workers: &mut Vec<Worker<L>>, parts: &mut Parts<
     ensures parts { ArePartsOf (reverse workers.old.items) parts.new }
     ensures clashes { result.clashes ≡ sum_by clashes_in workers.old.items }
     ensures strays { result.strays ≡ sum_by strays_in workers.old.items }
-    ensures through { result.is_through ≡ true → All (λ w. w.is_through ≡ true) workers.old.items }
+    ensures kept { result.ending ≢ OutOfMemory → All (λ w. w.ending ≢ OutOfMemory) workers.old.items }
+    ensures through { result.ending ≡ Through → Any (λ w. w.ending ≡ Through) workers.old.items }
 {
     let mut done = Done {
         clashes: 0,
         strays: 0,
-        is_through: true,
+        ending: Ending::Unstarted,
     };
     for _worker in 0..workers.len() {
         let Worker {
             hands,
             ticket,
             answered,
-            is_through,
+            ending,
         } = workers.take_last();
         let Some(
             Hands {
@@ -118,7 +121,7 @@ pub(crate) fn dismiss<L: Names>(workers: &mut Vec<Worker<L>>, parts: &mut Parts<
         parts.answered.push_reserved(answered);
         done.clashes += clashes;
         done.strays += strays;
-        done.is_through &= is_through;
+        done.ending = done.ending.with(ending);
     }
     done
 }

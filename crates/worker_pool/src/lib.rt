@@ -18,7 +18,7 @@
 //! ebpf_machine, so whatever is proved of a run over some store holds over this one; and each number is drawn once.
 //!
 //! To be read in this order: `before`, `client`, `ledgers`, `stock`, `hands`, `store`, `jobs`, `gate`, `handed`, `caches`,
-//! `shared`, `worker`, `team`, `outcome`, `fault`, `admission`, `room`, `plant`, `crew`, `clearing`, `place`, `pool`.
+//! `shared`, `ending`, `worker`, `team`, `outcome`, `fault`, `admission`, `room`, `plant`, `crew`, `clearing`, `place`, `pool`.
 #![tactic(auto)]
 
 mod admission;
@@ -28,6 +28,7 @@ mod clearing;
 mod client;
 mod count;
 mod crew;
+mod ending;
 mod fault;
 mod gate;
 mod handed;

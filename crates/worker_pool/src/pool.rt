@@ -21,6 +21,7 @@ use crate::admission::pool_fault;
 use crate::caches::{Blanks, Opened};
 use crate::clearing::Clearing;
 use crate::crew::{Done, Parts, dismiss, recruit};
+use crate::ending::Ending;
 use crate::fault::PoolFault;
 use crate::gate::Gate;
 use crate::handed::KindBlanks;
@@ -41,8 +42,8 @@ use std::thread::Threads;
 /// Does each job once, by a worker a seat, with the reaper beside them, and gives the seats back.
 ///
 /// Which worker does a job is open, and which calls of `new` are answered null where objects run out. The gate is told how far
-/// each job and the reaper are. A worker that can't be started leaves its jobs to the others, or to the calling thread; a
-/// reaper that can't be started makes its passes when the jobs are done.
+/// each job and the reaper are. A worker that can't be started leaves its jobs to the others, or to the calling thread, and so does
+/// one that finds no memory to begin with; a reaper that can't be started makes its passes when the jobs are done.
 ///
 /// # Errors
 /// The faults of [`PoolFault`], in its order.
@@ -159,7 +160,7 @@ fn run_in<L: Names + Send + Sync, G: Gate + Sync, R: Threads + Wait + Sync>(
     let shelves = clearing.clear(shelves, shelf_hands, &mut hands, &mut seats);
     let totals = caches.close(rt, &room.arena, hands);
     room.tickets.close(drawers);
-    if !done.is_through {
+    if !matches!(done.ending, Ending::Through) {
         return (seats, Err(AllocError));
     }
     count_all(&answered, &mut room.jobs_done);

@@ -1,7 +1,8 @@
 //! A worker.
 //!
 //! *The idea.* A worker draws the number of a job, runs the job's program over its own store, keeps the report under that number,
-//! and draws again, until it is told that there are no more numbers.
+//! and draws again, until it is told that there are no more numbers. One that finds no memory to begin with draws none, and leaves all
+//! jobs to the others.
 //!
 //! *The invariant.* The numbers that it drew are those of the reports that it keeps, in order. Each report is that of its job's
 //! program alone, with the answers that it reports. Of each kind its hands gave back or left on the shelf all that they took or got
@@ -10,17 +11,18 @@
 //! *The reason.* A run over whatever store leaves as many objects of each kind out as there were, and its report's answers are
 //! what the store counts. Each number is drawn once, over all workers; so each job has one report.
 
-ghost use Rattle.std.specs.Prelude.{◌≡◌, ◌≤◌, ◌<◌, ◌+◌, ◌++◌, ◌∷◌, [], ℕ, All, length, map, true, false, vec_len, vec_capacity, IfOk, OnOk, OnErr};
+ghost use Rattle.std.specs.Prelude.{◌≡◌, ◌≤◌, ◌<◌, ◌+◌, ◌++◌, ◌∷◌, [], ℕ, All, length, false, vec_len, vec_capacity, IfOk, OnOk, OnErr};
 ghost use Rattle.owners_table.specs.Drawing.{IsOf};
 ghost use Rattle.ebpf_machine.specs.Whole.{granted, refused, fetched};
 ghost use Rattle.worker_pool.specs.declared.outcome.TheConstants.{MAX_JOBS};
 ghost use Rattle.worker_pool.specs.Claims.{lost};
 ghost use Rattle.worker_pool.specs.Counts.{grants_of, nulls_of, gets_of};
 ghost use Rattle.ebpf_machine.specs.Kinds.{AreKnown};
-ghost use Rattle.worker_pool.specs.Working.{IsFresh, IsUnused, IsEven, IsDone, IsServed, CanRun, Answers, granted_by, refused_by, fetched_by, number_of};
+ghost use Rattle.worker_pool.specs.Working.{IsFresh, IsUnused, IsEven, IsDone, IsServed, CanRun, Answers, HasDrawn, granted_by, refused_by, fetched_by};
 
 use crate::before::Before;
 use crate::client::Client;
+use crate::ending::Ending;
 use crate::gate::{Gate, Point};
 use crate::hands::Hands;
 use crate::jobs::Numbered;
@@ -42,8 +44,8 @@ pub(crate) struct Worker<L: Names> {
     pub(crate) hands: Option<Hands<L>>,
     pub(crate) ticket: TicketSeat,
     pub(crate) answered: Vec<Numbered>,
-    /// Whether it was told that there are no more jobs; else memory ran out.
-    pub(crate) is_through: bool,
+    /// How it ended; before it works, `Unstarted`.
+    pub(crate) ending: Ending,
 }
 
 /// Does jobs until there are no more, or memory runs out.
@@ -62,14 +64,14 @@ pub(crate) fn work<'a, L: Names, G: Gate + 'a, R: Wait + 'a>(
     };
     // What a job writes to lies with the thread, not beside what another worker writes to.
     let mut answered = mem::replace(&mut worker.answered, Vec::new(shared.alloc));
-    let (left, is_through) = work_with::<L, Brand, G, R>(
+    let (left, ending) = work_with::<L, Brand, G, R>(
         shared,
         hands,
         &mut worker.ticket,
         &mut answered,
     );
     worker.answered = answered;
-    worker.is_through = is_through;
+    worker.ending = ending;
     match worker.hands.replace(left) {
         Some(_) => unreachable!(),
         None => {}
@@ -82,7 +84,7 @@ fn work_with<'a, L: Names, N: Before + 'a, G: Gate + 'a, R: Wait + 'a>(
     hands: Hands<L>,
     ticket: &mut TicketSeat,
     answered: &mut Vec<Numbered>,
-) -> (Hands<L>, bool)
+) -> (Hands<L>, Ending)
     requires known { AreKnown shared.now.programs.now }
     requires can { All (CanRun shared.now.programs.now) shared.now.jobs.now }
     requires few { length shared.now.jobs.now ≤ MAX_JOBS }
@@ -109,17 +111,17 @@ fn work_with<'a, L: Names, N: Before + 'a, G: Gate + 'a, R: Wait + 'a>(
     let records = Stock::new(&caches.records, records, &shelves.records, shelf_records);
     let blocks = Stock::new(&caches.blocks, blocks, &shelves.blocks, shelf_blocks);
     let mut store: Store<'a, L, N, R> = Store::new(client, cells, records, blocks);
-    let is_through = serve(shared, &mut store, ticket, answered);
-    (store.end(), is_through)
+    let ending = serve(shared, &mut store, ticket, answered);
+    (store.end(), ending)
 }
 
-// Draws tickets and does their jobs. False where memory ran out.
+// Draws tickets and does their jobs.
 fn serve<'a, L: Names, N: Before + 'a, G: Gate + 'a, R: Wait + 'a>(
     shared: &Shared<'a, L, G, R>,
     store: &mut Store<'a, L, N, R>,
     ticket: &mut TicketSeat,
     answered: &mut Vec<Numbered>,
-) -> bool
+) -> Ending
     requires known { AreKnown shared.now.programs.now }
     requires can { All (CanRun shared.now.programs.now) shared.now.jobs.now }
     requires few { length shared.now.jobs.now ≤ MAX_JOBS }
@@ -129,8 +131,7 @@ fn serve<'a, L: Names, N: Before + 'a, G: Gate + 'a, R: Wait + 'a>(
     ensures even { IsEven store.new.cells.hand store.new.records.hand store.new.blocks.hand store.new.cells.shelf_hand store.new.records.shelf_hand store.new.blocks.shelf_hand }
     ensures table { IsOf shared.now.tickets.now ticket.new }
     ensures good { All (Answers shared.now.programs.now shared.now.jobs.now) answered.new.items }
-    ensures drawn { result ≡ true → (ticket.new.passed ≡ true) × (n : ℕ) × (length shared.now.jobs.now ≤ n) ×
-        (ticket.new.drawn ≡ map number_of answered.new.items ++ n ∷ []) }
+    ensures drawn { HasDrawn shared.now.jobs.now ticket.new answered.new.items result }
     ensures granted { grants_of store.new.cells.hand store.new.records.hand store.new.blocks.hand store.new.client.clashes ≡
         grants_of store.old.cells.hand store.old.records.hand store.old.blocks.hand store.old.client.clashes + granted_by answered.new.items }
     ensures refused { nulls_of store.new.cells.hand store.new.records.hand store.new.blocks.hand store.new.client.clashes ≡
@@ -139,15 +140,15 @@ fn serve<'a, L: Names, N: Before + 'a, G: Gate + 'a, R: Wait + 'a>(
         gets_of store.old.cells.shelf_hand store.old.records.shelf_hand store.old.blocks.shelf_hand store.old.client.strays + fetched_by answered.new.items }
 {
     let Ok(mut workspace) = Workspace::new(shared.alloc) else {
-        return false;
+        return Ending::Unstarted;
     };
     for _ in shared.rt.forever() {
         let Some(number) = shared.tickets.draw(ticket) else {
             workspace.free();
-            return true;
+            return Ending::Through;
         };
         let Ok(left) = answer(shared, number, store, answered, workspace) else {
-            return false;
+            return Ending::OutOfMemory;
         };
         workspace = left;
     }

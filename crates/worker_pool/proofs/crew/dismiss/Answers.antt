@@ -1,7 +1,7 @@
 use Rattle.std.proofs.Common.{rules, ◌≡◌, ◌≤◌, ◌<◌, ◌+◌, ◌*◌, ◌^◌, ℕ, List, [], ◌∷◌, ◌++◌, length, length-append, map, ap, ◌∙◌, arith}
 use Rattle.std.proofs.lemmas.List.{nil_from_length, length-map}
 use Rattle.worker_pool.proofs.Recruiting.{at_most}
-use Rattle.worker_pool.proofs.Dismissing.{last_back, few_more, one_apart, none_apart, done_are, parts_of_all, clashes_of_all, strays_of_all, through_of_all}
+use Rattle.worker_pool.proofs.Dismissing.{last_back, few_more, one_apart, none_apart, done_are, parts_of_all, clashes_of_all, strays_of_all, kept_of_all, through_of_all}
 use Rattle.worker_pool.proofs.crew.dismiss.Goals as goal
 
 -- what is parted from the workers so far leaves room for one worker's more
@@ -47,7 +47,7 @@ pub loop-worker-preserved : goal.loop-worker-preserved
 loop-worker-preserved g c =
     let i = c.loop-worker.invariant in
     let n = length c.args.workers.now.items in record {
-      apart = one_apart _ _ _ c.take_last-hands.result c.in-Some.field-0 _ _ c.take_last-hands.ensures.items c.in-Some.is i.apart _
+      apart = one_apart _ _ _ c.take_last-hands.result c.in-Some.field-0 _ _ c.take_last-hands.ensures.items c.in-Some.is i.apart _ _ c.with-done.ensures.kept c.with-done.ensures.through
           c.push_reserved.ensures.items c.push_reserved-in-loop-worker.ensures.items c.push_reserved-in-loop-worker-2.ensures.items c.push_reserved-in-loop-worker-3.ensures.items c.push_reserved-in-loop-worker-4.ensures.items
           c.push_reserved-in-loop-worker-5.ensures.items c.push_reserved-in-loop-worker-6.ensures.items c.push_reserved-in-loop-worker-7.ensures.items c.push_reserved-in-loop-worker-8.ensures.items;
       room = record {
@@ -84,6 +84,13 @@ returns-clause-strays g c =
     let zero : length c.loop-worker.workers.items ≡ 0 = search rules in
     let none = nil_from_length c.loop-worker.workers.items zero in
     strays_of_all _ _ _ _ none i.apart
+
+pub returns-clause-kept : goal.returns-clause-kept
+returns-clause-kept g c =
+    let i = c.loop-worker.invariant in
+    let zero : length c.loop-worker.workers.items ≡ 0 = search rules in
+    let none = nil_from_length c.loop-worker.workers.items zero in
+    kept_of_all _ _ _ _ none i.apart
 
 pub returns-clause-through : goal.returns-clause-through
 returns-clause-through g c =

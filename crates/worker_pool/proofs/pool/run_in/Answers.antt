@@ -1,5 +1,6 @@
-use Rattle.std.proofs.Common.{rules, ◌≡◌, ◌<◌, ℕ, All, true, length, map, vec_len, refl, sym, ap, ◌∙◌, subst, arith}
+use Rattle.std.proofs.Common.{rules, ◌≡◌, ◌<◌, ℕ, All, length, map, vec_len, refl, sym, ap, ◌∙◌, subst, arith}
 use Rattle.owners_table.specs.Drawing.{NeverWraps}
+use Rattle.worker_pool.specs.declared.ending.Ending.TheVariants.{Through}
 use Rattle.worker_pool.specs.declared.jobs.Numbered.{Numbered}
 use Rattle.worker_pool.specs.declared.outcome.Outcome.{Outcome}
 use Rattle.worker_pool.specs.Outcomes.{IsOutcome}
@@ -57,7 +58,7 @@ place_all-requires-clause-once g c =
     let a = admitted _ _ _ c.requires.fine in
     let few = a.few in
     let few_jobs = a.few_jobs in
-    let through : c.serve_all-done.result.is_through ≡ true = search rules in
+    let through : c.serve_all-done.result.ending ≡ Through = search rules in
     let fits : NeverWraps c.in-Ok.plant.room.tickets.limit c.in-Ok.plant.room.tickets.seats = search rules in
     placed_once _ _ _ _ _ _ _ through c.serve_all-done.ensures.served (c.close.ensures.once fits) c.in-Ok.plant.room.reports.items c.in-Ok.ensures.reports.1
 
@@ -67,7 +68,7 @@ returns-clause-done g c =
     let few = a.few in
     let few_jobs = a.few_jobs in
     let s = c.serve_all-done.ensures.served in
-    let through : c.serve_all-done.result.is_through ≡ true = search rules in
+    let through : c.serve_all-done.result.ending ≡ Through = search rules in
     let fits : NeverWraps c.in-Ok.plant.room.tickets.limit c.in-Ok.plant.room.tickets.seats = search rules in
     let drawers = s.drawers_all in
     let all : vec_len c.serve_all-done.new.parts.drawers ≡ c.in-Ok.plant.room.tickets.seats = search rules in

@@ -5,8 +5,8 @@ use Rattle.worker_pool.proofs.worker.work_with.Goals as goal
 
 pub returns : goal.returns
 returns g c =
-    let s = c.serve-is_through.new.store in
-    let e = c.serve-is_through.ensures in
+    let s = c.serve-ending.new.store in
+    let e = c.serve-ending.ensures in
     let n = c.new-store.ensures in
     let new = c.new-store.result in
     let hands = n.hands in
