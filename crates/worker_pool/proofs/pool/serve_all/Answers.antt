@@ -1,10 +1,21 @@
 use Rattle.std.proofs.Common.{rules, ◌≡◌, ◌≢◌, All, Any, sum_by, length, map, reverse, sym, ap, subst, ◌∙◌}
 use Rattle.worker_pool.specs.declared.ending.Ending.TheVariants.{Through, OutOfMemory}
-use Rattle.worker_pool.specs.Crews.{ArePartsOf, seat_in, clashes_in, strays_in}
+use Rattle.worker_pool.specs.Crews.{ArePartsOf, IsBack, seat_in, clashes_in, strays_in}
 use Rattle.worker_pool.specs.Working.{IsFresh}
 use Rattle.worker_pool.proofs.Turned.{written_back}
-use Rattle.worker_pool.proofs.Serving.{all_served}
+use Rattle.worker_pool.proofs.Serving.{all_back, all_served}
 use Rattle.worker_pool.proofs.pool.serve_all.Goals as goal
+
+pub dismiss-requires-clause-back : goal.dismiss-requires-clause-back
+dismiss-requires-clause-back g c =
+    let olds = c.as_mut_slice.result.now in
+    let news = c.work_and_reap.new.workers in
+    let lent = c.as_mut_slice.ensures.value in
+    let fresh = subst (All (IsFresh c.args.shared.now.owners.now c.args.shared.now.tickets.now)) (sym lent) c.recruit.ensures.fresh in
+    let len : length news ≡ length olds = search rules in
+    let all : c.recruit.new.workers.len ≡ length news = search rules in
+    let back = written_back c.recruit.new.workers.len news _ all in
+    subst (All IsBack) (sym back) (all_back c.args.shared.now.programs.now c.args.shared.now.jobs.now c.args.shared.now.owners.now c.args.shared.now.tickets.now olds news len fresh c.work_and_reap.ensures)
 
 pub returns-clause-served : goal.returns-clause-served
 returns-clause-served g c =
