@@ -4,9 +4,9 @@ use Rattle.std.specs.Prelude.{All, Contains, IfNone, IfSome}
 use Rattle.ebpf_insn.specs.declared.insn.Insn.{Insn}
 use Rattle.ebpf_insn.specs.declared.insn.Insn.TheVariants as insn
 use Rattle.ebpf_insn.specs.Program.{insn_at}
-use Rattle.ebpf_verify.specs.declared.helper.Helper.{Helper}
-use Rattle.ebpf_verify.specs.declared.helper.Helper.TheVariants as helper
-use Rattle.ebpf_verify.specs.Calls.{helper_of}
+use Rattle.ebpf_operation.specs.declared.helper.Helper.{Helper}
+use Rattle.ebpf_operation.specs.declared.helper.Helper.TheVariants as helper
+use Rattle.ebpf_operation.specs.Helpers.{helper_of}
 use Rattle.ebpf_machine.specs.declared.holding.Holding.{Holding}
 use Rattle.ebpf_machine.specs.World.{image_at, Status, Going, Exited, Trapped}
 use Rattle.ebpf_machine.specs.Kinds.{known_kinds}

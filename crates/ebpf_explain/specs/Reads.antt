@@ -14,9 +14,9 @@ use Rattle.ebpf_state.specs.declared.value.Abs.TheVariants.{May}
 use Rattle.ebpf_state.specs.Abstract.{is_unset}
 use Rattle.ebpf_state.specs.StateView.{StateView}
 use Rattle.ebpf_state.specs.States.{register_of}
-use Rattle.ebpf_verify.specs.declared.helper.Helper.{Helper}
-use Rattle.ebpf_verify.specs.declared.helper.Helper.TheVariants.{New, Free, Emit, Swap}
-use Rattle.ebpf_verify.specs.Calls.{helper_of}
+use Rattle.ebpf_operation.specs.declared.helper.Helper.{Helper}
+use Rattle.ebpf_operation.specs.declared.helper.Helper.TheVariants.{New, Free, Emit, Swap}
+use Rattle.ebpf_operation.specs.Helpers.{helper_of}
 use Rattle.ebpf_explain.specs.declared.reads.Reads.{Reads}
 use Rattle.ebpf_explain.specs.declared.reads.Reads.TheVariants.{Nothing, One, Two}
 use Rattle.ebpf_explain.specs.Registers.{known_register}

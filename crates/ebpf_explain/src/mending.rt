@@ -11,7 +11,7 @@ use ebpf_state::kinds::KindRow;
 use ebpf_state::state::State;
 use ebpf_verify::decl::{Decl, MAX_CONTEXT};
 use ebpf_verify::fault::VerifyCode;
-use ebpf_verify::helper::{Helper, helper_of};
+use ebpf_operation::helper::{Helper, helper_of};
 use std::alloc::AllocError;
 
 // The bytes of the stack, from the frame pointer.

@@ -9,7 +9,7 @@ use ebpf_insn::insn::{AluOp, Insn, Source};
 use ebpf_insn::register::Reg;
 use ebpf_state::state::State;
 use ebpf_state::value::Abs;
-use ebpf_verify::helper::{Helper, helper_of};
+use ebpf_operation::helper::{Helper, helper_of};
 use std::alloc::AllocError;
 
 /// The registers that an instruction reads, in the order in which its rule tests them.

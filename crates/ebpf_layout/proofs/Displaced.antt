@@ -12,9 +12,9 @@ use Rattle.ebpf_insn.specs.Program.{slots_in}
 use Rattle.ebpf_flow.specs.Edges.{falls, displacement_of, jump_of}
 use Rattle.ebpf_state.specs.Stack.{bytes_in, place_of}
 use Rattle.ebpf_verify.specs.Operations.{is_frame_pointer}
-use Rattle.ebpf_verify.specs.declared.helper.Helper.{Helper}
-use Rattle.ebpf_verify.specs.declared.helper.Helper.TheVariants as helper
-use Rattle.ebpf_verify.specs.Calls.{helper_of}
+use Rattle.ebpf_operation.specs.declared.helper.Helper.{Helper}
+use Rattle.ebpf_operation.specs.declared.helper.Helper.TheVariants as helper
+use Rattle.ebpf_operation.specs.Helpers.{helper_of}
 use Rattle.ebpf_insn.specs.declared.insn.Width.TheVariants.{W64}
 use Rattle.ebpf_machine.specs.declared.value.Value.{Value}
 use Rattle.ebpf_machine.specs.declared.value.Value.TheVariants.{Number, Pointer}

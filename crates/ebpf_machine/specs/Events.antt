@@ -6,8 +6,8 @@ use Rattle.ebpf_insn.specs.declared.register.Reg.TheVariants.{R0, R1}
 use Rattle.ebpf_insn.specs.Program.{insn_at}
 use Rattle.ebpf_insn.specs.Faults.{first_of}
 use Rattle.ebpf_verify.specs.Subject.{Subject}
-use Rattle.ebpf_verify.specs.declared.helper.Helper.{Helper}
-use Rattle.ebpf_verify.specs.declared.helper.Helper.TheVariants as helper
+use Rattle.ebpf_operation.specs.declared.helper.Helper.{Helper}
+use Rattle.ebpf_operation.specs.declared.helper.Helper.TheVariants as helper
 use Rattle.ebpf_machine.specs.declared.value.Value.{Value}
 use Rattle.ebpf_machine.specs.declared.value.Value.TheVariants.{Number, Pointer}
 use Rattle.ebpf_machine.specs.declared.value.Base.TheVariants.{Object}

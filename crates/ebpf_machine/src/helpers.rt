@@ -3,8 +3,9 @@
 
 ghost use Rattle.std.specs.Prelude.{◌≡◌, ◌≤◌, ◌<◌, ◌+◌, ◌++◌, ◌∷◌, ℕ, ℤ, pos, max, map, Contains, List, [], length, None, Some, IfSome, slice_index_or};
 ghost use Rattle.ebpf_insn.specs.declared.program.TheConstants.{MAX_SLOTS};
-ghost use Rattle.ebpf_verify.specs.declared.helper.Helper.{Helper};
-ghost use Rattle.ebpf_machine.specs.Flows.{object_in};
+ghost use Rattle.ebpf_operation.specs.declared.helper.Helper.{Helper};
+ghost use Rattle.ebpf_machine.specs.Burst.{moved};
+ghost use Rattle.ebpf_machine.specs.Flows.{HoldsNumber, object_in};
 ghost use Rattle.ebpf_machine.specs.RunState.{Calls, IsCallThere, IsSwapThere, gone_on, emitted, holding_too, with_taken};
 ghost use Rattle.ebpf_machine.specs.Parting.{HasParted};
 ghost use Rattle.ebpf_machine.specs.Step.{IsFree};
@@ -18,13 +19,14 @@ use crate::parts::Parts;
 use crate::report::Reply;
 use crate::value::{Base, Value};
 use ebpf_insn::register::Reg;
-use ebpf_verify::helper::Helper;
+use ebpf_operation::helper::Helper;
 
-/// Does a call of a helper.
+/// Does a call of a helper, but of `emit`.
 pub(crate) fn call<O: Objects>(parts: &mut Parts<'_, O::Held>, helper: Helper, objects: &mut O)
     requires kinds { O.store.kinds ≡ kinds_of parts.old.verified.now.rows }
     requires ready { IsReady O.store (state_of parts.old) objects.old }
     requires at { Calls (state_of parts.old) helper }
+    requires another { helper ≡ Helper.Emit → ⊥ }
     requires can_give { IsFree (Some helper) → O.store.can_give objects.old }
     requires room { HasCapacity parts.old }
     ensures advanced { IsAdvanced O.store (state_of parts.old) (state_of parts.new) objects.old objects.new }
@@ -33,12 +35,24 @@ pub(crate) fn call<O: Objects>(parts: &mut Parts<'_, O::Held>, helper: Helper, o
     match helper {
         Helper::New => ask(parts, objects),
         Helper::Free => give_back(parts, objects),
-        Helper::Emit => {
-            let number = parts.registers.number(Reg::R1);
-            emit(parts, number);
-        }
+        Helper::Emit => unreachable!(),
         Helper::Swap => swap(parts, objects),
     }
+}
+
+/// Adds the number in r1 to the output, by a call at a slot. Its pc and its count are left.
+#[inline(always)]
+pub(crate) fn emit<H>(parts: &mut Parts<'_, H>, pc: usize)
+    requires called { IsCallThere (moved pc 0 (state_of parts.old)) }
+    requires found { HoldsNumber (slice_index_or parts.old.registers 1 None) }
+    requires room { HasRoomAt pc parts.old }
+    ensures state { (n : ℕ) → slice_index_or parts.old.registers 1 None ≡ Some (Value.Number n) → state_of parts.new ≡ emitted n (state_of parts.old) }
+    ensures kept { (parts.new.exit ≡ parts.old.exit) × (parts.new.executed ≡ parts.old.executed) }
+    ensures room { HasRoomAt (pc + 1) parts.new }
+{
+    let number = parts.registers.number(Reg::R1);
+    parts.output.push_reserved(number);
+    parts.registers.answer(Value::Number(0));
 }
 
 // Asks for an object of the kind in r1.
@@ -155,19 +169,6 @@ fn keep<H>(parts: &mut Parts<'_, H>, bytes: &[u8])
     let Ok(()) = parts.taken.extend_from_slice(bytes) else {
         unreachable!()
     };
-}
-
-// Adds a number to the output, and goes on behind the call.
-fn emit<H>(parts: &mut Parts<'_, H>, number: u64)
-    requires called { IsCallThere (state_of parts.old) }
-    requires few { parts.old.executed < MAX_SLOTS }
-    requires inside { parts.old.pc < MAX_SLOTS }
-    requires room { HasCapacity parts.old }
-    ensures state { state_of parts.new ≡ emitted number (state_of parts.old) }
-    ensures room { HasCapacity parts.new }
-{
-    parts.output.push_reserved(number);
-    answer(parts, Value::Number(0));
 }
 
 // Goes on behind a call, with its result.

@@ -4,14 +4,14 @@
 //! `Verified`, so no instruction of it traps and none is tested at run time. What it computes is defined in specs/ by a
 //! machine that tests every access: the world of many runs, one event of it, and a run alone in a world of its own.
 //!
-//! To be read in this order: `value`, `kinds`, `context`, `objects`, `tally`, `holding`, `number`, `stack`, `memory`, `registers`, `execute`, `operate`,
-//! `report`, `workspace`, `parts`, `helpers`, `advance`, `burst`, `run`, `whole`.
+//! To be read in this order: `value`, `kinds`, `context`, `objects`, `tally`, `holding`, `number`, `stack`, `memory`, `registers`, `arithmetic`, `operate`,
+//! `report`, `workspace`, `parts`, `overwrite`, `helpers`, `advance`, `burst`, `run`, `whole`.
 #![tactic(auto)]
 
 mod advance;
+mod arithmetic;
 mod burst;
 pub mod context;
-mod execute;
 mod helpers;
 pub mod holding;
 pub mod kinds;
@@ -19,6 +19,7 @@ mod memory;
 mod number;
 pub mod objects;
 mod operate;
+mod overwrite;
 mod parts;
 mod registers;
 pub mod report;

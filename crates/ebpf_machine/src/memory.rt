@@ -3,7 +3,7 @@
 //! Nothing is tested: where the instruction does not trap, its bytes lie in the stack, in the context, or in an object that the run
 //! holds.
 
-ghost use Rattle.std.specs.Prelude.{◌≡◌, ℕ, pos, negsuc, ◌+ℤ◌, ◌≤ℤ◌, nat_abs, true, is_ok, Ok, FitsSigned};
+ghost use Rattle.std.specs.Prelude.{◌≡◌, ℕ, ℤ, pos, negsuc, ◌+ℤ◌, ◌≤ℤ◌, nat_abs, true, is_ok, Some, Ok, FitsSigned};
 ghost use Rattle.std.specs.Int.{w64};
 ghost use Rattle.ebpf_machine.specs.Values.{Trap};
 ghost use Rattle.ebpf_machine.specs.Effect.{loaded};
@@ -81,12 +81,33 @@ fn load_object<O: Objects>(
     load_bytes(objects.bytes(&held[place].object), from, load)
 }
 
-/// Stores the low bytes of a value on the stack, at an offset from a pointer to it.
-pub(crate) fn store(stack: &mut Stack, from: i64, size: Size, offset: i16, value: Value<u16>)
+// Stores the low bytes of a value on the stack, at an offset from a pointer to it.
+fn store(stack: &mut Stack, from: i64, size: Size, offset: i16, value: Value<u16>)
     requires { is_ok (stored_from from offset size value stack.old) ≡ true }
     ensures { stored_from from offset size value stack.old ≡ Ok stack.new }
 {
     stack.store(stack_place(from, offset), size, value);
+}
+
+/// Stores a value through a pointer to the stack.
+#[inline(always)]
+pub(crate) fn store_value(
+    stack: &mut Stack,
+    address: Option<Value<u16>>,
+    size: Size,
+    offset: i16,
+    value: Option<Value<u16>>,
+)
+    requires { (k : ℤ) × (v : Value ℕ) × (address ≡ Some (Value.Pointer Base.Stack k)) × (value ≡ Some v) ×
+        (is_ok (stored_from k offset size v stack.old) ≡ true) }
+    ensures { (k : ℤ) (v : Value ℕ) → address ≡ Some (Value.Pointer Base.Stack k) → value ≡ Some v → stored_from k offset size v stack.old ≡ Ok stack.new }
+{
+    match (address, value) {
+        (Some(Value::Pointer { offset: from, .. }), Some(value)) => {
+            store(stack, from, size, offset, value);
+        }
+        _ => unreachable!(),
+    }
 }
 
 // The place in the stack at an offset from a pointer.

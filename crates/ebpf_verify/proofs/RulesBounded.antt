@@ -34,9 +34,10 @@ use Rattle.ebpf_state.specs.Stack.{loaded, stored}
 use Rattle.ebpf_verify.specs.Memory.{value_or_unset, loaded_value, state_after, after_store}
 use Rattle.ebpf_insn.specs.declared.register.Reg.TheVariants.{R0, R1, R2, R3, R4, R5}
 use Rattle.ebpf_state.specs.References.{holding, forgotten}
-use Rattle.ebpf_verify.specs.declared.helper.Helper.{Helper}
-use Rattle.ebpf_verify.specs.declared.helper.Helper.TheVariants.{New, Free, Emit, Swap}
-use Rattle.ebpf_verify.specs.Calls.{helper_of, without_arguments, with_result, without_given, after_new, after_free, after_swap, after_call}
+use Rattle.ebpf_operation.specs.declared.helper.Helper.{Helper}
+use Rattle.ebpf_operation.specs.declared.helper.Helper.TheVariants.{New, Free, Emit, Swap}
+use Rattle.ebpf_operation.specs.Helpers.{helper_of}
+use Rattle.ebpf_verify.specs.Calls.{without_arguments, with_result, without_given, after_new, after_free, after_swap, after_call}
 use Rattle.ebpf_verify.specs.Rules.{after_operation, after_fall, after_jump}
 use Rattle.ebpf_verify.proofs.Bounded.{IsBoundedValue, IsFull, IsBoundedLoad, IsFullStore, register_bounded, full_weaker, with_register-full, settled-full, forgotten-full, loaded-bounded, context_bounded, stored-full}
 

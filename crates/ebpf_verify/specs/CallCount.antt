@@ -4,9 +4,9 @@ use Rattle.ebpf_insn.specs.declared.insn.Insn.{Insn}
 use Rattle.ebpf_insn.specs.declared.insn.Insn.TheVariants.{Call}
 use Rattle.ebpf_verify.specs.declared.call_count.Counted.{Counted}
 use Rattle.ebpf_verify.specs.declared.call_count.Counted.TheVariants.{Calls, Swaps}
-use Rattle.ebpf_verify.specs.declared.helper.Helper.{Helper}
-use Rattle.ebpf_verify.specs.declared.helper.Helper.TheVariants.{Swap}
-use Rattle.ebpf_verify.specs.Calls.{helper_of}
+use Rattle.ebpf_operation.specs.declared.helper.Helper.{Helper}
+use Rattle.ebpf_operation.specs.declared.helper.Helper.TheVariants.{Swap}
+use Rattle.ebpf_operation.specs.Helpers.{helper_of}
 
 -- whether a call stands at a slot
 abbrev pub is_call_there : Option Insn → Bool

@@ -15,17 +15,9 @@ use Rattle.ebpf_state.specs.References.{holding, forgotten, kind_held}
 use Rattle.ebpf_verify.specs.declared.decl.Decl.{Decl}
 use Rattle.ebpf_verify.specs.declared.fault.VerifyCode.{VerifyCode}
 use Rattle.ebpf_verify.specs.declared.fault.VerifyCode.TheVariants.{V1, V11, V14, V15, V16}
-use Rattle.ebpf_verify.specs.declared.helper.Helper.{Helper}
-use Rattle.ebpf_verify.specs.declared.helper.Helper.TheVariants.{New, Free, Emit, Swap}
+use Rattle.ebpf_operation.specs.declared.helper.Helper.{Helper}
+use Rattle.ebpf_operation.specs.declared.helper.Helper.TheVariants.{New, Free, Emit, Swap}
 use Rattle.ebpf_verify.specs.Memory.{is_number}
-
--- the helper of a number
-abbrev pub helper_of : ℤ → Option Helper
-helper_of (pos (suc zero)) = Some New
-helper_of (pos (suc (suc zero))) = Some Free
-helper_of (pos (suc (suc (suc zero)))) = Some Emit
-helper_of (pos (suc (suc (suc (suc zero))))) = Some Swap
-helper_of _ = None
 
 -- ---- what each asks of its argument
 

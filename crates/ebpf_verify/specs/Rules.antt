@@ -25,7 +25,8 @@ use Rattle.ebpf_verify.specs.declared.fault.VerifyCode.TheVariants.{V1, V17, V18
 use Rattle.ebpf_verify.specs.Operations.{constant_refusal, unary_refusal, alu_refusal, unary_value, result_of}
 use Rattle.ebpf_verify.specs.Branches.{operand, null_test, branch_refusal, after_branch}
 use Rattle.ebpf_verify.specs.Memory.{load_refusal, loaded_value, store_refusal, after_store}
-use Rattle.ebpf_verify.specs.Calls.{helper_of, call_refusal, after_call}
+use Rattle.ebpf_operation.specs.Helpers.{helper_of}
+use Rattle.ebpf_verify.specs.Calls.{call_refusal, after_call}
 
 -- exit returns a number, with no object held
 abbrev pub exit_refusal : Abs → ℕ → Option VerifyCode

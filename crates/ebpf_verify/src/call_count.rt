@@ -1,10 +1,10 @@
 //! How many calls a program has.
 
 ghost use Rattle.std.specs.Prelude.{◌≡◌, option_copied, count_by};
-ghost use Rattle.ebpf_verify.specs.Calls.{helper_of};
+ghost use Rattle.ebpf_operation.specs.Helpers.{helper_of};
 ghost use Rattle.ebpf_verify.specs.CallCount.{is_counted, is_swap};
 
-use crate::helper::{Helper, helper_of};
+use ebpf_operation::helper::{Helper, helper_of};
 use ebpf_insn::insn::Insn;
 use ebpf_insn::program::Program;
 

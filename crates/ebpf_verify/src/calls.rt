@@ -7,12 +7,13 @@ ghost use Rattle.ebpf_range.specs.Interval.{constant};
 ghost use Rattle.ebpf_state.specs.declared.value.Abs.{Abs};
 ghost use Rattle.ebpf_state.specs.Abstract.{IsProper};
 ghost use Rattle.ebpf_state.specs.States.{register_of};
-ghost use Rattle.ebpf_verify.specs.Calls.{helper_of, new_refusal, free_refusal, emit_refusal, is_that, swap_refusal, call_refusal, with_result, after_new, after_free, after_swap, after_call};
+ghost use Rattle.ebpf_operation.specs.Helpers.{helper_of};
+ghost use Rattle.ebpf_verify.specs.Calls.{new_refusal, free_refusal, emit_refusal, is_that, swap_refusal, call_refusal, with_result, after_new, after_free, after_swap, after_call};
 ghost use Rattle.ebpf_verify.specs.Verdict.{IsSlotFault};
 
 use crate::decl::Decl;
 use crate::fault::{VerifyCode, VerifyFault, refused_at};
-use crate::helper::{Helper, helper_of};
+use ebpf_operation::helper::{Helper, helper_of};
 use ebpf_insn::register::Reg;
 use ebpf_range::range::Range;
 use ebpf_state::kinds::KindRow;

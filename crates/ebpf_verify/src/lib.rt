@@ -5,7 +5,7 @@
 //! makes a [`verified::Verified`], and no run of that program traps. [`trace::trace_verdict`] tells what the verdict stands on,
 //! and [`comers::comers_to`] what each state of that is the join of.
 //!
-//! To be read in this order: `fault`, `decl`, `pointer`, `operations`, `branches`, `memory`, `helper`, `call_count`, `calls`, `rules`, `entry`,
+//! To be read in this order: `fault`, `decl`, `pointer`, `operations`, `branches`, `memory`, `call_count`, `calls`, `rules`, `entry`,
 //! `propagate`, `verify`, `trace`, `comers`, `verified`.
 #![tactic(auto)]
 
@@ -16,7 +16,6 @@ pub mod comers;
 pub mod decl;
 pub mod entry;
 pub mod fault;
-pub mod helper;
 mod memory;
 mod operations;
 mod pointer;

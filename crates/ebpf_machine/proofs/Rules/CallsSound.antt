@@ -20,10 +20,11 @@ use Rattle.ebpf_state.specs.Ascending.{IsAscending}
 use Rattle.ebpf_state.specs.References.{holding, forgotten, kind_held}
 use Rattle.ebpf_state.specs.StateView.{StateView}
 use Rattle.ebpf_state.specs.States.{register_of}
-use Rattle.ebpf_verify.specs.declared.helper.Helper.{Helper}
-use Rattle.ebpf_verify.specs.declared.helper.Helper.TheVariants as helper
+use Rattle.ebpf_operation.specs.declared.helper.Helper.{Helper}
+use Rattle.ebpf_operation.specs.declared.helper.Helper.TheVariants as helper
 use Rattle.ebpf_verify.specs.Memory.{is_number}
-use Rattle.ebpf_verify.specs.Calls.{helper_of, names_kind, is_whole_object, constant_in, is_that, fits_shelf, swap_refusal, call_refusal, with_result, after_new, after_free, after_swap, after_call}
+use Rattle.ebpf_operation.specs.Helpers.{helper_of}
+use Rattle.ebpf_verify.specs.Calls.{names_kind, is_whole_object, constant_in, is_that, fits_shelf, swap_refusal, call_refusal, with_result, after_new, after_free, after_swap, after_call}
 use Rattle.ebpf_verify.specs.Calls as calls
 use Rattle.ebpf_verify.specs.Rules.{after_fall}
 use Rattle.ebpf_verify.specs.Entry.{entry_of}

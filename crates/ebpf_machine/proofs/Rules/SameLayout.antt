@@ -8,7 +8,7 @@ use Rattle.ebpf_insn.specs.declared.insn.Source.{Source}
 use Rattle.ebpf_state.specs.Stack as stack
 use Rattle.ebpf_verify.specs.Operations as operations
 use Rattle.ebpf_verify.specs.Branches as branches
-use Rattle.ebpf_verify.specs.Calls as calls
+use Rattle.ebpf_operation.specs.Helpers as calls
 use Rattle.ebpf_machine.specs.Layout as machine
 
 pub same_bytes : (size : Size) → stack.bytes_in size ≡ machine.bytes_in size

@@ -16,9 +16,9 @@ use Rattle.ebpf_insn.specs.Registers.{number_of}
 use Rattle.ebpf_insn.specs.Arithmetic.{kept_at, extension_at, negation_at, swap_of}
 use Rattle.ebpf_flow.specs.Edges.{jump_of}
 use Rattle.ebpf_verify.specs.Operations.{is_frame_pointer}
-use Rattle.ebpf_verify.specs.declared.helper.Helper.{Helper}
-use Rattle.ebpf_verify.specs.declared.helper.Helper.TheVariants as helper
-use Rattle.ebpf_verify.specs.Calls.{helper_of}
+use Rattle.ebpf_operation.specs.declared.helper.Helper.{Helper}
+use Rattle.ebpf_operation.specs.declared.helper.Helper.TheVariants as helper
+use Rattle.ebpf_operation.specs.Helpers.{helper_of}
 use Rattle.ebpf_machine.specs.declared.value.Value.{Value}
 use Rattle.ebpf_machine.specs.declared.value.Value.TheVariants.{Number, Pointer}
 use Rattle.ebpf_machine.specs.declared.value.Base.{Base}

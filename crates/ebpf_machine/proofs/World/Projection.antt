@@ -21,9 +21,9 @@ use Rattle.ebpf_flow.specs.Edges.{jump_of}
 use Rattle.ebpf_state.specs.Stack.{bytes_in, place_of}
 use Rattle.ebpf_verify.specs.Operations.{is_frame_pointer}
 use Rattle.ebpf_verify.specs.Branches.{compares_with_null}
-use Rattle.ebpf_verify.specs.declared.helper.Helper.{Helper}
-use Rattle.ebpf_verify.specs.declared.helper.Helper.TheVariants as helper
-use Rattle.ebpf_verify.specs.Calls.{helper_of}
+use Rattle.ebpf_operation.specs.declared.helper.Helper.{Helper}
+use Rattle.ebpf_operation.specs.declared.helper.Helper.TheVariants as helper
+use Rattle.ebpf_operation.specs.Helpers.{helper_of}
 use Rattle.ebpf_machine.specs.declared.value.Base.{Base}
 use Rattle.ebpf_machine.specs.declared.value.Base.TheVariants.{Stack, Context, Object}
 use Rattle.ebpf_machine.specs.declared.value.Value.{Value}
