@@ -5,13 +5,14 @@
 //! machine that tests every access: the world of many runs, one event of it, and a run alone in a world of its own.
 //!
 //! To be read in this order: `value`, `kinds`, `context`, `objects`, `tally`, `holding`, `number`, `stack`, `memory`, `registers`, `arithmetic`, `operate`,
-//! `report`, `workspace`, `parts`, `overwrite`, `helpers`, `advance`, `burst`, `run`, `whole`.
+//! `report`, `workspace`, `parts`, `overwrite`, `helpers`, `going`, `burst`, `advance`, `run`, `whole`.
 #![tactic(auto)]
 
 mod advance;
 mod arithmetic;
 mod burst;
 pub mod context;
+mod going;
 mod helpers;
 pub mod holding;
 pub mod kinds;

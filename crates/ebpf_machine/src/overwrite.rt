@@ -68,11 +68,7 @@ fn offset_of(value: Option<Value<u16>>) -> i64
 }
 
 // The value of a second operand.
-fn source_value(
-    registers: &Registers,
-    width: Width,
-    source: Source,
-) -> Option<Value<u16>>
+fn source_value(registers: &Registers, width: Width, source: Source) -> Option<Value<u16>>
     ensures { result ≡ source_value (frame_with registers.now [] []) width source }
 {
     match source {
