@@ -51,7 +51,9 @@ pub(crate) fn load<O: Objects>(
     }
 }
 
-fn load_stack(stack: &Stack, from: i64, load: Loaded) -> Value<u16>
+/// The value of bytes of the stack, at an offset from a pointer to it.
+#[inline(always)]
+pub(crate) fn load_stack(stack: &Stack, from: i64, load: Loaded) -> Value<u16>
     requires { IsResult (found_on_stack from load stack.now) }
     ensures { found_on_stack from load stack.now ≡ Ok result }
 {
@@ -81,32 +83,21 @@ fn load_object<O: Objects>(
     load_bytes(objects.bytes(&held[place].object), from, load)
 }
 
-// Stores the low bytes of a value on the stack, at an offset from a pointer to it.
-fn store(stack: &mut Stack, from: i64, size: Size, offset: i16, value: Value<u16>)
-    requires { is_ok (stored_from from offset size value stack.old) ≡ true }
-    ensures { stored_from from offset size value stack.old ≡ Ok stack.new }
-{
-    stack.store(stack_place(from, offset), size, value);
-}
-
-/// Stores a value through a pointer to the stack.
+/// Stores the low bytes of a value on the stack, at an offset from a pointer to it.
 #[inline(always)]
 pub(crate) fn store_value(
     stack: &mut Stack,
-    address: Option<Value<u16>>,
+    from: i64,
     size: Size,
     offset: i16,
     value: Option<Value<u16>>,
 )
-    requires { (k : ℤ) × (v : Value ℕ) × (address ≡ Some (Value.Pointer Base.Stack k)) × (value ≡ Some v) ×
-        (is_ok (stored_from k offset size v stack.old) ≡ true) }
-    ensures { (k : ℤ) (v : Value ℕ) → address ≡ Some (Value.Pointer Base.Stack k) → value ≡ Some v → stored_from k offset size v stack.old ≡ Ok stack.new }
+    requires { (v : Value ℕ) × (value ≡ Some v) × (is_ok (stored_from from offset size v stack.old) ≡ true) }
+    ensures { (v : Value ℕ) → value ≡ Some v → stored_from from offset size v stack.old ≡ Ok stack.new }
 {
-    match (address, value) {
-        (Some(Value::Pointer { offset: from, .. }), Some(value)) => {
-            store(stack, from, size, offset, value);
-        }
-        _ => unreachable!(),
+    match value {
+        Some(value) => stack.store(stack_place(from, offset), size, value),
+        None => unreachable!(),
     }
 }
 
