@@ -7,11 +7,11 @@ use crate::accesses::{Access, access_of};
 use crate::memory_faults::size_behind;
 use crate::rooms::{Ends, write_within};
 use ebpf_insn::insn::Insn;
+use ebpf_operation::helper::{Helper, helper_of};
 use ebpf_state::kinds::KindRow;
 use ebpf_state::state::State;
 use ebpf_verify::decl::{Decl, MAX_CONTEXT};
 use ebpf_verify::fault::VerifyCode;
-use ebpf_operation::helper::{Helper, helper_of};
 use std::alloc::AllocError;
 
 // The bytes of the stack, from the frame pointer.

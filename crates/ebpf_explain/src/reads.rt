@@ -7,9 +7,9 @@ ghost use Rattle.ebpf_explain.specs.Reads.{unset_or, first_unset, answer_or, fir
 use crate::registers::write_registers;
 use ebpf_insn::insn::{AluOp, Insn, Source};
 use ebpf_insn::register::Reg;
+use ebpf_operation::helper::{Helper, helper_of};
 use ebpf_state::state::State;
 use ebpf_state::value::Abs;
-use ebpf_operation::helper::{Helper, helper_of};
 use std::alloc::AllocError;
 
 /// The registers that an instruction reads, in the order in which its rule tests them.

@@ -4,9 +4,9 @@ ghost use Rattle.std.specs.Prelude.{◌≡◌, option_copied, count_by};
 ghost use Rattle.ebpf_operation.specs.Helpers.{helper_of};
 ghost use Rattle.ebpf_verify.specs.CallCount.{is_counted, is_swap};
 
-use ebpf_operation::helper::{Helper, helper_of};
 use ebpf_insn::insn::Insn;
 use ebpf_insn::program::Program;
+use ebpf_operation::helper::{Helper, helper_of};
 
 /// Which calls are counted.
 #[derive(Clone, Copy)]

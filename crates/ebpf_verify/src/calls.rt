@@ -13,8 +13,8 @@ ghost use Rattle.ebpf_verify.specs.Verdict.{IsSlotFault};
 
 use crate::decl::Decl;
 use crate::fault::{VerifyCode, VerifyFault, refused_at};
-use ebpf_operation::helper::{Helper, helper_of};
 use ebpf_insn::register::Reg;
+use ebpf_operation::helper::{Helper, helper_of};
 use ebpf_range::range::Range;
 use ebpf_state::kinds::KindRow;
 use ebpf_state::state::State;
