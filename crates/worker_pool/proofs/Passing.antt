@@ -1,12 +1,12 @@
 -- An exchange of objects, by the list of the seat.
-use Rattle.std.proofs.Common.{◌≡◌, ◌≢◌, ℕ, ◌+◌, Option, Some, None, IfSome, IfNone, List, sym, subst, arith}
+use Rattle.std.proofs.Common.{◌≡◌, ◌≢◌, ℕ, ◌+◌, Option, Some, None, IfSome, IfNone, List, length, refl, ap, sym, subst, arith}
 use Rattle.std.specs.Prelude.{option_map}
 use Rattle.object_cache.specs.ShelfView.{one_if}
 use Rattle.owners_table.specs.Owning.{Holds}
 use Rattle.worker_pool.specs.Claims.{HasPassed, less}
 use Rattle.run_object.specs.Object.{slot_of, kind_of}
 use Rattle.run_object.specs.declared.Object.{Object}
-use Rattle.worker_pool.proofs.Exchanging.{gone, held_got, held_less, held_more}
+use Rattle.worker_pool.proofs.Exchanging.{gone, held_got, held_less, held_more, less_length}
 use Rattle.worker_pool.proofs.Holding.{Once}
 
 abbrev pub slots : Option Object → Option ℕ
@@ -58,3 +58,14 @@ is_still_held given got word other held held' has p now apart =
 pub first_of : (given : Option Object) (A B : Object → Type 0) → IfSome given (λ g. A g × B g) → IfSome given A
 first_of None A B h = tt
 first_of (Some g) A B h = h.0
+
+one_slot : (given : Option Object) → one_if (slots given) ≡ one_if given
+one_slot None = refl
+one_slot (Some g) = refl
+
+-- how many are held once it was given up
+pub length_less : (given : Option Object) (K : Object → Type 0) (held held' : List (ℕ × ℕ)) → IfSome given (λ g. Holds (slot_of g) held × K g) → held' ≡ less (slots given) held
+    → length held' + one_if given ≡ length held
+length_less given K held held' has are =
+    let l = less_length (slots given) held (by_slots given (λ s. Holds s held) (first_of given (λ g. Holds (slot_of g) held) K has)) in
+    omega (arith, l, ap length are, one_slot given)

@@ -18,7 +18,7 @@ use Rattle.worker_pool.specs.Crews.{ArePartsOf, IsBack, hands_or, hands_of, seat
 use Rattle.worker_pool.specs.Outcomes.{IsIdle}
 use Rattle.worker_pool.specs.Places.{times_in}
 use Rattle.worker_pool.specs.Serving.{AreServed, all_allocs, all_nulls, all_gets, reports_of}
-use Rattle.worker_pool.specs.Working.{IsEven, IsFresh, IsDone, Answers, HasDrawn, granted_by, refused_by, fetched_by}
+use Rattle.worker_pool.specs.Working.{IsEven, all_of, IsFresh, IsDone, Answers, HasDrawn, granted_by, refused_by, fetched_by}
 use Rattle.worker_pool.proofs.Turned.{sum_turned, sum_mapped, all_mapped, any_also, as_many}
 use Rattle.worker_pool.proofs.Shares.{sum_same, three_sums, sum_two, sum_two_less, sum_even, sum_grown, all_by_index, part_sum, part_all, part_any, part_len, drawn_by, passed_by, through_not_out}
 
@@ -52,7 +52,7 @@ module _ {L : Type 0} (programs : List Subject) (jobs : List Job) (o : OwnersVie
 
   -- what a worker did, over its parts alone
   record IsShare (w : Worker L) : Type 0 where
-    pub even : IsEven (hands_of w).cells (hands_of w).records (hands_of w).blocks (hands_of w).shelf_cells (hands_of w).shelf_records (hands_of w).shelf_blocks
+    pub even : IsEven (all_of (hands_of w))
     pub idle : IsIdle o (seat_in w)
     pub ticket : IsOf t w.ticket
     pub good : All (Answers programs jobs) w.answered.items
@@ -79,7 +79,7 @@ module _ {L : Type 0} (programs : List Subject) (jobs : List Job) (o : OwnersVie
 
     is_share : IsShare after
     is_share = record {
-      even = subst (λ (h : Hands L). IsEven h.cells h.records h.blocks h.shelf_cells h.shelf_records h.shelf_blocks) (sym now_has) d.served.even;
+      even = subst (λ (h : Hands L). IsEven (all_of h)) (sym now_has) d.served.even;
       idle = record {
         table = ap (λ (h : Hands L). h.seat.table) now_has ∙ (d.served.table ∙ was_idle);
         held = ap (λ (h : Hands L). h.seat.held) now_has ∙ d.served.held;

@@ -1,5 +1,7 @@
 pub mod Claims
 pub mod Counts
+pub mod Moves
+pub mod Stocks
 pub mod Working
 pub mod Admission
 pub mod Outcomes

@@ -1,8 +1,8 @@
 -- What workers are given, and what they have done.
 use Rattle.std.specs.Prelude.{◌≡◌, ◌<◌, ◌≤◌, ◌+◌, ◌^◌, ℕ, ⊤, true, false, List, [], ◌∷◌, ◌++◌, length, map, All, sum_by, slice_get, Some}
 use Rattle.ebpf_verify.specs.Subject.{Subject}
-use Rattle.object_cache.specs.HandView.{HandView, fresh}
-use Rattle.object_cache.specs.ShelfView.{ShelfHandView, new_hand}
+use Rattle.object_cache.specs.HandView.{fresh}
+use Rattle.object_cache.specs.ShelfView.{new_hand}
 use Rattle.owners_table.specs.Owning.{OwnersView}
 use Rattle.owners_table.specs.Drawing.{TicketsView, TicketView, IsOf}
 use Rattle.worker_pool.specs.declared.ending.Ending.{Ending}
@@ -13,12 +13,13 @@ use Rattle.worker_pool.specs.declared.worker.Worker.{Worker}
 use Rattle.worker_pool.specs.declared.hands.Hands.{Hands}
 use Rattle.ebpf_machine.specs.Whole.{IsReportOf, granted, refused, fetched}
 use Rattle.worker_pool.specs.Claims.{lost}
+use Rattle.worker_pool.specs.Counts.{AllHands}
 
 -- of each kind, what the hands took from the cache and got from the shelf went back there or onto the shelf
-pub record IsEven (cells records blocks : HandView) (cell_shelf record_shelf block_shelf : ShelfHandView) : Type 0 where
-  pub cells_even : cells.frees + cell_shelf.puts ≡ cells.allocs + cell_shelf.gets
-  pub records_even : records.frees + record_shelf.puts ≡ records.allocs + record_shelf.gets
-  pub blocks_even : blocks.frees + block_shelf.puts ≡ blocks.allocs + block_shelf.gets
+pub record IsEven (h : AllHands) : Type 0 where
+  pub cells_even : h.cells.frees + h.cell_shelf.puts ≡ h.cells.allocs + h.cell_shelf.gets
+  pub records_even : h.records.frees + h.record_shelf.puts ≡ h.records.allocs + h.record_shelf.gets
+  pub blocks_even : h.blocks.frees + h.block_shelf.puts ≡ h.blocks.allocs + h.block_shelf.gets
 
 -- the job's program is there, and the context has its length
 pub record CanRun (programs : List Subject) (job : Job) : Type 0 where
@@ -54,6 +55,9 @@ HasDrawn jobs ticket answered Unstarted = (ticket.drawn ≡ []) × (answered ≡
 HasDrawn jobs ticket answered OutOfMemory = ⊤
 
 module _ {L : Type 0} where
+  abbrev pub all_of : Hands L → AllHands
+  all_of h = record { cells = h.cells; records = h.records; blocks = h.blocks; cell_shelf = h.shelf_cells; record_shelf = h.shelf_records; block_shelf = h.shelf_blocks }
+
   -- nothing was taken, and the seat holds nothing
   pub record IsUnused (o : OwnersView) (h : Hands L) : Type 0 where
     pub cells : h.cells ≡ fresh
@@ -77,7 +81,7 @@ module _ {L : Type 0} where
 
   -- what a worker did with its hands, its seat and its ticket
   pub record IsServed (programs : List Subject) (jobs : List Job) (t : TicketsView) (before after : Hands L) (ticket : TicketView) (answered : List Numbered) (ending : Ending) : Type 0 where
-    pub even : IsEven after.cells after.records after.blocks after.shelf_cells after.shelf_records after.shelf_blocks
+    pub even : IsEven (all_of after)
     pub table : after.seat.table ≡ before.seat.table
     pub held : after.seat.held ≡ []
     pub notes : length after.seat.notes ≡ length before.seat.notes + (after.cells.allocs + after.records.allocs + after.blocks.allocs)

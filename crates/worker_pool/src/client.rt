@@ -1,14 +1,10 @@
 //! The client of all caches that a worker is.
 
-ghost use Rattle.std.specs.Prelude.{◌≡◌, ◌≢◌, ◌≤◌, ◌<◌, ◌+◌, ◌^◌, ◌==◌, [], ◌∷◌, ◌++◌, ℕ, Some, None, true, false, option_map, length, count_by, IfSome};
-ghost use Rattle.owners_table.specs.Marking.{mark_word};
-ghost use Rattle.owners_table.specs.Owning.{Holds};
-ghost use Rattle.owners_table.specs.declared.mark.TheConstants.{SHELVES, WORDS_OF_A_RUN};
-ghost use Rattle.worker_pool.specs.Claims.{lost, less};
+ghost use Rattle.std.specs.Prelude.{◌≡◌, ◌≤◌, ◌+◌, ◌^◌, ◌==◌, [], ℕ, count_by};
+ghost use Rattle.worker_pool.specs.Claims.{lost};
 
 use crate::before::Before;
 use object_cache::ArenaLock;
-use owners_table::mark::Mark;
 use owners_table::owners::{OwnerSeat, Owners};
 use std::marker::PhantomData;
 use std::sync::Wait;
@@ -65,42 +61,6 @@ impl<'a, N: Before, R: Wait> Client<'a, N, R> {
             strays: 0,
             before: PhantomData,
         }
-    }
-
-    /// Gives the slot of an object up to the shelf of this number, if there is one.
-    pub(crate) fn shelve(&mut self, slot: Option<u32>, shelf: u8)
-        requires slot { IfSome slot (λ s. (s < 65536) × Holds s self.old.seat.held) }
-        requires shelf { shelf < SHELVES }
-        ensures held { self.new.seat.held ≡ less slot self.old.seat.held }
-        ensures notes { (self.new.seat.notes ≡ self.old.seat.notes) × (self.new.seat.fetches ≡ self.old.seat.fetches) }
-        ensures rest { (self.new.clashes ≡ self.old.clashes) × (self.new.strays ≡ self.old.strays) × (self.new.job ≡ self.old.job) }
-    {
-        if let Some(slot) = slot {
-            self.owners.shelve(&mut self.seat, slot, shelf);
-        }
-    }
-
-    /// Fetches the slot of an object from the shelf of this number, where the object was found, for the job and for the call at
-    /// this slot of its program. False where the table has it as another's; or where what was left there for it was in this
-    /// slot too, since then one of the two isn't what its slot says.
-    pub(crate) fn fetch(&mut self, slot: u32, shelf: u8, left: Option<u32>, at: u16) -> bool
-        requires slot { slot < 65536 }
-        requires shelf { shelf < SHELVES }
-        requires at { at < WORDS_OF_A_RUN }
-        ensures fetched { result ≡ true → (self.new.seat.held ≡ (slot, mark_word self.old.job at) ∷ self.old.seat.held) × (Holds slot self.old.seat.held → ⊥) × (left ≢ Some slot) }
-        ensures other { result ≡ false → self.new.seat.held ≡ self.old.seat.held }
-        ensures notes { (self.new.seat.notes ≡ self.old.seat.notes) × (length self.new.seat.fetches ≡ length self.old.seat.fetches + 1) }
-        ensures rest { (self.new.clashes ≡ self.old.clashes) × (self.new.strays ≡ self.old.strays) × (self.new.job ≡ self.old.job) }
-    {
-        let mark = Mark { run: self.job, at };
-        let Ok(()) = self.owners.fetch(&mut self.seat, slot, shelf, mark) else {
-            return false;
-        };
-        if left == Some(slot) {
-            self.owners.release(&mut self.seat, slot);
-            return false;
-        }
-        true
     }
 
     /// The seat, back, and how many clashes and strays there were.

@@ -4,7 +4,7 @@
 //! one at the shelf of each kind, and a seat at the table of owners. An object that a hand takes is a run's only once the seat
 //! has claimed its slot for the job. Where the table has another owner for it, the object goes back, the call is answered null,
 //! and the clash is counted. An object that a run frees is released before the hand has it back, so that nobody who takes it
-//! next finds its slot owned.
+//! next finds its slot owned. The types see to this order (`owned`): no hand and no shelf takes an object of a run.
 //!
 //! A shelf has room for one object, which a run of one worker leaves and a run of another takes. In the table its slot is the
 //! shelf's before it stands there, and the run's that took it after that. Where it is neither, it is a stray: it goes back to the
@@ -17,8 +17,8 @@
 //! what the reports say, and all that went out came back. It stands on this: the store keeps the laws of `Objects` of
 //! ebpf_machine, so whatever is proved of a run over some store holds over this one; and each number is drawn once.
 //!
-//! To be read in this order: `before`, `client`, `ledgers`, `stock`, `hands`, `store`, `jobs`, `gate`, `handed`, `caches`,
-//! `shared`, `ending`, `worker`, `team`, `outcome`, `fault`, `admission`, `room`, `plant`, `crew`, `clearing`, `place`, `pool`.
+//! To be read in this order: `before`, `client`, `owned`, `ledgers`, `stock`, `stocks`, `hands`, `store`, `jobs`, `gate`, `handed`,
+//! `caches`, `shared`, `ending`, `worker`, `team`, `outcome`, `fault`, `admission`, `room`, `plant`, `crew`, `clearing`, `place`, `pool`.
 #![tactic(auto)]
 
 mod admission;
@@ -36,12 +36,14 @@ mod hands;
 mod jobs;
 mod ledgers;
 mod outcome;
+mod owned;
 mod place;
 mod plant;
 mod pool;
 mod room;
 mod shared;
 mod stock;
+mod stocks;
 mod store;
 mod team;
 mod worker;

@@ -1,18 +1,11 @@
 //! The hands of one kind, with the cache and the shelf that made them.
 
-ghost use Rattle.std.specs.Prelude.{◌≡◌, ◌≤◌, ◌<◌, ◌^◌, replicate, option_map, IfSome, IfNone};
+ghost use Rattle.std.specs.Prelude.{◌≡◌, ◌≤◌, ◌^◌, replicate, IfSome, IfNone};
 ghost use Rattle.object_cache.specs.ShelfView.{one_if};
-ghost use Rattle.owners_table.specs.Marking.{mark_word};
-ghost use Rattle.owners_table.specs.Owning.{Holds};
-ghost use Rattle.owners_table.specs.declared.mark.TheConstants.{SHELVES, WORDS_OF_A_RUN};
-ghost use Rattle.worker_pool.specs.Claims.{IsGranted, IsRefused, IsGiven, IsReturned, IsExchanged, HasPassed, HasNoted};
+ghost use Rattle.worker_pool.specs.Moves.{Moved};
 
-use crate::before::Before;
-use crate::client::Client;
-use crate::count::count;
 use crate::ledgers::{Gets, Ins, Names, Outs, Puts};
-use object_cache::{Cache, Hand, Shelf, ShelfHand};
-use owners_table::mark::Mark;
+use object_cache::{ArenaLock, Cache, Hand, Shelf, ShelfHand};
 use slab_layer::{Held, Kind, Obj};
 use std::sync::Wait;
 
@@ -62,96 +55,33 @@ impl<'a, K: Kind, L: Names> Stock<'a, K, L> {
         (hand, shelf_hand)
     }
 
-    /// Takes an object, and claims its slot for the job and for the call at this slot of its program. None where the cache
-    /// has none, or where the slot has an owner: then the object goes back.
-    pub(crate) fn take<N: Before, R: Wait>(
-        &mut self,
-        client: &mut Client<'_, N, R>,
-        at: u16,
-    ) -> Option<Obj<K, Held>>
-        requires { at < WORDS_OF_A_RUN }
+    /// Takes an object. None where the cache has none.
+    pub(crate) fn take<R: Wait>(&mut self, rt: &R, arena: &ArenaLock) -> Option<Obj<K, Held>>
         ensures image { IfSome result (λ o. o.bytes.items ≡ replicate K.SIZE K.FILL) }
-        ensures granted { IfSome result (λ o. IsGranted o.slot (mark_word client.old.job at)
-            self.old.hand self.new.hand client.old.seat client.new.seat client.old.clashes client.new.clashes) }
-        ensures refused { IfNone result (IsRefused
-            self.old.hand self.new.hand client.old.seat client.new.seat client.old.clashes client.new.clashes) }
-        ensures shelf { (self.new.shelf_hand ≡ self.old.shelf_hand) × (client.new.seat.fetches ≡ client.old.seat.fetches) × (client.new.strays ≡ client.old.strays) }
-        ensures job { client.new.job ≡ client.old.job }
+        ensures taken { IfSome result (λ _. Moved 1 0 0 0 0 self.old.hand self.new.hand self.old.shelf_hand self.new.shelf_hand) }
+        ensures refused { IfNone result (Moved 0 0 1 0 0 self.old.hand self.new.hand self.old.shelf_hand self.new.shelf_hand) }
     {
-        let object = match self.hand.take(client.rt, self.cache, client.arena) {
-            Ok(object) => object,
-            Err(_) => return None,
-        };
-        let mark = Mark {
-            run: client.job,
-            at,
-        };
-        let Err(_) = client.owners.claim(&mut client.seat, object.slot(), mark) else {
-            return Some(object);
-        };
-        self.hand.give(client.rt, self.cache, object);
-        count(client.rt, &mut client.clashes);
-        None
-    }
-
-    /// Releases the object's slot, and then gives the object back: who takes it next is to find no owner.
-    pub(crate) fn give<N: Before, R: Wait>(
-        &mut self,
-        client: &mut Client<'_, N, R>,
-        object: Obj<K, Held>,
-    )
-        requires { Holds object.slot client.old.seat.held }
-        ensures given { IsGiven object.slot
-            self.old.hand self.new.hand client.old.seat client.new.seat client.old.clashes client.new.clashes }
-        ensures shelf { (self.new.shelf_hand ≡ self.old.shelf_hand) × (client.new.seat.fetches ≡ client.old.seat.fetches) × (client.new.strays ≡ client.old.strays) }
-        ensures job { client.new.job ≡ client.old.job }
-    {
-        client.owners.release(&mut client.seat, object.slot());
-        self.hand.give(client.rt, self.cache, object);
-    }
-
-    /// Exchanges what is given, if anything, for what stands on the shelf of this number: the slot of what is given is the
-    /// shelf's before it stands there, and that of what comes off is claimed for the job and for the call at this slot of its
-    /// program after that. None where nothing stood there, or where what did is a stray, whose slot couldn't be fetched: that
-    /// goes back to the cache.
-    pub(crate) fn swap<N: Before, R: Wait>(
-        &mut self,
-        client: &mut Client<'_, N, R>,
-        shelf: u8,
-        given: Option<Obj<K, Held>>,
-        at: u16,
-    ) -> Option<Obj<K, Held>>
-        requires shelf { shelf < SHELVES }
-        requires given { IfSome given (λ o. Holds o.slot client.old.seat.held) }
-        requires at { at < WORDS_OF_A_RUN }
-        ensures cache { IsReturned self.old.hand self.new.hand client.old.strays client.new.strays }
-        ensures shelf { IsExchanged (one_if given) (one_if result) self.old.shelf_hand self.new.shelf_hand client.old.strays client.new.strays }
-        ensures seat { HasPassed (option_map (λ o. o.slot) given) (option_map (λ o. o.slot) result) (mark_word client.old.job at) client.old.seat.held client.new.seat.held }
-        ensures noted { HasNoted self.old.shelf_hand self.new.shelf_hand client.old.seat client.new.seat }
-        ensures clashes { client.new.clashes ≡ client.old.clashes }
-        ensures job { client.new.job ≡ client.old.job }
-    {
-        let left = slot_of(&given);
-        client.shelve(left, shelf);
-        let Some(object) = self.shelf.swap(client.rt, &mut self.shelf_hand, given) else {
-            return None;
-        };
-        if client.fetch(object.slot(), shelf, left, at) {
-            return Some(object);
+        match self.hand.take(rt, self.cache, arena) {
+            Ok(object) => Some(object),
+            Err(_) => None,
         }
-        self.hand.give(client.rt, self.cache, object);
-        count(client.rt, &mut client.strays);
-        None
     }
-}
 
-// The slot of an object, if there is one.
-fn slot_of<K: Kind>(object: &Option<Obj<K, Held>>) -> Option<u32>
-    ensures is { result ≡ option_map (λ o. o.slot) object.now }
-    ensures below { IfSome result (λ slot. slot < 65536) }
-{
-    match object {
-        Some(object) => Some(object.slot()),
-        None => None,
+    /// Gives an object back.
+    pub(crate) fn give<R: Wait>(&mut self, rt: &R, object: Obj<K, Held>)
+        ensures { Moved 0 1 0 0 0 self.old.hand self.new.hand self.old.shelf_hand self.new.shelf_hand }
+    {
+        self.hand.give(rt, self.cache, object);
+    }
+
+    /// Exchanges what is given, if anything, for what stands on the shelf.
+    pub(crate) fn swap<R: Wait>(
+        &mut self,
+        rt: &R,
+        given: Option<Obj<K, Held>>,
+    ) -> Option<Obj<K, Held>>
+        ensures { Moved 0 0 0 (one_if given) (one_if result) self.old.hand self.new.hand self.old.shelf_hand self.new.shelf_hand }
+    {
+        self.shelf.swap(rt, &mut self.shelf_hand, given)
     }
 }

@@ -17,6 +17,7 @@ ghost use Rattle.ebpf_machine.specs.Whole.{granted, refused, fetched};
 ghost use Rattle.worker_pool.specs.declared.outcome.TheConstants.{MAX_JOBS};
 ghost use Rattle.worker_pool.specs.Claims.{lost};
 ghost use Rattle.worker_pool.specs.Counts.{grants_of, nulls_of, gets_of};
+ghost use Rattle.worker_pool.specs.Stocks.{hands_of};
 ghost use Rattle.ebpf_machine.specs.Kinds.{AreKnown};
 ghost use Rattle.worker_pool.specs.Working.{IsFresh, IsUnused, IsEven, IsDone, IsServed, CanRun, Answers, HasDrawn, granted_by, refused_by, fetched_by};
 
@@ -27,13 +28,14 @@ use crate::gate::{Gate, Point};
 use crate::hands::Hands;
 use crate::jobs::Numbered;
 use crate::ledgers::Names;
+use crate::owned::Owned;
 use crate::shared::Shared;
 use crate::stock::Stock;
+use crate::stocks::Stocks;
 use crate::store::Store;
 use ebpf_machine::whole::run_in;
 use ebpf_machine::workspace::Workspace;
 use owners_table::tickets::TicketSeat;
-use run_object::Object;
 use std::alloc::{AllocError, Global};
 use std::marker::Brand;
 use std::mem;
@@ -110,7 +112,12 @@ fn work_with<'a, L: Names, N: Before + 'a, G: Gate + 'a, R: Wait + 'a>(
     let cells = Stock::new(&caches.cells, cells, &shelves.cells, shelf_cells);
     let records = Stock::new(&caches.records, records, &shelves.records, shelf_records);
     let blocks = Stock::new(&caches.blocks, blocks, &shelves.blocks, shelf_blocks);
-    let mut store: Store<'a, L, N, R> = Store::new(client, cells, records, blocks);
+    let stocks = Stocks {
+        cells,
+        records,
+        blocks,
+    };
+    let mut store: Store<'a, L, N, R> = Store::new(client, stocks);
     let ending = serve(shared, &mut store, ticket, answered);
     (store.end(), ending)
 }
@@ -125,19 +132,19 @@ fn serve<'a, L: Names, N: Before + 'a, G: Gate + 'a, R: Wait + 'a>(
     requires known { AreKnown shared.now.programs.now }
     requires can { All (CanRun shared.now.programs.now) shared.now.jobs.now }
     requires few { length shared.now.jobs.now ≤ MAX_JOBS }
-    requires even { IsEven store.old.cells.hand store.old.records.hand store.old.blocks.hand store.old.cells.shelf_hand store.old.records.shelf_hand store.old.blocks.shelf_hand }
+    requires even { IsEven (hands_of store.old.stocks) }
     requires table { IsOf shared.now.tickets.now ticket.old }
     requires none { (ticket.old.drawn ≡ []) × (ticket.old.passed ≡ false) × (answered.old.items ≡ []) }
-    ensures even { IsEven store.new.cells.hand store.new.records.hand store.new.blocks.hand store.new.cells.shelf_hand store.new.records.shelf_hand store.new.blocks.shelf_hand }
+    ensures even { IsEven (hands_of store.new.stocks) }
     ensures table { IsOf shared.now.tickets.now ticket.new }
     ensures good { All (Answers shared.now.programs.now shared.now.jobs.now) answered.new.items }
     ensures drawn { HasDrawn shared.now.jobs.now ticket.new answered.new.items result }
-    ensures granted { grants_of store.new.cells.hand store.new.records.hand store.new.blocks.hand store.new.client.clashes ≡
-        grants_of store.old.cells.hand store.old.records.hand store.old.blocks.hand store.old.client.clashes + granted_by answered.new.items }
-    ensures refused { nulls_of store.new.cells.hand store.new.records.hand store.new.blocks.hand store.new.client.clashes ≡
-        nulls_of store.old.cells.hand store.old.records.hand store.old.blocks.hand store.old.client.clashes + refused_by answered.new.items }
-    ensures fetched { gets_of store.new.cells.shelf_hand store.new.records.shelf_hand store.new.blocks.shelf_hand store.new.client.strays ≡
-        gets_of store.old.cells.shelf_hand store.old.records.shelf_hand store.old.blocks.shelf_hand store.old.client.strays + fetched_by answered.new.items }
+    ensures granted { grants_of (hands_of store.new.stocks) store.new.client.clashes ≡
+        grants_of (hands_of store.old.stocks) store.old.client.clashes + granted_by answered.new.items }
+    ensures refused { nulls_of (hands_of store.new.stocks) store.new.client.clashes ≡
+        nulls_of (hands_of store.old.stocks) store.old.client.clashes + refused_by answered.new.items }
+    ensures fetched { gets_of (hands_of store.new.stocks) store.new.client.strays ≡
+        gets_of (hands_of store.old.stocks) store.old.client.strays + fetched_by answered.new.items }
 {
     let Ok(mut workspace) = Workspace::new(shared.alloc) else {
         return Ending::Unstarted;
@@ -161,29 +168,29 @@ fn answer<'a, L: Names, N: Before + 'a, G: Gate + 'a, R: Wait + 'a>(
     number: u64,
     store: &mut Store<'a, L, N, R>,
     answered: &mut Vec<Numbered>,
-    workspace: Workspace<Object>,
-) -> Result<Workspace<Object>, AllocError>
+    workspace: Workspace<Owned>,
+) -> Result<Workspace<Owned>, AllocError>
     requires known { AreKnown shared.now.programs.now }
     requires can { All (CanRun shared.now.programs.now) shared.now.jobs.now }
     requires few { length shared.now.jobs.now ≤ MAX_JOBS }
     requires number { number < length shared.now.jobs.now }
-    requires even { IsEven store.old.cells.hand store.old.records.hand store.old.blocks.hand store.old.cells.shelf_hand store.old.records.shelf_hand store.old.blocks.shelf_hand }
-    ensures even { IsEven store.new.cells.hand store.new.records.hand store.new.blocks.hand store.new.cells.shelf_hand store.new.records.shelf_hand store.new.blocks.shelf_hand }
+    requires even { IsEven (hands_of store.old.stocks) }
+    ensures even { IsEven (hands_of store.new.stocks) }
     ensures answered { OnOk result ((n : Numbered) × (n.job ≡ number) × Answers shared.now.programs.now shared.now.jobs.now n ×
         (answered.new.items ≡ answered.old.items ++ n ∷ []) ×
-        (grants_of store.new.cells.hand store.new.records.hand store.new.blocks.hand store.new.client.clashes ≡
-        grants_of store.old.cells.hand store.old.records.hand store.old.blocks.hand store.old.client.clashes + granted n.report.answers) ×
-        (nulls_of store.new.cells.hand store.new.records.hand store.new.blocks.hand store.new.client.clashes ≡
-        nulls_of store.old.cells.hand store.old.records.hand store.old.blocks.hand store.old.client.clashes + refused n.report.answers) ×
-        (gets_of store.new.cells.shelf_hand store.new.records.shelf_hand store.new.blocks.shelf_hand store.new.client.strays ≡
-        gets_of store.old.cells.shelf_hand store.old.records.shelf_hand store.old.blocks.shelf_hand store.old.client.strays + fetched n.report.answers)) }
+        (grants_of (hands_of store.new.stocks) store.new.client.clashes ≡
+        grants_of (hands_of store.old.stocks) store.old.client.clashes + granted n.report.answers) ×
+        (nulls_of (hands_of store.new.stocks) store.new.client.clashes ≡
+        nulls_of (hands_of store.old.stocks) store.old.client.clashes + refused n.report.answers) ×
+        (gets_of (hands_of store.new.stocks) store.new.client.strays ≡
+        gets_of (hands_of store.old.stocks) store.old.client.strays + fetched n.report.answers)) }
     ensures failed { OnErr result ((answered.new.items ≡ answered.old.items) ×
-        (grants_of store.new.cells.hand store.new.records.hand store.new.blocks.hand store.new.client.clashes ≡
-        grants_of store.old.cells.hand store.old.records.hand store.old.blocks.hand store.old.client.clashes) ×
-        (nulls_of store.new.cells.hand store.new.records.hand store.new.blocks.hand store.new.client.clashes ≡
-        nulls_of store.old.cells.hand store.old.records.hand store.old.blocks.hand store.old.client.clashes) ×
-        (gets_of store.new.cells.shelf_hand store.new.records.shelf_hand store.new.blocks.shelf_hand store.new.client.strays ≡
-        gets_of store.old.cells.shelf_hand store.old.records.shelf_hand store.old.blocks.shelf_hand store.old.client.strays)) }
+        (grants_of (hands_of store.new.stocks) store.new.client.clashes ≡
+        grants_of (hands_of store.old.stocks) store.old.client.clashes) ×
+        (nulls_of (hands_of store.new.stocks) store.new.client.clashes ≡
+        nulls_of (hands_of store.old.stocks) store.old.client.clashes) ×
+        (gets_of (hands_of store.new.stocks) store.new.client.strays ≡
+        gets_of (hands_of store.old.stocks) store.old.client.strays)) }
 {
     let job = &shared.jobs[number as usize];
     let Ok(context) = room_for(shared.alloc, answered, &job.context.bytes) else {

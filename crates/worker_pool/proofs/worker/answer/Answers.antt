@@ -5,6 +5,7 @@ use Rattle.ebpf_verify.specs.Subject.{Subject}
 use Rattle.worker_pool.specs.declared.jobs.Job.{Job}
 use Rattle.worker_pool.specs.declared.jobs.Numbered.{Numbered}
 use Rattle.ebpf_machine.specs.Whole.{IsReportOf}
+use Rattle.worker_pool.specs.Stocks.{hands_of}
 use Rattle.worker_pool.specs.Working.{Answers}
 use Rattle.worker_pool.proofs.Evens.{evens}
 use Rattle.worker_pool.proofs.worker.answer.Goals as goal
@@ -13,8 +14,7 @@ pub returns-clause-even : goal.returns-clause-even
 returns-clause-even g c =
     let o = c.args.store.now in
     let n = c.run_in.new.objects in
-    evens o.cells.hand o.records.hand o.blocks.hand n.cells.hand n.records.hand n.blocks.hand
-    o.cells.shelf_hand o.records.shelf_hand o.blocks.shelf_hand n.cells.shelf_hand n.records.shelf_hand n.blocks.shelf_hand o.cells.few o.records.few o.blocks.few n.cells.few n.records.few n.blocks.few c.run_in.ensures.outs c.requires.even
+    evens (hands_of o.stocks) (hands_of n.stocks) o.stocks.cells.few o.stocks.records.few o.stocks.blocks.few n.stocks.cells.few n.stocks.records.few n.stocks.blocks.few c.run_in.ensures.outs c.requires.even
 
 pub returns-clause-answered : goal.returns-clause-answered
 returns-clause-answered g c = (n, refl, answered, items, c.in-Ok-run_in.ensures.granted, c.in-Ok-run_in.ensures.nulls, c.in-Ok-run_in.ensures.gets) where

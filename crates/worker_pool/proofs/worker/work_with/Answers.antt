@@ -1,6 +1,7 @@
 use Rattle.std.proofs.Common.{◌≡◌, ℕ, ◌+◌, refl, ap, sym, ◌∙◌, arith}
 use Rattle.std.proofs.lemmas.List.{nil_from_length}
 use Rattle.worker_pool.specs.Counts.{grants_of, nulls_of, gets_of}
+use Rattle.worker_pool.specs.Stocks.{hands_of}
 use Rattle.worker_pool.proofs.worker.work_with.Goals as goal
 
 pub returns : goal.returns
@@ -11,11 +12,11 @@ returns g c =
     let new = c.new-store.result in
     let hands = n.hands in
     let shelves = n.shelf_hands in
-    let allocs = s.cells.hand.allocs + s.records.hand.allocs + s.blocks.hand.allocs in
-    let gets = s.cells.shelf_hand.gets + s.records.shelf_hand.gets + s.blocks.shelf_hand.gets in
-    let no_grants : grants_of new.cells.hand new.records.hand new.blocks.hand new.client.clashes ≡ 0 = rw (hands.0, hands.1, hands.2, n.client.1) refl in
-    let no_nulls : nulls_of new.cells.hand new.records.hand new.blocks.hand new.client.clashes ≡ 0 = rw (hands.0, hands.1, hands.2, n.client.1) refl in
-    let no_gets : gets_of new.cells.shelf_hand new.records.shelf_hand new.blocks.shelf_hand new.client.strays ≡ 0 = rw (shelves.0, shelves.1, shelves.2, n.client.2) refl in
+    let allocs = s.stocks.cells.hand.allocs + s.stocks.records.hand.allocs + s.stocks.blocks.hand.allocs in
+    let gets = s.stocks.cells.shelf_hand.gets + s.stocks.records.shelf_hand.gets + s.stocks.blocks.shelf_hand.gets in
+    let no_grants : grants_of (hands_of new.stocks) new.client.clashes ≡ 0 = rw (hands.0, hands.1, hands.2, n.client.1) refl in
+    let no_nulls : nulls_of (hands_of new.stocks) new.client.clashes ≡ 0 = rw (hands.0, hands.1, hands.2, n.client.1) refl in
+    let no_gets : gets_of (hands_of new.stocks) new.client.strays ≡ 0 = rw (shelves.0, shelves.1, shelves.2, n.client.2) refl in
     let b = c.requires.before in
     let end = c.end.ensures in
     rw (end.hands.0, end.hands.1, end.hands.2, end.shelf_hands.0, end.shelf_hands.1, end.shelf_hands.2, end.seat.0, end.seat.1, end.seat.2) (record {

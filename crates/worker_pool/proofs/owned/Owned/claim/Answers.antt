@@ -1,8 +1,8 @@
 use Rattle.std.proofs.Common.{ap, ◌∙◌}
 use Rattle.worker_pool.specs.Claims.{lost}
 use Rattle.worker_pool.proofs.Holding.{once_claimed, once_same}
-use Rattle.worker_pool.proofs.Claiming.{lost_as_before, lost_one_more, granted}
-use Rattle.worker_pool.proofs.stock.Stock.take.Goals as goal
+use Rattle.worker_pool.proofs.Claiming.{lost_as_before, lost_one_more}
+use Rattle.worker_pool.proofs.owned.Owned.claim.Goals as goal
 
 pub invariant_of-client : goal.invariant_of-client
 invariant_of-client g c =
@@ -16,15 +16,10 @@ invariant_of-client g c =
       clashed = ap lost claim.ok.1 ∙ (lost_as_before _ client.seat.notes ∙ client.clashed);
     }
 
-pub returns-in_default-clause-granted : goal.returns-in_default-clause-granted
-returns-in_default-clause-granted g c =
-    let claim = c.in_default.ensures in
-    granted _ _ _ _ _ c.args.client.now.seat _ _ c.slot.ensures c.in-Ok.ensures.allocs c.in-Ok.ensures.frees c.in-Ok.ensures.nulls claim.own claim.ok.0 claim.ok.1
-
 pub invariant_of-client-2 : goal.invariant_of-client-2
 invariant_of-client-2 g c =
     let client = c.args.client.now in
-    let claim = c.in-Err-claim.ensures in record {
+    let claim = c.in-Err.ensures in record {
       slots = client.slots;
       table = client.table;
       seated = claim.table ∙ client.seated;
