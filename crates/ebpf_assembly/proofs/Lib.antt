@@ -6,3 +6,5 @@ pub mod Assembled
 pub mod Shapes
 pub mod Words
 pub mod Unique
+pub mod Numbers
+pub mod Operands

@@ -13,3 +13,5 @@
 #![tactic(auto)]
 
 pub mod laws;
+mod number;
+mod operand;
