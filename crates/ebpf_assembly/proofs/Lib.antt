@@ -7,4 +7,5 @@ pub mod Shapes
 pub mod Words
 pub mod Unique
 pub mod Numbers
-pub mod Operands
+pub mod OperandWords
+pub mod KindWords

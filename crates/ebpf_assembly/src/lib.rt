@@ -13,5 +13,7 @@
 #![tactic(auto)]
 
 pub mod laws;
+mod kind;
 mod number;
 mod operand;
+mod operands;

@@ -1,4 +1,4 @@
-use Rattle.ebpf_assembly.proofs.Operands.{place_unread, place_read}
+use Rattle.ebpf_assembly.proofs.OperandWords.{place_unread, place_read}
 use Rattle.ebpf_assembly.proofs.operand.place.Goals as goal
 
 pub returns-in_err-inner : goal.returns-in_err-inner

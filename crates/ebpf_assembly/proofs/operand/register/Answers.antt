@@ -1,4 +1,4 @@
-use Rattle.ebpf_assembly.proofs.Operands.{register_read}
+use Rattle.ebpf_assembly.proofs.OperandWords.{register_read}
 use Rattle.ebpf_assembly.proofs.operand.register.Goals as goal
 
 pub returns : goal.returns
