@@ -9,3 +9,4 @@ pub mod Unique
 pub mod Numbers
 pub mod OperandWords
 pub mod KindWords
+pub mod InsnWords

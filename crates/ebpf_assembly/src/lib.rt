@@ -13,6 +13,7 @@
 #![tactic(auto)]
 
 pub mod laws;
+mod insn;
 mod kind;
 mod number;
 mod operand;
