@@ -4,9 +4,10 @@ pub mod Splitting
 pub mod Kept
 pub mod Assembled
 pub mod Shapes
-pub mod Words
+pub mod WordsUnique
 pub mod Unique
 pub mod Numbers
 pub mod OperandWords
 pub mod KindWords
 pub mod InsnWords
+pub mod LineWords

@@ -8,7 +8,7 @@ use Rattle.ebpf_insn.specs.declared.register.Reg.{Reg}
 use Rattle.ebpf_insn.specs.declared.register.Reg.TheVariants.{R0, R1, R2, R3, R4, R5, R6, R7, R8, R9, R10}
 use Rattle.ebpf_insn.specs.Registers.{number_of}
 use Rattle.ebpf_text.specs.Operands.{register_text, offset_text, place_text}
-use Rattle.ebpf_assembly.proofs.Words.{init, init_back}
+use Rattle.ebpf_assembly.proofs.WordsUnique.{init, init_back}
 use Rattle.ebpf_assembly.proofs.RegisterNames.{name_of, names}
 
 -- a register has the number of its text

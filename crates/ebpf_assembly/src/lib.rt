@@ -13,8 +13,10 @@
 #![tactic(auto)]
 
 pub mod laws;
+pub mod fault;
 mod insn;
 mod kind;
 mod number;
 mod operand;
 mod operands;
+mod words;
