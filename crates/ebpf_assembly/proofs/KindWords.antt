@@ -19,7 +19,7 @@ use Rattle.ebpf_assembly.proofs.PlainTexts.{is_plain, IsPlain, of_mnemonic}
 use Rattle.ebpf_assembly.proofs.Shapes.{eight, sixteen, thirty_two, sixty_four, either, is}
 
 -- the numbers of bits
-swap_cases : (P : ℕ → Type 0) → P 16 → P 32 → P 64 → (bits : ℕ) → is_swap_of bits ≡ true → P bits
+pub swap_cases : (P : ℕ → Type 0) → P 16 → P 32 → P 64 → (bits : ℕ) → is_swap_of bits ≡ true → P bits
 swap_cases P a b c bits d = one (either (bits == 16 || bits == 32) (bits == 64) d) where
   two : (bits == 16 ≡ true) ⊎ (bits == 32 ≡ true) → P bits
   two (inl e) = subst P (is bits 16 e) a

@@ -11,3 +11,5 @@ pub mod OperandWords
 pub mod KindWords
 pub mod InsnWords
 pub mod LineWords
+pub mod Labels
+pub mod Drafts

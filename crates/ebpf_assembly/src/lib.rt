@@ -13,9 +13,11 @@
 #![tactic(auto)]
 
 pub mod laws;
+pub mod assemble;
 pub mod fault;
 mod insn;
 mod kind;
+mod line;
 mod number;
 mod operand;
 mod operands;

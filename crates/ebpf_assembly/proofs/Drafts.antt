@@ -1,0 +1,88 @@
+-- The program of the lines that are read so far.
+use Rattle.std.proofs.Common.{rules, arith, ◌≡◌, ◌≢◌, ◌⊎◌, inl, inr, ℕ, ◌+◌, ◌<◌, ◌≤◌, ◌^◌, List, [], ◌∷◌, ◌++◌, length, get_or, take, drop, refl, sym, ap, ◌∙◌, subst, append_assoc, length-append, Option, Some, None}
+use Rattle.std.specs.List.{slice_split, flat_map, AllByRecursion}
+use Rattle.std.proofs.lemmas.List.{append-nil, take_more, take_all}
+use Rattle.ebpf_insn.specs.declared.insn.Insn.{Insn}
+use Rattle.ebpf_insn.specs.declared.insn.Insn.TheVariants as insn
+use Rattle.ebpf_insn.specs.Program.{instructions, placed, slots_in}
+use Rattle.ebpf_insn.specs.Encoding.{IsDefined, IsWellFormed}
+use Rattle.ebpf_assembly.specs.Assembly.{text_lines, words, IsInsnAt, AreInsns, IsAssembled}
+
+pub record IsDraft (lines : List (List ℕ)) (slots : List (Option Insn)) (len : ℕ) : Type 0 where
+  pub count : len ≡ length (instructions slots)
+  pub defined : AllByRecursion IsDefined (instructions slots)
+  pub placed : slots ≡ flat_map placed (instructions slots)
+  pub read : AreInsns 0 lines (instructions slots)
+
+pub nothing : IsDraft [] [] 0
+nothing = record { count = refl; defined = tt; placed = refl; read = refl }
+
+-- a line more
+with_blank : (slot : ℕ) (lines : List (List ℕ)) (line : List ℕ) (is : List Insn) → AreInsns slot lines is → words line ≡ [] → AreInsns slot (lines ++ line ∷ []) is
+with_blank slot [] line is a e = inl (e, a)
+with_blank slot (l ∷ lines) line is (inl a) e = inl (a.0, with_blank slot lines line is a.1 e)
+with_blank slot (l ∷ lines) line is (inr a) e = inr (a.0, a.1, a.2, a.3, with_blank (slot + slots_in a.0) lines line a.1 a.4 e)
+
+with_insn : (slot : ℕ) (lines : List (List ℕ)) (line : List ℕ) (is : List Insn) (i : Insn) → AreInsns slot lines is → IsInsnAt (slot + length (flat_map placed is)) (words line) i
+    → AreInsns slot (lines ++ line ∷ []) (is ++ i ∷ [])
+with_insn slot [] line is i a at =
+    inr (i, [], ap (λ (js : List Insn). js ++ i ∷ []) a, subst (λ (k : ℕ). IsInsnAt k (words line) i) (omega (arith, ap (λ (js : List Insn). length (flat_map placed js)) a)) at, refl)
+with_insn slot (l ∷ lines) line is i (inl a) at = inl (a.0, with_insn slot lines line is i a.1 at)
+with_insn slot (l ∷ lines) line is i (inr a) at =
+    inr (a.0, a.1 ++ i ∷ [], ap (λ (js : List Insn). js ++ i ∷ []) a.2, a.3, with_insn (slot + slots_in a.0) lines line a.1 i a.4 (subst (λ (k : ℕ). IsInsnAt k (words line) i) further at))
+  where
+    further : slot + length (flat_map placed is) ≡ slot + slots_in a.0 + length (flat_map placed a.1)
+    further = omega (arith, ap (λ (js : List Insn). length (flat_map placed js)) a.2, length-append (placed a.0) (flat_map placed a.1))
+
+instructions-append : (p q : List (Option Insn)) → instructions (p ++ q) ≡ instructions p ++ instructions q
+instructions-append [] q = refl
+instructions-append (None ∷ p) q = instructions-append p q
+instructions-append (Some i ∷ p) q = ap (λ (is : List Insn). i ∷ is) (instructions-append p q)
+
+one : (i : Insn) → instructions (placed i) ≡ i ∷ []
+one (insn.Alu width o dst src) = refl
+one (insn.Sext width bits dst src) = refl
+one (insn.Neg width dst) = refl
+one (insn.Swap order bits dst) = refl
+one (insn.Wide dst value) = refl
+one (insn.Load s signed dst base offset) = refl
+one (insn.Store s base offset src) = refl
+one (insn.Jump offset) = refl
+one (insn.JumpFar offset) = refl
+one (insn.Branch width c left right offset) = refl
+one (insn.Call number) = refl
+one insn.Exit = refl
+
+more : (p : List (Option Insn)) (i : Insn) → instructions (p ++ placed i) ≡ instructions p ++ i ∷ []
+more p i = instructions-append p (placed i) ∙ ap (λ (is : List Insn). instructions p ++ is) (one i)
+
+all_more : (is : List Insn) (i : Insn) → AllByRecursion IsDefined is → IsDefined i → AllByRecursion IsDefined (is ++ i ∷ [])
+all_more [] i all d = (d, tt)
+all_more (j ∷ is) i all d = (all.0, all_more is i all.1 d)
+
+placed_more : (is : List Insn) (i : Insn) → flat_map placed is ++ placed i ≡ flat_map placed (is ++ i ∷ [])
+placed_more [] i = sym (append-nil (placed i))
+placed_more (j ∷ is) i = append_assoc (placed j) (flat_map placed is) (placed i) ∙ ap (λ (p : List (Option Insn)). placed j ++ p) (placed_more is i)
+
+longer : (lines : List (List ℕ)) (n : ℕ) (line : List ℕ) → n < length lines → line ≡ get_or lines n line → take (n + 1) lines ≡ take n lines ++ line ∷ []
+longer lines n line inside here = take_more lines n line inside ∙ ap (λ (l : List ℕ). take n lines ++ l ∷ []) (sym here)
+
+pub draft_blank : (lines : List (List ℕ)) (n : ℕ) (line : List ℕ) (slots : List (Option Insn)) (len : ℕ) → n < length lines → line ≡ get_or lines n line → words line ≡ []
+    → IsDraft (take n lines) slots len → IsDraft (take (n + 1) lines) slots len
+draft_blank lines n line slots len inside here blank d = record {
+  count = d.count;
+  defined = d.defined;
+  placed = d.placed;
+  read = subst (λ (ls : List (List ℕ)). AreInsns 0 ls (instructions slots)) (sym (longer lines n line inside here)) (with_blank 0 (take n lines) line (instructions slots) d.read blank);
+}
+
+pub draft_more : (lines : List (List ℕ)) (n : ℕ) (line : List ℕ) (slots next : List (Option Insn)) (len : ℕ) (i : Insn) → n < length lines → line ≡ get_or lines n line
+    → IsInsnAt (length slots) (words line) i → next ≡ slots ++ placed i → IsDraft (take n lines) slots len → IsDraft (take (n + 1) lines) next (len + 1)
+draft_more lines n line slots next len i inside here at is d = subst (λ (p : List (Option Insn)). IsDraft (take (n + 1) lines) p (len + 1)) (sym is) (record {
+  count = omega (arith, d.count, ap length (more slots i), length-append (instructions slots) (i ∷ []));
+  defined = subst (λ (is : List Insn). AllByRecursion IsDefined is) (sym (more slots i)) (all_more (instructions slots) i d.defined at.0);
+  placed = ap (λ (p : List (Option Insn)). p ++ placed i) d.placed ∙ (placed_more (instructions slots) i ∙ ap (flat_map placed) (sym (more slots i)));
+  read = subst (λ (is : List Insn). AreInsns 0 (take (n + 1) lines) is) (sym (more slots i))
+      (subst (λ (ls : List (List ℕ)). AreInsns 0 ls (instructions slots ++ i ∷ [])) (sym (longer lines n line inside here))
+      (with_insn 0 (take n lines) line (instructions slots) i d.read (subst (λ (k : ℕ). IsInsnAt k (words line) i) (omega (arith, ap length d.placed)) at)));
+})
