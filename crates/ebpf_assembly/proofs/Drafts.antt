@@ -1,11 +1,14 @@
 -- The program of the lines that are read so far.
-use Rattle.std.proofs.Common.{rules, arith, ◌≡◌, ◌≢◌, ◌⊎◌, inl, inr, ℕ, ◌+◌, ◌<◌, ◌≤◌, ◌^◌, List, [], ◌∷◌, ◌++◌, length, get_or, take, drop, refl, sym, ap, ◌∙◌, subst, append_assoc, length-append, Option, Some, None}
-use Rattle.std.specs.List.{slice_split, flat_map, AllByRecursion}
-use Rattle.std.proofs.lemmas.List.{append-nil, take_more, take_all}
+use Rattle.std.proofs.Common.{arith, ◌≡◌, ◌≢◌, inl, inr, ℕ, suc, add-one, ◌+◌, ◌<◌, ◌≤◌, ◌^◌, List, [], ◌∷◌, ◌++◌, length, get_or, take, drop, refl, sym, ap, ◌∙◌, subst, append_assoc, length-append, drop-cons, take-append-drop, Option, Some, None}
+use Rattle.std.specs.List.{flat_map, AllByRecursion}
+use Rattle.std.proofs.lemmas.List.{append-nil, take_more, take_all, length-take-le}
 use Rattle.ebpf_insn.specs.declared.insn.Insn.{Insn}
 use Rattle.ebpf_insn.specs.declared.insn.Insn.TheVariants as insn
 use Rattle.ebpf_insn.specs.Program.{instructions, placed, slots_in}
-use Rattle.ebpf_insn.specs.Encoding.{IsDefined, IsWellFormed}
+use Rattle.ebpf_insn.specs.Encoding.{IsDefined}
+use Rattle.ebpf_assembly.specs.declared.fault.AssemblyFault.{AssemblyFault}
+use Rattle.ebpf_assembly.specs.declared.fault.AssemblyFault.TheVariants.{Bad, Empty, NoMemory}
+use Rattle.ebpf_assembly.specs.Faults.{IsLineFault, IsLineStop, IsAssemblyFault}
 use Rattle.ebpf_assembly.specs.Assembly.{text_lines, words, IsInsnAt, AreInsns, IsAssembled}
 
 pub record IsDraft (lines : List (List ℕ)) (slots : List (Option Insn)) (len : ℕ) : Type 0 where
@@ -67,6 +70,10 @@ placed_more (j ∷ is) i = append_assoc (placed j) (flat_map placed is) (placed 
 longer : (lines : List (List ℕ)) (n : ℕ) (line : List ℕ) → n < length lines → line ≡ get_or lines n line → take (n + 1) lines ≡ take n lines ++ line ∷ []
 longer lines n line inside here = take_more lines n line inside ∙ ap (λ (l : List ℕ). take n lines ++ l ∷ []) (sym here)
 
+parted : (lines : List (List ℕ)) (n : ℕ) (line : List ℕ) → n < length lines → line ≡ get_or lines n line → lines ≡ take n lines ++ line ∷ drop (n + 1) lines
+parted lines n line inside here =
+    sym (take-append-drop n lines) ∙ ap (λ (ls : List (List ℕ)). take n lines ++ ls) (rw (add-one, drop-cons lines n line) (ap (λ (l : List ℕ). l ∷ drop (suc n) lines) (sym here)))
+
 pub draft_blank : (lines : List (List ℕ)) (n : ℕ) (line : List ℕ) (slots : List (Option Insn)) (len : ℕ) → n < length lines → line ≡ get_or lines n line → words line ≡ []
     → IsDraft (take n lines) slots len → IsDraft (take (n + 1) lines) slots len
 draft_blank lines n line slots len inside here blank d = record {
@@ -86,3 +93,48 @@ draft_more lines n line slots next len i inside here at is d = subst (λ (p : Li
       (subst (λ (ls : List (List ℕ)). AreInsns 0 ls (instructions slots ++ i ∷ [])) (sym (longer lines n line inside here))
       (with_insn 0 (take n lines) line (instructions slots) i d.read (subst (λ (k : ℕ). IsInsnAt k (words line) i) (omega (arith, ap length d.placed)) at)));
 })
+
+-- a program has as many slots as instructions at least
+fewer : (p : List (Option Insn)) → length (instructions p) ≤ length p
+fewer [] = omega arith
+fewer (None ∷ p) = omega (arith, fewer p)
+fewer (Some i ∷ p) = omega (arith, fewer p)
+
+pub few_len : (lines : List (List ℕ)) (slots : List (Option Insn)) (len : ℕ) → length slots ≤ 4096 → IsDraft lines slots len → len + 1 < 2 ^ 64
+few_len lines slots len few d = omega (arith, few, d.count, fewer slots)
+
+-- a line that is at fault
+pub fault_here : (text : List ℕ) (n : ℕ) (line : List ℕ) (slots : List (Option Insn)) (len : ℕ) (e : AssemblyFault) → n < length (text_lines text) → line ≡ get_or (text_lines text) n line
+    → IsDraft (take n (text_lines text)) slots len → IsLineStop (n + 1) (length slots) line e → IsAssemblyFault text e
+fault_here text n line slots len NoMemory inside here d stop = tt
+fault_here text n line slots len (Empty m) inside here d stop = absurd stop
+fault_here text n line slots len (Bad m fault) inside here d stop = (
+  line,
+  instructions slots,
+  record {
+    before = take n (text_lines text);
+    after = drop (n + 1) (text_lines text);
+    lines = parted (text_lines text) n line inside here;
+    counted = omega (arith, stop.0, length-take-le n (text_lines text) (omega (arith, inside)));
+    read = d.read;
+  },
+  subst (λ (k : ℕ). IsLineFault k (words line) fault) (ap length d.placed) stop.1,
+)
+
+-- the end
+all_read : (text : List ℕ) (n : ℕ) (is : List Insn) → length (text_lines text) ≤ n → AreInsns 0 (take n (text_lines text)) is → AreInsns 0 (text_lines text) is
+all_read text n is all read = subst (λ (ls : List (List ℕ)). AreInsns 0 ls is) (take_all n (text_lines text) all) read
+
+none_left : (is : List Insn) → length is ≡ 0 → is ≡ []
+none_left [] e = refl
+none_left (i ∷ is) e = absurd (omega (arith, e))
+
+pub empty_here : (text : List ℕ) (n : ℕ) (slots : List (Option Insn)) (len : ℕ) → n ≡ length (text_lines text) → len ≡ 0 → IsDraft (take n (text_lines text)) slots len → IsAssemblyFault text (Empty n)
+empty_here text n slots len all none d =
+    (all, subst (AreInsns 0 (text_lines text)) (none_left (instructions slots) (omega (arith, d.count, none))) (all_read text n (instructions slots) (omega (arith, all)) d.read))
+
+pub finished : (text : List ℕ) (n : ℕ) (slots : List (Option Insn)) (len : ℕ) → n ≡ length (text_lines text) → length slots ≤ 4096 → len ≢ 0 → IsDraft (take n (text_lines text)) slots len → IsAssembled text slots
+finished text n slots len all few some d = record {
+  formed = record { some = omega (arith, some, d.count, fewer slots); few = few; defined = d.defined; placed = d.placed };
+  lines = all_read text n (instructions slots) (omega (arith, all)) d.read;
+}

@@ -1,10 +1,9 @@
 -- The label of a line.
-use Rattle.std.proofs.Common.{rules, arith, ◌≡◌, ◌≢◌, ℕ, ◌<◌, ◌^◌, List, [], ◌∷◌, ◌++◌, refl, sym, ap, ◌∙◌, ◌⊎◌, inl, inr, get_or, drop}
+use Rattle.std.proofs.Common.{◌≡◌, ◌≢◌, ℕ, ◌<◌, ◌^◌, List, [], ◌∷◌, ◌++◌, sym, ap, ◌∙◌, ◌⊎◌, inl, inr, get_or, drop}
 use Rattle.std.specs.Prelude.{codes, decimal}
 use Rattle.std.proofs.lemmas.Fmt.{decimal_injective}
 use Rattle.ebpf_insn.specs.declared.insn.Insn.{Insn}
 use Rattle.ebpf_insn.specs.Encoding.{IsDefined}
-use Rattle.ebpf_text.specs.Mnemonics.{mnemonic_of}
 use Rattle.ebpf_assembly.specs.Assembly.{words_of, slot_label, IsInsnAt}
 use Rattle.ebpf_assembly.specs.Faults.{IsLabelledWrong, IsLabelledRight, IsUnlabelled, IsLineFault}
 use Rattle.ebpf_assembly.specs.declared.fault.LineFault.TheVariants.{NoInstruction}
@@ -31,10 +30,12 @@ no_insn slot ws rest small some unlabelled none = (some, right unlabelled, missi
   right : IsUnlabelled slot ws rest → IsLabelledRight slot ws
   right (inl f) label others e = sym (init_back label 58) ∙ (ap init (ap first (sym e ∙ f)) ∙ init_back (decimal slot) 58)
   right (inr g) label others e = absurd (g.1 label others e)
+
   which : IsUnlabelled slot ws rest → (i : Insn) → IsDefined i → (ws ≡ words_of i) ⊎ (ws ≡ slot_label slot ∷ words_of i) → ⊥
   which (inl f) i d (inl h) = no_slot slot i small (ap first (sym h ∙ f))
   which (inl f) i d (inr h) = none i d (ap (λ (ts : List (List ℕ)). drop 1 ts) (sym f ∙ h))
   which (inr g) i d (inl h) = none i d (sym g.0 ∙ h)
   which (inr g) i d (inr h) = g.1 (decimal slot) (words_of i) h
+
   missing : IsUnlabelled slot ws rest → (i : Insn) → IsInsnAt slot ws i → ⊥
   missing u i at = which u i at.0 at.1

@@ -13,3 +13,4 @@ pub mod InsnWords
 pub mod LineWords
 pub mod Labels
 pub mod Drafts
+pub mod Faulty

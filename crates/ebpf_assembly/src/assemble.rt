@@ -42,9 +42,13 @@ fn read_lines(alloc: Global, text: &[u8]) -> Result<Program, AssemblyFault>
     let mut number = 0;
     for line in text.split(|c| *c == b'\n') {
         number += 1;
-        if let Some(insn) = read_line(alloc, number, slots.len(), line)? {
-            place(&mut slots, insn)?;
-            len += 1;
+        match read_line(alloc, number, slots.len(), line) {
+            Ok(None) => {}
+            Ok(Some(insn)) => {
+                place(&mut slots, insn)?;
+                len += 1;
+            }
+            Err(fault) => return Err(fault),
         }
     }
     if len == 0 {

@@ -22,15 +22,10 @@ pub enum LineFault {
 pub enum AssemblyFault {
     /// The first line at fault, counted from 1.
     #[error("line {line}: {fault}")]
-    Bad {
-        line: usize,
-        fault: LineFault,
-    },
+    Bad { line: usize, fault: LineFault },
     /// No line has an instruction: the number of the last one.
     #[error("line {line}: there is no instruction")]
-    Empty {
-        line: usize,
-    },
+    Empty { line: usize },
     /// An allocation failed.
     #[error("out of memory")]
     NoMemory,

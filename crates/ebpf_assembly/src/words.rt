@@ -63,5 +63,9 @@ pub(crate) fn unlabelled<'a, 'b>(slot: usize, words: &'a [&'b [u8]]) -> Option<&
         return Some(words);
     };
     let number = number(label)?;
-    if number == slot as u64 { Some(rest) } else { None }
+    if number == slot as u64 {
+        Some(rest)
+    } else {
+        None
+    }
 }

@@ -1,4 +1,3 @@
-use Rattle.std.proofs.Common.{arith}
 use Rattle.ebpf_assembly.proofs.Labels.{no_insn}
 use Rattle.ebpf_assembly.proofs.line.insn_at.Goals as goal
 
