@@ -1,0 +1,16 @@
+pub mod RegisterNames
+pub mod PlainTexts
+pub mod Splitting
+pub mod Kept
+pub mod Assembled
+pub mod Shapes
+pub mod WordsUnique
+pub mod Unique
+pub mod Numbers
+pub mod OperandWords
+pub mod KindWords
+pub mod InsnWords
+pub mod LineWords
+pub mod Labels
+pub mod Drafts
+pub mod Faulty
