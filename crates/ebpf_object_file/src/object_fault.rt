@@ -1,0 +1,55 @@
+//! Why a file has no program of the name that was asked for, in a sentence.
+
+use crate::fault::FileFault;
+use crate::functions::Functions;
+use crate::outside::{Outside, Target};
+use std::fmt;
+use thiserror::Error;
+
+/// Why a function of a file is no program by itself, or why there is no such function.
+#[derive(Clone, Copy, Debug, Error)]
+pub enum ObjectFault<'a> {
+    #[error("{0}")]
+    File(FileFault),
+    /// No function has the name. The sentence lists those that there are.
+    #[error("the file has no function of that name; it has {0}")]
+    NoFunction(Functions<'a>),
+    /// No name was given, and there are more functions than one.
+    #[error("the file has more than one function: name one of {0}")]
+    SeveralFunctions(Functions<'a>),
+    /// The function needs another part of the file.
+    #[error("{0}")]
+    Outside(Outside<'a>),
+}
+
+/// The slot, the symbol, and what mends it.
+impl fmt::Display for Outside<'_> {
+    fn fmt<W: fmt::Write>(&self, f: &mut fmt::Formatter<W>) -> fmt::Result {
+        let slot = self.slot;
+        let name = self.name;
+        match self.target {
+            Target::Table => write!(
+                f,
+                "slot {slot} uses {name}, a table outside of the function: keep it on the stack"
+            ),
+            Target::Variable => write!(
+                f,
+                "slot {slot} uses {name}, a variable outside of the function: pass it in the context"
+            ),
+            Target::Function => write!(
+                f,
+                "slot {slot} calls {name}, a function of the file: make it static inline, and compile with -O2"
+            ),
+            Target::External => write!(
+                f,
+                "slot {slot} uses {name}, which is not in the file: define it as static inline, and compile with -O2"
+            ),
+        }
+    }
+}
+
+impl fmt::Debug for Outside<'_> {
+    fn fmt<W: fmt::Write>(&self, f: &mut fmt::Formatter<W>) -> fmt::Result {
+        write!(f, "{self}")
+    }
+}

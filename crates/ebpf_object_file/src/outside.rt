@@ -1,0 +1,165 @@
+//! What a function's bytes refer to outside of them.
+
+ghost use Rattle.std.specs.Prelude.{◌≡◌, ◌≤◌, ◌<◌, ◌+◌, ◌/◌, ◌^◌, length, IfOk, IfErr, MatchOption};
+ghost use Rattle.ebpf_object_file.specs.First.{IsFirst};
+ghost use Rattle.ebpf_object_file.specs.Header.{header_of};
+ghost use Rattle.ebpf_object_file.specs.Section.{sections_in};
+ghost use Rattle.ebpf_object_file.specs.Symbol.{is_in_file};
+ghost use Rattle.ebpf_object_file.specs.Call.{is_call};
+ghost use Rattle.ebpf_object_file.specs.File.{IsOpen, AreFunctions, name_limit};
+ghost use Rattle.ebpf_object_file.specs.Outside.{target_of, name_of, IsReachedFirst, IsReached, HasNone, IsRelocationFault, IsRelocated, IsCalling};
+
+use crate::call::{called_at, find_called};
+use crate::fault::FileFault;
+use crate::functions::{Functions, MOST_NAME, Name};
+use crate::header::Header;
+use crate::relocation::{Relocation, find_relocation, relocation_of};
+use crate::section::{Count, Wanted, bytes_of, count_sections, section_of};
+use crate::symbol::{Symbol, symbol_of, symbol_or_null};
+use crate::text::text_at;
+
+/// Where a function is: its section, and its range there in bytes.
+#[derive(Clone, Copy)]
+pub struct Place {
+    pub section: u16,
+    pub from: u64,
+    pub size: u64,
+}
+
+/// What a symbol is, by the section that it is in.
+#[derive(Clone, Copy, Debug)]
+pub enum Target {
+    /// Data that isn't written (`SHF_WRITE` isn't set): a constant table, or a string.
+    Table,
+    /// Data that may be written (`SHF_WRITE`): a global or static variable.
+    Variable,
+    /// A function (`SHF_EXECINSTR`).
+    Function,
+    /// What the file doesn't define.
+    External,
+}
+
+/// A slot that needs another part of the file.
+#[derive(Clone, Copy)]
+pub struct Outside<'a> {
+    /// The slot, from the function's first.
+    pub slot: u64,
+    pub target: Target,
+    /// The symbol's name, that of its section where the symbol has none, or no bytes where the file has neither.
+    pub name: Name<'a>,
+}
+
+// What a symbol is.
+fn target_of(file: &[u8], header: Header, symbol: Symbol) -> Target
+    requires file { IsOpen file.now }
+    requires header { header ≡ header_of file.now }
+    ensures { result ≡ target_of file.now symbol }
+{
+    if !symbol.is_in_file(header.sections) {
+        return Target::External;
+    }
+    let flags = section_of(file, header, symbol.section).flags;
+    if flags / 4 % 2 == 1 {
+        Target::Function
+    } else if flags % 2 == 1 {
+        Target::Variable
+    } else {
+        Target::Table
+    }
+}
+
+// The name of a symbol, or of its section where the symbol is that of a section.
+fn name_of<'a>(file: &'a [u8], header: Header, strings: &'a [u8], symbol: Symbol) -> &'a [u8]
+    requires file { IsOpen file.now }
+    requires header { header ≡ header_of file.now }
+    requires names { header.names < sections_in file.now }
+    ensures { result.now ≡ name_of file.now strings.now symbol }
+{
+    if symbol.info % 16 == 3 && symbol.is_in_file(header.sections) {
+        let names = bytes_of(file, header, header.names);
+        let section = section_of(file, header, symbol.section);
+        return text_at(names, section.name as usize, MOST_NAME);
+    }
+    text_at(strings, symbol.name as usize, MOST_NAME)
+}
+
+// The first relocation that reaches a place, `None` where none does.
+pub(crate) fn relocation_in(
+    file: &[u8],
+    header: Header,
+    place: Place,
+) -> Result<Option<Relocation>, FileFault>
+    requires file { IsOpen file.now }
+    requires header { header ≡ header_of file.now }
+    ensures found { IfOk result (λ r. MatchOption r (HasNone file.now place) (λ r. IsReachedFirst file.now place r)) }
+    ensures refused { IfErr result (λ e. IsRelocationFault file.now place e) }
+{
+    match count_sections(file, header, Wanted::AddendsFor(place.section)) {
+        Count::NoSuch => {}
+        Count::One(_) => return Err(FileFault::Addends),
+        Count::Several => return Err(FileFault::Addends),
+    }
+    let table = match count_sections(file, header, Wanted::RelocationsFor(place.section)) {
+        Count::NoSuch => return Ok(None),
+        Count::One(table) => table,
+        Count::Several => return Err(FileFault::RelocationsTwice),
+    };
+    let relocations = bytes_of(file, header, table);
+    match find_relocation(relocations, place.from, place.size) {
+        None => Ok(None),
+        Some(number) => Ok(Some(relocation_of(relocations, number))),
+    }
+}
+
+// What a relocation that reaches a place refers to.
+pub(crate) fn relocated<'a>(
+    functions: Functions<'a>,
+    place: Place,
+    relocation: Relocation,
+) -> Outside<'a>
+    requires functions { AreFunctions functions.file.now functions }
+    requires relocation { IsReachedFirst functions.file.now place relocation }
+    ensures { IsRelocated functions.entry.file.now functions.entry.symbols.now functions.entry.strings.now place result }
+{
+    let Functions { file, header, .. } = functions;
+    let symbol = symbol_or_null(functions.symbols, relocation.symbol as usize);
+    Outside {
+        slot: relocation.offset.saturating_sub(place.from) / 8,
+        target: target_of(file, header, symbol),
+        name: Name {
+            bytes: name_of(file, header, functions.strings, symbol),
+        },
+    }
+}
+
+// What a call by its place refers to.
+pub(crate) fn calling<'a>(
+    functions: Functions<'a>,
+    place: Place,
+    code: &[u8],
+    slot: usize,
+) -> Outside<'a>
+    requires functions { AreFunctions functions.file.now functions }
+    requires slot { IsFirst (is_call code.now) (length code.now / 8) slot }
+    ensures { IsCalling functions.entry.symbols.now functions.entry.strings.now functions.entry.header.sections place code.now result }
+{
+    let at = called_at(code, place.from, slot);
+    let called = find_called(
+        functions.symbols,
+        functions.header.sections,
+        place.section,
+        at,
+    );
+    let bytes: &[u8] = match called {
+        None => &[],
+        Some(number) => {
+            let name = symbol_of(functions.symbols, number).name;
+            text_at(functions.strings, name as usize, MOST_NAME)
+        }
+    };
+    Outside {
+        slot: slot as u64,
+        target: Target::Function,
+        name: Name { bytes },
+    }
+}
