@@ -44,7 +44,7 @@ pub enum FileFault {
     /// A caller asks for the lines of a section that isn't in the file.
     #[error("the file has no section of that number")]
     NoSection,
-    #[error("the name of the function's section has more than 255 bytes")]
+    #[error("the name of the function's section has no end, or more than 255 bytes")]
     LongSectionName,
     /// The header of `.BTF` isn't as it must be, or its strings reach beyond its end.
     #[error("the strings of .BTF cannot be read")]

@@ -127,6 +127,9 @@ impl<'a> Functions<'a> {
 
 impl fmt::Display for Name<'_> {
     fn fmt<W: fmt::Write>(&self, f: &mut fmt::Formatter<W>) -> fmt::Result {
+        if self.bytes.is_empty() {
+            return f.write_str("(no name)");
+        }
         for byte in self.bytes {
             let shown = if byte.is_ascii_graphic() { *byte } else { b'?' };
             f.write_char(shown as char)?;
@@ -135,12 +138,13 @@ impl fmt::Display for Name<'_> {
     }
 }
 
-/// The names, 16 at most: where there are more, `..` is after them.
+/// The names, 16 at most: where there are more, `..` is after them. Where there is no function, `none`.
 impl fmt::Display for Functions<'_> {
     fn fmt<W: fmt::Write>(&self, f: &mut fmt::Formatter<W>) -> fmt::Result {
         let mut from = 0;
         for _ in 0..MOST_NAMES {
             match self.next(from) {
+                None if from == 0 => return f.write_str("none"),
                 None => return Ok(()),
                 Some(named) => {
                     if from > 0 {

@@ -22,29 +22,36 @@ pub enum ObjectFault<'a> {
     Outside(Outside<'a>),
 }
 
+// What the slot does with the symbol.
+fn verb(target: Target) -> &'static str {
+    match target {
+        Target::Function => "calls",
+        Target::Table | Target::Variable | Target::External => "uses",
+    }
+}
+
+// What the symbol is, and what mends it.
+fn mending(target: Target) -> &'static str {
+    match target {
+        Target::Table => "a table outside of the function: keep it on the stack",
+        Target::Variable => "a variable outside of the function: pass it in the context",
+        Target::Function => {
+            "a function of the file: make it static inline, and compile with -O2"
+        }
+        Target::External => {
+            "which is not in the file: define it as static inline, and compile with -O2"
+        }
+    }
+}
+
 /// The slot, the symbol, and what mends it.
 impl fmt::Display for Outside<'_> {
     fn fmt<W: fmt::Write>(&self, f: &mut fmt::Formatter<W>) -> fmt::Result {
         let slot = self.slot;
         let name = self.name;
-        match self.target {
-            Target::Table => write!(
-                f,
-                "slot {slot} uses {name}, a table outside of the function: keep it on the stack"
-            ),
-            Target::Variable => write!(
-                f,
-                "slot {slot} uses {name}, a variable outside of the function: pass it in the context"
-            ),
-            Target::Function => write!(
-                f,
-                "slot {slot} calls {name}, a function of the file: make it static inline, and compile with -O2"
-            ),
-            Target::External => write!(
-                f,
-                "slot {slot} uses {name}, which is not in the file: define it as static inline, and compile with -O2"
-            ),
-        }
+        let verb = verb(self.target);
+        let mending = mending(self.target);
+        write!(f, "slot {slot} {verb} {name}, {mending}")
     }
 }
 

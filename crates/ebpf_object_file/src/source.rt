@@ -37,11 +37,13 @@ fn lines_in<'a>(btf: &'a [u8], ext: &'a [u8], name: &[u8]) -> Result<Option<Line
         (λ l. AreLines btf.now ext.now name.now l.strings.now l.records.now l.size)) }
     ensures refused { IfErr result (λ e. IsLinesFault btf.now ext.now name.now e) }
 {
-    let Some(strings) = table_of(btf) else {
-        return Err(FileFault::BadStrings);
+    let strings = match table_of(btf) {
+        None => return Err(FileFault::BadStrings),
+        Some(strings) => strings,
     };
-    let Some(table) = table_of(ext) else {
-        return Err(FileFault::BadLines);
+    let table = match table_of(ext) {
+        None => return Err(FileFault::BadLines),
+        Some(table) => table,
     };
     if table.is_empty() {
         return Ok(None);
