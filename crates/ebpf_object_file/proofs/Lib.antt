@@ -5,4 +5,5 @@ pub mod Places
 pub mod Chosen
 pub mod Parts
 pub mod Best
+pub mod Slots
 pub mod Tables

@@ -1,5 +1,5 @@
 -- The lines of C (the kernel's documentation of BTF, sections 3 ".BTF", 4 ".BTF.ext" and its line_info).
-use Rattle.std.specs.Prelude.{ℕ, Bool, true, false, ⊤, ◌≡◌, ◌≢◌, ◌≤◌, ◌<◌, Option, Some, None, ◌+◌, ◌*◌, ◌/◌, ◌%◌, List, [], ◌∷◌, length, take, drop, slice_index, ◌&&◌, ◌==◌, ◌||◌, nat_le}
+use Rattle.std.specs.Prelude.{ℕ, Bool, true, false, ⊤, ◌≡◌, ◌≢◌, ◌≤◌, ◌<◌, Option, Some, None, ◌+◌, ◌*◌, ◌/◌, ◌%◌, List, [], ◌∷◌, length, take, drop, slice_index, ◌&&◌, ◌==◌, ◌||◌, nat_le, nat_lt, cond, ◌-◌}
 use Rattle.std.specs.List.{prefix_len}
 use Rattle.ebpf_object_file.specs.declared.lines.Part.{Part}
 use Rattle.ebpf_object_file.specs.declared.lines.Line.{Line}
@@ -78,19 +78,33 @@ line_of size records k = record {
 abbrev pub is_between : ℕ → ℕ → Line → Bool
 is_between from at l = nat_le from l.offset && nat_le l.offset at
 
--- Of the first n lines the one that holds at a byte of a function that begins at another: of those that begin between the two,
--- none begins later. Lines of a function before it don't count.
-pub record HoldsAt (size : ℕ) (records : List ℕ) (from at n : ℕ) (l : Line) : Type 0 where
+-- Of the first n lines that pass a test, the one that begins latest, and of several of those the last.
+pub record IsLatest (test : Line → Bool) (size : ℕ) (records : List ℕ) (n : ℕ) (l : Line) : Type 0 where
   pub number : ℕ
   pub inside : number < n
   pub is : l ≡ line_of size records number
-  pub between : is_between from at l ≡ true
-  pub last : (k : ℕ) → k < n → is_between from at (line_of size records k) ≡ true → (line_of size records k).offset ≤ l.offset
+  pub here : test l ≡ true
+  pub last : (k : ℕ) → k < n → test (line_of size records k) ≡ true → (line_of size records k).offset ≤ l.offset
+  pub after : (k : ℕ) → k < n → number < k → test (line_of size records k) ≡ true → (line_of size records k).offset < l.offset
 
--- the line that holds there, or none does
+-- that line, or none passes
+abbrev pub Latest : (Line → Bool) → ℕ → List ℕ → ℕ → Option Line → Type 0
+Latest test size records n None = (k : ℕ) → k < n → test (line_of size records k) ≡ false
+Latest test size records n (Some l) = IsLatest test size records n l
+
+-- The line that holds at a byte of a function that begins at another, or none does: the latest that begins between the two. Lines
+-- of a function before it don't count.
 abbrev pub Holds : ℕ → List ℕ → ℕ → ℕ → ℕ → Option Line → Type 0
-Holds size records from at n None = (k : ℕ) → k < n → is_between from at (line_of size records k) ≡ false
-Holds size records from at n (Some l) = HoldsAt size records from at n l
+Holds size records from at n best = Latest (is_between from at) size records n best
+
+-- the line that begins later, or the other where both begin at the same byte
+abbrev pub later : Option Line → Line → Line
+later None l = l
+later (Some found) l = cond (nat_lt l.offset found.offset) found l
+
+-- The slot of a function at which a line begins to hold, where the function begins at a byte: the first that isn't before the line's own.
+abbrev pub is_at : ℕ → ℕ → Line → Bool
+is_at from slot l = nat_le from l.offset && (l.offset - from + 7) / 8 == slot
 
 -- the most bytes that are shown of a file's name and of a line's text
 abbrev pub file_limit : ℕ

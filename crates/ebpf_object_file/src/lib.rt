@@ -6,7 +6,7 @@
 //! and is refused with the slot and the symbol. Nothing is allocated, and the time is linear in the size of the file.
 //!
 //! To be read in this order: `fault`, `field`, `header`, `section`, `text`, `symbol`, `relocation`, `call`, `functions`, `outside`,
-//! `object_fault`, `function`, `lines`, `source`.
+//! `object_fault`, `function`, `lines`, `slot_lines`, `source`.
 #![tactic(auto)]
 
 mod call;
@@ -20,6 +20,7 @@ pub mod object_fault;
 pub mod outside;
 pub mod relocation;
 mod section;
+pub mod slot_lines;
 pub mod source;
 pub mod symbol;
 mod text;

@@ -1,7 +1,7 @@
 //! The lines of C that `.BTF` and `.BTF.ext` have.
 
 ghost use Rattle.std.specs.Prelude.{◌≡◌, ◌≤◌, ◌<◌, ◌≢◌, ◌+◌, ◌*◌, ◌/◌, length, true, false, drop, [], MatchOption, MatchResult, IfOk, IfErr};
-ghost use Rattle.ebpf_object_file.specs.Lines.{is_headed, has_table, table_of, is_part, part_of, part_size, IsPartNamed, HasNoPart, IsBroken, viewed, is_between, Holds, line_of as nth_line, is_blank, trimmed, file_limit, text_limit};
+ghost use Rattle.ebpf_object_file.specs.Lines.{is_headed, has_table, table_of, is_part, part_of, part_size, IsPartNamed, HasNoPart, IsBroken, viewed, is_between, Holds, line_of as nth_line, later, is_blank, trimmed, file_limit, text_limit};
 ghost use Rattle.ebpf_object_file.specs.Text.{text_at};
 ghost use Rattle.ebpf_object_file.specs.declared.fault.FileFault.TheVariants.{BadLines};
 
@@ -109,7 +109,7 @@ pub struct Line {
 }
 
 // The line of a number.
-fn line_of(size: usize, records: &[u8], number: usize) -> Line
+pub(crate) fn line_of(size: usize, records: &[u8], number: usize) -> Line
     requires size { 16 ≤ size }
     requires number { number < length records.now / size }
     ensures { result ≡ nth_line size records.now number }
@@ -134,6 +134,16 @@ impl Line {
     }
 }
 
+// The line that begins later, or the second where both begin at the same byte.
+pub(crate) fn later(best: Option<Line>, line: Line) -> Line
+    ensures { result ≡ later best line }
+{
+    match best {
+        Some(found) if line.offset < found.offset => found,
+        _ => line,
+    }
+}
+
 // The line that holds at a byte of a function that begins at another.
 pub(crate) fn line_at(size: usize, records: &[u8], from: u64, at: u64) -> Option<Line>
     requires { 16 ≤ size }
@@ -143,10 +153,7 @@ pub(crate) fn line_at(size: usize, records: &[u8], from: u64, at: u64) -> Option
     for number in 0..records.len() / size {
         let line = line_of(size, records, number);
         if line.is_between(from, at) {
-            match best {
-                Some(found) if line.offset < found.offset => {}
-                _ => best = Some(line),
-            }
+            best = Some(later(best, line));
         }
     }
     best

@@ -253,6 +253,25 @@ fn a_byte_of_a_function_has_its_line(rt: HostRuntime) {
     }
 }
 
+#[test]
+fn each_slot_has_the_line_of_its_first_byte(rt: HostRuntime) {
+    let file = object(&rt, rt.alloc(), "two");
+    let lines = lines_of(&file, 2).ok().expect(&rt, "they can't be read");
+    let lines = lines.expect(&rt, "it has none");
+    let mut of_slots = [None; 12];
+    lines.at_slots(64, &mut of_slots);
+    for slot in 0..12 {
+        let line = of_slots[slot].expect(&rt, "none holds");
+        let at = lines.at(64, 64 + 8 * slot as u64).expect(&rt, "none holds");
+        holds(&rt, "it has another offset", line.offset == at.offset);
+        holds(&rt, "it has another line", line.line == at.line);
+        holds(&rt, "it has another column", line.column == at.column);
+    }
+    // After the function's last slot the last line holds on.
+    let last = of_slots[10].expect(&rt, "none holds");
+    holds(&rt, "it is another line", last.line == 16 && last.column == 2);
+}
+
 fn has_no_lines(rt: &impl Abort, alloc: Global, row: &str) {
     let (changes, columns) = column(rt, row);
     let (section, expected) = column(rt, columns);
