@@ -93,3 +93,10 @@ place_inside file symbols number p h =
     let from : p.from ≡ (symbol_of symbols number).value = h.from in
     let size : p.size ≡ (symbol_of symbols number).size = h.size in
     rw (from, size, len) inside
+
+-- and its section is in the file
+pub place_section : (file symbols : List ℕ) (number : ℕ) (p : Place) (h : Header) → h ≡ header_of file
+    → is_function h.sections (symbol_of symbols number) ≡ true → IsPlace file symbols number p → p.section < sections_in file
+place_section file symbols number p h same function is =
+    let count : h.sections ≡ sections_in file = ap (λ (x : Header). x.sections) same in
+    subst (λ (n : ℕ). p.section < n) count (subst (λ (n : ℕ). n < h.sections) (sym is.section) (section_inside h.sections (symbol_of symbols number) function))

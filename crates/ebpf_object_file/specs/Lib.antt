@@ -7,6 +7,7 @@ pub mod Symbol
 pub mod Relocation
 pub mod Call
 pub mod File
+pub mod Naming
 pub mod Outside
 pub mod Function
 pub mod Lines

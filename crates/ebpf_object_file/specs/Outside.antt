@@ -1,5 +1,5 @@
 -- What a function's bytes refer to outside of them: by a relocation, or by a call of a place.
-use Rattle.std.specs.Prelude.{ℕ, ◌≡◌, ◌<◌, ◌-◌, ◌/◌, ◌%◌, true, List, [], length, Option, Some, None, ◌==◌, ◌&&◌, cond}
+use Rattle.std.specs.Prelude.{ℕ, ◌≡◌, ◌<◌, ◌-◌, ◌/◌, ◌%◌, true, List, [], length, Option, Some, None, ◌==◌, cond}
 use Rattle.ebpf_object_file.specs.declared.symbol.Symbol.{Symbol}
 use Rattle.ebpf_object_file.specs.declared.outside.Place.{Place}
 use Rattle.ebpf_object_file.specs.declared.outside.Outside.{Outside}
@@ -9,7 +9,6 @@ use Rattle.ebpf_object_file.specs.declared.relocation.Relocation.{Relocation}
 use Rattle.ebpf_object_file.specs.declared.fault.FileFault.{FileFault}
 use Rattle.ebpf_object_file.specs.declared.fault.FileFault.TheVariants as fault
 use Rattle.ebpf_object_file.specs.declared.section.Wanted.TheVariants.{RelocationsFor, AddendsFor}
-use Rattle.ebpf_object_file.specs.Field.{field}
 use Rattle.ebpf_object_file.specs.First.{NoneBelow, IsFirst, IsOnly, AreTwo, Finds}
 use Rattle.ebpf_object_file.specs.Section.{section_of, sections_in, wanted_in, bytes_of}
 use Rattle.ebpf_object_file.specs.Text.{text_at}
@@ -17,6 +16,7 @@ use Rattle.ebpf_object_file.specs.Symbol.{symbol_of, symbol_or_null, is_in_file}
 use Rattle.ebpf_object_file.specs.Relocation.{relocation_of, reaches}
 use Rattle.ebpf_object_file.specs.Call.{is_call, called_at, is_called}
 use Rattle.ebpf_object_file.specs.File.{name_limit}
+use Rattle.ebpf_object_file.specs.Naming.{addend_at, IsNameOf}
 
 -- What a symbol is, by the flags of its section: SHF_EXECINSTR is 4, SHF_WRITE is 1.
 abbrev pub target_by : ℕ → Target
@@ -24,11 +24,6 @@ target_by flags = cond (flags / 4 % 2 == 1) target.Function (cond (flags % 2 == 
 
 abbrev pub target_of : List ℕ → Symbol → Target
 target_of file s = cond (is_in_file (sections_in file) s) (target_by (section_of file s.section).flags) target.External
-
--- The name of a symbol. That of a section, STT_SECTION, has the section's name, which is in the section of number e_shstrndx.
-abbrev pub name_of : List ℕ → List ℕ → Symbol → List ℕ
-name_of file strings s = cond (s.info % 16 == 3 && is_in_file (sections_in file) s)
-    (text_at (bytes_of file (field 2 file 62)) (section_of file s.section).name name_limit) (text_at strings s.name name_limit)
 
 -- a relocation reaches the place: one of a section of relocations for its section
 pub record IsReached (file : List ℕ) (p : Place) (r : Relocation) : Type 0 where
@@ -67,7 +62,7 @@ pub record IsRelocated (file symbols strings : List ℕ) (p : Place) (o : Outsid
   pub first : IsReachedFirst file p relocation
   pub slot : o.slot ≡ (relocation.offset - p.from) / 8
   pub target : o.target ≡ target_of file (symbol_or_null symbols relocation.symbol)
-  pub name : o.name.bytes.now ≡ name_of file strings (symbol_or_null symbols relocation.symbol)
+  pub name : IsNameOf file symbols strings (symbol_or_null symbols relocation.symbol) (addend_at (bytes_of file p.section) relocation.offset) o.name.bytes.now
 
 -- the name of the symbol of a number, where there is one
 abbrev pub name_found : List ℕ → List ℕ → Option ℕ → List ℕ

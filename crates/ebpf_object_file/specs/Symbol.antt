@@ -23,6 +23,10 @@ symbol_or_null table k =
 abbrev pub is_in_file : ℕ → Symbol → Bool
 is_in_file sections s = nat_le 1 s.section && nat_lt s.section sections
 
+-- STT_SECTION, of a section of the file
+abbrev pub is_of_section : ℕ → Symbol → Bool
+is_of_section sections s = s.info % 16 == 3 && is_in_file sections s
+
 -- STT_FUNC, in a section of the file
 abbrev pub is_function : ℕ → Symbol → Bool
 is_function sections s = s.info % 16 == 2 && is_in_file sections s

@@ -5,7 +5,7 @@
 //! file says, or the first fault in a stated order. A function that needs another part of the file is no program by itself,
 //! and is refused with the slot and the symbol. Nothing is allocated, and the time is linear in the size of the file.
 //!
-//! To be read in this order: `fault`, `field`, `header`, `section`, `text`, `symbol`, `relocation`, `call`, `functions`, `outside`,
+//! To be read in this order: `fault`, `field`, `header`, `section`, `text`, `symbol`, `relocation`, `call`, `functions`, `symbol_name`, `outside`,
 //! `object_fault`, `function`, `lines`, `slot_lines`, `source`.
 #![tactic(auto)]
 
@@ -23,4 +23,5 @@ mod section;
 pub mod slot_lines;
 pub mod source;
 pub mod symbol;
+mod symbol_name;
 mod text;

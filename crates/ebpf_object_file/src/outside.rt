@@ -7,7 +7,7 @@ ghost use Rattle.ebpf_object_file.specs.Section.{sections_in};
 ghost use Rattle.ebpf_object_file.specs.Symbol.{is_in_file};
 ghost use Rattle.ebpf_object_file.specs.Call.{is_call};
 ghost use Rattle.ebpf_object_file.specs.File.{IsOpen, AreFunctions, name_limit};
-ghost use Rattle.ebpf_object_file.specs.Outside.{target_of, name_of, IsReachedFirst, IsReached, HasNone, IsRelocationFault, IsRelocated, IsCalling};
+ghost use Rattle.ebpf_object_file.specs.Outside.{target_of, IsReachedFirst, IsReached, HasNone, IsRelocationFault, IsRelocated, IsCalling};
 
 use crate::call::{called_at, find_called};
 use crate::fault::FileFault;
@@ -16,6 +16,7 @@ use crate::header::Header;
 use crate::relocation::{Relocation, find_relocation, relocation_of};
 use crate::section::{Count, Wanted, bytes_of, count_sections, section_of};
 use crate::symbol::{Symbol, symbol_of, symbol_or_null};
+use crate::symbol_name::{addend_at, name_of};
 use crate::text::text_at;
 
 /// Where a function is: its section, and its range there in bytes.
@@ -68,21 +69,6 @@ fn target_of(file: &[u8], header: Header, symbol: Symbol) -> Target
     }
 }
 
-// The name of a symbol, or of its section where the symbol is that of a section.
-fn name_of<'a>(file: &'a [u8], header: Header, strings: &'a [u8], symbol: Symbol) -> &'a [u8]
-    requires file { IsOpen file.now }
-    requires header { header ≡ header_of file.now }
-    requires names { header.names < sections_in file.now }
-    ensures { result.now ≡ name_of file.now strings.now symbol }
-{
-    if symbol.info % 16 == 3 && symbol.is_in_file(header.sections) {
-        let names = bytes_of(file, header, header.names);
-        let section = section_of(file, header, symbol.section);
-        return text_at(names, section.name as usize, MOST_NAME);
-    }
-    text_at(strings, symbol.name as usize, MOST_NAME)
-}
-
 // The first relocation that reaches a place, `None` where none does.
 pub(crate) fn relocation_in(
     file: &[u8],
@@ -119,15 +105,17 @@ pub(crate) fn relocated<'a>(
 ) -> Outside<'a>
     requires functions { AreFunctions functions.file.now functions }
     requires relocation { IsReachedFirst functions.file.now place relocation }
+    requires section { place.section < sections_in functions.file.now }
     ensures { IsRelocated functions.entry.file.now functions.entry.symbols.now functions.entry.strings.now place result }
 {
     let Functions { file, header, .. } = functions;
     let symbol = symbol_or_null(functions.symbols, relocation.symbol as usize);
+    let addend = addend_at(bytes_of(file, header, place.section), relocation.offset);
     Outside {
         slot: relocation.offset.saturating_sub(place.from) / 8,
         target: target_of(file, header, symbol),
         name: Name {
-            bytes: name_of(file, header, functions.strings, symbol),
+            bytes: name_of(functions, symbol, addend),
         },
     }
 }

@@ -2,7 +2,7 @@
 
 ghost use Rattle.std.specs.Prelude.{◌≡◌, ◌≤◌, ◌<◌, ◌+◌, ◌*◌, ◌/◌, length, ℕ};
 ghost use Rattle.ebpf_object_file.specs.First.{Finds};
-ghost use Rattle.ebpf_object_file.specs.Symbol.{symbol_of as nth_symbol, symbol_or_null, is_in_file, is_function, is_function_named, function_from};
+ghost use Rattle.ebpf_object_file.specs.Symbol.{symbol_of as nth_symbol, symbol_or_null, is_in_file, is_of_section, is_function, is_function_named, function_from};
 
 use crate::field::{u16_at, u32_at, u64_at};
 use crate::text::is_named;
@@ -59,6 +59,13 @@ impl Symbol {
         ensures { result ≡ is_in_file sections self.now }
     {
         self.section >= 1 && self.section < sections
+    }
+
+    // Whether it is that of one of so many sections.
+    pub(crate) fn is_of_section(&self, sections: u16) -> bool
+        ensures { result ≡ is_of_section sections self.now }
+    {
+        self.info % 16 == 3 && self.is_in_file(sections)
     }
 
     // Whether it is a function in one of so many sections.

@@ -22,8 +22,8 @@ call | twice | 2 80 40 | bf200000000000002f1000000000000077010000030000000f10000
 
 // The object, the function, `-` for the only one, and why it is no program by itself.
 const REFUSED: &str = "\
-table | weigh | slot 3 uses .rodata.cst32, a table outside of the function: keep it on the stack
-table | - | slot 3 uses .rodata.cst32, a table outside of the function: keep it on the stack
+table | weigh | slot 3 uses weights, a table outside of the function: keep it on the stack
+table | - | slot 3 uses weights, a table outside of the function: keep it on the stack
 section | first | slot 0 uses counter, a variable outside of the function: pass it in the context
 call | entry | slot 3 calls twice, a function of the file: make it static inline, and compile with -O2
 call | far | slot 1 uses outside, which is not in the file: define it as static inline, and compile with -O2
@@ -59,6 +59,7 @@ const DAMAGED: &str = "\
 1716 04000000, 1756 02000000 | the relocations of the function's section have addends
 1756 02000000, 1780 09000000, 1820 02000000 | the function's section has more than one section of relocations
 1008 0000000000000000, 1016 0800000000000000, 64 8510000002000000 | slot 0 calls (no name), a function of the file: make it static inline, and compile with -O2
+- 1316 1b | the file has more than one function: name one of checksum, ?argest
 - 980 10, 1004 10 | the file has no function
 - 980 10, 1016 5700000000000000 | the function's bytes are not whole slots of its section";
 
