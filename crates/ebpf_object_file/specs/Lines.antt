@@ -1,4 +1,4 @@
--- The lines of C (the kernel's documentation of BTF, sections 3 ".BTF", 4 ".BTF.ext" and its line_info).
+-- The lines of C that .BTF and .BTF.ext have (the kernel's documentation of BTF, "BTF Type and String Encoding" and ".BTF.ext section").
 use Rattle.std.specs.Prelude.{ℕ, Bool, true, false, ⊤, ◌≡◌, ◌≢◌, ◌≤◌, ◌<◌, Option, Some, None, ◌+◌, ◌*◌, ◌/◌, ◌%◌, List, [], ◌∷◌, length, take, drop, slice_index, ◌&&◌, ◌==◌, ◌||◌, nat_le, nat_lt, cond, ◌-◌}
 use Rattle.std.specs.List.{prefix_len}
 use Rattle.ebpf_object_file.specs.declared.lines.Part.{Part}
@@ -26,11 +26,11 @@ pub record PartValue : Type 0 where
   pub name : ℕ
   pub records : List ℕ
 
--- the same, wherever its bytes lie in memory
+-- the same, wherever its bytes are in memory
 abbrev pub viewed : Part → PartValue
 viewed p = record { name = p.name; records = p.records.now }
 
--- how many bytes the part takes that bytes begin with, where each record has so many
+-- how many bytes the first part takes, where a record has `size` of them
 abbrev pub part_size : ℕ → List ℕ → ℕ
 part_size size bytes = 8 + size * field 4 bytes 4
 
@@ -40,7 +40,7 @@ is_part size bytes = nat_le 8 (length bytes) && nat_le (part_size size bytes) (l
 abbrev pub part_of : ℕ → List ℕ → PartValue
 part_of size bytes = record { name = field 4 bytes 0; records = take (size * field 4 bytes 4) (drop 8 bytes) }
 
--- after so many parts, one after another, this is the rest
+-- after these parts, one after another, this is the rest
 abbrev pub Follows : ℕ → List ℕ → List PartValue → List ℕ → Type 0
 Follows size bytes [] rest = rest ≡ bytes
 Follows size bytes (p ∷ ps) rest = (is_part size bytes ≡ true) × (p ≡ part_of size bytes) × Follows size (drop (part_size size bytes) bytes) ps rest
@@ -59,7 +59,7 @@ IsPartNamed size strings name bytes p = (ps : List PartValue) × (rest : List �
 abbrev pub HasNoPart : ℕ → List ℕ → List ℕ → List ℕ → Type 0
 HasNoPart size strings name bytes = (ps : List PartValue) × Follows size bytes ps [] × NoneNamed strings name ps
 
--- after some parts, none of that name, there stand bytes that are no part
+-- after some parts, none of that name, come bytes that are no part
 abbrev pub IsBroken : ℕ → List ℕ → List ℕ → List ℕ → Type 0
 IsBroken size strings name bytes = (ps : List PartValue) × (rest : List ℕ) × Follows size bytes ps rest × NoneNamed strings name ps
     × (rest ≢ []) × (is_part size rest ≡ false)

@@ -1,4 +1,4 @@
--- The name of what a relocation refers to. clang and gcc refer to static data by the symbol of its section, STT_SECTION, and by its place
+-- The name of what a relocation refers to. Compilers refer to static data by the symbol of its section, STT_SECTION, and by its place
 -- there, which is the immediate of the slot.
 use Rattle.std.specs.Prelude.{ℕ, Bool, ◌⊎◌, ◌≡◌, ◌+◌, ◌/◌, ◌%◌, true, false, List, length, Option, Some, None, ◌==◌, ◌&&◌, nat_le, nat_lt, cond}
 use Rattle.ebpf_object_file.specs.declared.symbol.Symbol.{Symbol}

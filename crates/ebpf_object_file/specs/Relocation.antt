@@ -1,4 +1,4 @@
--- Relocations (ELF, "Relocation", Elf64_Rel): 16 bytes each. The section that they are for is the sh_info of theirs.
+-- Relocations (ELF, "Relocation"): an Elf64_Rel has 16 bytes. The section that they are for is the sh_info of theirs.
 use Rattle.std.specs.Prelude.{ℕ, Bool, ◌+◌, ◌*◌, List, ◌==◌, nat_lt, cond}
 use Rattle.ebpf_object_file.specs.declared.relocation.Relocation.{Relocation}
 use Rattle.ebpf_object_file.specs.Field.{field}
@@ -16,6 +16,6 @@ relocation_of table k = record {
 abbrev pub room : Relocation → ℕ
 room r = cond (r.kind == 1) 16 8
 
--- it may write one of so many bytes from an offset on
+-- it may write one of `size` bytes from an offset on
 abbrev pub reaches : ℕ → ℕ → Relocation → Bool
 reaches from size r = cond (nat_lt r.offset from) (nat_lt from (r.offset + room r)) (nat_lt r.offset (from + size))

@@ -21,7 +21,7 @@ btf_name = 46 ∷ 66 ∷ 84 ∷ 70 ∷ []
 abbrev pub ext_name : List ℕ
 ext_name = 46 ∷ 66 ∷ 84 ∷ 70 ∷ 46 ∷ 101 ∷ 120 ∷ 116 ∷ []
 
--- what .BTF and .BTF.ext say of the section of a name: the strings, and the bytes of its lines, so many for each
+-- what .BTF and .BTF.ext say of the section of a name: the strings, the bytes of its lines, and how many bytes a line has
 pub record AreLines (btf ext name strings records : List ℕ) (size : ℕ) : Type 0 where
   pub strings_there : has_table btf ≡ true
   pub strings_are : strings ≡ table_of btf

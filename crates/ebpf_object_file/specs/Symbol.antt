@@ -1,4 +1,4 @@
--- The symbol table (ELF, "Symbol Table"): 24 bytes a symbol.
+-- The symbol table (ELF, "Symbol Table"): an Elf64_Sym has 24 bytes.
 use Rattle.std.specs.Prelude.{ℕ, Bool, ◌+◌, ◌*◌, ◌%◌, List, slice_index, ◌==◌, ◌&&◌, nat_le, nat_lt, cond, length, ◌/◌}
 use Rattle.ebpf_object_file.specs.declared.symbol.Symbol.{Symbol}
 use Rattle.ebpf_object_file.specs.Field.{field}

@@ -16,6 +16,6 @@ is_named strings at name =
 abbrev pub whole_text : List ℕ → List ℕ
 whole_text bytes = take_while (λ byte. not (byte == 0)) bytes
 
--- The string at an offset, cut after so many bytes. Beyond the end of the strings it has no bytes.
+-- The string at an offset, cut after `most` bytes. Beyond the end of the strings it is empty.
 abbrev pub text_at : List ℕ → ℕ → ℕ → List ℕ
 text_at strings at most = whole_text (take most (drop at strings))

@@ -15,10 +15,10 @@ use crate::symbol::{next_function, symbol_of};
 use crate::text::text_at;
 use std::fmt;
 
-/// The most bytes of a name.
+// The most bytes of a name.
 pub(crate) const MOST_NAME: usize = 255;
 
-/// How many names a sentence lists.
+// How many names a sentence lists at most.
 const MOST_NAMES: usize = 16;
 
 /// The functions of a file: the symbols of type `STT_FUNC` that are in one of its sections.
@@ -36,14 +36,15 @@ pub struct Name<'a> {
     pub bytes: &'a [u8],
 }
 
-/// A function's number in the symbol table, and its name.
+/// A function of the symbol table.
 #[derive(Clone, Copy)]
 pub struct Named<'a> {
+    /// Its number in the table, from 0, which the null symbol has.
     pub number: usize,
     pub name: Name<'a>,
 }
 
-// The header of a file whose sections lie in it.
+// The header of a file whose sections are in it.
 pub(crate) fn open(file: &[u8]) -> Result<Header, FileFault>
     ensures found { IfOk result (λ h. IsOpen file.now × (h ≡ header_of file.now)) }
     ensures refused { IfErr result (λ e. IsOpenFault file.now e) }

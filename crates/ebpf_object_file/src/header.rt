@@ -8,7 +8,7 @@ use crate::field::{is_inside, u16_at, u32_at, u64_at};
 
 /// What is read of the header (ELF, "ELF Header").
 #[derive(Clone, Copy)]
-pub struct Header {
+pub(crate) struct Header {
     /// `e_shoff`: where the section headers begin, in bytes from the file's first.
     pub sections_at: u64,
     /// `e_shnum`: how many there are.
@@ -53,7 +53,7 @@ pub(crate) fn read_header(file: &[u8]) -> Result<Header, FileFault>
     Ok(header)
 }
 
-/// A file has no fault of the header exactly if it is an object file of eBPF whose section headers lie in it.
+/// A file has no fault of the header exactly if it is an object file of eBPF whose section headers are in it.
 pub fn header_is_object()
     ensures fine { (file : List ℕ) → header_fault file ≡ None → IsObject file }
     ensures back { (file : List ℕ) → IsObject file → header_fault file ≡ None }

@@ -19,11 +19,14 @@ use crate::symbol::{Symbol, symbol_of, symbol_or_null};
 use crate::symbol_name::{addend_at, name_of};
 use crate::text::text_at;
 
-/// Where a function is: its section, and its range there in bytes.
+/// Where a function is.
 #[derive(Clone, Copy)]
 pub struct Place {
+    /// The number of its section, from 1.
     pub section: u16,
+    /// Where it begins, in bytes from the section's first: a multiple of 8.
     pub from: u64,
+    /// How many bytes it has: a multiple of 8, and not 0.
     pub size: u64,
 }
 
@@ -46,7 +49,7 @@ pub struct Outside<'a> {
     /// The slot, from the function's first.
     pub slot: u64,
     pub target: Target,
-    /// The symbol's name, that of its section where the symbol has none, or no bytes where the file has neither.
+    /// The symbol's name. Where it is the symbol of a section, as for static data, the name of the data there, or else of the section.
     pub name: Name<'a>,
 }
 

@@ -8,7 +8,7 @@ use crate::field::{u32_at, u64_at};
 
 /// A relocation without an addend (ELF, "Relocation").
 #[derive(Clone, Copy)]
-pub struct Relocation {
+pub(crate) struct Relocation {
     /// `r_offset`: where it is, in bytes from the first of the section that it is for.
     pub offset: u64,
     /// The low half of `r_info`: its type.
@@ -38,7 +38,7 @@ impl Relocation {
         if self.kind == 1 { 16 } else { 8 }
     }
 
-    // Whether it may write one of so many bytes from an offset on.
+    // Whether it may write one of `size` bytes from an offset on.
     fn reaches(&self, from: u64, size: u64) -> bool
         ensures { result ≡ reaches from size self.now }
     {
@@ -50,7 +50,7 @@ impl Relocation {
     }
 }
 
-// The first relocation of a table that may write one of so many bytes from an offset on.
+// The first relocation of a table that may write one of `size` bytes from an offset on.
 pub(crate) fn find_relocation(table: &[u8], from: u64, size: u64) -> Option<usize>
     ensures { Finds (λ k. reaches from size (nth_relocation table.now k)) (length table.now / 16) result }
 {

@@ -9,7 +9,7 @@ use crate::text::is_named;
 
 /// A symbol (ELF, "Symbol Table").
 #[derive(Clone, Copy)]
-pub struct Symbol {
+pub(crate) struct Symbol {
     /// `st_name`: where its name begins in the strings of the symbol table.
     pub name: u32,
     /// `st_info`: its type in the low four bits, its binding in the high four.
@@ -54,21 +54,21 @@ pub(crate) fn symbol_or_null(table: &[u8], index: usize) -> Symbol
 }
 
 impl Symbol {
-    // Whether it is in one of so many sections.
+    // Whether it is in a section of a file that has `sections` of them.
     pub(crate) fn is_in_file(&self, sections: u16) -> bool
         ensures { result ≡ is_in_file sections self.now }
     {
         self.section >= 1 && self.section < sections
     }
 
-    // Whether it is that of one of so many sections.
+    // Whether it is the symbol of a section of such a file.
     pub(crate) fn is_of_section(&self, sections: u16) -> bool
         ensures { result ≡ is_of_section sections self.now }
     {
         self.info % 16 == 3 && self.is_in_file(sections)
     }
 
-    // Whether it is a function in one of so many sections.
+    // Whether it is a function in a section of such a file.
     pub(crate) fn is_function(&self, sections: u16) -> bool
         ensures { result ≡ is_function sections self.now }
     {

@@ -27,7 +27,7 @@ fn whole_text(bytes: &[u8]) -> &[u8]
     bytes
 }
 
-// The string at an offset, cut after so many bytes.
+// The string at an offset, cut after `most` bytes.
 pub(crate) fn text_at(strings: &[u8], at: usize, most: usize) -> &[u8]
     ensures { result.now ≡ text_at strings.now at most }
 {
