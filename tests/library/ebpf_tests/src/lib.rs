@@ -32,6 +32,8 @@ mod machine;
 #[cfg(test)]
 mod memory;
 #[cfg(test)]
+mod object_file;
+#[cfg(test)]
 mod objects;
 #[cfg(test)]
 mod one;

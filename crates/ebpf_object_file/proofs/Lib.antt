@@ -1,0 +1,10 @@
+pub mod Walks
+pub mod Objects
+pub mod Texts
+pub mod Places
+pub mod Names
+pub mod Chosen
+pub mod Parts
+pub mod Best
+pub mod Slots
+pub mod Tables

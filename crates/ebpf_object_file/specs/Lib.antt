@@ -1,0 +1,14 @@
+pub mod First
+pub mod Field
+pub mod Header
+pub mod Section
+pub mod Text
+pub mod Symbol
+pub mod Relocation
+pub mod Call
+pub mod File
+pub mod Naming
+pub mod Outside
+pub mod Function
+pub mod Lines
+pub mod Source

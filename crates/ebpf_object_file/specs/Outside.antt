@@ -1,0 +1,78 @@
+-- What a function's bytes refer to outside of them: by a relocation, or by a call of a place.
+use Rattle.std.specs.Prelude.{ℕ, ◌≡◌, ◌<◌, ◌-◌, ◌/◌, ◌%◌, true, List, [], length, Option, Some, None, ◌==◌, cond}
+use Rattle.ebpf_object_file.specs.declared.symbol.Symbol.{Symbol}
+use Rattle.ebpf_object_file.specs.declared.outside.Place.{Place}
+use Rattle.ebpf_object_file.specs.declared.outside.Outside.{Outside}
+use Rattle.ebpf_object_file.specs.declared.outside.Target.{Target}
+use Rattle.ebpf_object_file.specs.declared.outside.Target.TheVariants as target
+use Rattle.ebpf_object_file.specs.declared.relocation.Relocation.{Relocation}
+use Rattle.ebpf_object_file.specs.declared.fault.FileFault.{FileFault}
+use Rattle.ebpf_object_file.specs.declared.fault.FileFault.TheVariants as fault
+use Rattle.ebpf_object_file.specs.declared.section.Wanted.TheVariants.{RelocationsFor, AddendsFor}
+use Rattle.ebpf_object_file.specs.First.{NoneBelow, IsFirst, IsOnly, AreTwo, Finds}
+use Rattle.ebpf_object_file.specs.Section.{section_of, sections_in, wanted_in, bytes_of}
+use Rattle.ebpf_object_file.specs.Text.{text_at}
+use Rattle.ebpf_object_file.specs.Symbol.{symbol_of, symbol_or_null, is_in_file}
+use Rattle.ebpf_object_file.specs.Relocation.{relocation_of, reaches}
+use Rattle.ebpf_object_file.specs.Call.{is_call, called_at, is_called}
+use Rattle.ebpf_object_file.specs.File.{name_limit}
+use Rattle.ebpf_object_file.specs.Naming.{addend_at, IsNameOf}
+
+-- What a symbol is, by the flags of its section: SHF_EXECINSTR is 4, SHF_WRITE is 1.
+abbrev pub target_by : ℕ → Target
+target_by flags = cond (flags / 4 % 2 == 1) target.Function (cond (flags % 2 == 1) target.Variable target.Table)
+
+abbrev pub target_of : List ℕ → Symbol → Target
+target_of file s = cond (is_in_file (sections_in file) s) (target_by (section_of file s.section).flags) target.External
+
+-- a relocation reaches the place: one of a section of relocations for its section
+pub record IsReached (file : List ℕ) (p : Place) (r : Relocation) : Type 0 where
+  pub table : ℕ
+  pub inside : table < sections_in file
+  pub wanted : wanted_in file (RelocationsFor p.section) table ≡ true
+  pub entry : ℕ
+  pub there : entry < length (bytes_of file table) / 16
+  pub is : r ≡ relocation_of (bytes_of file table) entry
+  pub reaches : reaches p.from p.size r ≡ true
+
+-- none does, and no section has relocations with addends for it
+pub record HasNone (file : List ℕ) (p : Place) : Type 0 where
+  pub none : (r : Relocation) → IsReached file p r → ⊥
+  pub no_addends : NoneBelow (wanted_in file (AddendsFor p.section)) (sections_in file)
+
+-- it is the first that does, of the only section of relocations for the place's section
+pub record IsReachedFirst (file : List ℕ) (p : Place) (r : Relocation) : Type 0 where
+  pub no_addends : NoneBelow (wanted_in file (AddendsFor p.section)) (sections_in file)
+  pub table : ℕ
+  pub only : IsOnly (wanted_in file (RelocationsFor p.section)) (sections_in file) table
+  pub entry : ℕ
+  pub first : IsFirst (λ k. reaches p.from p.size (relocation_of (bytes_of file table) k)) (length (bytes_of file table) / 16) entry
+  pub is : r ≡ relocation_of (bytes_of file table) entry
+
+-- why the relocations aren't read: first those with addends, SHT_RELA, then two sections of them
+abbrev pub IsRelocationFault : List ℕ → Place → FileFault → Type 0
+IsRelocationFault file p fault.Addends = (i : ℕ) × (i < sections_in file) × (wanted_in file (AddendsFor p.section) i ≡ true)
+IsRelocationFault file p fault.RelocationsTwice =
+    NoneBelow (wanted_in file (AddendsFor p.section)) (sections_in file) × AreTwo (wanted_in file (RelocationsFor p.section)) (sections_in file)
+IsRelocationFault file p _ = ⊥
+
+-- What the first relocation refers to: its slot, from the function's first, and its symbol.
+pub record IsRelocated (file symbols strings : List ℕ) (p : Place) (o : Outside) : Type 0 where
+  pub relocation : Relocation
+  pub first : IsReachedFirst file p relocation
+  pub slot : o.slot ≡ (relocation.offset - p.from) / 8
+  pub target : o.target ≡ target_of file (symbol_or_null symbols relocation.symbol)
+  pub name : IsNameOf file symbols strings (symbol_or_null symbols relocation.symbol) (addend_at (bytes_of file p.section) relocation.offset) o.name.bytes.now
+
+-- the name of the symbol of a number, where there is one
+abbrev pub name_found : List ℕ → List ℕ → Option ℕ → List ℕ
+name_found symbols strings None = []
+name_found symbols strings (Some k) = text_at strings (symbol_of symbols k).name name_limit
+
+-- What the first call of a place refers to: its slot, and the first function that begins at that place.
+pub record IsCalling (symbols strings : List ℕ) (sections : ℕ) (p : Place) (code : List ℕ) (o : Outside) : Type 0 where
+  pub first : IsFirst (is_call code) (length code / 8) o.slot
+  pub target : o.target ≡ target.Function
+  pub called : Option ℕ
+  pub found : Finds (λ k. is_called sections p.section (called_at code p.from o.slot) (symbol_of symbols k)) (length symbols / 24) called
+  pub name : o.name.bytes.now ≡ name_found symbols strings called

@@ -1,0 +1,28 @@
+//! The functions of an object file that a compiler of eBPF programs made: ELF64, little-endian, machine 247, relocatable.
+//!
+//! [`function::function_named`] and [`function::only_function`] take a function's bytes from the bytes of a file, and
+//! [`source::lines_of`] the lines of C that it came from, as `.BTF` and `.BTF.ext` have them. Each reader answers on any bytes: what the
+//! file says, or the first fault in a stated order. A function that needs another part of the file is no program by itself,
+//! and is refused with the slot and the symbol. Nothing is allocated, and the time is
+//! linear in the size of the file: names have at most 255 bytes, and no table is read more than a few times.
+//!
+//! To be read in this order: `fault`, `field`, `header`, `section`, `text`, `symbol`, `relocation`, `call`, `functions`, `symbol_name`, `outside`,
+//! `object_fault`, `function`, `lines`, `slot_lines`, `source`.
+#![tactic(auto)]
+
+mod call;
+pub mod fault;
+mod field;
+pub mod function;
+pub mod functions;
+mod header;
+pub mod lines;
+pub mod object_fault;
+pub mod outside;
+mod relocation;
+mod section;
+pub mod slot_lines;
+pub mod source;
+mod symbol;
+mod symbol_name;
+mod text;

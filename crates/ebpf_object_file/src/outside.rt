@@ -1,0 +1,156 @@
+//! What a function's bytes refer to outside of them.
+
+ghost use Rattle.std.specs.Prelude.{◌≡◌, ◌≤◌, ◌<◌, ◌+◌, ◌/◌, ◌^◌, length, IfOk, IfErr, MatchOption};
+ghost use Rattle.ebpf_object_file.specs.First.{IsFirst};
+ghost use Rattle.ebpf_object_file.specs.Header.{header_of};
+ghost use Rattle.ebpf_object_file.specs.Section.{sections_in};
+ghost use Rattle.ebpf_object_file.specs.Symbol.{is_in_file};
+ghost use Rattle.ebpf_object_file.specs.Call.{is_call};
+ghost use Rattle.ebpf_object_file.specs.File.{IsOpen, AreFunctions, name_limit};
+ghost use Rattle.ebpf_object_file.specs.Outside.{target_of, IsReachedFirst, IsReached, HasNone, IsRelocationFault, IsRelocated, IsCalling};
+
+use crate::call::{called_at, find_called};
+use crate::fault::FileFault;
+use crate::functions::{Functions, MOST_NAME, Name};
+use crate::header::Header;
+use crate::relocation::{Relocation, find_relocation, relocation_of};
+use crate::section::{Count, Wanted, bytes_of, count_sections, section_of};
+use crate::symbol::{Symbol, symbol_of, symbol_or_null};
+use crate::symbol_name::{addend_at, name_of};
+use crate::text::text_at;
+
+/// Where a function is.
+#[derive(Clone, Copy)]
+pub struct Place {
+    /// The number of its section, from 1.
+    pub section: u16,
+    /// Where it begins, in bytes from the section's first: a multiple of 8.
+    pub from: u64,
+    /// How many bytes it has: a multiple of 8, and not 0.
+    pub size: u64,
+}
+
+/// What a symbol is, by the section that it is in.
+#[derive(Clone, Copy, Debug)]
+pub enum Target {
+    /// Data that isn't written (`SHF_WRITE` isn't set): a constant table, or a string.
+    Table,
+    /// Data that may be written (`SHF_WRITE`): a global or static variable.
+    Variable,
+    /// A function (`SHF_EXECINSTR`).
+    Function,
+    /// What the file doesn't define.
+    External,
+}
+
+/// A slot that needs another part of the file.
+#[derive(Clone, Copy)]
+pub struct Outside<'a> {
+    /// The slot, from the function's first.
+    pub slot: u64,
+    pub target: Target,
+    /// The symbol's name. Where it is the symbol of a section, as for static data, the name of the data there, or else of the section.
+    pub name: Name<'a>,
+}
+
+// What a symbol is.
+fn target_of(file: &[u8], header: Header, symbol: Symbol) -> Target
+    requires file { IsOpen file.now }
+    requires header { header ≡ header_of file.now }
+    ensures { result ≡ target_of file.now symbol }
+{
+    if !symbol.is_in_file(header.sections) {
+        return Target::External;
+    }
+    let flags = section_of(file, header, symbol.section).flags;
+    if flags / 4 % 2 == 1 {
+        Target::Function
+    } else if flags % 2 == 1 {
+        Target::Variable
+    } else {
+        Target::Table
+    }
+}
+
+// The first relocation that reaches a place, `None` where none does.
+pub(crate) fn relocation_in(
+    file: &[u8],
+    header: Header,
+    place: Place,
+) -> Result<Option<Relocation>, FileFault>
+    requires file { IsOpen file.now }
+    requires header { header ≡ header_of file.now }
+    ensures found { IfOk result (λ r. MatchOption r (HasNone file.now place) (λ r. IsReachedFirst file.now place r)) }
+    ensures refused { IfErr result (λ e. IsRelocationFault file.now place e) }
+{
+    match count_sections(file, header, Wanted::AddendsFor(place.section)) {
+        Count::NoSuch => {}
+        Count::One(_) => return Err(FileFault::Addends),
+        Count::Several => return Err(FileFault::Addends),
+    }
+    let table = match count_sections(file, header, Wanted::RelocationsFor(place.section)) {
+        Count::NoSuch => return Ok(None),
+        Count::One(table) => table,
+        Count::Several => return Err(FileFault::RelocationsTwice),
+    };
+    let relocations = bytes_of(file, header, table);
+    match find_relocation(relocations, place.from, place.size) {
+        None => Ok(None),
+        Some(number) => Ok(Some(relocation_of(relocations, number))),
+    }
+}
+
+// What a relocation that reaches a place refers to.
+pub(crate) fn relocated<'a>(
+    functions: Functions<'a>,
+    place: Place,
+    relocation: Relocation,
+) -> Outside<'a>
+    requires functions { AreFunctions functions.file.now functions }
+    requires relocation { IsReachedFirst functions.file.now place relocation }
+    requires section { place.section < sections_in functions.file.now }
+    ensures { IsRelocated functions.entry.file.now functions.entry.symbols.now functions.entry.strings.now place result }
+{
+    let Functions { file, header, .. } = functions;
+    let symbol = symbol_or_null(functions.symbols, relocation.symbol as usize);
+    let addend = addend_at(bytes_of(file, header, place.section), relocation.offset);
+    Outside {
+        slot: relocation.offset.saturating_sub(place.from) / 8,
+        target: target_of(file, header, symbol),
+        name: Name {
+            bytes: name_of(functions, symbol, addend),
+        },
+    }
+}
+
+// What a call by its place refers to.
+pub(crate) fn calling<'a>(
+    functions: Functions<'a>,
+    place: Place,
+    code: &[u8],
+    slot: usize,
+) -> Outside<'a>
+    requires functions { AreFunctions functions.file.now functions }
+    requires slot { IsFirst (is_call code.now) (length code.now / 8) slot }
+    ensures { IsCalling functions.entry.symbols.now functions.entry.strings.now functions.entry.header.sections place code.now result }
+{
+    let at = called_at(code, place.from, slot);
+    let called = find_called(
+        functions.symbols,
+        functions.header.sections,
+        place.section,
+        at,
+    );
+    let bytes: &[u8] = match called {
+        None => &[],
+        Some(number) => {
+            let name = symbol_of(functions.symbols, number).name;
+            text_at(functions.strings, name as usize, MOST_NAME)
+        }
+    };
+    Outside {
+        slot: slot as u64,
+        target: Target::Function,
+        name: Name { bytes },
+    }
+}
