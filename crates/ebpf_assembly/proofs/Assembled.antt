@@ -1,6 +1,6 @@
 -- The listing of a program, assembled, is the program.
-use Rattle.std.proofs.Common.{rules, arith, ◌≡◌, ◌⊎◌, inl, inr, ℕ, suc, ◌+◌, ◌<◌, ◌≤◌, ◌^◌, List, [], ◌∷◌, ◌++◌, length, refl, sym, ap, ◌∙◌, subst, Bool, true, false, append_assoc, length-append, Option, Some, None}
-use Rattle.std.specs.Prelude.{codes, decimal, not, ◌&&◌, ◌||◌, ◌==◌, filter, if◌then◌else◌, nat_lt}
+use Rattle.std.proofs.Common.{rules, arith, ◌≡◌, inl, inr, ℕ, ◌+◌, ◌<◌, ◌^◌, List, [], ◌∷◌, ◌++◌, length, refl, sym, ap, ◌∙◌, subst, Bool, true, false, append_assoc, length-append, Option}
+use Rattle.std.specs.Prelude.{codes, decimal, not, ◌&&◌, ◌||◌, ◌==◌, if◌then◌else◌, nat_lt}
 use Rattle.std.specs.List.{list_all, AllByRecursion, slice_split, flat_map}
 use Rattle.std.proofs.lemmas.List.Folds.{list_all-append}
 use Rattle.ebpf_insn.specs.declared.insn.Insn.{Insn}
@@ -9,10 +9,10 @@ use Rattle.ebpf_insn.specs.Program.{instructions, placed, slots_in}
 use Rattle.ebpf_insn.specs.Encoding.{IsDefined, IsWellFormed}
 use Rattle.ebpf_text.specs.Mnemonics.{mnemonic_of}
 use Rattle.ebpf_text.specs.Operands.{operands_of}
-use Rattle.ebpf_text.specs.Listing.{later_operands_text, operands_text, insn_text, line_of, line_at, lines_from, listing_of}
-use Rattle.ebpf_assembly.specs.Assembly.{is_gap, is_newline, uncommented, words, words_of, IsInsnAt, AreInsns, IsAssembled}
+use Rattle.ebpf_text.specs.Listing.{later_operands_text, operands_text, insn_text, line_of, lines_from, listing_of}
+use Rattle.ebpf_assembly.specs.Assembly.{is_gap, is_newline, uncommented, words, words_of, AreInsns, IsAssembled}
 use Rattle.ebpf_assembly.proofs.PlainTexts.{is_plain, IsPlain, joined, of_decimal, of_mnemonic, of_operands}
-use Rattle.ebpf_assembly.proofs.Splitting.{is_kept, kept, IsWord, split_at, numbered_kept}
+use Rattle.ebpf_assembly.proofs.Splitting.{kept, split_at, numbered_kept}
 use Rattle.ebpf_assembly.proofs.Kept.{kept_numbered, word_mnemonic, word_operands}
 
 -- no newline, and no semicolon
@@ -44,7 +44,7 @@ inline_plain : (xs : List ℕ) → IsPlain xs → IsInline xs
 inline_plain [] e = refl
 inline_plain (x ∷ xs) e =
     both (is_inline x) (list_all is_inline xs) (of_three (nat_lt x 128) (is_gap x) (is_newline x) (x == 59) (parts (is_plain x) (list_all is_plain xs) e).0)
-        (inline_plain xs (parts (is_plain x) (list_all is_plain xs) e).1)
+    (inline_plain xs (parts (is_plain x) (list_all is_plain xs) e).1)
 
 inline_later : (ts : List (List ℕ)) → AllByRecursion IsPlain ts → IsInline (later_operands_text ts)
 inline_later [] all = refl
@@ -82,7 +82,7 @@ unfolding uncommented
 whole [] e = refl
 whole (x ∷ xs) e =
     no_comment x xs (uncommented xs) (last_false (is_newline x) (x == 59) (parts (is_inline x) (list_all is_inline xs) e).0)
-        (whole xs (parts (is_inline x) (list_all is_inline xs) e).1)
+    (whole xs (parts (is_inline x) (list_all is_inline xs) e).1)
 
 words_body : (slot : ℕ) (i : Insn) → slot < 2 ^ 64 → IsDefined i → words (body slot i) ≡ (decimal slot ++ codes ":") ∷ words_of i
 words_body slot i small d =
@@ -123,7 +123,7 @@ unfolding lines_from uncommented
 assembled slot [] small all = inl (refl, refl)
 assembled slot (i ∷ is) small all =
     subst (λ (lines : List (List ℕ)). AreInsns slot lines (i ∷ is)) (sym cut)
-        (inr (i, is, refl, (all.0, inr (words_body slot i (omega (arith, small)) all.0)), assembled (slot + slots_in i) is (omega (arith, small, length-append (placed i) (flat_map placed is))) all.1))
+    (inr (i, is, refl, (all.0, inr (words_body slot i (omega (arith, small)) all.0)), assembled (slot + slots_in i) is (omega (arith, small, length-append (placed i) (flat_map placed is))) all.1))
   where
     cut : slice_split is_newline (lines_from slot (placed i ++ flat_map placed is)) ≡ body slot i ∷ slice_split is_newline (lines_from (slot + slots_in i) (flat_map placed is))
     cut = ap (slice_split is_newline) (lines_more slot i (flat_map placed is) ∙ line_apart slot i (lines_from (slot + slots_in i) (flat_map placed is)))

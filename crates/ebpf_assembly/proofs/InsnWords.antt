@@ -1,5 +1,5 @@
 -- The words of an instruction: those of its kind, and of its operands.
-use Rattle.std.proofs.Common.{rules, arith, ◌≡◌, ◌≢◌, ℕ, ◌<◌, ◌^◌, List, [], ◌∷◌, get_or, drop, refl, sym, ap, ◌∙◌, Bool, true, false}
+use Rattle.std.proofs.Common.{rules, arith, ◌≡◌, ◌≢◌, ℕ, List, [], ◌∷◌, get_or, drop, refl, sym, ap, ◌∙◌, true, false}
 use Rattle.std.specs.Prelude.{Option, Some, None}
 use Rattle.std.specs.Option.{MatchOption}
 use Rattle.ebpf_insn.specs.declared.register.Reg.{Reg}

@@ -9,7 +9,6 @@ use Rattle.std.proofs.lemmas.Str.Ascii.{IsAscii-nil, IsAscii-cons}
 use Rattle.ebpf_insn.specs.declared.insn.Width.{Width}
 use Rattle.ebpf_insn.specs.declared.insn.Width.TheVariants.{W32, W64}
 use Rattle.ebpf_insn.specs.declared.insn.Order.{Order}
-use Rattle.ebpf_insn.specs.declared.insn.Order.TheVariants.{Little, Big, Flip}
 use Rattle.ebpf_insn.specs.Fields.{is_move_of, is_swap_of}
 use Rattle.ebpf_text.specs.Names.{width_name, order_name}
 use Rattle.ebpf_assembly.specs.Assembly.{is_gap, is_newline}
@@ -19,11 +18,12 @@ use Rattle.ebpf_assembly.proofs.PlainTexts.{is_plain, IsPlain, of_mnemonic}
 use Rattle.ebpf_assembly.proofs.Shapes.{eight, sixteen, thirty_two, sixty_four, either, is}
 
 -- the numbers of bits
-swap_cases : (P : ℕ → Type 0) → P 16 → P 32 → P 64 → (bits : ℕ) → is_swap_of bits ≡ true → P bits
+pub swap_cases : (P : ℕ → Type 0) → P 16 → P 32 → P 64 → (bits : ℕ) → is_swap_of bits ≡ true → P bits
 swap_cases P a b c bits d = one (either (bits == 16 || bits == 32) (bits == 64) d) where
   two : (bits == 16 ≡ true) ⊎ (bits == 32 ≡ true) → P bits
   two (inl e) = subst P (is bits 16 e) a
   two (inr e) = subst P (is bits 32 e) b
+
   one : ((bits == 16 || bits == 32) ≡ true) ⊎ (bits == 64 ≡ true) → P bits
   one (inl e) = two (either (bits == 16) (bits == 32) e)
   one (inr e) = subst P (is bits 64 e) c
@@ -37,6 +37,7 @@ move_cases P a b c d e W64 bits h = one (either (bits == 8 || bits == 16) (bits 
   two : (bits == 8 ≡ true) ⊎ (bits == 16 ≡ true) → P W64 bits
   two (inl f) = subst (P W64) (is bits 8 f) c
   two (inr f) = subst (P W64) (is bits 16 f) d
+
   one : ((bits == 8 || bits == 16) ≡ true) ⊎ (bits == 32 ≡ true) → P W64 bits
   one (inl f) = two (either (bits == 8) (bits == 16) f)
   one (inr f) = subst (P W64) (is bits 32 f) e

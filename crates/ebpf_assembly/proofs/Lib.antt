@@ -11,3 +11,6 @@ pub mod OperandWords
 pub mod KindWords
 pub mod InsnWords
 pub mod LineWords
+pub mod Labels
+pub mod Drafts
+pub mod Faulty

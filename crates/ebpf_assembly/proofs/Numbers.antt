@@ -1,6 +1,6 @@
 -- Which words are numbers, and of what value.
-use Rattle.std.proofs.Common.{rules, arith, ◌≡◌, ◌≢◌, ℕ, zero, suc, ◌+◌, ◌-◌, ◌<◌, ◌≤◌, ◌^◌, List, [], ◌∷◌, ◌++◌, length, get_or, drop, refl, sym, ap, ◌∙◌, subst}
-use Rattle.std.specs.Prelude.{ℤ, pos, negsuc, Bool, true, false, ◌==◌, Option, Some, None, Result, Ok, Err, FitsSigned, codes, decimal}
+use Rattle.std.proofs.Common.{rules, arith, ◌≡◌, ◌≢◌, ℕ, zero, suc, ◌<◌, ◌≤◌, ◌^◌, List, [], ◌∷◌, length, get_or, drop, sym, ap, ◌∙◌, subst}
+use Rattle.std.specs.Prelude.{ℤ, pos, negsuc, Bool, true, false, ◌==◌, Option, Some, None, Result, Ok, Err, FitsSigned, decimal}
 use Rattle.std.specs.Option.{MatchOption}
 use Rattle.std.specs.Fmt.{signed_decimal}
 use Rattle.std.specs.Int.{w16, w32}
@@ -57,14 +57,17 @@ pub parsed : {E : Type 0} (first : ℕ) (rest word : List ℕ) (r : Result ℕ E
 parsed first rest word r is plus zeros h = which r (parse_plain own 64 word r h (λ e. plus (sym head ∙ e))) where
   head : get_or word 0 0 ≡ first
   head = ap (λ (xs : List ℕ). get_or xs 0 0) is
+
   single : get_or word 0 0 ≡ 48 → length word ≡ 1
   single e = absurd (zeros (sym head ∙ e))
+
   which : {E : Type 0} (r : Result ℕ E) → OkIff r (AllDigits 10 word × (0 < length word) × (digits_value 10 word < 2 ^ 64)) (digits_value 10 word) → IsNumber word (result_ok r)
   which (Ok x) k = (subst (λ (m : ℕ). m < 2 ^ 64) (sym k.1) k.0.2, sym (ap decimal k.1 ∙ decimal-digits_value own word k.0.0 k.0.1 single k.0.2))
   which (Err e) k = λ n small same. k (
-      subst (AllDigits 10) (sym same) (digits_decimal own n small),
-      subst (λ (xs : List ℕ). 0 < length xs) (sym same) (decimal_nonempty n small),
-      subst (λ (xs : List ℕ). digits_value 10 xs < 2 ^ 64) (sym same) (subst (λ (m : ℕ). m < 2 ^ 64) (sym (digits_value-decimal own n small)) small))
+    subst (AllDigits 10) (sym same) (digits_decimal own n small),
+    subst (λ (xs : List ℕ). 0 < length xs) (sym same) (decimal_nonempty n small),
+    subst (λ (xs : List ℕ). digits_value 10 xs < 2 ^ 64) (sym same) (subst (λ (m : ℕ). m < 2 ^ 64) (sym (digits_value-decimal own n small)) small),
+  )
 
 -- numbers with a sign
 abbrev IsNegative : ℕ → Option ℤ → Type 0

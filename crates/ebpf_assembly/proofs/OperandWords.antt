@@ -1,6 +1,6 @@
 -- Which words are registers and places.
-use Rattle.std.proofs.Common.{rules, arith, ◌≡◌, ◌≢◌, ◌⊎◌, inl, inr, ℕ, ◌+◌, ◌<◌, ◌≤◌, ◌^◌, List, [], ◌∷◌, ◌++◌, length, get_or, drop, take, refl, sym, ap, ◌∙◌, subst, append_assoc, length-append}
-use Rattle.std.specs.Prelude.{ℤ, Option, Some, None, FitsSigned, codes, decimal}
+use Rattle.std.proofs.Common.{arith, ◌≡◌, ◌≢◌, ◌⊎◌, inl, inr, ℕ, ◌<◌, ◌^◌, List, [], ◌∷◌, ◌++◌, length, get_or, drop, sym, ap, ◌∙◌, append_assoc}
+use Rattle.std.specs.Prelude.{ℤ, Option, Some, None, FitsSigned, decimal}
 use Rattle.std.specs.Option.{MatchOption}
 use Rattle.std.specs.Int.{w16}
 use Rattle.std.proofs.lemmas.Fmt.{decimal_injective}
@@ -9,7 +9,7 @@ use Rattle.ebpf_insn.specs.declared.register.Reg.TheVariants.{R0, R1, R2, R3, R4
 use Rattle.ebpf_insn.specs.Registers.{number_of}
 use Rattle.ebpf_text.specs.Operands.{register_text, offset_text, place_text}
 use Rattle.ebpf_assembly.proofs.WordsUnique.{init, init_back}
-use Rattle.ebpf_assembly.proofs.RegisterNames.{name_of, names}
+use Rattle.ebpf_assembly.proofs.RegisterNames.{names}
 
 -- a register has the number of its text
 few : (r : Reg) → number_of r < 2 ^ 64
@@ -50,7 +50,7 @@ register_read first rest word n None is letter small same of =
 abbrev IsPlaceAt : List ℕ → ℕ → Option (Reg × ℤ) → Type 0
 IsPlaceAt text len o =
     MatchOption o ((r : Reg) (z : ℤ) → FitsSigned w16 z → length (register_text r) ≡ len → text ≢ register_text r ++ offset_text z)
-        (λ p. FitsSigned w16 p.1 × (text ≡ register_text p.0 ++ offset_text p.1))
+    (λ p. FitsSigned w16 p.1 × (text ≡ register_text p.0 ++ offset_text p.1))
 
 abbrev IsPlace : List ℕ → Option (Reg × ℤ) → Type 0
 IsPlace word o = MatchOption o ((r : Reg) (z : ℤ) → FitsSigned w16 z → word ≢ place_text r z) (λ p. FitsSigned w16 p.1 × (word ≡ place_text p.0 p.1))

@@ -1,13 +1,13 @@
 -- Texts that are words: each byte is ASCII, and none separates words, ends a line or begins a comment.
-use Rattle.std.proofs.Common.{rules, arith, ◌≡◌, ◌≢◌, ℕ, suc, ◌+◌, ◌<◌, ◌≤◌, ◌^◌, List, [], ◌∷◌, ◌++◌, length, get_or, refl, sym, ap, ◌∙◌, Bool, true, false}
+use Rattle.std.proofs.Common.{rules, arith, ◌≡◌, ◌≢◌, ℕ, suc, ◌<◌, ◌^◌, List, [], ◌∷◌, ◌++◌, refl, ap, ◌∙◌, Bool, true, false}
 use Rattle.std.specs.Prelude.{ℤ, pos, negsuc, FitsSigned, codes, decimal, not, ◌&&◌, ◌||◌, ◌==◌, nat_lt}
 use Rattle.std.specs.Fmt.{signed_decimal}
 use Rattle.std.specs.Int.{IsInRange, w16, w32}
 use Rattle.std.specs.Int.Signed.{mag}
 use Rattle.std.specs.List.{list_all, AllByRecursion}
-use Rattle.std.specs.Str.Parse.{AllDigits, digits_value}
+use Rattle.std.specs.Str.Parse.{AllDigits}
 use Rattle.std.proofs.lemmas.Bool.Decides.{nat_tests}
-use Rattle.std.proofs.lemmas.Fmt.{digits_decimal, decimal_nonempty}
+use Rattle.std.proofs.lemmas.Fmt.{digits_decimal}
 use Rattle.std.proofs.lemmas.List.Folds.{list_all-append}
 use Rattle.std.proofs.lemmas.Str.Parse.{numerals_by_value, tells_digits, digit_from_value}
 use Rattle.ebpf_insn.specs.declared.register.Reg.{Reg}
@@ -31,7 +31,7 @@ use Rattle.ebpf_insn.specs.Encoding.{IsSource, IsDefined}
 use Rattle.ebpf_text.specs.Names.{width_name, size_name, order_name, alu_name, cond_name}
 use Rattle.ebpf_text.specs.Mnemonics.{mnemonic_of}
 use Rattle.ebpf_text.specs.Operands.{register_text, source_text, offset_text, place_text, operands_of}
-use Rattle.ebpf_assembly.specs.Assembly.{is_gap, is_newline, words_of}
+use Rattle.ebpf_assembly.specs.Assembly.{is_gap, is_newline}
 use Rattle.ebpf_assembly.proofs.RegisterNames.{name_of, names}
 
 abbrev pub is_plain : ℕ → Bool
@@ -68,8 +68,8 @@ below c r = grind (arith, nat_tests)
 digit : (c : ℕ) → IsInRange 48 57 c → is_plain c ≡ true
 digit c r = both (nat_lt c 128) (not (is_gap c || is_newline c || c == 59)) (below c r)
     (tests (c == 32) (c == 9) (c == 13) (c == 44) (c == 10) (c == 59)
-        (not_at c 32 (λ e. omega (arith, r, e))) (not_at c 9 (λ e. omega (arith, r, e))) (not_at c 13 (λ e. omega (arith, r, e)))
-        (not_at c 44 (λ e. omega (arith, r, e))) (not_at c 10 (λ e. omega (arith, r, e))) (not_at c 59 (λ e. omega (arith, r, e))))
+    (not_at c 32 (λ e. omega (arith, r, e))) (not_at c 9 (λ e. omega (arith, r, e))) (not_at c 13 (λ e. omega (arith, r, e)))
+    (not_at c 44 (λ e. omega (arith, r, e))) (not_at c 10 (λ e. omega (arith, r, e))) (not_at c 59 (λ e. omega (arith, r, e))))
 
 all_digits : (ds : List ℕ) → AllDigits 10 ds → IsPlain ds
 all_digits [] d = refl

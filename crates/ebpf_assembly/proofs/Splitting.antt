@@ -1,6 +1,6 @@
 -- The words of a line that `list` writes are those of its instruction.
-use Rattle.std.proofs.Common.{rules, arith, ◌≡◌, ◌≢◌, ℕ, suc, ◌+◌, ◌<◌, ◌≤◌, ◌^◌, List, [], ◌∷◌, ◌++◌, length, refl, sym, ap, ◌∙◌, Bool, true, false, append_assoc}
-use Rattle.std.specs.Prelude.{codes, decimal, not, ◌&&◌, ◌||◌, ◌==◌, filter, nat_lt}
+use Rattle.std.proofs.Common.{rules, ◌≡◌, ℕ, List, [], ◌∷◌, ◌++◌, refl, sym, ap, ◌∙◌, Bool, true, false, append_assoc}
+use Rattle.std.specs.Prelude.{codes, not, ◌&&◌, ◌||◌, ◌==◌, filter, nat_lt}
 use Rattle.std.specs.List.{list_all, AllByRecursion, slice_split, onto_first}
 use Rattle.std.proofs.lemmas.List.{append-nil}
 use Rattle.std.proofs.lemmas.List.Splits.{slice_split-cons_yes, slice_split-cons_no}

@@ -40,16 +40,16 @@ words_of i = mnemonic_of i ∷ operands_of i
 abbrev pub slot_label : ℕ → List ℕ
 slot_label slot = decimal slot ++ codes ":"
 
--- a line is this instruction, at this slot
-abbrev pub IsInsnAt : ℕ → List ℕ → Insn → Type 0
-IsInsnAt slot line i = IsDefined i × ((words line ≡ words_of i) ⊎ (words line ≡ slot_label slot ∷ words_of i))
+-- these words are this instruction, at this slot
+abbrev pub IsInsnAt : ℕ → List (List ℕ) → Insn → Type 0
+IsInsnAt slot ws i = IsDefined i × ((ws ≡ words_of i) ⊎ (ws ≡ slot_label slot ∷ words_of i))
 
 -- these lines are these instructions, the first of which is at this slot
 abbrev pub AreInsns : ℕ → List (List ℕ) → List Insn → Type 0
 AreInsns slot [] is = is ≡ []
 AreInsns slot (line ∷ lines) is =
     ((words line ≡ []) × AreInsns slot lines is)
-    ⊎ ((i : Insn) × (rest : List Insn) × (is ≡ i ∷ rest) × IsInsnAt slot line i × AreInsns (slot + slots_in i) lines rest)
+    ⊎ ((i : Insn) × (rest : List Insn) × (is ≡ i ∷ rest) × IsInsnAt slot (words line) i × AreInsns (slot + slots_in i) lines rest)
 
 pub record IsAssembled (text : List ℕ) (p : List (Option Insn)) : Type 0 where
   pub formed : IsWellFormed p

@@ -1,5 +1,5 @@
 -- What the mnemonic of an instruction says of it.
-use Rattle.std.specs.Prelude.{◌≡◌, ◌≢◌, ℕ, pos, List, true, false}
+use Rattle.std.specs.Prelude.{◌≢◌, ℕ, pos, List}
 use Rattle.ebpf_insn.specs.declared.register.Reg.TheVariants.{R0}
 use Rattle.ebpf_insn.specs.declared.insn.Insn.{Insn}
 use Rattle.ebpf_insn.specs.declared.insn.Insn.TheVariants as insn

@@ -15,9 +15,6 @@ pub enum LineFault {
     /// The instruction doesn't fit into a program with those before it.
     #[error("a program has at most 4096 slots")]
     TooManySlots,
-    /// This is the last line, and there was no instruction.
-    #[error("there is no instruction")]
-    NoSlots,
 }
 
 /// Why [`crate::assemble::assemble`] made no program.
@@ -25,10 +22,10 @@ pub enum LineFault {
 pub enum AssemblyFault {
     /// The first line at fault, counted from 1.
     #[error("line {line}: {fault}")]
-    Bad {
-        line: usize,
-        fault: LineFault,
-    },
+    Bad { line: usize, fault: LineFault },
+    /// No line has an instruction: the number of the last one.
+    #[error("line {line}: there is no instruction")]
+    Empty { line: usize },
     /// An allocation failed.
     #[error("out of memory")]
     NoMemory,

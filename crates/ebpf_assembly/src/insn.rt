@@ -32,11 +32,21 @@ fn with_operands(kind: Kind, words: &[&[u8]]) -> Option<Insn>
     match kind {
         Kind::Alu { width, op } => {
             let (dst, src) = register_and_source(words)?;
-            Some(Insn::Alu { width, op, dst, src })
+            Some(Insn::Alu {
+                width,
+                op,
+                dst,
+                src,
+            })
         }
         Kind::Sext { width, bits } => {
             let (dst, src) = two_registers(words)?;
-            Some(Insn::Sext { width, bits, dst, src })
+            Some(Insn::Sext {
+                width,
+                bits,
+                dst,
+                src,
+            })
         }
         Kind::Neg { width } => {
             let dst = one_register(words)?;
@@ -52,17 +62,33 @@ fn with_operands(kind: Kind, words: &[&[u8]]) -> Option<Insn>
         }
         Kind::Load { size, signed } => {
             let (dst, (base, offset)) = register_and_place(words)?;
-            Some(Insn::Load { size, signed, dst, base, offset })
+            Some(Insn::Load {
+                size,
+                signed,
+                dst,
+                base,
+                offset,
+            })
         }
         Kind::StoreImmediate { size } => {
             let ((base, offset), value) = place_and_immediate(words)?;
             let src = Source::Imm(value);
-            Some(Insn::Store { size, base, offset, src })
+            Some(Insn::Store {
+                size,
+                base,
+                offset,
+                src,
+            })
         }
         Kind::StoreRegister { size } => {
             let ((base, offset), register) = place_and_register(words)?;
             let src = Source::Register(register);
-            Some(Insn::Store { size, base, offset, src })
+            Some(Insn::Store {
+                size,
+                base,
+                offset,
+                src,
+            })
         }
         Kind::Jump => {
             let offset = displacement(words)?;
@@ -74,7 +100,13 @@ fn with_operands(kind: Kind, words: &[&[u8]]) -> Option<Insn>
         }
         Kind::Branch { width, cond } => {
             let (left, right, offset) = comparison(words)?;
-            Some(Insn::Branch { width, cond, left, right, offset })
+            Some(Insn::Branch {
+                width,
+                cond,
+                left,
+                right,
+                offset,
+            })
         }
         Kind::Call => {
             let number = helper_number(words)?;

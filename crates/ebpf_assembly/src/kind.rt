@@ -19,38 +19,17 @@ use ebpf_insn::insn::{AluOp, Cond, Order, Size, Width};
 /// An instruction without its operands; of a store, only whether it stores a register.
 #[derive(Clone, Copy)]
 pub enum Kind {
-    Alu {
-        width: Width,
-        op: AluOp,
-    },
-    Sext {
-        width: Width,
-        bits: u8,
-    },
-    Neg {
-        width: Width,
-    },
-    Swap {
-        order: Order,
-        bits: u8,
-    },
+    Alu { width: Width, op: AluOp },
+    Sext { width: Width, bits: u8 },
+    Neg { width: Width },
+    Swap { order: Order, bits: u8 },
     Wide,
-    Load {
-        size: Size,
-        signed: bool,
-    },
-    StoreImmediate {
-        size: Size,
-    },
-    StoreRegister {
-        size: Size,
-    },
+    Load { size: Size, signed: bool },
+    StoreImmediate { size: Size },
+    StoreRegister { size: Size },
     Jump,
     JumpFar,
-    Branch {
-        width: Width,
-        cond: Cond,
-    },
+    Branch { width: Width, cond: Cond },
     Call,
     Exit,
 }

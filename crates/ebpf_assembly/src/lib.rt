@@ -12,10 +12,12 @@
 //! To be read in this order: `fault`, `words`, `number`, `operand`, `kind`, `operands`, `insn`, `line`, `assemble`, `laws`.
 #![tactic(auto)]
 
-pub mod laws;
+pub mod assemble;
 pub mod fault;
 mod insn;
 mod kind;
+pub mod laws;
+mod line;
 mod number;
 mod operand;
 mod operands;

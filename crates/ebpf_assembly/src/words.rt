@@ -3,7 +3,7 @@
 ghost use Rattle.std.specs.Prelude.{◌≡◌, ◌≢◌, ◌∷◌, ◌++◌, IfOk, List, ℕ, codes, map};
 ghost use Rattle.std.specs.Option.{MatchOption};
 ghost use Rattle.ebpf_assembly.specs.Assembly.{is_gap, is_word, uncommented, words};
-ghost use Rattle.ebpf_assembly.specs.Labels.{IsLabelledWrong, IsUnlabelled};
+ghost use Rattle.ebpf_assembly.specs.Faults.{IsLabelledWrong, IsUnlabelled};
 
 use crate::number::number;
 use std::alloc::{AllocError, Global};
@@ -63,5 +63,9 @@ pub(crate) fn unlabelled<'a, 'b>(slot: usize, words: &'a [&'b [u8]]) -> Option<&
         return Some(words);
     };
     let number = number(label)?;
-    if number == slot as u64 { Some(rest) } else { None }
+    if number == slot as u64 {
+        Some(rest)
+    } else {
+        None
+    }
 }

@@ -39,10 +39,12 @@ returns-in_default c = no_swap _ sixteen thirty_two sixty_four where
   sixteen Little = c.in_default.not-le16
   sixteen Big = c.in_default.not-be16
   sixteen Flip = c.in_default.not-swap16
+
   thirty_two : (o : Order) → c.args.word.now ≢ order_name o ++ codes "32"
   thirty_two Little = c.in_default.not-le32
   thirty_two Big = c.in_default.not-be32
   thirty_two Flip = c.in_default.not-swap32
+
   sixty_four : (o : Order) → c.args.word.now ≢ order_name o ++ codes "64"
   sixty_four Little = c.in_default.not-le64
   sixty_four Big = c.in_default.not-be64

@@ -1,5 +1,4 @@
-use Rattle.std.proofs.Common.{arith, rules}
-use Rattle.ebpf_assembly.proofs.Numbers.{offset_empty, offset_unsigned, offset_minus_unread, offset_minus_read, offset_plus_unread, offset_plus_read}
+use Rattle.ebpf_assembly.proofs.Numbers.{offset_minus_read, offset_plus_read}
 use Rattle.ebpf_assembly.proofs.number.far_offset.Goals as goal
 
 pub returns-in_ok-number-in-45 : goal.returns-in_ok-number-in-45

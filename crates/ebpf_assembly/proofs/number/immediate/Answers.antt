@@ -1,5 +1,4 @@
-use Rattle.std.proofs.Common.{arith, rules}
-use Rattle.ebpf_assembly.proofs.Numbers.{immediate_empty, minus_unread, minus_read, plain_unread, plain_read}
+use Rattle.ebpf_assembly.proofs.Numbers.{immediate_empty, minus_unread, minus_read, plain_read}
 use Rattle.ebpf_assembly.proofs.number.immediate.Goals as goal
 
 pub returns-in_err-first : goal.returns-in_err-first

@@ -1,4 +1,4 @@
-use Rattle.std.proofs.Common.{arith, rules}
+use Rattle.std.proofs.Common.{arith}
 use Rattle.ebpf_assembly.proofs.Numbers.{is_none, is_some, no_empty, no_plus, no_zero, no_bytes, only_zero, parsed}
 use Rattle.ebpf_assembly.proofs.number.number.Goals as goal
 
