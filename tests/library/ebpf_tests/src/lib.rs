@@ -8,6 +8,8 @@
 #[cfg(test)]
 mod accepted;
 #[cfg(test)]
+mod assembly;
+#[cfg(test)]
 mod check;
 #[cfg(test)]
 mod events;

@@ -10,7 +10,7 @@ use std::process::Abort;
 use std::test::*;
 
 // The encoding of an instruction, and its line at the slot that the line begins with.
-const LINES: &str = "\
+pub(crate) const LINES: &str = "\
 # each operation has its name
 0c10000000000000 | 0: add32 r0, r1
 07030000fbffffff | 0: add64 r3, -5
