@@ -2,35 +2,17 @@
 use Rattle.std.proofs.Common.{rules, arith, ◌≡◌, ◌≢◌, ℕ, List, [], ◌∷◌, get_or, drop, refl, sym, ap, ◌∙◌, true, false}
 use Rattle.std.specs.Prelude.{Option, Some, None}
 use Rattle.std.specs.Option.{MatchOption}
-use Rattle.ebpf_insn.specs.declared.register.Reg.{Reg}
 use Rattle.ebpf_insn.specs.declared.insn.Insn.{Insn}
 use Rattle.ebpf_insn.specs.declared.insn.Insn.TheVariants as insn
 use Rattle.ebpf_insn.specs.declared.insn.Source.TheVariants.{Register, Imm}
-use Rattle.ebpf_insn.specs.declared.insn.Width.{Width}
 use Rattle.ebpf_insn.specs.Encoding.{IsDefined}
 use Rattle.ebpf_text.specs.Mnemonics.{mnemonic_of}
-use Rattle.ebpf_text.specs.Operands.{register_text, operands_of}
+use Rattle.ebpf_text.specs.Operands.{operands_of}
 use Rattle.ebpf_assembly.specs.Assembly.{words_of}
 use Rattle.ebpf_assembly.specs.Kinds.{kind_of, sample, IsKind, kind_name}
 use Rattle.ebpf_assembly.specs.declared.kind.Kind.{Kind}
 use Rattle.ebpf_assembly.specs.declared.kind.Kind.TheVariants as kind
 use Rattle.ebpf_assembly.proofs.Shapes.{shape_of, shape_unique}
-
-pub no_sext : (width : Width) (bits : ℕ) (k : Kind) (ws : List (List ℕ)) → k ≡ kind.Sext width bits → ((r s : Reg) → ws ≢ register_text r ∷ register_text s ∷ [])
-    → (i : Insn) → IsDefined i → kind_of i ≡ k → ws ≢ operands_of i
-no_sext width bits k ws is none (insn.Alu w o dst src) d e = absurd (search (rules, e ∙ is))
-no_sext width bits k ws is none (insn.Sext w b dst src) d e = none dst src
-no_sext width bits k ws is none (insn.Neg w dst) d e = absurd (search (rules, e ∙ is))
-no_sext width bits k ws is none (insn.Swap o b dst) d e = absurd (search (rules, e ∙ is))
-no_sext width bits k ws is none (insn.Wide dst value) d e = absurd (search (rules, e ∙ is))
-no_sext width bits k ws is none (insn.Load s signed dst base offset) d e = absurd (search (rules, e ∙ is))
-no_sext width bits k ws is none (insn.Store s base offset (Imm z)) d e = absurd (search (rules, e ∙ is))
-no_sext width bits k ws is none (insn.Store s base offset (Register r)) d e = absurd (search (rules, e ∙ is))
-no_sext width bits k ws is none (insn.Jump offset) d e = absurd (search (rules, e ∙ is))
-no_sext width bits k ws is none (insn.JumpFar offset) d e = absurd (search (rules, e ∙ is))
-no_sext width bits k ws is none (insn.Branch w c left right offset) d e = absurd (search (rules, e ∙ is))
-no_sext width bits k ws is none (insn.Call number) d e = absurd (search (rules, e ∙ is))
-no_sext width bits k ws is none insn.Exit d e = absurd (search (rules, e ∙ is))
 
 -- a mnemonic is that of its kind
 named : (i : Insn) → mnemonic_of i ≡ kind_name (kind_of i)

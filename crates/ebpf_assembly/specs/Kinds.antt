@@ -1,5 +1,6 @@
 -- What the mnemonic of an instruction says of it.
-use Rattle.std.specs.Prelude.{◌≢◌, ℕ, pos, List}
+use Rattle.std.specs.Prelude.{◌≡◌, ◌≢◌, ℕ, pos, List, Option}
+use Rattle.std.specs.Option.{MatchOption}
 use Rattle.ebpf_insn.specs.declared.register.Reg.TheVariants.{R0}
 use Rattle.ebpf_insn.specs.declared.insn.Insn.{Insn}
 use Rattle.ebpf_insn.specs.declared.insn.Insn.TheVariants as insn
@@ -7,6 +8,7 @@ use Rattle.ebpf_insn.specs.declared.insn.Source.TheVariants.{Register, Imm}
 use Rattle.ebpf_insn.specs.declared.insn.Width.{Width}
 use Rattle.ebpf_insn.specs.Encoding.{IsDefined}
 use Rattle.ebpf_text.specs.Mnemonics.{mnemonic_of}
+use Rattle.ebpf_text.specs.Operands.{operands_of}
 use Rattle.ebpf_assembly.specs.declared.kind.Kind.{Kind}
 use Rattle.ebpf_assembly.specs.declared.kind.Kind.TheVariants as kind
 
@@ -47,6 +49,10 @@ IsKind k = IsDefined (sample k)
 
 abbrev pub kind_name : Kind → List ℕ
 kind_name k = mnemonic_of (sample k)
+
+-- what is read as an instruction of a kind with these operands; none, where none has them
+abbrev pub IsOfKind : Kind → List (List ℕ) → Option Insn → Type 0
+IsOfKind k ws o = MatchOption o ((i : Insn) → IsDefined i → kind_of i ≡ k → ws ≢ operands_of i) (λ i. IsDefined i × (kind_of i ≡ k) × (ws ≡ operands_of i))
 
 -- a word is the mnemonic of no kind without a family
 pub record IsNoOther (word : List ℕ) : Type 0 where

@@ -1,125 +1,196 @@
-//! The operands of an instruction, read from the words after its mnemonic: a function for each list of them.
+//! The operands of each kind of instruction, read from the words after its mnemonic.
 
-ghost use Rattle.std.specs.Prelude.{◌≡◌, ◌≢◌, ◌<◌, ◌^◌, [], ◌∷◌, ℕ, ℤ, FitsSigned, decimal, map};
-ghost use Rattle.std.specs.Option.{MatchOption};
-ghost use Rattle.std.specs.Fmt.{signed_decimal};
-ghost use Rattle.std.specs.Int.{w16, w32};
-ghost use Rattle.ebpf_insn.specs.declared.register.Reg.{Reg};
-ghost use Rattle.ebpf_insn.specs.declared.insn.Source.{Source};
-ghost use Rattle.ebpf_insn.specs.Encoding.{IsSource};
-ghost use Rattle.ebpf_text.specs.Operands.{register_text, source_text, offset_text, place_text};
+ghost use Rattle.std.specs.Prelude.{map};
+ghost use Rattle.ebpf_assembly.specs.declared.kind.Kind.TheVariants as kind;
+ghost use Rattle.ebpf_assembly.specs.Kinds.{IsKind, IsOfKind};
 
 use crate::number::{far_offset, immediate, number, offset};
 use crate::operand::{place, register, source};
-use ebpf_insn::insn::Source;
-use ebpf_insn::register::Reg;
+use ebpf_insn::insn::{AluOp, Cond, Insn, Order, Size, Source, Width};
 
-// A register, and a second operand.
-pub(crate) fn register_and_source(words: &[&[u8]]) -> Option<(Reg, Source)>
-    ensures { MatchOption result ((r : Reg) (s : Source) → IsSource s → map (λ w. w.now) words.now ≢ register_text r ∷ source_text s ∷ []) (λ p. IsSource p.1 × (map (λ w. w.now) words.now ≡ register_text p.0 ∷ source_text p.1 ∷ [])) }
+// What is written, and a second operand.
+pub(crate) fn alu(width: Width, op: AluOp, words: &[&[u8]]) -> Option<Insn>
+    ensures { IsOfKind (kind.Alu width op) (map (λ w. w.now) words.now) result }
 {
     let [dst, src] = words else {
         return None;
     };
-    Some((register(dst)?, source(src)?))
+    Some(Insn::Alu {
+        width,
+        op,
+        dst: register(dst)?,
+        src: source(src)?,
+    })
 }
 
-// Two registers.
-pub(crate) fn two_registers(words: &[&[u8]]) -> Option<(Reg, Reg)>
-    ensures { MatchOption result ((r s : Reg) → map (λ w. w.now) words.now ≢ register_text r ∷ register_text s ∷ []) (λ p. map (λ w. w.now) words.now ≡ register_text p.0 ∷ register_text p.1 ∷ []) }
+// What is written, and the register that is extended.
+pub(crate) fn sext(width: Width, bits: u8, words: &[&[u8]]) -> Option<Insn>
+    requires { IsKind (kind.Sext width bits) }
+    ensures { IsOfKind (kind.Sext width bits) (map (λ w. w.now) words.now) result }
 {
     let [dst, src] = words else {
         return None;
     };
-    Some((register(dst)?, register(src)?))
+    Some(Insn::Sext {
+        width,
+        bits,
+        dst: register(dst)?,
+        src: register(src)?,
+    })
 }
 
-// A register.
-pub(crate) fn one_register(words: &[&[u8]]) -> Option<Reg>
-    ensures { MatchOption result ((r : Reg) → map (λ w. w.now) words.now ≢ register_text r ∷ []) (λ r. map (λ w. w.now) words.now ≡ register_text r ∷ []) }
+// The register that is negated.
+pub(crate) fn neg(width: Width, words: &[&[u8]]) -> Option<Insn>
+    ensures { IsOfKind (kind.Neg width) (map (λ w. w.now) words.now) result }
 {
     let [dst] = words else {
         return None;
     };
-    register(dst)
+    Some(Insn::Neg {
+        width,
+        dst: register(dst)?,
+    })
 }
 
-// A register, and a number of 64 bits.
-pub(crate) fn register_and_number(words: &[&[u8]]) -> Option<(Reg, u64)>
-    ensures { MatchOption result ((r : Reg) (n : ℕ) → n < 2 ^ 64 → map (λ w. w.now) words.now ≢ register_text r ∷ decimal n ∷ []) (λ p. (p.1 < 2 ^ 64) × (map (λ w. w.now) words.now ≡ register_text p.0 ∷ decimal p.1 ∷ [])) }
+// The register whose bytes are swapped.
+pub(crate) fn swap(order: Order, bits: u8, words: &[&[u8]]) -> Option<Insn>
+    requires { IsKind (kind.Swap order bits) }
+    ensures { IsOfKind (kind.Swap order bits) (map (λ w. w.now) words.now) result }
+{
+    let [dst] = words else {
+        return None;
+    };
+    Some(Insn::Swap {
+        order,
+        bits,
+        dst: register(dst)?,
+    })
+}
+
+// What is written, and a number of 64 bits.
+pub(crate) fn wide(words: &[&[u8]]) -> Option<Insn>
+    ensures { IsOfKind kind.Wide (map (λ w. w.now) words.now) result }
 {
     let [dst, value] = words else {
         return None;
     };
-    Some((register(dst)?, number(value)?))
+    Some(Insn::Wide {
+        dst: register(dst)?,
+        value: number(value)?,
+    })
 }
 
-// A register, and a place.
-pub(crate) fn register_and_place(words: &[&[u8]]) -> Option<(Reg, (Reg, i16))>
-    ensures { MatchOption result ((r base : Reg) (z : ℤ) → FitsSigned w16 z → map (λ w. w.now) words.now ≢ register_text r ∷ place_text base z ∷ []) (λ p. FitsSigned w16 p.1.1 × (map (λ w. w.now) words.now ≡ register_text p.0 ∷ place_text p.1.0 p.1.1 ∷ [])) }
+// What is written, and the place that is read.
+pub(crate) fn load(size: Size, signed: bool, words: &[&[u8]]) -> Option<Insn>
+    requires { IsKind (kind.Load size signed) }
+    ensures { IsOfKind (kind.Load size signed) (map (λ w. w.now) words.now) result }
 {
     let [dst, from] = words else {
         return None;
     };
-    Some((register(dst)?, place(from)?))
+    let dst = register(dst)?;
+    let (base, offset) = place(from)?;
+    Some(Insn::Load {
+        size,
+        signed,
+        dst,
+        base,
+        offset,
+    })
 }
 
-// A place, and an immediate.
-pub(crate) fn place_and_immediate(words: &[&[u8]]) -> Option<((Reg, i16), i32)>
-    ensures { MatchOption result ((base : Reg) (z y : ℤ) → FitsSigned w16 z → FitsSigned w32 y → map (λ w. w.now) words.now ≢ place_text base z ∷ signed_decimal y ∷ []) (λ p. FitsSigned w16 p.0.1 × FitsSigned w32 p.1 × (map (λ w. w.now) words.now ≡ place_text p.0.0 p.0.1 ∷ signed_decimal p.1 ∷ [])) }
+// The place that is written, and an immediate.
+pub(crate) fn store_immediate(size: Size, words: &[&[u8]]) -> Option<Insn>
+    ensures { IsOfKind (kind.StoreImmediate size) (map (λ w. w.now) words.now) result }
 {
-    let [to, src] = words else {
+    let [to, value] = words else {
         return None;
     };
-    Some((place(to)?, immediate(src)?))
+    let (base, offset) = place(to)?;
+    let src = Source::Imm(immediate(value)?);
+    Some(Insn::Store {
+        size,
+        base,
+        offset,
+        src,
+    })
 }
 
-// A place, and a register.
-pub(crate) fn place_and_register(words: &[&[u8]]) -> Option<((Reg, i16), Reg)>
-    ensures { MatchOption result ((base : Reg) (z : ℤ) (r : Reg) → FitsSigned w16 z → map (λ w. w.now) words.now ≢ place_text base z ∷ register_text r ∷ []) (λ p. FitsSigned w16 p.0.1 × (map (λ w. w.now) words.now ≡ place_text p.0.0 p.0.1 ∷ register_text p.1 ∷ [])) }
+// The place that is written, and a register.
+pub(crate) fn store_register(size: Size, words: &[&[u8]]) -> Option<Insn>
+    ensures { IsOfKind (kind.StoreRegister size) (map (λ w. w.now) words.now) result }
 {
-    let [to, src] = words else {
+    let [to, value] = words else {
         return None;
     };
-    Some((place(to)?, register(src)?))
+    let (base, offset) = place(to)?;
+    let src = Source::Register(register(value)?);
+    Some(Insn::Store {
+        size,
+        base,
+        offset,
+        src,
+    })
 }
 
-// The displacement of a jump.
-pub(crate) fn displacement(words: &[&[u8]]) -> Option<i16>
-    ensures { MatchOption result ((z : ℤ) → FitsSigned w16 z → map (λ w. w.now) words.now ≢ offset_text z ∷ []) (λ z. FitsSigned w16 z × (map (λ w. w.now) words.now ≡ offset_text z ∷ [])) }
+// How far to jump.
+pub(crate) fn jump(words: &[&[u8]]) -> Option<Insn>
+    ensures { IsOfKind kind.Jump (map (λ w. w.now) words.now) result }
 {
     let [to] = words else {
         return None;
     };
-    offset(to)
+    Some(Insn::Jump {
+        offset: offset(to)?,
+    })
 }
 
-// The displacement of a far jump.
-pub(crate) fn far_displacement(words: &[&[u8]]) -> Option<i32>
-    ensures { MatchOption result ((z : ℤ) → FitsSigned w32 z → map (λ w. w.now) words.now ≢ offset_text z ∷ []) (λ z. FitsSigned w32 z × (map (λ w. w.now) words.now ≡ offset_text z ∷ [])) }
+// The same, in 32 bits.
+pub(crate) fn jump_far(words: &[&[u8]]) -> Option<Insn>
+    ensures { IsOfKind kind.JumpFar (map (λ w. w.now) words.now) result }
 {
     let [to] = words else {
         return None;
     };
-    far_offset(to)
+    Some(Insn::JumpFar {
+        offset: far_offset(to)?,
+    })
 }
 
-// What a branch compares, and its displacement.
-pub(crate) fn comparison(words: &[&[u8]]) -> Option<(Reg, Source, i16)>
-    ensures { MatchOption result ((r : Reg) (s : Source) (z : ℤ) → IsSource s → FitsSigned w16 z → map (λ w. w.now) words.now ≢ register_text r ∷ source_text s ∷ offset_text z ∷ []) (λ p. IsSource p.1 × FitsSigned w16 p.2 × (map (λ w. w.now) words.now ≡ register_text p.0 ∷ source_text p.1 ∷ offset_text p.2 ∷ [])) }
+// What is compared, and how far to jump.
+pub(crate) fn branch(width: Width, cond: Cond, words: &[&[u8]]) -> Option<Insn>
+    ensures { IsOfKind (kind.Branch width cond) (map (λ w. w.now) words.now) result }
 {
     let [left, right, to] = words else {
         return None;
     };
-    Some((register(left)?, source(right)?, offset(to)?))
+    Some(Insn::Branch {
+        width,
+        cond,
+        left: register(left)?,
+        right: source(right)?,
+        offset: offset(to)?,
+    })
 }
 
-// The number of a helper.
-pub(crate) fn helper_number(words: &[&[u8]]) -> Option<i32>
-    ensures { MatchOption result ((z : ℤ) → FitsSigned w32 z → map (λ w. w.now) words.now ≢ signed_decimal z ∷ []) (λ z. FitsSigned w32 z × (map (λ w. w.now) words.now ≡ signed_decimal z ∷ [])) }
+// The number of the helper.
+pub(crate) fn call(words: &[&[u8]]) -> Option<Insn>
+    ensures { IsOfKind kind.Call (map (λ w. w.now) words.now) result }
 {
     let [called] = words else {
         return None;
     };
-    immediate(called)
+    Some(Insn::Call {
+        number: immediate(called)?,
+    })
+}
+
+// Nothing.
+pub(crate) fn exit(words: &[&[u8]]) -> Option<Insn>
+    ensures { IsOfKind kind.Exit (map (λ w. w.now) words.now) result }
+{
+    if !words.is_empty() {
+        return None;
+    }
+    Some(Insn::Exit)
 }
