@@ -7,7 +7,7 @@ use thiserror::Error;
 #[derive(Clone, Copy, Debug, Error)]
 pub enum LineFault {
     /// The line begins with the slot of another instruction.
-    #[error("the instruction isn't at this slot")]
+    #[error("this instruction is at another slot")]
     WrongSlot,
     /// No instruction has these words.
     #[error("no instruction is written like this")]

@@ -96,13 +96,13 @@ line 1: no instruction is written like this | ldxw r0, [r1+32768]
 line 1: no instruction is written like this | ldxw r0, []
 line 1: no instruction is written like this | ldxw r0, [
 # the slot is that of another instruction
-line 1: the instruction isn't at this slot | 1: exit
-line 1: the instruction isn't at this slot | 00: exit
-line 1: the instruction isn't at this slot | : exit
-line 1: the instruction isn't at this slot | start: exit
-line 1: the instruction isn't at this slot | 1: halt
-line 2: the instruction isn't at this slot | lddw r1, 1 / 1: exit
-line 3: the instruction isn't at this slot | mov64 r0, 7 /  / 2: exit
+line 1: this instruction is at another slot | 1: exit
+line 1: this instruction is at another slot | 00: exit
+line 1: this instruction is at another slot | : exit
+line 1: this instruction is at another slot | start: exit
+line 1: this instruction is at another slot | 1: halt
+line 2: this instruction is at another slot | lddw r1, 1 / 1: exit
+line 3: this instruction is at another slot | mov64 r0, 7 /  / 2: exit
 # there is none
 line 1: there is no instruction | ;
 line 3: there is no instruction | ; nothing /  / \u{20}";
