@@ -3,8 +3,8 @@
 //! A text has a line for each instruction, in the words of [`ebpf_text`]: the mnemonic and the operands. Spaces, tabs, carriage
 //! returns and commas separate words, a semicolon begins a comment, and blank lines are passed over. A line may begin with
 //! the slot of its instruction and a colon, as those of a listing do; it has to be the slot at which the instruction is placed.
-//! Numbers are written as a listing writes them: in decimal, an immediate with a sign only where it is negative, and an
-//! offset always with one.
+//! Numbers are written as a listing writes them: in decimal with no leading zero, an immediate with a sign only where it is
+//! negative, and an offset always with one. There are no other writings of a number, and no names for slots.
 //!
 //! [`assemble::assemble`] accepts exactly these texts, and else names the first line at fault and why. The listing of a program is
 //! such a text, and of no other program: so assembling it gives the program again.

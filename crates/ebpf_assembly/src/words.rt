@@ -51,8 +51,8 @@ fn label(word: &[u8]) -> Option<&[u8]>
     Some(label)
 }
 
-// The words of an instruction at a slot: without the label of that slot, where they begin with it. `None` where they begin with that of
-// another.
+// The words after the label of the slot, or all of them where they begin with no label; `None` where the label is that of another
+// slot.
 pub(crate) fn unlabelled<'a, 'b>(slot: usize, words: &'a [&'b [u8]]) -> Option<&'a [&'b [u8]]>
     ensures { MatchOption result (IsLabelledWrong slot (map (λ w. w.now) words.now)) (λ rest. IsUnlabelled slot (map (λ w. w.now) words.now) (map (λ w. w.now) rest.now)) }
 {

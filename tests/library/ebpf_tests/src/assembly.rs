@@ -133,7 +133,12 @@ fn a_text_is_its_program(rt: HostRuntime) {
         if !row.starts_with('#') {
             let (digits, text) = column(&rt, row);
             let lines = lines_of(&rt, rt.alloc(), text);
-            is_told(&rt, row, bytes_of(&rt, rt.alloc(), lines.as_bytes()).as_str(), digits);
+            is_told(
+                &rt,
+                row,
+                bytes_of(&rt, rt.alloc(), lines.as_bytes()).as_str(),
+                digits,
+            );
         }
     }
 }
@@ -158,7 +163,12 @@ fn each_instruction_is_read(rt: HostRuntime) {
         if !row.starts_with('#') {
             let (digits, line) = column(&rt, row);
             let (_, text) = line.split_once(": ").expect(&rt, "a line has its slot");
-            is_told(&rt, row, bytes_of(&rt, rt.alloc(), text.as_bytes()).as_str(), digits);
+            is_told(
+                &rt,
+                row,
+                bytes_of(&rt, rt.alloc(), text.as_bytes()).as_str(),
+                digits,
+            );
         }
     }
 }
@@ -175,7 +185,11 @@ fn a_listing_is_its_program(rt: HostRuntime) {
     }
     let program = program_of(&rt, rt.alloc(), digits.as_str());
     let told = listing(rt.alloc(), &program).expect(&rt, "out of memory");
-    holds(&rt, "the same bytes", bytes_of(&rt, rt.alloc(), told.as_bytes()) == digits);
+    holds(
+        &rt,
+        "the same bytes",
+        bytes_of(&rt, rt.alloc(), told.as_bytes()) == digits,
+    );
 }
 
 #[test]
@@ -184,10 +198,20 @@ fn bytes_of_a_comment_are_any(rt: HostRuntime) {
     is_told(&rt, "a comment", exit.as_str(), "9500000000000000");
     let fault = fault_of(&rt, rt.alloc(), b"exit\nexit\xff");
     let words = fault.to_string(rt.alloc()).expect(&rt, "out of memory");
-    is_told(&rt, "a word", words.as_str(), "line 2: no instruction is written like this");
+    is_told(
+        &rt,
+        "a word",
+        words.as_str(),
+        "line 2: no instruction is written like this",
+    );
     let fault = fault_of(&rt, rt.alloc(), b"");
     let words = fault.to_string(rt.alloc()).expect(&rt, "out of memory");
-    is_told(&rt, "no text", words.as_str(), "line 1: there is no instruction");
+    is_told(
+        &rt,
+        "no text",
+        words.as_str(),
+        "line 1: there is no instruction",
+    );
 }
 
 #[test]
@@ -197,14 +221,29 @@ fn a_program_has_4096_slots(rt: HostRuntime) {
         text.push_str("exit\n").expect(&rt, "out of memory");
     }
     let mut full = text.clone().expect(&rt, "out of memory");
-    text.push_str("lddw r0, 1\nhalt").expect(&rt, "out of memory");
+    text.push_str("lddw r0, 1\nhalt")
+        .expect(&rt, "out of memory");
     let fault = fault_of(&rt, rt.alloc(), text.as_bytes());
     let words = fault.to_string(rt.alloc()).expect(&rt, "out of memory");
-    is_told(&rt, "a wide one", words.as_str(), "line 4096: a program has at most 4096 slots");
+    is_told(
+        &rt,
+        "a wide one",
+        words.as_str(),
+        "line 4096: a program has at most 4096 slots",
+    );
     full.push_str("4095: exit\n").expect(&rt, "out of memory");
-    holds(&rt, "all slots", bytes_of(&rt, rt.alloc(), full.as_bytes()).len() == 4096 * 16);
+    holds(
+        &rt,
+        "all slots",
+        bytes_of(&rt, rt.alloc(), full.as_bytes()).len() == 4096 * 16,
+    );
     full.push_str("\n; more\nexit").expect(&rt, "out of memory");
     let fault = fault_of(&rt, rt.alloc(), full.as_bytes());
     let words = fault.to_string(rt.alloc()).expect(&rt, "out of memory");
-    is_told(&rt, "one more", words.as_str(), "line 4099: a program has at most 4096 slots");
+    is_told(
+        &rt,
+        "one more",
+        words.as_str(),
+        "line 4099: a program has at most 4096 slots",
+    );
 }
