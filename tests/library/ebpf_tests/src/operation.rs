@@ -10,10 +10,10 @@ use ebpf_verify::decl::Decl;
 use ebpf_verify::verify::verify;
 use std::test::*;
 
-// r0 = the low half of -1, r0 += -1, to slot 4 where r0 is 5, r0 in the order of the network, r1 = 7 in two slots, exit
+// r0 = the low half of -1, r0 += -1, to slot 4 where r0 is 5, r0 in the order of the network, r1 = 7 in two slots, emit, exit
 const SLOTS: &str =
-    "b4000000ffffffff07000000ffffffff1500010005000000dc000000100000001801000007000000000000000000000095000000\
-00000000";
+    "b4000000ffffffff07000000ffffffff1500010005000000dc000000100000001801000007000000000000000000000085000000\
+030000009500000000000000";
 
 // Whether these are the operations of the program.
 fn are_its(operations: &[FlatOperation]) -> bool {
@@ -25,8 +25,9 @@ fn are_its(operations: &[FlatOperation]) -> bool {
             FlatOperation::JEq64Imm(Reg::R0, 4, 5),
             FlatOperation::Swap(_, 16, Reg::R0),
             FlatOperation::Wide(Reg::R1, 7),
-            FlatOperation::Other,
-            FlatOperation::Other,
+            FlatOperation::Unreached,
+            FlatOperation::Emit,
+            FlatOperation::Exit,
         ]
     )
 }
