@@ -1,17 +1,18 @@
 -- What always holds: of a run, that what is known at its pc speaks of it, and that it is where the run alone is; of the world, that
 -- owners, ledgers and pointers fit together.
-use Rattle.std.specs.Prelude.{◌≡◌, ◌<◌, ◌≤◌, ℕ, false, true, ◌==◌, List, [], length, All, Contains, count_by, FitsSigned, is_none, Option, Some, None, slice_get}
+use Rattle.std.specs.Prelude.{◌≡◌, ◌<◌, ◌≤◌, ℕ, pos, false, true, ◌==◌, List, [], length, All, Contains, count_by, FitsSigned, is_none, Option, Some, None, slice_get}
 use Rattle.std.specs.Int.{w64}
+use Rattle.ebpf_insn.specs.declared.register.Reg.TheVariants.{R10}
 use Rattle.ebpf_insn.specs.Program.{instructions, insn_at, count_below}
 use Rattle.ebpf_state.specs.Ascending.{IsAscending}
 use Rattle.ebpf_verify.specs.Verdict.{IsAccepted}
 use Rattle.ebpf_verify.specs.Entry.{entry_of}
 use Rattle.ebpf_machine.specs.declared.value.Value.{Value}
 use Rattle.ebpf_machine.specs.declared.value.Value.TheVariants.{Number, Pointer}
-use Rattle.ebpf_machine.specs.declared.value.Base.TheVariants.{Object}
+use Rattle.ebpf_machine.specs.declared.value.Base.TheVariants.{Stack, Object}
 use Rattle.ebpf_machine.specs.declared.value.Cell.{Cell}
 use Rattle.ebpf_machine.specs.declared.value.Cell.TheVariants.{Part}
-use Rattle.ebpf_machine.specs.Values.{Frame}
+use Rattle.ebpf_machine.specs.Values.{Frame, read}
 use Rattle.ebpf_machine.specs.Effect.{Effect, Goes, Ends, Traps}
 use Rattle.ebpf_machine.specs.World.{Name, Status, Going, Exited, Trapped, World, Running, Owner, Run, IsOfKind, kinds_of, image_at, is_in, Kind, is_home_in, kind_from}
 use Rattle.ebpf_machine.specs.Alone.{replies_from, replies_of, alone_after}
@@ -74,6 +75,8 @@ pub record IsSound (v : RunView) : Type 0 where
   pub registers : length v.frame.registers ≡ 11
   pub stack : length v.frame.stack ≡ 512
   pub context : length v.context ≡ v.subject.decl.context
+  -- r10 is the frame pointer still
+  pub pointer : read v.frame R10 ≡ Some (Pointer Stack (pos 0))
   pub fit : FitsFrame v.frame
   pub stated : IsWellStated v.status v
 

@@ -30,6 +30,7 @@ pub(crate) fn call<O: Objects>(parts: &mut Parts<'_, O::Held>, helper: Helper, o
     requires can_give { IsFree (Some helper) → O.store.can_give objects.old }
     requires room { HasCapacity parts.old }
     ensures advanced { IsAdvanced O.store (state_of parts.old) (state_of parts.new) objects.old objects.new }
+    ensures next { (parts.new.pc ≡ parts.old.pc + 1) × (parts.new.exit ≡ None) }
     ensures room { HasCapacity parts.new }
 {
     match helper {
@@ -40,15 +41,14 @@ pub(crate) fn call<O: Objects>(parts: &mut Parts<'_, O::Held>, helper: Helper, o
     }
 }
 
-/// Adds the number in r1 to the output, by a call at a slot. Its pc and its count are left.
+/// Adds the number in r1 to the output. The run's pc and its count are left.
 #[inline(always)]
-pub(crate) fn emit<H>(parts: &mut Parts<'_, H>, pc: usize)
-    requires called { IsCallThere (moved pc 0 (state_of parts.old)) }
+pub(crate) fn emit<H>(parts: &mut Parts<'_, H>)
+    requires called { (pc : ℕ) × IsCallThere (moved pc 0 (state_of parts.old)) × HasRoomAt pc parts.old }
     requires found { HoldsNumber (slice_index_or parts.old.registers 1 None) }
-    requires room { HasRoomAt pc parts.old }
     ensures state { (n : ℕ) → slice_index_or parts.old.registers 1 None ≡ Some (Value.Number n) → state_of parts.new ≡ emitted n (state_of parts.old) }
-    ensures kept { (parts.new.exit ≡ parts.old.exit) × (parts.new.executed ≡ parts.old.executed) }
-    ensures room { HasRoomAt (pc + 1) parts.new }
+    ensures kept { parts.new.exit ≡ parts.old.exit }
+    ensures room { (pc : ℕ) → IsCallThere (moved pc 0 (state_of parts.old)) → HasRoomAt pc parts.old → HasRoomAt (pc + 1) parts.new }
 {
     let number = parts.registers.number(Reg::R1);
     parts.output.push_reserved(number);
@@ -62,6 +62,7 @@ fn ask<O: Objects>(parts: &mut Parts<'_, O::Held>, objects: &mut O)
     requires at { Calls (state_of parts.old) Helper.New }
     requires room { HasCapacity parts.old }
     ensures advanced { IsAdvanced O.store (state_of parts.old) (state_of parts.new) objects.old objects.new }
+    ensures next { (parts.new.pc ≡ parts.old.pc + 1) × (parts.new.exit ≡ None) }
     ensures room { HasCapacity parts.new }
 {
     let call = parts.pc as u16;
@@ -100,6 +101,7 @@ fn give_back<O: Objects>(parts: &mut Parts<'_, O::Held>, objects: &mut O)
     requires can_give { O.store.can_give objects.old }
     requires room { HasCapacity parts.old }
     ensures advanced { IsAdvanced O.store (state_of parts.old) (state_of parts.new) objects.old objects.new }
+    ensures next { (parts.new.pc ≡ parts.old.pc + 1) × (parts.new.exit ≡ None) }
     ensures room { HasCapacity parts.new }
 {
     let place = place_of(&parts.held, object(parts.registers.get(Reg::R1)));
@@ -119,6 +121,7 @@ fn swap<O: Objects>(parts: &mut Parts<'_, O::Held>, objects: &mut O)
     requires at { Calls (state_of parts.old) Helper.Swap }
     requires room { HasCapacity parts.old }
     ensures advanced { IsAdvanced O.store (state_of parts.old) (state_of parts.new) objects.old objects.new }
+    ensures next { (parts.new.pc ≡ parts.old.pc + 1) × (parts.new.exit ≡ None) }
     ensures room { HasCapacity parts.new }
 {
     let call = parts.pc as u16;

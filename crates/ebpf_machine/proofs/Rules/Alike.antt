@@ -75,6 +75,7 @@ sound_alike v others same h = record {
   registers = h.registers;
   stack = h.stack;
   context = h.context;
+  pointer = h.pointer;
   fit = h.fit;
   stated = by v.status h.stated;
 } where

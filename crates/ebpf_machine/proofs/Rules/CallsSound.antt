@@ -305,7 +305,7 @@ emit_next v number s h =
     let zero = IsFrame-result v.frame (Number 0) tt frame in
     let state = AreOf-result s v.frame v.objects (Num (constant 0)) (Number 0) here.full.whole frame.whole here.state (zero_known (calls_of v.objects)) in
     goes_quietly v i s (v.pc + 1) after here (h.does ∙ ap (effect_of_emit (v.pc + 1) v.frame) n.1) (inl refl)
-    (record { whole = zero.whole; deep = zero.deep; fit = record { registers = zero.fit.registers; stack = zero.fit.stack } })
+    (record { whole = zero.whole; deep = zero.deep; pointer = zero.pointer; fit = record { registers = zero.fit.registers; stack = zero.fit.stack } })
     (call_arrives v number s (with_result (Num (constant 0)) s) helper.Emit after v.objects h refl (record { each = state.each; words = state.words; held = state.held }))
 
 -- ---- swap

@@ -69,7 +69,7 @@ pub defined_in : (v : RunView) → IsSound v → AreDefined v.subject.program
 defined_in v h k i at = defined_at v.subject.program k i h.accepted.formed.defined at
 
 pub frame_of : (v : RunView) → IsSound v → IsFrame v.frame
-frame_of v h = record { whole = h.registers; deep = h.stack; fit = h.fit }
+frame_of v h = record { whole = h.registers; deep = h.stack; pointer = h.pointer; fit = h.fit }
 
 pub effect_here : (v : RunView) (i : Insn) (s : StateView) → IsHere v i s → effect_of_view v ≡ effect i v.pc (environment_of_view v) v.frame
 effect_here v i s here = ap (λ (o : Option Insn). effect_at o v.pc (environment_of_view v) v.frame) here.at
@@ -115,6 +115,7 @@ there_sound v i s to after objects replies taken here edge there =
       registers = there.frame.whole;
       stack = there.frame.deep;
       context = here.sound.context;
+      pointer = there.frame.pointer;
       fit = there.frame.fit;
       stated = subst (λ (s : Status). IsWellStated s now) (sym here.going) (record {
         inside = leads.2;

@@ -74,5 +74,5 @@ result_next v i s dst known result here w low r =
     let after = with_value v.frame dst r.v in
     let writes : effect i v.pc (environment_of_view v) v.frame ≡ Goes Nothing to after = w.does ∙ rw (r.is, low) refl in
     let there = AreOf-with s v.frame v.objects dst known (Some r.v) here.full.whole frame.whole here.state r.of in
-    goes_quietly v i s to after here writes (inl w.falls) (IsFrame-with v.frame dst (Some r.v) r.fits frame)
+    goes_quietly v i s to after here writes (inl w.falls) (IsFrame-with v.frame dst (Some r.v) low r.fits frame)
     (fall_arrives v.subject.program v.pc to i s (with_register s dst known) after v.objects (defined_in v here.sound) here.at here.entered here.full w.sends w.falls (omega (arith, some)) there)

@@ -83,7 +83,7 @@ to_stack v size base offset src s k w value stored same h =
     let it = stack_stored (calls_of v.objects) size (k +ℤ offset) value stored s v.frame.stack (state.stored s size (k +ℤ offset) value) refl h.unset h.fine here.state.words here.full.deep frame.deep frame.fit.stack h.fits h.of in
     let after = record v.frame { stack = it.stored.stack } in
     let writes : effect i v.pc (environment_of_view v) v.frame ≡ Goes Nothing (v.pc + 1) after = h.does ∙ ap (λ (z : ℤ). rewritten (v.pc + 1) v.frame (stored_at (place_of (z +ℤ offset) (bytes_in size)) (bytes_in size) stored v.frame.stack)) same ∙ ap (rewritten (v.pc + 1) v.frame) it.stored.is in
-    goes_quietly v i s (v.pc + 1) after here writes (inl refl) (record { whole = frame.whole; deep = it.stored.deep; fit = record { registers = frame.fit.registers; stack = it.stored.fit } })
+    goes_quietly v i s (v.pc + 1) after here writes (inl refl) (record { whole = frame.whole; deep = it.stored.deep; pointer = frame.pointer; fit = record { registers = frame.fit.registers; stack = it.stored.fit } })
     (fall_arrives v.subject.program v.pc (v.pc + 1) i s it.then after v.objects (defined_in v here.sound) here.at here.entered here.full (h.sends ∙ it.sends) refl (omega arith) (record {
       each = λ j lt. rw it.stored.registers (here.state.each j lt);
       words = it.stored.words;

@@ -71,3 +71,12 @@ answer-requires-in-None-clause-room g c =
     let added = one_added c.args.parts.now.verified.now.program c.args.parts.now.pc _ _ (ap is_call_there c.requires.at.at) room.replies in
     let long : length c.push_reserved.new.self.items ≡ length c.args.parts.now.replies.items + 1 = search rules in
     record { output = behind c.args.parts.now.verified.now.program c.args.parts.now.pc _ _ room.output; replies = omega (arith, added, long, c.push_reserved.ensures.capacity); taken = taken_behind c.args.parts.now.verified.now.program c.args.parts.now.pc _ _ _ room.taken; held = room.held }
+
+pub returns-in-Some-clause-next : goal.returns-in-Some-clause-next
+returns-in-Some-clause-next g c = (
+  ap (λ (r : RunState _). r.pc) c.answer.ensures.state ∙ ap (λ (r : RunState _). r.pc + 1) c.hold.ensures.state,
+  ap (λ (r : RunState _). r.exit) c.answer.ensures.state ∙ (ap (λ (r : RunState _). r.exit) c.hold.ensures.state ∙ c.requires.ready.going),
+)
+
+pub returns-in-None-clause-next : goal.returns-in-None-clause-next
+returns-in-None-clause-next g c = (ap (λ (r : RunState _). r.pc) c.answer-in-None.ensures.state, ap (λ (r : RunState _). r.exit) c.answer-in-None.ensures.state ∙ c.requires.ready.going)

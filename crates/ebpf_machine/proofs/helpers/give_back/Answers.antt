@@ -1,6 +1,7 @@
 use Rattle.std.proofs.Common.{◌≡◌, ◌+◌, ◌<◌, List, length, get_or, ap, sym, ◌∙◌, subst, rules}
 use Rattle.ebpf_machine.specs.declared.holding.Holding.{Holding}
 use Rattle.ebpf_machine.specs.declared.value.Value.TheVariants.{Number}
+use Rattle.ebpf_machine.specs.RunState.{RunState}
 use Rattle.ebpf_machine.specs.Flows.{object_in}
 use Rattle.ebpf_machine.specs.Parts.{state_of}
 use Rattle.ebpf_machine.proofs.Instructions.Advancing.{registers_answered, ready_few, ready_inside}
@@ -33,3 +34,6 @@ pub answer-requires-clause-room : goal.answer-requires-clause-room
 answer-requires-clause-room g c =
     let room = c.requires.room in
     record { output = behind c.args.parts.now.verified.now.program c.args.parts.now.pc _ _ room.output; replies = behind c.args.parts.now.verified.now.program c.args.parts.now.pc _ _ room.replies; taken = taken_behind c.args.parts.now.verified.now.program c.args.parts.now.pc _ _ _ room.taken; held = search rules }
+
+pub returns-clause-next : goal.returns-clause-next
+returns-clause-next g c = (ap (λ (r : RunState _). r.pc) c.answer.ensures.state, ap (λ (r : RunState _). r.exit) c.answer.ensures.state ∙ c.requires.ready.going)

@@ -1,4 +1,4 @@
-use Rattle.std.proofs.Common.{◌≡◌, ◌+◌, List, length, Some, None, ap, ◌∙◌, refl, rules, arith}
+use Rattle.std.proofs.Common.{◌≡◌, ◌+◌, ℕ, List, length, Some, None, ap, ◌∙◌, refl, rules, arith}
 use Rattle.std.specs.Vec.{vec_len}
 use Rattle.ebpf_insn.specs.declared.insn.Insn.TheVariants.{Call}
 use Rattle.ebpf_insn.specs.Program.{insn_at}
@@ -135,3 +135,21 @@ returns-in-None-clause-advanced g c =
     let swap : IsSwapped g.O.Objects.store c.number-shelf.result c.part_with-given.result None c.args.objects.now c.swap.new.self = record { takes = c.in-None.ensures.takes; outs = c.in-None.ensures.outs; gone = c.in-None.ensures.gone; others = c.in-None.ensures.others; shelf_holds = c.in-None.ensures.shelf; other_shelves = c.in-None.ensures.other_shelves } in
     rw (missed_state (state_of c.args.parts.now) (state_of t) _ (state_of c.answer-in-None.new.parts) (left g at.After-part_with-given) (ap (λ (replies : List _). record (state_of t) { replies = replies }) c.push_reserved.ensures.items) c.answer-in-None.ensures.state)
     (miss_advanced g.O.Objects.store (state_of c.args.parts.now) (state_of t) c.args.objects.now c.swap.new.self c.number-shelf.result c.part_with-given.result it c.part_with-given.ensures.parted swap (record { can = c.in-None.ensures.missed; counts = c.in-None.ensures.missed_count }))
+
+-- the run after it parted with an object
+parted_there : (g : Over) (c : After-part_with-given g) → (c.part_with-given.new.parts.pc ≡ c.args.parts.now.pc) × (c.part_with-given.new.parts.exit ≡ c.args.parts.now.exit)
+parted_there g c = (ap (λ (r : RunState _). r.pc) (left g c), ap (λ (r : RunState _). r.exit) (left g c))
+
+pub returns-in-Some-clause-next : goal.returns-in-Some-clause-next
+returns-in-Some-clause-next g c =
+    let there = parted_there g (goal.at.returns-in-Some-clause-next g c).After-part_with-given in (
+      ap (λ (r : RunState _). r.pc) c.answer.ensures.state ∙ ap (λ (r : RunState _). r.pc + 1) c.hold.ensures.state ∙ ap (λ (r : RunState _). r.pc + 1) c.keep.ensures.state ∙ ap (λ (n : ℕ). n + 1) there.0,
+      ap (λ (r : RunState _). r.exit) c.answer.ensures.state ∙ ap (λ (r : RunState _). r.exit) c.hold.ensures.state ∙ ap (λ (r : RunState _). r.exit) c.keep.ensures.state ∙ there.1 ∙ c.requires.ready.going,
+    )
+
+pub returns-in-None-clause-next : goal.returns-in-None-clause-next
+returns-in-None-clause-next g c =
+    let there = parted_there g (goal.at.returns-in-None-clause-next g c).After-part_with-given in (
+      ap (λ (r : RunState _). r.pc) c.answer-in-None.ensures.state ∙ ap (λ (n : ℕ). n + 1) there.0,
+      ap (λ (r : RunState _). r.exit) c.answer-in-None.ensures.state ∙ there.1 ∙ c.requires.ready.going,
+    )
