@@ -27,11 +27,7 @@ pub(crate) struct Written {
 
 /// Does a store to an object. The run's pc and its count are left.
 #[inline(always)]
-pub(crate) fn overwrite<O: Objects>(
-    parts: &mut Parts<'_, O::Held>,
-    write: Written,
-    objects: &mut O,
-)
+pub(crate) fn overwrite<O: Objects>(parts: &mut Parts<'_, O::Held>, write: Written, objects: &mut O)
     requires { (pc : ℕ) × (done : ℕ) × IsWriting O.store write pc done parts.old objects.old }
     ensures { (pc done : ℕ) → IsWriting O.store write pc done parts.old objects.old → IsDone O.store pc done (pc + 1) parts.old parts.new objects.old objects.new }
 {

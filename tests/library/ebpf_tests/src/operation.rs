@@ -10,10 +10,11 @@ use ebpf_verify::decl::Decl;
 use ebpf_verify::verify::verify;
 use std::test::*;
 
-// r0 = the low half of -1, r0 += -1, to slot 4 where r0 is 5, r0 in the order of the network, r1 = 7 in two slots, emit, exit
+// r0 = the low half of -1, r0 += -1, to slot 4 where r0 is 5, r0 in the order of the network, r1 = 7 in two slots, r0 to the last word
+// of the stack, its low half to r3, emit, exit
 const SLOTS: &str =
-    "b4000000ffffffff07000000ffffffff1500010005000000dc000000100000001801000007000000000000000000000085000000\
-030000009500000000000000";
+    "b4000000ffffffff07000000ffffffff1500010005000000dc00000010000000180100000700000000000000000000007b0af8ff\
+0000000061a3f8ff0000000085000000030000009500000000000000";
 
 // Whether these are the operations of the program.
 fn are_its(operations: &[FlatOperation]) -> bool {
@@ -26,8 +27,10 @@ fn are_its(operations: &[FlatOperation]) -> bool {
             FlatOperation::Swap(_, 16, Reg::R0),
             FlatOperation::Wide(Reg::R1, 7),
             FlatOperation::Unreached,
-            FlatOperation::Emit,
-            FlatOperation::Exit,
+            FlatOperation::StoreFrameD(63, Reg::R0),
+            FlatOperation::LoadFrameW(Reg::R3, -8),
+            FlatOperation::Emit(8),
+            FlatOperation::Exit(9),
         ]
     )
 }
