@@ -6,7 +6,7 @@ use Rattle.ebpf_verify.specs.Subject.{Subject}
 use Rattle.worker_pool.specs.declared.jobs.Job.{Job}
 use Rattle.worker_pool.specs.declared.outcome.Host.{Host}
 use Rattle.worker_pool.specs.declared.outcome.TheConstants.{MAX_WORKERS, MAX_JOBS}
-use Rattle.worker_pool.specs.declared.fault.PoolFault.TheVariants.{Pages, Workers, Jobs}
+use Rattle.worker_pool.specs.declared.admission.PoolFault.TheVariants.{Pages, Workers, Jobs}
 use Rattle.worker_pool.specs.Admission.{pool_fault, job_fault, has_program, has_context, is_declared, without_program, without_context}
 use Rattle.worker_pool.specs.Working.{CanRun}
 

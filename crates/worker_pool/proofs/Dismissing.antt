@@ -1,23 +1,21 @@
 -- A worker more is taken apart.
-use Rattle.std.proofs.Common.{◌≡◌, ◌≢◌, ◌⊎◌, inl, inr, ◌≤◌, ◌+◌, ◌*◌, ◌^◌, ℕ, Some, All, Any, List, [], ◌∷◌, ◌++◌, length, map, reverse, refl, sym, ap, subst, ◌∙◌, arith, length-append}
+use Rattle.std.proofs.Common.{◌≡◌, ◌≢◌, ◌⊎◌, inl, inr, ◌≤◌, ◌+◌, ◌*◌, ◌^◌, ℕ, Some, All, Any, List, [], ◌∷◌, ◌++◌, length, reverse, refl, sym, ap, subst, ◌∙◌, arith, length-append}
 use Rattle.std.specs.Prelude.{sum_by}
-use Rattle.std.proofs.lemmas.List.{map_push, reverse-append, reverse-reverse, append_assoc, append-nil}
+use Rattle.std.proofs.lemmas.List.{reverse-append, reverse-reverse, append_assoc, append-nil}
 use Rattle.std.proofs.lemmas.List.Elements.{All-push, All-nil}
 use Rattle.std.proofs.lemmas.List.Quantifiers.{Any-push}
 use Rattle.std.proofs.lemmas.List.Sums.{sum_by_push}
 use Rattle.owners_table.proofs.Joining.{all_front, all_last}
-use Rattle.worker_pool.specs.declared.ending.Ending.{Ending}
-use Rattle.worker_pool.specs.declared.ending.Ending.TheVariants.{Through, Unstarted, OutOfMemory}
+use Rattle.worker_pool.specs.declared.worker.Ending.{Ending}
+use Rattle.worker_pool.specs.declared.worker.Ending.TheVariants.{Through, Unstarted, OutOfMemory}
 use Rattle.worker_pool.specs.declared.worker.Worker.{Worker}
-use Rattle.worker_pool.specs.declared.hands.Hands.{Hands}
+use Rattle.worker_pool.specs.declared.hands.Tools.{Tools}
 use Rattle.worker_pool.specs.declared.crew.Parts.{Parts}
 use Rattle.worker_pool.specs.declared.crew.Done.{Done}
-use Rattle.worker_pool.specs.Crews.{ArePartsOf, AreNone, IsBack, hands_or, hands_of, seat_in, clashes_in, strays_in}
+use Rattle.worker_pool.specs.Crews.{ArePartsOf, HaveNone, IsBack, tools_or, tools_in, hands_in, seat_in, clashes_in, strays_in}
+use Rattle.worker_pool.specs.Hands.{AreOneMore}
+use Rattle.worker_pool.proofs.Pairs.{pushed, all_made_more}
 use Rattle.worker_pool.proofs.Turned.{sum_turned, length_turned, all_turned, any_before, any_turned}
-
--- one more behind what is made of each
-pushed : {X Y : Type 0} (f : X → Y) (done : List X) (w : X) (y : Y) (xs ys : List Y) → xs ≡ map f done → ys ≡ xs ++ y ∷ [] → f w ≡ y → ys ≡ map f (done ++ w ∷ [])
-pushed f done w y xs ys are is same = is ∙ ap (λ l. l ++ y ∷ []) are ∙ ap (λ v. map f done ++ v ∷ []) (sym same) ∙ sym (map_push f done w)
 
 module _ {L : Type 0} where
   -- some of the workers were taken apart, the last one first, and these are left
@@ -41,15 +39,15 @@ module _ {L : Type 0} where
   pub last_back : (all left rest : List (Worker L)) (w : Worker L) (p : Parts L) (told : Done) → left ≡ rest ++ w ∷ [] → AreApart all left p told → IsBack w
   last_back all left rest w p told is h = all_last IsBack rest w (subst (All IsBack) is h.back)
 
-  -- one worker more, with these hands
-  module _ (all left rest : List (Worker L)) (w : Worker L) (hands : Hands L) (p : Parts L) (told : Done)
-      (is : left ≡ rest ++ w ∷ []) (hands_are : w.hands ≡ Some hands) (h : AreApart all left p told) where
-    pub few_more : (hands.clashes ≤ 2 ^ 56) × (hands.strays ≤ 2 ^ 56)
+  -- one worker more, with these tools
+  module _ (all left rest : List (Worker L)) (w : Worker L) (tools : Tools L) (p : Parts L) (told : Done)
+      (is : left ≡ rest ++ w ∷ []) (tools_are : w.tools ≡ Some tools) (h : AreApart all left p told) where
+    pub few_more : (tools.clashes ≤ 2 ^ 56) × (tools.strays ≤ 2 ^ 56)
     few_more =
         let back = last_back all left rest w p told is h in
-        let same : Some back.hands ≡ Some hands = sym back.hands_are ∙ hands_are in
-        let clashes_same : back.hands.clashes ≡ hands.clashes = ap (λ o. (hands_or o).clashes) same in
-        let strays_same : back.hands.strays ≡ hands.strays = ap (λ o. (hands_or o).strays) same in
+        let same : Some back.tools ≡ Some tools = sym back.tools_are ∙ tools_are in
+        let clashes_same : back.tools.clashes ≡ tools.clashes = ap (λ o. (tools_or o).clashes) same in
+        let strays_same : back.tools.strays ≡ tools.strays = ap (λ o. (tools_or o).strays) same in
         (omega (arith, back.few.0, clashes_same), omega (arith, back.few.1, strays_same))
 
     split_more : all ≡ rest ++ reverse (h.done ++ w ∷ [])
@@ -58,10 +56,10 @@ module _ {L : Type 0} where
         h.split ∙ ap (λ l. l ++ reverse h.done) is ∙ append_assoc rest (w ∷ []) (reverse h.done) ∙ ap (λ l. rest ++ l) (sym turned)
 
     -- a count of the workers that were taken apart
-    more : (f : Hands L → ℕ) (n : ℕ) → n ≡ sum_by (λ v. f (hands_of v)) h.done → n + f hands ≡ sum_by (λ v. f (hands_of v)) (h.done ++ w ∷ [])
+    more : (f : Tools L → ℕ) (n : ℕ) → n ≡ sum_by (λ v. f (tools_in v)) h.done → n + f tools ≡ sum_by (λ v. f (tools_in v)) (h.done ++ w ∷ [])
     more f n is_sum =
-        let sum = sum_by_push (λ v. f (hands_of v)) h.done w in
-        let here : f (hands_of w) ≡ f hands = ap (λ o. f (hands_or o)) hands_are in
+        let sum = sum_by_push (λ v. f (tools_in v)) h.done w in
+        let here : f (tools_in w) ≡ f tools = ap (λ o. f (tools_or o)) tools_are in
         omega (arith, sum, here, is_sum)
 
     few_all : (n m : ℕ) → n ≤ length h.done * 2 ^ 56 → m ≤ 2 ^ 56 → n + m ≤ length (h.done ++ w ∷ []) * 2 ^ 56
@@ -77,44 +75,43 @@ module _ {L : Type 0} where
     pub one_apart : (p' : Parts L) (e : Ending)
         → (e ≢ OutOfMemory → (told.ending ≢ OutOfMemory) × (w.ending ≢ OutOfMemory))
         → (e ≡ Through → (told.ending ≡ Through) ⊎ (w.ending ≡ Through))
-        → p'.hands.cells.items ≡ p.hands.cells.items ++ hands.cells ∷ []
-        → p'.hands.records.items ≡ p.hands.records.items ++ hands.records ∷ []
-        → p'.hands.blocks.items ≡ p.hands.blocks.items ++ hands.blocks ∷ []
-        → p'.shelf_hands.cells.items ≡ p.shelf_hands.cells.items ++ hands.shelf_cells ∷ []
-        → p'.shelf_hands.records.items ≡ p.shelf_hands.records.items ++ hands.shelf_records ∷ []
-        → p'.shelf_hands.blocks.items ≡ p.shelf_hands.blocks.items ++ hands.shelf_blocks ∷ []
-        → p'.seats.items ≡ p.seats.items ++ hands.seat ∷ []
+        → AreOneMore p.hands p'.hands tools.hands
+        → p'.seats.items ≡ p.seats.items ++ tools.seat ∷ []
         → p'.drawers.items ≡ p.drawers.items ++ w.ticket ∷ []
         → p'.answered.items ≡ p.answered.items ++ w.answered ∷ []
-        → AreApart all rest p' (record { clashes = told.clashes + hands.clashes; strays = told.strays + hands.strays; ending = e })
-    one_apart p' e kept through cells records blocks shelf_cells shelf_records shelf_blocks seats drawers answered = record {
+        → AreApart all rest p' (record { clashes = told.clashes + tools.clashes; strays = told.strays + tools.strays; ending = e })
+    one_apart p' e kept through hands seats drawers answered = record {
       done = h.done ++ w ∷ [];
       split = split_more;
       parts = record {
-        cells = pushed (λ v. (hands_of v).cells) h.done w _ _ _ h.parts.cells cells (ap (λ o. (hands_or o).cells) hands_are);
-        records = pushed (λ v. (hands_of v).records) h.done w _ _ _ h.parts.records records (ap (λ o. (hands_or o).records) hands_are);
-        blocks = pushed (λ v. (hands_of v).blocks) h.done w _ _ _ h.parts.blocks blocks (ap (λ o. (hands_or o).blocks) hands_are);
-        shelf_cells = pushed (λ v. (hands_of v).shelf_cells) h.done w _ _ _ h.parts.shelf_cells shelf_cells (ap (λ o. (hands_or o).shelf_cells) hands_are);
-        shelf_records = pushed (λ v. (hands_of v).shelf_records) h.done w _ _ _ h.parts.shelf_records shelf_records (ap (λ o. (hands_or o).shelf_records) hands_are);
-        shelf_blocks = pushed (λ v. (hands_of v).shelf_blocks) h.done w _ _ _ h.parts.shelf_blocks shelf_blocks (ap (λ o. (hands_or o).shelf_blocks) hands_are);
-        seats = pushed seat_in h.done w _ _ _ h.parts.seats seats (ap (λ o. (hands_or o).seat) hands_are);
+        hands = all_made_more hands_in h.done w _ _ _ h.parts.hands hands (ap (λ o. (tools_or o).hands) tools_are);
+        seats = pushed seat_in h.done w _ _ _ h.parts.seats seats (ap (λ o. (tools_or o).seat) tools_are);
         drawers = pushed (λ v. v.ticket) h.done w _ _ _ h.parts.drawers drawers refl;
         answered = pushed (λ v. v.answered) h.done w _ _ _ h.parts.answered answered refl;
       };
       clashes = more (λ k. k.clashes) told.clashes h.clashes;
       strays = more (λ k. k.strays) told.strays h.strays;
-      few = (few_all told.clashes hands.clashes h.few.0 few_more.0, few_all told.strays hands.strays h.few.1 few_more.1);
+      few = (few_all told.clashes tools.clashes h.few.0 few_more.0, few_all told.strays tools.strays h.few.1 few_more.1);
       kept = λ well. let both = kept well in All-push (λ v. v.ending ≢ OutOfMemory) h.done w (h.kept both.0) both.1;
       through = λ is. through_more (through is);
       back = all_front IsBack rest w (subst (All IsBack) is h.back);
     }
 
   -- none was taken apart yet
-  pub none_apart : (all : List (Worker L)) (p : Parts L) → All IsBack all → AreNone (length all) p → AreApart all all p (record { clashes = 0; strays = 0; ending = Unstarted })
+  pub none_apart : (all : List (Worker L)) (p : Parts L) → All IsBack all → HaveNone (length all) p → AreApart all all p (record { clashes = 0; strays = 0; ending = Unstarted })
   none_apart all p back none = record {
     done = [];
     split = sym (append-nil all);
-    parts = record { cells = none.cells.0; records = none.records.0; blocks = none.blocks.0; shelf_cells = none.shelf_cells.0; shelf_records = none.shelf_records.0; shelf_blocks = none.shelf_blocks.0; seats = none.seats.0; drawers = none.drawers.0; answered = none.answered.0 };
+    parts = record {
+      hands = record {
+        cells = record { hands = none.hands.cells.none.hands; shelf_hands = none.hands.cells.none.shelf_hands };
+        records = record { hands = none.hands.records.none.hands; shelf_hands = none.hands.records.none.shelf_hands };
+        blocks = record { hands = none.hands.blocks.none.hands; shelf_hands = none.hands.blocks.none.shelf_hands };
+      };
+      seats = none.seats.0;
+      drawers = none.drawers.0;
+      answered = none.answered.0;
+    };
     clashes = refl;
     strays = refl;
     few = (omega arith, omega arith);

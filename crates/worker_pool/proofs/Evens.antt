@@ -1,22 +1,21 @@
 -- A job leaves each pair of hands even.
-use Rattle.std.proofs.Common.{◌≡◌, ℕ, ◌+◌, ◌^◌, ◌≤◌, arith}
-use Rattle.object_cache.specs.HandView.{HandView}
-use Rattle.object_cache.specs.ShelfView.{ShelfHandView}
-use Rattle.worker_pool.specs.Counts.{AllHands, out_of, outs_of}
-use Rattle.worker_pool.specs.Working.{IsEven}
+use Rattle.std.proofs.Common.{◌≡◌, ℕ, ◌^◌, ◌≤◌, arith}
+use Rattle.worker_pool.specs.declared.hands.HandPair.{HandPair}
+use Rattle.worker_pool.specs.declared.stocks.Stocks.{Stocks}
+use Rattle.worker_pool.specs.Counts.{out_of, outs_of}
+use Rattle.worker_pool.specs.Stocks.{hands_of}
+use Rattle.worker_pool.specs.Working.{IsEven, IsEvenPair}
 
--- what a hand and a shelf's hand gave away is few
-abbrev pub AreFew : HandView → ShelfHandView → Type 0
-AreFew h s = (h.frees ≤ 2 ^ 56) × (s.puts ≤ 2 ^ 56)
+-- what a pair of hands gave away is few
+abbrev AreFew : {K L : Type 0} → HandPair K L → Type 0
+AreFew p = (p.hand.frees ≤ 2 ^ 56) × (p.shelf_hand.puts ≤ 2 ^ 56)
 
-one_even : (h h' : HandView) (s s' : ShelfHandView) → AreFew h s → AreFew h' s' → out_of h' s' ≡ out_of h s → h.frees + s.puts ≡ h.allocs + s.gets → h'.frees + s'.puts ≡ h'.allocs + s'.gets
-one_even h h' s s' few few' same even = omega (arith, few.0, few.1, few'.0, few'.1, same, even)
+one_even : {K L : Type 0} (p p' : HandPair K L) → AreFew p → AreFew p' → out_of p' ≡ out_of p → IsEvenPair p → IsEvenPair p'
+one_even p p' few few' same even = omega (arith, few.0, few.1, few'.0, few'.1, same, even)
 
-pub evens : (h h' : AllHands) → AreFew h.cells h.cell_shelf → AreFew h.records h.record_shelf → AreFew h.blocks h.block_shelf
-    → AreFew h'.cells h'.cell_shelf → AreFew h'.records h'.record_shelf → AreFew h'.blocks h'.block_shelf → ((k : ℕ) → outs_of h' k ≡ outs_of h k)
-    → IsEven h → IsEven h'
-evens h h' fa fb fc fa' fb' fc' same even = record {
-  cells_even = one_even h.cells h'.cells h.cell_shelf h'.cell_shelf fa fa' (same 0) even.cells_even;
-  records_even = one_even h.records h'.records h.record_shelf h'.record_shelf fb fb' (same 1) even.records_even;
-  blocks_even = one_even h.blocks h'.blocks h.block_shelf h'.block_shelf fc fc' (same 2) even.blocks_even;
+pub evens : {L : Type 0} (s s' : Stocks L) → ((k : ℕ) → outs_of (hands_of s') k ≡ outs_of (hands_of s) k) → IsEven (hands_of s) → IsEven (hands_of s')
+evens s s' same even = record {
+  cells = one_even s.cells.pair s'.cells.pair s.cells.few s'.cells.few (same 0) even.cells;
+  records = one_even s.records.pair s'.records.pair s.records.few s'.records.few (same 1) even.records;
+  blocks = one_even s.blocks.pair s'.blocks.pair s.blocks.few s'.blocks.few (same 2) even.blocks;
 }

@@ -4,6 +4,7 @@ pub mod Sums
 pub mod Evens
 pub mod Exchanging
 pub mod Passing
+pub mod Pairs
 pub mod Returning
 pub mod Placing
 pub mod PlacingAll

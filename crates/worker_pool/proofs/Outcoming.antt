@@ -9,21 +9,18 @@ use Rattle.ebpf_verify.specs.Subject.{Subject}
 use Rattle.ebpf_machine.specs.declared.report.Report.{Report}
 use Rattle.ebpf_machine.specs.Whole.{granted, refused, fetched}
 use Rattle.object_cache.specs.declared.totals.Totals.{Totals}
-use Rattle.object_cache.specs.HandView.{HandView}
-use Rattle.object_cache.specs.ShelfView.{ShelfHandView}
 use Rattle.owners_table.specs.Owning.{OwnersView, SeatView}
 use Rattle.owners_table.specs.Drawing.{TicketsView, times_drawn}
-use Rattle.worker_pool.specs.declared.ending.Ending.TheVariants.{Through}
+use Rattle.worker_pool.specs.declared.worker.Ending.TheVariants.{Through}
 use Rattle.worker_pool.specs.declared.jobs.Job.{Job}
 use Rattle.worker_pool.specs.declared.jobs.Numbered.{Numbered}
 use Rattle.worker_pool.specs.declared.crew.Parts.{Parts}
 use Rattle.worker_pool.specs.declared.crew.Done.{Done}
 use Rattle.worker_pool.specs.declared.outcome.Outcome.{Outcome}
 use Rattle.worker_pool.specs.declared.outcome.ShelfTotals.{ShelfTotals}
-use Rattle.worker_pool.specs.declared.caches.FreeHands.{FreeHands}
-use Rattle.worker_pool.specs.Crews.{AreTotalsOf, IsTotalOf}
+use Rattle.worker_pool.specs.declared.hands.FreePairs.{FreePairs}
 use Rattle.worker_pool.specs.Outcomes.{IsOutcome, AreReportsFor, IsReportFor, IsEvenTotal, IsEvenShelf, allocs_in, nulls_in, gets_in, left_in, granted_in, refused_in, fetched_in}
-use Rattle.worker_pool.specs.Clearing.{AreCleared, HaveReturned, IsShelfTotal}
+use Rattle.worker_pool.specs.Supplies.{IsClosed, AreClosed}
 use Rattle.worker_pool.specs.Places.{HasExit, IsIn, filled, filled_at, times_in, weight, weight_at, weight_of}
 use Rattle.worker_pool.specs.Serving.{AreServed, AreEven, all_allocs, all_nulls, all_gets, reports_of}
 use Rattle.worker_pool.specs.Working.{Answers, granted_by, refused_by, fetched_by}
@@ -96,13 +93,14 @@ exit_of r one = by (is_some r.exit) refl where
 full_weight : (h : Report → ℕ) (places : List Report) → All HasExit places → weight h places ≡ sum_by h places
 full_weight h places all = sum_same (weight_at h) h places (λ i d l. ap (λ (t : Bool). if t then h (slice_index_or places i d) else 0) (all i d l))
 
-even_total : (count : ℕ) (hands hands' : List HandView) (shelf_hands : List ShelfHandView) (shelf : ShelfTotals) (t : Totals) → AreEven count hands shelf_hands → IsShelfTotal shelf_hands shelf → HaveReturned shelf.left hands hands' → IsTotalOf hands' t → IsEvenTotal t
-even_total count hands hands' shelf_hands shelf t even told back total =
-    let same : t.frees ≡ t.allocs = omega (arith, total.frees, total.allocs, back.frees, back.allocs, even.even, told.puts, told.gets, told.balance) in
-    record { back = same; none_missing = omega (arith, same, total.balance) }
+module _ {K L : Type 0} (count : ℕ) (f : FreePairs K L) (shelf : ShelfTotals) (t : Totals) (even : AreEven count f) (closed : IsClosed f shelf t) where
+  even_total : IsEvenTotal t
+  even_total =
+      let same : t.frees ≡ t.allocs = omega (arith, closed.frees, closed.allocs, even.even, closed.puts, closed.gets, closed.shelf_balance) in
+      record { back = same; none_missing = omega (arith, same, closed.balance) }
 
-even_shelf : (hands : List ShelfHandView) (t : ShelfTotals) → IsShelfTotal hands t → IsEvenShelf t
-even_shelf hands t told = record { balance = told.balance; one = told.one }
+  even_shelf : IsEvenShelf shelf
+  even_shelf = record { balance = closed.shelf_balance; one = closed.one }
 
 module _ {L : Type 0} (programs : List Subject) (jobs : List Job) (o : OwnersView) (t : TicketsView) (seats : List SeatView) (p : Parts L) (done : Done)
     (through : done.ending ≡ Through) (s : AreServed programs jobs o t seats p done) where
@@ -154,27 +152,27 @@ module _ {L : Type 0} (programs : List Subject) (jobs : List Job) (o : OwnersVie
       all_done : (lists : List (List Numbered)) → sum_by (weight_of (λ r. 1)) lists ≡ sum_by (λ ns. length ns) lists
       all_done lists = sum_same (weight_of (λ r. 1)) (λ ns. length ns) lists (λ i d l. ones (slice_index_or lists i d))
 
-      pub outcome : (hands : FreeHands L) (after : List SeatView) (shelves : List ShelfTotals) → AreCleared o p.shelf_hands p.hands hands p.seats.items after shelves
-          → (ts : List Totals) → AreTotalsOf hands ts → (out : Outcome) → out.reports ≡ places → out.totals ≡ ts → out.clashes ≡ done.clashes → out.shelves ≡ shelves → out.strays ≡ done.strays → out.jobs_done.items ≡ map (λ l. vec_len l) p.answered.items
+      pub outcome : (after : List SeatView) (shelves : List ShelfTotals) (ts : List Totals) → AreClosed o p.hands p.seats.items after shelves ts
+          → (out : Outcome) → out.reports ≡ places → out.totals ≡ ts → out.clashes ≡ done.clashes → out.shelves ≡ shelves → out.strays ≡ done.strays → out.jobs_done.items ≡ map (λ l. vec_len l) p.answered.items
           → IsOutcome programs jobs seats after out
-      outcome hands after shelves cleared ts totals out reports_are totals_are clashes_are shelves_are strays_are jobs_are = record {
+      outcome after shelves ts closed out reports_are totals_are clashes_are shelves_are strays_are jobs_are = record {
         reports = subst (AreReportsFor programs jobs) (sym reports_are) (record { all = len; each = report_for });
-        even = subst (All IsEvenTotal) (sym three) (all_three IsEvenTotal totals.cells totals.records totals.blocks
-            (even_total (length seats) p.hands.cells.items hands.cells.items p.shelf_hands.cells.items cleared.cells totals.cells s.cells cleared.of_cells cleared.cells_back totals.of_cells)
-            (even_total (length seats) p.hands.records.items hands.records.items p.shelf_hands.records.items cleared.records totals.records s.records cleared.of_records cleared.records_back totals.of_records)
-            (even_total (length seats) p.hands.blocks.items hands.blocks.items p.shelf_hands.blocks.items cleared.blocks totals.blocks s.blocks cleared.of_blocks cleared.blocks_back totals.of_blocks));
+        even = subst (All IsEvenTotal) (sym three) (all_three IsEvenTotal closed.cells closed.records closed.blocks
+            (even_total (length seats) p.hands.cells closed.cell_shelf closed.cells s.cells closed.cells_closed)
+            (even_total (length seats) p.hands.records closed.record_shelf closed.records s.records closed.records_closed)
+            (even_total (length seats) p.hands.blocks closed.block_shelf closed.blocks s.blocks closed.blocks_closed));
         granted = omega (arith, allocs, s.granted, granted_sum, clashes_are);
         refused = omega (arith, nulls, s.refused, refused_sum, clashes_are);
-        noted = omega (arith, allocs, s.noted, cleared.noted);
-        lost = omega (arith, s.lost, clashes_are, cleared.lost);
-        shelves = subst (All IsEvenShelf) (sym three_shelves) (all_three IsEvenShelf cleared.cells cleared.records cleared.blocks
-            (even_shelf p.shelf_hands.cells.items cleared.cells cleared.of_cells)
-            (even_shelf p.shelf_hands.records.items cleared.records cleared.of_records)
-            (even_shelf p.shelf_hands.blocks.items cleared.blocks cleared.of_blocks));
+        noted = omega (arith, allocs, s.noted, closed.noted);
+        lost = omega (arith, s.lost, clashes_are, closed.lost);
+        shelves = subst (All IsEvenShelf) (sym three_shelves) (all_three IsEvenShelf closed.cell_shelf closed.record_shelf closed.block_shelf
+            (even_shelf (length seats) p.hands.cells closed.cell_shelf closed.cells s.cells closed.cells_closed)
+            (even_shelf (length seats) p.hands.records closed.record_shelf closed.records s.records closed.records_closed)
+            (even_shelf (length seats) p.hands.blocks closed.block_shelf closed.blocks s.blocks closed.blocks_closed));
         fetched = omega (arith, gets, s.fetched, fetched_sum, strays_are);
         fetches =
             let left = ap left_in shelves_are in
-            omega (arith, gets, left, s.fetches, cleared.fetches);
+            omega (arith, gets, left, s.fetches, closed.fetches);
         workers = ap length jobs_are ∙ length-map p.answered.items (λ l. vec_len l) ∙ s.answered_all;
         jobs_done =
             let sum = ap (λ ns. sum_by (λ n. n) ns) jobs_are in
@@ -182,29 +180,29 @@ module _ {L : Type 0} (programs : List Subject) (jobs : List Job) (o : OwnersVie
             let here = summed (λ r. 1) in
             omega (arith, sum, counted, here, all_done (reports_of p), ones places, len);
       } where
-        three_shelves : out.shelves ≡ cleared.cells ∷ cleared.records ∷ cleared.blocks ∷ []
-        three_shelves = shelves_are ∙ cleared.are
+        three_shelves : out.shelves ≡ closed.cell_shelf ∷ closed.record_shelf ∷ closed.block_shelf ∷ []
+        three_shelves = shelves_are ∙ closed.shelves_are
 
         gets : gets_in out.shelves ≡ all_gets p
         gets =
-            let sum = ap gets_in three_shelves ∙ sum_three (λ (t : ShelfTotals). t.gets) cleared.cells cleared.records cleared.blocks in
-            omega (arith, sum, cleared.of_cells.gets, cleared.of_records.gets, cleared.of_blocks.gets)
+            let sum = ap gets_in three_shelves ∙ sum_three (λ (t : ShelfTotals). t.gets) closed.cell_shelf closed.record_shelf closed.block_shelf in
+            omega (arith, sum, closed.cells_closed.gets, closed.records_closed.gets, closed.blocks_closed.gets)
 
         fetched_sum : fetched_in out.reports ≡ sum_by fetched_by (reports_of p)
         fetched_sum = ap fetched_in reports_are ∙ summed (λ r. fetched r.answers)
 
-        three : out.totals ≡ totals.cells ∷ totals.records ∷ totals.blocks ∷ []
-        three = totals_are ∙ totals.are
+        three : out.totals ≡ closed.cells ∷ closed.records ∷ closed.blocks ∷ []
+        three = totals_are ∙ closed.totals_are
 
         allocs : allocs_in out.totals ≡ all_allocs p
         allocs =
-            let sum = ap allocs_in three ∙ sum_three (λ (t : Totals). t.allocs) totals.cells totals.records totals.blocks in
-            omega (arith, sum, totals.of_cells.allocs, totals.of_records.allocs, totals.of_blocks.allocs, cleared.cells_back.allocs, cleared.records_back.allocs, cleared.blocks_back.allocs)
+            let sum = ap allocs_in three ∙ sum_three (λ (t : Totals). t.allocs) closed.cells closed.records closed.blocks in
+            omega (arith, sum, closed.cells_closed.allocs, closed.records_closed.allocs, closed.blocks_closed.allocs)
 
         nulls : nulls_in out.totals ≡ all_nulls p
         nulls =
-            let sum = ap nulls_in three ∙ sum_three (λ (t : Totals). t.nulls) totals.cells totals.records totals.blocks in
-            omega (arith, sum, totals.of_cells.nulls, totals.of_records.nulls, totals.of_blocks.nulls, cleared.cells_back.nulls, cleared.records_back.nulls, cleared.blocks_back.nulls)
+            let sum = ap nulls_in three ∙ sum_three (λ (t : Totals). t.nulls) closed.cells closed.records closed.blocks in
+            omega (arith, sum, closed.cells_closed.nulls, closed.records_closed.nulls, closed.blocks_closed.nulls)
 
         granted_sum : granted_in out.reports ≡ sum_by granted_by (reports_of p)
         granted_sum = ap granted_in reports_are ∙ summed (λ r. granted r.answers)

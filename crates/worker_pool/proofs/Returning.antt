@@ -1,14 +1,26 @@
 -- The first of the hands and of the seats gave back what the shelves held.
-use Rattle.std.proofs.Common.{◌≡◌, ◌<◌, ◌+◌, ℕ, zero, suc, All, List, [], ◌∷◌, length, slice_index_or, refl, sym, ap, subst, ◌∙◌, arith}
+use Rattle.std.proofs.Common.{◌≡◌, inl, inr, ◌≤◌, ◌<◌, ◌+◌, Option, Some, None, ℕ, zero, suc, All, List, [], ◌∷◌, length, slice_index_or, refl, sym, ap, subst, ◌∙◌, arith}
 use Rattle.std.specs.Prelude.{sum_by, slice_set}
 use Rattle.std.proofs.lemmas.List.Sums.{sum_by-cons}
 use Rattle.object_cache.specs.HandView.{HandView}
-use Rattle.object_cache.specs.ShelfView.{ShelfHandView, new_hand}
+use Rattle.object_cache.specs.ShelfView.{ShelfHandView, new_hand, one_if}
+use Rattle.slab_layer.specs.Kinds.{Row, IsRow}
 use Rattle.owners_table.specs.Owning.{OwnersView, SeatView}
 use Rattle.worker_pool.specs.Claims.{lost}
-use Rattle.worker_pool.specs.Clearing.{HasReturned, HaveReturned, HasFetched}
+use Rattle.worker_pool.specs.Supplies.{HasReturned, HasFetched}
 use Rattle.worker_pool.specs.Outcomes.{IsIdle, noted_by, lost_by, fetches_by, left_in}
 use Rattle.worker_pool.specs.declared.outcome.ShelfTotals.{ShelfTotals}
+
+-- a kind's number is that of a shelf
+pub number_below : (r : Row) → IsRow r → r.number < 3
+number_below r (inl is) = let n = ap (λ (r : Row). r.number) is in omega (arith, n)
+number_below r (inr (inl is)) = let n = ap (λ (r : Row). r.number) is in omega (arith, n)
+number_below r (inr (inr is)) = let n = ap (λ (r : Row). r.number) is in omega (arith, n)
+
+-- there is one at most
+pub one_at_most : {X : Type 0} (o : Option X) → one_if o ≤ 1
+one_at_most None = omega arith
+one_at_most (Some x) = omega arith
 
 -- nothing was put on a shelf by hands that did nothing
 pub untouched_puts : (hands : List ShelfHandView) → All (λ h. h ≡ new_hand) hands → sum_by (λ h. h.puts) hands ≡ 0
@@ -38,13 +50,16 @@ module _ {X : Type 0} where
   first_all P (z ∷ xs) y all py zero d l = py
   first_all P (z ∷ xs) y all py (suc k) d l = all (suc k) d (omega (arith, l))
 
-pub have_returned : (left : ℕ) (hands : List HandView) (h h' : HandView) → 0 < length hands → h ≡ slice_index_or hands 0 h → HasReturned left h h' → HaveReturned left hands (slice_set hands 0 h')
-have_returned left hands h h' some is r = record {
-  all = first_length hands h';
-  allocs = let s = first_sum (λ k. k.allocs) hands h h' some is in omega (arith, s, r.allocs);
-  frees = let s = first_sum (λ k. k.frees) hands h h' some is in omega (arith, s, r.frees);
-  nulls = let s = first_sum (λ k. k.nulls) hands h h' some is in omega (arith, s, r.nulls);
-}
+-- the first hand gave that many objects back
+module _ (left : ℕ) (hands : List HandView) (h h' : HandView) (some : 0 < length hands) (is : h ≡ slice_index_or hands 0 h) (r : HasReturned left h h') where
+  pub same_allocs : sum_by (λ h. h.allocs) (slice_set hands 0 h') ≡ sum_by (λ h. h.allocs) hands
+  same_allocs = let s = first_sum (λ k. k.allocs) hands h h' some is in omega (arith, s, r.allocs)
+
+  pub more_frees : sum_by (λ h. h.frees) (slice_set hands 0 h') ≡ sum_by (λ h. h.frees) hands + left
+  more_frees = let s = first_sum (λ k. k.frees) hands h h' some is in omega (arith, s, r.frees)
+
+  pub same_nulls : sum_by (λ h. h.nulls) (slice_set hands 0 h') ≡ sum_by (λ h. h.nulls) hands
+  same_nulls = let s = first_sum (λ k. k.nulls) hands h h' some is in omega (arith, s, r.nulls)
 
 -- three fetches one after another
 pub all_fetched : (a b c : ℕ) (s t u v : SeatView) → HasFetched a s t → HasFetched b t u → HasFetched c u v → HasFetched (a + b + c) s v

@@ -6,31 +6,38 @@ use Rattle.object_cache.specs.HandView.{HandView}
 use Rattle.object_cache.specs.ShelfView.{ShelfHandView}
 use Rattle.owners_table.specs.Owning.{OwnersView, SeatView}
 use Rattle.owners_table.specs.Drawing.{TicketsView, IsOf, times}
-use Rattle.worker_pool.specs.declared.ending.Ending.TheVariants.{Through, OutOfMemory}
+use Rattle.worker_pool.specs.declared.worker.Ending.TheVariants.{Through, OutOfMemory}
 use Rattle.worker_pool.specs.declared.jobs.Job.{Job}
 use Rattle.worker_pool.specs.declared.jobs.Numbered.{Numbered}
 use Rattle.worker_pool.specs.declared.worker.Worker.{Worker}
-use Rattle.worker_pool.specs.declared.hands.Hands.{Hands}
+use Rattle.slab_layer.specs.declared.kind.CellKind.{CellKind}
+use Rattle.slab_layer.specs.declared.kind.RecordKind.{RecordKind}
+use Rattle.slab_layer.specs.declared.kind.BlockKind.{BlockKind}
+use Rattle.worker_pool.specs.declared.hands.HandPair.{HandPair}
+use Rattle.worker_pool.specs.declared.hands.FreePairs.{FreePairs}
+use Rattle.worker_pool.specs.declared.hands.Tools.{Tools}
 use Rattle.worker_pool.specs.declared.crew.Parts.{Parts}
 use Rattle.worker_pool.specs.declared.crew.Done.{Done}
 use Rattle.worker_pool.specs.Claims.{lost}
-use Rattle.worker_pool.specs.Crews.{ArePartsOf, IsBack, hands_or, hands_of, seat_in, clashes_in, strays_in}
+use Rattle.worker_pool.specs.Crews.{ArePartsOf, IsBack, tools_or, tools_in, hands_in, seat_in, clashes_in, strays_in}
+use Rattle.worker_pool.specs.Counts.{all_allocs, all_nulls, all_gets}
+use Rattle.worker_pool.specs.Hands.{AreMadeOf}
 use Rattle.worker_pool.specs.Outcomes.{IsIdle}
 use Rattle.worker_pool.specs.Places.{times_in}
-use Rattle.worker_pool.specs.Serving.{AreServed, all_allocs, all_nulls, all_gets, reports_of}
-use Rattle.worker_pool.specs.Working.{IsEven, all_of, IsFresh, IsDone, Answers, HasDrawn, granted_by, refused_by, fetched_by}
+use Rattle.worker_pool.specs.Serving.{AreEven, AreServed, all_allocs as all_free_allocs, all_nulls as all_free_nulls, all_gets as all_free_gets, reports_of}
+use Rattle.worker_pool.specs.Working.{IsEven, IsEvenPair, IsFresh, IsDone, AreDone, Answers, HasDrawn, granted_by, refused_by, fetched_by}
 use Rattle.worker_pool.proofs.Turned.{sum_turned, sum_mapped, all_mapped, any_also, as_many}
 use Rattle.worker_pool.proofs.Shares.{sum_same, three_sums, sum_two, sum_two_less, sum_even, sum_grown, all_by_index, part_sum, part_all, part_any, part_len, drawn_by, passed_by, through_not_out}
 
 module _ {L : Type 0} (programs : List Subject) (jobs : List Job) (o : OwnersView) (t : TicketsView) where
   abbrev allocs_in : Worker L → ℕ
-  allocs_in w = (hands_of w).cells.allocs + (hands_of w).records.allocs + (hands_of w).blocks.allocs
+  allocs_in w = all_allocs (hands_in w)
 
   abbrev nulls_in : Worker L → ℕ
-  nulls_in w = (hands_of w).cells.nulls + (hands_of w).records.nulls + (hands_of w).blocks.nulls
+  nulls_in w = all_nulls (hands_in w)
 
   abbrev gets_in : Worker L → ℕ
-  gets_in w = (hands_of w).shelf_cells.gets + (hands_of w).shelf_records.gets + (hands_of w).shelf_blocks.gets
+  gets_in w = all_gets (hands_in w)
 
   abbrev granted_in : Worker L → ℕ
   granted_in w = granted_by w.answered.items
@@ -52,7 +59,7 @@ module _ {L : Type 0} (programs : List Subject) (jobs : List Job) (o : OwnersVie
 
   -- what a worker did, over its parts alone
   record IsShare (w : Worker L) : Type 0 where
-    pub even : IsEven (all_of (hands_of w))
+    pub even : IsEven (hands_in w)
     pub idle : IsIdle o (seat_in w)
     pub ticket : IsOf t w.ticket
     pub good : All (Answers programs jobs) w.answered.items
@@ -68,65 +75,65 @@ module _ {L : Type 0} (programs : List Subject) (jobs : List Job) (o : OwnersVie
   share_passed w s = passed_by jobs w.ticket w.answered.items w.ending s.drawn
 
   module _ (before after : Worker L) (f : IsFresh o t before) (d : IsDone programs jobs t before after) where
-    now_has : hands_of after ≡ d.new
-    now_has = ap hands_or d.new_are
+    now_has : tools_in after ≡ d.new
+    now_has = ap tools_or d.new_are
 
-    had : hands_of before ≡ d.old
-    had = ap hands_or d.old_are
+    had : tools_in before ≡ d.old
+    had = ap tools_or d.old_are
 
     was_idle : d.old.seat.table ≡ o.table
-    was_idle = ap (λ (h : Hands L). h.seat.table) (ap hands_or (sym d.old_are ∙ f.hands_are)) ∙ f.unused.table
+    was_idle = ap (λ (k : Tools L). k.seat.table) (ap tools_or (sym d.old_are ∙ f.tools_are)) ∙ f.unused.table
 
     is_share : IsShare after
     is_share = record {
-      even = subst (λ (h : Hands L). IsEven (all_of h)) (sym now_has) d.served.even;
+      even = subst (λ (k : Tools L). IsEven k.hands) (sym now_has) d.used.even;
       idle = record {
-        table = ap (λ (h : Hands L). h.seat.table) now_has ∙ (d.served.table ∙ was_idle);
-        held = ap (λ (h : Hands L). h.seat.held) now_has ∙ d.served.held;
+        table = ap (λ (k : Tools L). k.seat.table) now_has ∙ (d.used.table ∙ was_idle);
+        held = ap (λ (k : Tools L). k.seat.held) now_has ∙ d.used.held;
       };
       ticket = d.served.tickets;
       good = d.served.good;
       drawn = d.served.drawn;
       granted =
-          let a = ap (λ (h : Hands L). h.cells.allocs + h.records.allocs + h.blocks.allocs) now_has in
-          let k = ap (λ (h : Hands L). h.clashes) now_has in
-          omega (arith, a, k, d.served.granted);
+          let a = ap (λ (k : Tools L). all_allocs k.hands) now_has in
+          let k = ap (λ (k : Tools L). k.clashes) now_has in
+          omega (arith, a, k, d.used.granted);
       refused =
-          let n = ap (λ (h : Hands L). h.cells.nulls + h.records.nulls + h.blocks.nulls) now_has in
-          let k = ap (λ (h : Hands L). h.clashes) now_has in
-          omega (arith, n, k, d.served.refused);
+          let n = ap (λ (k : Tools L). all_nulls k.hands) now_has in
+          let k = ap (λ (k : Tools L). k.clashes) now_has in
+          omega (arith, n, k, d.used.refused);
       fetched =
-          let g = ap (λ (h : Hands L). h.shelf_cells.gets + h.shelf_records.gets + h.shelf_blocks.gets) now_has in
-          let k = ap (λ (h : Hands L). h.strays) now_has in
-          omega (arith, g, k, d.served.fetched);
+          let g = ap (λ (k : Tools L). all_gets k.hands) now_has in
+          let k = ap (λ (k : Tools L). k.strays) now_has in
+          omega (arith, g, k, d.used.fetched);
     }
 
     pub is_back : IsBack after
-    is_back = record { hands = d.new; hands_are = d.new_are; few = d.served.few }
+    is_back = record { tools = d.new; tools_are = d.new_are; few = d.used.few }
 
     noted_grew : noted_in after ≡ noted_in before + allocs_in after
     noted_grew =
-        let new = ap (λ (h : Hands L). length h.seat.notes) now_has in
-        let old = ap (λ (h : Hands L). length h.seat.notes) had in
-        let a = ap (λ (h : Hands L). h.cells.allocs + h.records.allocs + h.blocks.allocs) now_has in
-        omega (arith, new, old, a, d.served.notes)
+        let new = ap (λ (k : Tools L). length k.seat.notes) now_has in
+        let old = ap (λ (k : Tools L). length k.seat.notes) had in
+        let a = ap (λ (k : Tools L). all_allocs k.hands) now_has in
+        omega (arith, new, old, a, d.used.notes)
 
     fetches_grew : fetches_in after ≡ fetches_in before + gets_in after
     fetches_grew =
-        let new = ap (λ (h : Hands L). length h.seat.fetches) now_has in
-        let old = ap (λ (h : Hands L). length h.seat.fetches) had in
-        let g = ap (λ (h : Hands L). h.shelf_cells.gets + h.shelf_records.gets + h.shelf_blocks.gets) now_has in
-        omega (arith, new, old, g, d.served.fetches)
+        let new = ap (λ (k : Tools L). length k.seat.fetches) now_has in
+        let old = ap (λ (k : Tools L). length k.seat.fetches) had in
+        let g = ap (λ (k : Tools L). all_gets k.hands) now_has in
+        omega (arith, new, old, g, d.used.fetches)
 
     lost_grew : lost_in after ≡ lost_in before + clashes_in after
     lost_grew =
-        let new = ap (λ (h : Hands L). lost h.seat.notes) now_has in
-        let old = ap (λ (h : Hands L). lost h.seat.notes) had in
-        let k = ap (λ (h : Hands L). h.clashes) now_has in
-        omega (arith, new, old, k, d.served.lost)
+        let new = ap (λ (k : Tools L). lost k.seat.notes) now_has in
+        let old = ap (λ (k : Tools L). lost k.seat.notes) had in
+        let k = ap (λ (k : Tools L). k.clashes) now_has in
+        omega (arith, new, old, k, d.used.lost)
 
   module _ (olds news : List (Worker L)) (len : length news ≡ length olds) (fresh : All (IsFresh o t) olds)
-      (done_each : (i : ℕ) (d : Worker L) → i < length olds → IsDone programs jobs t (slice_index_or olds i d) (slice_index_or news i d)) where
+      (done_each : AreDone programs jobs t olds news) where
     pub all_back : All IsBack news
     all_back = all_by_index IsBack olds news len (λ i d l. is_back (slice_index_or olds i d) (slice_index_or news i d) (fresh i d l) (done_each i d l))
 
@@ -148,32 +155,56 @@ module _ {L : Type 0} (programs : List Subject) (jobs : List Job) (o : OwnersVie
       count : length news ≡ length seats
       count = len ∙ as_many seat_in olds seats seats_are
 
-      cells : (h : HandView → ℕ) → sum_by h p.hands.cells.items ≡ sum_by (λ w. h (hands_of w).cells) news
-      cells h = part_sum (λ w. (hands_of w).cells) news p.hands.cells.items parts.cells h
+      -- of one kind, whose pair of a worker this is
+      module _ {K : Type 0} (pair_of : Worker L → HandPair K L) (f : FreePairs K L) (made : AreMadeOf pair_of (reverse news) f) where
+        sum_hands : (h : HandView → ℕ) → sum_by h f.hands.items ≡ sum_by (λ w. h (pair_of w).hand) news
+        sum_hands h = part_sum (λ w. (pair_of w).hand) news f.hands.items made.hands h
 
-      shelf_cells : (h : ShelfHandView → ℕ) → sum_by h p.shelf_hands.cells.items ≡ sum_by (λ w. h (hands_of w).shelf_cells) news
-      shelf_cells h = part_sum (λ w. (hands_of w).shelf_cells) news p.shelf_hands.cells.items parts.shelf_cells h
+        sum_shelf_hands : (h : ShelfHandView → ℕ) → sum_by h f.shelf_hands.items ≡ sum_by (λ w. h (pair_of w).shelf_hand) news
+        sum_shelf_hands h = part_sum (λ w. (pair_of w).shelf_hand) news f.shelf_hands.items made.shelf_hands h
 
-      records : (h : HandView → ℕ) → sum_by h p.hands.records.items ≡ sum_by (λ w. h (hands_of w).records) news
-      records h = part_sum (λ w. (hands_of w).records) news p.hands.records.items parts.records h
+        even_pairs : All (λ w. IsEvenPair (pair_of w)) news → AreEven (length seats) f
+        even_pairs each = record {
+          all = part_len (λ w. (pair_of w).hand) news f.hands.items made.hands ∙ count;
+          all_shelf = part_len (λ w. (pair_of w).shelf_hand) news f.shelf_hands.items made.shelf_hands ∙ count;
+          even =
+              let sums = sum_even (λ w. (pair_of w).hand.frees) (λ w. (pair_of w).shelf_hand.puts) (λ w. (pair_of w).hand.allocs) (λ w. (pair_of w).shelf_hand.gets) news each in
+              omega (arith, sums, sum_hands (λ h. h.frees), sum_shelf_hands (λ h. h.puts), sum_hands (λ h. h.allocs), sum_shelf_hands (λ h. h.gets));
+        }
 
-      shelf_records : (h : ShelfHandView → ℕ) → sum_by h p.shelf_hands.records.items ≡ sum_by (λ w. h (hands_of w).shelf_records) news
-      shelf_records h = part_sum (λ w. (hands_of w).shelf_records) news p.shelf_hands.records.items parts.shelf_records h
+      abbrev cells_in : Worker L → HandPair CellKind L
+      cells_in w = (hands_in w).cells
 
-      blocks : (h : HandView → ℕ) → sum_by h p.hands.blocks.items ≡ sum_by (λ w. h (hands_of w).blocks) news
-      blocks h = part_sum (λ w. (hands_of w).blocks) news p.hands.blocks.items parts.blocks h
+      abbrev records_in : Worker L → HandPair RecordKind L
+      records_in w = (hands_in w).records
 
-      shelf_blocks : (h : ShelfHandView → ℕ) → sum_by h p.shelf_hands.blocks.items ≡ sum_by (λ w. h (hands_of w).shelf_blocks) news
-      shelf_blocks h = part_sum (λ w. (hands_of w).shelf_blocks) news p.shelf_hands.blocks.items parts.shelf_blocks h
+      abbrev blocks_in : Worker L → HandPair BlockKind L
+      blocks_in w = (hands_in w).blocks
 
-      allocs_three : sum_by allocs_in news ≡ all_allocs p
-      allocs_three = omega (arith, three_sums (λ w. (hands_of w).cells.allocs) (λ w. (hands_of w).records.allocs) (λ w. (hands_of w).blocks.allocs) news, cells (λ h. h.allocs), records (λ h. h.allocs), blocks (λ h. h.allocs))
+      hands_three : (h : HandView → ℕ) → sum_by (λ w. h (cells_in w).hand + h (records_in w).hand + h (blocks_in w).hand) news
+          ≡ sum_by h p.hands.cells.hands.items + sum_by h p.hands.records.hands.items + sum_by h p.hands.blocks.hands.items
+      hands_three h = omega (
+        arith,
+        three_sums (λ w. h (cells_in w).hand) (λ w. h (records_in w).hand) (λ w. h (blocks_in w).hand) news,
+        sum_hands cells_in p.hands.cells parts.hands.cells h,
+        sum_hands records_in p.hands.records parts.hands.records h,
+        sum_hands blocks_in p.hands.blocks parts.hands.blocks h,
+      )
 
-      nulls_three : sum_by nulls_in news ≡ all_nulls p
-      nulls_three = omega (arith, three_sums (λ w. (hands_of w).cells.nulls) (λ w. (hands_of w).records.nulls) (λ w. (hands_of w).blocks.nulls) news, cells (λ h. h.nulls), records (λ h. h.nulls), blocks (λ h. h.nulls))
+      allocs_three : sum_by allocs_in news ≡ all_free_allocs p
+      allocs_three = hands_three (λ h. h.allocs)
 
-      gets_three : sum_by gets_in news ≡ all_gets p
-      gets_three = omega (arith, three_sums (λ w. (hands_of w).shelf_cells.gets) (λ w. (hands_of w).shelf_records.gets) (λ w. (hands_of w).shelf_blocks.gets) news, shelf_cells (λ h. h.gets), shelf_records (λ h. h.gets), shelf_blocks (λ h. h.gets))
+      nulls_three : sum_by nulls_in news ≡ all_free_nulls p
+      nulls_three = hands_three (λ h. h.nulls)
+
+      gets_three : sum_by gets_in news ≡ all_free_gets p
+      gets_three = omega (
+        arith,
+        three_sums (λ w. (cells_in w).shelf_hand.gets) (λ w. (records_in w).shelf_hand.gets) (λ w. (blocks_in w).shelf_hand.gets) news,
+        sum_shelf_hands cells_in p.hands.cells parts.hands.cells (λ h. h.gets),
+        sum_shelf_hands records_in p.hands.records parts.hands.records (λ h. h.gets),
+        sum_shelf_hands blocks_in p.hands.blocks parts.hands.blocks (λ h. h.gets),
+      )
 
       reported : (h : List Numbered → ℕ) → sum_by h (reports_of p) ≡ sum_by (λ w. h w.answered.items) news
       reported h = sum_mapped h (λ l. l.items) p.answered.items ∙ part_sum (λ w. w.answered) news p.answered.items parts.answered (λ l. h l.items)
@@ -186,27 +217,9 @@ module _ {L : Type 0} (programs : List Subject) (jobs : List Job) (o : OwnersVie
 
       pub all_served : AreServed programs jobs o t seats p done
       all_served = record {
-        cells = record {
-          all = part_len (λ w. (hands_of w).cells) news p.hands.cells.items parts.cells ∙ count;
-          all_shelf = part_len (λ w. (hands_of w).shelf_cells) news p.shelf_hands.cells.items parts.shelf_cells ∙ count;
-          even =
-              let each = sum_even (λ w. (hands_of w).cells.frees) (λ w. (hands_of w).shelf_cells.puts) (λ w. (hands_of w).cells.allocs) (λ w. (hands_of w).shelf_cells.gets) news (λ i d l. (shares i d l).even.cells_even) in
-              omega (arith, each, cells (λ h. h.frees), shelf_cells (λ h. h.puts), cells (λ h. h.allocs), shelf_cells (λ h. h.gets));
-        };
-        records = record {
-          all = part_len (λ w. (hands_of w).records) news p.hands.records.items parts.records ∙ count;
-          all_shelf = part_len (λ w. (hands_of w).shelf_records) news p.shelf_hands.records.items parts.shelf_records ∙ count;
-          even =
-              let each = sum_even (λ w. (hands_of w).records.frees) (λ w. (hands_of w).shelf_records.puts) (λ w. (hands_of w).records.allocs) (λ w. (hands_of w).shelf_records.gets) news (λ i d l. (shares i d l).even.records_even) in
-              omega (arith, each, records (λ h. h.frees), shelf_records (λ h. h.puts), records (λ h. h.allocs), shelf_records (λ h. h.gets));
-        };
-        blocks = record {
-          all = part_len (λ w. (hands_of w).blocks) news p.hands.blocks.items parts.blocks ∙ count;
-          all_shelf = part_len (λ w. (hands_of w).shelf_blocks) news p.shelf_hands.blocks.items parts.shelf_blocks ∙ count;
-          even =
-              let each = sum_even (λ w. (hands_of w).blocks.frees) (λ w. (hands_of w).shelf_blocks.puts) (λ w. (hands_of w).blocks.allocs) (λ w. (hands_of w).shelf_blocks.gets) news (λ i d l. (shares i d l).even.blocks_even) in
-              omega (arith, each, blocks (λ h. h.frees), shelf_blocks (λ h. h.puts), blocks (λ h. h.allocs), shelf_blocks (λ h. h.gets));
-        };
+        cells = even_pairs cells_in p.hands.cells parts.hands.cells (λ i d l. (shares i d l).even.cells);
+        records = even_pairs records_in p.hands.records parts.hands.records (λ i d l. (shares i d l).even.records);
+        blocks = even_pairs blocks_in p.hands.blocks parts.hands.blocks (λ i d l. (shares i d l).even.blocks);
         seats_all = part_len seat_in news p.seats.items parts.seats ∙ count;
         idle = part_all seat_in news p.seats.items parts.seats (IsIdle o) (λ i d l. (shares i d l).idle);
         noted = omega (arith, after_noted (λ s. length s.notes), all_noted, before_noted (λ s. length s.notes), allocs_three);

@@ -5,8 +5,8 @@ use Rattle.std.proofs.lemmas.Bool.Decides.{nat_tests}
 use Rattle.std.proofs.lemmas.List.{length-map}
 use Rattle.std.proofs.lemmas.List.Sums.{sum_by-cons, sum_by_push}
 use Rattle.owners_table.specs.Drawing.{TicketView, times}
-use Rattle.worker_pool.specs.declared.ending.Ending.{Ending}
-use Rattle.worker_pool.specs.declared.ending.Ending.TheVariants.{Through, Unstarted, OutOfMemory}
+use Rattle.worker_pool.specs.declared.worker.Ending.{Ending}
+use Rattle.worker_pool.specs.declared.worker.Ending.TheVariants.{Through, Unstarted, OutOfMemory}
 use Rattle.worker_pool.specs.declared.jobs.Job.{Job}
 use Rattle.worker_pool.specs.declared.jobs.Numbered.{Numbered}
 use Rattle.worker_pool.specs.Places.{times_in}

@@ -4,8 +4,8 @@ use Rattle.ebpf_verify.specs.Subject.{Subject}
 use Rattle.worker_pool.specs.declared.jobs.Job.{Job}
 use Rattle.worker_pool.specs.declared.outcome.Host.{Host}
 use Rattle.vmem_arena.specs.declared.arena.TheConstants.{MAX_PAGES}
-use Rattle.worker_pool.specs.declared.fault.PoolFault.{PoolFault}
-use Rattle.worker_pool.specs.declared.fault.PoolFault.TheVariants.{Pages, Workers, Jobs, Program, Context}
+use Rattle.worker_pool.specs.declared.admission.PoolFault.{PoolFault}
+use Rattle.worker_pool.specs.declared.admission.PoolFault.TheVariants.{Pages, Workers, Jobs, Program, Context}
 use Rattle.worker_pool.specs.declared.outcome.TheConstants.{MAX_WORKERS, MAX_JOBS}
 
 -- the job's program is there

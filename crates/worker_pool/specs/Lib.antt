@@ -1,3 +1,5 @@
+pub mod Hands
+pub mod Books
 pub mod Claims
 pub mod Counts
 pub mod Moves
@@ -5,8 +7,7 @@ pub mod Stocks
 pub mod Working
 pub mod Admission
 pub mod Outcomes
-pub mod Books
+pub mod Supplies
 pub mod Crews
 pub mod Places
 pub mod Serving
-pub mod Clearing

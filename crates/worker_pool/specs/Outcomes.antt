@@ -6,8 +6,8 @@ use Rattle.ebpf_machine.specs.Whole.{IsReportOf, granted, refused, fetched}
 use Rattle.object_cache.specs.declared.totals.Totals.{Totals}
 use Rattle.owners_table.specs.Owning.{OwnersView, SeatView}
 use Rattle.worker_pool.specs.Claims.{lost}
-use Rattle.worker_pool.specs.declared.fault.PoolFault.{PoolFault}
-use Rattle.worker_pool.specs.declared.fault.PoolFault.TheVariants.{NoMemory}
+use Rattle.worker_pool.specs.declared.admission.PoolFault.{PoolFault}
+use Rattle.worker_pool.specs.declared.admission.PoolFault.TheVariants.{NoMemory}
 use Rattle.worker_pool.specs.declared.jobs.Job.{Job}
 use Rattle.worker_pool.specs.declared.outcome.Outcome.{Outcome}
 use Rattle.worker_pool.specs.declared.outcome.ShelfTotals.{ShelfTotals}

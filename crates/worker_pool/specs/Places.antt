@@ -32,6 +32,10 @@ weight_of h ns = sum_by (λ n. h n.report) ns
 abbrev pub IsIn : Numbered → List (List Numbered) → Type 0
 IsIn n lists = (l : List Numbered) × Contains lists l × Contains l n
 
+-- each report that has a place was there before, or is there with its number
+abbrev pub AreFrom : (old : List Report) → (Numbered → Type 0) → (new : List Report) → Type 0
+AreFrom old there new = (x : ℕ) (r : Report) → slice_get new x ≡ Some r → HasExit r → (slice_get old x ≡ Some r) ⊎ there (record { job = x; report = r })
+
 -- some of the reports were put in their places, and these are left
 pub record ArePlaced (old : List Report) (all : List Numbered) (places : List Report) (left : List Numbered) : Type 0 where
   pub len : length places ≡ length old
@@ -40,7 +44,7 @@ pub record ArePlaced (old : List Report) (all : List Numbered) (places : List Re
   pub once : (x : ℕ) → filled places x + times_in x left ≤ 1
   pub filled_too : (x : ℕ) → filled places x + times_in x left ≡ filled old x + times_in x all
   pub weighed : (h : Report → ℕ) → weight h places + weight_of h left ≡ weight h old + weight_of h all
-  pub from : (x : ℕ) (r : Report) → slice_get places x ≡ Some r → HasExit r → (slice_get old x ≡ Some r) ⊎ Contains all (record { job = x; report = r })
+  pub from : AreFrom old (λ n. Contains all n) places
   pub within : (n : Numbered) → Contains left n → Contains all n
 
 -- the same of the reports of several workers
@@ -51,5 +55,5 @@ pub record AllArePlaced (old : List Report) (all : List (List Numbered)) (places
   pub once : (x : ℕ) → filled places x + sum_by (times_in x) left ≤ 1
   pub filled_too : (x : ℕ) → filled places x + sum_by (times_in x) left ≡ filled old x + sum_by (times_in x) all
   pub weighed : (h : Report → ℕ) → weight h places + sum_by (weight_of h) left ≡ weight h old + sum_by (weight_of h) all
-  pub from : (x : ℕ) (r : Report) → slice_get places x ≡ Some r → HasExit r → (slice_get old x ≡ Some r) ⊎ IsIn (record { job = x; report = r }) all
+  pub from : AreFrom old (λ n. IsIn n all) places
   pub within : (l : List Numbered) → Contains left l → Contains all l

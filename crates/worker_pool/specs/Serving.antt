@@ -1,11 +1,10 @@
 -- What all workers did together.
 use Rattle.std.specs.Prelude.{◌≡◌, ◌+◌, ◌<◌, ℕ, true, List, All, Any, map, length, sum_by}
 use Rattle.ebpf_verify.specs.Subject.{Subject}
-use Rattle.object_cache.specs.HandView.{HandView}
-use Rattle.object_cache.specs.ShelfView.{ShelfHandView}
 use Rattle.owners_table.specs.Owning.{OwnersView, SeatView}
 use Rattle.owners_table.specs.Drawing.{TicketsView, IsOf, times_drawn}
-use Rattle.worker_pool.specs.declared.ending.Ending.TheVariants.{Through}
+use Rattle.worker_pool.specs.declared.worker.Ending.TheVariants.{Through}
+use Rattle.worker_pool.specs.declared.hands.FreePairs.{FreePairs}
 use Rattle.worker_pool.specs.declared.jobs.Job.{Job}
 use Rattle.worker_pool.specs.declared.jobs.Numbered.{Numbered}
 use Rattle.worker_pool.specs.declared.crew.Parts.{Parts}
@@ -14,32 +13,37 @@ use Rattle.worker_pool.specs.Outcomes.{IsIdle, noted_by, lost_by, fetches_by}
 use Rattle.worker_pool.specs.Places.{times_in}
 use Rattle.worker_pool.specs.Working.{Answers, granted_by, refused_by, fetched_by}
 
--- how often hands were given an object, and how often they were refused one
-abbrev pub allocs_of : List HandView → ℕ
-allocs_of hands = sum_by (λ h. h.allocs) hands
+-- ---- of one kind
 
-abbrev pub nulls_of : List HandView → ℕ
-nulls_of hands = sum_by (λ h. h.nulls) hands
+module _ {K L : Type 0} where
+  -- how often hands were given an object, and how often they were refused one
+  abbrev pub allocs_of : FreePairs K L → ℕ
+  allocs_of f = sum_by (λ h. h.allocs) f.hands.items
 
--- how often objects were got off shelves
-abbrev pub gets_of : List ShelfHandView → ℕ
-gets_of hands = sum_by (λ h. h.gets) hands
+  abbrev pub nulls_of : FreePairs K L → ℕ
+  nulls_of f = sum_by (λ h. h.nulls) f.hands.items
 
--- what the hands took from the cache and got from the shelf went back there or onto the shelf
-pub record AreEven (count : ℕ) (hands : List HandView) (shelf_hands : List ShelfHandView) : Type 0 where
-  pub all : length hands ≡ count
-  pub all_shelf : length shelf_hands ≡ count
-  pub even : sum_by (λ h. h.frees) hands + sum_by (λ h. h.puts) shelf_hands ≡ allocs_of hands + gets_of shelf_hands
+  -- how often objects were got off shelves
+  abbrev pub gets_of : FreePairs K L → ℕ
+  gets_of f = sum_by (λ h. h.gets) f.shelf_hands.items
+
+  -- what the hands took from the cache and got from the shelf went back there or onto the shelf
+  pub record AreEven (count : ℕ) (f : FreePairs K L) : Type 0 where
+    pub all : length f.hands.items ≡ count
+    pub all_shelf : length f.shelf_hands.items ≡ count
+    pub even : sum_by (λ h. h.frees) f.hands.items + sum_by (λ h. h.puts) f.shelf_hands.items ≡ allocs_of f + gets_of f
+
+-- ---- of each kind
 
 module _ {L : Type 0} where
   abbrev pub all_allocs : Parts L → ℕ
-  all_allocs p = allocs_of p.hands.cells.items + allocs_of p.hands.records.items + allocs_of p.hands.blocks.items
+  all_allocs p = allocs_of p.hands.cells + allocs_of p.hands.records + allocs_of p.hands.blocks
 
   abbrev pub all_nulls : Parts L → ℕ
-  all_nulls p = nulls_of p.hands.cells.items + nulls_of p.hands.records.items + nulls_of p.hands.blocks.items
+  all_nulls p = nulls_of p.hands.cells + nulls_of p.hands.records + nulls_of p.hands.blocks
 
   abbrev pub all_gets : Parts L → ℕ
-  all_gets p = gets_of p.shelf_hands.cells.items + gets_of p.shelf_hands.records.items + gets_of p.shelf_hands.blocks.items
+  all_gets p = gets_of p.hands.cells + gets_of p.hands.records + gets_of p.hands.blocks
 
   -- the reports that each worker made
   abbrev pub reports_of : Parts L → List (List Numbered)
@@ -47,10 +51,11 @@ module _ {L : Type 0} where
 
   -- What is left of workers that had these seats. Where they are through together, one was told that there are no more jobs, and each
   -- number below the limit was drawn as often as there are reports of that job.
-  pub record AreServed (programs : List Subject) (jobs : List Job) (o : OwnersView) (t : TicketsView) (seats : List SeatView) (p : Parts L) (done : Done) : Type 0 where
-    pub cells : AreEven (length seats) p.hands.cells.items p.shelf_hands.cells.items
-    pub records : AreEven (length seats) p.hands.records.items p.shelf_hands.records.items
-    pub blocks : AreEven (length seats) p.hands.blocks.items p.shelf_hands.blocks.items
+  pub record AreServed (programs : List Subject) (jobs : List Job) (o : OwnersView) (t : TicketsView) (seats : List SeatView)
+      (p : Parts L) (done : Done) : Type 0 where
+    pub cells : AreEven (length seats) p.hands.cells
+    pub records : AreEven (length seats) p.hands.records
+    pub blocks : AreEven (length seats) p.hands.blocks
     pub seats_all : length p.seats.items ≡ length seats
     pub idle : All (IsIdle o) p.seats.items
     pub noted : noted_by p.seats.items ≡ noted_by seats + all_allocs p

@@ -1,17 +1,18 @@
 -- What the stocks of all kinds did.
 use Rattle.std.specs.Prelude.{◌≡◌, ℕ, ◌+◌, ◌==◌, if◌then◌else◌}
 use Rattle.worker_pool.specs.declared.stocks.Stocks.{Stocks}
-use Rattle.worker_pool.specs.Counts.{AllHands, all_allocs, all_frees, all_nulls, all_puts, all_gets, outs_of}
+use Rattle.worker_pool.specs.declared.hands.Hands.{Hands}
+use Rattle.worker_pool.specs.Counts.{all_allocs, all_frees, all_nulls, all_puts, all_gets, outs_of}
 
-abbrev pub hands_of : {L : Type 0} → Stocks L → AllHands
-hands_of s = record { cells = s.cells.hand; records = s.records.hand; blocks = s.blocks.hand; cell_shelf = s.cells.shelf_hand; record_shelf = s.records.shelf_hand; block_shelf = s.blocks.shelf_hand }
+abbrev pub hands_of : {L : Type 0} → Stocks L → Hands L
+hands_of s = record { cells = s.cells.pair; records = s.records.pair; blocks = s.blocks.pair }
 
--- so many, where k is the kind
+-- the count, where k is the kind
 abbrev pub where_kind : (kind k count : ℕ) → ℕ
 where_kind kind k count = if k == kind then count else 0
 
--- so many objects of the kind were taken, given back, refused, put on its shelf and got from there, and none of another kind
-pub record HasMoved (kind taken given refused put got : ℕ) (h h' : AllHands) : Type 0 where
+-- that many objects of the kind were taken, given back, refused, put on its shelf and got from there, and none of another kind
+pub record HasMoved {L : Type 0} (kind taken given refused put got : ℕ) (h h' : Hands L) : Type 0 where
   pub allocs : all_allocs h' ≡ all_allocs h + taken
   pub frees : all_frees h' ≡ all_frees h + given
   pub nulls : all_nulls h' ≡ all_nulls h + refused

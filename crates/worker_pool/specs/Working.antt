@@ -1,30 +1,43 @@
 -- What workers are given, and what they have done.
-use Rattle.std.specs.Prelude.{◌≡◌, ◌<◌, ◌≤◌, ◌+◌, ◌^◌, ℕ, ⊤, true, false, List, [], ◌∷◌, ◌++◌, length, map, All, sum_by, slice_get, Some}
+use Rattle.std.specs.Prelude.{◌≡◌, ◌<◌, ◌≤◌, ◌+◌, ◌^◌, ℕ, ⊤, true, false, List, [], ◌∷◌, ◌++◌, length, map, All, sum_by, slice_get, slice_index_or, Some}
 use Rattle.ebpf_verify.specs.Subject.{Subject}
-use Rattle.object_cache.specs.HandView.{fresh}
-use Rattle.object_cache.specs.ShelfView.{new_hand}
 use Rattle.owners_table.specs.Owning.{OwnersView}
 use Rattle.owners_table.specs.Drawing.{TicketsView, TicketView, IsOf}
-use Rattle.worker_pool.specs.declared.ending.Ending.{Ending}
-use Rattle.worker_pool.specs.declared.ending.Ending.TheVariants.{Through, Unstarted, OutOfMemory}
+use Rattle.worker_pool.specs.declared.worker.Ending.{Ending}
+use Rattle.worker_pool.specs.declared.worker.Ending.TheVariants.{Through, Unstarted, OutOfMemory}
+use Rattle.ebpf_machine.specs.Kinds.{AreKnown}
+use Rattle.worker_pool.specs.declared.outcome.TheConstants.{MAX_JOBS}
 use Rattle.worker_pool.specs.declared.jobs.Job.{Job}
 use Rattle.worker_pool.specs.declared.jobs.Numbered.{Numbered}
 use Rattle.worker_pool.specs.declared.worker.Worker.{Worker}
+use Rattle.worker_pool.specs.declared.hands.HandPair.{HandPair}
 use Rattle.worker_pool.specs.declared.hands.Hands.{Hands}
+use Rattle.worker_pool.specs.declared.hands.Tools.{Tools}
 use Rattle.ebpf_machine.specs.Whole.{IsReportOf, granted, refused, fetched}
 use Rattle.worker_pool.specs.Claims.{lost}
-use Rattle.worker_pool.specs.Counts.{AllHands}
+use Rattle.worker_pool.specs.Hands.{unused_hands}
+use Rattle.worker_pool.specs.Counts.{all_allocs, all_nulls, all_gets}
 
--- of each kind, what the hands took from the cache and got from the shelf went back there or onto the shelf
-pub record IsEven (h : AllHands) : Type 0 where
-  pub cells_even : h.cells.frees + h.cell_shelf.puts ≡ h.cells.allocs + h.cell_shelf.gets
-  pub records_even : h.records.frees + h.record_shelf.puts ≡ h.records.allocs + h.record_shelf.gets
-  pub blocks_even : h.blocks.frees + h.block_shelf.puts ≡ h.blocks.allocs + h.block_shelf.gets
+-- what the hands took from the cache and got from the shelf went back there or onto the shelf
+abbrev pub IsEvenPair : {K L : Type 0} → HandPair K L → Type 0
+IsEvenPair p = p.hand.frees + p.shelf_hand.puts ≡ p.hand.allocs + p.shelf_hand.gets
+
+-- so it did of each kind
+pub record IsEven {L : Type 0} (h : Hands L) : Type 0 where
+  pub cells : IsEvenPair h.cells
+  pub records : IsEvenPair h.records
+  pub blocks : IsEvenPair h.blocks
 
 -- the job's program is there, and the context has its length
 pub record CanRun (programs : List Subject) (job : Job) : Type 0 where
   pub inside : job.program < length programs
   pub fits : (s : Subject) → slice_get programs job.program ≡ Some s → length job.context ≡ s.decl.context
+
+-- the programs were verified against the kinds that the caches have, each job can be run, and a mark has room for its number
+pub record AreReady (programs : List Subject) (jobs : List Job) : Type 0 where
+  pub known : AreKnown programs
+  pub can : All (CanRun programs) jobs
+  pub few : length jobs ≤ MAX_JOBS
 
 -- the report is that of the job of its number, run alone
 pub record Answers (programs : List Subject) (jobs : List Job) (n : Numbered) : Type 0 where
@@ -54,51 +67,58 @@ HasDrawn jobs ticket answered Through = (ticket.passed ≡ true) × (n : ℕ) ×
 HasDrawn jobs ticket answered Unstarted = (ticket.drawn ≡ []) × (answered ≡ [])
 HasDrawn jobs ticket answered OutOfMemory = ⊤
 
-module _ {L : Type 0} where
-  abbrev pub all_of : Hands L → AllHands
-  all_of h = record { cells = h.cells; records = h.records; blocks = h.blocks; cell_shelf = h.shelf_cells; record_shelf = h.shelf_records; block_shelf = h.shelf_blocks }
+-- which jobs a worker did, by the reports that it made and by how it ended
+pub record IsServed (programs : List Subject) (jobs : List Job) (t : TicketsView) (ticket : TicketView) (answered : List Numbered)
+    (ending : Ending) : Type 0 where
+  pub tickets : IsOf t ticket
+  pub good : All (Answers programs jobs) answered
+  pub drawn : HasDrawn jobs ticket answered ending
 
+module _ {L : Type 0} where
   -- nothing was taken, and the seat holds nothing
-  pub record IsUnused (o : OwnersView) (h : Hands L) : Type 0 where
-    pub cells : h.cells ≡ fresh
-    pub records : h.records ≡ fresh
-    pub blocks : h.blocks ≡ fresh
-    pub shelf_cells : h.shelf_cells ≡ new_hand
-    pub shelf_records : h.shelf_records ≡ new_hand
-    pub shelf_blocks : h.shelf_blocks ≡ new_hand
-    pub table : h.seat.table ≡ o.table
-    pub held : h.seat.held ≡ []
+  pub record IsUnused (o : OwnersView) (t : Tools L) : Type 0 where
+    pub hands : t.hands ≡ unused_hands
+    pub table : t.seat.table ≡ o.table
+    pub held : t.seat.held ≡ []
 
   -- a worker that has done nothing
   pub record IsFresh (o : OwnersView) (t : TicketsView) (w : Worker L) : Type 0 where
-    pub hands : Hands L
-    pub hands_are : w.hands ≡ Some hands
-    pub unused : IsUnused o hands
+    pub tools : Tools L
+    pub tools_are : w.tools ≡ Some tools
+    pub unused : IsUnused o tools
     pub ticket : IsOf t w.ticket
     pub drawn : w.ticket.drawn ≡ []
     pub passed : w.ticket.passed ≡ false
     pub answered : w.answered.items ≡ []
 
-  -- what a worker did with its hands, its seat and its ticket
-  pub record IsServed (programs : List Subject) (jobs : List Job) (t : TicketsView) (before after : Hands L) (ticket : TicketView) (answered : List Numbered) (ending : Ending) : Type 0 where
-    pub even : IsEven (all_of after)
+  -- what a worker did with its hands and its seat, by the reports that it made
+  pub record AreUsed (before after : Tools L) (answered : List Numbered) : Type 0 where
+    pub even : IsEven after.hands
     pub table : after.seat.table ≡ before.seat.table
     pub held : after.seat.held ≡ []
-    pub notes : length after.seat.notes ≡ length before.seat.notes + (after.cells.allocs + after.records.allocs + after.blocks.allocs)
-    pub fetches : length after.seat.fetches ≡ length before.seat.fetches + (after.shelf_cells.gets + after.shelf_records.gets + after.shelf_blocks.gets)
+    pub notes : length after.seat.notes ≡ length before.seat.notes + all_allocs after.hands
+    pub fetches : length after.seat.fetches ≡ length before.seat.fetches + all_gets after.hands
     pub few : (after.clashes ≤ 2 ^ 56) × (after.strays ≤ 2 ^ 56)
     pub lost : lost after.seat.notes ≡ lost before.seat.notes + after.clashes
-    pub tickets : IsOf t ticket
-    pub good : All (Answers programs jobs) answered
-    pub drawn : HasDrawn jobs ticket answered ending
-    pub granted : after.cells.allocs + after.records.allocs + after.blocks.allocs ≡ granted_by answered + after.clashes
-    pub refused : after.cells.nulls + after.records.nulls + after.blocks.nulls + after.clashes ≡ refused_by answered
-    pub fetched : after.shelf_cells.gets + after.shelf_records.gets + after.shelf_blocks.gets ≡ fetched_by answered + after.strays
+    pub granted : all_allocs after.hands ≡ granted_by answered + after.clashes
+    pub refused : all_nulls after.hands + after.clashes ≡ refused_by answered
+    pub fetched : all_gets after.hands ≡ fetched_by answered + after.strays
 
   -- the worker after its work
   pub record IsDone (programs : List Subject) (jobs : List Job) (t : TicketsView) (before after : Worker L) : Type 0 where
-    pub old : Hands L
-    pub new : Hands L
-    pub old_are : before.hands ≡ Some old
-    pub new_are : after.hands ≡ Some new
-    pub served : IsServed programs jobs t old new after.ticket after.answered.items after.ending
+    pub old : Tools L
+    pub new : Tools L
+    pub old_are : before.tools ≡ Some old
+    pub new_are : after.tools ≡ Some new
+    pub used : AreUsed old new after.answered.items
+    pub served : IsServed programs jobs t after.ticket after.answered.items after.ending
+
+  -- so is each of them
+  abbrev pub AreDone : List Subject → List Job → TicketsView → (before after : List (Worker L)) → Type 0
+  AreDone programs jobs t before after = (i : ℕ) (d : Worker L) → i < length before → IsDone programs jobs t (slice_index_or before i d) (slice_index_or after i d)
+
+  -- there are workers, none of which has done anything, and what they need is there
+  pub record CanBegin (programs : List Subject) (jobs : List Job) (o : OwnersView) (t : TicketsView) (ws : List (Worker L)) : Type 0 where
+    pub some : 0 < length ws
+    pub ready : AreReady programs jobs
+    pub fresh : All (IsFresh o t) ws

@@ -1,13 +1,41 @@
 //! The client of all caches that a worker is.
+//!
+//! *The reason of `Before`.* A run is generic in its store, and tells of it only what the store's type says. So what is compared with
+//! the beginning stands in a type, which each worker's thread picks for itself.
 
 ghost use Rattle.std.specs.Prelude.{◌≡◌, ◌≤◌, ◌+◌, ◌^◌, ◌==◌, [], ℕ, count_by};
+ghost use Rattle.atomic_table.specs.Seated.{TableId};
 ghost use Rattle.worker_pool.specs.Claims.{lost};
 
-use crate::before::Before;
 use object_cache::ArenaLock;
 use owners_table::owners::{OwnerSeat, Owners};
-use std::marker::PhantomData;
+use std::marker::{Brand, PhantomData};
 use std::sync::Wait;
+
+/// A seat, as it was when its worker began.
+pub trait Before {
+    /// The table of owners that it is at.
+    ghost table: { TableId };
+
+    /// How many claims it had noted.
+    ghost noted: { ℕ };
+
+    /// How many of these had found an owner.
+    ghost lost: { ℕ };
+
+    /// How many fetches it had noted.
+    ghost fetched: { ℕ };
+}
+
+impl Before for Brand {
+    ghost table = { record { words = 0; slots = 0; views_name = 0; atom = 0; block = 0; offset = 0; slot_names = [] } };
+
+    ghost noted = { 0 };
+
+    ghost lost = { 0 };
+
+    ghost fetched = { 0 };
+}
 
 /// What a worker needs to take objects of any kind, and to claim their slots for the job that it does.
 ///

@@ -1,26 +1,25 @@
-//! What workers are made of, and what is left of them.
+//! The workers together: what they are made of, their work with the reaper beside them, and what is left of them.
 
 ghost use Rattle.std.specs.Prelude.{◌≡◌, ◌≢◌, ◌≤◌, ◌<◌, [], ◌∷◌, ◌++◌, All, Any, reverse, map, sum_by, length, vec_capacity};
-ghost use Rattle.worker_pool.specs.Crews.{AreFresh, AreNone, IsBack, ArePartsOf, seat_in, clashes_in, strays_in};
-ghost use Rattle.worker_pool.specs.Working.{IsFresh};
-ghost use Rattle.worker_pool.specs.declared.ending.Ending.TheVariants.{Through, OutOfMemory};
+ghost use Rattle.worker_pool.specs.Crews.{AreFresh, HaveNone, IsBack, ArePartsOf, seat_in, clashes_in, strays_in};
+ghost use Rattle.worker_pool.specs.Working.{CanBegin, IsFresh, AreDone};
+ghost use Rattle.worker_pool.specs.declared.worker.Ending.TheVariants.{Through, OutOfMemory};
+ghost use denote.Param.Send.{IsSync};
 
-use crate::caches::{FreeHands, FreeShelfHands};
-use crate::ending::Ending;
-use crate::gate::Gate;
-use crate::hands::Hands;
+use crate::gate::{Gate, Point};
+use crate::hands::{FreeHands, Tools};
 use crate::jobs::Numbered;
 use crate::ledgers::Names;
-use crate::shared::Shared;
-use crate::worker::Worker;
+use crate::worker::{Ending, Shared, Worker, work};
 use owners_table::owners::OwnerSeat;
 use owners_table::tickets::TicketSeat;
 use std::sync::Wait;
+use std::thread;
+use std::thread::{Threads, join_mut};
 
 /// For each worker its hands, its seats and its list of reports.
 pub(crate) struct Parts<L: Names> {
     pub(crate) hands: FreeHands<L>,
-    pub(crate) shelf_hands: FreeShelfHands<L>,
     pub(crate) seats: Vec<OwnerSeat>,
     pub(crate) drawers: Vec<TicketSeat>,
     pub(crate) answered: Vec<Vec<Numbered>>,
@@ -48,17 +47,12 @@ pub(crate) fn recruit<'a, L: Names, G: Gate + 'a, R: Wait + 'a>(
     requires room { length parts.old.seats.items ≤ vec_capacity workers.old }
     ensures fresh { All (IsFresh shared.now.owners.now shared.now.tickets.now) workers.new.items }
     ensures seats { map seat_in workers.new.items ≡ reverse parts.old.seats.items }
-    ensures none { AreNone (length parts.old.seats.items) parts.new }
+    ensures none { HaveNone (length parts.old.seats.items) parts.new }
 {
     for _worker in 0..parts.seats.len() {
         workers.push_reserved(Worker {
-            hands: Some(Hands {
-                cells: parts.hands.cells.take_last(),
-                records: parts.hands.records.take_last(),
-                blocks: parts.hands.blocks.take_last(),
-                shelf_cells: parts.shelf_hands.cells.take_last(),
-                shelf_records: parts.shelf_hands.records.take_last(),
-                shelf_blocks: parts.shelf_hands.blocks.take_last(),
+            tools: Some(Tools {
+                hands: parts.hands.take_last(),
                 seat: parts.seats.take_last(),
                 clashes: 0,
                 strays: 0,
@@ -70,11 +64,51 @@ pub(crate) fn recruit<'a, L: Names, G: Gate + 'a, R: Wait + 'a>(
     }
 }
 
+// All workers, each in a thread of its own where one can be made.
+fn work_all<'a, L: Names + Send + Sync, G: Gate + Sync + 'a, R: Threads + Wait + Sync + 'a>(
+    shared: &Shared<'a, L, G, R>,
+    workers: &mut [Worker<L>],
+)
+    requires { CanBegin shared.now.programs.now shared.now.jobs.now shared.now.owners.now shared.now.tickets.now workers.old }
+    ensures { AreDone shared.now.programs.now shared.now.jobs.now shared.now.tickets.now workers.old workers.new }
+{
+    let count = workers.len();
+    thread::for_each_mut(shared.rt, workers, count, &|_, worker| work(shared, worker));
+}
+
+// Passes of the reaper.
+fn reap<'a, L: Names, G: Gate + 'a, R: Wait + 'a>(shared: &Shared<'a, L, G, R>, reaps: u32) {
+    for pass in 0..reaps {
+        shared.supplies.reap(shared.rt, shared.arena);
+        shared.gate.at(u64::from(pass), Point::Reaped);
+    }
+}
+
+/// All workers, and the reaper beside them.
+pub(crate) fn work_and_reap<
+    'a,
+    L: Names + Send + Sync,
+    G: Gate + Sync + 'a,
+    R: Threads + Wait + Sync + 'a,
+>(shared: &Shared<'a, L, G, R>, reaps: u32, workers: &mut [Worker<L>])
+    requires { CanBegin shared.now.programs.now shared.now.jobs.now shared.now.owners.now shared.now.tickets.now workers.old }
+    ensures { AreDone shared.now.programs.now shared.now.jobs.now shared.now.tickets.now workers.old workers.new }
+{
+    join_mut(
+        shared.rt,
+        &mut || reap(shared, reaps),
+        &mut ||
+            requires { IsSync R.row × IsSync G.row × CanBegin shared.now.programs.now shared.now.jobs.now shared.now.owners.now shared.now.tickets.now workers.now }
+            ensures { AreDone shared.entry.now.programs.now shared.entry.now.jobs.now shared.entry.now.tickets.now workers.entry.now workers.exit.now }
+        { work_all(shared, workers) },
+    );
+}
+
 /// Takes the workers apart, the last one first.
 pub(crate) fn dismiss<L: Names>(workers: &mut Vec<Worker<L>>, parts: &mut Parts<L>) -> Done
     requires back { All IsBack workers.old.items }
     requires few { length workers.old.items ≤ 64 }
-    requires none { AreNone (length workers.old.items) parts.old }
+    requires none { HaveNone (length workers.old.items) parts.old }
     ensures none { workers.new.items ≡ [] }
     ensures parts { ArePartsOf (reverse workers.old.items) parts.new }
     ensures clashes { result.clashes ≡ sum_by clashes_in workers.old.items }
@@ -89,33 +123,23 @@ pub(crate) fn dismiss<L: Names>(workers: &mut Vec<Worker<L>>, parts: &mut Parts<
     };
     for _worker in 0..workers.len() {
         let Worker {
-            hands,
+            tools,
             ticket,
             answered,
             ending,
         } = workers.take_last();
         let Some(
-            Hands {
-                cells,
-                records,
-                blocks,
-                shelf_cells,
-                shelf_records,
-                shelf_blocks,
+            Tools {
+                hands,
                 seat,
                 clashes,
                 strays,
             },
-        ) = hands
+        ) = tools
         else {
             unreachable!()
         };
-        parts.hands.cells.push_reserved(cells);
-        parts.hands.records.push_reserved(records);
-        parts.hands.blocks.push_reserved(blocks);
-        parts.shelf_hands.cells.push_reserved(shelf_cells);
-        parts.shelf_hands.records.push_reserved(shelf_records);
-        parts.shelf_hands.blocks.push_reserved(shelf_blocks);
+        parts.hands.push_reserved(hands);
         parts.seats.push_reserved(seat);
         parts.drawers.push_reserved(ticket);
         parts.answered.push_reserved(answered);

@@ -17,38 +17,30 @@
 //! what the reports say, and all that went out came back. It stands on this: the store keeps the laws of `Objects` of
 //! ebpf_machine, so whatever is proved of a run over some store holds over this one; and each number is drawn once.
 //!
-//! To be read in this order: `before`, `client`, `owned`, `ledgers`, `stock`, `stocks`, `hands`, `store`, `jobs`, `gate`, `handed`,
-//! `caches`, `shared`, `ending`, `worker`, `team`, `outcome`, `fault`, `admission`, `room`, `plant`, `crew`, `clearing`, `place`, `pool`.
+//! To be read in this order: `ledgers`, `hands`, `supply`, `count`, `client`, `owned`, `stock`, `stocks`, `store`, `jobs`, `gate`, `worker`,
+//! `crew`, `outcome`, `admission`, `setup`, `place`, `pool`.
 #![tactic(auto)]
 
 mod admission;
-mod before;
-mod caches;
-mod clearing;
 mod client;
 mod count;
 mod crew;
-mod ending;
-mod fault;
 mod gate;
-mod handed;
 mod hands;
 mod jobs;
 mod ledgers;
 mod outcome;
 mod owned;
 mod place;
-mod plant;
 mod pool;
-mod room;
-mod shared;
+mod setup;
 mod stock;
 mod stocks;
 mod store;
-mod team;
+mod supply;
 mod worker;
 
-pub use fault::PoolFault;
+pub use admission::PoolFault;
 pub use gate::{Gate, NoGate, Point};
 pub use jobs::Job;
 pub use outcome::{Host, MAX_JOBS, MAX_WORKERS, Outcome, Reports, ShelfTotals};

@@ -11,11 +11,11 @@ ghost use Rattle.std.specs.Prelude.{◌≡◌, ◌≢◌, ◌+◌, ◌<◌, ◌�
 ghost use Rattle.owners_table.specs.Marking.{mark_word};
 ghost use Rattle.owners_table.specs.Owning.{Holds, without};
 ghost use Rattle.owners_table.specs.declared.mark.TheConstants.{SHELVES, WORDS_OF_A_RUN};
+ghost use Rattle.worker_pool.specs.Claims.{IsClaimed, shelved_by};
 ghost use Rattle.run_object.specs.Object.{bytes_of, kind_of, slot_of};
 ghost use Rattle.slab_layer.specs.Images.{patched};
 
-use crate::before::Before;
-use crate::client::Client;
+use crate::client::{Before, Client};
 use crate::count::count;
 use owners_table::mark::Mark;
 use run_object::Object;
@@ -47,8 +47,8 @@ impl Owned {
     ) -> Result<Owned, Object>
         requires at { at < WORDS_OF_A_RUN }
         ensures object { IfOk result (λ o. o ≡ object) }
-        ensures claimed { OnOk result ((client.new.seat.held ≡ (slot_of object, mark_word client.old.job at) ∷ client.old.seat.held) ×
-            (Holds (slot_of object) client.old.seat.held → ⊥) × (client.new.clashes ≡ client.old.clashes)) }
+        ensures claimed { OnOk result (IsClaimed (slot_of object) (mark_word client.old.job at) client.old.seat.held client.new.seat.held) }
+        ensures no_clash { OnOk result (client.new.clashes ≡ client.old.clashes) }
         ensures back { IfErr result (λ o. o ≡ object) }
         ensures clash { OnErr result ((client.new.seat.held ≡ client.old.seat.held) × (client.new.clashes ≡ client.old.clashes + 1)) }
         ensures notes { (length client.new.seat.notes ≡ length client.old.seat.notes + 1) × (client.new.seat.fetches ≡ client.old.seat.fetches) }
@@ -87,7 +87,7 @@ impl Owned {
         requires shelf { shelf < SHELVES }
         requires kind { kind_of self ≡ shelf }
         ensures object { result ≡ self }
-        ensures seat { client.new.seat ≡ record client.old.seat { held = without (slot_of self) client.old.seat.held; shelved = client.old.seat.shelved ++ (slot_of self, shelf + 1) ∷ [] } }
+        ensures seat { client.new.seat ≡ shelved_by client.old.seat (slot_of self) shelf }
         ensures rest { (client.new.clashes ≡ client.old.clashes) × (client.new.strays ≡ client.old.strays) × (client.new.job ≡ client.old.job) }
     {
         let Owned { object } = self;
@@ -112,8 +112,9 @@ impl Owned {
         requires kind { kind_of object ≡ shelf }
         requires at { at < WORDS_OF_A_RUN }
         ensures object { IfOk result (λ o. o ≡ object) }
-        ensures fetched { OnOk result ((client.new.seat.held ≡ (slot_of object, mark_word client.old.job at) ∷ client.old.seat.held) ×
-            (Holds (slot_of object) client.old.seat.held → ⊥) × (left ≢ Some (slot_of object)) × (client.new.strays ≡ client.old.strays)) }
+        ensures fetched { OnOk result (IsClaimed (slot_of object) (mark_word client.old.job at) client.old.seat.held client.new.seat.held) }
+        ensures apart { OnOk result (left ≢ Some (slot_of object)) }
+        ensures no_stray { OnOk result (client.new.strays ≡ client.old.strays) }
         ensures back { IfErr result (λ o. o ≡ object) }
         ensures stray { OnErr result ((client.new.seat.held ≡ client.old.seat.held) × (client.new.strays ≡ client.old.strays + 1)) }
         ensures notes { (client.new.seat.notes ≡ client.old.seat.notes) × (length client.new.seat.fetches ≡ length client.old.seat.fetches + 1) }

@@ -1,7 +1,7 @@
 //! Reports, counted by their workers, and each in the place of its job.
 
-ghost use Rattle.std.specs.Prelude.{◌≡◌, ◌⊎◌, Contains, map, ◌≤◌, ◌<◌, ◌+◌, ℕ, [], All, length, slice_get, vec_len, vec_capacity, sum_by, Some};
-ghost use Rattle.worker_pool.specs.Places.{HasExit, filled, times_in, weight, weight_of, IsIn};
+ghost use Rattle.std.specs.Prelude.{◌≡◌, Contains, map, ◌≤◌, ◌<◌, ◌+◌, ℕ, [], All, length, vec_len, vec_capacity, sum_by};
+ghost use Rattle.worker_pool.specs.Places.{HasExit, filled, times_in, weight, weight_of, AreFrom, IsIn};
 
 use crate::jobs::Numbered;
 use crate::ledgers::Puts;
@@ -26,8 +26,7 @@ pub(crate) fn place_all(places: &mut Vec<Report>, answered: Vec<Vec<Numbered>>)
     ensures len { vec_len places.new ≡ vec_len places.old }
     ensures filled { (x : ℕ) → filled places.new.items x ≡ filled places.old.items x + sum_by (times_in x) (map (λ l. l.items) answered.items) }
     ensures weight { (h : Report → ℕ) → weight h places.new.items ≡ weight h places.old.items + sum_by (weight_of h) (map (λ l. l.items) answered.items) }
-    ensures from { (x : ℕ) (r : Report) → slice_get places.new.items x ≡ Some r → HasExit r →
-        (slice_get places.old.items x ≡ Some r) ⊎ IsIn (record { job = x; report = r }) (map (λ l. l.items) answered.items) }
+    ensures from { AreFrom places.old.items (λ n. IsIn n (map (λ l. l.items) answered.items)) places.new.items }
 {
     let mut answered = answered;
     while let Some(numbered) = answered.pop() {
@@ -43,8 +42,7 @@ fn place(places: &mut Vec<Report>, answered: Vec<Numbered>)
     ensures len { vec_len places.new ≡ vec_len places.old }
     ensures filled { (x : ℕ) → filled places.new.items x ≡ filled places.old.items x + times_in x answered.items }
     ensures weight { (h : Report → ℕ) → weight h places.new.items ≡ weight h places.old.items + weight_of h answered.items }
-    ensures from { (x : ℕ) (r : Report) → slice_get places.new.items x ≡ Some r → HasExit r →
-        (slice_get places.old.items x ≡ Some r) ⊎ Contains answered.items (record { job = x; report = r }) }
+    ensures from { AreFrom places.old.items (λ n. Contains answered.items n) places.new.items }
 {
     let mut answered = answered;
     while let Some(numbered) = answered.pop() {

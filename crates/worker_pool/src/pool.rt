@@ -1,38 +1,31 @@
 //! Jobs, each done once.
 //!
-//! *The idea.* All memory is reserved first, then the caches are opened, and workers are made of their hands, the seats and lists
-//! for reports. The workers do the jobs, with the reaper beside them. Then they are taken apart again, what the shelves hold goes
-//! back, the caches are closed over their hands, and each report goes to the place of its job.
+//! *The idea.* All memory is reserved first, then the supplies are opened, and workers are made of their hands, the seats and lists
+//! for reports. The workers do the jobs, with the reaper beside them. Then they are taken apart again, the supplies are closed over
+//! their hands, what the shelves hold goes back, and each report goes to the place of its job.
 //!
 //! *The reason.* The numbers that all workers drew are all the numbers of jobs, each once: so each job has one report. What a
 //! worker's hands took and got is what its reports say, clashes and strays aside, so the same holds of the sums.
 
 ghost use Rattle.std.specs.Prelude.{◌≡◌, ◌+◌, ◌≤◌, ◌<◌, [], None, All, length, vec_len, vec_capacity, IfOk, IfErr, OnOk, OnErr};
 ghost use Rattle.ebpf_machine.specs.Kinds.{AreKnown};
-ghost use Rattle.worker_pool.specs.declared.outcome.TheConstants.{MAX_JOBS};
 ghost use Rattle.worker_pool.specs.Admission.{pool_fault};
-ghost use Rattle.worker_pool.specs.Books.{IsFor};
+ghost use Rattle.worker_pool.specs.Books.{AreAllFor};
 ghost use Rattle.worker_pool.specs.Crews.{AreFresh};
 ghost use Rattle.worker_pool.specs.Outcomes.{IsIdle, IsOutcome, AreIdleAgain, IsFaultOf};
 ghost use Rattle.worker_pool.specs.Serving.{AreServed};
-ghost use Rattle.worker_pool.specs.Working.{CanRun};
+ghost use Rattle.worker_pool.specs.Working.{AreReady};
 
-use crate::admission::pool_fault;
-use crate::caches::{Blanks, Opened};
-use crate::clearing::Clearing;
-use crate::crew::{Done, Parts, dismiss, recruit};
-use crate::ending::Ending;
-use crate::fault::PoolFault;
+use crate::admission::{PoolFault, pool_fault};
+use crate::crew::{Done, Parts, dismiss, recruit, work_and_reap};
 use crate::gate::Gate;
-use crate::handed::KindBlanks;
 use crate::jobs::Job;
 use crate::ledgers::Names;
 use crate::outcome::{Host, Outcome, Reports};
 use crate::place::{count_all, place_all};
-use crate::plant::Plant;
-use crate::shared::Shared;
-use crate::team::work_and_reap;
-use crate::worker::Worker;
+use crate::setup::Setup;
+use crate::supply::{Blanks, Closing};
+use crate::worker::{Ending, Shared, Worker};
 use owners_table::owners::{OwnerSeat, Owners};
 use std::alloc::{AllocError, Global};
 use std::marker::Brand;
@@ -70,13 +63,16 @@ pub fn run_jobs<G: Gate + Sync, R: Threads + Wait + Sync>(
     if let Some(fault) = pool_fault(host, seats.len(), jobs) {
         return (seats, Err(fault));
     }
-    let blanks = Blanks {
-        cells: KindBlanks::new(),
-        records: KindBlanks::new(),
-        blocks: KindBlanks::new(),
-    };
     let (seats, done) = run_in::<Brand, G, R>(
-        rt, alloc, host, owners, seats, jobs, reaps, gate, blanks,
+        rt,
+        alloc,
+        host,
+        owners,
+        seats,
+        jobs,
+        reaps,
+        gate,
+        Blanks::new(),
     );
     match done {
         Ok(outcome) => (seats, Ok(outcome)),
@@ -96,12 +92,7 @@ fn run_in<L: Names + Send + Sync, G: Gate + Sync, R: Threads + Wait + Sync>(
     gate: &G,
     blanks: Blanks,
 ) -> (Vec<OwnerSeat>, Result<Outcome, AllocError>)
-    requires cells { IsFor blanks.cells.outs (L.outs 0) × IsFor blanks.cells.ins (L.ins 0) }
-    requires cell_shelf { IsFor blanks.cells.puts (L.puts 0) × IsFor blanks.cells.gets (L.gets 0) }
-    requires records { IsFor blanks.records.outs (L.outs 1) × IsFor blanks.records.ins (L.ins 1) }
-    requires record_shelf { IsFor blanks.records.puts (L.puts 1) × IsFor blanks.records.gets (L.gets 1) }
-    requires blocks { IsFor blanks.blocks.outs (L.outs 2) × IsFor blanks.blocks.ins (L.ins 2) }
-    requires block_shelf { IsFor blanks.blocks.puts (L.puts 2) × IsFor blanks.blocks.gets (L.gets 2) }
+    requires blanks { AreAllFor L.outs L.ins L.puts L.gets blanks }
     requires known { AreKnown host.now.programs.items }
     requires slots { 65536 ≤ owners.now.slots }
     requires seats { All (IsIdle owners.now) seats.items }
@@ -109,23 +100,17 @@ fn run_in<L: Names + Send + Sync, G: Gate + Sync, R: Threads + Wait + Sync>(
     ensures done { IfOk result.1 (IsOutcome host.now.programs.items jobs.now seats.items result.0.items) }
     ensures seats { AreIdleAgain owners.now seats.items result.0.items }
 {
-    let Ok(plant) = Plant::<L>::new(rt, alloc, host.pages, seats.len(), jobs.len(), blanks) else {
+    let Ok(setup) = Setup::<L>::new(rt, alloc, host.pages, seats.len(), jobs.len(), blanks) else {
         return (seats, Err(AllocError));
     };
-    let Plant {
+    let Setup {
         mut room,
         mut workers,
-        opened,
-    } = plant;
-    let Opened {
-        caches,
-        shelves,
+        supplies,
         hands,
-        shelf_hands,
-    } = opened;
+    } = setup;
     let mut parts = Parts {
         hands,
-        shelf_hands,
         seats,
         drawers: room.drawers,
         answered: room.answered,
@@ -135,8 +120,7 @@ fn run_in<L: Names + Send + Sync, G: Gate + Sync, R: Threads + Wait + Sync>(
         alloc,
         arena: &room.arena,
         owners,
-        caches: &caches,
-        shelves: &shelves,
+        supplies: &supplies,
         programs: &host.programs,
         jobs,
         tickets: &room.tickets,
@@ -145,20 +129,17 @@ fn run_in<L: Names + Send + Sync, G: Gate + Sync, R: Threads + Wait + Sync>(
     let done = serve_all(&shared, reaps, &mut parts, &mut workers);
     workers.destroy_empty();
     let Parts {
-        mut hands,
-        shelf_hands,
+        hands,
         mut seats,
         drawers,
         answered,
     } = parts;
-    let clearing = Clearing {
+    let closing = Closing {
         rt,
         arena: &room.arena,
         owners,
-        caches: &caches,
     };
-    let shelves = clearing.clear(shelves, shelf_hands, &mut hands, &mut seats);
-    let totals = caches.close(rt, &room.arena, hands);
+    let (shelves, totals) = supplies.close(&closing, hands, &mut seats);
     room.tickets.close(drawers);
     if !matches!(done.ending, Ending::Through) {
         return (seats, Err(AllocError));
@@ -185,9 +166,7 @@ fn serve_all<'a, L: Names + Send + Sync, G: Gate + Sync + 'a, R: Threads + Wait 
     parts: &mut Parts<L>,
     workers: &mut Vec<Worker<L>>,
 ) -> Done
-    requires known { AreKnown shared.now.programs.now }
-    requires can { All (CanRun shared.now.programs.now) shared.now.jobs.now }
-    requires few { length shared.now.jobs.now ≤ MAX_JOBS }
+    requires ready { AreReady shared.now.programs.now shared.now.jobs.now }
     requires some { (0 < length parts.old.seats.items) × (length parts.old.seats.items ≤ 64) }
     requires fresh { AreFresh shared.now.owners.now shared.now.tickets.now (length parts.old.seats.items) parts.old }
     requires none { workers.old.items ≡ [] }

@@ -2,66 +2,47 @@
 
 ghost use Rattle.std.specs.Prelude.{◌≡◌, ◌≤◌, ◌^◌, replicate, IfSome, IfNone};
 ghost use Rattle.object_cache.specs.ShelfView.{one_if};
+ghost use Rattle.worker_pool.specs.Hands.{unused_pair};
 ghost use Rattle.worker_pool.specs.Moves.{Moved};
 
-use crate::ledgers::{Gets, Ins, Names, Outs, Puts};
-use object_cache::{ArenaLock, Cache, Hand, Shelf, ShelfHand};
+use crate::hands::HandPair;
+use crate::ledgers::Names;
+use crate::supply::Supply;
+use object_cache::ArenaLock;
 use slab_layer::{Held, Kind, Obj};
 use std::sync::Wait;
 
 /// What a worker takes objects of one kind from, and leaves them on for others.
 pub struct Stock<'a, K: Kind, L: Names> {
-    pub(crate) cache: &'a Cache<K, Outs<K, L>, Ins<K, L>>,
-    pub(crate) hand: Hand<K, Outs<K, L>, Ins<K, L>>,
-    pub(crate) shelf: &'a Shelf<K, Puts<K, L>, Gets<K, L>>,
-    pub(crate) shelf_hand: ShelfHand<Puts<K, L>, Gets<K, L>>,
-    ghost few: { (hand.frees ≤ 2 ^ 56) × (shelf_hand.puts ≤ 2 ^ 56) },
+    pub(crate) supply: &'a Supply<K, L>,
+    pub(crate) pair: HandPair<K, L>,
+    ghost few: { (pair.hand.frees ≤ 2 ^ 56) × (pair.shelf_hand.puts ≤ 2 ^ 56) },
 }
 
 impl<'a, K: Kind, L: Names> Stock<'a, K, L> {
     /// A stock of hands that gave nothing away yet.
-    pub(crate) fn new(
-        cache: &'a Cache<K, Outs<K, L>, Ins<K, L>>,
-        hand: Hand<K, Outs<K, L>, Ins<K, L>>,
-        shelf: &'a Shelf<K, Puts<K, L>, Gets<K, L>>,
-        shelf_hand: ShelfHand<Puts<K, L>, Gets<K, L>>,
-    ) -> Stock<'a, K, L>
-        requires { (hand.frees ≡ 0) × (shelf_hand.puts ≡ 0) }
-        ensures { (result.hand ≡ hand) × (result.shelf_hand ≡ shelf_hand) }
+    pub(crate) fn new(supply: &'a Supply<K, L>, pair: HandPair<K, L>) -> Stock<'a, K, L>
+        requires { pair ≡ unused_pair }
+        ensures { result.pair ≡ pair }
     {
-        Stock {
-            cache,
-            hand,
-            shelf,
-            shelf_hand,
-        }
+        Stock { supply, pair }
     }
 
     /// The hands, back.
-    pub(crate) fn end(
-        self,
-    ) -> (
-        Hand<K, Outs<K, L>, Ins<K, L>>,
-        ShelfHand<Puts<K, L>, Gets<K, L>>,
-    )
-        ensures { result ≡ (self.entry.hand, self.entry.shelf_hand) }
+    pub(crate) fn end(self) -> HandPair<K, L>
+        ensures { result ≡ self.entry.pair }
     {
-        let Stock {
-            cache: _,
-            hand,
-            shelf: _,
-            shelf_hand,
-        } = self;
-        (hand, shelf_hand)
+        let Stock { supply: _, pair } = self;
+        pair
     }
 
     /// Takes an object. None where the cache has none.
     pub(crate) fn take<R: Wait>(&mut self, rt: &R, arena: &ArenaLock) -> Option<Obj<K, Held>>
         ensures image { IfSome result (λ o. o.bytes.items ≡ replicate K.SIZE K.FILL) }
-        ensures taken { IfSome result (λ _. Moved 1 0 0 0 0 self.old.hand self.new.hand self.old.shelf_hand self.new.shelf_hand) }
-        ensures refused { IfNone result (Moved 0 0 1 0 0 self.old.hand self.new.hand self.old.shelf_hand self.new.shelf_hand) }
+        ensures taken { IfSome result (λ _. Moved 1 0 0 0 0 self.old.pair self.new.pair) }
+        ensures refused { IfNone result (Moved 0 0 1 0 0 self.old.pair self.new.pair) }
     {
-        match self.hand.take(rt, self.cache, arena) {
+        match self.pair.hand.take(rt, &self.supply.cache, arena) {
             Ok(object) => Some(object),
             Err(_) => None,
         }
@@ -69,9 +50,9 @@ impl<'a, K: Kind, L: Names> Stock<'a, K, L> {
 
     /// Gives an object back.
     pub(crate) fn give<R: Wait>(&mut self, rt: &R, object: Obj<K, Held>)
-        ensures { Moved 0 1 0 0 0 self.old.hand self.new.hand self.old.shelf_hand self.new.shelf_hand }
+        ensures { Moved 0 1 0 0 0 self.old.pair self.new.pair }
     {
-        self.hand.give(rt, self.cache, object);
+        self.pair.hand.give(rt, &self.supply.cache, object);
     }
 
     /// Exchanges what is given, if anything, for what stands on the shelf.
@@ -80,8 +61,8 @@ impl<'a, K: Kind, L: Names> Stock<'a, K, L> {
         rt: &R,
         given: Option<Obj<K, Held>>,
     ) -> Option<Obj<K, Held>>
-        ensures { Moved 0 0 0 (one_if given) (one_if result) self.old.hand self.new.hand self.old.shelf_hand self.new.shelf_hand }
+        ensures { Moved 0 0 0 (one_if given) (one_if result) self.old.pair self.new.pair }
     {
-        self.shelf.swap(rt, &mut self.shelf_hand, given)
+        self.supply.shelf.swap(rt, &mut self.pair.shelf_hand, given)
     }
 }

@@ -7,10 +7,13 @@ ghost use Rattle.ebpf_machine.specs.Kinds.{known_kinds};
 ghost use Rattle.ebpf_machine.specs.World.{image_at};
 ghost use Rattle.object_cache.specs.ShelfView.{one_if};
 ghost use Rattle.run_object.specs.Object.{bytes_of, kind_of};
+ghost use Rattle.worker_pool.specs.Hands.{unused_hands};
 ghost use Rattle.worker_pool.specs.Stocks.{HasMoved, hands_of};
 
+use crate::hands::Hands;
 use crate::ledgers::Names;
 use crate::stock::Stock;
+use crate::supply::Supplies;
 use object_cache::ArenaLock;
 use run_object::{Object, block, cell, record};
 use slab_layer::{BlockKind, CellKind, RecordKind};
@@ -24,6 +27,39 @@ pub struct Stocks<'a, L: Names> {
 }
 
 impl<'a, L: Names> Stocks<'a, L> {
+    /// Stocks of hands with which nothing was done.
+    pub(crate) fn new(supplies: &'a Supplies<L>, hands: Hands<L>) -> Stocks<'a, L>
+        requires { hands ≡ unused_hands }
+        ensures { hands_of result ≡ hands }
+    {
+        let Hands {
+            cells,
+            records,
+            blocks,
+        } = hands;
+        Stocks {
+            cells: Stock::new(&supplies.cells, cells),
+            records: Stock::new(&supplies.records, records),
+            blocks: Stock::new(&supplies.blocks, blocks),
+        }
+    }
+
+    /// The hands, back.
+    pub(crate) fn end(self) -> Hands<L>
+        ensures { result ≡ hands_of self.entry }
+    {
+        let Stocks {
+            cells,
+            records,
+            blocks,
+        } = self;
+        Hands {
+            cells: cells.end(),
+            records: records.end(),
+            blocks: blocks.end(),
+        }
+    }
+
     /// Takes an object of a kind. None where its cache has none.
     pub(crate) fn take<R: Wait>(&mut self, rt: &R, arena: &ArenaLock, kind: u8) -> Option<Object>
         requires { kind < 3 }

@@ -2,20 +2,19 @@
 
 ghost use Rattle.std.specs.Prelude.{◌≡◌, ◌≤◌, ◌<◌, ◌+◌, ◌^◌, ℕ, [], length, option_map, IfSome};
 ghost use Rattle.ebpf_machine.specs.Store.{one_of};
-ghost use Rattle.object_cache.specs.HandView.{fresh};
-ghost use Rattle.object_cache.specs.ShelfView.{new_hand, one_if};
+ghost use Rattle.object_cache.specs.ShelfView.{one_if};
 ghost use Rattle.owners_table.specs.Marking.{mark_word};
 ghost use Rattle.owners_table.specs.Owning.{Holds};
 ghost use Rattle.owners_table.specs.declared.mark.TheConstants.{SHELVES, WORDS_OF_A_RUN};
-ghost use Rattle.worker_pool.specs.Claims.{HasPassed, less};
-ghost use Rattle.worker_pool.specs.Counts.{all_allocs, all_frees, all_gets, all_puts, grants_of, nulls_of, gets_of, outs_of};
+ghost use Rattle.worker_pool.specs.Claims.{HasSwapped, IsSwappable, less};
+ghost use Rattle.worker_pool.specs.Hands.{unused_hands};
+ghost use Rattle.worker_pool.specs.Counts.{all_allocs, all_come, all_gone, all_gets, grants_of, nulls_of, gets_of, outs_of};
 ghost use Rattle.worker_pool.specs.Stocks.{hands_of};
 ghost use Rattle.run_object.specs.Object.{kind_of, slot_of};
 
-use crate::before::Before;
-use crate::client::Client;
+use crate::client::{Before, Client};
 use crate::count::count;
-use crate::hands::Hands;
+use crate::hands::Tools;
 use crate::ledgers::Names;
 use crate::owned::Owned;
 use crate::stocks::Stocks;
@@ -34,7 +33,7 @@ pub struct Store<'a, L: Names, N: Before, R: Wait> {
     pub(crate) misses: u64,
     ghost noted: { length client.seat.notes ≡ N.noted + all_allocs (hands_of stocks) },
     ghost fetched: { length client.seat.fetches ≡ N.fetched + all_gets (hands_of stocks) },
-    ghost held: { length client.seat.held + all_frees (hands_of stocks) + all_puts (hands_of stocks) ≡ all_allocs (hands_of stocks) + all_gets (hands_of stocks) },
+    ghost held: { length client.seat.held + all_gone (hands_of stocks) ≡ all_come (hands_of stocks) },
     ghost clashes: { client.clashes ≤ all_allocs (hands_of stocks) },
     ghost strays: { client.strays ≤ all_gets (hands_of stocks) },
 }
@@ -44,12 +43,10 @@ impl<'a, L: Names, N: Before, R: Wait> Store<'a, L, N, R> {
     pub(crate) fn new(client: Client<'a, N, R>, stocks: Stocks<'a, L>) -> Store<'a, L, N, R>
         requires empty { client.seat.held ≡ [] }
         requires none { (client.clashes ≡ 0) × (client.strays ≡ 0) }
-        requires hands { (stocks.cells.hand ≡ fresh) × (stocks.records.hand ≡ fresh) × (stocks.blocks.hand ≡ fresh) }
-        requires shelf_hands { (stocks.cells.shelf_hand ≡ new_hand) × (stocks.records.shelf_hand ≡ new_hand) × (stocks.blocks.shelf_hand ≡ new_hand) }
+        requires hands { hands_of stocks ≡ unused_hands }
         requires noted { (length client.seat.notes ≡ N.noted) × (length client.seat.fetches ≡ N.fetched) }
         ensures client { (result.client.seat ≡ client.entry.seat) × (result.client.clashes ≡ 0) × (result.client.strays ≡ 0) }
-        ensures hands { (result.stocks.cells.hand ≡ fresh) × (result.stocks.records.hand ≡ fresh) × (result.stocks.blocks.hand ≡ fresh) }
-        ensures shelf_hands { (result.stocks.cells.shelf_hand ≡ new_hand) × (result.stocks.records.shelf_hand ≡ new_hand) × (result.stocks.blocks.shelf_hand ≡ new_hand) }
+        ensures hands { hands_of result.stocks ≡ unused_hands }
     {
         Store {
             client,
@@ -64,8 +61,8 @@ impl<'a, L: Names, N: Before, R: Wait> Store<'a, L, N, R> {
     fn exchange(&mut self, shelf: u8, given: Option<Owned>, at: u16) -> Option<Owned>
         requires shelf { shelf < 3 }
         requires at { at < WORDS_OF_A_RUN }
-        requires given { IfSome given (λ g. Holds (slot_of g) self.old.client.seat.held × (kind_of g ≡ shelf)) }
-        ensures seat { HasPassed (option_map (λ o. slot_of o) given) (option_map (λ o. slot_of o) result) (mark_word self.old.client.job at) self.old.client.seat.held self.new.client.seat.held }
+        requires given { IsSwappable given shelf self.old.client.seat.held }
+        ensures seat { HasSwapped given result (mark_word self.old.client.job at) self.old.client.seat.held self.new.client.seat.held }
         ensures kind { IfSome result (λ h. kind_of h ≡ shelf) }
         ensures granted { grants_of (hands_of self.new.stocks) self.new.client.clashes ≡
             grants_of (hands_of self.old.stocks) self.old.client.clashes }
@@ -91,34 +88,20 @@ impl<'a, L: Names, N: Before, R: Wait> Store<'a, L, N, R> {
         }
     }
 
-    /// Its hands and its seat, back.
-    pub(crate) fn end(self) -> Hands<L>
-        ensures hands { (result.cells ≡ self.entry.stocks.cells.hand) × (result.records ≡ self.entry.stocks.records.hand) × (result.blocks ≡ self.entry.stocks.blocks.hand) }
-        ensures shelf_hands { (result.shelf_cells ≡ self.entry.stocks.cells.shelf_hand) × (result.shelf_records ≡ self.entry.stocks.records.shelf_hand) × (result.shelf_blocks ≡ self.entry.stocks.blocks.shelf_hand) }
-        ensures seat { (result.seat ≡ self.entry.client.seat) × (result.clashes ≡ self.entry.client.clashes) × (result.strays ≡ self.entry.client.strays) }
-        ensures few { (result.clashes ≤ 2 ^ 56) × (result.strays ≤ 2 ^ 56) }
+    /// Its hands and its seat, back, with its counts.
+    pub(crate) fn end(self) -> Tools<L>
+        ensures hands { result.hands ≡ hands_of self.entry.stocks }
+        ensures seat { result.seat ≡ self.entry.client.seat }
+        ensures counts { (result.clashes ≡ self.entry.client.clashes) × (result.strays ≡ self.entry.client.strays) }
     {
         let Store {
             client,
             stocks,
             misses: _,
         } = self;
-        let Stocks {
-            cells,
-            records,
-            blocks,
-        } = stocks;
-        let (cells, shelf_cells) = cells.end();
-        let (records, shelf_records) = records.end();
-        let (blocks, shelf_blocks) = blocks.end();
         let (seat, clashes, strays) = client.end();
-        Hands {
-            cells,
-            records,
-            blocks,
-            shelf_cells,
-            shelf_records,
-            shelf_blocks,
+        Tools {
+            hands: stocks.end(),
             seat,
             clashes,
             strays,
@@ -129,7 +112,7 @@ impl<'a, L: Names, N: Before, R: Wait> Store<'a, L, N, R> {
 impl<'a, L: Names, N: Before, R: Wait> Objects for Store<'a, L, N, R> {
     ghost use Rattle.std.specs.Prelude.{◌≡◌, ◌<◌, ◌+◌, ℕ, option_map, IfSome};
     ghost use Rattle.owners_table.specs.Marking.{mark_word};
-    ghost use Rattle.worker_pool.specs.Claims.{HasPassed};
+    ghost use Rattle.worker_pool.specs.Claims.{HasSwapped, IsSwappable};
     ghost use Rattle.ebpf_machine.specs.Kinds.{known_kinds};
     ghost use Rattle.ebpf_machine.specs.Store.{one_of};
     ghost use Rattle.object_cache.specs.ShelfView.{one_if};
@@ -185,8 +168,8 @@ impl<'a, L: Names, N: Before, R: Wait> Objects for Store<'a, L, N, R> {
     fn swap(&mut self, shelf: u8, given: Option<Owned>, at: u16) -> Option<Owned>
         requires shelf { shelf < 3 }
         requires at { at < WORDS_OF_A_RUN }
-        requires given { IfSome given (λ g. Holds (slot_of g) self.old.client.seat.held × (kind_of g ≡ shelf)) }
-        ensures seat { HasPassed (option_map (λ o. slot_of o) given) (option_map (λ o. slot_of o) result) (mark_word self.old.client.job at) self.old.client.seat.held self.new.client.seat.held }
+        requires given { IsSwappable given shelf self.old.client.seat.held }
+        ensures seat { HasSwapped given result (mark_word self.old.client.job at) self.old.client.seat.held self.new.client.seat.held }
         ensures kind { IfSome result (λ h. kind_of h ≡ shelf) }
         ensures granted { grants_of (hands_of self.new.stocks) self.new.client.clashes ≡
             grants_of (hands_of self.old.stocks) self.old.client.clashes }
@@ -232,7 +215,7 @@ fn shelved<N: Before, R: Wait>(
     client: &mut Client<'_, N, R>,
     shelf: u8,
 ) -> Option<Object>
-    requires given { IfSome given (λ g. Holds (slot_of g) client.old.seat.held × (kind_of g ≡ shelf)) }
+    requires given { IsSwappable given shelf client.old.seat.held }
     requires shelf { shelf < SHELVES }
     ensures same { result ≡ given }
     ensures held { client.new.seat.held ≡ less (option_map slot_of given) client.old.seat.held }

@@ -11,39 +11,79 @@
 //! *The reason.* A run over whatever store leaves as many objects of each kind out as there were, and its report's answers are
 //! what the store counts. Each number is drawn once, over all workers; so each job has one report.
 
-ghost use Rattle.std.specs.Prelude.{◌≡◌, ◌≤◌, ◌<◌, ◌+◌, ◌++◌, ◌∷◌, [], ℕ, All, length, false, vec_len, vec_capacity, IfOk, OnOk, OnErr};
+ghost use Rattle.std.specs.Prelude.{◌≡◌, ◌≢◌, ◌⊎◌, ◌≤◌, ◌<◌, ◌+◌, ◌++◌, ◌∷◌, [], ℕ, All, length, false, vec_len, vec_capacity, IfOk, OnOk, OnErr};
 ghost use Rattle.owners_table.specs.Drawing.{IsOf};
 ghost use Rattle.ebpf_machine.specs.Whole.{granted, refused, fetched};
-ghost use Rattle.worker_pool.specs.declared.outcome.TheConstants.{MAX_JOBS};
+ghost use Rattle.worker_pool.specs.declared.worker.Ending.TheVariants.{Through, OutOfMemory};
 ghost use Rattle.worker_pool.specs.Claims.{lost};
 ghost use Rattle.worker_pool.specs.Counts.{grants_of, nulls_of, gets_of};
 ghost use Rattle.worker_pool.specs.Stocks.{hands_of};
-ghost use Rattle.ebpf_machine.specs.Kinds.{AreKnown};
-ghost use Rattle.worker_pool.specs.Working.{IsFresh, IsUnused, IsEven, IsDone, IsServed, CanRun, Answers, HasDrawn, granted_by, refused_by, fetched_by};
+ghost use Rattle.worker_pool.specs.Working.{IsFresh, IsUnused, IsEven, IsDone, IsServed, AreUsed, AreReady, Answers, HasDrawn, granted_by, refused_by, fetched_by};
 
-use crate::before::Before;
-use crate::client::Client;
-use crate::ending::Ending;
+use crate::client::{Before, Client};
 use crate::gate::{Gate, Point};
-use crate::hands::Hands;
-use crate::jobs::Numbered;
+use crate::hands::Tools;
+use crate::jobs::{Job, Numbered};
 use crate::ledgers::Names;
 use crate::owned::Owned;
-use crate::shared::Shared;
-use crate::stock::Stock;
 use crate::stocks::Stocks;
 use crate::store::Store;
+use crate::supply::Supplies;
 use ebpf_machine::whole::run_in;
 use ebpf_machine::workspace::Workspace;
-use owners_table::tickets::TicketSeat;
+use ebpf_verify::verified::Verified;
+use object_cache::ArenaLock;
+use owners_table::owners::Owners;
+use owners_table::tickets::{TicketSeat, Tickets};
 use std::alloc::{AllocError, Global};
 use std::marker::Brand;
 use std::mem;
 use std::sync::Wait;
 
-/// A worker. While it works its hands are its store's, and not here.
+/// What all workers use, and none owns: the supplies and tables, the programs and jobs, and the gate. There is a ticket for each job.
+#[derive(Drop)]
+pub(crate) struct Shared<'a, L: Names, G: Gate, R: Wait> {
+    pub(crate) rt: &'a R,
+    pub(crate) alloc: Global,
+    pub(crate) arena: &'a ArenaLock,
+    pub(crate) owners: &'a Owners,
+    pub(crate) supplies: &'a Supplies<L>,
+    pub(crate) programs: &'a [Verified],
+    pub(crate) jobs: &'a [Job],
+    pub(crate) tickets: &'a Tickets,
+    pub(crate) gate: &'a G,
+    ghost slots: { 65536 ≤ owners.now.slots },
+    ghost limit: { tickets.now.limit ≡ length jobs.now },
+}
+
+/// How a worker ended, or several together.
+#[derive(Clone, Copy)]
+pub(crate) enum Ending {
+    /// It was told that there are no more jobs.
+    Through,
+    /// It found no memory to begin with: it drew no job, and left all jobs to the others.
+    Unstarted,
+    /// It drew a job and found no memory for it.
+    OutOfMemory,
+}
+
+impl Ending {
+    /// How two ended together: out of memory where one was, else through where one was.
+    pub(crate) fn with(self, other: Ending) -> Ending
+        ensures kept { result ≢ OutOfMemory → (self ≢ OutOfMemory) × (other ≢ OutOfMemory) }
+        ensures through { result ≡ Through → (self ≡ Through) ⊎ (other ≡ Through) }
+    {
+        match (self, other) {
+            (Ending::OutOfMemory, _) | (_, Ending::OutOfMemory) => Ending::OutOfMemory,
+            (Ending::Unstarted, Ending::Unstarted) => Ending::Unstarted,
+            _ => Ending::Through,
+        }
+    }
+}
+
+/// A worker. While it works its tools are its store's, and not here.
 pub(crate) struct Worker<L: Names> {
-    pub(crate) hands: Option<Hands<L>>,
+    pub(crate) tools: Option<Tools<L>>,
     pub(crate) ticket: TicketSeat,
     pub(crate) answered: Vec<Numbered>,
     /// How it ended; before it works, `Unstarted`.
@@ -55,68 +95,54 @@ pub(crate) fn work<'a, L: Names, G: Gate + 'a, R: Wait + 'a>(
     shared: &Shared<'a, L, G, R>,
     worker: &mut Worker<L>,
 )
-    requires known { AreKnown shared.now.programs.now }
-    requires can { All (CanRun shared.now.programs.now) shared.now.jobs.now }
-    requires few { length shared.now.jobs.now ≤ MAX_JOBS }
+    requires ready { AreReady shared.now.programs.now shared.now.jobs.now }
     requires fresh { IsFresh shared.now.owners.now shared.now.tickets.now worker.old }
     ensures { IsDone shared.now.programs.now shared.now.jobs.now shared.now.tickets.now worker.old worker.new }
 {
-    let Some(hands) = worker.hands.take() else {
+    let Some(tools) = worker.tools.take() else {
         unreachable!()
     };
     // What a job writes to lies with the thread, not beside what another worker writes to.
     let mut answered = mem::replace(&mut worker.answered, Vec::new(shared.alloc));
     let (left, ending) = work_with::<L, Brand, G, R>(
         shared,
-        hands,
+        tools,
         &mut worker.ticket,
         &mut answered,
     );
     worker.answered = answered;
     worker.ending = ending;
-    match worker.hands.replace(left) {
+    match worker.tools.replace(left) {
         Some(_) => unreachable!(),
         None => {}
     }
 }
 
-// The same with a store of these hands, which are handed back. `N` says what the seat was before.
+// The same with a store of these tools, which are handed back. `N` says what the seat was before.
 fn work_with<'a, L: Names, N: Before + 'a, G: Gate + 'a, R: Wait + 'a>(
     shared: &Shared<'a, L, G, R>,
-    hands: Hands<L>,
+    tools: Tools<L>,
     ticket: &mut TicketSeat,
     answered: &mut Vec<Numbered>,
-) -> (Hands<L>, Ending)
-    requires known { AreKnown shared.now.programs.now }
-    requires can { All (CanRun shared.now.programs.now) shared.now.jobs.now }
-    requires few { length shared.now.jobs.now ≤ MAX_JOBS }
-    requires unused { IsUnused shared.now.owners.now hands }
-    requires before { (hands.seat.table ≡ N.table) × (length hands.seat.notes ≡ N.noted) × (lost hands.seat.notes ≡ N.lost) × (length hands.seat.fetches ≡ N.fetched) }
+) -> (Tools<L>, Ending)
+    requires ready { AreReady shared.now.programs.now shared.now.jobs.now }
+    requires unused { IsUnused shared.now.owners.now tools }
+    requires at { tools.seat.table ≡ N.table }
+    requires noted { (length tools.seat.notes ≡ N.noted) × (length tools.seat.fetches ≡ N.fetched) }
+    requires lost { lost tools.seat.notes ≡ N.lost }
     requires table { IsOf shared.now.tickets.now ticket.old }
     requires none { (ticket.old.drawn ≡ []) × (ticket.old.passed ≡ false) × (answered.old.items ≡ []) }
-    ensures { IsServed shared.now.programs.now shared.now.jobs.now shared.now.tickets.now hands result.0 ticket.new answered.new.items result.1 }
+    ensures used { AreUsed tools result.0 answered.new.items }
+    ensures served { IsServed shared.now.programs.now shared.now.jobs.now shared.now.tickets.now ticket.new answered.new.items result.1 }
 {
-    let Hands {
-        cells,
-        records,
-        blocks,
-        shelf_cells,
-        shelf_records,
-        shelf_blocks,
+    let Tools {
+        hands,
         seat,
         clashes: _,
         strays: _,
-    } = hands;
-    let (caches, shelves) = (shared.caches, shared.shelves);
+    } = tools;
     let client: Client<'a, N, R> = Client::new(shared.rt, shared.arena, shared.owners, seat);
-    let cells = Stock::new(&caches.cells, cells, &shelves.cells, shelf_cells);
-    let records = Stock::new(&caches.records, records, &shelves.records, shelf_records);
-    let blocks = Stock::new(&caches.blocks, blocks, &shelves.blocks, shelf_blocks);
-    let stocks = Stocks {
-        cells,
-        records,
-        blocks,
-    };
+    let stocks = Stocks::new(shared.supplies, hands);
     let mut store: Store<'a, L, N, R> = Store::new(client, stocks);
     let ending = serve(shared, &mut store, ticket, answered);
     (store.end(), ending)
@@ -129,9 +155,7 @@ fn serve<'a, L: Names, N: Before + 'a, G: Gate + 'a, R: Wait + 'a>(
     ticket: &mut TicketSeat,
     answered: &mut Vec<Numbered>,
 ) -> Ending
-    requires known { AreKnown shared.now.programs.now }
-    requires can { All (CanRun shared.now.programs.now) shared.now.jobs.now }
-    requires few { length shared.now.jobs.now ≤ MAX_JOBS }
+    requires ready { AreReady shared.now.programs.now shared.now.jobs.now }
     requires even { IsEven (hands_of store.old.stocks) }
     requires table { IsOf shared.now.tickets.now ticket.old }
     requires none { (ticket.old.drawn ≡ []) × (ticket.old.passed ≡ false) × (answered.old.items ≡ []) }
@@ -170,9 +194,7 @@ fn answer<'a, L: Names, N: Before + 'a, G: Gate + 'a, R: Wait + 'a>(
     answered: &mut Vec<Numbered>,
     workspace: Workspace<Owned>,
 ) -> Result<Workspace<Owned>, AllocError>
-    requires known { AreKnown shared.now.programs.now }
-    requires can { All (CanRun shared.now.programs.now) shared.now.jobs.now }
-    requires few { length shared.now.jobs.now ≤ MAX_JOBS }
+    requires ready { AreReady shared.now.programs.now shared.now.jobs.now }
     requires number { number < length shared.now.jobs.now }
     requires even { IsEven (hands_of store.old.stocks) }
     ensures even { IsEven (hands_of store.new.stocks) }

@@ -1,5 +1,5 @@
 use Rattle.std.proofs.Common.{rules, ◌≡◌, ◌≢◌, All, Any, sum_by, length, map, reverse, sym, ap, subst, ◌∙◌}
-use Rattle.worker_pool.specs.declared.ending.Ending.TheVariants.{Through, OutOfMemory}
+use Rattle.worker_pool.specs.declared.worker.Ending.TheVariants.{Through, OutOfMemory}
 use Rattle.worker_pool.specs.Crews.{ArePartsOf, IsBack, seat_in, clashes_in, strays_in}
 use Rattle.worker_pool.specs.Working.{IsFresh}
 use Rattle.worker_pool.proofs.Turned.{written_back}

@@ -5,16 +5,12 @@ use Rattle.ebpf_verify.specs.Subject.{Subject}
 use Rattle.worker_pool.specs.declared.jobs.Job.{Job}
 use Rattle.worker_pool.specs.declared.jobs.Numbered.{Numbered}
 use Rattle.ebpf_machine.specs.Whole.{IsReportOf}
-use Rattle.worker_pool.specs.Stocks.{hands_of}
 use Rattle.worker_pool.specs.Working.{Answers}
 use Rattle.worker_pool.proofs.Evens.{evens}
 use Rattle.worker_pool.proofs.worker.answer.Goals as goal
 
 pub returns-clause-even : goal.returns-clause-even
-returns-clause-even g c =
-    let o = c.args.store.now in
-    let n = c.run_in.new.objects in
-    evens (hands_of o.stocks) (hands_of n.stocks) o.stocks.cells.few o.stocks.records.few o.stocks.blocks.few n.stocks.cells.few n.stocks.records.few n.stocks.blocks.few c.run_in.ensures.outs c.requires.even
+returns-clause-even g c = evens c.args.store.now.stocks c.run_in.new.objects.stocks c.run_in.ensures.outs c.requires.even
 
 pub returns-clause-answered : goal.returns-clause-answered
 returns-clause-answered g c = (n, refl, answered, items, c.in-Ok-run_in.ensures.granted, c.in-Ok-run_in.ensures.nulls, c.in-Ok-run_in.ensures.gets) where
@@ -32,7 +28,7 @@ returns-clause-answered g c = (n, refl, answered, items, c.in-Ok-run_in.ensures.
   same = let context = ap (λ (j : Job). j.context) (c.job.view_is ∙ sym c.index-shared-number.is) in search rules
 
   inside : c.index-shared-number.result.program < length c.args.shared.now.programs.now
-  inside = subst (λ (j : Job). j.program < length c.args.shared.now.programs.now) (sym c.index-shared-number.is) (c.requires.can c.args.number c.index-shared-number.result c.requires.number).inside
+  inside = subst (λ (j : Job). j.program < length c.args.shared.now.programs.now) (sym c.index-shared-number.is) (c.requires.ready.can c.args.number c.index-shared-number.result c.requires.number).inside
 
   report : IsReportOf c.index-shared-job.result c.in-Ok.context.items c.in-Ok-run_in.report
   report = subst (λ (v : Subject). IsReportOf v c.in-Ok.context.items c.in-Ok-run_in.report) (sym c.index-shared-job.is) c.in-Ok-run_in.ensures.report

@@ -32,7 +32,7 @@ invariant_of-self-in-Ok-1 g c =
       fetched = omega (arith, f.notes.1, ap length s.notes.1, m.gets, old.fetched);
       held = omega (arith, length_less c.args.given (λ o. kind_of o ≡ c.args.shelf) old.client.seat.held _ c.requires.given s.held, ap length f.fetched.0, given, m.allocs, m.frees, m.puts, m.gets, old.held);
       clashes = omega (arith, f.rest.0, s.rest.0, m.allocs, old.clashes);
-      strays = omega (arith, f.fetched, s.rest.1, m.gets, old.strays);
+      strays = omega (arith, f.no_stray, s.rest.1, m.gets, old.strays);
     }
 
 pub invariant_of-self-in-Err : goal.invariant_of-self-in-Err
@@ -55,7 +55,7 @@ returns-in-Ok-clause-seat g c =
     let held = c.args.self.now.client.seat.held in
     let left = c.slot_in-left.ensures in
     let s = c.shelved-given.ensures in
-    let f = c.in-Ok.ensures.fetched in
+    let f = c.in-Ok.ensures in
     passed_some slot_of c.args.given c.slot_in-left.result held left (first_of c.args.given (λ o. Holds (slot_of o) held) (λ o. kind_of o ≡ c.args.shelf) c.requires.given)
     (slot_of c.in-Ok.owned) (slot_of c.in-Some.object) (mark_word c.args.self.now.client.job c.args.at) (mark_word c.shelved-given.new.client.job c.args.at) c.shelved-given.new.client.seat.held c.fetch.new.client.seat.held
-    (s.held ∙ ap (λ l. less l held) (sym left)) (ap slot_of (sym c.in-Ok.ensures.object)) (ap (λ (j : ℕ). mark_word j c.args.at) s.rest.2) f.0 f.1 f.2
+    (s.held ∙ ap (λ l. less l held) (sym left)) (ap slot_of (sym c.in-Ok.ensures.object)) (ap (λ (j : ℕ). mark_word j c.args.at) s.rest.2) f.fetched.0 f.fetched.1 f.apart

@@ -1,14 +1,20 @@
-//! What jobs need beside the caches.
+//! All that jobs need before there are workers: memory, tickets, supplies with their hands, and a list for workers.
 
 ghost use Rattle.std.specs.Prelude.{◌≡◌, ◌≤◌, ◌<◌, [], None, All, length, vec_len, vec_capacity, IfOk};
-ghost use Rattle.vmem_arena.specs.declared.arena.TheConstants.{MAX_PAGES};
 ghost use Rattle.owners_table.specs.Drawing.{fresh};
+ghost use Rattle.worker_pool.specs.Books.{AreAllFor};
+ghost use Rattle.worker_pool.specs.Crews.{IsPrepared};
 
+use crate::hands::FreeHands;
 use crate::jobs::Numbered;
+use crate::ledgers::Names;
+use crate::supply::{Blanks, Supplies};
+use crate::worker::Worker;
 use ebpf_machine::report::{Answers, Output, Report, Taken};
 use object_cache::ArenaLock;
 use owners_table::tickets::{TicketSeat, Tickets};
 use std::alloc::{AllocError, Global};
+use std::sync::Wait;
 
 /// The arena, a ticket for each job, and for each worker a seat to draw them with and a list of reports; and a place for the
 /// report of each job, where a report that has no exit is none; and room to say how many jobs each worker did.
@@ -23,7 +29,7 @@ pub(crate) struct Room {
 }
 
 impl Room {
-    /// Room for so many workers and jobs.
+    /// Room for this many workers and jobs.
     pub(crate) fn new(
         alloc: Global,
         pages: u32,
@@ -52,7 +58,7 @@ impl Room {
     }
 }
 
-// So many empty lists.
+// That many empty lists.
 fn blank_lists(alloc: Global, count: usize) -> Result<Vec<Vec<Numbered>>, AllocError>
     ensures { IfOk result (λ v. (length v.items ≡ count) × All (λ l. l.items ≡ []) v.items) }
 {
@@ -63,7 +69,7 @@ fn blank_lists(alloc: Global, count: usize) -> Result<Vec<Vec<Numbered>>, AllocE
     Ok(lists)
 }
 
-// So many reports of nothing.
+// That many reports of nothing.
 fn blank_reports(alloc: Global, count: usize) -> Result<Vec<Report>, AllocError>
     ensures { IfOk result (λ v. (length v.items ≡ count) × All (λ p. p.exit ≡ None) v.items) }
 {
@@ -85,4 +91,44 @@ fn blank_reports(alloc: Global, count: usize) -> Result<Vec<Report>, AllocError>
         });
     }
     Ok(reports)
+}
+
+/// What workers are made of and work with, before there are any.
+pub(crate) struct Setup<L: Names> {
+    pub(crate) room: Room,
+    pub(crate) workers: Vec<Worker<L>>,
+    pub(crate) supplies: Supplies<L>,
+    pub(crate) hands: FreeHands<L>,
+}
+
+impl<L: Names> Setup<L> {
+    /// All that this many workers and jobs need. The supplies come last, so that little is to be undone.
+    ///
+    /// # Errors
+    /// There was no memory. All caches that were made were closed.
+    pub(crate) fn new<R: Wait>(
+        rt: &R,
+        alloc: Global,
+        pages: u32,
+        count: usize,
+        jobs: usize,
+        blanks: Blanks,
+    ) -> Result<Setup<L>, AllocError>
+        requires blanks { AreAllFor L.outs L.ins L.puts L.gets blanks }
+        requires count { (0 < count) × (count ≤ 64) }
+        ensures { IfOk result (IsPrepared count jobs) }
+    {
+        let room = Room::new(alloc, pages, count, jobs)?;
+        let workers = Vec::with_capacity(alloc, count)?;
+        let Ok((supplies, hands)) = Supplies::open(rt, alloc, &room.arena, count, blanks) else {
+            workers.destroy_empty();
+            return Err(AllocError);
+        };
+        Ok(Setup {
+            room,
+            workers,
+            supplies,
+            hands,
+        })
+    }
 }

@@ -2,7 +2,7 @@ use Rattle.std.proofs.Common.{◌≡◌, ◌+◌, [], All, Vec, Global, length, 
 use Rattle.std.proofs.lemmas.List.{length_push}
 use Rattle.std.proofs.lemmas.List.Elements.{All-push}
 use Rattle.worker_pool.specs.declared.jobs.Numbered.{Numbered}
-use Rattle.worker_pool.proofs.room.blank_lists.Goals as goal
+use Rattle.worker_pool.proofs.setup.blank_lists.Goals as goal
 
 pub loop-list-preserved : goal.loop-list-preserved
 loop-list-preserved c =

@@ -1,6 +1,6 @@
 use Rattle.std.proofs.Common.{◌≡◌, ◌≤◌, [], All, length}
 use Rattle.std.specs.Vec.{vec_capacity}
-use Rattle.worker_pool.proofs.room.blank_lists.Given as goal
+use Rattle.worker_pool.proofs.setup.blank_lists.Given as goal
 
 abbrev pub invariant-loop-list : goal.invariant-loop-list
 invariant-loop-list l = record {

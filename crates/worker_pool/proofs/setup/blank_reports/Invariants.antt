@@ -1,6 +1,6 @@
 use Rattle.std.proofs.Common.{◌≡◌, ◌≤◌, None, All, length}
 use Rattle.std.specs.Vec.{vec_capacity}
-use Rattle.worker_pool.proofs.room.blank_reports.Given as goal
+use Rattle.worker_pool.proofs.setup.blank_reports.Given as goal
 
 abbrev pub invariant-loop-report : goal.invariant-loop-report
 invariant-loop-report l = record {
