@@ -7,9 +7,7 @@ use Rattle.ebpf_insn.specs.declared.insn.Insn.{Insn}
 use Rattle.ebpf_insn.specs.Encoding.{IsWellFormed}
 use Rattle.ebpf_text.specs.Listing.{listing_of}
 use Rattle.ebpf_assembly.specs.Assembly.{IsAssembled}
-use Rattle.ebpf_assembly.proofs.Faulty.{only_assembled}
-use Rattle.ebpf_assembly.proofs.Unique.{assembled_unique}
-use Rattle.ebpf_assembly.proofs.Assembled.{listing_assembled}
+use Rattle.ebpf_assembly.proofs.WithoutLabels.{named_unique, named_only, named_listing}
 use Rattle.ebpf_command.specs.declared.done.Done.{Done}
 use Rattle.ebpf_command.specs.declared.done.EngineFault.{EngineFault}
 use Rattle.ebpf_command.specs.declared.done.FaultCode.{FaultCode}
@@ -40,8 +38,8 @@ assemble_cuts input response long h =
 slots_of : (text : List ℕ) (p : List (Option Insn)) (response : Response) → IsAssembled text p → length text ≤ 1048576 → Assembles text response → AreSlotsOf p response
 slots_of text p response is short h = by_answer (subst (λ (f : Option FaultCode). AssemblesGiven f text response) (is_short text short) h) where
   by_answer : AssemblesGiven None text response → AreSlotsOf p response
-  by_answer (inl of) = subst (λ (q : List (Option Insn)). AreSlotsOf q response) (assembled_unique text of.program p of.assembled is) of.told
-  by_answer (inr none) = absurd (none.none (only_assembled text (Err none.fault) tt none.is p is))
+  by_answer (inl of) = subst (λ (q : List (Option Insn)). AreSlotsOf q response) (named_unique text of.program p of.assembled is) of.told
+  by_answer (inr none) = absurd (none.none (named_only text (Err none.fault) tt none.is p is))
 
 -- so its slots are written
 pub writes_slots : (text : List ℕ) (p : List (Option Insn)) (input old new : Option (List ℕ)) (result : Result Done EngineFault) → IsAssembled text p → Writes Assembles input old new result → WritesSlotsOf text p input old new result
@@ -54,4 +52,4 @@ writes_slots text p input old new result is h short given =
 
 -- and those of a program of which the input is the listing
 pub writes_listed : (p : List (Option Insn)) (input old new : Option (List ℕ)) (result : Result Done EngineFault) → IsWellFormed p → Writes Assembles input old new result → WritesSlotsOf (listing_of p) p input old new result
-writes_listed p input old new result formed h = writes_slots (listing_of p) p input old new result (listing_assembled p formed) h
+writes_listed p input old new result formed h = writes_slots (listing_of p) p input old new result (named_listing p formed) h

@@ -13,7 +13,7 @@ line_fault_name NoInstruction = codes "A2"
 line_fault_name TooManySlots = codes "A3"
 
 abbrev pub line_fault_words : LineFault → List ℕ
-line_fault_words WrongSlot = codes "the line begins with a slot that is not that of its instruction"
+line_fault_words WrongSlot = codes "the line begins with the slot or the label of another instruction"
 line_fault_words NoInstruction = codes "no instruction is written like this"
 line_fault_words TooManySlots = codes "with this instruction the program has more than 4096 slots"
 

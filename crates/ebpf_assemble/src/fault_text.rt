@@ -39,7 +39,7 @@ fn line_fault_words(fault: LineFault) -> &'static str
     ensures { result.now ≡ line_fault_words fault }
 {
     match fault {
-        LineFault::WrongSlot => "the line begins with a slot that is not that of its instruction",
+        LineFault::WrongSlot => "the line begins with the slot or the label of another instruction",
         LineFault::NoInstruction => "no instruction is written like this",
         LineFault::TooManySlots => "with this instruction the program has more than 4096 slots",
     }
