@@ -10,7 +10,7 @@ use Rattle.ebpf_insn.specs.Encoding.{IsDefined, IsWellFormed}
 use Rattle.ebpf_text.specs.Mnemonics.{mnemonic_of}
 use Rattle.ebpf_text.specs.Operands.{operands_of}
 use Rattle.ebpf_text.specs.Listing.{later_operands_text, operands_text, insn_text, line_of, lines_from, listing_of}
-use Rattle.ebpf_assembly.specs.Assembly.{is_gap, is_newline, uncommented, words, words_of, AreInsns, IsAssembled}
+use Rattle.ebpf_assembly.specs.Lines.{is_gap, is_newline, uncommented, words, words_of, AreInsns, IsAssembledPlain}
 use Rattle.ebpf_assembly.proofs.PlainTexts.{is_plain, IsPlain, joined, of_decimal, of_mnemonic, of_operands}
 use Rattle.ebpf_assembly.proofs.Splitting.{kept, split_at, numbered_kept}
 use Rattle.ebpf_assembly.proofs.Kept.{kept_numbered, word_mnemonic, word_operands}
@@ -129,7 +129,7 @@ assembled slot (i ∷ is) small all =
     cut = ap (slice_split is_newline) (lines_more slot i (flat_map placed is) ∙ line_apart slot i (lines_from (slot + slots_in i) (flat_map placed is)))
         ∙ split_at is_inline is_newline no_newline (body slot i) 10 (lines_from (slot + slots_in i) (flat_map placed is)) (inline_body slot i (omega (arith, small)) all.0) refl
 
-pub listing_assembled : (p : List (Option Insn)) → IsWellFormed p → IsAssembled (listing_of p) p
+pub listing_assembled : (p : List (Option Insn)) → IsWellFormed p → IsAssembledPlain (listing_of p) p
 listing_assembled p formed = record {
   formed = formed;
   lines = subst (λ (q : List (Option Insn)). AreInsns 0 (slice_split is_newline (lines_from 0 q)) (instructions p)) (sym formed.placed)

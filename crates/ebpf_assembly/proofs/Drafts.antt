@@ -8,8 +8,8 @@ use Rattle.ebpf_insn.specs.Program.{instructions, placed, slots_in}
 use Rattle.ebpf_insn.specs.Encoding.{IsDefined}
 use Rattle.ebpf_assembly.specs.declared.fault.AssemblyFault.{AssemblyFault}
 use Rattle.ebpf_assembly.specs.declared.fault.AssemblyFault.TheVariants.{Bad, Empty, NoMemory}
-use Rattle.ebpf_assembly.specs.Faults.{IsLineFault, IsLineStop, IsAssemblyFault}
-use Rattle.ebpf_assembly.specs.Assembly.{text_lines, words, IsInsnAt, AreInsns, IsAssembled}
+use Rattle.ebpf_assembly.specs.Faults.{IsLineFault, IsLineStop, IsPlainFault}
+use Rattle.ebpf_assembly.specs.Lines.{text_lines, words, IsInsnAt, AreInsns, IsAssembledPlain}
 
 pub record IsDraft (lines : List (List ℕ)) (slots : List (Option Insn)) (len : ℕ) : Type 0 where
   pub count : len ≡ length (instructions slots)
@@ -105,7 +105,7 @@ few_len lines slots len few d = omega (arith, few, d.count, fewer slots)
 
 -- a line that is at fault
 pub fault_here : (text : List ℕ) (n : ℕ) (line : List ℕ) (slots : List (Option Insn)) (len : ℕ) (e : AssemblyFault) → n < length (text_lines text) → line ≡ get_or (text_lines text) n line
-    → IsDraft (take n (text_lines text)) slots len → IsLineStop (n + 1) (length slots) line e → IsAssemblyFault text e
+    → IsDraft (take n (text_lines text)) slots len → IsLineStop (n + 1) (length slots) line e → IsPlainFault text e
 fault_here text n line slots len NoMemory inside here d stop = tt
 fault_here text n line slots len (Empty m) inside here d stop = absurd stop
 fault_here text n line slots len (Bad m fault) inside here d stop = (
@@ -129,11 +129,11 @@ none_left : (is : List Insn) → length is ≡ 0 → is ≡ []
 none_left [] e = refl
 none_left (i ∷ is) e = absurd (omega (arith, e))
 
-pub empty_here : (text : List ℕ) (n : ℕ) (slots : List (Option Insn)) (len : ℕ) → n ≡ length (text_lines text) → len ≡ 0 → IsDraft (take n (text_lines text)) slots len → IsAssemblyFault text (Empty n)
+pub empty_here : (text : List ℕ) (n : ℕ) (slots : List (Option Insn)) (len : ℕ) → n ≡ length (text_lines text) → len ≡ 0 → IsDraft (take n (text_lines text)) slots len → IsPlainFault text (Empty n)
 empty_here text n slots len all none d =
     (all, subst (AreInsns 0 (text_lines text)) (none_left (instructions slots) (omega (arith, d.count, none))) (all_read text n (instructions slots) (omega (arith, all)) d.read))
 
-pub finished : (text : List ℕ) (n : ℕ) (slots : List (Option Insn)) (len : ℕ) → n ≡ length (text_lines text) → length slots ≤ 4096 → len ≢ 0 → IsDraft (take n (text_lines text)) slots len → IsAssembled text slots
+pub finished : (text : List ℕ) (n : ℕ) (slots : List (Option Insn)) (len : ℕ) → n ≡ length (text_lines text) → length slots ≤ 4096 → len ≢ 0 → IsDraft (take n (text_lines text)) slots len → IsAssembledPlain text slots
 finished text n slots len all few some d = record {
   formed = record { some = omega (arith, some, d.count, fewer slots); few = few; defined = d.defined; placed = d.placed };
   lines = all_read text n (instructions slots) (omega (arith, all)) d.read;

@@ -12,14 +12,12 @@ use Rattle.ebpf_insn.specs.Program.{instructions, placed, slots_in}
 use Rattle.ebpf_insn.specs.Encoding.{IsDefined, IsWellFormed}
 use Rattle.ebpf_text.specs.Names.{order_name, alu_name, cond_name}
 use Rattle.ebpf_text.specs.Mnemonics.{mnemonic_of}
-use Rattle.ebpf_text.specs.Listing.{listing_of}
 use Rattle.ebpf_assembly.specs.declared.fault.LineFault.{LineFault}
 use Rattle.ebpf_assembly.specs.declared.fault.LineFault.TheVariants.{WrongSlot, NoInstruction, TooManySlots}
 use Rattle.ebpf_assembly.specs.declared.fault.AssemblyFault.{AssemblyFault}
 use Rattle.ebpf_assembly.specs.declared.fault.AssemblyFault.TheVariants.{Bad, Empty, NoMemory}
-use Rattle.ebpf_assembly.specs.Assembly.{text_lines, words, words_of, slot_label, AreInsns, IsAssembled}
-use Rattle.ebpf_assembly.specs.Faults.{IsLineFault, IsAssemblyFault}
-use Rattle.ebpf_assembly.proofs.Assembled.{listing_assembled}
+use Rattle.ebpf_assembly.specs.Lines.{text_lines, words, words_of, slot_label, AreInsns, IsAssembledPlain}
+use Rattle.ebpf_assembly.specs.Faults.{IsLineFault, IsPlainFault}
 use Rattle.ebpf_assembly.proofs.KindWords.{swap_16, swap_32, swap_64, swap_cases}
 use Rattle.ebpf_assembly.proofs.Unique.{blank, same, unique, IsShort, shorter, short, assembled_unique}
 use Rattle.ebpf_assembly.proofs.WordsUnique.{init, init_back}
@@ -58,7 +56,7 @@ swap_no_label o xs (inl e) = low xs 54 (ap last_of e ∙ last_append (order_name
 swap_no_label o xs (inr (inl e)) = low xs 50 (ap last_of e ∙ last_append (order_name o) 51 (50 ∷ [])) (omega arith)
 swap_no_label o xs (inr (inr e)) = low xs 52 (ap last_of e ∙ last_append (order_name o) 54 (52 ∷ [])) (omega arith)
 
-no_label : (i : Insn) → IsDefined i → IsNoLabel (mnemonic_of i)
+pub no_label : (i : Insn) → IsDefined i → IsNoLabel (mnemonic_of i)
 no_label (insn.Alu W32 o dst src) d = low _ 50 (last_append (alu_name o) 51 (50 ∷ [])) (omega arith)
 no_label (insn.Alu W64 o dst src) d = low _ 52 (last_append (alu_name o) 54 (52 ∷ [])) (omega arith)
 no_label (insn.Sext W32 bits dst src) d = low _ 50 (last_append (codes "movs" ++ decimal bits) 95 (51 ∷ 50 ∷ [])) (omega arith)
@@ -155,7 +153,7 @@ few_slots : (p : List (Option Insn)) (is rest : List Insn) → IsWellFormed p �
 few_slots p is rest formed e =
     omega (arith, formed.few, ap length formed.placed, ap (λ (ks : List Insn). length (flat_map placed ks)) e, ap length (flat_map-append is rest), length-append (flat_map placed is) (flat_map placed rest))
 
-refuted : (text : List ℕ) (p : List (Option Insn)) (fault : AssemblyFault) → IsAssembled text p → IsAssemblyFault text fault → fault ≡ NoMemory
+refuted : (text : List ℕ) (p : List (Option Insn)) (fault : AssemblyFault) → IsAssembledPlain text p → IsPlainFault text fault → fault ≡ NoMemory
 refuted text p NoMemory a f = refl
 refuted text p (Empty number) a f = absurd (omega (arith, a.formed.some, ap length a.formed.placed, ap (λ (ks : List Insn). length (flat_map placed ks)) none)) where
   none : instructions p ≡ []
@@ -166,11 +164,7 @@ refuted text p (Bad number fault) a (line, is, at, f) = absurd (found (from 0 at
       at_fault (length (flat_map placed is)) line at.after r.rest fault (omega (arith, few_slots p is r.rest a.formed r.parted)) (few_slots p is r.rest a.formed r.parted) f
       (subst (λ (k : ℕ). AreInsns k (line ∷ at.after) r.rest) (omega arith) r.read)
 
-pub only_assembled : (text : List ℕ) (r : Result (List (Option Insn)) AssemblyFault) → IfOk r (IsAssembled text) → IfErr r (IsAssemblyFault text)
-    → (p : List (Option Insn)) → IsAssembled text p → MatchResult r (λ q. q ≡ p) (λ e. e ≡ NoMemory)
+pub only_assembled : (text : List ℕ) (r : Result (List (Option Insn)) AssemblyFault) → IfOk r (IsAssembledPlain text) → IfErr r (IsPlainFault text)
+    → (p : List (Option Insn)) → IsAssembledPlain text p → MatchResult r (λ q. q ≡ p) (λ e. e ≡ NoMemory)
 only_assembled text (Ok q) ok refused p a = assembled_unique text q p ok a
 only_assembled text (Err e) ok refused p a = refuted text p e a refused
-
-pub only_listed : (text : List ℕ) (r : Result (List (Option Insn)) AssemblyFault) → IfOk r (IsAssembled text) → IfErr r (IsAssemblyFault text)
-    → (p : List (Option Insn)) → IsWellFormed p → text ≡ listing_of p → MatchResult r (λ q. q ≡ p) (λ e. e ≡ NoMemory)
-only_listed text r ok refused p formed is = only_assembled text r ok refused p (subst (λ (t : List ℕ). IsAssembled t p) (sym is) (listing_assembled p formed))

@@ -8,7 +8,7 @@ use Rattle.ebpf_insn.specs.declared.insn.Source.TheVariants.{Register, Imm}
 use Rattle.ebpf_insn.specs.Encoding.{IsDefined}
 use Rattle.ebpf_text.specs.Mnemonics.{mnemonic_of}
 use Rattle.ebpf_text.specs.Operands.{operands_of}
-use Rattle.ebpf_assembly.specs.Assembly.{words_of}
+use Rattle.ebpf_assembly.specs.Lines.{words_of}
 use Rattle.ebpf_assembly.specs.Kinds.{kind_of, sample, IsKind, kind_name}
 use Rattle.ebpf_assembly.specs.declared.kind.Kind.{Kind}
 use Rattle.ebpf_assembly.specs.declared.kind.Kind.TheVariants as kind

@@ -11,7 +11,7 @@ use Rattle.ebpf_insn.specs.declared.insn.Width.TheVariants.{W32, W64}
 use Rattle.ebpf_insn.specs.declared.insn.Order.{Order}
 use Rattle.ebpf_insn.specs.Fields.{is_move_of, is_swap_of}
 use Rattle.ebpf_text.specs.Names.{width_name, order_name}
-use Rattle.ebpf_assembly.specs.Assembly.{is_gap, is_newline}
+use Rattle.ebpf_assembly.specs.Lines.{is_gap, is_newline}
 use Rattle.ebpf_assembly.specs.Kinds.{IsKind, kind_name, sample}
 use Rattle.ebpf_assembly.specs.declared.kind.Kind.{Kind}
 use Rattle.ebpf_assembly.proofs.PlainTexts.{is_plain, IsPlain, of_mnemonic}

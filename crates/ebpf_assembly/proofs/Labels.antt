@@ -4,7 +4,7 @@ use Rattle.std.specs.Prelude.{codes, decimal}
 use Rattle.std.proofs.lemmas.Fmt.{decimal_injective}
 use Rattle.ebpf_insn.specs.declared.insn.Insn.{Insn}
 use Rattle.ebpf_insn.specs.Encoding.{IsDefined}
-use Rattle.ebpf_assembly.specs.Assembly.{words_of, slot_label, IsInsnAt}
+use Rattle.ebpf_assembly.specs.Lines.{words_of, slot_label, IsInsnAt}
 use Rattle.ebpf_assembly.specs.Faults.{IsLabelledWrong, IsLabelledRight, IsUnlabelled, IsLineFault}
 use Rattle.ebpf_assembly.specs.declared.fault.LineFault.TheVariants.{NoInstruction}
 use Rattle.ebpf_assembly.proofs.Unique.{no_slot}

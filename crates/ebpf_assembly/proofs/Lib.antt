@@ -14,3 +14,5 @@ pub mod LineWords
 pub mod Labels
 pub mod Drafts
 pub mod Faulty
+pub mod Labelling
+pub mod WithoutLabels

@@ -5,7 +5,7 @@ use Rattle.std.specs.List.{position_or_len}
 use Rattle.std.proofs.Math.Dec.{ltb}
 use Rattle.std.proofs.lemmas.Bool.{ltb-false}
 use Rattle.std.proofs.lemmas.List.{take_all}
-use Rattle.ebpf_assembly.specs.Assembly.{uncommented, is_word}
+use Rattle.ebpf_assembly.specs.Lines.{uncommented, is_word}
 
 abbrev pub is_semicolon : ℕ → Bool
 is_semicolon c = c == 59

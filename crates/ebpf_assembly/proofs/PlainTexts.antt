@@ -31,7 +31,7 @@ use Rattle.ebpf_insn.specs.Encoding.{IsSource, IsDefined}
 use Rattle.ebpf_text.specs.Names.{width_name, size_name, order_name, alu_name, cond_name}
 use Rattle.ebpf_text.specs.Mnemonics.{mnemonic_of}
 use Rattle.ebpf_text.specs.Operands.{register_text, source_text, offset_text, place_text, operands_of}
-use Rattle.ebpf_assembly.specs.Assembly.{is_gap, is_newline}
+use Rattle.ebpf_assembly.specs.Lines.{is_gap, is_newline}
 use Rattle.ebpf_assembly.proofs.RegisterNames.{name_of, names}
 
 abbrev pub is_plain : ℕ → Bool

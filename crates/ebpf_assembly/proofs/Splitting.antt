@@ -5,7 +5,7 @@ use Rattle.std.specs.List.{list_all, AllByRecursion, slice_split, onto_first}
 use Rattle.std.proofs.lemmas.List.{append-nil}
 use Rattle.std.proofs.lemmas.List.Splits.{slice_split-cons_yes, slice_split-cons_no}
 use Rattle.ebpf_text.specs.Listing.{later_operands_text, operands_text}
-use Rattle.ebpf_assembly.specs.Assembly.{is_gap, is_newline, is_word}
+use Rattle.ebpf_assembly.specs.Lines.{is_gap, is_newline, is_word}
 use Rattle.ebpf_assembly.proofs.PlainTexts.{is_plain, IsPlain}
 
 parts : (a b : Bool) → (a && b) ≡ true → (a ≡ true) × (b ≡ true)

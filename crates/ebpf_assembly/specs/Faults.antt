@@ -7,7 +7,8 @@ use Rattle.ebpf_assembly.specs.declared.fault.LineFault.{LineFault}
 use Rattle.ebpf_assembly.specs.declared.fault.LineFault.TheVariants.{WrongSlot, NoInstruction, TooManySlots}
 use Rattle.ebpf_assembly.specs.declared.fault.AssemblyFault.{AssemblyFault}
 use Rattle.ebpf_assembly.specs.declared.fault.AssemblyFault.TheVariants.{Bad, Empty, NoMemory}
-use Rattle.ebpf_assembly.specs.Assembly.{text_lines, words, slot_label, IsInsnAt, AreInsns}
+use Rattle.ebpf_assembly.specs.Lines.{text_lines, words, slot_label, IsInsnAt, AreInsns}
+use Rattle.ebpf_assembly.specs.Names.{plain}
 
 -- these words begin with a label, and it isn't that of the slot
 abbrev pub IsLabelledWrong : ℕ → List (List ℕ) → Type 0
@@ -35,11 +36,15 @@ pub record IsLineAfter (text : List ℕ) (number : ℕ) (line : List ℕ) (is : 
   pub counted : number ≡ length before + 1
   pub read : AreInsns 0 before is
 
--- why no program was made of a text
+-- why no program was made of a text without names
+abbrev pub IsPlainFault : List ℕ → AssemblyFault → Type 0
+IsPlainFault text (Bad number fault) = (line : List ℕ) × (is : List Insn) × IsLineAfter text number line is × IsLineFault (length (flat_map placed is)) (words line) fault
+IsPlainFault text (Empty number) = (number ≡ length (text_lines text)) × AreInsns 0 (text_lines text) []
+IsPlainFault text NoMemory = Unit {0}
+
+-- why no program was made of a text; the line of this number is the one that the text has there, without its label and with offsets
 abbrev pub IsAssemblyFault : List ℕ → AssemblyFault → Type 0
-IsAssemblyFault text (Bad number fault) = (line : List ℕ) × (is : List Insn) × IsLineAfter text number line is × IsLineFault (length (flat_map placed is)) (words line) fault
-IsAssemblyFault text (Empty number) = (number ≡ length (text_lines text)) × AreInsns 0 (text_lines text) []
-IsAssemblyFault text NoMemory = Unit {0}
+IsAssemblyFault text fault = IsPlainFault (plain text) fault
 
 -- why a line was not read
 abbrev pub IsLineStop : ℕ → ℕ → List ℕ → AssemblyFault → Type 0

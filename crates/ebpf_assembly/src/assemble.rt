@@ -6,11 +6,14 @@ ghost use Rattle.ebpf_insn.specs.Program.{placed};
 ghost use Rattle.ebpf_insn.specs.Encoding.{IsWellFormed};
 ghost use Rattle.ebpf_text.specs.Listing.{listing_of};
 ghost use Rattle.ebpf_assembly.specs.declared.fault.AssemblyFault.TheVariants.{NoMemory};
+ghost use Rattle.ebpf_assembly.specs.Lines.{IsAssembledPlain};
 ghost use Rattle.ebpf_assembly.specs.Assembly.{IsAssembled};
-ghost use Rattle.ebpf_assembly.specs.Faults.{IsAssemblyFault};
+ghost use Rattle.ebpf_assembly.specs.Faults.{IsPlainFault, IsAssemblyFault};
 
 use crate::fault::AssemblyFault;
+use crate::label::{first_labels, read_labels};
 use crate::line::read_line;
+use crate::plain::{plain_lines, without_first};
 use ebpf_insn::insn::Insn;
 use ebpf_insn::program::Program;
 use std::alloc::{AllocError, Global};
@@ -29,13 +32,27 @@ pub fn assemble(alloc: Global, text: &[u8]) -> Result<Program, AssemblyFault>
     // The same of its listing, which is such a text.
     ensures back { (p : List (Option Insn)) → IsWellFormed p → text.now ≡ listing_of p → MatchResult result (λ q. q ≡ p) (λ e. e ≡ NoMemory) }
 {
-    read_lines(alloc, text)
+    read_text(alloc, text)
+}
+
+// Reads the lines of a text without its labels.
+fn read_text(alloc: Global, text: &[u8]) -> Result<Program, AssemblyFault>
+    ensures ok { IfOk result (IsAssembled text.now) }
+    ensures refused { IfErr result (IsAssemblyFault text.now) }
+{
+    let all = read_labels(alloc, text)?;
+    let labels = first_labels(&all);
+    if labels.is_empty() {
+        return read_lines(alloc, text);
+    }
+    let lines = plain_lines(alloc, labels, text)?;
+    read_lines(alloc, without_first(&lines))
 }
 
 // Reads the lines one by one, to the first at fault.
 fn read_lines(alloc: Global, text: &[u8]) -> Result<Program, AssemblyFault>
-    ensures ok { IfOk result (IsAssembled text.now) }
-    ensures refused { IfErr result (IsAssemblyFault text.now) }
+    ensures ok { IfOk result (IsAssembledPlain text.now) }
+    ensures refused { IfErr result (IsPlainFault text.now) }
 {
     let mut slots = Vec::new(alloc);
     let mut len = 0;

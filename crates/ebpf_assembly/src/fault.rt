@@ -6,8 +6,8 @@ use thiserror::Error;
 /// What is wrong with a line.
 #[derive(Clone, Copy, Debug, Error)]
 pub enum LineFault {
-    /// The line begins with the slot of another instruction.
-    #[error("this instruction is at another slot")]
+    /// The line begins with the slot of another instruction, or with a label that stands for another slot.
+    #[error("the slot or the label is that of another instruction")]
     WrongSlot,
     /// No instruction has these words.
     #[error("no instruction is written like this")]

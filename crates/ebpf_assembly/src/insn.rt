@@ -4,7 +4,7 @@ ghost use Rattle.std.specs.Prelude.{◌≡◌, ◌≢◌, map};
 ghost use Rattle.std.specs.Option.{MatchOption};
 ghost use Rattle.ebpf_insn.specs.declared.insn.Insn.{Insn};
 ghost use Rattle.ebpf_insn.specs.Encoding.{IsDefined};
-ghost use Rattle.ebpf_assembly.specs.Assembly.{words_of};
+ghost use Rattle.ebpf_assembly.specs.Lines.{words_of};
 ghost use Rattle.ebpf_assembly.specs.Kinds.{IsKind, IsOfKind};
 
 use crate::kind::{Kind, read_kind};

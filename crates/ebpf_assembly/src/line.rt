@@ -3,7 +3,7 @@
 ghost use Rattle.std.specs.Prelude.{◌≡◌, ◌≢◌, ◌≤◌, ◌+◌, [], IfOk, IfErr, map};
 ghost use Rattle.std.specs.Option.{MatchOption};
 ghost use Rattle.ebpf_insn.specs.Program.{slots_in};
-ghost use Rattle.ebpf_assembly.specs.Assembly.{words, IsInsnAt};
+ghost use Rattle.ebpf_assembly.specs.Lines.{words, IsInsnAt};
 ghost use Rattle.ebpf_assembly.specs.Faults.{IsLineFault, IsLineStop};
 
 use crate::fault::{AssemblyFault, LineFault};

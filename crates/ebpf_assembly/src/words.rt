@@ -2,7 +2,7 @@
 
 ghost use Rattle.std.specs.Prelude.{◌≡◌, ◌≢◌, ◌∷◌, ◌++◌, IfOk, List, ℕ, codes, map};
 ghost use Rattle.std.specs.Option.{MatchOption};
-ghost use Rattle.ebpf_assembly.specs.Assembly.{is_gap, is_word, uncommented, words};
+ghost use Rattle.ebpf_assembly.specs.Lines.{is_gap, is_word, uncommented, words};
 ghost use Rattle.ebpf_assembly.specs.Faults.{IsLabelledWrong, IsUnlabelled};
 
 use crate::number::number;
@@ -41,7 +41,7 @@ fn is_gap(c: u8) -> bool
 }
 
 // What comes before the colon that a word ends with.
-fn label(word: &[u8]) -> Option<&[u8]>
+pub(crate) fn label(word: &[u8]) -> Option<&[u8]>
     ensures { MatchOption result ((label : List ℕ) → word.now ≢ label ++ codes ":") (λ label. word.now ≡ label.now ++ codes ":") }
 {
     let (last, label) = word.split_last()?;

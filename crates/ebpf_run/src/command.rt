@@ -20,6 +20,10 @@ const EXPLAIN_EXAMPLE: &str =
 const LAY_OUT_EXAMPLE: &str =
     "Example: echo '05000100000000009500000000000000b7000000070000000500fdff00000000' | ebpf_run lay-out";
 
+// Behind the help of `assemble`.
+const ASSEMBLE_EXAMPLE: &str =
+    "Example: printf 'mov64 r0, 7\\nexit\\n' | ebpf_run assemble | ebpf_run one";
+
 // Behind the help of `check`.
 const CHECK_EXAMPLE: &str =
     "Example: printf '%s\\n' 'program p 0 0 b7000000070000009500000000000000' 'run p -' | ebpf_run check";
@@ -52,6 +56,7 @@ pub enum Task<'a> {
     List(Form),
     Explain(OneOptions<'a>),
     LayOut(Form),
+    Assemble,
     Check(CheckOptions),
     Replay,
     Run(RunOptions),
@@ -96,6 +101,7 @@ pub fn command<'a>(alloc: Global) -> Result<Command<'a>, AllocError> {
     let list = list_command(alloc)?;
     let explain = explain_command(alloc)?;
     let lay_out = lay_out_command(alloc)?;
+    let assemble = assemble_command(alloc)?;
     let check = check_command(alloc)?;
     let replay = replay_command(alloc)?;
     let all = Command::new(alloc, "ebpf_run")
@@ -107,6 +113,7 @@ pub fn command<'a>(alloc: Global) -> Result<Command<'a>, AllocError> {
     all.subcommand(list)?
         .subcommand(explain)?
         .subcommand(lay_out)?
+        .subcommand(assemble)?
         .subcommand(check)?
         .subcommand(replay)?
         .subcommand(run_command(alloc)?)
@@ -194,6 +201,15 @@ fn lay_out_command<'a>(alloc: Global) -> Result<Command<'a>, AllocError> {
     with_program(alloc, lay_out)
 }
 
+fn assemble_command<'a>(alloc: Global) -> Result<Command<'a>, AllocError> {
+    Command::new(alloc, "assemble")
+        .about(
+            "Writes the slots of the program whose instructions are in FILE or on standard input, as list writes them, as hex",
+        )
+        .after_help(ASSEMBLE_EXAMPLE)
+        .arg(file_argument(alloc))
+}
+
 fn check_command<'a>(alloc: Global) -> Result<Command<'a>, AllocError> {
     Command::new(alloc, "check")
         .about("Checks the script in FILE or on standard input: programs, and jobs that run them")
@@ -271,6 +287,7 @@ fn task_of<'a>(name: &str, given: &ArgMatches<'a>) -> Option<Task<'a>> {
         "list" => Some(Task::List(form_of(given))),
         "explain" => Some(Task::Explain(one_options(given))),
         "lay-out" => Some(Task::LayOut(form_of(given))),
+        "assemble" => Some(Task::Assemble),
         "check" => Some(Task::Check(check_options(given))),
         "replay" => Some(Task::Replay),
         "run" => Some(Task::Run(run_options(given)?)),

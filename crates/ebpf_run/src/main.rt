@@ -2,7 +2,8 @@
 //!
 //! This crate reads the command line, opens the file that is named and has the standard streams. What a command writes is a function of what it reads and
 //! of its options, errors included, and it writes nothing else: that is the contract of [`ebpf_one::one::one`],
-//! [`ebpf_one::list::list`], [`ebpf_one::explain::explain`] and [`ebpf_one::lay_out::lay_out`], of [`ebpf_script::check::check`],
+//! [`ebpf_one::list::list`], [`ebpf_one::explain::explain`] and [`ebpf_one::lay_out::lay_out`], of
+//! [`ebpf_assemble::assemble::assemble`], of [`ebpf_script::check::check`],
 //! [`ebpf_script::explained_check::explained_check`] and [`ebpf_script::replay::replay`]. What `run` writes is such a
 //! text for some outcome of the jobs, since threads decide which requests for objects are granted and what is found on a shelf: that
 //! is the contract of [`ebpf_script::run::run`]. These are all that it calls.
@@ -13,6 +14,7 @@ mod command;
 use crate::command::{Request, RunOptions, Task, command, request_of};
 use clap::Error;
 use clap::error::ErrorKind;
+use ebpf_assemble::assemble::assemble;
 use ebpf_command::done::{Done, EngineFault};
 use ebpf_one::explain::explain;
 use ebpf_one::lay_out::lay_out;
@@ -115,6 +117,7 @@ fn perform<R: AllocGlobal + Clock + Eprint + Print + Threads + Wait + Sync, I: R
             options.held,
         ),
         Task::LayOut(form) => lay_out(alloc, reader, &mut writer, form),
+        Task::Assemble => assemble(alloc, reader, &mut writer),
         Task::Check(options) if options.explain => { explained_check(alloc, reader, &mut writer) }
         Task::Check(_) => check(alloc, reader, &mut writer),
         Task::Replay => replay(alloc, reader, &mut writer),

@@ -29,6 +29,19 @@ b7000000070000009500000000000000 | ; seven / mov64 r0, 7 ; is the answer /  / ;;
 b7000000070000009500000000000000 | 0: mov64 r0, 7 / 1: exit
 b7000000070000009500000000000000 | mov64 r0, 7 / ; the end /  / 1: exit
 b7000000070000009500000000000000 | 0: mov64 r0, 7 / exit
+# or with a label, for which a jump may have an offset
+9500000000000000 | start: exit
+b7000000070000009500000000000000 | start: /  / mov64 r0, 7 / end: / exit
+0500010000000000b7000000070000009500000000000000 | ja end / mov64 r0, 7 / end: exit
+0500ffff000000000500feff00000000 | loop: ja loop / ja loop
+0600000001000000b7000000070000009500000000000000 | ja32 end / mov64 r0, 7 / end: exit
+15000200000000001601feff000000009500000000000000 | a: jeq64 r0, 0, b ; to b / jeq32 r1, 0, a / exit / b:
+0500020000000000180100000100000000000000000000009500000000000000 | ja _end.1 / lddw r1, 1 / _end.1: exit
+050000000000000005000000000000009500000000000000 | 0: ja a / a: ja b / b: / 2: exit
+# a slot may have two labels, and a label may be another word
+050001000000000005000000000000009500000000000000 | ja b / ja a / a: / b: exit
+9500000000000000 | a: / a: exit
+05000000000000001d10ffff000000009500000000000000 | ja exit / exit: / r1: jeq64 r0, r1, exit / exit
 # a wide instruction takes two
 180100000100000000000000000000009500000000000000 | lddw r1, 1 / exit
 180100000100000000000000000000009500000000000000 | 0: lddw r1, 1 / 2: exit
@@ -48,6 +61,7 @@ line 1: no instruction is written like this | 0:
 line 1: no instruction is written like this | 0:exit
 line 1: no instruction is written like this | 0 : exit
 line 1: no instruction is written like this | 0: 0: exit
+line 1: no instruction is written like this | 0: a: exit
 line 1: no instruction is written like this | exit exit
 line 1: no instruction is written like this | movs32_32 r0, r1
 line 1: no instruction is written like this | le8 r0
@@ -96,16 +110,29 @@ line 1: no instruction is written like this | ldxw r0, [r1+32768]
 line 1: no instruction is written like this | ldxw r0, []
 line 1: no instruction is written like this | ldxw r0, [
 # the slot is that of another instruction
-line 1: this instruction is at another slot | 1: exit
-line 1: this instruction is at another slot | 00: exit
-line 1: this instruction is at another slot | : exit
-line 1: this instruction is at another slot | start: exit
-line 1: this instruction is at another slot | 1: halt
-line 2: this instruction is at another slot | lddw r1, 1 / 1: exit
-line 3: this instruction is at another slot | mov64 r0, 7 /  / 2: exit
+line 1: the slot or the label is that of another instruction | 1: exit
+line 1: the slot or the label is that of another instruction | 00: exit
+line 1: the slot or the label is that of another instruction | : exit
+line 1: the slot or the label is that of another instruction | 1st: exit
+line 1: the slot or the label is that of another instruction | a: b: exit
+line 1: the slot or the label is that of another instruction | 1: halt
+line 2: the slot or the label is that of another instruction | lddw r1, 1 / 1: exit
+line 3: the slot or the label is that of another instruction | mov64 r0, 7 /  / 2: exit
+# the label is that of another
+line 2: the slot or the label is that of another instruction | a: exit / a: exit
+line 3: the slot or the label is that of another instruction | ja a / a: exit / a: exit
+# there is no such label, or no jump
+line 1: no instruction is written like this | ja end / exit
+line 1: no instruction is written like this | ja END / end: exit
+line 1: no instruction is written like this | ja end: / end: exit
+line 1: no instruction is written like this | mov64 r0, end / end: exit
+line 1: no instruction is written like this | call end / end: exit
+line 1: no instruction is written like this | jeq64 end, 0, end / end: exit
+line 2: no instruction is written like this | end: / exit end
 # there is none
 line 1: there is no instruction | ;
-line 3: there is no instruction | ; nothing /  / \u{20}";
+line 3: there is no instruction | ; nothing /  / \u{20}
+line 2: there is no instruction | a: / b:";
 
 // The lines of a text.
 fn lines_of(rt: &impl Abort, alloc: Global, text: &str) -> String {

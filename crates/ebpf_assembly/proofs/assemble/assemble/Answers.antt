@@ -1,8 +1,8 @@
-use Rattle.ebpf_assembly.proofs.Faulty.{only_assembled, only_listed}
+use Rattle.ebpf_assembly.proofs.WithoutLabels.{named_only, named_back}
 use Rattle.ebpf_assembly.proofs.assemble.assemble.Goals as goal
 
 pub returns-clause-only : goal.returns-clause-only
-returns-clause-only c = only_assembled c.args.text.now c.read_lines.result c.read_lines.ensures.ok c.read_lines.ensures.refused
+returns-clause-only c = named_only c.args.text.now c.read_text.result c.read_text.ensures.ok c.read_text.ensures.refused
 
 pub returns-clause-back : goal.returns-clause-back
-returns-clause-back c = only_listed c.args.text.now c.read_lines.result c.read_lines.ensures.ok c.read_lines.ensures.refused
+returns-clause-back c = named_back c.args.text.now c.read_text.result c.read_text.ensures.ok c.read_text.ensures.refused

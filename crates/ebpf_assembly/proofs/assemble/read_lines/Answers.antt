@@ -3,7 +3,7 @@ use Rattle.std.proofs.lemmas.Iterator.Consumers.{YieldsList-turn, YieldsList-end
 use Rattle.std.proofs.lemmas.Iterator.Splits.{YieldsList-from_slice_split}
 use Rattle.std.proofs.lemmas.List.{length_push}
 use Rattle.ebpf_insn.specs.Program.{placed}
-use Rattle.ebpf_assembly.specs.Assembly.{text_lines, is_newline, words, IsInsnAt}
+use Rattle.ebpf_assembly.specs.Lines.{text_lines, is_newline, words, IsInsnAt}
 use Rattle.ebpf_assembly.specs.Faults.{IsLineStop}
 use Rattle.ebpf_assembly.proofs.Drafts.{few_len, fault_here, draft_blank, draft_more, empty_here, finished}
 use Rattle.ebpf_assembly.proofs.assemble.read_lines.Goals as goal

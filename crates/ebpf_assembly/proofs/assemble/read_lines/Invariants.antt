@@ -1,5 +1,5 @@
 use Rattle.std.proofs.Common.{◌≡◌, ◌≤◌, length, take}
-use Rattle.ebpf_assembly.specs.Assembly.{text_lines}
+use Rattle.ebpf_assembly.specs.Lines.{text_lines}
 use Rattle.ebpf_assembly.proofs.Drafts.{IsDraft}
 use Rattle.ebpf_assembly.proofs.assemble.read_lines.Given as goal
 

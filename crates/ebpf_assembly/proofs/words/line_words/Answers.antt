@@ -3,7 +3,7 @@ use Rattle.std.specs.Prelude.{filter}
 use Rattle.std.specs.List.{slice_split}
 use Rattle.std.proofs.lemmas.Iterator.Consumers.{map_from_collect, YieldsList-from_filter, YieldsList-at}
 use Rattle.std.proofs.lemmas.Iterator.Splits.{YieldsList-from_slice_split}
-use Rattle.ebpf_assembly.specs.Assembly.{is_gap, is_word}
+use Rattle.ebpf_assembly.specs.Lines.{is_gap, is_word}
 use Rattle.ebpf_assembly.proofs.words.line_words.Goals as goal
 
 pub returns : goal.returns

@@ -1,0 +1,3 @@
+pub mod SlotsText
+pub mod FaultText
+pub mod AssembleText
