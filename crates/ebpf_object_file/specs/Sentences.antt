@@ -76,7 +76,7 @@ verb target.Function = codes "calls"
 verb _ = codes "uses"
 
 abbrev pub mending : Target → List ℕ
-mending target.Table = codes "a table outside of the function: keep it on the stack"
+mending target.Table = codes "a table outside of the function: pass it in the context, or pack it into a number"
 mending target.Variable = codes "a variable outside of the function: pass it in the context"
 mending target.Function = codes "a function of the file: make it static inline, and compile with -O2"
 mending target.External = codes "which is not in the file: define it as static inline, and compile with -O2"

@@ -62,7 +62,8 @@ fn mending(target: Target) -> &'static str
     ensures { result.now ≡ mending target }
 {
     match target {
-        Target::Table => "a table outside of the function: keep it on the stack",
+        Target::Table =>
+            "a table outside of the function: pass it in the context, or pack it into a number",
         Target::Variable => "a variable outside of the function: pass it in the context",
         Target::Function => {
             "a function of the file: make it static inline, and compile with -O2"
