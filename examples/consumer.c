@@ -2,18 +2,12 @@
 //
 // There is no context. The record is this run's until it is freed, with the bytes that the other run wrote. The result is 0, or 1
 // where nothing stood on the shelf.
-typedef unsigned long number;
-
-enum { RECORD = 1 };
+#include "../include/ebpf_program.h"
 
 struct sum {
-    number count;
-    number total;
+    ebpf_number count;
+    ebpf_number total;
 };
-
-static number (*const free)(void *object) = (void *)2;
-static number (*const emit)(number n) = (void *)3;
-static void *(*const swap)(number shelf, void *given) = (void *)4;
 
 int consumer(void)
 {

@@ -2,26 +2,21 @@
 //
 // The readings are the context, a byte each. The record says how many they are, and their sum. What stood on the shelf comes back in
 // its place: a record that nobody took, which is freed. The result is 0, or 1 where no record was granted.
-typedef unsigned char byte;
-typedef unsigned long number;
+#include "../include/ebpf_program.h"
 
-enum { RECORD = 1, READINGS = 8 };
+enum { READINGS = 8 };
 
 struct sum {
-    number count;
-    number total;
+    ebpf_number count;
+    ebpf_number total;
 };
 
-static void *(*const new)(number kind) = (void *)1;
-static number (*const free)(void *object) = (void *)2;
-static void *(*const swap)(number shelf, void *given) = (void *)4;
-
-int producer(const byte *readings)
+int producer(const ebpf_byte *readings)
 {
     struct sum *sum = new(RECORD);
     if (!sum)
         return 1;
-    number total = 0;
+    ebpf_number total = 0;
 #pragma unroll
     for (int i = 0; i < READINGS; i++)
         total += readings[i];

@@ -8,3 +8,4 @@ pub mod Parts
 pub mod Best
 pub mod Slots
 pub mod Tables
+pub mod Listing

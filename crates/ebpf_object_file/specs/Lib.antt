@@ -12,3 +12,4 @@ pub mod Outside
 pub mod Function
 pub mod Lines
 pub mod Source
+pub mod Sentences

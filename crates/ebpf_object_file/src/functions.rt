@@ -1,6 +1,7 @@
 //! The functions that a file has.
 
 ghost use Rattle.std.specs.Prelude.{◌≡◌, ◌≤◌, ◌<◌, ◌+◌, ◌/◌, ◌⊎◌, length, IfOk, IfErr, MatchOption};
+ghost use Rattle.ebpf_object_file.specs.Sentences.{shown_byte};
 ghost use Rattle.ebpf_object_file.specs.First.{IsFirst, NoneBelow};
 ghost use Rattle.ebpf_object_file.specs.Header.{header_of};
 ghost use Rattle.ebpf_object_file.specs.Section.{sections_in};
@@ -30,7 +31,7 @@ pub struct Functions<'a> {
     pub(crate) strings: &'a [u8],
 }
 
-/// A name as a file has it: any bytes, 255 at most. It is written with a `?` for each byte that is no visible character.
+/// A name as a file has it: any bytes, 255 at most.
 #[derive(Clone, Copy)]
 pub struct Name<'a> {
     pub bytes: &'a [u8],
@@ -126,52 +127,81 @@ impl<'a> Functions<'a> {
     }
 }
 
+/// A name with a `?` for each byte that is no visible character.
 impl fmt::Display for Name<'_> {
+    ghost use Rattle.std.specs.Prelude.{Some};
+    ghost use Rattle.ebpf_object_file.specs.Sentences.{shown_name};
+
+    ghost output = { λ name. Some (shown_name name.bytes.now) };
+
     fn fmt<W: fmt::Write>(&self, f: &mut fmt::Formatter<W>) -> fmt::Result {
         if self.bytes.is_empty() {
             return f.write_str("(no name)");
         }
         for byte in self.bytes {
-            let shown = if byte.is_ascii_graphic() { *byte } else { b'?' };
-            f.write_char(shown as char)?;
+            f.write_char(shown_byte(*byte) as char)?;
         }
         Ok(())
+    }
+}
+
+// The byte, where it is a visible character.
+fn shown_byte(byte: u8) -> u8
+    ensures shown { result ≡ shown_byte byte }
+    ensures ascii { result < 128 }
+{
+    if byte.is_ascii_graphic() { byte } else { b'?' }
+}
+
+// A function's name after those of `count` others.
+#[derive(Clone, Copy)]
+struct Listed<'a> {
+    count: usize,
+    name: Name<'a>,
+}
+
+impl fmt::Display for Listed<'_> {
+    ghost use Rattle.std.specs.Prelude.{Some};
+    ghost use Rattle.ebpf_object_file.specs.Sentences.{name_after};
+
+    ghost output = { λ l. Some (name_after l.count l.name.bytes.now) };
+
+    fn fmt<W: fmt::Write>(&self, f: &mut fmt::Formatter<W>) -> fmt::Result {
+        let name = self.name;
+        if self.count == 0 {
+            write!(f, "{name}")
+        } else if self.count < MOST_NAMES {
+            write!(f, ", {name}")
+        } else if self.count == MOST_NAMES {
+            f.write_str(", ..")
+        } else {
+            Ok(())
+        }
     }
 }
 
 /// The names, 16 at most: where there are more, `..` is after them. Where there is no function, `none`.
 impl fmt::Display for Functions<'_> {
+    ghost use Rattle.std.specs.Prelude.{Some};
+    ghost use Rattle.ebpf_object_file.specs.Sentences.{names_of};
+
+    ghost output = { λ f. Some (names_of f) };
+
     fn fmt<W: fmt::Write>(&self, f: &mut fmt::Formatter<W>) -> fmt::Result {
-        let mut from = 0;
-        for _ in 0..MOST_NAMES {
-            match self.next(from) {
-                None if from == 0 => return f.write_str("none"),
-                None => return Ok(()),
-                Some(named) => {
-                    if from > 0 {
-                        f.write_str(", ")?;
-                    }
-                    let name = named.name;
-                    write!(f, "{name}")?;
-                    from = named.number + 1;
-                }
+        let mut count = 0;
+        for number in 0..self.symbols.len() / 24 {
+            let symbol = symbol_of(self.symbols, number);
+            if symbol.is_function(self.header.sections) {
+                let bytes = text_at(self.strings, symbol.name as usize, MOST_NAME);
+                let name = Name { bytes };
+                let listed = Listed { count, name };
+                write!(f, "{listed}")?;
+                count += 1;
             }
         }
-        if self.next(from).is_some() {
-            f.write_str(", ..")?;
+        if count == 0 {
+            return f.write_str("none");
         }
         Ok(())
-    }
-}
-
-impl fmt::Debug for Name<'_> {
-    fn fmt<W: fmt::Write>(&self, f: &mut fmt::Formatter<W>) -> fmt::Result {
-        write!(f, "{self}")
-    }
-}
-
-impl fmt::Debug for Functions<'_> {
-    fn fmt<W: fmt::Write>(&self, f: &mut fmt::Formatter<W>) -> fmt::Result {
-        write!(f, "{self}")
     }
 }

@@ -1,29 +1,56 @@
 //! Why a file has no program of the name that was asked for, in a sentence.
 
+ghost use Rattle.std.specs.Prelude.{◌≡◌};
+ghost use Rattle.ebpf_object_file.specs.Sentences.{verb, mending};
+
 use crate::fault::FileFault;
 use crate::functions::Functions;
 use crate::outside::{Outside, Target};
 use std::fmt;
-use thiserror::Error;
 
 /// Why a function of a file is no program by itself, or why there is no such function.
-#[derive(Clone, Copy, Debug, Error)]
+#[derive(Clone, Copy)]
 pub enum ObjectFault<'a> {
-    #[error("{0}")]
+    /// The file can't be read, or the function isn't in it as it must be.
     File(FileFault),
     /// No function has the name. The sentence lists those that there are.
-    #[error("the file has no function of that name; it has {0}")]
     NoFunction(Functions<'a>),
     /// No name was given, and there are more functions than one.
-    #[error("the file has more than one function: name one of {0}")]
     SeveralFunctions(Functions<'a>),
     /// The function needs another part of the file.
-    #[error("{0}")]
     Outside(Outside<'a>),
 }
 
+impl fmt::Display for ObjectFault<'_> {
+    ghost use Rattle.std.specs.Prelude.{Some};
+    ghost use Rattle.ebpf_object_file.specs.Sentences.{object_sentence};
+
+    ghost output = { λ fault. Some (object_sentence fault) };
+
+    fn fmt<W: fmt::Write>(&self, f: &mut fmt::Formatter<W>) -> fmt::Result {
+        match self {
+            ObjectFault::File(fault) => write!(f, "{fault}"),
+            ObjectFault::NoFunction(functions) => {
+                write!(
+                    f,
+                    "the file has no function of that name; it has {functions}"
+                )
+            }
+            ObjectFault::SeveralFunctions(functions) => {
+                write!(
+                    f,
+                    "the file has more than one function: name one of {functions}"
+                )
+            }
+            ObjectFault::Outside(outside) => write!(f, "{outside}"),
+        }
+    }
+}
+
 // What the slot does with the symbol.
-fn verb(target: Target) -> &'static str {
+fn verb(target: Target) -> &'static str
+    ensures { result.now ≡ verb target }
+{
     match target {
         Target::Function => "calls",
         Target::Table | Target::Variable | Target::External => "uses",
@@ -31,9 +58,12 @@ fn verb(target: Target) -> &'static str {
 }
 
 // What the symbol is, and what mends it.
-fn mending(target: Target) -> &'static str {
+fn mending(target: Target) -> &'static str
+    ensures { result.now ≡ mending target }
+{
     match target {
-        Target::Table => "a table outside of the function: keep it on the stack",
+        Target::Table =>
+            "a table outside of the function: pass it in the context, or pack it into a number",
         Target::Variable => "a variable outside of the function: pass it in the context",
         Target::Function => {
             "a function of the file: make it static inline, and compile with -O2"
@@ -46,17 +76,16 @@ fn mending(target: Target) -> &'static str {
 
 /// The slot, the symbol, and what mends it.
 impl fmt::Display for Outside<'_> {
+    ghost use Rattle.std.specs.Prelude.{Some};
+    ghost use Rattle.ebpf_object_file.specs.Sentences.{outside_sentence};
+
+    ghost output = { λ outside. Some (outside_sentence outside) };
+
     fn fmt<W: fmt::Write>(&self, f: &mut fmt::Formatter<W>) -> fmt::Result {
         let slot = self.slot;
         let name = self.name;
         let verb = verb(self.target);
         let mending = mending(self.target);
         write!(f, "slot {slot} {verb} {name}, {mending}")
-    }
-}
-
-impl fmt::Debug for Outside<'_> {
-    fn fmt<W: fmt::Write>(&self, f: &mut fmt::Formatter<W>) -> fmt::Result {
-        write!(f, "{self}")
     }
 }

@@ -31,7 +31,7 @@ pub struct Place {
 }
 
 /// What a symbol is, by the section that it is in.
-#[derive(Clone, Copy, Debug)]
+#[derive(Clone, Copy)]
 pub enum Target {
     /// Data that isn't written (`SHF_WRITE` isn't set): a constant table, or a string.
     Table,

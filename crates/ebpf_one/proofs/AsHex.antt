@@ -1,5 +1,5 @@
 -- The response to raw bytes is the response to each hex text of them.
-use Rattle.std.proofs.Common.{◌≡◌, ℕ, ◌≤◌, ◌*◌, Bool, nat_lt, false, not, List, length, filter, Result, Ok, Err, Option, Some, None, refl, sym, ◌∙◌, subst, arith}
+use Rattle.std.proofs.Common.{◌≡◌, ℕ, ◌≤◌, ◌*◌, Bool, not, List, length, filter, Result, Ok, Err, Option, Some, refl, subst, arith}
 use Rattle.std.proofs.lemmas.List.Filters.{length-filter_both}
 use Rattle.hex.specs.Hex.{decode_of}
 use Rattle.hex.specs.declared.error.FromHexError.{FromHexError}
@@ -17,7 +17,7 @@ use Rattle.ebpf_one.specs.Asked.{Asked, asked_for, bytes_in, input_fault, fault_
 use Rattle.ebpf_one.specs.LayOutText.{LaysOut, LaysOutGiven}
 use Rattle.ebpf_one.specs.ListText.{RespondsList, RespondsGiven}
 use Rattle.ebpf_one.specs.OneText.{Responds, RespondsAsked}
-use Rattle.ebpf_one.specs.ProgramText.{is_blank, program_bytes}
+use Rattle.ebpf_one.specs.ProgramText.{is_blank}
 use Rattle.ebpf_one.proofs.Digits.{not_above}
 
 -- the bytes are no more than the digits

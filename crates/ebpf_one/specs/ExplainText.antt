@@ -17,7 +17,6 @@ use Rattle.ebpf_verify.specs.Entry.{entry_in}
 use Rattle.ebpf_verify.specs.Subject.{Subject}
 use Rattle.ebpf_verify.specs.Traces.{looked_at, entries_below}
 use Rattle.ebpf_verify.specs.Verdict.{verdict}
-use Rattle.ebpf_explain.specs.DecodeSentences.{decode_sentence}
 use Rattle.ebpf_explain.specs.Reasons.{misled_at, reason}
 use Rattle.ebpf_explain.specs.Slots.{slot_lines}
 use Rattle.ebpf_explain.specs.StackWords.{texts_below}
@@ -29,7 +28,7 @@ use Rattle.ebpf_command.specs.Response.{Response, refused_response, clean_respon
 use Rattle.ebpf_command.specs.Writing.{Responding}
 use Rattle.ebpf_one.specs.declared.form.Form.{Form}
 use Rattle.ebpf_one.specs.Asked.{Asked, asked_for, fault_of}
-use Rattle.ebpf_one.specs.InputFaults.{fault_sentence}
+use Rattle.ebpf_one.specs.InputFaults.{undecoded_sentence, fault_sentence}
 use Rattle.ebpf_one.specs.Lines.{refused_line, accepted_line}
 use Rattle.ebpf_one.specs.OneText.{AreGiven}
 
@@ -59,7 +58,7 @@ ExplainsFlow None s response = response ≡ explained s
 -- bytes are refused as no program, or are the program that they encode
 abbrev pub ExplainsDecoded : Option (ℕ × DecodeCode) → List ℕ → Decl → List KindRow → Response → Type 0
 ExplainsDecoded (Some refusal) bytes decl rows response =
-    response ≡ refused_response (refused_line (refusal_name (Decode refusal.1)) refusal.0 ++ decode_sentence bytes refusal.0 refusal.1)
+    response ≡ refused_response (refused_line (refusal_name (Decode refusal.1)) refusal.0 ++ undecoded_sentence bytes refusal.0 refusal.1)
 ExplainsDecoded None bytes decl rows response =
     (p : List (Option Insn)) × IsProgram bytes p × ExplainsFlow (flow_fault p) (record { program = p; decl = decl; rows = rows }) response
 

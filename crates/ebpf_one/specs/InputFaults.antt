@@ -1,8 +1,10 @@
 -- Why an input or an option can't be used, as the sentence of a line: what it is, what stands there, and what is expected.
-use Rattle.std.specs.Prelude.{ℕ, ◌∷◌, ◌++◌, ◌||◌, Bool, nat_lt, if◌then◌else◌, List, [], length, filter, codes, decimal, Option, Some, None, is_none, unwrap_or, slice_get}
+use Rattle.std.specs.Prelude.{ℕ, ◌∷◌, ◌++◌, ◌||◌, Bool, nat_lt, if◌then◌else◌, List, [], length, filter, codes, decimal, Option, Some, None, is_none, unwrap_or, slice_get, nat_eq}
 use Rattle.std.specs.Char.{is_ascii_graphic}
-use Rattle.std.specs.List.{prefix_len}
+use Rattle.std.specs.List.{prefix_len, starts_with}
 use Rattle.hex.specs.Hex.{is_hex_digit}
+use Rattle.ebpf_insn.specs.declared.fault.DecodeCode.{DecodeCode}
+use Rattle.ebpf_explain.specs.DecodeSentences.{decode_sentence}
 use Rattle.ebpf_explain.specs.Hex.{hex_digits}
 use Rattle.ebpf_command.specs.declared.done.FaultCode.{FaultCode}
 use Rattle.ebpf_command.specs.declared.done.FaultCode.TheVariants.{S1, S4, S5}
@@ -62,9 +64,22 @@ long_context len = codes "the context has " ++ (decimal len ++ codes " bytes: at
 abbrev pub too_much : (context : List ℕ) (held : ℕ) → List ℕ
 too_much context held = if nat_lt 64 held then too_many_held held else long_context (length (unwrap_or (hex_or_dash context) []))
 
--- the input is no hex, or else the context is none
+-- the bytes begin as an object file does: with 0x7f and ELF
+abbrev pub is_object : List ℕ → Bool
+is_object bytes = starts_with nat_eq bytes (127 ∷ 69 ∷ 76 ∷ 70 ∷ [])
+
+abbrev pub object_words : List ℕ
+object_words = codes "the input is an object file: --elf takes a function of it"
+
+-- the input is an object file or no hex, or else the context is no hex
 abbrev pub unread_of : Form → (input context : List ℕ) → List ℕ
-unread_of form input context = if is_none (spelled form input) then unread Input input else unread Context context
+unread_of form input context =
+    if is_none (spelled form input) then if is_object input then object_words else unread Input input
+    else unread Context context
+
+-- why bytes are no program: they are an object file, or what is wrong with a slot
+abbrev pub undecoded_sentence : List ℕ → ℕ → DecodeCode → List ℕ
+undecoded_sentence bytes slot code = if is_object bytes then codes "  " ++ (object_words ++ codes "\n") else decode_sentence bytes slot code
 
 -- what a slot takes of the input
 abbrev pub slot_size : Form → List ℕ

@@ -11,7 +11,6 @@ use Rattle.ebpf_layout.specs.declared.fault.LayoutFault.{LayoutFault}
 use Rattle.ebpf_layout.specs.declared.fault.LayoutFault.TheVariants.{Flow, Loop, Slots, NoMemory}
 use Rattle.ebpf_layout.specs.Layout.{IsLaidOut}
 use Rattle.ebpf_layout.specs.Refusal.{IsLayoutFault}
-use Rattle.ebpf_explain.specs.DecodeSentences.{decode_sentence}
 use Rattle.ebpf_explain.specs.Reasons.{misled_at}
 use Rattle.ebpf_command.specs.declared.codes.RefusalCode.TheVariants.{Decode}
 use Rattle.ebpf_command.specs.declared.done.FaultCode.{FaultCode}
@@ -21,6 +20,7 @@ use Rattle.ebpf_command.specs.Response.{Response, refused_response, clean_respon
 use Rattle.ebpf_command.specs.Writing.{Responding}
 use Rattle.ebpf_one.specs.declared.form.Form.{Form}
 use Rattle.ebpf_one.specs.Asked.{bytes_in, input_fault}
+use Rattle.ebpf_one.specs.InputFaults.{undecoded_sentence}
 use Rattle.ebpf_one.specs.Lines.{refused_line}
 
 -- the bytes of a program as hex, on one line
@@ -56,7 +56,7 @@ LaysOutProgram p response = IsLaidWell p response ⊎ IsNotLaid p response
 -- bytes are refused as no program, or are the program that they encode
 abbrev pub LaysOutDecoded : Option (ℕ × DecodeCode) → List ℕ → Response → Type 0
 LaysOutDecoded (Some refusal) bytes response =
-    response ≡ refused_response (refused_line (refusal_name (Decode refusal.1)) refusal.0 ++ decode_sentence bytes refusal.0 refusal.1)
+    response ≡ refused_response (refused_line (refusal_name (Decode refusal.1)) refusal.0 ++ undecoded_sentence bytes refusal.0 refusal.1)
 LaysOutDecoded None bytes response = (p : List (Option Insn)) × IsProgram bytes p × LaysOutProgram p response
 
 -- the input can't be used, or gives bytes

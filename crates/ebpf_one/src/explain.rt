@@ -5,7 +5,6 @@ ghost use Rattle.ebpf_flow.specs.Flow.{flow_fault};
 ghost use Rattle.ebpf_insn.specs.declared.insn.Insn.{Insn};
 ghost use Rattle.ebpf_insn.specs.Decoding.{decode_fault};
 ghost use Rattle.ebpf_insn.specs.Encoding.{IsProgram};
-ghost use Rattle.ebpf_explain.specs.DecodeSentences.{decode_sentence};
 ghost use Rattle.ebpf_command.specs.declared.codes.RefusalCode.TheVariants.{Decode};
 ghost use Rattle.ebpf_state.specs.Kinds.{AreKinds};
 ghost use Rattle.ebpf_command.specs.declared.done.EngineFault.TheVariants.{Output};
@@ -13,19 +12,18 @@ ghost use Rattle.ebpf_command.specs.Codes.{refusal_name};
 ghost use Rattle.ebpf_command.specs.Lines.{fault_line};
 ghost use Rattle.ebpf_command.specs.Response.{refused_response};
 ghost use Rattle.ebpf_command.specs.Writing.{Writes, WritesBeginning, Reads};
-ghost use Rattle.ebpf_one.specs.InputFaults.{fault_sentence};
+ghost use Rattle.ebpf_one.specs.InputFaults.{undecoded_sentence, fault_sentence};
 ghost use Rattle.ebpf_one.specs.Lines.{refused_line};
 ghost use Rattle.ebpf_one.specs.ExplainText.{ExplainsTo, ExplainsBytes, ExplainsDecoded, ExplainsFlow, explained, misled_response};
 
 use crate::form::Form;
-use crate::input_faults::write_fault_sentence;
+use crate::input_faults::{write_fault_sentence, write_undecoded};
 use crate::request::{Request, requested};
 use crate::text::refused_line;
 use ebpf_command::answer::{Answer, respond};
 use ebpf_command::codes::RefusalCode;
 use ebpf_command::done::{Done, EngineFault, FaultCode, Stop};
 use ebpf_command::text::fault_line;
-use ebpf_explain::decode_sentence::write_decode_sentence;
 use ebpf_explain::reason::write_reason;
 use ebpf_explain::slots::write_slots;
 use ebpf_explain::why::write_misled_in;
@@ -67,7 +65,7 @@ pub fn explain<R: Read, W: Write>(
 }
 
 // The response to an input and the options.
-fn explain_input(
+pub(crate) fn explain_input(
     alloc: Global,
     form: Form,
     input: &[u8],
@@ -134,10 +132,10 @@ pub(crate) fn answer_undecoded(
     slot: u16,
     code: DecodeCode,
 ) -> Result<Answer, AllocError>
-    ensures { IfOk result (λ answer. answer ≡ refused_response (refused_line (refusal_name (Decode code)) slot ++ decode_sentence bytes.now slot code)) }
+    ensures { IfOk result (λ answer. answer ≡ refused_response (refused_line (refusal_name (Decode code)) slot ++ undecoded_sentence bytes.now slot code)) }
 {
     let mut text = refused_line(alloc, RefusalCode::Decode(code).name(), slot)?;
-    write_decode_sentence(&mut text, bytes, slot as usize, code)?;
+    write_undecoded(&mut text, bytes, slot as usize, code)?;
     Ok(Answer {
         text,
         done: Done::Refused,

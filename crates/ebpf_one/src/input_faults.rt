@@ -2,14 +2,19 @@
 
 ghost use Rattle.std.specs.Prelude.{◌≡◌, ◌++◌, length, filter, string_bytes, OnOk};
 ghost use Rattle.hex.specs.Hex.{is_hex_digit};
-ghost use Rattle.ebpf_one.specs.InputFaults.{part_name, may_stand, place_of_other, shown_byte, mending_of, other_byte, unread, unread_of, slot_size, too_much, fault_words, fault_sentence};
+ghost use Rattle.ebpf_one.specs.InputFaults.{part_name, may_stand, place_of_other, shown_byte, mending_of, other_byte, unread, is_object, unread_of, undecoded_sentence, slot_size, too_much, fault_words, fault_sentence};
 
 use crate::form::Form;
 use crate::program_text::{is_blank, spelled};
 use ebpf_command::done::FaultCode;
 use ebpf_command::hex_text::hex_or_dash;
+use ebpf_explain::decode_sentence::write_decode_sentence;
+use ebpf_insn::fault::DecodeCode;
 use ebpf_verify::decl::MAX_HELD;
 use std::alloc::{AllocError, Global};
+
+// What is told of an object file.
+const OBJECT_WORDS: &str = "the input is an object file: --elf takes a function of it";
 
 /// What is read as hex.
 #[derive(Clone, Copy)]
@@ -96,7 +101,7 @@ fn write_too_much(
     )
 }
 
-// Which of the two is no hex, and why.
+// Which of the two can't be read as hex, and why.
 fn write_unread_of(
     alloc: Global,
     text: &mut String,
@@ -108,8 +113,31 @@ fn write_unread_of(
 {
     match spelled(alloc, form, input)? {
         Some(_) => write_unread(text, Part::Context, context.as_bytes()),
+        None if is_object(input) => text.push_str(OBJECT_WORDS),
         None => write_unread(text, Part::Input, input),
     }
+}
+
+// Whether bytes begin as an object file does.
+fn is_object(bytes: &[u8]) -> bool
+    ensures { result ≡ is_object bytes.now }
+{
+    bytes.starts_with(b"\x7fELF")
+}
+
+/// Writes why bytes are no program, as a line. It fails only where an allocation fails.
+pub(crate) fn write_undecoded(
+    text: &mut String,
+    bytes: &[u8],
+    slot: usize,
+    code: DecodeCode,
+) -> Result<(), AllocError>
+    ensures { OnOk result (string_bytes text.new ≡ string_bytes text.old ++ undecoded_sentence bytes.now slot code) }
+{
+    if is_object(bytes) {
+        return write!(text, "  {OBJECT_WORDS}\n");
+    }
+    write_decode_sentence(text, bytes, slot, code)
 }
 
 // Why one of them is no hex.

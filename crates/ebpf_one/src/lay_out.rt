@@ -54,7 +54,7 @@ pub fn lay_out<R: Read, W: Write>(
 }
 
 // The response to an input.
-fn lay_out_input(alloc: Global, form: Form, input: &[u8]) -> Result<Answer, AllocError>
+pub(crate) fn lay_out_input(alloc: Global, form: Form, input: &[u8]) -> Result<Answer, AllocError>
     ensures { IfOk result (LaysOut form input.now) }
 {
     match given_bytes(alloc, form, input) {

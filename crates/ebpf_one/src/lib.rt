@@ -4,7 +4,8 @@
 //! is the contract of [`one::one`], of [`list::list`] and of [`explain::explain`], which stand on the contracts of the crates below. This crate adds
 //! what they ask for, the lines of their texts, and the store of objects of a single run.
 //!
-//! To be read in this order: `form`, `program_text`, `request`, `store`, `alone`, `text`, `answer`, `one`, `list`, `input_faults`, `explain`.
+//! To be read in this order: `form`, `program_text`, `request`, `store`, `alone`, `text`, `answer`, `one`, `list`, `input_faults`, `explain`, `lay_out`, `object`,
+//! `object_commands`.
 #![tactic(auto)]
 
 mod alone;
@@ -14,6 +15,8 @@ pub mod form;
 mod input_faults;
 pub mod lay_out;
 pub mod list;
+mod object;
+pub mod object_commands;
 pub mod one;
 mod program_text;
 mod request;

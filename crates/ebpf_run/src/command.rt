@@ -2,8 +2,8 @@
 
 ghost use Rattle.std.specs.Prelude.{◌≤◌};
 
+use crate::source::{Source, elf_option, function_option, raw_option, source_of};
 use clap::{Arg, ArgAction, ArgMatches, Command, value_parser};
-use ebpf_one::form::Form;
 use std::alloc::{AllocError, Global};
 
 // Behind the help of the program and of `one`.
@@ -53,9 +53,9 @@ pub struct Request<'a> {
 #[derive(Clone, Copy)]
 pub enum Task<'a> {
     One(OneOptions<'a>),
-    List(Form),
+    List(Source<'a>),
     Explain(OneOptions<'a>),
-    LayOut(Form),
+    LayOut(Source<'a>),
     Assemble,
     Check(CheckOptions),
     Replay,
@@ -65,8 +65,8 @@ pub enum Task<'a> {
 /// The options of `one` and of `explain`, which runs nothing.
 #[derive(Clone, Copy)]
 pub struct OneOptions<'a> {
-    /// How the input spells the program.
-    pub form: Form,
+    /// What the input is.
+    pub source: Source<'a>,
     /// The context as hex, or `-` for the empty one.
     pub context: &'a str,
     /// The most objects that the program may hold at one time, 0 to 64.
@@ -143,16 +143,13 @@ fn with_options_of_one<'a>(alloc: Global, command: Command<'a>) -> Result<Comman
     with_program(alloc, command)
 }
 
-// With the file of a program, and the option of its form.
+// With the file of a program, and the options that say what it is.
 fn with_program<'a>(alloc: Global, command: Command<'a>) -> Result<Command<'a>, AllocError> {
-    command.arg(raw_option(alloc))?.arg(file_argument(alloc))
-}
-
-fn raw_option<'a>(alloc: Global) -> Arg<'a> {
-    Arg::new(alloc, "raw")
-        .long("raw")
-        .action(ArgAction::SetTrue)
-        .help("Reads the program's bytes as they are, and not as hex")
+    command
+        .arg(raw_option(alloc))?
+        .arg(elf_option(alloc)?)?
+        .arg(function_option(alloc)?)?
+        .arg(file_argument(alloc))
 }
 
 fn file_argument<'a>(alloc: Global) -> Arg<'a> {
@@ -284,9 +281,9 @@ pub fn request_of<'a>(matches: &ArgMatches<'a>) -> Option<Request<'a>> {
 fn task_of<'a>(name: &str, given: &ArgMatches<'a>) -> Option<Task<'a>> {
     match name {
         "one" => Some(Task::One(one_options(given))),
-        "list" => Some(Task::List(form_of(given))),
+        "list" => Some(Task::List(source_of(given))),
         "explain" => Some(Task::Explain(one_options(given))),
-        "lay-out" => Some(Task::LayOut(form_of(given))),
+        "lay-out" => Some(Task::LayOut(source_of(given))),
         "assemble" => Some(Task::Assemble),
         "check" => Some(Task::Check(check_options(given))),
         "replay" => Some(Task::Replay),
@@ -303,19 +300,10 @@ fn file_of<'a>(given: &ArgMatches<'a>) -> Option<&'a str> {
     }
 }
 
-// How the input spells the program.
-fn form_of(given: &ArgMatches<'_>) -> Form {
-    if given.get_flag("raw") {
-        Form::Raw
-    } else {
-        Form::Hex
-    }
-}
-
 // The options of `one`.
 fn one_options<'a>(given: &ArgMatches<'a>) -> OneOptions<'a> {
     OneOptions {
-        form: form_of(given),
+        source: source_of(given),
         context: given.get_str("context").unwrap_or("-"),
         held: given.get_one::<u8>("held").unwrap_or(0),
         nulls: given.get_flag("nulls"),

@@ -2,24 +2,23 @@
 //!
 //! This crate reads the command line, opens the file that is named and has the standard streams. What a command writes is a function of what it reads and
 //! of its options, errors included, and it writes nothing else: that is the contract of [`ebpf_one::one::one`],
-//! [`ebpf_one::list::list`], [`ebpf_one::explain::explain`] and [`ebpf_one::lay_out::lay_out`], of
-//! [`ebpf_assemble::assemble::assemble`], of [`ebpf_script::check::check`],
+//! [`ebpf_one::list::list`], [`ebpf_one::explain::explain`] and [`ebpf_one::lay_out::lay_out`], of the same over an object file
+//! ([`ebpf_one::object_commands`]), of [`ebpf_assemble::assemble::assemble`], of [`ebpf_script::check::check`],
 //! [`ebpf_script::explained_check::explained_check`] and [`ebpf_script::replay::replay`]. What `run` writes is such a
 //! text for some outcome of the jobs, since threads decide which requests for objects are granted and what is found on a shelf: that
 //! is the contract of [`ebpf_script::run::run`]. These are all that it calls.
 #![tactic(auto)]
 
 mod command;
+mod programs;
+mod source;
 
 use crate::command::{Request, RunOptions, Task, command, request_of};
+use crate::programs::{perform_explain, perform_lay_out, perform_list, perform_one};
 use clap::Error;
 use clap::error::ErrorKind;
 use ebpf_assemble::assemble::assemble;
 use ebpf_command::done::{Done, EngineFault};
-use ebpf_one::explain::explain;
-use ebpf_one::lay_out::lay_out;
-use ebpf_one::list::list;
-use ebpf_one::one::one;
 use ebpf_script::check::check;
 use ebpf_script::explained_check::explained_check;
 use ebpf_script::replay::replay;
@@ -98,25 +97,10 @@ fn perform<R: AllocGlobal + Clock + Eprint + Print + Threads + Wait + Sync, I: R
     let alloc = rt.alloc();
     let mut writer = io::writer(rt);
     let done = match task {
-        Task::One(options) => one(
-            alloc,
-            reader,
-            &mut writer,
-            options.form,
-            options.context,
-            options.held,
-            options.nulls,
-        ),
-        Task::List(form) => list(alloc, reader, &mut writer, form),
-        Task::Explain(options) => explain(
-            alloc,
-            reader,
-            &mut writer,
-            options.form,
-            options.context,
-            options.held,
-        ),
-        Task::LayOut(form) => lay_out(alloc, reader, &mut writer, form),
+        Task::One(options) => perform_one(alloc, reader, &mut writer, options),
+        Task::List(source) => perform_list(alloc, reader, &mut writer, source),
+        Task::Explain(options) => perform_explain(alloc, reader, &mut writer, options),
+        Task::LayOut(source) => perform_lay_out(alloc, reader, &mut writer, source),
         Task::Assemble => assemble(alloc, reader, &mut writer),
         Task::Check(options) if options.explain => { explained_check(alloc, reader, &mut writer) }
         Task::Check(_) => check(alloc, reader, &mut writer),

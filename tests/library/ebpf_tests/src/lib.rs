@@ -32,6 +32,7 @@ mod machine;
 #[cfg(test)]
 mod memory;
 #[cfg(test)]
+mod object_commands;
 mod object_file;
 #[cfg(test)]
 mod objects;

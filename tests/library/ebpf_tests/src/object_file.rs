@@ -22,8 +22,8 @@ call | twice | 2 80 40 | bf200000000000002f1000000000000077010000030000000f10000
 
 // The object, the function, `-` for the only one, and why it is no program by itself.
 const REFUSED: &str = "\
-table | weigh | slot 3 uses weights, a table outside of the function: keep it on the stack
-table | - | slot 3 uses weights, a table outside of the function: keep it on the stack
+table | weigh | slot 3 uses weights, a table outside of the function: pass it in the context, or pack it into a number
+table | - | slot 3 uses weights, a table outside of the function: pass it in the context, or pack it into a number
 section | first | slot 0 uses counter, a variable outside of the function: pass it in the context
 call | entry | slot 3 calls twice, a function of the file: make it static inline, and compile with -O2
 call | far | slot 1 uses outside, which is not in the file: define it as static inline, and compile with -O2
@@ -90,7 +90,7 @@ const NO_LINES: &str = "\
 1520 ffffffff | 2 | the name of the function's section has no end, or more than 255 bytes";
 
 // The bytes of an object.
-fn object(rt: &impl Abort, alloc: Global, name: &str) -> Vec<u8> {
+pub(crate) fn object(rt: &impl Abort, alloc: Global, name: &str) -> Vec<u8> {
     let digits = match name {
         "two" => TWO,
         "table" => TABLE,

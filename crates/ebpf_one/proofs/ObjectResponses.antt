@@ -1,0 +1,42 @@
+-- A command responds to an object file that is too long as to its beginning.
+use Rattle.std.proofs.Common.{◌≡◌, ◌==◌, false, inl, inr, ℕ, ◌<◌, List, [], ◌∷◌, Result, length, refl, subst, arith}
+use Rattle.std.proofs.lemmas.List.{length-take-le}
+use Rattle.ebpf_object_file.specs.declared.object_fault.ObjectFault.{ObjectFault}
+use Rattle.std.specs.Prelude.{IfErr}
+use Rattle.ebpf_object_file.specs.Function.{IsNamedFault}
+use Rattle.ebpf_command.specs.Input.{read_of}
+use Rattle.ebpf_command.specs.Response.{Response, refused_response}
+use Rattle.ebpf_command.specs.Writing.{Responding}
+use Rattle.ebpf_command.proofs.Written.{CutsLong}
+use Rattle.ebpf_one.specs.ObjectText.{IsWantedFault, IsTaken, IsTakenFault, RespondsObject, object_fault_lines}
+
+read_long : (file : List ℕ) → 1048577 < length file → length (read_of file) ≡ 1048577
+read_long file long = length-take-le 1048577 file (omega (arith, long))
+
+-- so its beginning is taken as it is
+taken_long : (P : Responding) → CutsLong P → (name : List ℕ) (file bytes : List ℕ) (response : Response) → 1048577 < length file
+    → IsTaken name (read_of file) bytes → P bytes response → RespondsObject P name file response
+taken_long P cuts name file bytes response long (inl k) h =
+    inl (file, inl (omega (arith, long), refl), cuts file response long (subst (λ (xs : List ℕ). P xs response) k.1 h))
+taken_long P cuts name file bytes response long (inr k) h =
+    let short = k.0 in let read = read_long file long in absurd (omega (arith, short, read))
+
+pub object_cuts : (P : Responding) → CutsLong P → (name : List ℕ) → CutsLong (RespondsObject P name)
+object_cuts P cuts name file response long (inl k) = taken_long P cuts name file k.0 response long k.1 k.2
+object_cuts P cuts name file response long (inr k) =
+    let short = k.1.0 in let read = read_long file long in absurd (omega (arith, short, read))
+
+-- the response to the slots that are taken
+pub of_taken : (P : Responding) (name : List ℕ) (file bytes : List ℕ) (response : Response) → IsTaken name file bytes → P bytes response → RespondsObject P name file response
+of_taken P name file bytes response is h = inl (bytes, is, h)
+
+-- or why none are
+pub of_fault : (P : Responding) (name : List ℕ) (file : List ℕ) (e : ObjectFault) (response : Response) → IsTakenFault name file e
+    → response ≡ refused_response (object_fault_lines e) → RespondsObject P name file response
+of_fault P name file e response is h = inr (e, is, h)
+
+-- why a name that is not empty has no function
+pub named_refused : {A : Type 0} (r : Result A ObjectFault) (name given file : List ℕ) → given ≡ name → false ≡ (length name == 0)
+    → IfErr r (λ e. IsNamedFault file given e) → IfErr r (λ e. IsWantedFault name file e)
+named_refused r [] given file same some h = absurd cc
+named_refused r (c ∷ cs) given file same some h = subst (λ (n : List ℕ). IfErr r (λ e. IsNamedFault file n e)) same h

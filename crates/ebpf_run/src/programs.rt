@@ -1,0 +1,76 @@
+//! The commands over one program, by what their input is.
+
+use crate::command::OneOptions;
+use crate::source::Source;
+use ebpf_command::done::{Done, EngineFault};
+use ebpf_one::explain::explain;
+use ebpf_one::lay_out::lay_out;
+use ebpf_one::list::list;
+use ebpf_one::object_commands::{explain_object, lay_out_object, list_object, one_object};
+use ebpf_one::one::one;
+use std::alloc::Global;
+use std::io::{Read, Write};
+
+/// Does `one`.
+pub fn perform_one<R: Read, W: Write>(
+    alloc: Global,
+    reader: &mut R,
+    writer: &mut W,
+    options: OneOptions<'_>,
+) -> Result<Done, EngineFault> {
+    let OneOptions {
+        source,
+        context,
+        held,
+        nulls,
+    } = options;
+    match source {
+        Source::Program(form) => one(alloc, reader, writer, form, context, held, nulls),
+        Source::Object(name) => one_object(alloc, reader, writer, name, context, held, nulls),
+    }
+}
+
+/// Does `list`.
+pub fn perform_list<R: Read, W: Write>(
+    alloc: Global,
+    reader: &mut R,
+    writer: &mut W,
+    source: Source<'_>,
+) -> Result<Done, EngineFault> {
+    match source {
+        Source::Program(form) => list(alloc, reader, writer, form),
+        Source::Object(name) => list_object(alloc, reader, writer, name),
+    }
+}
+
+/// Does `explain`.
+pub fn perform_explain<R: Read, W: Write>(
+    alloc: Global,
+    reader: &mut R,
+    writer: &mut W,
+    options: OneOptions<'_>,
+) -> Result<Done, EngineFault> {
+    let OneOptions {
+        source,
+        context,
+        held,
+        ..
+    } = options;
+    match source {
+        Source::Program(form) => explain(alloc, reader, writer, form, context, held),
+        Source::Object(name) => explain_object(alloc, reader, writer, name, context, held),
+    }
+}
+
+/// Does `lay-out`.
+pub fn perform_lay_out<R: Read, W: Write>(
+    alloc: Global,
+    reader: &mut R,
+    writer: &mut W,
+    source: Source<'_>,
+) -> Result<Done, EngineFault> {
+    match source {
+        Source::Program(form) => lay_out(alloc, reader, writer, form),
+        Source::Object(name) => lay_out_object(alloc, reader, writer, name),
+    }
+}

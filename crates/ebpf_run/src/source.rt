@@ -1,0 +1,51 @@
+//! What the input of a command over one program is: the program's bytes, or an object file.
+
+use clap::{Arg, ArgAction, ArgMatches};
+use ebpf_one::form::Form;
+use std::alloc::{AllocError, Global};
+
+/// What the input is.
+#[derive(Clone, Copy)]
+pub enum Source<'a> {
+    /// The bytes of a program, in this form.
+    Program(Form),
+    /// An object file, of which the function of this name is taken, or its only one where the name is empty.
+    Object(&'a str),
+}
+
+/// The option of raw bytes.
+pub fn raw_option<'a>(alloc: Global) -> Arg<'a> {
+    Arg::new(alloc, "raw")
+        .long("raw")
+        .action(ArgAction::SetTrue)
+        .help("Reads the program's bytes as they are, and not as hex")
+}
+
+/// The option of object files.
+pub fn elf_option<'a>(alloc: Global) -> Result<Arg<'a>, AllocError> {
+    Arg::new(alloc, "elf")
+        .long("elf")
+        .action(ArgAction::SetTrue)
+        .help("Reads an object file that a compiler made, and takes a function of it")
+        .conflicts_with("raw")
+}
+
+/// The option of a function's name.
+pub fn function_option<'a>(alloc: Global) -> Result<Arg<'a>, AllocError> {
+    Arg::new(alloc, "function")
+        .long("function")
+        .value_name("NAME")
+        .help("The function of the object file, where it has more than one")
+        .requires_arg("elf")
+}
+
+/// What the options say that the input is.
+pub fn source_of<'a>(given: &ArgMatches<'a>) -> Source<'a> {
+    if given.get_flag("elf") {
+        Source::Object(given.get_str("function").unwrap_or(""))
+    } else if given.get_flag("raw") {
+        Source::Program(Form::Raw)
+    } else {
+        Source::Program(Form::Hex)
+    }
+}

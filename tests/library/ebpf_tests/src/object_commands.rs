@@ -1,0 +1,56 @@
+//! What the commands write of an object file, of a function of it, and of a file that has none.
+
+use crate::object_file::object;
+use crate::programs::{column, holds, is_told};
+use ebpf_command::done::Done;
+use ebpf_one::object_commands::{explain_object, lay_out_object, list_object, one_object};
+use std::alloc::Global;
+use std::process::Abort;
+use std::test::*;
+
+// The command, the object, the function, `-` for the only one, and the first line that is written.
+const WRITTEN: &str = "\
+one | two | checksum | accepted 8
+list | two | checksum | 0: ldxw r2, [r1+4]
+explain | two | checksum |   r1 context+0  r10 stack+0
+lay-out | two | checksum | 611204000000000061100000000000000f2000000000000061120800000000000f2000000000000061110c00000000000f100000000000009500000000000000
+one | two | nobody | fault O2 line 0
+list | two | - | fault O3 line 0
+explain | table | - | fault O4 line 0
+lay-out | none | - | fault O1 line 0";
+
+// The context of each.
+const ZEROS: &str = "00000000000000000000000000000000";
+
+// What a command writes of a function of an object, and how it ends.
+fn written(rt: &impl Abort, alloc: Global, command: &str, name: &str, function: &str) -> (Vec<u8>, Done) {
+    let file = object(rt, alloc, name);
+    let function = if function == "-" { "" } else { function };
+    let mut reader = file.as_slice();
+    let mut writer = Vec::new(alloc);
+    let done = match command {
+        "one" => one_object(alloc, &mut reader, &mut writer, function, ZEROS, 0, false),
+        "list" => list_object(alloc, &mut reader, &mut writer, function),
+        "explain" => explain_object(alloc, &mut reader, &mut writer, function, ZEROS, 0),
+        _ => lay_out_object(alloc, &mut reader, &mut writer, function),
+    };
+    (writer, done.expect(rt, "it is told"))
+}
+
+fn is_written(rt: &impl Abort, alloc: Global, row: &str) {
+    let (command, columns) = column(rt, row);
+    let (name, columns) = column(rt, columns);
+    let (function, expected) = column(rt, columns);
+    let (bytes, done) = written(rt, alloc, command, name, function);
+    let text = String::from_utf8_lossy(alloc, &bytes).expect(rt, "out of memory");
+    let first = text.lines().next().expect(rt, "nothing is written");
+    is_told(rt, row, first, expected);
+    holds(rt, row, matches!(done, Done::Refused) == expected.starts_with("fault"));
+}
+
+#[test]
+fn a_function_of_an_object_file_is_a_program(rt: HostRuntime) {
+    for row in WRITTEN.lines() {
+        is_written(&rt, rt.alloc(), row);
+    }
+}
