@@ -84,7 +84,8 @@ impl Stack {
     }
 
     /// Stores the low bytes of a number, or a pointer as an aligned word.
-    #[inline(always)]
+    // No more than a hint: with this in each of its stores the match of all operations would grow too large to be inlined itself.
+    #[inline]
     pub(crate) fn store(&mut self, place: usize, size: Size, value: Value<u16>)
         requires inside { place + bytes_in size ≤ 512 }
         requires whole { is_pointer value ≡ true → is_whole_word place (bytes_in size) ≡ true }
