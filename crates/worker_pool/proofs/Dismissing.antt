@@ -12,7 +12,7 @@ use Rattle.worker_pool.specs.declared.worker.Worker.{Worker}
 use Rattle.worker_pool.specs.declared.hands.Tools.{Tools}
 use Rattle.worker_pool.specs.declared.crew.Parts.{Parts}
 use Rattle.worker_pool.specs.declared.crew.Done.{Done}
-use Rattle.worker_pool.specs.Crews.{ArePartsOf, HaveNone, IsBack, tools_or, tools_in, hands_in, seat_in, clashes_in, strays_in}
+use Rattle.worker_pool.specs.Crews.{AreDismissed, ArePartsOf, HaveNone, IsBack, tools_or, tools_in, hands_in, seat_in, clashes_in, strays_in}
 use Rattle.worker_pool.specs.Hands.{AreOneMore}
 use Rattle.worker_pool.proofs.Pairs.{pushed, all_made_more}
 use Rattle.worker_pool.proofs.Turned.{sum_turned, length_turned, all_turned, any_before, any_turned}
@@ -128,17 +128,11 @@ module _ {L : Type 0} where
     turned : reverse all ≡ h.done
     turned = ap reverse all_done ∙ reverse-reverse h.done
 
-    pub parts_of_all : ArePartsOf (reverse all) p
-    parts_of_all = subst (λ l. ArePartsOf l p) (sym turned) h.parts
-
-    pub clashes_of_all : told.clashes ≡ sum_by clashes_in all
-    clashes_of_all = h.clashes ∙ sym (ap (sum_by clashes_in) all_done ∙ sum_turned clashes_in h.done)
-
-    pub strays_of_all : told.strays ≡ sum_by strays_in all
-    strays_of_all = h.strays ∙ sym (ap (sum_by strays_in) all_done ∙ sum_turned strays_in h.done)
-
-    pub kept_of_all : told.ending ≢ OutOfMemory → All (λ w. w.ending ≢ OutOfMemory) all
-    kept_of_all well = subst (All (λ w. w.ending ≢ OutOfMemory)) (sym all_done) (all_turned (λ w. w.ending ≢ OutOfMemory) h.done (h.kept well))
-
-    pub through_of_all : told.ending ≡ Through → Any (λ w. w.ending ≡ Through) all
-    through_of_all is = subst (Any (λ w. w.ending ≡ Through)) (sym all_done) (any_turned (λ w. w.ending ≡ Through) h.done (h.through is))
+    pub all_dismissed : AreDismissed all p told
+    all_dismissed = record {
+      parts = subst (λ l. ArePartsOf l p) (sym turned) h.parts;
+      clashes = h.clashes ∙ sym (ap (sum_by clashes_in) all_done ∙ sum_turned clashes_in h.done);
+      strays = h.strays ∙ sym (ap (sum_by strays_in) all_done ∙ sum_turned strays_in h.done);
+      kept = λ well. subst (All (λ w. w.ending ≢ OutOfMemory)) (sym all_done) (all_turned (λ w. w.ending ≢ OutOfMemory) h.done (h.kept well));
+      through = λ is. subst (Any (λ w. w.ending ≡ Through)) (sym all_done) (any_turned (λ w. w.ending ≡ Through) h.done (h.through is));
+    }

@@ -1,5 +1,5 @@
 -- What is left of the workers together, from what each did.
-use Rattle.std.proofs.Common.{◌≡◌, ◌≢◌, ◌<◌, ◌+◌, ℕ, true, All, Any, List, length, map, reverse, slice_index_or, sym, ap, subst, ◌∙◌, arith}
+use Rattle.std.proofs.Common.{◌≡◌, ◌≢◌, ◌<◌, ◌+◌, ℕ, true, All, List, length, map, reverse, slice_index_or, sym, ap, subst, ◌∙◌, arith}
 use Rattle.std.specs.Prelude.{sum_by}
 use Rattle.ebpf_verify.specs.Subject.{Subject}
 use Rattle.object_cache.specs.HandView.{HandView}
@@ -19,7 +19,7 @@ use Rattle.worker_pool.specs.declared.hands.Tools.{Tools}
 use Rattle.worker_pool.specs.declared.crew.Parts.{Parts}
 use Rattle.worker_pool.specs.declared.crew.Done.{Done}
 use Rattle.worker_pool.specs.Claims.{lost}
-use Rattle.worker_pool.specs.Crews.{ArePartsOf, IsBack, tools_or, tools_in, hands_in, seat_in, clashes_in, strays_in}
+use Rattle.worker_pool.specs.Crews.{AreDismissed, IsBack, tools_or, tools_in, hands_in, seat_in, clashes_in, strays_in}
 use Rattle.worker_pool.specs.Counts.{all_allocs, all_nulls, all_gets}
 use Rattle.worker_pool.specs.Hands.{AreMadeOf}
 use Rattle.worker_pool.specs.Outcomes.{IsIdle}
@@ -150,8 +150,7 @@ module _ {L : Type 0} (programs : List Subject) (jobs : List Job) (o : OwnersVie
     all_lost = sum_grown lost_in clashes_in olds news len (λ i d l. lost_grew (slice_index_or olds i d) (slice_index_or news i d) (fresh i d l) (done_each i d l))
 
     module _ (seats : List SeatView) (p : Parts L) (done : Done) (seats_are : map seat_in olds ≡ reverse seats)
-        (parts : ArePartsOf (reverse news) p) (clashes : done.clashes ≡ sum_by clashes_in news) (strays : done.strays ≡ sum_by strays_in news) (kept : done.ending ≢ OutOfMemory → All (λ w. w.ending ≢ OutOfMemory) news)
-        (through : done.ending ≡ Through → Any (λ w. w.ending ≡ Through) news) where
+        (dismissed : AreDismissed news p done) where
       count : length news ≡ length seats
       count = len ∙ as_many seat_in olds seats seats_are
 
@@ -186,9 +185,9 @@ module _ {L : Type 0} (programs : List Subject) (jobs : List Job) (o : OwnersVie
       hands_three h = omega (
         arith,
         three_sums (λ w. h (cells_in w).hand) (λ w. h (records_in w).hand) (λ w. h (blocks_in w).hand) news,
-        sum_hands cells_in p.hands.cells parts.hands.cells h,
-        sum_hands records_in p.hands.records parts.hands.records h,
-        sum_hands blocks_in p.hands.blocks parts.hands.blocks h,
+        sum_hands cells_in p.hands.cells dismissed.parts.hands.cells h,
+        sum_hands records_in p.hands.records dismissed.parts.hands.records h,
+        sum_hands blocks_in p.hands.blocks dismissed.parts.hands.blocks h,
       )
 
       allocs_three : sum_by allocs_in news ≡ all_free_allocs p
@@ -201,49 +200,49 @@ module _ {L : Type 0} (programs : List Subject) (jobs : List Job) (o : OwnersVie
       gets_three = omega (
         arith,
         three_sums (λ w. (cells_in w).shelf_hand.gets) (λ w. (records_in w).shelf_hand.gets) (λ w. (blocks_in w).shelf_hand.gets) news,
-        sum_shelf_hands cells_in p.hands.cells parts.hands.cells (λ h. h.gets),
-        sum_shelf_hands records_in p.hands.records parts.hands.records (λ h. h.gets),
-        sum_shelf_hands blocks_in p.hands.blocks parts.hands.blocks (λ h. h.gets),
+        sum_shelf_hands cells_in p.hands.cells dismissed.parts.hands.cells (λ h. h.gets),
+        sum_shelf_hands records_in p.hands.records dismissed.parts.hands.records (λ h. h.gets),
+        sum_shelf_hands blocks_in p.hands.blocks dismissed.parts.hands.blocks (λ h. h.gets),
       )
 
       reported : (h : List Numbered → ℕ) → sum_by h (reports_of p) ≡ sum_by (λ w. h w.answered.items) news
-      reported h = sum_mapped h (λ l. l.items) p.answered.items ∙ part_sum (λ w. w.answered) news p.answered.items parts.answered (λ l. h l.items)
+      reported h = sum_mapped h (λ l. l.items) p.answered.items ∙ part_sum (λ w. w.answered) news p.answered.items dismissed.parts.answered (λ l. h l.items)
 
       before_noted : (h : SeatView → ℕ) → sum_by (λ w. h (seat_in w)) olds ≡ sum_by h seats
       before_noted h = sym (sum_mapped h seat_in olds) ∙ ap (sum_by h) seats_are ∙ sum_turned h seats
 
       after_noted : (h : SeatView → ℕ) → sum_by h p.seats.items ≡ sum_by (λ w. h (seat_in w)) news
-      after_noted h = part_sum seat_in news p.seats.items parts.seats h
+      after_noted h = part_sum seat_in news p.seats.items dismissed.parts.seats h
 
       pub all_served : AreServed programs jobs o t seats p done
       all_served = record {
-        cells = even_pairs cells_in p.hands.cells parts.hands.cells (λ i d l. (shares i d l).even.cells);
-        records = even_pairs records_in p.hands.records parts.hands.records (λ i d l. (shares i d l).even.records);
-        blocks = even_pairs blocks_in p.hands.blocks parts.hands.blocks (λ i d l. (shares i d l).even.blocks);
-        seats_all = part_len seat_in news p.seats.items parts.seats ∙ count;
-        idle = part_all seat_in news p.seats.items parts.seats (IsIdle o) (λ i d l. (shares i d l).idle);
+        cells = even_pairs cells_in p.hands.cells dismissed.parts.hands.cells (λ i d l. (shares i d l).even.cells);
+        records = even_pairs records_in p.hands.records dismissed.parts.hands.records (λ i d l. (shares i d l).even.records);
+        blocks = even_pairs blocks_in p.hands.blocks dismissed.parts.hands.blocks (λ i d l. (shares i d l).even.blocks);
+        seats_all = part_len seat_in news p.seats.items dismissed.parts.seats ∙ count;
+        idle = part_all seat_in news p.seats.items dismissed.parts.seats (IsIdle o) (λ i d l. (shares i d l).idle);
         noted = omega (arith, after_noted (λ s. length s.notes), all_noted, before_noted (λ s. length s.notes), allocs_three);
-        lost = omega (arith, after_noted (λ s. lost s.notes), all_lost, before_noted (λ s. lost s.notes), clashes);
+        lost = omega (arith, after_noted (λ s. lost s.notes), all_lost, before_noted (λ s. lost s.notes), dismissed.clashes);
         fetches = omega (arith, after_noted (λ s. length s.fetches), all_fetches, before_noted (λ s. length s.fetches), gets_three);
         granted =
             let each = sum_two allocs_in granted_in clashes_in news (λ i d l. (shares i d l).granted) in
-            omega (arith, each, allocs_three, reported granted_by, clashes);
+            omega (arith, each, allocs_three, reported granted_by, dismissed.clashes);
         refused =
             let each = sum_two_less nulls_in clashes_in refused_in news (λ i d l. (shares i d l).refused) in
-            omega (arith, each, nulls_three, reported refused_by, clashes);
+            omega (arith, each, nulls_three, reported refused_by, dismissed.clashes);
         fetched =
             let each = sum_two gets_in fetched_in strays_in news (λ i d l. (shares i d l).fetched) in
-            omega (arith, each, gets_three, reported fetched_by, strays);
-        answered_all = part_len (λ w. w.answered) news p.answered.items parts.answered ∙ count;
+            omega (arith, each, gets_three, reported fetched_by, dismissed.strays);
+        answered_all = part_len (λ w. w.answered) news p.answered.items dismissed.parts.answered ∙ count;
         good = all_mapped (All (Answers programs jobs)) (λ l. l.items) p.answered.items
-            (part_all (λ w. w.answered) news p.answered.items parts.answered (λ l. All (Answers programs jobs) l.items) (λ i d l. (shares i d l).good));
-        drawers_all = part_len (λ w. w.ticket) news p.drawers.items parts.drawers ∙ count;
-        drawers = part_all (λ w. w.ticket) news p.drawers.items parts.drawers (IsOf t) (λ i d l. (shares i d l).ticket);
-        through = λ is. part_any (λ w. w.ticket) news p.drawers.items parts.drawers (λ s. s.passed ≡ true)
-            (any_also (λ w. w.ending ≡ Through) (λ w. w.ticket.passed ≡ true) news (λ i d l. share_passed (slice_index_or news i d) (shares i d l)) (through is));
+            (part_all (λ w. w.answered) news p.answered.items dismissed.parts.answered (λ l. All (Answers programs jobs) l.items) (λ i d l. (shares i d l).good));
+        drawers_all = part_len (λ w. w.ticket) news p.drawers.items dismissed.parts.drawers ∙ count;
+        drawers = part_all (λ w. w.ticket) news p.drawers.items dismissed.parts.drawers (IsOf t) (λ i d l. (shares i d l).ticket);
+        through = λ is. part_any (λ w. w.ticket) news p.drawers.items dismissed.parts.drawers (λ s. s.passed ≡ true)
+            (any_also (λ w. w.ending ≡ Through) (λ w. w.ticket.passed ≡ true) news (λ i d l. share_passed (slice_index_or news i d) (shares i d l)) (dismissed.through is));
         drawn = λ is x below.
             let well : done.ending ≢ OutOfMemory = λ out. through_not_out (sym is ∙ out) in
-            part_sum (λ w. w.ticket) news p.drawers.items parts.drawers (λ s. times x s.drawn)
-            ∙ sum_same (λ w. times x w.ticket.drawn) (λ w. times_in x w.answered.items) news (λ i d l. share_drawn (slice_index_or news i d) (shares i d l) (kept well i d l) x below)
+            part_sum (λ w. w.ticket) news p.drawers.items dismissed.parts.drawers (λ s. times x s.drawn)
+            ∙ sum_same (λ w. times x w.ticket.drawn) (λ w. times_in x w.answered.items) news (λ i d l. share_drawn (slice_index_or news i d) (shares i d l) (dismissed.kept well i d l) x below)
             ∙ sym (reported (times_in x));
       }

@@ -1,5 +1,5 @@
 -- Workers in the making, and what is left of them.
-use Rattle.std.specs.Prelude.{◌≡◌, ◌≤◌, ◌^◌, ℕ, List, [], All, length, map, Option, Some, None, vec_capacity}
+use Rattle.std.specs.Prelude.{◌≡◌, ◌≢◌, ◌≤◌, ◌^◌, ℕ, List, [], All, Any, length, map, reverse, sum_by, Option, Some, None, vec_capacity}
 use Rattle.owners_table.specs.Owning.{OwnersView, SeatView}
 use Rattle.owners_table.specs.Owning as owning
 use Rattle.owners_table.specs.Drawing.{TicketsView, TicketView}
@@ -7,10 +7,12 @@ use Rattle.owners_table.specs.Drawing as drawing
 use Rattle.worker_pool.specs.Hands.{AllAreUnused, AllAreMadeOf, AreNone, unused_hands}
 use Rattle.worker_pool.specs.Outcomes.{IsIdle}
 use Rattle.worker_pool.specs.Supplies.{AreOpened}
+use Rattle.worker_pool.specs.declared.crew.Done.{Done}
 use Rattle.worker_pool.specs.declared.crew.Parts.{Parts}
 use Rattle.worker_pool.specs.declared.hands.Hands.{Hands}
 use Rattle.worker_pool.specs.declared.hands.Tools.{Tools}
 use Rattle.worker_pool.specs.declared.setup.Setup.{Setup}
+use Rattle.worker_pool.specs.declared.worker.Ending.TheVariants.{Through, OutOfMemory}
 use Rattle.worker_pool.specs.declared.worker.Worker.{Worker}
 
 module _ {L : Type 0} where
@@ -68,6 +70,14 @@ module _ {L : Type 0} where
     pub seats : p.seats.items ≡ map seat_in ws
     pub drawers : p.drawers.items ≡ map (λ w. w.ticket) ws
     pub answered : p.answered.items ≡ map (λ w. w.answered) ws
+
+  -- the workers were taken apart, the last one first: their parts, and what they came to together
+  pub record AreDismissed (ws : List (Worker L)) (p : Parts L) (done : Done) : Type 0 where
+    pub parts : ArePartsOf (reverse ws) p
+    pub clashes : done.clashes ≡ sum_by clashes_in ws
+    pub strays : done.strays ≡ sum_by strays_in ws
+    pub kept : done.ending ≢ OutOfMemory → All (λ w. w.ending ≢ OutOfMemory) ws
+    pub through : done.ending ≡ Through → Any (λ w. w.ending ≡ Through) ws
 
   -- all that this many workers and jobs need, with which nothing was done
   pub record IsPrepared (count jobs : ℕ) (s : Setup L) : Type 0 where

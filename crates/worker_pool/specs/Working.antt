@@ -115,7 +115,8 @@ module _ {L : Type 0} where
 
   -- so is each of them
   abbrev pub AreDone : List Subject → List Job → TicketsView → (before after : List (Worker L)) → Type 0
-  AreDone programs jobs t before after = (i : ℕ) (d : Worker L) → i < length before → IsDone programs jobs t (slice_index_or before i d) (slice_index_or after i d)
+  AreDone programs jobs t before after =
+      (i : ℕ) (d : Worker L) → i < length before → IsDone programs jobs t (slice_index_or before i d) (slice_index_or after i d)
 
   -- there are workers, none of which has done anything, and what they need is there
   pub record CanBegin (programs : List Subject) (jobs : List Job) (o : OwnersView) (t : TicketsView) (ws : List (Worker L)) : Type 0 where

@@ -1,9 +1,8 @@
 //! The workers together: what they are made of, their work with the reaper beside them, and what is left of them.
 
-ghost use Rattle.std.specs.Prelude.{◌≡◌, ◌≢◌, ◌≤◌, ◌<◌, [], ◌∷◌, ◌++◌, All, Any, reverse, map, sum_by, length, vec_capacity};
-ghost use Rattle.worker_pool.specs.Crews.{AreFresh, HaveNone, IsBack, ArePartsOf, seat_in, clashes_in, strays_in};
+ghost use Rattle.std.specs.Prelude.{◌≡◌, ◌≤◌, [], All, reverse, map, length, vec_capacity};
+ghost use Rattle.worker_pool.specs.Crews.{AreFresh, HaveNone, IsBack, AreDismissed, seat_in};
 ghost use Rattle.worker_pool.specs.Working.{CanBegin, IsFresh, AreDone};
-ghost use Rattle.worker_pool.specs.declared.worker.Ending.TheVariants.{Through, OutOfMemory};
 ghost use denote.Param.Send.{IsSync};
 
 use crate::gate::{Gate, Point};
@@ -110,11 +109,7 @@ pub(crate) fn dismiss<L: Names>(workers: &mut Vec<Worker<L>>, parts: &mut Parts<
     requires few { length workers.old.items ≤ 64 }
     requires none { HaveNone (length workers.old.items) parts.old }
     ensures none { workers.new.items ≡ [] }
-    ensures parts { ArePartsOf (reverse workers.old.items) parts.new }
-    ensures clashes { result.clashes ≡ sum_by clashes_in workers.old.items }
-    ensures strays { result.strays ≡ sum_by strays_in workers.old.items }
-    ensures kept { result.ending ≢ OutOfMemory → All (λ w. w.ending ≢ OutOfMemory) workers.old.items }
-    ensures through { result.ending ≡ Through → Any (λ w. w.ending ≡ Through) workers.old.items }
+    ensures dismissed { AreDismissed workers.old.items parts.new result }
 {
     let mut done = Done {
         clashes: 0,

@@ -8,8 +8,8 @@ ghost use Rattle.owners_table.specs.Owning.{Holds};
 ghost use Rattle.owners_table.specs.declared.mark.TheConstants.{SHELVES, WORDS_OF_A_RUN};
 ghost use Rattle.worker_pool.specs.Claims.{HasSwapped, IsSwappable, less};
 ghost use Rattle.worker_pool.specs.Hands.{unused_hands};
-ghost use Rattle.worker_pool.specs.Counts.{all_allocs, all_come, all_gone, all_gets, grants_of, nulls_of, gets_of, outs_of};
-ghost use Rattle.worker_pool.specs.Stocks.{hands_of};
+ghost use Rattle.worker_pool.specs.Counts.{all_allocs, all_come, all_gone, all_gets, outs_of};
+ghost use Rattle.worker_pool.specs.Stocks.{hands_of, grants_by, nulls_by, gets_by};
 ghost use Rattle.run_object.specs.Object.{kind_of, slot_of};
 
 use crate::client::{Before, Client};
@@ -64,12 +64,12 @@ impl<'a, L: Names, N: Before, R: Wait> Store<'a, L, N, R> {
         requires given { IsSwappable given shelf self.old.client.seat.held }
         ensures seat { HasSwapped given result (mark_word self.old.client.job at) self.old.client.seat.held self.new.client.seat.held }
         ensures kind { IfSome result (λ h. kind_of h ≡ shelf) }
-        ensures granted { grants_of (hands_of self.new.stocks) self.new.client.clashes ≡
-            grants_of (hands_of self.old.stocks) self.old.client.clashes }
-        ensures refused { nulls_of (hands_of self.new.stocks) self.new.client.clashes ≡
-            nulls_of (hands_of self.old.stocks) self.old.client.clashes }
-        ensures gets { gets_of (hands_of self.new.stocks) self.new.client.strays ≡
-            gets_of (hands_of self.old.stocks) self.old.client.strays + one_if result }
+        ensures granted { grants_by self.new.stocks self.new.client.clashes ≡
+            grants_by self.old.stocks self.old.client.clashes }
+        ensures refused { nulls_by self.new.stocks self.new.client.clashes ≡
+            nulls_by self.old.stocks self.old.client.clashes }
+        ensures gets { gets_by self.new.stocks self.new.client.strays ≡
+            gets_by self.old.stocks self.old.client.strays + one_if result }
         ensures misses { self.new.misses ≡ self.old.misses }
         ensures outs { (k : ℕ) → outs_of (hands_of self.new.stocks) k + one_of given shelf k ≡
             outs_of (hands_of self.old.stocks) k + one_of result shelf k }
@@ -118,8 +118,8 @@ impl<'a, L: Names, N: Before, R: Wait> Objects for Store<'a, L, N, R> {
     ghost use Rattle.object_cache.specs.ShelfView.{one_if};
     ghost use Rattle.owners_table.specs.Owning.{Holds};
     ghost use Rattle.owners_table.specs.declared.mark.TheConstants.{WORDS_OF_A_RUN};
-    ghost use Rattle.worker_pool.specs.Counts.{grants_of, nulls_of, gets_of, outs_of};
-    ghost use Rattle.worker_pool.specs.Stocks.{hands_of};
+    ghost use Rattle.worker_pool.specs.Counts.{outs_of};
+    ghost use Rattle.worker_pool.specs.Stocks.{hands_of, grants_by, nulls_by, gets_by};
     ghost use Rattle.run_object.specs.Object.{kind_of, slot_of, bytes_of, has_size};
 
     type Held = Owned;
@@ -138,9 +138,9 @@ impl<'a, L: Names, N: Before, R: Wait> Objects for Store<'a, L, N, R> {
       can_miss = λ s shelf. Unit {0};
       stand = λ s shelf what. ⊥;
       can_give = λ s. Unit {0};
-      grants = λ s. grants_of (hands_of s.stocks) s.client.clashes;
-      nulls = λ s. nulls_of (hands_of s.stocks) s.client.clashes;
-      gets = λ s. gets_of (hands_of s.stocks) s.client.strays;
+      grants = λ s. grants_by s.stocks s.client.clashes;
+      nulls = λ s. nulls_by s.stocks s.client.clashes;
+      gets = λ s. gets_by s.stocks s.client.strays;
       misses = λ s. s.misses;
       outs = λ s kind. outs_of (hands_of s.stocks) kind;
     } };
@@ -171,12 +171,12 @@ impl<'a, L: Names, N: Before, R: Wait> Objects for Store<'a, L, N, R> {
         requires given { IsSwappable given shelf self.old.client.seat.held }
         ensures seat { HasSwapped given result (mark_word self.old.client.job at) self.old.client.seat.held self.new.client.seat.held }
         ensures kind { IfSome result (λ h. kind_of h ≡ shelf) }
-        ensures granted { grants_of (hands_of self.new.stocks) self.new.client.clashes ≡
-            grants_of (hands_of self.old.stocks) self.old.client.clashes }
-        ensures refused { nulls_of (hands_of self.new.stocks) self.new.client.clashes ≡
-            nulls_of (hands_of self.old.stocks) self.old.client.clashes }
-        ensures gets { gets_of (hands_of self.new.stocks) self.new.client.strays ≡
-            gets_of (hands_of self.old.stocks) self.old.client.strays + one_if result }
+        ensures granted { grants_by self.new.stocks self.new.client.clashes ≡
+            grants_by self.old.stocks self.old.client.clashes }
+        ensures refused { nulls_by self.new.stocks self.new.client.clashes ≡
+            nulls_by self.old.stocks self.old.client.clashes }
+        ensures gets { gets_by self.new.stocks self.new.client.strays ≡
+            gets_by self.old.stocks self.old.client.strays + one_if result }
         ensures misses { self.new.misses + one_if result ≡ self.old.misses + 1 }
         ensures outs { (k : ℕ) → outs_of (hands_of self.new.stocks) k + one_of given shelf k ≡
             outs_of (hands_of self.old.stocks) k + one_of result shelf k }

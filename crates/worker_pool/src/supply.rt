@@ -196,7 +196,7 @@ impl<K: Kind, L: Names> Supply<K, L> {
 }
 
 impl<'a, R: Wait> Closing<'a, R> {
-    // Gives what a shelf held back to the cache, if it held anything, and tells whether it did.
+    // Gives what a shelf held back to the cache, and returns how many objects that is: one, or none.
     fn put_back<K: Kind, L: Names>(
         &self,
         cache: &Cache<K, Outs<K, L>, Ins<K, L>>,
@@ -282,7 +282,7 @@ impl<L: Names> Supplies<L> {
         self.blocks.cache.reap_pass(rt, arena);
     }
 
-    /// Closes the supplies with all hands that they made, and tells what each shelf and each cache did, in the order of the kinds'
+    /// Closes the supplies with all hands that they made, and returns what each shelf and each cache did, in the order of the kinds'
     /// numbers. What the shelves hold is freed by the first seat.
     pub(crate) fn close<R: Wait>(
         self,

@@ -16,8 +16,7 @@ ghost use Rattle.owners_table.specs.Drawing.{IsOf};
 ghost use Rattle.ebpf_machine.specs.Whole.{granted, refused, fetched};
 ghost use Rattle.worker_pool.specs.declared.worker.Ending.TheVariants.{Through, OutOfMemory};
 ghost use Rattle.worker_pool.specs.Claims.{lost};
-ghost use Rattle.worker_pool.specs.Counts.{grants_of, nulls_of, gets_of};
-ghost use Rattle.worker_pool.specs.Stocks.{hands_of};
+ghost use Rattle.worker_pool.specs.Stocks.{hands_of, grants_by, nulls_by, gets_by};
 ghost use Rattle.worker_pool.specs.Working.{IsFresh, IsUnused, IsEven, IsDone, IsServed, AreUsed, AreReady, Answers, HasDrawn, granted_by, refused_by, fetched_by};
 
 use crate::client::{Before, Client};
@@ -163,12 +162,12 @@ fn serve<'a, L: Names, N: Before + 'a, G: Gate + 'a, R: Wait + 'a>(
     ensures table { IsOf shared.now.tickets.now ticket.new }
     ensures good { All (Answers shared.now.programs.now shared.now.jobs.now) answered.new.items }
     ensures drawn { HasDrawn shared.now.jobs.now ticket.new answered.new.items result }
-    ensures granted { grants_of (hands_of store.new.stocks) store.new.client.clashes ≡
-        grants_of (hands_of store.old.stocks) store.old.client.clashes + granted_by answered.new.items }
-    ensures refused { nulls_of (hands_of store.new.stocks) store.new.client.clashes ≡
-        nulls_of (hands_of store.old.stocks) store.old.client.clashes + refused_by answered.new.items }
-    ensures fetched { gets_of (hands_of store.new.stocks) store.new.client.strays ≡
-        gets_of (hands_of store.old.stocks) store.old.client.strays + fetched_by answered.new.items }
+    ensures granted { grants_by store.new.stocks store.new.client.clashes ≡
+        grants_by store.old.stocks store.old.client.clashes + granted_by answered.new.items }
+    ensures refused { nulls_by store.new.stocks store.new.client.clashes ≡
+        nulls_by store.old.stocks store.old.client.clashes + refused_by answered.new.items }
+    ensures fetched { gets_by store.new.stocks store.new.client.strays ≡
+        gets_by store.old.stocks store.old.client.strays + fetched_by answered.new.items }
 {
     let Ok(mut workspace) = Workspace::new(shared.alloc) else {
         return Ending::Unstarted;
@@ -200,19 +199,19 @@ fn answer<'a, L: Names, N: Before + 'a, G: Gate + 'a, R: Wait + 'a>(
     ensures even { IsEven (hands_of store.new.stocks) }
     ensures answered { OnOk result ((n : Numbered) × (n.job ≡ number) × Answers shared.now.programs.now shared.now.jobs.now n ×
         (answered.new.items ≡ answered.old.items ++ n ∷ []) ×
-        (grants_of (hands_of store.new.stocks) store.new.client.clashes ≡
-        grants_of (hands_of store.old.stocks) store.old.client.clashes + granted n.report.answers) ×
-        (nulls_of (hands_of store.new.stocks) store.new.client.clashes ≡
-        nulls_of (hands_of store.old.stocks) store.old.client.clashes + refused n.report.answers) ×
-        (gets_of (hands_of store.new.stocks) store.new.client.strays ≡
-        gets_of (hands_of store.old.stocks) store.old.client.strays + fetched n.report.answers)) }
+        (grants_by store.new.stocks store.new.client.clashes ≡
+        grants_by store.old.stocks store.old.client.clashes + granted n.report.answers) ×
+        (nulls_by store.new.stocks store.new.client.clashes ≡
+        nulls_by store.old.stocks store.old.client.clashes + refused n.report.answers) ×
+        (gets_by store.new.stocks store.new.client.strays ≡
+        gets_by store.old.stocks store.old.client.strays + fetched n.report.answers)) }
     ensures failed { OnErr result ((answered.new.items ≡ answered.old.items) ×
-        (grants_of (hands_of store.new.stocks) store.new.client.clashes ≡
-        grants_of (hands_of store.old.stocks) store.old.client.clashes) ×
-        (nulls_of (hands_of store.new.stocks) store.new.client.clashes ≡
-        nulls_of (hands_of store.old.stocks) store.old.client.clashes) ×
-        (gets_of (hands_of store.new.stocks) store.new.client.strays ≡
-        gets_of (hands_of store.old.stocks) store.old.client.strays)) }
+        (grants_by store.new.stocks store.new.client.clashes ≡
+        grants_by store.old.stocks store.old.client.clashes) ×
+        (nulls_by store.new.stocks store.new.client.clashes ≡
+        nulls_by store.old.stocks store.old.client.clashes) ×
+        (gets_by store.new.stocks store.new.client.strays ≡
+        gets_by store.old.stocks store.old.client.strays)) }
 {
     let job = &shared.jobs[number as usize];
     let Ok(context) = room_for(shared.alloc, answered, &job.context.bytes) else {

@@ -1,7 +1,7 @@
 use Rattle.std.proofs.Common.{rules, ◌≡◌, ◌≤◌, ◌<◌, ◌+◌, ◌*◌, ◌^◌, ℕ, List, [], ◌∷◌, ◌++◌, length, length-append, map, ap, ◌∙◌, arith}
 use Rattle.std.proofs.lemmas.List.{nil_from_length, length-map}
 use Rattle.worker_pool.proofs.Pairs.{at_most, same_rooms}
-use Rattle.worker_pool.proofs.Dismissing.{last_back, few_more, one_apart, none_apart, done_are, parts_of_all, clashes_of_all, strays_of_all, kept_of_all, through_of_all}
+use Rattle.worker_pool.proofs.Dismissing.{last_back, few_more, one_apart, none_apart, done_are, all_dismissed}
 use Rattle.worker_pool.proofs.crew.dismiss.Goals as goal
 
 -- what is parted from the workers so far leaves room for one worker's more
@@ -63,40 +63,11 @@ loop-worker-preserved g c =
       len = search rules;
     }
 
-pub returns-clause-parts : goal.returns-clause-parts
-returns-clause-parts g c =
-    let i = c.loop-worker.invariant in
+pub returns-clause-dismissed : goal.returns-clause-dismissed
+returns-clause-dismissed g c =
     let zero : length c.loop-worker.workers.items ≡ 0 = search rules in
     let none = nil_from_length c.loop-worker.workers.items zero in
-    parts_of_all _ _ _ _ none i.apart
-
-pub returns-clause-clashes : goal.returns-clause-clashes
-returns-clause-clashes g c =
-    let i = c.loop-worker.invariant in
-    let zero : length c.loop-worker.workers.items ≡ 0 = search rules in
-    let none = nil_from_length c.loop-worker.workers.items zero in
-    clashes_of_all _ _ _ _ none i.apart
-
-pub returns-clause-strays : goal.returns-clause-strays
-returns-clause-strays g c =
-    let i = c.loop-worker.invariant in
-    let zero : length c.loop-worker.workers.items ≡ 0 = search rules in
-    let none = nil_from_length c.loop-worker.workers.items zero in
-    strays_of_all _ _ _ _ none i.apart
-
-pub returns-clause-kept : goal.returns-clause-kept
-returns-clause-kept g c =
-    let i = c.loop-worker.invariant in
-    let zero : length c.loop-worker.workers.items ≡ 0 = search rules in
-    let none = nil_from_length c.loop-worker.workers.items zero in
-    kept_of_all _ _ _ _ none i.apart
-
-pub returns-clause-through : goal.returns-clause-through
-returns-clause-through g c =
-    let i = c.loop-worker.invariant in
-    let zero : length c.loop-worker.workers.items ≡ 0 = search rules in
-    let none = nil_from_length c.loop-worker.workers.items zero in
-    through_of_all _ _ _ _ none i.apart
+    all_dismissed _ _ _ _ none c.loop-worker.invariant.apart
 
 pub push_reserved-requires : goal.push_reserved-requires
 push_reserved-requires g c =

@@ -1,6 +1,5 @@
-use Rattle.std.proofs.Common.{rules, ◌≡◌, ◌≢◌, All, Any, sum_by, length, map, reverse, sym, ap, subst, ◌∙◌}
-use Rattle.worker_pool.specs.declared.worker.Ending.TheVariants.{Through, OutOfMemory}
-use Rattle.worker_pool.specs.Crews.{ArePartsOf, IsBack, seat_in, clashes_in, strays_in}
+use Rattle.std.proofs.Common.{rules, ◌≡◌, All, length, map, sym, ap, subst, ◌∙◌}
+use Rattle.worker_pool.specs.Crews.{AreDismissed, IsBack, seat_in}
 use Rattle.worker_pool.specs.Working.{IsFresh}
 use Rattle.worker_pool.proofs.Turned.{written_back}
 use Rattle.worker_pool.proofs.Serving.{all_back, all_served}
@@ -27,11 +26,6 @@ returns-clause-served g c =
     let len : length news ≡ length olds = search rules in
     let all : c.recruit.new.workers.len ≡ length news = search rules in
     let back = written_back c.recruit.new.workers.len news _ all in
-    let d = c.dismiss.ensures in
     all_served c.args.shared.now.programs.now c.args.shared.now.jobs.now c.args.shared.now.owners.now c.args.shared.now.tickets.now olds news len fresh c.work_and_reap.ensures c.args.parts.now.seats.items c.dismiss.new.parts c.dismiss.result
     seats
-    (subst (λ l. ArePartsOf (reverse l) c.dismiss.new.parts) back d.parts)
-    (d.clashes ∙ ap (sum_by clashes_in) back)
-    (d.strays ∙ ap (sum_by strays_in) back)
-    (λ well. subst (All (λ w. w.ending ≢ OutOfMemory)) back (d.kept well))
-    (λ is. subst (Any (λ w. w.ending ≡ Through)) back (d.through is))
+    (subst (λ l. AreDismissed l c.dismiss.new.parts c.dismiss.result) back c.dismiss.ensures.dismissed)
