@@ -42,7 +42,7 @@ no_labels slot at (line ∷ lines) is small (inr a) =
     ∙ no_labels (slot + slots_in a.0) (slot_after at (words line)) lines a.1 (shorter slot a.0 a.1 (subst (IsShort slot) a.2 small)) a.4
 
 same_text : (text : List ℕ) (p : List (Option Insn)) → IsAssembledPlain text p → plain text ≡ text
-same_text text p a = ap (λ (labels : List Named). plain_by (take 1024 labels) text) (no_labels 0 0 (text_lines text) (instructions p) (short p a.formed) a.lines)
+same_text text p a = ap (λ (labels : List Named). plain_by (take 256 labels) text) (no_labels 0 0 (text_lines text) (instructions p) (short p a.formed) a.lines)
 
 pub plain_assembled : (text : List ℕ) (p : List (Option Insn)) → IsAssembledPlain text p → IsAssembled text p
 plain_assembled text p a = subst (λ (t : List ℕ). IsAssembledPlain t p) (sym (same_text text p a)) a

@@ -132,9 +132,9 @@ abbrev pub plain_by : List Named → List ℕ → List ℕ
 plain_by [] text = text
 plain_by (l ∷ labels) text = without_first (plain_lines (l ∷ labels) 0 (text_lines text))
 
--- the labels of a text: the first 1024, so that a name is found in time
+-- the labels of a text: the first 256, so that a name is found in time
 abbrev pub labels_of : List ℕ → List Named
-labels_of text = take 1024 (labels_from 0 (text_lines text))
+labels_of text = take 256 (labels_from 0 (text_lines text))
 
 -- the text without labels and names; it has as many lines
 abbrev pub plain : List ℕ → List ℕ

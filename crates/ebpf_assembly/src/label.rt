@@ -13,7 +13,7 @@ use ebpf_insn::program::MAX_SLOTS;
 use std::alloc::{AllocError, Global};
 
 // The most labels of a text: there are lines with a name by the hundred thousand, each of which is looked for.
-const MAX_LABELS: usize = 1024;
+const MAX_LABELS: usize = 256;
 
 /// A name, and the slot that it stands for.
 #[derive(Clone, Copy)]
@@ -38,7 +38,7 @@ pub(crate) fn read_labels(alloc: Global, text: &[u8]) -> Result<Vec<Label<'_>>, 
 
 // The labels that may be named: a name is looked for among them, one by one.
 pub(crate) fn first_labels<'a, 'b>(labels: &'a [Label<'b>]) -> &'a [Label<'b>]
-    ensures { names_of result.now ≡ take 1024 (names_of labels.now) }
+    ensures { names_of result.now ≡ take 256 (names_of labels.now) }
 {
     if labels.len() <= MAX_LABELS {
         return labels;
