@@ -11,14 +11,14 @@ use Rattle.ebpf_assembly.proofs.WithoutLabels.{named_unique, named_only, named_l
 use Rattle.ebpf_command.specs.declared.done.Done.{Done}
 use Rattle.ebpf_command.specs.declared.done.EngineFault.{EngineFault}
 use Rattle.ebpf_command.specs.declared.done.FaultCode.{FaultCode}
-use Rattle.ebpf_command.specs.declared.done.FaultCode.TheVariants.{S1}
+use Rattle.ebpf_command.specs.declared.done.FaultCode.TheVariants.{InputTooLong}
 use Rattle.ebpf_command.specs.Input.{read_of}
 use Rattle.ebpf_command.specs.Response.{Response}
 use Rattle.ebpf_command.specs.Writing.{Writes}
 use Rattle.ebpf_command.proofs.Written.{CutsLong}
 use Rattle.ebpf_assemble.specs.AssembleText.{Assembles, AssemblesGiven, AreSlotsOf, WritesSlotsOf, long_fault}
 
-is_long : (text : List ℕ) → 1048576 < length text → long_fault text ≡ Some S1
+is_long : (text : List ℕ) → 1048576 < length text → long_fault text ≡ Some InputTooLong
 is_long text long = rw (lt-ltb 1048576 (length text) long) refl
 
 not_above : (most n : ℕ) → n ≤ most → nat_lt most n ≡ false
@@ -31,7 +31,7 @@ is_short text short = rw (not_above 1048576 (length text) short) refl
 pub assemble_cuts : CutsLong Assembles
 assemble_cuts input response long h =
     let cut : length (read_of input) ≡ 1048577 = length-take-le 1048577 input (omega (arith, long)) in
-    let of_beginning : AssemblesGiven (Some S1) (read_of input) response = subst (λ (f : Option FaultCode). AssemblesGiven f (read_of input) response) (is_long (read_of input) (omega (arith, cut))) h in
+    let of_beginning : AssemblesGiven (Some InputTooLong) (read_of input) response = subst (λ (f : Option FaultCode). AssemblesGiven f (read_of input) response) (is_long (read_of input) (omega (arith, cut))) h in
     subst (λ (f : Option FaultCode). AssemblesGiven f input response) (sym (is_long input (omega (arith, long)))) of_beginning
 
 -- the response to a text of a program is its slots

@@ -9,7 +9,7 @@ use Rattle.ebpf_assembly.specs.Faults.{IsAssemblyFault}
 use Rattle.ebpf_command.specs.declared.done.Done.{Done}
 use Rattle.ebpf_command.specs.declared.done.EngineFault.{EngineFault}
 use Rattle.ebpf_command.specs.declared.done.FaultCode.{FaultCode}
-use Rattle.ebpf_command.specs.declared.done.FaultCode.TheVariants.{S1}
+use Rattle.ebpf_command.specs.declared.done.FaultCode.TheVariants.{InputTooLong}
 use Rattle.ebpf_command.specs.Response.{Response, refused_response, clean_response}
 use Rattle.ebpf_command.specs.Writing.{Responding, Writes}
 use Rattle.ebpf_assemble.specs.SlotsText.{slot_lines}
@@ -34,7 +34,7 @@ pub record IsOfNone (text : List ℕ) (response : Response) : Type 0 where
 
 -- an input has at most 1,048,576 bytes
 abbrev pub long_fault : List ℕ → Option FaultCode
-long_fault text = if nat_lt 1048576 (length text) then Some S1 else None
+long_fault text = if nat_lt 1048576 (length text) then Some InputTooLong else None
 
 abbrev pub AssemblesGiven : Option FaultCode → List ℕ → Response → Type 0
 AssemblesGiven (Some code) text response = response ≡ refused_response long_text_lines

@@ -4,7 +4,7 @@ use Rattle.ebpf_assembly.specs.declared.fault.LineFault.{LineFault}
 use Rattle.ebpf_assembly.specs.declared.fault.LineFault.TheVariants.{WrongSlot, NoInstruction, TooManySlots}
 use Rattle.ebpf_assembly.specs.declared.fault.AssemblyFault.{AssemblyFault}
 use Rattle.ebpf_assembly.specs.declared.fault.AssemblyFault.TheVariants.{Bad, Empty, NoMemory}
-use Rattle.ebpf_command.specs.declared.done.FaultCode.TheVariants.{S1}
+use Rattle.ebpf_command.specs.declared.done.FaultCode.TheVariants.{InputTooLong}
 use Rattle.ebpf_command.specs.Lines.{fault_line}
 
 abbrev pub line_fault_name : LineFault → List ℕ
@@ -25,4 +25,4 @@ assembly_fault_lines NoMemory = []
 
 -- a text that is too long is no line's fault
 abbrev pub long_text_lines : List ℕ
-long_text_lines = fault_line S1 0 ++ codes "  the text has more than 1048576 bytes\n"
+long_text_lines = fault_line InputTooLong 0 ++ codes "  the text has more than 1048576 bytes\n"

@@ -66,7 +66,7 @@ fn assemble_input(alloc: Global, input: &[u8]) -> Result<Answer, AllocError>
 fn answer_long(alloc: Global) -> Result<Answer, AllocError>
     ensures { IfOk result (λ answer. answer ≡ refused_response long_text_lines) }
 {
-    let mut text = fault_line(alloc, FaultCode::S1, 0)?;
+    let mut text = fault_line(alloc, FaultCode::InputTooLong, 0)?;
     text.push_str("  the text has more than 1048576 bytes\n")?;
     Ok(Answer {
         text,

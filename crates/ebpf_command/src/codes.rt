@@ -36,15 +36,15 @@ fn decode_name(code: DecodeCode) -> &'static str
     ensures { result.now ≡ decode_name code }
 {
     match code {
-        DecodeCode::I1 => "I1",
-        DecodeCode::I2 => "I2",
-        DecodeCode::I3 => "I3",
-        DecodeCode::I4 => "I4",
-        DecodeCode::I5 => "I5",
-        DecodeCode::I6 => "I6",
-        DecodeCode::I7 => "I7",
-        DecodeCode::I8 => "I8",
-        DecodeCode::I9 => "I9",
+        DecodeCode::WrongLength => "I1",
+        DecodeCode::UnknownOpcode => "I2",
+        DecodeCode::UnknownRegister => "I3",
+        DecodeCode::UnusedFieldSet => "I4",
+        DecodeCode::MissingSecondSlot => "I5",
+        DecodeCode::BadSecondSlot => "I6",
+        DecodeCode::UndefinedField => "I7",
+        DecodeCode::UnsupportedForm => "I8",
+        DecodeCode::ProgramTooLong => "I9",
     }
 }
 
@@ -53,11 +53,11 @@ fn flow_name(code: FlowCode) -> &'static str
     ensures { result.now ≡ flow_name code }
 {
     match code {
-        FlowCode::F1 => "F1",
-        FlowCode::F2 => "F2",
-        FlowCode::F3 => "F3",
-        FlowCode::F4 => "F4",
-        FlowCode::F5 => "F5",
+        FlowCode::JumpOutside => "F1",
+        FlowCode::JumpIntoWide => "F2",
+        FlowCode::JumpBackward => "F3",
+        FlowCode::FallsOffEnd => "F4",
+        FlowCode::Unreachable => "F5",
     }
 }
 
@@ -66,24 +66,24 @@ fn verify_name(code: VerifyCode) -> &'static str
     ensures { result.now ≡ verify_name code }
 {
     match code {
-        VerifyCode::V1 => "V1",
-        VerifyCode::V2 => "V2",
-        VerifyCode::V3 => "V3",
-        VerifyCode::V4 => "V4",
-        VerifyCode::V5 => "V5",
-        VerifyCode::V6 => "V6",
-        VerifyCode::V7 => "V7",
-        VerifyCode::V8 => "V8",
-        VerifyCode::V9 => "V9",
-        VerifyCode::V10 => "V10",
-        VerifyCode::V11 => "V11",
-        VerifyCode::V12 => "V12",
-        VerifyCode::V13 => "V13",
-        VerifyCode::V14 => "V14",
-        VerifyCode::V15 => "V15",
-        VerifyCode::V16 => "V16",
-        VerifyCode::V17 => "V17",
-        VerifyCode::V18 => "V18",
-        VerifyCode::V19 => "V19",
+        VerifyCode::UnsetRegister => "V1",
+        VerifyCode::FramePointerWritten => "V2",
+        VerifyCode::PointerMisused => "V3",
+        VerifyCode::MovedTooFar => "V4",
+        VerifyCode::PointerCompared => "V5",
+        VerifyCode::OutsideStack => "V6",
+        VerifyCode::UnsetStack => "V7",
+        VerifyCode::OutsideContext => "V8",
+        VerifyCode::ContextWritten => "V9",
+        VerifyCode::OutsideObject => "V10",
+        VerifyCode::UntestedAnswer => "V11",
+        VerifyCode::PartialPointer => "V12",
+        VerifyCode::NumberAsAddress => "V13",
+        VerifyCode::UnknownHelper => "V14",
+        VerifyCode::WrongArgument => "V15",
+        VerifyCode::TooManyHeld => "V16",
+        VerifyCode::HeldAtExit => "V17",
+        VerifyCode::NoNumberReturned => "V18",
+        VerifyCode::PathsDiffer => "V19",
     }
 }

@@ -29,27 +29,27 @@ pub enum EngineFault {
     NoMemory,
 }
 
-/// Why an input or an option can't be used.
+/// Why an input or an option can't be used. Users see the code that begins each line.
 #[derive(Clone, Copy)]
 pub enum FaultCode {
-    /// The text has more than 1,048,576 bytes.
-    S1,
-    /// A byte is none of tab, newline, carriage return and 0x20 to 0x7e.
-    S2,
-    /// The line has no shape of this command.
-    S3,
-    /// A number isn't decimal, or is out of its range.
-    S4,
-    /// What should be hex isn't readable.
-    S5,
-    /// The name isn't allowed, or is defined already.
-    S6,
-    /// The name isn't defined.
-    S7,
-    /// There is an `arena` already.
-    S8,
-    /// The context of `run` doesn't have the declared length.
-    S9,
+    /// `S1`: the text has more than 1,048,576 bytes.
+    InputTooLong,
+    /// `S2`: a byte is none of tab, newline, carriage return and 0x20 to 0x7e.
+    UnprintableByte,
+    /// `S3`: the line has no shape of this command.
+    UnknownLine,
+    /// `S4`: a number isn't decimal, or is out of its range.
+    BadNumber,
+    /// `S5`: what should be hex isn't readable.
+    BadHex,
+    /// `S6`: the name isn't allowed, or is defined already.
+    BadName,
+    /// `S7`: the name isn't defined.
+    UndefinedName,
+    /// `S8`: there is an `arena` already.
+    SecondArena,
+    /// `S9`: the context of `run` doesn't have the declared length.
+    WrongContextLength,
 }
 
 /// Why an input, an option or a line of a script is not read.
@@ -67,15 +67,15 @@ impl FaultCode {
         ensures { result.now ≡ fault_name self }
     {
         match self {
-            FaultCode::S1 => "S1",
-            FaultCode::S2 => "S2",
-            FaultCode::S3 => "S3",
-            FaultCode::S4 => "S4",
-            FaultCode::S5 => "S5",
-            FaultCode::S6 => "S6",
-            FaultCode::S7 => "S7",
-            FaultCode::S8 => "S8",
-            FaultCode::S9 => "S9",
+            FaultCode::InputTooLong => "S1",
+            FaultCode::UnprintableByte => "S2",
+            FaultCode::UnknownLine => "S3",
+            FaultCode::BadNumber => "S4",
+            FaultCode::BadHex => "S5",
+            FaultCode::BadName => "S6",
+            FaultCode::UndefinedName => "S7",
+            FaultCode::SecondArena => "S8",
+            FaultCode::WrongContextLength => "S9",
         }
     }
 }

@@ -1,7 +1,7 @@
 -- Why bytes are no program, as the sentence of a line.
 use Rattle.std.specs.Prelude.{ℕ, List, length, ◌++◌, codes, decimal, if◌then◌else◌, ◌==◌}
 use Rattle.ebpf_insn.specs.declared.fault.DecodeCode.{DecodeCode}
-use Rattle.ebpf_insn.specs.declared.fault.DecodeCode.TheVariants.{I1, I2, I3, I4, I5, I6, I7, I8, I9}
+use Rattle.ebpf_insn.specs.declared.fault.DecodeCode.TheVariants.{WrongLength, UnknownOpcode, UnknownRegister, UnusedFieldSet, MissingSecondSlot, BadSecondSlot, UndefinedField, UnsupportedForm, ProgramTooLong}
 use Rattle.ebpf_explain.specs.Hex.{byte_digits, eight_digits}
 
 abbrev pub slot_text : ℕ → List ℕ
@@ -15,18 +15,18 @@ count_words count =
 
 -- what is wrong with the bytes, or with those of a slot
 abbrev pub decode_words : List ℕ → ℕ → DecodeCode → List ℕ
-decode_words bytes slot I1 = count_words (length bytes)
-decode_words bytes slot I2 = slot_text slot ++ (codes " has the opcode 0x" ++ (byte_digits bytes slot 0 ++ codes ", which is no instruction"))
-decode_words bytes slot I3 = slot_text slot ++ (codes " names a register above 10: 0x" ++ byte_digits bytes slot 1)
-decode_words bytes slot I4 = slot_text slot ++ (codes " has something in a field that its instruction does not use: " ++ eight_digits bytes slot 0)
-decode_words bytes slot I5 = slot_text slot ++ codes " is a wide load without its second slot"
-decode_words bytes slot I6 = slot_text slot ++ (codes " is a wide load whose second slot has more than a number: " ++ eight_digits bytes slot 8)
-decode_words bytes slot I7 = slot_text slot ++ (codes " has an offset or an immediate that its operation does not have: " ++ eight_digits bytes slot 0)
-decode_words bytes slot I8 =
+decode_words bytes slot WrongLength = count_words (length bytes)
+decode_words bytes slot UnknownOpcode = slot_text slot ++ (codes " has the opcode 0x" ++ (byte_digits bytes slot 0 ++ codes ", which is no instruction"))
+decode_words bytes slot UnknownRegister = slot_text slot ++ (codes " names a register above 10: 0x" ++ byte_digits bytes slot 1)
+decode_words bytes slot UnusedFieldSet = slot_text slot ++ (codes " has something in a field that its instruction does not use: " ++ eight_digits bytes slot 0)
+decode_words bytes slot MissingSecondSlot = slot_text slot ++ codes " is a wide load without its second slot"
+decode_words bytes slot BadSecondSlot = slot_text slot ++ (codes " is a wide load whose second slot has more than a number: " ++ eight_digits bytes slot 8)
+decode_words bytes slot UndefinedField = slot_text slot ++ (codes " has an offset or an immediate that its operation does not have: " ++ eight_digits bytes slot 0)
+decode_words bytes slot UnsupportedForm =
     slot_text slot ++
     (codes " is a form that is left out: " ++
     (eight_digits bytes slot 0 ++ codes " (an atomic operation, a call of a function, or a load of a map's address)"))
-decode_words bytes slot I9 = codes "the program has more than 4096 slots"
+decode_words bytes slot ProgramTooLong = codes "the program has more than 4096 slots"
 
 abbrev pub decode_sentence : List ℕ → ℕ → DecodeCode → List ℕ
 decode_sentence bytes slot code = codes "  " ++ (decode_words bytes slot code ++ codes "\n")

@@ -3,7 +3,7 @@ use Rattle.std.specs.Prelude.{ℕ, ℤ, List, ◌++◌, Option, Some, None, code
 use Rattle.ebpf_insn.specs.declared.insn.Insn.{Insn}
 use Rattle.ebpf_text.specs.Operands.{offset_text}
 use Rattle.ebpf_flow.specs.declared.fault.FlowCode.{FlowCode}
-use Rattle.ebpf_flow.specs.declared.fault.FlowCode.TheVariants.{F1, F2, F3, F4, F5}
+use Rattle.ebpf_flow.specs.declared.fault.FlowCode.TheVariants.{JumpOutside, JumpIntoWide, JumpBackward, FallsOffEnd, Unreachable}
 use Rattle.ebpf_flow.specs.Edges.{displacement_of}
 
 -- how many slots on a jump goes; what is no jump goes none
@@ -16,13 +16,13 @@ jump_text i = distance_text (displacement_of i)
 
 -- what is wrong with an instruction of a program that has so many slots, and how it is mended
 abbrev pub flow_words : Insn → ℕ → FlowCode → List ℕ
-flow_words i slots F1 =
+flow_words i slots JumpOutside =
     codes "jumps " ++ (jump_text i ++ (codes " slots on, and the program has " ++ (decimal slots ++ codes " slots: let it lead to one of them")))
-flow_words i slots F2 = codes "jumps " ++ (jump_text i ++ codes " slots on, to the second half of a wide instruction: let it lead to an instruction")
-flow_words i slots F3 =
+flow_words i slots JumpIntoWide = codes "jumps " ++ (jump_text i ++ codes " slots on, to the second half of a wide instruction: let it lead to an instruction")
+flow_words i slots JumpBackward =
     codes "jumps back, by " ++ (jump_text i ++ codes " slots: programs go forward only, so unroll a loop, and lay blocks out in the order in which they are run")
-flow_words i slots F4 = codes "goes on behind the last slot: end the program with exit"
-flow_words i slots F5 = codes "is reached by no path from slot 0 that goes forward: leave it out, or let a jump before it lead to it"
+flow_words i slots FallsOffEnd = codes "goes on behind the last slot: end the program with exit"
+flow_words i slots Unreachable = codes "is reached by no path from slot 0 that goes forward: leave it out, or let a jump before it lead to it"
 
 abbrev pub flow_sentence : ℕ → Insn → ℕ → FlowCode → List ℕ
 flow_sentence slot i slots code = codes "  slot " ++ (decimal slot ++ (codes " " ++ (flow_words i slots code ++ codes "\n")))

@@ -8,7 +8,7 @@ use Rattle.ebpf_state.specs.States.{register_of}
 use Rattle.ebpf_verify.specs.declared.decl.Decl.{Decl}
 use Rattle.ebpf_verify.specs.declared.decl.TheConstants.{MAX_CONTEXT}
 use Rattle.ebpf_verify.specs.declared.fault.VerifyCode.{VerifyCode}
-use Rattle.ebpf_verify.specs.declared.fault.VerifyCode.TheVariants.{V1, V2, V3, V4, V5, V6, V7, V8, V9, V10, V11, V12, V13, V14, V15, V16, V17, V18, V19}
+use Rattle.ebpf_verify.specs.declared.fault.VerifyCode.TheVariants.{UnsetRegister, FramePointerWritten, PointerMisused, MovedTooFar, PointerCompared, OutsideStack, UnsetStack, OutsideContext, ContextWritten, OutsideObject, UntestedAnswer, PartialPointer, NumberAsAddress, UnknownHelper, WrongArgument, TooManyHeld, HeldAtExit, NoNumberReturned, PathsDiffer}
 use Rattle.ebpf_operation.specs.declared.helper.Helper.{Helper}
 use Rattle.ebpf_operation.specs.declared.helper.Helper.TheVariants.{New, Free, Emit, Swap}
 use Rattle.ebpf_operation.specs.Helpers.{helper_of}
@@ -33,25 +33,25 @@ asked_of None = codes "look at its arguments"
 
 -- by the code, and of arguments by the helper
 abbrev pub plain_mending : Insn → VerifyCode → List ℕ
-plain_mending i V1 = codes "set it first (a call unsets r1 to r5, and free what points to its object)"
-plain_mending i V2 = codes "copy it to another register first"
-plain_mending i V3 = codes "move pointers by 64-bit sums with a number, and a stack pointer by a constant"
-plain_mending i V4 = codes "bound the number, and keep within 2^29 bytes of the base"
-plain_mending i V5 = codes "compare numbers, and an answer with 0 alone, by jeq or jne at 64 bits"
-plain_mending i V6 = codes "keep within it"
-plain_mending i V7 = codes "store to each of them first"
-plain_mending i V8 = codes "keep within it"
-plain_mending i V9 = codes "copy it to the stack first"
-plain_mending i V10 = codes "keep within it"
-plain_mending i V11 = codes "compare it first, and use it where it is not 0"
-plain_mending i V12 = codes "store it as eight bytes at a multiple of 8 from r10, and load it so"
-plain_mending i V13 = codes "load and store through r10, r1, an object or a pointer made of them"
-plain_mending i V14 = codes "call 1 (new), 2 (free), 3 (emit) or 4 (swap)"
-plain_mending i V15 = asked_of (helper_of (number_called i))
-plain_mending i V16 = codes "free one, put one onto a shelf, or declare more"
-plain_mending i V17 = codes "free each, or put it onto a shelf, on every path to this slot"
-plain_mending i V18 = codes "return a number"
-plain_mending i V19 = codes "free what one path holds and the other does not, before they meet"
+plain_mending i UnsetRegister = codes "set it first (a call unsets r1 to r5, and free what points to its object)"
+plain_mending i FramePointerWritten = codes "copy it to another register first"
+plain_mending i PointerMisused = codes "move pointers by 64-bit sums with a number, and a stack pointer by a constant"
+plain_mending i MovedTooFar = codes "bound the number, and keep within 2^29 bytes of the base"
+plain_mending i PointerCompared = codes "compare numbers, and an answer with 0 alone, by jeq or jne at 64 bits"
+plain_mending i OutsideStack = codes "keep within it"
+plain_mending i UnsetStack = codes "store to each of them first"
+plain_mending i OutsideContext = codes "keep within it"
+plain_mending i ContextWritten = codes "copy it to the stack first"
+plain_mending i OutsideObject = codes "keep within it"
+plain_mending i UntestedAnswer = codes "compare it first, and use it where it is not 0"
+plain_mending i PartialPointer = codes "store it as eight bytes at a multiple of 8 from r10, and load it so"
+plain_mending i NumberAsAddress = codes "load and store through r10, r1, an object or a pointer made of them"
+plain_mending i UnknownHelper = codes "call 1 (new), 2 (free), 3 (emit) or 4 (swap)"
+plain_mending i WrongArgument = asked_of (helper_of (number_called i))
+plain_mending i TooManyHeld = codes "free one, put one onto a shelf, or declare more"
+plain_mending i HeldAtExit = codes "free each, or put it onto a shelf, on every path to this slot"
+plain_mending i NoNumberReturned = codes "return a number"
+plain_mending i PathsDiffer = codes "free what one path holds and the other does not, before they meet"
 
 -- the bytes of the stack, from the frame pointer
 abbrev pub stack_ends : Ends
@@ -66,7 +66,7 @@ within_object a s rows = within a s (ends_of (unwrap_or (size_behind rows s (reg
 
 -- what would mend a slot; an access that may be outside of something, by what is known of its base
 abbrev pub mending : Insn → StateView → VerifyCode → Decl → List KindRow → List ℕ
-mending i s V6 decl rows = within (access_of i) s stack_ends 0
-mending i s V8 decl rows = within (access_of i) s (ends_of decl.context) MAX_CONTEXT
-mending i s V10 decl rows = within_object (access_of i) s rows
+mending i s OutsideStack decl rows = within (access_of i) s stack_ends 0
+mending i s OutsideContext decl rows = within (access_of i) s (ends_of decl.context) MAX_CONTEXT
+mending i s OutsideObject decl rows = within_object (access_of i) s rows
 mending i s code decl rows = plain_mending i code

@@ -7,7 +7,7 @@ use Rattle.ebpf_state.specs.declared.kinds.KindRow.{KindRow}
 use Rattle.ebpf_state.specs.StateView.{StateView}
 use Rattle.ebpf_verify.specs.declared.decl.Decl.{Decl}
 use Rattle.ebpf_verify.specs.declared.fault.VerifyCode.{VerifyCode}
-use Rattle.ebpf_verify.specs.declared.fault.VerifyCode.TheVariants.{V1, V2, V3, V4, V5, V6, V7, V8, V9, V10, V11, V12, V13, V14, V15, V16, V17, V18, V19}
+use Rattle.ebpf_verify.specs.declared.fault.VerifyCode.TheVariants.{UnsetRegister, FramePointerWritten, PointerMisused, MovedTooFar, PointerCompared, OutsideStack, UnsetStack, OutsideContext, ContextWritten, OutsideObject, UntestedAnswer, PartialPointer, NumberAsAddress, UnknownHelper, WrongArgument, TooManyHeld, HeldAtExit, NoNumberReturned, PathsDiffer}
 use Rattle.ebpf_explain.specs.Reads.{registers_read, answers_read, fault_with_reads, first_unset, first_answer}
 use Rattle.ebpf_explain.specs.Accesses.{access_of}
 use Rattle.ebpf_explain.specs.MemoryFaults.{access_with, outside, outside_object, context_written, number_as_address}
@@ -30,26 +30,26 @@ unknown_answer call = codes "uses " ++ (answer_text call ++ codes ", which was n
 
 -- what the instruction does that it may not, with what is known
 abbrev pub fault : Insn → StateView → VerifyCode → Decl → List KindRow → List ℕ
-fault i s V1 decl rows = unset_register (first_unset s (registers_read i))
-fault i s V2 decl rows = codes "writes r10, the frame pointer"
-fault i s V3 decl rows = fault_with_reads (codes "has no meaning for what it is given") s (registers_read i)
-fault i s V4 decl rows = fault_with_reads (codes "moves a pointer by a number of either sign, or too far") s (registers_read i)
-fault i s V5 decl rows = fault_with_reads (codes "compares what is no number") s (registers_read i)
-fault i s V6 decl rows = access_with (access_of i) s (codes ", and the stack has the 512 bytes below r10")
-fault i s V7 decl rows = access_with (access_of i) s (codes ", some of which are not set on every path to it")
-fault i s V8 decl rows = outside (access_of i) s (codes ", and the context has ") (Some decl.context)
-fault i s V9 decl rows = context_written (access_of i)
-fault i s V10 decl rows = outside_object (access_of i) s (codes ", and the object has ") rows
-fault i s V11 decl rows = unknown_answer (first_answer s (answers_read i))
-fault i s V12 decl rows =
+fault i s UnsetRegister decl rows = unset_register (first_unset s (registers_read i))
+fault i s FramePointerWritten decl rows = codes "writes r10, the frame pointer"
+fault i s PointerMisused decl rows = fault_with_reads (codes "has no meaning for what it is given") s (registers_read i)
+fault i s MovedTooFar decl rows = fault_with_reads (codes "moves a pointer by a number of either sign, or too far") s (registers_read i)
+fault i s PointerCompared decl rows = fault_with_reads (codes "compares what is no number") s (registers_read i)
+fault i s OutsideStack decl rows = access_with (access_of i) s (codes ", and the stack has the 512 bytes below r10")
+fault i s UnsetStack decl rows = access_with (access_of i) s (codes ", some of which are not set on every path to it")
+fault i s OutsideContext decl rows = outside (access_of i) s (codes ", and the context has ") (Some decl.context)
+fault i s ContextWritten decl rows = context_written (access_of i)
+fault i s OutsideObject decl rows = outside_object (access_of i) s (codes ", and the object has ") rows
+fault i s UntestedAnswer decl rows = unknown_answer (first_answer s (answers_read i))
+fault i s PartialPointer decl rows =
     fault_with_reads (codes "moves a pointer or an answer other than as a whole aligned word of the stack") s (registers_read i)
-fault i s V13 decl rows = number_as_address (access_of i) s
-fault i s V14 decl rows = no_helper (number_called i)
-fault i s V15 decl rows = call_with (number_called i) (codes " with arguments that it does not take") s (registers_read i)
-fault i s V16 decl rows = too_many_held (length s.held)
-fault i s V17 decl rows = held_at_exit s.held rows
-fault i s V18 decl rows = no_number_at_exit s
-fault i s V19 decl rows = codes "is where paths meet that hold different objects, or of which one has compared an answer"
+fault i s NumberAsAddress decl rows = number_as_address (access_of i) s
+fault i s UnknownHelper decl rows = no_helper (number_called i)
+fault i s WrongArgument decl rows = call_with (number_called i) (codes " with arguments that it does not take") s (registers_read i)
+fault i s TooManyHeld decl rows = too_many_held (length s.held)
+fault i s HeldAtExit decl rows = held_at_exit s.held rows
+fault i s NoNumberReturned decl rows = no_number_at_exit s
+fault i s PathsDiffer decl rows = codes "is where paths meet that hold different objects, or of which one has compared an answer"
 
 -- a line: two blanks, the slot, what it does that it may not, and what would mend it
 abbrev pub verify_sentence : ℕ → Insn → StateView → VerifyCode → Decl → List KindRow → List ℕ

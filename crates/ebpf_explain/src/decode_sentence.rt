@@ -35,46 +35,49 @@ fn write_words(
     ensures { OnOk result (string_bytes text.new ≡ string_bytes text.old ++ decode_words bytes.now slot code) }
 {
     match code {
-        DecodeCode::I1 => write_count(text, bytes.len()),
-        DecodeCode::I2 => {
+        DecodeCode::WrongLength => write_count(text, bytes.len()),
+        DecodeCode::UnknownOpcode => {
             write!(text, "slot {slot} has the opcode 0x")?;
             write_byte(text, bytes, slot, 0)?;
             text.push_str(", which is no instruction")
         }
-        DecodeCode::I3 => {
+        DecodeCode::UnknownRegister => {
             write!(text, "slot {slot} names a register above 10: 0x")?;
             write_byte(text, bytes, slot, 1)
         }
-        DecodeCode::I4 => {
+        DecodeCode::UnusedFieldSet => {
             write!(
                 text,
                 "slot {slot} has something in a field that its instruction does not use: "
             )?;
             write_eight(text, bytes, slot, 0)
         }
-        DecodeCode::I5 => write!(text, "slot {slot} is a wide load without its second slot"),
-        DecodeCode::I6 => {
+        DecodeCode::MissingSecondSlot => write!(
+            text,
+            "slot {slot} is a wide load without its second slot"
+        ),
+        DecodeCode::BadSecondSlot => {
             write!(
                 text,
                 "slot {slot} is a wide load whose second slot has more than a number: "
             )?;
             write_eight(text, bytes, slot, 8)
         }
-        DecodeCode::I7 => {
+        DecodeCode::UndefinedField => {
             write!(
                 text,
                 "slot {slot} has an offset or an immediate that its operation does not have: "
             )?;
             write_eight(text, bytes, slot, 0)
         }
-        DecodeCode::I8 => {
+        DecodeCode::UnsupportedForm => {
             write!(text, "slot {slot} is a form that is left out: ")?;
             write_eight(text, bytes, slot, 0)?;
             text.push_str(
                 " (an atomic operation, a call of a function, or a load of a map's address)",
             )
         }
-        DecodeCode::I9 => text.push_str("the program has more than 4096 slots"),
+        DecodeCode::ProgramTooLong => text.push_str("the program has more than 4096 slots"),
     }
 }
 

@@ -37,7 +37,7 @@ fn write_words(
     ensures { OnOk result (string_bytes text.new ≡ string_bytes text.old ++ flow_words insn.now slots code) }
 {
     match code {
-        FlowCode::F1 => {
+        FlowCode::JumpOutside => {
             text.push_str("jumps ")?;
             write_jump(text, insn)?;
             write!(
@@ -45,22 +45,24 @@ fn write_words(
                 " slots on, and the program has {slots} slots: let it lead to one of them"
             )
         }
-        FlowCode::F2 => {
+        FlowCode::JumpIntoWide => {
             text.push_str("jumps ")?;
             write_jump(text, insn)?;
             text.push_str(
                 " slots on, to the second half of a wide instruction: let it lead to an instruction",
             )
         }
-        FlowCode::F3 => {
+        FlowCode::JumpBackward => {
             text.push_str("jumps back, by ")?;
             write_jump(text, insn)?;
             text.push_str(
                 " slots: programs go forward only, so unroll a loop, and lay blocks out in the order in which they are run",
             )
         }
-        FlowCode::F4 => text.push_str("goes on behind the last slot: end the program with exit"),
-        FlowCode::F5 => text.push_str(
+        FlowCode::FallsOffEnd => text.push_str(
+            "goes on behind the last slot: end the program with exit",
+        ),
+        FlowCode::Unreachable => text.push_str(
             "is reached by no path from slot 0 that goes forward: leave it out, or let a jump before it lead to it",
         ),
     }

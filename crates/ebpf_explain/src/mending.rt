@@ -29,12 +29,12 @@ pub(crate) fn write_mending(
     ensures { OnOk result (string_bytes text.new ≡ string_bytes text.old ++ mending insn.now state.now code decl rows.now) }
 {
     match code {
-        VerifyCode::V6 => write_within(text, access_of(insn), state, STACK, 0),
-        VerifyCode::V8 => {
+        VerifyCode::OutsideStack => write_within(text, access_of(insn), state, STACK, 0),
+        VerifyCode::OutsideContext => {
             let context = ends_of(decl.context);
             write_within(text, access_of(insn), state, context, MAX_CONTEXT)
         }
-        VerifyCode::V10 => write_within_object(text, access_of(insn), state, rows),
+        VerifyCode::OutsideObject => write_within_object(text, access_of(insn), state, rows),
         _ => text.push_str(plain_mending(insn, code)),
     }
 }
@@ -67,26 +67,31 @@ fn plain_mending(insn: &Insn, code: VerifyCode) -> &'static str
     ensures { result.now ≡ plain_mending insn.now code }
 {
     match code {
-        VerifyCode::V1 =>
+        VerifyCode::UnsetRegister =>
             "set it first (a call unsets r1 to r5, and free what points to its object)",
-        VerifyCode::V2 => "copy it to another register first",
-        VerifyCode::V3 => {
+        VerifyCode::FramePointerWritten => "copy it to another register first",
+        VerifyCode::PointerMisused => {
             "move pointers by 64-bit sums with a number, and a stack pointer by a constant"
         }
-        VerifyCode::V4 => "bound the number, and keep within 2^29 bytes of the base",
-        VerifyCode::V5 => "compare numbers, and an answer with 0 alone, by jeq or jne at 64 bits",
-        VerifyCode::V6 | VerifyCode::V8 | VerifyCode::V10 => "keep within it",
-        VerifyCode::V7 => "store to each of them first",
-        VerifyCode::V9 => "copy it to the stack first",
-        VerifyCode::V11 => "compare it first, and use it where it is not 0",
-        VerifyCode::V12 => "store it as eight bytes at a multiple of 8 from r10, and load it so",
-        VerifyCode::V13 => "load and store through r10, r1, an object or a pointer made of them",
-        VerifyCode::V14 => "call 1 (new), 2 (free), 3 (emit) or 4 (swap)",
-        VerifyCode::V15 => asked_of(helper_of(number_called(insn))),
-        VerifyCode::V16 => "free one, put one onto a shelf, or declare more",
-        VerifyCode::V17 => "free each, or put it onto a shelf, on every path to this slot",
-        VerifyCode::V18 => "return a number",
-        VerifyCode::V19 => "free what one path holds and the other does not, before they meet",
+        VerifyCode::MovedTooFar => "bound the number, and keep within 2^29 bytes of the base",
+        VerifyCode::PointerCompared =>
+            "compare numbers, and an answer with 0 alone, by jeq or jne at 64 bits",
+        VerifyCode::OutsideStack | VerifyCode::OutsideContext | VerifyCode::OutsideObject =>
+            "keep within it",
+        VerifyCode::UnsetStack => "store to each of them first",
+        VerifyCode::ContextWritten => "copy it to the stack first",
+        VerifyCode::UntestedAnswer => "compare it first, and use it where it is not 0",
+        VerifyCode::PartialPointer =>
+            "store it as eight bytes at a multiple of 8 from r10, and load it so",
+        VerifyCode::NumberAsAddress =>
+            "load and store through r10, r1, an object or a pointer made of them",
+        VerifyCode::UnknownHelper => "call 1 (new), 2 (free), 3 (emit) or 4 (swap)",
+        VerifyCode::WrongArgument => asked_of(helper_of(number_called(insn))),
+        VerifyCode::TooManyHeld => "free one, put one onto a shelf, or declare more",
+        VerifyCode::HeldAtExit => "free each, or put it onto a shelf, on every path to this slot",
+        VerifyCode::NoNumberReturned => "return a number",
+        VerifyCode::PathsDiffer =>
+            "free what one path holds and the other does not, before they meet",
     }
 }
 

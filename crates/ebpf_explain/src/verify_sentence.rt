@@ -58,64 +58,75 @@ fn write_fault(
     ensures { OnOk result (string_bytes text.new ≡ string_bytes text.old ++ fault insn.now state.now code decl rows.now) }
 {
     match code {
-        VerifyCode::V1 => write_unset_register(text, first_unset(state, registers_read(insn))),
-        VerifyCode::V2 => text.push_str("writes r10, the frame pointer"),
-        VerifyCode::V3 => {
+        VerifyCode::UnsetRegister => write_unset_register(
+            text,
+            first_unset(state, registers_read(insn)),
+        ),
+        VerifyCode::FramePointerWritten => text.push_str("writes r10, the frame pointer"),
+        VerifyCode::PointerMisused => {
             write_with_reads(text, "has no meaning for what it is given", state, insn)
         }
-        VerifyCode::V4 => write_with_reads(
+        VerifyCode::MovedTooFar => write_with_reads(
             text,
             "moves a pointer by a number of either sign, or too far",
             state,
             insn,
         ),
-        VerifyCode::V5 => write_with_reads(text, "compares what is no number", state, insn),
-        VerifyCode::V6 => write_access_with(
+        VerifyCode::PointerCompared => write_with_reads(
+            text,
+            "compares what is no number",
+            state,
+            insn,
+        ),
+        VerifyCode::OutsideStack => write_access_with(
             text,
             access_of(insn),
             state,
             ", and the stack has the 512 bytes below r10",
         ),
-        VerifyCode::V7 => write_access_with(
+        VerifyCode::UnsetStack => write_access_with(
             text,
             access_of(insn),
             state,
             ", some of which are not set on every path to it",
         ),
-        VerifyCode::V8 => write_outside(
+        VerifyCode::OutsideContext => write_outside(
             text,
             access_of(insn),
             state,
             ", and the context has ",
             Some(decl.context),
         ),
-        VerifyCode::V9 => write_context_written(text, access_of(insn)),
-        VerifyCode::V10 => write_outside_object(
+        VerifyCode::ContextWritten => write_context_written(text, access_of(insn)),
+        VerifyCode::OutsideObject => write_outside_object(
             text,
             access_of(insn),
             state,
             ", and the object has ",
             rows,
         ),
-        VerifyCode::V11 => write_unknown_answer(text, first_answer(state, answers_read(insn))),
-        VerifyCode::V12 => write_with_reads(
+        VerifyCode::UntestedAnswer => write_unknown_answer(
+            text,
+            first_answer(state, answers_read(insn)),
+        ),
+        VerifyCode::PartialPointer => write_with_reads(
             text,
             "moves a pointer or an answer other than as a whole aligned word of the stack",
             state,
             insn,
         ),
-        VerifyCode::V13 => write_number_as_address(text, access_of(insn), state),
-        VerifyCode::V14 => write_no_helper(text, number_called(insn)),
-        VerifyCode::V15 => write_call_with(
+        VerifyCode::NumberAsAddress => write_number_as_address(text, access_of(insn), state),
+        VerifyCode::UnknownHelper => write_no_helper(text, number_called(insn)),
+        VerifyCode::WrongArgument => write_call_with(
             text,
             " with arguments that it does not take",
             state,
             insn,
         ),
-        VerifyCode::V16 => write_too_many_held(text, state.held()),
-        VerifyCode::V17 => write_held_at_exit(text, state.references(), rows),
-        VerifyCode::V18 => write_no_number_at_exit(text, state),
-        VerifyCode::V19 => text.push_str(
+        VerifyCode::TooManyHeld => write_too_many_held(text, state.held()),
+        VerifyCode::HeldAtExit => write_held_at_exit(text, state.references(), rows),
+        VerifyCode::NoNumberReturned => write_no_number_at_exit(text, state),
+        VerifyCode::PathsDiffer => text.push_str(
             "is where paths meet that hold different objects, or of which one has compared an answer",
         ),
     }

@@ -4,7 +4,7 @@ use Rattle.ebpf_insn.specs.declared.insn.Insn.{Insn}
 use Rattle.ebpf_insn.specs.Program.{insn_at, slots_in}
 use Rattle.ebpf_insn.specs.Faults.{first_of, lowest}
 use Rattle.ebpf_flow.specs.declared.fault.FlowCode.{FlowCode}
-use Rattle.ebpf_flow.specs.declared.fault.FlowCode.TheVariants.{F1, F2, F3, F4, F5}
+use Rattle.ebpf_flow.specs.declared.fault.FlowCode.TheVariants.{JumpOutside, JumpIntoWide, JumpBackward, FallsOffEnd, Unreachable}
 use Rattle.ebpf_flow.specs.declared.fault.FlowFault.{FlowFault}
 use Rattle.ebpf_flow.specs.declared.fault.FlowFault.TheVariants.{Bad, NoMemory}
 use Rattle.ebpf_flow.specs.declared.edges.Edges.{Edges}
@@ -25,10 +25,10 @@ is_backward slot (Some to) = nat_le to slot
 
 abbrev pub jump_fault : List (Option Insn) → ℕ → Option ℤ → Option ℕ → Option FlowCode
 jump_fault p slot None to = None
-jump_fault p slot (Some z) to = first_of ((is_outside p to, F1) ∷ (is_second_half p to, F2) ∷ (is_backward slot to, F3) ∷ [])
+jump_fault p slot (Some z) to = first_of ((is_outside p to, JumpOutside) ∷ (is_second_half p to, JumpIntoWide) ∷ (is_backward slot to, JumpBackward) ∷ [])
 
 abbrev pub fall_fault : List (Option Insn) → ℕ → Insn → Option FlowCode
-fall_fault p slot i = first_of ((falls i && nat_le (length p) (slot + slots_in i), F4) ∷ (not (is_reached p slot), F5) ∷ [])
+fall_fault p slot i = first_of ((falls i && nat_le (length p) (slot + slots_in i), FallsOffEnd) ∷ (not (is_reached p slot), Unreachable) ∷ [])
 
 -- the first of two that is there
 abbrev pub or_else : {C : Type 0} → Option C → Option C → Option C

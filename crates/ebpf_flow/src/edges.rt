@@ -76,14 +76,14 @@ fn target_from(program: &Program, slot: usize, displacement: i64) -> Result<u16,
     let slots = program.slots();
     let to = slot as i64 + 1 + displacement;
     if to < 0 || to >= slots as i64 {
-        return Err(FlowCode::F1);
+        return Err(FlowCode::JumpOutside);
     }
     let to = to as usize;
     if program.at(to).is_none() {
-        return Err(FlowCode::F2);
+        return Err(FlowCode::JumpIntoWide);
     }
     if to <= slot {
-        return Err(FlowCode::F3);
+        return Err(FlowCode::JumpBackward);
     }
     Ok(to as u16)
 }
@@ -108,10 +108,10 @@ fn fall_from(
     let falls = falls(insn);
     let next = slot + insn.slots();
     if falls && next >= slots {
-        return Err(FlowCode::F4);
+        return Err(FlowCode::FallsOffEnd);
     }
     if !reaches {
-        return Err(FlowCode::F5);
+        return Err(FlowCode::Unreachable);
     }
     if falls {
         Ok(Some(next as u16))

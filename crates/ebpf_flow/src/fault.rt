@@ -5,19 +5,19 @@ ghost use Rattle.std.specs.Prelude.{◌≡◌};
 use std::alloc::AllocError;
 use thiserror::Error;
 
-/// Why a slot is refused. Within a slot the order is that of the numbers.
+/// Why a slot is refused. Users see the code that begins each line. Within a slot the order is that of the codes.
 #[derive(Clone, Copy, Debug)]
 pub enum FlowCode {
-    /// The target of the jump is below slot 0 or past the last slot.
-    F1,
-    /// The target of the jump is the second half of a wide instruction.
-    F2,
-    /// The target of the jump isn't after the jump's own slot.
-    F3,
-    /// The instruction goes on to the slot after the last.
-    F4,
-    /// No path from slot 0 reaches the instruction.
-    F5,
+    /// `F1`: the target of the jump is below slot 0 or past the last slot.
+    JumpOutside,
+    /// `F2`: the target of the jump is the second half of a wide instruction.
+    JumpIntoWide,
+    /// `F3`: the target of the jump isn't after the jump's own slot.
+    JumpBackward,
+    /// `F4`: the instruction goes on to the slot after the last.
+    FallsOffEnd,
+    /// `F5`: no path from slot 0 reaches the instruction.
+    Unreachable,
 }
 
 /// Why [`crate::check::check`] refused a program.

@@ -1,8 +1,8 @@
 -- The objects of a machine: a stock of each kind, and what is said of an object of whatever kind there.
 use Rattle.std.specs.Prelude.{◌≡◌, ◌≢◌, ◌+◌, ◌*◌, ℕ, ◌==◌, if◌then◌else◌, List, [], Box, Option, Some, None, option_map}
 use Rattle.std.specs.Option.{MatchOption}
-use Rattle.run_object.specs.declared.Object.{Object}
-use Rattle.run_object.specs.Object.{kind_of, slot_of, bytes_of}
+use Rattle.ebpf_object.specs.declared.Object.{Object}
+use Rattle.ebpf_object.specs.Object.{kind_of, slot_of, bytes_of}
 use Rattle.ebpf_host.specs.declared.stocks.Stocks.{Stocks}
 use Rattle.ebpf_host.specs.Stock.{StockView, Shelved, IsHeld, held_count, shelved_at}
 

@@ -17,7 +17,7 @@ use ebpf_machine::report::Report;
 use ebpf_machine::run::StartFault;
 use ebpf_machine::tally::Tally;
 use ebpf_machine::workspace::Workspace;
-use run_object::Object;
+use ebpf_object::Object;
 use std::alloc::{AllocError, Global};
 use std::marker::{Brand, Model};
 use std::mem;

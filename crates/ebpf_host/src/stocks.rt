@@ -3,12 +3,12 @@
 ghost use Rattle.std.specs.Prelude.{◌≡◌, ◌<◌, ℕ, None, option_map, IfSome, IfNone, length};
 ghost use Rattle.ebpf_machine.specs.Kinds.{known_kinds};
 ghost use Rattle.ebpf_machine.specs.World.{image_at};
-ghost use Rattle.run_object.specs.Object.{bytes_of, kind_of, slot_of};
+ghost use Rattle.ebpf_object.specs.Object.{bytes_of, kind_of, slot_of};
 ghost use Rattle.ebpf_host.specs.Stock.{Exchanges, Gives, Takes};
 ghost use Rattle.ebpf_host.specs.Stocks.{Holds, OthersStay, as_shelved, stock_of};
 
 use crate::stock::Stock;
-use run_object::{Object, block, cell, record};
+use ebpf_object::{Object, block, cell, record};
 use slab_layer::{BlockKind, CellKind, Kind, RecordKind};
 use std::alloc::Global;
 use vmem_arena::{Arena, MAX_PAGES};

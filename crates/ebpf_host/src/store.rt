@@ -2,14 +2,14 @@
 
 ghost use Rattle.std.specs.Prelude.{◌≡◌, ◌≢◌, ◌<◌, ◌+◌, ℕ, Option, option_map, IfSome, IfNone, length};
 ghost use Rattle.ebpf_machine.specs.Kinds.{known_kinds};
-ghost use Rattle.run_object.specs.Object.{kind_of};
+ghost use Rattle.ebpf_object.specs.Object.{kind_of};
 ghost use Rattle.ebpf_host.specs.Stock.{Exchanges};
 ghost use Rattle.ebpf_host.specs.Stocks.{Holds, OthersStay, as_shelved, stock_of};
 
 use crate::stocks::Stocks;
 use ebpf_machine::objects::Objects;
 use ebpf_machine::tally::Tally;
-use run_object::Object;
+use ebpf_object::Object;
 use std::marker::Brand;
 use std::sync::ledger::Ledger;
 
@@ -53,7 +53,7 @@ impl<G: Ledger + Extent, N: Ledger, F: Ledger, M: Ledger> Store<G, N, F, M> {
 impl<G: Ledger + Extent, N: Ledger, F: Ledger, M: Ledger> Objects for Store<G, N, F, M> {
     ghost use Rattle.std.specs.Prelude.{◌≡◌, ◌≢◌, ◌<◌, ◌+◌, ℕ, length, Option, option_map, IfSome, IfNone};
     ghost use Rattle.ebpf_machine.specs.Kinds.{known_kinds};
-    ghost use Rattle.run_object.specs.Object.{kind_of, bytes_of, has_size};
+    ghost use Rattle.ebpf_object.specs.Object.{kind_of, bytes_of, has_size};
     ghost use Rattle.ebpf_host.specs.Stock.{Exchanges};
     ghost use Rattle.ebpf_host.specs.Stocks.{Holds, OthersStay, StandsThere, StandsNone, as_shelved, held_of, number_of, standing_on, stock_of};
 

@@ -13,7 +13,7 @@ use Rattle.ebpf_insn.specs.declared.insn.Insn.{Insn}
 use Rattle.ebpf_insn.specs.declared.insn.Insn.TheVariants as insn
 use Rattle.ebpf_insn.specs.declared.opcode.Form.TheVariants.{Wide}
 use Rattle.ebpf_insn.specs.declared.fault.DecodeCode.{DecodeCode}
-use Rattle.ebpf_insn.specs.declared.fault.DecodeCode.TheVariants.{I9}
+use Rattle.ebpf_insn.specs.declared.fault.DecodeCode.TheVariants.{ProgramTooLong}
 use Rattle.ebpf_insn.specs.declared.fault.DecodeFault.{DecodeFault}
 use Rattle.ebpf_insn.specs.declared.fault.DecodeFault.TheVariants.{Bad, NoMemory}
 use Rattle.ebpf_insn.specs.Slot.{slot_at, bytes_of_slot, listed}
@@ -161,7 +161,7 @@ place_fault_is bytes slot s second o first read next fault =
     rw first (ap (λ (a : Slot). slot_fault a (second_at (drop (8 * slot) bytes))) (sym read) ∙ ap (slot_fault s) (sym next) ∙ fault)
 
 -- the place after the last
-pub limit_fault : (bytes : List ℕ) (slot : ℕ) → slot ≡ 4096 → fault_at bytes slot ≡ Some I9
+pub limit_fault : (bytes : List ℕ) (slot : ℕ) → slot ≡ 4096 → fault_at bytes slot ≡ Some ProgramTooLong
 limit_fault bytes slot e = rw e refl
 
 -- a second half has no fault of its own

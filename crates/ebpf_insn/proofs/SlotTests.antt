@@ -5,7 +5,7 @@ use Rattle.ebpf_insn.specs.declared.register.Reg.{Reg}
 use Rattle.ebpf_insn.specs.declared.insn.Insn.{Insn}
 use Rattle.ebpf_insn.specs.declared.opcode.Form.{Form}
 use Rattle.ebpf_insn.specs.declared.opcode.Form.TheVariants as form
-use Rattle.ebpf_insn.specs.declared.fault.DecodeCode.TheVariants.{I2, I3, I4, I5, I6, I7, I8}
+use Rattle.ebpf_insn.specs.declared.fault.DecodeCode.TheVariants.{UnknownOpcode, UnknownRegister, UnusedFieldSet, MissingSecondSlot, BadSecondSlot, UndefinedField, UnsupportedForm}
 use Rattle.ebpf_insn.specs.Registers.{number_of, register_of}
 use Rattle.ebpf_insn.specs.Opcodes.{form_of, is_left_out}
 use Rattle.ebpf_insn.specs.Fields.{has_left_out_source, leaves_unused_zero, lacks_second, has_bad_second, has_defined_fields}
@@ -67,31 +67,31 @@ encoded_with f i s second bytes read h =
 
 -- ---- the first code that applies
 
-pub fault_left_out : (s : Slot) (second : Option Slot) → None ≡ form_of s.opcode → true ≡ is_left_out s.opcode → slot_fault s second ≡ Some I8
+pub fault_left_out : (s : Slot) (second : Option Slot) → None ≡ form_of s.opcode → true ≡ is_left_out s.opcode → slot_fault s second ≡ Some UnsupportedForm
 fault_left_out s second here left_out = rw (← here, ← left_out) refl
 
-pub fault_no_form : (s : Slot) (second : Option Slot) → None ≡ form_of s.opcode → false ≡ is_left_out s.opcode → slot_fault s second ≡ Some I2
+pub fault_no_form : (s : Slot) (second : Option Slot) → None ≡ form_of s.opcode → false ≡ is_left_out s.opcode → slot_fault s second ≡ Some UnknownOpcode
 fault_no_form s second here left_out = rw (← here, ← left_out) refl
 
-pub fault_source : (f : Form) (s : Slot) (second : Option Slot) → Some f ≡ form_of s.opcode → true ≡ has_left_out_source f s.src → slot_fault s second ≡ Some I8
+pub fault_source : (f : Form) (s : Slot) (second : Option Slot) → Some f ≡ form_of s.opcode → true ≡ has_left_out_source f s.src → slot_fault s second ≡ Some UnsupportedForm
 fault_source f s second here source = rw (← here, ← source) refl
 
-pub fault_dst : (f : Form) (s : Slot) (second : Option Slot) → Some f ≡ form_of s.opcode → false ≡ has_left_out_source f s.src → register_of s.dst ≡ None → slot_fault s second ≡ Some I3
+pub fault_dst : (f : Form) (s : Slot) (second : Option Slot) → Some f ≡ form_of s.opcode → false ≡ has_left_out_source f s.src → register_of s.dst ≡ None → slot_fault s second ≡ Some UnknownRegister
 fault_dst f s second here source to = rw (← here, ← source, no_register s.dst to) refl
 
-pub fault_src : (f : Form) (s : Slot) (second : Option Slot) (dst : Reg) → Some f ≡ form_of s.opcode → false ≡ has_left_out_source f s.src → register_of s.dst ≡ Some dst → register_of s.src ≡ None → slot_fault s second ≡ Some I3
+pub fault_src : (f : Form) (s : Slot) (second : Option Slot) (dst : Reg) → Some f ≡ form_of s.opcode → false ≡ has_left_out_source f s.src → register_of s.dst ≡ Some dst → register_of s.src ≡ None → slot_fault s second ≡ Some UnknownRegister
 fault_src f s second dst here source to from = rw (← here, ← source, is_register_of s.dst dst to, no_register s.src from) refl
 
-pub fault_unused : (f : Form) (s : Slot) (second : Option Slot) → HasRegisters f s → false ≡ leaves_unused_zero f s → slot_fault s second ≡ Some I4
+pub fault_unused : (f : Form) (s : Slot) (second : Option Slot) → HasRegisters f s → false ≡ leaves_unused_zero f s → slot_fault s second ≡ Some UnusedFieldSet
 fault_unused f s second has unused = rw (has.here, has.source, has.dst, has.src, ← unused) refl
 
-pub fault_lacks : (f : Form) (s : Slot) (second : Option Slot) → HasRegisters f s → true ≡ leaves_unused_zero f s → true ≡ lacks_second f second → slot_fault s second ≡ Some I5
+pub fault_lacks : (f : Form) (s : Slot) (second : Option Slot) → HasRegisters f s → true ≡ leaves_unused_zero f s → true ≡ lacks_second f second → slot_fault s second ≡ Some MissingSecondSlot
 fault_lacks f s second has unused lacks = rw (has.here, has.source, has.dst, has.src, ← unused, ← lacks) refl
 
-pub fault_second : (f : Form) (s : Slot) (second : Option Slot) → HasRegisters f s → true ≡ leaves_unused_zero f s → false ≡ lacks_second f second → true ≡ has_bad_second f second → slot_fault s second ≡ Some I6
+pub fault_second : (f : Form) (s : Slot) (second : Option Slot) → HasRegisters f s → true ≡ leaves_unused_zero f s → false ≡ lacks_second f second → true ≡ has_bad_second f second → slot_fault s second ≡ Some BadSecondSlot
 fault_second f s second has unused lacks bad = rw (has.here, has.source, has.dst, has.src, ← unused, ← lacks, ← bad) refl
 
-pub fault_defined : (f : Form) (s : Slot) (second : Option Slot) → HasRegisters f s → true ≡ leaves_unused_zero f s → false ≡ lacks_second f second → false ≡ has_bad_second f second → false ≡ has_defined_fields f s → slot_fault s second ≡ Some I7
+pub fault_defined : (f : Form) (s : Slot) (second : Option Slot) → HasRegisters f s → true ≡ leaves_unused_zero f s → false ≡ lacks_second f second → false ≡ has_bad_second f second → false ≡ has_defined_fields f s → slot_fault s second ≡ Some UndefinedField
 fault_defined f s second has unused lacks bad defined = rw (has.here, has.source, has.dst, has.src, ← unused, ← lacks, ← bad, ← defined) refl
 
 pub no_fault : (f : Form) (s : Slot) (second : Option Slot) → HasRegisters f s → true ≡ leaves_unused_zero f s → false ≡ lacks_second f second → false ≡ has_bad_second f second → true ≡ has_defined_fields f s → slot_fault s second ≡ None

@@ -5,7 +5,7 @@ use Rattle.ebpf_insn.specs.declared.slot.Slot.{Slot}
 use Rattle.ebpf_insn.specs.declared.opcode.Form.{Form}
 use Rattle.ebpf_insn.specs.declared.opcode.Form.TheVariants.{Wide}
 use Rattle.ebpf_insn.specs.declared.fault.DecodeCode.{DecodeCode}
-use Rattle.ebpf_insn.specs.declared.fault.DecodeCode.TheVariants.{I1, I2, I3, I4, I5, I6, I7, I8, I9}
+use Rattle.ebpf_insn.specs.declared.fault.DecodeCode.TheVariants.{WrongLength, UnknownOpcode, UnknownRegister, UnusedFieldSet, MissingSecondSlot, BadSecondSlot, UndefinedField, UnsupportedForm, ProgramTooLong}
 use Rattle.ebpf_insn.specs.declared.fault.DecodeFault.{DecodeFault}
 use Rattle.ebpf_insn.specs.declared.fault.DecodeFault.TheVariants.{Bad, NoMemory}
 use Rattle.ebpf_insn.specs.Slot.{slot_at}
@@ -17,15 +17,15 @@ abbrev pub is_register : ℕ → Bool
 is_register nibble = nat_le nibble 10
 
 abbrev pub form_fault : Option Form → Slot → Option Slot → Option DecodeCode
-form_fault None s second = Some (if is_left_out s.opcode then I8 else I2)
+form_fault None s second = Some (if is_left_out s.opcode then UnsupportedForm else UnknownOpcode)
 form_fault (Some f) s second = first_of (
-    (has_left_out_source f s.src, I8) ∷
-    (not (is_register s.dst), I3) ∷
-    (not (is_register s.src), I3) ∷
-    (not (leaves_unused_zero f s), I4) ∷
-    (lacks_second f second, I5) ∷
-    (has_bad_second f second, I6) ∷
-    (not (has_defined_fields f s), I7) ∷
+    (has_left_out_source f s.src, UnsupportedForm) ∷
+    (not (is_register s.dst), UnknownRegister) ∷
+    (not (is_register s.src), UnknownRegister) ∷
+    (not (leaves_unused_zero f s), UnusedFieldSet) ∷
+    (lacks_second f second, MissingSecondSlot) ∷
+    (has_bad_second f second, BadSecondSlot) ∷
+    (not (has_defined_fields f s), UndefinedField) ∷
     [])
 
 -- the first code that refuses a slot, with the slot after it
@@ -52,14 +52,14 @@ place_fault bytes slot =
 
 -- the first code that refuses the slot at a place in the bytes
 abbrev pub fault_at : List ℕ → ℕ → Option DecodeCode
-fault_at bytes slot = if slot == 4096 then Some I9 else place_fault bytes slot
+fault_at bytes slot = if slot == 4096 then Some ProgramTooLong else place_fault bytes slot
 
 abbrev pub is_uneven : ℕ → Bool
 is_uneven size = size == 0 || not (size % 8 == 0)
 
 -- the fault of bytes that are no program
 abbrev pub decode_fault : List ℕ → Option (ℕ × DecodeCode)
-decode_fault bytes = if is_uneven (length bytes) then Some (0, I1) else lowest (fault_at bytes) (length bytes / 8)
+decode_fault bytes = if is_uneven (length bytes) then Some (0, WrongLength) else lowest (fault_at bytes) (length bytes / 8)
 
 -- a fault is the defined one, or memory ran out
 abbrev pub IsDecodeFault : List ℕ → DecodeFault → Type 0

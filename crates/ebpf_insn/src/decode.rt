@@ -40,7 +40,7 @@ pub fn decode(alloc: Global, bytes: &[u8]) -> Result<Program, DecodeFault>
     if bytes.is_empty() || bytes.len() % 8 != 0 {
         return Err(DecodeFault::Bad {
             slot: 0,
-            code: DecodeCode::I1,
+            code: DecodeCode::WrongLength,
         });
     }
     let count = bytes.len() / 8;
@@ -51,7 +51,7 @@ pub fn decode(alloc: Global, bytes: &[u8]) -> Result<Program, DecodeFault>
         if slot == MAX_SLOTS {
             return Err(DecodeFault::Bad {
                 slot: MAX_SLOTS as u16,
-                code: DecodeCode::I9,
+                code: DecodeCode::ProgramTooLong,
             });
         }
         if is_second_half {
@@ -88,8 +88,7 @@ fn decode_at(bytes: &[u8], slot: usize) -> Result<Insn, DecodeCode>
 }
 
 // The instruction of the slot that the bytes begin with and, where it is a wide one, of the slot after it, or the first code
-// that applies: `I2` for an opcode that stands for no instruction, `I8` for a form that is left out, then `I3` to `I7` in this
-// order.
+// that applies: `UnknownOpcode`, `UnsupportedForm`, then `UnknownRegister` to `UndefinedField` in the order of their codes.
 #[inline(always)]
 fn decode_slot(slot: Slot, bytes: &[u8]) -> Result<Insn, DecodeCode>
     ensures found { IfOk result (λ i. IsDefined i × (slots_of i ≡ take (slots_in i) (slot ∷ listed (second_at bytes.now)))) }
@@ -117,29 +116,29 @@ fn decode_form(form: Option<Form>, slot: Slot, bytes: &[u8]) -> Result<Insn, Dec
 {
     let Some(form) = form else {
         return Err(if is_left_out(slot.opcode) {
-            DecodeCode::I8
+            DecodeCode::UnsupportedForm
         } else {
-            DecodeCode::I2
+            DecodeCode::UnknownOpcode
         });
     };
     if has_left_out_source(form, slot.src) {
-        return Err(DecodeCode::I8);
+        return Err(DecodeCode::UnsupportedForm);
     }
     let (Some(dst), Some(src)) = (Reg::new(slot.dst), Reg::new(slot.src)) else {
-        return Err(DecodeCode::I3);
+        return Err(DecodeCode::UnknownRegister);
     };
     if !leaves_unused_zero(form, slot) {
-        return Err(DecodeCode::I4);
+        return Err(DecodeCode::UnusedFieldSet);
     }
     let second = second_of(form, bytes);
     if lacks_second(form, second) {
-        return Err(DecodeCode::I5);
+        return Err(DecodeCode::MissingSecondSlot);
     }
     if has_bad_second(form, second) {
-        return Err(DecodeCode::I6);
+        return Err(DecodeCode::BadSecondSlot);
     }
     if !has_defined_fields(form, slot) {
-        return Err(DecodeCode::I7);
+        return Err(DecodeCode::UndefinedField);
     }
     Ok(insn_at_slot(form, slot, second, dst, src))
 }

@@ -3,27 +3,28 @@
 use std::alloc::AllocError;
 use thiserror::Error;
 
-/// Why a slot is refused. Within a slot `I9` comes first, then `I2`, `I8`, `I3`, `I4`, `I5`, `I6`, `I7`.
+/// Why a slot is refused. Users see the code that begins each line. Within a slot `ProgramTooLong` comes first, then `UnknownOpcode`,
+/// `UnsupportedForm`, and the others in the order of their codes.
 #[derive(Clone, Copy, Debug)]
 pub enum DecodeCode {
-    /// There are no bytes, or their number is no multiple of 8. It is reported at slot 0, before all else.
-    I1,
-    /// The opcode stands for no instruction.
-    I2,
-    /// A register nibble is above 10, whether the instruction reads it or not.
-    I3,
-    /// A field that the instruction doesn't use isn't zero.
-    I4,
-    /// A wide instruction has no second slot.
-    I5,
-    /// The second slot of a wide instruction has an opcode, a register or an offset that isn't zero.
-    I6,
-    /// The offset or the immediate isn't defined for the operation.
-    I7,
-    /// A form that is left out: maps, packets, atomics, and calls other than to helpers.
-    I8,
-    /// The program has more than 4096 slots. It is reported at slot 4096.
-    I9,
+    /// `I1`: there are no bytes, or their number is no multiple of 8. It is reported at slot 0, before all else.
+    WrongLength,
+    /// `I2`: the opcode stands for no instruction.
+    UnknownOpcode,
+    /// `I3`: a register nibble is above 10, whether the instruction reads it or not.
+    UnknownRegister,
+    /// `I4`: a field that the instruction doesn't use isn't zero.
+    UnusedFieldSet,
+    /// `I5`: a wide instruction has no second slot.
+    MissingSecondSlot,
+    /// `I6`: the second slot of a wide instruction has an opcode, a register or an offset that isn't zero.
+    BadSecondSlot,
+    /// `I7`: the offset or the immediate isn't defined for the operation.
+    UndefinedField,
+    /// `I8`: a form that is left out: maps, packets, atomics, and calls other than to helpers.
+    UnsupportedForm,
+    /// `I9`: the program has more than 4096 slots. It is reported at slot 4096.
+    ProgramTooLong,
 }
 
 /// Why [`crate::decode::decode`] made no program.

@@ -7,7 +7,7 @@ use Rattle.ebpf_insn.specs.declared.insn.Insn.TheVariants as insn
 use Rattle.ebpf_insn.specs.Program.{insn_at, slots_in}
 use Rattle.ebpf_insn.specs.Encoding.{IsWellFormed}
 use Rattle.ebpf_insn.proofs.FaultLemmas.{none_first, none_below}
-use Rattle.ebpf_flow.specs.declared.fault.FlowCode.TheVariants.{F1, F2, F4, F5}
+use Rattle.ebpf_flow.specs.declared.fault.FlowCode.TheVariants.{JumpOutside, JumpIntoWide, FallsOffEnd, Unreachable}
 use Rattle.ebpf_flow.specs.Edges.{falls, displacement_of, target_of, jump_of, edges_at, has_edge_to, reached_by, is_reached}
 use Rattle.ebpf_flow.specs.Flow.{is_outside, is_second_half, jump_fault, fall_fault, insn_fault, flow_fault_at, flow_fault}
 use Rattle.ebpf_flow.proofs.Next.{slot_zero_is_insn}
@@ -46,8 +46,8 @@ path_of p (suc m) to e =
 jump_fine : (p : List (Option Insn)) (slot : ℕ) (d : Option ℤ) → jump_fault p slot d (target_of d slot) ≡ None → faults.jump_fault p slot d ≡ None
 jump_fine p slot None e = refl
 jump_fine p slot (Some z) e =
-    let a = none_first (is_outside p (target_of (Some z) slot)) F1 _ e in
-    let b = none_first (is_second_half p (target_of (Some z) slot)) F2 _ a.1 in
+    let a = none_first (is_outside p (target_of (Some z) slot)) JumpOutside _ e in
+    let b = none_first (is_second_half p (target_of (Some z) slot)) JumpIntoWide _ a.1 in
     rw (a.0, b.0) refl
 
 module _ (p : List (Option Insn)) (formed : IsWellFormed p) (fine : flow_fault p ≡ None) where
@@ -55,8 +55,8 @@ module _ (p : List (Option Insn)) (formed : IsWellFormed p) (fine : flow_fault p
   at_insn slot i at =
       let here = none_below (flow_fault_at p) (length p) fine slot (there_inside p slot (ap is_none at)) in
       let parts = none_of (jump_fault p slot (displacement_of i) (jump_of i slot)) (fall_fault p slot i) (subst (λ (o : Option Insn). insn_fault p slot o ≡ None) at here) in
-      let falls_on = none_first (falls i && nat_le (length p) (slot + slots_in i)) F4 _ parts.1 in
-      let reached = none_first (not (is_reached p slot)) F5 _ falls_on.1 in (
+      let falls_on = none_first (falls i && nat_le (length p) (slot + slots_in i)) FallsOffEnd _ parts.1 in
+      let reached = none_first (not (is_reached p slot)) Unreachable _ falls_on.1 in (
         subst (λ (o : Option Insn). faults.edge_fault p slot o ≡ None) (sym at) (rw (jump_fine p slot (displacement_of i) parts.0, falls_on.0) refl),
         path_of p slot slot (is_true (is_reached p slot) reached.0),
       )

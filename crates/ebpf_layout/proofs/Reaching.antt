@@ -7,7 +7,7 @@ use Rattle.ebpf_insn.proofs.FaultLemmas.{none_first}
 use Rattle.ebpf_insn.specs.Encoding.{IsWellFormed}
 use Rattle.ebpf_flow.proofs.Next.{next_is_insn}
 use Rattle.ebpf_flow.specs.Flow.{or_else}
-use Rattle.ebpf_flow.specs.declared.fault.FlowCode.TheVariants.{F1, F2, F4}
+use Rattle.ebpf_flow.specs.declared.fault.FlowCode.TheVariants.{JumpOutside, JumpIntoWide, FallsOffEnd}
 use Rattle.ebpf_insn.specs.declared.insn.Insn.{Insn}
 use Rattle.ebpf_insn.specs.Program.{insn_at, slots_in}
 use Rattle.ebpf_flow.specs.declared.fault.FlowCode.{FlowCode}
@@ -106,7 +106,7 @@ none_of (Some x) b e = absurd (none-some x (sym e))
 fall_there : (p : List (Option Insn)) (slot to : ℕ) (i : Insn) → IsWellFormed p → insn_at p slot ≡ Some i → fall_fault p slot i ≡ None → fall_of i slot ≡ Some to → is_none (insn_at p to) ≡ false
 fall_there p slot to i formed at fine falls_to =
     let parts = cond_some (falls i) (slot + slots_in i) to falls_to in
-    let test = none_first (falls i && leb (length p) (slot + slots_in i)) F4 None fine in
+    let test = none_first (falls i && leb (length p) (slot + slots_in i)) FallsOffEnd None fine in
     elim (and_cases (falls i) (leb (length p) (slot + slots_in i)) test.0) [
       | inl stays ↦ absurd (false≢true (sym stays ∙ parts.0))
       | inr below ↦ subst (λ (k : ℕ). is_none (insn_at p k) ≡ false) parts.1 (next_is_insn p slot i formed at (leb-false (length p) (slot + slots_in i) below))
@@ -116,8 +116,8 @@ jump_there : (p : List (Option Insn)) (slot to : ℕ) (d : Option ℤ) → jump_
 jump_there p slot to None fine jumps = absurd (none-some to jumps)
 jump_there p slot to (Some z) fine jumps =
     let at : target_fault p (Some to) ≡ None = subst (λ (t : Option ℕ). target_fault p t ≡ None) jumps fine in
-    let outside = none_first (leb (length p) to) F1 _ at in
-    (none_first (is_none (insn_at p to)) F2 _ outside.1).0
+    let outside = none_first (leb (length p) to) JumpOutside _ at in
+    (none_first (is_none (insn_at p to)) JumpIntoWide _ outside.1).0
 
 pub edge_there : (p : List (Option Insn)) (slot to : ℕ) (i : Insn) → IsWellFormed p → insn_at p slot ≡ Some i → edge_fault_at p slot ≡ None → IsEdge p slot to → is_none (insn_at p to) ≡ false
 edge_there p slot to i formed at fine edge =

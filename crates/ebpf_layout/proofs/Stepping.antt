@@ -4,7 +4,7 @@ use Rattle.std.proofs.lemmas.Option.{none-some, same_Some}
 use Rattle.ebpf_insn.specs.declared.insn.Insn.{Insn}
 use Rattle.ebpf_insn.specs.declared.insn.Insn.TheVariants as insn
 use Rattle.ebpf_insn.specs.Program.{insn_at, slots_in}
-use Rattle.ebpf_flow.specs.declared.fault.FlowCode.TheVariants.{F1}
+use Rattle.ebpf_flow.specs.declared.fault.FlowCode.TheVariants.{JumpOutside}
 use Rattle.ebpf_flow.specs.Edges.{displacement_of, target_of, jump_of, fall_of}
 use Rattle.ebpf_machine.specs.Values.{Frame}
 use Rattle.ebpf_machine.specs.Effect.{Act, Nothing, Effect, Goes, Ends, Traps, effect_at, effect, effect_of_jump}
@@ -33,13 +33,13 @@ jump_led p slot d i jumps fine = by (jump_of i slot) refl where
   parts : (jump_fault p slot (displacement_of i) ≡ None) × (fall_fault p slot i ≡ None)
   parts = none_of (jump_fault p slot (displacement_of i)) (fall_fault p slot i) fine
 
-  outside : jump_of i slot ≡ None → Some F1 ≡ None
+  outside : jump_of i slot ≡ None → Some JumpOutside ≡ None
   outside none =
       let at : target_of (Some d) slot ≡ None = ap (λ (x : Option ℤ). target_of x slot) (sym jumps) ∙ none in
       sym (ap (target_fault p) at) ∙ (ap (jump_fault p slot) (sym jumps) ∙ parts.0)
 
   by : (o : Option ℕ) → jump_of i slot ≡ o → (to : ℕ) × (jump_of i slot ≡ Some to)
-  by None e = absurd (none-some F1 (sym (outside e)))
+  by None e = absurd (none-some JumpOutside (sym (outside e)))
   by (Some to) e = (to, e)
 
 both_jump : (p q : List (Option Insn)) (laid : IsLaidOut p q) (slot : ℕ) (i : Insn) (z : ℤ) → IsReached p slot → insn_at p slot ≡ Some i → insn_at q (laid.place slot) ≡ Some (moved i z)

@@ -9,7 +9,7 @@ use thiserror::Error;
 /// Why [`crate::layout::lay_out`] refused a program.
 #[derive(Clone, Copy, Debug, Error)]
 pub enum LayoutFault {
-    /// An edge of a reached instruction leads to no instruction: `F1`, `F2` or `F4` at the lowest such slot.
+    /// An edge of a reached instruction leads to no instruction: `JumpOutside`, `JumpIntoWide` or `FallsOffEnd` at the lowest such slot.
     #[error("slot {slot} is refused with {code:?}")]
     Flow { slot: u16, code: FlowCode },
     /// Something reached leads to a slot from which a path leads back. Where there is such a loop it is told before anything else.

@@ -79,14 +79,14 @@ fn target_fault(program: &Program, target: Option<usize>) -> Option<FlowCode>
     ensures { result ≡ target_fault program.now target }
 {
     let Some(to) = target else {
-        return Some(FlowCode::F1);
+        return Some(FlowCode::JumpOutside);
     };
     if to >= program.slots() {
-        return Some(FlowCode::F1);
+        return Some(FlowCode::JumpOutside);
     }
     match program.at(to) {
         Some(_) => None,
-        None => Some(FlowCode::F2),
+        None => Some(FlowCode::JumpIntoWide),
     }
 }
 
@@ -96,7 +96,7 @@ fn fall_fault(program: &Program, slot: usize, insn: Insn) -> Option<FlowCode>
     ensures { result ≡ fall_fault program.now slot insn }
 {
     if falls(insn) && slot + insn.slots() >= program.slots() {
-        Some(FlowCode::F4)
+        Some(FlowCode::FallsOffEnd)
     } else {
         None
     }

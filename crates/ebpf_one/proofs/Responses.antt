@@ -6,7 +6,7 @@ use Rattle.ebpf_state.specs.declared.kinds.KindRow.{KindRow}
 use Rattle.ebpf_insn.specs.Decoding.{decode_fault}
 use Rattle.ebpf_verify.specs.declared.decl.Decl.{Decl}
 use Rattle.ebpf_command.specs.declared.done.FaultCode.{FaultCode}
-use Rattle.ebpf_command.specs.declared.done.FaultCode.TheVariants.{S1}
+use Rattle.ebpf_command.specs.declared.done.FaultCode.TheVariants.{InputTooLong}
 use Rattle.ebpf_command.specs.declared.judge.Judged.{Judged}
 use Rattle.ebpf_command.specs.Input.{read_of}
 use Rattle.ebpf_command.specs.Judging.{IsJudged}
@@ -20,10 +20,10 @@ use Rattle.ebpf_one.specs.ListText.{RespondsList, RespondsGiven}
 use Rattle.ebpf_one.specs.OneText.{Responds, RespondsAsked, RespondsBytes, RespondsJudged, AreGiven}
 
 -- an input that is too long is S1, whatever it holds
-input_fault_long : (form : Form) (input : List ℕ) → 1048576 < length input → input_fault form input ≡ Some S1
+input_fault_long : (form : Form) (input : List ℕ) → 1048576 < length input → input_fault form input ≡ Some InputTooLong
 input_fault_long form input long = rw (lt-ltb 1048576 (length input) long) refl
 
-fault_of_long : (form : Form) (input context : List ℕ) (held : ℕ) → 1048576 < length input → fault_of form input context held ≡ Some S1
+fault_of_long : (form : Form) (input context : List ℕ) (held : ℕ) → 1048576 < length input → fault_of form input context held ≡ Some InputTooLong
 fault_of_long form input context held long = rw (lt-ltb 1048576 (length input) long) refl
 
 -- the responses to an input by the fault that it has
@@ -31,10 +31,10 @@ abbrev RespondsBy : Type 1
 RespondsBy = Option FaultCode → List ℕ → Response → Type 0
 
 -- where the response to an input that is too long is S1, whatever its bytes, it is the response to its beginning
-cuts_at : (fault : List ℕ → Option FaultCode) (Responds : RespondsBy) → ((input : List ℕ) → 1048576 < length input → fault input ≡ Some S1) → ((a b : List ℕ) (response : Response) → Responds (Some S1) a response → Responds (Some S1) b response) → CutsLong (λ input response. Responds (fault input) input response)
+cuts_at : (fault : List ℕ → Option FaultCode) (Responds : RespondsBy) → ((input : List ℕ) → 1048576 < length input → fault input ≡ Some InputTooLong) → ((a b : List ℕ) (response : Response) → Responds (Some InputTooLong) a response → Responds (Some InputTooLong) b response) → CutsLong (λ input response. Responds (fault input) input response)
 cuts_at fault Responds is_long same input response long h =
     let cut : length (read_of input) ≡ 1048577 = length-take-le 1048577 input (omega (arith, long)) in
-    let of_beginning : Responds (Some S1) (read_of input) response = subst (λ (f : Option FaultCode). Responds f (read_of input) response) (is_long (read_of input) (omega (arith, cut))) h in
+    let of_beginning : Responds (Some InputTooLong) (read_of input) response = subst (λ (f : Option FaultCode). Responds f (read_of input) response) (is_long (read_of input) (omega (arith, cut))) h in
     subst (λ (f : Option FaultCode). Responds f input response) (sym (is_long input (omega (arith, long)))) (same (read_of input) input response of_beginning)
 
 -- so `one` responds to an input that is too long as to its beginning

@@ -7,7 +7,7 @@ use Rattle.ebpf_insn.specs.declared.fault.DecodeCode.{DecodeCode}
 use Rattle.ebpf_explain.specs.DecodeSentences.{decode_sentence}
 use Rattle.ebpf_explain.specs.Hex.{hex_digits}
 use Rattle.ebpf_command.specs.declared.done.FaultCode.{FaultCode}
-use Rattle.ebpf_command.specs.declared.done.FaultCode.TheVariants.{S1, S4, S5}
+use Rattle.ebpf_command.specs.declared.done.FaultCode.TheVariants.{InputTooLong, BadNumber, BadHex}
 use Rattle.ebpf_command.specs.HexText.{hex_or_dash}
 use Rattle.ebpf_one.specs.declared.input_faults.Part.{Part}
 use Rattle.ebpf_one.specs.declared.input_faults.Part.TheVariants.{Input, Context}
@@ -88,9 +88,9 @@ slot_size Raw = codes "8 bytes"
 
 -- by the first code that applies; no other is given to an input and options
 abbrev pub fault_words : Form → (input context : List ℕ) (held : ℕ) → FaultCode → List ℕ
-fault_words form input context held S1 = codes "the input has more than 1048576 bytes: a program has at most 4096 slots, each of " ++ slot_size form
-fault_words form input context held S4 = too_much context held
-fault_words form input context held S5 = unread_of form input context
+fault_words form input context held InputTooLong = codes "the input has more than 1048576 bytes: a program has at most 4096 slots, each of " ++ slot_size form
+fault_words form input context held BadNumber = too_much context held
+fault_words form input context held BadHex = unread_of form input context
 fault_words form input context held _ = []
 
 abbrev pub fault_sentence : Form → (input context : List ℕ) (held : ℕ) → FaultCode → List ℕ

@@ -56,14 +56,14 @@ fn write_words(
     ensures { OnOk result (string_bytes text.new ≡ string_bytes text.old ++ fault_words form input.now context.now held code) }
 {
     match code {
-        FaultCode::S1 => {
+        FaultCode::InputTooLong => {
             text.push_str(
                 "the input has more than 1048576 bytes: a program has at most 4096 slots, each of ",
             )?;
             text.push_str(slot_size(form))
         }
-        FaultCode::S4 => write_too_much(alloc, text, context, held),
-        FaultCode::S5 => write_unread_of(alloc, text, form, input, context),
+        FaultCode::BadNumber => write_too_much(alloc, text, context, held),
+        FaultCode::BadHex => write_unread_of(alloc, text, form, input, context),
         _ => Ok(()),
     }
 }

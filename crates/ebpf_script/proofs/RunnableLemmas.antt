@@ -9,9 +9,9 @@ use Rattle.std.proofs.lemmas.List.Elements.{All-push}
 use Rattle.std.proofs.lemmas.List.Folds.{find_at}
 use Rattle.std.proofs.lemmas.Option.{slice_get-map, slice_get_within}
 use Rattle.ebpf_command.specs.declared.done.FaultCode.{FaultCode}
-use Rattle.ebpf_command.specs.declared.done.FaultCode.TheVariants.{S1, S2, S5, S6, S7, S9}
+use Rattle.ebpf_command.specs.declared.done.FaultCode.TheVariants.{InputTooLong, UnprintableByte, BadHex, BadName, UndefinedName, WrongContextLength}
 use Rattle.ebpf_command.specs.HexText.{hex_or_dash}
-use Rattle.worker_pool.specs.declared.jobs.Job.{Job}
+use Rattle.ebpf_pool.specs.declared.jobs.Job.{Job}
 use Rattle.ebpf_script.specs.declared.reader.script.Dialect.{Dialect}
 use Rattle.ebpf_script.specs.LineFaults.{shape_fault, line_fault, is_as_declared}
 use Rattle.ebpf_script.specs.Names.{is_name}
@@ -97,7 +97,7 @@ same_number a b h = grind (arith, nat_tests)
 
 job_next : (parsed : ParsedScript) (name hex : List ℕ) → shape_fault parsed (JobLine name hex) ≡ None → AreDeclared parsed.programs parsed.jobs → AreDeclared parsed.programs (with_line parsed (JobLine name hex)).jobs
 job_next parsed name hex fine h =
-    let tests = job_tests (is_none (hex_or_dash hex)) (not (is_name name)) (is_none (number_of parsed.programs name)) (not (is_as_declared parsed.programs name (unwrap_or (hex_or_dash hex) []))) S5 S6 S7 S9 fine in
+    let tests = job_tests (is_none (hex_or_dash hex)) (not (is_name name)) (is_none (number_of parsed.programs name)) (not (is_as_declared parsed.programs name (unwrap_or (hex_or_dash hex) []))) BadHex BadName UndefinedName WrongContextLength fine in
     All-push (λ (job : Job). slice_get (map (λ (p : Named). p.context) parsed.programs) job.program ≡ Some (length job.context)) parsed.jobs _ h
     (declared_here parsed.programs name _ tests.0 (same_number _ _ tests.1))
 
@@ -119,7 +119,7 @@ ready_next lines parsed PassLine fine h = record { pages = h.pages; declared = h
 shape_fine : (dialect : Dialect) (parsed : ParsedScript) (line : List ℕ) → line_fault dialect parsed line ≡ None → shape_fault parsed (shape_of dialect (words line)) ≡ None
 unfolding line_fault
 shape_fine dialect parsed line h = by (is_text line) h where
-  by : (b : Bool) → cond b (shape_fault parsed (shape_of dialect (words line))) (Some S2) ≡ None → shape_fault parsed (shape_of dialect (words line)) ≡ None
+  by : (b : Bool) → cond b (shape_fault parsed (shape_of dialect (words line))) (Some UnprintableByte) ≡ None → shape_fault parsed (shape_of dialect (words line)) ≡ None
   by true h = h
   by false h = absurd cc
 
@@ -147,7 +147,7 @@ few_jobs programs (job ∷ jobs) h few =
 pub text_runnable : (dialect : Dialect) (text : List ℕ) (parsed : ParsedScript) → parsed_text dialect text ≡ Ok parsed → IsRunnable parsed
 unfolding parsed_text
 text_runnable dialect text parsed h = by (nat_lt 1048576 (length text)) refl h where
-  by : (b : Bool) → nat_lt 1048576 (length text) ≡ b → cond b (Err (0, S1)) (parsed_lines dialect 1 empty_script (script_lines text)) ≡ Ok parsed → IsRunnable parsed
+  by : (b : Bool) → nat_lt 1048576 (length text) ≡ b → cond b (Err (0, InputTooLong)) (parsed_lines dialect 1 empty_script (script_lines text)) ≡ Ok parsed → IsRunnable parsed
   by true long is = absurd cc
   by false short is =
       let fits : length text ≤ 1048576 = grind (arith, nat_tests) in

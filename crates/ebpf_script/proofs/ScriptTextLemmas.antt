@@ -3,7 +3,7 @@ use Rattle.std.proofs.Common.{◌≡◌, ℕ, ◌<◌, List, length, Result, Err
 use Rattle.std.proofs.lemmas.List.{length-take-le}
 use Rattle.std.proofs.lemmas.Bool.{lt-ltb}
 use Rattle.ebpf_command.specs.declared.done.FaultCode.{FaultCode}
-use Rattle.ebpf_command.specs.declared.done.FaultCode.TheVariants.{S1}
+use Rattle.ebpf_command.specs.declared.done.FaultCode.TheVariants.{InputTooLong}
 use Rattle.ebpf_command.specs.Input.{read_of}
 use Rattle.ebpf_command.proofs.Written.{CutsLong}
 use Rattle.ebpf_script.specs.declared.reader.script.Dialect.{Dialect}
@@ -13,7 +13,7 @@ use Rattle.ebpf_script.specs.ParsedScript.{ParsedScript}
 use Rattle.ebpf_script.specs.Scripts.{parsed_text}
 use Rattle.ebpf_script.specs.ScriptText.{Doing, RespondsScript}
 
-parsed_text_long : (dialect : Dialect) (text : List ℕ) → 1048576 < length text → parsed_text dialect text ≡ Err (0, S1)
+parsed_text_long : (dialect : Dialect) (text : List ℕ) → 1048576 < length text → parsed_text dialect text ≡ Err (0, InputTooLong)
 unfolding parsed_text
 parsed_text_long dialect text long = rw (lt-ltb 1048576 (length text) long) refl
 
@@ -26,5 +26,5 @@ script_cuts dialect Does input response long h =
 pub explained_cuts : CutsLong RespondsExplainedCheck
 explained_cuts input response long h =
     let cut : length (read_of input) ≡ 1048577 = length-take-le 1048577 input (omega (arith, long)) in
-    let cut_off : ExplainsParsed (Err (0, S1)) (read_of input) response = subst (λ (r : Result ParsedScript (ℕ × FaultCode)). ExplainsParsed r (read_of input) response) (parsed_text_long Jobs (read_of input) (omega (arith, cut))) h in
+    let cut_off : ExplainsParsed (Err (0, InputTooLong)) (read_of input) response = subst (λ (r : Result ParsedScript (ℕ × FaultCode)). ExplainsParsed r (read_of input) response) (parsed_text_long Jobs (read_of input) (omega (arith, cut))) h in
     subst (λ (r : Result ParsedScript (ℕ × FaultCode)). ExplainsParsed r input response) (sym (parsed_text_long Jobs input (omega (arith, long)))) cut_off

@@ -1,7 +1,7 @@
 -- The shape of a line whose first word and number of words are known.
 use Rattle.std.proofs.Common.{◌≡◌, ◌≤◌, ◌<◌, ℕ, true, false, Bool, List, [], ◌∷◌, map, length, get_or, codes, Some, Result, OnOk, IfErr, refl, sym, ap, ◌∙◌, subst, arith}
 use Rattle.std.specs.Str.{bytes_eq}
-use Rattle.ebpf_command.specs.declared.done.FaultCode.TheVariants.{S3}
+use Rattle.ebpf_command.specs.declared.done.FaultCode.TheVariants.{UnknownLine}
 use Rattle.ebpf_command.specs.declared.done.Stop.{Stop}
 use Rattle.ebpf_command.specs.Stops.{IsStop}
 use Rattle.ebpf_script.specs.declared.reader.script.Script.{Script}
@@ -55,13 +55,13 @@ reap_line first rest a b is start exec grow reap = rw (is, start, exec, grow, re
 
 -- and those that are none of them
 pub no_event : {X : Type 0} (parsed : ParsedScript) (first : List ℕ) (f : X → List ℕ) (xs : List X) → 2 ≤ length xs → length xs < 3 → bytes_eq first (codes "start") ≡ false
-    → bytes_eq first (codes "exec") ≡ false → bytes_eq first (codes "grow") ≡ false → bytes_eq first (codes "reap") ≡ false → shape_fault parsed (event_shape first (map f xs)) ≡ Some S3
+    → bytes_eq first (codes "exec") ≡ false → bytes_eq first (codes "grow") ≡ false → bytes_eq first (codes "reap") ≡ false → shape_fault parsed (event_shape first (map f xs)) ≡ Some UnknownLine
 no_event parsed first f [] least below start exec grow reap = absurd (omega arith)
 no_event parsed first f (x ∷ []) least below start exec grow reap = absurd (omega arith)
 no_event parsed first f (x ∷ y ∷ []) least below start exec grow reap = rw (start, exec, grow, reap) refl
 no_event parsed first f (x ∷ y ∷ z ∷ xs) least below start exec grow reap = absurd (omega arith)
 
-pub no_long_event : {X : Type 0} (parsed : ParsedScript) (first : List ℕ) (f : X → List ℕ) (xs : List X) → 3 ≤ length xs → shape_fault parsed (event_shape first (map f xs)) ≡ Some S3
+pub no_long_event : {X : Type 0} (parsed : ParsedScript) (first : List ℕ) (f : X → List ℕ) (xs : List X) → 3 ≤ length xs → shape_fault parsed (event_shape first (map f xs)) ≡ Some UnknownLine
 no_long_event parsed first f [] least = absurd (omega arith)
 no_long_event parsed first f (x ∷ []) least = absurd (omega arith)
 no_long_event parsed first f (x ∷ y ∷ []) least = absurd (omega arith)

@@ -2,7 +2,7 @@
 use Rattle.std.specs.Prelude.{ℕ, Bool, not, ◌==◌, if◌then◌else◌, List, [], ◌∷◌, length, Option, Some, None, is_none, is_some, unwrap_or}
 use Rattle.ebpf_insn.specs.Faults.{first_of}
 use Rattle.ebpf_command.specs.declared.done.FaultCode.{FaultCode}
-use Rattle.ebpf_command.specs.declared.done.FaultCode.TheVariants.{S2, S3, S4, S5, S6, S7, S8, S9}
+use Rattle.ebpf_command.specs.declared.done.FaultCode.TheVariants.{UnprintableByte, UnknownLine, BadNumber, BadHex, BadName, UndefinedName, SecondArena, WrongContextLength}
 use Rattle.ebpf_command.specs.HexText.{hex_or_dash}
 use Rattle.ebpf_script.specs.declared.reader.script.Dialect.{Dialect}
 use Rattle.ebpf_script.specs.Names.{is_name}
@@ -20,46 +20,46 @@ is_as_declared programs name bytes = length bytes == unwrap_or (declared_by prog
 -- behind what the lines before say
 abbrev pub shape_fault : ParsedScript → Shape → Option FaultCode
 shape_fault parsed Passed = None
-shape_fault parsed Unknown = Some S3
+shape_fault parsed Unknown = Some UnknownLine
 shape_fault parsed (ProgramLine name context held hex) = first_of (
-    (is_none (context_of context), S4) ∷
-    (is_none (held_of held), S4) ∷
-    (is_none (hex_or_dash hex), S5) ∷
-    (not (is_name name), S6) ∷
-    (is_some (number_of parsed.programs name), S6) ∷
+    (is_none (context_of context), BadNumber) ∷
+    (is_none (held_of held), BadNumber) ∷
+    (is_none (hex_or_dash hex), BadHex) ∷
+    (not (is_name name), BadName) ∷
+    (is_some (number_of parsed.programs name), BadName) ∷
     [])
 shape_fault parsed (StartLine name hex) = first_of (
-    (is_none (hex_or_dash hex), S5) ∷
-    (not (is_name name), S6) ∷
-    (is_none (number_of parsed.programs name), S7) ∷
+    (is_none (hex_or_dash hex), BadHex) ∷
+    (not (is_name name), BadName) ∷
+    (is_none (number_of parsed.programs name), UndefinedName) ∷
     [])
 shape_fault parsed (ExecLine run) = first_of (
-    (is_none (run_of run), S4) ∷
+    (is_none (run_of run), BadNumber) ∷
     [])
 shape_fault parsed (AnsweredLine run answer) = first_of (
-    (is_none (run_of run), S4) ∷
-    (is_none (answer_of answer), S4) ∷
+    (is_none (run_of run), BadNumber) ∷
+    (is_none (answer_of answer), BadNumber) ∷
     [])
 shape_fault parsed (GrowLine kind slot) = first_of (
-    (is_none (kind_of kind), S4) ∷
-    (is_none (slot_of slot), S4) ∷
+    (is_none (kind_of kind), BadNumber) ∷
+    (is_none (slot_of slot), BadNumber) ∷
     [])
 shape_fault parsed (ReapLine kind slot) = first_of (
-    (is_none (kind_of kind), S4) ∷
-    (is_none (slot_of slot), S4) ∷
+    (is_none (kind_of kind), BadNumber) ∷
+    (is_none (slot_of slot), BadNumber) ∷
     [])
 shape_fault parsed (ArenaLine pages) = first_of (
-    (is_none (pages_of pages), S4) ∷
-    (is_some parsed.pages, S8) ∷
+    (is_none (pages_of pages), BadNumber) ∷
+    (is_some parsed.pages, SecondArena) ∷
     [])
 shape_fault parsed (JobLine name hex) = first_of (
-    (is_none (hex_or_dash hex), S5) ∷
-    (not (is_name name), S6) ∷
-    (is_none (number_of parsed.programs name), S7) ∷
-    (not (is_as_declared parsed.programs name (unwrap_or (hex_or_dash hex) [])), S9) ∷
+    (is_none (hex_or_dash hex), BadHex) ∷
+    (not (is_name name), BadName) ∷
+    (is_none (number_of parsed.programs name), UndefinedName) ∷
+    (not (is_as_declared parsed.programs name (unwrap_or (hex_or_dash hex) [])), WrongContextLength) ∷
     [])
 shape_fault parsed PassLine = None
 
 -- a line that is passed over too has text bytes alone
 unfoldable pub line_fault : Dialect → ParsedScript → List ℕ → Option FaultCode
-line_fault dialect parsed line = if is_text line then shape_fault parsed (shape_of dialect (words line)) else Some S2
+line_fault dialect parsed line = if is_text line then shape_fault parsed (shape_of dialect (words line)) else Some UnprintableByte

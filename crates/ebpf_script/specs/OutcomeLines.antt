@@ -3,8 +3,8 @@ use Rattle.std.specs.Prelude.{ℕ, ◌+◌, ◌++◌, ◌==◌, if◌then◌else
 use Rattle.std.specs.List.{flat_map}
 use Rattle.ebpf_machine.specs.declared.report.Report.{Report}
 use Rattle.object_cache.specs.declared.totals.Totals.{Totals}
-use Rattle.worker_pool.specs.declared.outcome.Outcome.{Outcome}
-use Rattle.worker_pool.specs.declared.outcome.ShelfTotals.{ShelfTotals}
+use Rattle.ebpf_pool.specs.declared.outcome.Outcome.{Outcome}
+use Rattle.ebpf_pool.specs.declared.outcome.ShelfTotals.{ShelfTotals}
 
 -- a number of a job's output
 abbrev pub job_emit_line : ℕ → ℕ → List ℕ

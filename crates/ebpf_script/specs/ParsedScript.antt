@@ -1,11 +1,11 @@
 -- A parsed script: its programs in the order of their lines, and its events, or its jobs and what they run with.
 use Rattle.std.specs.Prelude.{ℕ, ◌+◌, ◌++◌, List, [], ◌∷◌, codes, find, position, Option, Some, None, option_map, unwrap_or, if◌then◌else◌}
 use Rattle.std.specs.Str.{bytes_eq}
-use Rattle.ebpf_core.specs.declared.event.Answer.{Answer}
-use Rattle.ebpf_core.specs.declared.event.Answer.TheVariants.{Absent, Null, Slot}
-use Rattle.ebpf_core.specs.declared.event.Event.{Event}
-use Rattle.ebpf_core.specs.declared.event.Event.TheVariants.{Start, Exec, Grow, Reap}
-use Rattle.worker_pool.specs.declared.jobs.Job.{Job}
+use Rattle.ebpf_world.specs.declared.event.Answer.{Answer}
+use Rattle.ebpf_world.specs.declared.event.Answer.TheVariants.{Absent, Null, Slot}
+use Rattle.ebpf_world.specs.declared.event.Event.{Event}
+use Rattle.ebpf_world.specs.declared.event.Event.TheVariants.{Start, Exec, Grow, Reap}
+use Rattle.ebpf_pool.specs.declared.jobs.Job.{Job}
 use Rattle.ebpf_command.specs.HexText.{hex_or_dash}
 use Rattle.ebpf_script.specs.Numbers.{context_of, held_of, run_of, kind_of, slot_of, pages_of}
 use Rattle.ebpf_script.specs.Shapes.{Shape, Passed, Unknown, ProgramLine, StartLine, ExecLine, AnsweredLine, GrowLine, ReapLine, ArenaLine, JobLine, PassLine}

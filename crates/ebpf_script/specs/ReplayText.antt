@@ -3,8 +3,8 @@
 use Rattle.std.specs.Prelude.{◌≡◌, ℕ, ◌++◌, List, Result, Ok, Err, codes, decimal}
 use Rattle.ebpf_machine.specs.World.{World}
 use Rattle.ebpf_machine.specs.Events.{Illegal}
-use Rattle.ebpf_core.specs.Faults.{code_of}
-use Rattle.ebpf_core.specs.Replay.{world_after}
+use Rattle.ebpf_world.specs.Faults.{code_of}
+use Rattle.ebpf_world.specs.Replay.{world_after}
 use Rattle.ebpf_command.specs.Response.{Response, refused_response, clean_response}
 use Rattle.ebpf_command.specs.Writing.{Responding}
 use Rattle.ebpf_script.specs.declared.reader.script.Dialect.TheVariants.{Events}

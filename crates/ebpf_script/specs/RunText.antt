@@ -3,9 +3,9 @@
 use Rattle.std.specs.Prelude.{◌≡◌, ◌++◌, List, [], All}
 use Rattle.ebpf_verify.specs.Subject.{Subject}
 use Rattle.owners_table.specs.Owning.{SeatView}
-use Rattle.worker_pool.specs.declared.jobs.Job.{Job}
-use Rattle.worker_pool.specs.declared.outcome.Outcome.{Outcome}
-use Rattle.worker_pool.specs.Outcomes.{IsOutcome}
+use Rattle.ebpf_pool.specs.declared.jobs.Job.{Job}
+use Rattle.ebpf_pool.specs.declared.outcome.Outcome.{Outcome}
+use Rattle.ebpf_pool.specs.Outcomes.{IsOutcome}
 use Rattle.ebpf_command.specs.Response.{clean_response}
 use Rattle.ebpf_command.specs.Writing.{Responding}
 use Rattle.ebpf_script.specs.declared.reader.script.Dialect.TheVariants.{Jobs}

@@ -1,7 +1,7 @@
 -- Why a script can't be read, as the sentence of a line: the script's line as it stands, and what is expected.
 use Rattle.std.specs.Prelude.{ℕ, ◌-◌, ◌++◌, ◌&&◌, nat_le, nat_lt, if◌then◌else◌, List, [], length, map, take, codes, decimal, slice_index_or}
 use Rattle.ebpf_command.specs.declared.done.FaultCode.{FaultCode}
-use Rattle.ebpf_command.specs.declared.done.FaultCode.TheVariants.{S1, S2, S3, S4, S5, S6, S7, S8, S9}
+use Rattle.ebpf_command.specs.declared.done.FaultCode.TheVariants.{InputTooLong, UnprintableByte, UnknownLine, BadNumber, BadHex, BadName, UndefinedName, SecondArena, WrongContextLength}
 use Rattle.ebpf_script.specs.ScriptLines.{script_lines}
 
 -- a byte that prints, or a space; a question mark for any other
@@ -14,15 +14,15 @@ shown_line line = map shown_byte (take 60 line) ++ (if nat_lt 60 (length line) t
 
 -- a text that is too long is no line's fault
 abbrev pub expected : FaultCode → List ℕ
-expected S1 = []
-expected S2 = codes "a line has printable ASCII and tabs alone"
-expected S3 = codes "no line of this command has this first word and so many words"
-expected S4 = codes "a number is out of its range, or has other than digits"
-expected S5 = codes "hex is an even number of digits, or -"
-expected S6 = codes "a name has 1 to 32 letters, digits, _ or -, and one program line"
-expected S7 = codes "its program line is to stand before it"
-expected S8 = codes "one arena line is enough"
-expected S9 = codes "the context is to be as long as its program declares"
+expected InputTooLong = []
+expected UnprintableByte = codes "a line has printable ASCII and tabs alone"
+expected UnknownLine = codes "no line of this command has this first word and so many words"
+expected BadNumber = codes "a number is out of its range, or has other than digits"
+expected BadHex = codes "hex is an even number of digits, or -"
+expected BadName = codes "a name has 1 to 32 letters, digits, _ or -, and one program line"
+expected UndefinedName = codes "its program line is to stand before it"
+expected SecondArena = codes "one arena line is enough"
+expected WrongContextLength = codes "the context is to be as long as its program declares"
 
 abbrev pub line_sentence : List ℕ → ℕ → FaultCode → List ℕ
 line_sentence line number code = codes "  line " ++ (decimal number ++ (codes " is " ++ (shown_line line ++ (codes ": " ++ (expected code ++ codes "\n")))))
@@ -32,5 +32,5 @@ abbrev pub numbered_line : List ℕ → ℕ → List ℕ
 numbered_line text number = slice_index_or (script_lines text) (number - 1) []
 
 abbrev pub script_fault_sentence : List ℕ → ℕ → FaultCode → List ℕ
-script_fault_sentence text number S1 = codes "  the script has more than 1048576 bytes\n"
+script_fault_sentence text number InputTooLong = codes "  the script has more than 1048576 bytes\n"
 script_fault_sentence text number code = line_sentence (numbered_line text number) number code

@@ -1,7 +1,7 @@
 -- The script that a text is parsed to, or its fault: the lowest line that has one, by its first code.
 use Rattle.std.specs.Prelude.{ℕ, ◌+◌, nat_lt, if◌then◌else◌, List, [], ◌∷◌, length, Option, Some, None, Result, Ok, Err}
 use Rattle.ebpf_command.specs.declared.done.FaultCode.{FaultCode}
-use Rattle.ebpf_command.specs.declared.done.FaultCode.TheVariants.{S1}
+use Rattle.ebpf_command.specs.declared.done.FaultCode.TheVariants.{InputTooLong}
 use Rattle.ebpf_script.specs.declared.reader.script.Dialect.{Dialect}
 use Rattle.ebpf_script.specs.LineFaults.{line_fault}
 use Rattle.ebpf_script.specs.ParsedScript.{ParsedScript, empty_script, with_line}
@@ -23,4 +23,4 @@ parsed_lines dialect number parsed (line ∷ lines) =
 -- lines count from 1; a text that is too long is no line's fault
 unfoldable pub parsed_text : Dialect → List ℕ → Result ParsedScript (ℕ × FaultCode)
 parsed_text dialect text =
-    if nat_lt 1048576 (length text) then Err (0, S1) else parsed_lines dialect 1 empty_script (script_lines text)
+    if nat_lt 1048576 (length text) then Err (0, InputTooLong) else parsed_lines dialect 1 empty_script (script_lines text)

@@ -1,7 +1,7 @@
 -- What is told of an outcome beside its text.
 use Rattle.std.specs.Prelude.{◌≡◌, ℕ, List, length, sum_by}
 use Rattle.ebpf_machine.specs.declared.report.Report.{Report}
-use Rattle.worker_pool.specs.declared.outcome.Outcome.{Outcome}
+use Rattle.ebpf_pool.specs.declared.outcome.Outcome.{Outcome}
 use Rattle.ebpf_script.specs.declared.stats.Stats.{Stats}
 
 -- how many instructions the reports tell

@@ -1,12 +1,12 @@
 //! The counts of an outcome.
 
 ghost use Rattle.std.specs.Prelude.{◌≡◌, All, length, sum_by};
-ghost use Rattle.worker_pool.specs.Outcomes.{IsEvenTotal};
+ghost use Rattle.ebpf_pool.specs.Outcomes.{IsEvenTotal};
 ghost use Rattle.ebpf_script.specs.Stats.{AreStatsOf, steps_in};
 
 use crate::stats::Stats;
 use ebpf_machine::report::Report;
-use worker_pool::Outcome;
+use ebpf_pool::Outcome;
 
 /// The stats of an outcome that adds up.
 pub(crate) fn stats_of(outcome: Outcome) -> Stats

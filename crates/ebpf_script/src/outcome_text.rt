@@ -5,9 +5,9 @@ ghost use Rattle.std.specs.List.{flat_map};
 ghost use Rattle.ebpf_script.specs.OutcomeLines.{job_emit_line, report_lines, reports_from, cache_line, cache_lines, shelf_line, shelf_lines, outcome_lines};
 
 use ebpf_machine::report::Report;
+use ebpf_pool::{Outcome, ShelfTotals};
 use object_cache::Totals;
 use std::alloc::AllocError;
-use worker_pool::{Outcome, ShelfTotals};
 
 /// Writes an outcome behind a text: each job in order, then the cache of each kind, and then each shelf that was used. It fails
 /// only where an allocation fails.

@@ -33,11 +33,11 @@ pub fn read_script(alloc: Global, dialect: Dialect, text: &[u8]) -> Result<Scrip
     ensures few { IfOk result (λ script. script.passes ≤ MAX_INPUT + 1) }
     ensures refused { IfErr result (IsScriptStop (parsed_text dialect text.now)) }
     // A text that is too long is told as such, whatever memory there is.
-    ensures long { MAX_INPUT < length text.now → result ≡ Err (ScriptStop.Fault (record { code = FaultCode.S1; line = 0 })) }
+    ensures long { MAX_INPUT < length text.now → result ≡ Err (ScriptStop.Fault (record { code = FaultCode.InputTooLong; line = 0 })) }
 {
     if text.len() > MAX_INPUT {
         return Err(ScriptStop::Fault(ScriptFault {
-            code: FaultCode::S1,
+            code: FaultCode::InputTooLong,
             line: 0,
         }));
     }

@@ -1,7 +1,7 @@
 //! The command `replay`: programs, and a list of events over runs of them.
 
 ghost use Rattle.std.specs.Prelude.{◌≡◌, ◌≢◌, string_bytes, IfOk, IfErr};
-ghost use Rattle.ebpf_core.specs.Replay.{world_after};
+ghost use Rattle.ebpf_world.specs.Replay.{world_after};
 ghost use Rattle.ebpf_machine.specs.Kinds.{AreKnown};
 ghost use Rattle.ebpf_command.specs.declared.done.EngineFault.TheVariants.{Output};
 ghost use Rattle.ebpf_command.specs.Writing.{Writes, WritesBeginning, Reads};
@@ -16,10 +16,10 @@ use crate::verdicts::verdicts_on;
 use crate::world_text::write_world;
 use ebpf_command::answer::{Answer, answer_fault, respond};
 use ebpf_command::done::{Done, EngineFault};
-use ebpf_core::event::Event;
-use ebpf_core::fault::ReplayFault;
-use ebpf_core::replay::replay as replay_events;
 use ebpf_verify::verified::Verified;
+use ebpf_world::event::Event;
+use ebpf_world::fault::ReplayFault;
+use ebpf_world::replay::replay as replay_events;
 use std::alloc::{AllocError, Global};
 use std::io::{Read, Write};
 

@@ -2,7 +2,7 @@
 
 ghost use Rattle.std.specs.Prelude.{◌≡◌, ◌≢◌, ◌+◌, ◌≤◌, ◌<◌, ◌^◌, None, Ok, IfOk, IfErr};
 ghost use Rattle.ebpf_machine.specs.Kinds.{AreKnown};
-ghost use Rattle.worker_pool.specs.Admission.{pool_fault};
+ghost use Rattle.ebpf_pool.specs.Admission.{pool_fault};
 ghost use Rattle.ebpf_command.specs.declared.done.EngineFault.TheVariants.{Output};
 ghost use Rattle.ebpf_command.specs.Writing.{Writes, WritesBeginning, Reads};
 ghost use Rattle.ebpf_script.specs.ReadScripts.{parsed_script};
@@ -18,12 +18,12 @@ use crate::reader::script::{Dialect, Script, ScriptStop};
 use crate::verdicts::verdicts_on;
 use ebpf_command::answer::{Answer, answer_fault, respond};
 use ebpf_command::done::{Done, EngineFault};
+use ebpf_pool::{Host, Job, NoGate, Outcome, PoolFault, run_jobs};
 use owners_table::owners::Owners;
 use std::alloc::{AllocError, Global};
 use std::io::{Read, Write};
 use std::sync::Wait;
 use std::thread::Threads;
-use worker_pool::{Host, Job, NoGate, Outcome, PoolFault, run_jobs};
 
 // The pages of the arena, where no line says how many.
 const PAGES: u32 = 256;

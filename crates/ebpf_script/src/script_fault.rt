@@ -20,7 +20,7 @@ pub(crate) fn write_script_fault(
 {
     let line = fault.line;
     match fault.code {
-        FaultCode::S1 => text.push_str("  the script has more than 1048576 bytes\n"),
+        FaultCode::InputTooLong => text.push_str("  the script has more than 1048576 bytes\n"),
         code => write_line_fault(text, numbered_line(script, line), line, code),
     }
 }
@@ -106,14 +106,14 @@ fn expected(code: FaultCode) -> &'static str
     ensures { result.now ≡ expected code }
 {
     match code {
-        FaultCode::S1 => "",
-        FaultCode::S2 => "a line has printable ASCII and tabs alone",
-        FaultCode::S3 => "no line of this command has this first word and so many words",
-        FaultCode::S4 => "a number is out of its range, or has other than digits",
-        FaultCode::S5 => "hex is an even number of digits, or -",
-        FaultCode::S6 => "a name has 1 to 32 letters, digits, _ or -, and one program line",
-        FaultCode::S7 => "its program line is to stand before it",
-        FaultCode::S8 => "one arena line is enough",
-        FaultCode::S9 => "the context is to be as long as its program declares",
+        FaultCode::InputTooLong => "",
+        FaultCode::UnprintableByte => "a line has printable ASCII and tabs alone",
+        FaultCode::UnknownLine => "no line of this command has this first word and so many words",
+        FaultCode::BadNumber => "a number is out of its range, or has other than digits",
+        FaultCode::BadHex => "hex is an even number of digits, or -",
+        FaultCode::BadName => "a name has 1 to 32 letters, digits, _ or -, and one program line",
+        FaultCode::UndefinedName => "its program line is to stand before it",
+        FaultCode::SecondArena => "one arena line is enough",
+        FaultCode::WrongContextLength => "the context is to be as long as its program declares",
     }
 }

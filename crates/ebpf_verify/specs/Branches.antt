@@ -19,7 +19,7 @@ use Rattle.ebpf_state.specs.StateView.{StateView}
 use Rattle.ebpf_state.specs.States.{register_of, with_register}
 use Rattle.ebpf_state.specs.References.{settled}
 use Rattle.ebpf_verify.specs.declared.fault.VerifyCode.{VerifyCode}
-use Rattle.ebpf_verify.specs.declared.fault.VerifyCode.TheVariants.{V1, V5}
+use Rattle.ebpf_verify.specs.declared.fault.VerifyCode.TheVariants.{UnsetRegister, PointerCompared}
 
 -- what is known of a second operand
 abbrev pub operand : StateView → Width → Source → Abs
@@ -43,8 +43,8 @@ null_test width condition left right = if compares_with_null width condition rig
 -- any other comparison is of two numbers
 abbrev pub comparison_refusal : Abs → Abs → Option VerifyCode
 comparison_refusal left right = first_of (
-    (is_unset left || is_unset right, V1) ∷
-    (is_pointer left || is_may left || is_pointer right || is_may right, V5) ∷
+    (is_unset left || is_unset right, UnsetRegister) ∷
+    (is_pointer left || is_may left || is_pointer right || is_may right, PointerCompared) ∷
     [])
 
 abbrev pub branch_refusal : Option ℕ → Abs → Abs → Option VerifyCode

@@ -14,7 +14,7 @@ use Rattle.ebpf_state.specs.States.{register_of, with_register}
 use Rattle.ebpf_state.specs.References.{holding, forgotten, kind_held}
 use Rattle.ebpf_verify.specs.declared.decl.Decl.{Decl}
 use Rattle.ebpf_verify.specs.declared.fault.VerifyCode.{VerifyCode}
-use Rattle.ebpf_verify.specs.declared.fault.VerifyCode.TheVariants.{V1, V11, V14, V15, V16}
+use Rattle.ebpf_verify.specs.declared.fault.VerifyCode.TheVariants.{UnsetRegister, UntestedAnswer, UnknownHelper, WrongArgument, TooManyHeld}
 use Rattle.ebpf_operation.specs.declared.helper.Helper.{Helper}
 use Rattle.ebpf_operation.specs.declared.helper.Helper.TheVariants.{New, Free, Emit, Swap}
 use Rattle.ebpf_verify.specs.Memory.{is_number}
@@ -34,22 +34,22 @@ is_whole_object _ = false
 -- new asks for a kind, and for room among the objects that the program declares
 abbrev pub new_refusal : Decl → ℕ → ℕ → Abs → Option VerifyCode
 new_refusal decl kinds held kind = first_of (
-    (is_unset kind, V1) ∷
-    (not (names_kind kinds kind), V15) ∷
-    (nat_le decl.held held, V16) ∷
+    (is_unset kind, UnsetRegister) ∷
+    (not (names_kind kinds kind), WrongArgument) ∷
+    (nat_le decl.held held, TooManyHeld) ∷
     [])
 
 abbrev pub free_refusal : Abs → Option VerifyCode
 free_refusal object = first_of (
-    (is_unset object, V1) ∷
-    (is_may object, V11) ∷
-    (not (is_whole_object object), V15) ∷
+    (is_unset object, UnsetRegister) ∷
+    (is_may object, UntestedAnswer) ∷
+    (not (is_whole_object object), WrongArgument) ∷
     [])
 
 abbrev pub emit_refusal : Abs → Option VerifyCode
 emit_refusal number = first_of (
-    (is_unset number, V1) ∷
-    (not (is_number number), V15) ∷
+    (is_unset number, UnsetRegister) ∷
+    (not (is_number number), WrongArgument) ∷
     [])
 
 -- the number that a constant is
@@ -75,16 +75,16 @@ without_given _ s = s
 -- swap asks for a shelf and for what goes onto it, and for room once that is gone
 abbrev pub swap_refusal : Decl → ℕ → StateView → Abs → Abs → Option VerifyCode
 swap_refusal decl kinds s shelf given = first_of (
-    (is_unset shelf, V1) ∷
-    (is_unset given, V1) ∷
-    (is_may given, V11) ∷
-    (not (names_kind kinds shelf), V15) ∷
-    (not (fits_shelf (constant_in shelf) s given), V15) ∷
-    (nat_le decl.held (length (without_given given s).held), V16) ∷
+    (is_unset shelf, UnsetRegister) ∷
+    (is_unset given, UnsetRegister) ∷
+    (is_may given, UntestedAnswer) ∷
+    (not (names_kind kinds shelf), WrongArgument) ∷
+    (not (fits_shelf (constant_in shelf) s given), WrongArgument) ∷
+    (nat_le decl.held (length (without_given given s).held), TooManyHeld) ∷
     [])
 
 abbrev pub call_refusal : Decl → List KindRow → Option Helper → StateView → Option VerifyCode
-call_refusal decl rows None s = Some V14
+call_refusal decl rows None s = Some UnknownHelper
 call_refusal decl rows (Some New) s = new_refusal decl (length rows) (length s.held) (register_of s R1)
 call_refusal decl rows (Some Free) s = free_refusal (register_of s R1)
 call_refusal decl rows (Some Emit) s = emit_refusal (register_of s R1)

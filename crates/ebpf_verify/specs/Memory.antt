@@ -15,7 +15,7 @@ use Rattle.ebpf_state.specs.References.{kind_held}
 use Rattle.ebpf_state.specs.Stack.{bytes_in, may_point, loaded_range, loaded, stored}
 use Rattle.ebpf_state.specs.StateView.{StateView}
 use Rattle.ebpf_verify.specs.declared.fault.VerifyCode.{VerifyCode}
-use Rattle.ebpf_verify.specs.declared.fault.VerifyCode.TheVariants.{V1, V2, V6, V7, V8, V9, V10, V11, V12, V13}
+use Rattle.ebpf_verify.specs.declared.fault.VerifyCode.TheVariants.{UnsetRegister, FramePointerWritten, OutsideStack, UnsetStack, OutsideContext, ContextWritten, OutsideObject, UntestedAnswer, PartialPointer, NumberAsAddress}
 use Rattle.ebpf_verify.specs.Operations.{is_frame_pointer}
 
 abbrev pub is_number : Abs → Bool
@@ -24,9 +24,9 @@ is_number _ = false
 
 -- the code of a fault of the stack
 abbrev pub stack_code : StackFault → VerifyCode
-stack_code Bounds = V6
-stack_code UnsetByte = V7
-stack_code SplitPointer = V12
+stack_code Bounds = OutsideStack
+stack_code UnsetByte = UnsetStack
+stack_code SplitPointer = PartialPointer
 
 abbrev pub refused_access : {X : Type 0} → Result X StackFault → Option VerifyCode
 refused_access (Ok x) = None
@@ -51,16 +51,16 @@ size_held rows call s = size_of rows (kind_held call s)
 -- why bytes behind a pointer can't be loaded
 abbrev pub reading_refusal : ℕ → List KindRow → Size → Bool → ℤ → Abs → StateView → Option VerifyCode
 reading_refusal context rows size signed offset (Stk k) s = refused_access (loaded s size signed (k +ℤ offset))
-reading_refusal context rows size signed offset (Ctx a b) s = if is_in_bounds context a b offset (bytes_in size) then None else Some V8
-reading_refusal context rows size signed offset (Ob call a b) s = if is_in_bounds (size_held rows call s) a b offset (bytes_in size) then None else Some V10
+reading_refusal context rows size signed offset (Ctx a b) s = if is_in_bounds context a b offset (bytes_in size) then None else Some OutsideContext
+reading_refusal context rows size signed offset (Ob call a b) s = if is_in_bounds (size_held rows call s) a b offset (bytes_in size) then None else Some OutsideObject
 reading_refusal context rows size signed offset _ s = None
 
 abbrev pub load_refusal : ℕ → List KindRow → Size → Bool → Reg → ℤ → Abs → StateView → Option VerifyCode
 load_refusal context rows size signed dst offset base s = or_else (first_of (
-    (is_unset base, V1) ∷
-    (is_frame_pointer dst, V2) ∷
-    (is_number base, V13) ∷
-    (is_may base, V11) ∷
+    (is_unset base, UnsetRegister) ∷
+    (is_frame_pointer dst, FramePointerWritten) ∷
+    (is_number base, NumberAsAddress) ∷
+    (is_may base, UntestedAnswer) ∷
     [])) (reading_refusal context rows size signed offset base s)
 
 abbrev pub value_or_unset : Result Abs StackFault → Abs
@@ -79,18 +79,18 @@ loaded_value size signed offset _ s = Unset
 -- why a value can't be stored behind a pointer: the context is never written, and objects hold numbers alone
 abbrev pub writing_refusal : List KindRow → Size → ℤ → Abs → Abs → StateView → Option VerifyCode
 writing_refusal rows size offset (Stk k) value s = refused_access (stored s size (k +ℤ offset) value)
-writing_refusal rows size offset (Ctx a b) value s = Some V9
+writing_refusal rows size offset (Ctx a b) value s = Some ContextWritten
 writing_refusal rows size offset (Ob call a b) value s = first_of (
-    (not (is_in_bounds (size_held rows call s) a b offset (bytes_in size)), V10) ∷
-    (may_point value, V12) ∷
+    (not (is_in_bounds (size_held rows call s) a b offset (bytes_in size)), OutsideObject) ∷
+    (may_point value, PartialPointer) ∷
     [])
 writing_refusal rows size offset _ value s = None
 
 abbrev pub store_refusal : List KindRow → Size → ℤ → Abs → Abs → StateView → Option VerifyCode
 store_refusal rows size offset base value s = or_else (first_of (
-    (is_unset base || is_unset value, V1) ∷
-    (is_number base, V13) ∷
-    (is_may base, V11) ∷
+    (is_unset base || is_unset value, UnsetRegister) ∷
+    (is_number base, NumberAsAddress) ∷
+    (is_may base, UntestedAnswer) ∷
     [])) (writing_refusal rows size offset base value s)
 
 abbrev pub state_after : Result StateView StackFault → Option StateView

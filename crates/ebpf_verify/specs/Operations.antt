@@ -14,7 +14,7 @@ use Rattle.ebpf_state.specs.declared.value.Abs.{Abs}
 use Rattle.ebpf_state.specs.declared.value.Abs.TheVariants.{Unset, Num, Stk}
 use Rattle.ebpf_state.specs.Abstract.{is_unset, is_pointer, is_may}
 use Rattle.ebpf_verify.specs.declared.fault.VerifyCode.{VerifyCode}
-use Rattle.ebpf_verify.specs.declared.fault.VerifyCode.TheVariants.{V1, V2, V3, V4, V11}
+use Rattle.ebpf_verify.specs.declared.fault.VerifyCode.TheVariants.{UnsetRegister, FramePointerWritten, PointerMisused, MovedTooFar, UntestedAnswer}
 use Rattle.ebpf_verify.specs.Pointers.{sum_value, difference_value}
 
 abbrev pub is_frame_pointer : Reg → Bool
@@ -23,28 +23,28 @@ is_frame_pointer _ = false
 
 -- a number that an instruction gives
 abbrev pub constant_refusal : Reg → Option VerifyCode
-constant_refusal dst = first_of ((is_frame_pointer dst, V2) ∷ [])
+constant_refusal dst = first_of ((is_frame_pointer dst, FramePointerWritten) ∷ [])
 
 -- mov at 64 bits copies any value, pointers too
 abbrev pub mov64_refusal : Abs → Reg → Option VerifyCode
-mov64_refusal src dst = first_of ((is_unset src, V1) ∷ (is_frame_pointer dst, V2) ∷ [])
+mov64_refusal src dst = first_of ((is_unset src, UnsetRegister) ∷ (is_frame_pointer dst, FramePointerWritten) ∷ [])
 
 -- an operation on one number: mov at 32 bits, movsx, neg, end
 abbrev pub unary_refusal : Abs → Reg → Option VerifyCode
 unary_refusal src dst = first_of (
-    (is_unset src, V1) ∷
-    (is_frame_pointer dst, V2) ∷
-    (is_may src, V11) ∷
-    (is_pointer src, V3) ∷
+    (is_unset src, UnsetRegister) ∷
+    (is_frame_pointer dst, FramePointerWritten) ∷
+    (is_may src, UntestedAnswer) ∷
+    (is_pointer src, PointerMisused) ∷
     [])
 
 -- an operation on two numbers
 abbrev pub binary_refusal : Abs → Abs → Reg → Option VerifyCode
 binary_refusal left right dst = first_of (
-    (is_unset left || is_unset right, V1) ∷
-    (is_frame_pointer dst, V2) ∷
-    (is_may left || is_may right, V11) ∷
-    (is_pointer left || is_pointer right, V3) ∷
+    (is_unset left || is_unset right, UnsetRegister) ∷
+    (is_frame_pointer dst, FramePointerWritten) ∷
+    (is_may left || is_may right, UntestedAnswer) ∷
+    (is_pointer left || is_pointer right, PointerMisused) ∷
     [])
 
 -- a pointer to the stack, and a value that is no constant: the stack's pointers are known exactly
@@ -55,12 +55,12 @@ makes_stack_offset_vary _ _ = false
 -- add and sub at 64 bits, of two values whose result is this
 abbrev pub moving_refusal : Abs → Abs → Reg → Bool → Bool → Option Abs → Option VerifyCode
 moving_refusal left right dst moves_by_pointer moves_stack_by_unknown value = first_of (
-    (is_unset left || is_unset right, V1) ∷
-    (is_frame_pointer dst, V2) ∷
-    (is_may left || is_may right, V11) ∷
-    (moves_by_pointer, V3) ∷
-    (moves_stack_by_unknown, V3) ∷
-    (is_none value, V4) ∷
+    (is_unset left || is_unset right, UnsetRegister) ∷
+    (is_frame_pointer dst, FramePointerWritten) ∷
+    (is_may left || is_may right, UntestedAnswer) ∷
+    (moves_by_pointer, PointerMisused) ∷
+    (moves_stack_by_unknown, PointerMisused) ∷
+    (is_none value, MovedTooFar) ∷
     [])
 
 -- two numbers are added, or a pointer is moved by a number

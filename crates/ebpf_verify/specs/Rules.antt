@@ -21,7 +21,7 @@ use Rattle.ebpf_state.specs.StateView.{StateView}
 use Rattle.ebpf_state.specs.States.{register_of, with_register}
 use Rattle.ebpf_verify.specs.declared.decl.Decl.{Decl}
 use Rattle.ebpf_verify.specs.declared.fault.VerifyCode.{VerifyCode}
-use Rattle.ebpf_verify.specs.declared.fault.VerifyCode.TheVariants.{V1, V17, V18}
+use Rattle.ebpf_verify.specs.declared.fault.VerifyCode.TheVariants.{UnsetRegister, HeldAtExit, NoNumberReturned}
 use Rattle.ebpf_verify.specs.Operations.{constant_refusal, unary_refusal, alu_refusal, unary_value, result_of}
 use Rattle.ebpf_verify.specs.Branches.{operand, null_test, branch_refusal, after_branch}
 use Rattle.ebpf_verify.specs.Memory.{load_refusal, loaded_value, store_refusal, after_store}
@@ -31,9 +31,9 @@ use Rattle.ebpf_verify.specs.Calls.{call_refusal, after_call}
 -- exit returns a number, with no object held
 abbrev pub exit_refusal : Abs → ℕ → Option VerifyCode
 exit_refusal result held = first_of (
-    (is_unset result, V1) ∷
-    (nat_lt 0 held, V17) ∷
-    (is_pointer result || is_may result, V18) ∷
+    (is_unset result, UnsetRegister) ∷
+    (nat_lt 0 held, HeldAtExit) ∷
+    (is_pointer result || is_may result, NoNumberReturned) ∷
     [])
 
 -- what refuses a branch, and a store, from what is known of their operands

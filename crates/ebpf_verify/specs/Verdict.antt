@@ -10,7 +10,7 @@ use Rattle.ebpf_verify.specs.declared.decl.Decl.{Decl}
 use Rattle.ebpf_verify.specs.declared.entry.EntryState.{EntryState}
 use Rattle.ebpf_verify.specs.declared.entry.EntryState.TheVariants.{Known, Conflict}
 use Rattle.ebpf_verify.specs.declared.fault.VerifyCode.{VerifyCode}
-use Rattle.ebpf_verify.specs.declared.fault.VerifyCode.TheVariants.{V19}
+use Rattle.ebpf_verify.specs.declared.fault.VerifyCode.TheVariants.{PathsDiffer}
 use Rattle.ebpf_verify.specs.declared.fault.VerifyFault.{VerifyFault}
 use Rattle.ebpf_verify.specs.declared.fault.VerifyFault.TheVariants.{Refused, NoMemory}
 use Rattle.ebpf_verify.specs.Subject.{Subject}
@@ -19,7 +19,7 @@ use Rattle.ebpf_verify.specs.Entry.{entry_of}
 
 -- a slot that is never entered refuses nothing
 abbrev pub refusal_in : Decl → List KindRow → Option Insn → EntryState → Option VerifyCode
-refusal_in decl rows i Conflict = Some V19
+refusal_in decl rows i Conflict = Some PathsDiffer
 refusal_in decl rows (Some i) (Known s) = refusal decl rows i s
 refusal_in decl rows i _ = None
 

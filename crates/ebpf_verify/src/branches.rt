@@ -54,8 +54,8 @@ pub(crate) fn compared(left: Abs, right: Abs) -> Result<(Range, Range), VerifyCo
 {
     match (left, right) {
         (Abs::Num(a), Abs::Num(b)) => Ok((a, b)),
-        (Abs::Unset, _) | (_, Abs::Unset) => Err(VerifyCode::V1),
-        _ => Err(VerifyCode::V5),
+        (Abs::Unset, _) | (_, Abs::Unset) => Err(VerifyCode::UnsetRegister),
+        _ => Err(VerifyCode::PointerCompared),
     }
 }
 

@@ -41,7 +41,7 @@ pub(crate) fn call(
         Some(Helper::Free) => call_free(slot, state),
         Some(Helper::Emit) => call_emit(slot, state),
         Some(Helper::Swap) => call_swap(decl, rows.len(), slot, state),
-        None => Err(refused_at(slot, VerifyCode::V14)),
+        None => Err(refused_at(slot, VerifyCode::UnknownHelper)),
     }
 }
 
@@ -54,16 +54,16 @@ fn call_new(decl: Decl, kinds: usize, slot: usize, state: &mut State) -> Result<
     ensures refused { IfErr result (IsSlotFault slot (new_refusal decl kinds (length state.old.held) (register_of state.old Reg.R1))) }
 {
     match state.reg(Reg::R1) {
-        Abs::Unset => Err(refused_at(slot, VerifyCode::V1)),
+        Abs::Unset => Err(refused_at(slot, VerifyCode::UnsetRegister)),
         Abs::Num(kind) if kind.lo == kind.hi && kind.lo < kinds as u64 => {
             if state.held() >= decl.held as usize {
-                return Err(refused_at(slot, VerifyCode::V16));
+                return Err(refused_at(slot, VerifyCode::TooManyHeld));
             }
             state.hold(slot as u16, kind.lo as u8)?;
             set_result(state, Abs::May(slot as u16));
             Ok(())
         }
-        _ => Err(refused_at(slot, VerifyCode::V15)),
+        _ => Err(refused_at(slot, VerifyCode::WrongArgument)),
     }
 }
 
@@ -75,14 +75,14 @@ fn call_free(slot: usize, state: &mut State) -> Result<(), VerifyFault>
     ensures refused { IfErr result (IsSlotFault slot (free_refusal (register_of state.old Reg.R1))) }
 {
     match state.reg(Reg::R1) {
-        Abs::Unset => Err(refused_at(slot, VerifyCode::V1)),
-        Abs::May(_) => Err(refused_at(slot, VerifyCode::V11)),
+        Abs::Unset => Err(refused_at(slot, VerifyCode::UnsetRegister)),
+        Abs::May(_) => Err(refused_at(slot, VerifyCode::UntestedAnswer)),
         Abs::Ob(call, 0, 0) => {
             state.forget(call);
             set_result(state, Abs::Num(Range::constant(0)));
             Ok(())
         }
-        _ => Err(refused_at(slot, VerifyCode::V15)),
+        _ => Err(refused_at(slot, VerifyCode::WrongArgument)),
     }
 }
 
@@ -94,12 +94,12 @@ fn call_emit(slot: usize, state: &mut State) -> Result<(), VerifyFault>
     ensures refused { IfErr result (IsSlotFault slot (emit_refusal (register_of state.old Reg.R1))) }
 {
     match state.reg(Reg::R1) {
-        Abs::Unset => Err(refused_at(slot, VerifyCode::V1)),
+        Abs::Unset => Err(refused_at(slot, VerifyCode::UnsetRegister)),
         Abs::Num(_) => {
             set_result(state, Abs::Num(Range::constant(0)));
             Ok(())
         }
-        _ => Err(refused_at(slot, VerifyCode::V15)),
+        _ => Err(refused_at(slot, VerifyCode::WrongArgument)),
     }
 }
 
@@ -112,18 +112,21 @@ fn call_swap(decl: Decl, kinds: usize, slot: usize, state: &mut State) -> Result
     ensures refused { IfErr result (IsSlotFault slot (swap_refusal decl kinds state.old (register_of state.old Reg.R1) (register_of state.old Reg.R2))) }
 {
     let shelf = match (state.reg(Reg::R1), state.reg(Reg::R2)) {
-        (Abs::Unset, _) | (_, Abs::Unset) => return Err(refused_at(slot, VerifyCode::V1)),
-        (_, Abs::May(_)) => return Err(refused_at(slot, VerifyCode::V11)),
+        (Abs::Unset, _) | (_, Abs::Unset) => return Err(refused_at(
+            slot,
+            VerifyCode::UnsetRegister,
+        )),
+        (_, Abs::May(_)) => return Err(refused_at(slot, VerifyCode::UntestedAnswer)),
         (Abs::Num(shelf), _) if shelf.lo == shelf.hi && shelf.lo < kinds as u64 => shelf.lo as u8,
-        _ => return Err(refused_at(slot, VerifyCode::V15)),
+        _ => return Err(refused_at(slot, VerifyCode::WrongArgument)),
     };
     match state.reg(Reg::R2) {
         Abs::Num(given) if given.lo == 0 && given.hi == 0 => {}
         Abs::Ob(call, 0, 0) if is_kind(state.kind(call), shelf) => state.forget(call),
-        _ => return Err(refused_at(slot, VerifyCode::V15)),
+        _ => return Err(refused_at(slot, VerifyCode::WrongArgument)),
     }
     if state.held() >= decl.held as usize {
-        return Err(refused_at(slot, VerifyCode::V16));
+        return Err(refused_at(slot, VerifyCode::TooManyHeld));
     }
     state.hold(slot as u16, shelf)?;
     set_result(state, Abs::May(slot as u16));

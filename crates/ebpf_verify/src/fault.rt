@@ -7,47 +7,48 @@ ghost use Rattle.ebpf_verify.specs.Verdict.{IsSlotFault};
 use std::alloc::{AllocError, AllocFailed};
 use thiserror::Error;
 
-/// Why a slot is refused. Within a slot `V19` comes first, then the codes in the order of the instruction's rule.
+/// Why a slot is refused. Users see the code that begins each line. Within a slot `PathsDiffer`
+/// comes first, then the codes in the order of the instruction's rule.
 #[derive(Clone, Copy, Debug)]
 pub enum VerifyCode {
-    /// A register is read that may be unset.
-    V1,
-    /// The frame pointer `r10` is written.
-    V2,
-    /// A pointer stands where the operation has no meaning for it.
-    V3,
-    /// A pointer may be moved by an unknown sign, or more than 2^29 bytes from its base.
-    V4,
-    /// A pointer is compared.
-    V5,
-    /// The access may be outside the stack.
-    V6,
-    /// A byte of the stack is loaded that may be unset.
-    V7,
-    /// The load may be outside the context.
-    V8,
-    /// The context is written.
-    V9,
-    /// The access may be outside the object.
-    V10,
-    /// An answer that may be null is used before it was compared with 0.
-    V11,
-    /// A pointer is stored or loaded other than as a whole aligned word of the stack.
-    V12,
-    /// The address is a number.
-    V13,
-    /// There is no helper of this number.
-    V14,
-    /// An argument of the helper isn't what it asks for.
-    V15,
-    /// As many objects are held already as the program declares.
-    V16,
-    /// An object is held at the exit.
-    V17,
-    /// The result of the exit is no number.
-    V18,
-    /// Paths that hold different objects meet.
-    V19,
+    /// `V1`: a register is read that may be unset.
+    UnsetRegister,
+    /// `V2`: the frame pointer `r10` is written.
+    FramePointerWritten,
+    /// `V3`: a pointer stands where the operation has no meaning for it.
+    PointerMisused,
+    /// `V4`: a pointer may be moved by an unknown sign, or more than 2^29 bytes from its base.
+    MovedTooFar,
+    /// `V5`: a pointer is compared.
+    PointerCompared,
+    /// `V6`: the access may be outside the stack.
+    OutsideStack,
+    /// `V7`: a byte of the stack is loaded that may be unset.
+    UnsetStack,
+    /// `V8`: the load may be outside the context.
+    OutsideContext,
+    /// `V9`: the context is written.
+    ContextWritten,
+    /// `V10`: the access may be outside the object.
+    OutsideObject,
+    /// `V11`: an answer that may be null is used before it was compared with 0.
+    UntestedAnswer,
+    /// `V12`: a pointer is stored or loaded other than as a whole aligned word of the stack.
+    PartialPointer,
+    /// `V13`: the address is a number.
+    NumberAsAddress,
+    /// `V14`: there is no helper of this number.
+    UnknownHelper,
+    /// `V15`: an argument of the helper isn't what it asks for.
+    WrongArgument,
+    /// `V16`: as many objects are held already as the program declares.
+    TooManyHeld,
+    /// `V17`: an object is held at the exit.
+    HeldAtExit,
+    /// `V18`: the result of the exit is no number.
+    NoNumberReturned,
+    /// `V19`: paths that hold different objects meet.
+    PathsDiffer,
 }
 
 /// Why [`crate::verify::verify`] refused a program.

@@ -55,13 +55,13 @@ pub(crate) fn load_value(
     ensures proper { IfOk result IsProper }
 {
     if base.is_unset() {
-        Err(VerifyCode::V1)
+        Err(VerifyCode::UnsetRegister)
     } else if is_frame_pointer(load.dst) {
-        Err(VerifyCode::V2)
+        Err(VerifyCode::FramePointerWritten)
     } else if is_number(base) {
-        Err(VerifyCode::V13)
+        Err(VerifyCode::NumberAsAddress)
     } else if base.is_may() {
-        Err(VerifyCode::V11)
+        Err(VerifyCode::UntestedAnswer)
     } else {
         read(context, rows, load, base, state)
     }
@@ -82,9 +82,13 @@ fn read(
 {
     match base {
         Abs::Stk(k) => read_stack(load, k, state),
-        Abs::Ctx(low, high) => read_bytes(load, context, low, high).ok_or(VerifyCode::V8),
+        Abs::Ctx(low, high) => read_bytes(load, context, low, high).ok_or(
+            VerifyCode::OutsideContext,
+        ),
         Abs::Ob(call, low, high) => {
-            read_bytes(load, size_held(rows, call, state), low, high).ok_or(VerifyCode::V10)
+            read_bytes(load, size_held(rows, call, state), low, high).ok_or(
+                VerifyCode::OutsideObject,
+            )
         }
         _ => Ok(Abs::Unset),
     }
@@ -174,9 +178,9 @@ fn stack_code(fault: StackFault) -> VerifyCode
     ensures { result ≡ stack_code fault }
 {
     match fault {
-        StackFault::Bounds => VerifyCode::V6,
-        StackFault::UnsetByte => VerifyCode::V7,
-        StackFault::SplitPointer => VerifyCode::V12,
+        StackFault::Bounds => VerifyCode::OutsideStack,
+        StackFault::UnsetByte => VerifyCode::UnsetStack,
+        StackFault::SplitPointer => VerifyCode::PartialPointer,
     }
 }
 
@@ -216,22 +220,22 @@ pub(crate) fn store_value(
 {
     let value = operand(state, Width::W64, store.src);
     match state.reg(store.base) {
-        Abs::Unset => Err(refused_at(slot, VerifyCode::V1)),
-        _ if value.is_unset() => Err(refused_at(slot, VerifyCode::V1)),
+        Abs::Unset => Err(refused_at(slot, VerifyCode::UnsetRegister)),
+        _ if value.is_unset() => Err(refused_at(slot, VerifyCode::UnsetRegister)),
         Abs::Stk(k) => store_on_stack(store, k, value, slot, state),
-        Abs::Ctx(_, _) => Err(refused_at(slot, VerifyCode::V9)),
+        Abs::Ctx(_, _) => Err(refused_at(slot, VerifyCode::ContextWritten)),
         Abs::Ob(call, low, high) => {
             let len = size_held(rows, call, state);
             if !is_in_bounds(len, low, high, store.offset, bytes_in(store.size)) {
-                Err(refused_at(slot, VerifyCode::V10))
+                Err(refused_at(slot, VerifyCode::OutsideObject))
             } else if value.is_pointer() || value.is_may() {
-                Err(refused_at(slot, VerifyCode::V12))
+                Err(refused_at(slot, VerifyCode::PartialPointer))
             } else {
                 Ok(())
             }
         }
-        Abs::May(_) => Err(refused_at(slot, VerifyCode::V11)),
-        Abs::Num(_) => Err(refused_at(slot, VerifyCode::V13)),
+        Abs::May(_) => Err(refused_at(slot, VerifyCode::UntestedAnswer)),
+        Abs::Num(_) => Err(refused_at(slot, VerifyCode::NumberAsAddress)),
     }
 }
 

@@ -51,7 +51,7 @@ pub(crate) fn constant_value(value: u64, dst: Reg) -> Result<Abs, VerifyCode>
     ensures refused { IfErr result (λ code. constant_refusal dst ≡ Some code) }
 {
     if is_frame_pointer(dst) {
-        Err(VerifyCode::V2)
+        Err(VerifyCode::FramePointerWritten)
     } else {
         Ok(Abs::Num(Range::constant(value)))
     }
@@ -64,9 +64,9 @@ fn mov64(src: Abs, dst: Reg) -> Result<Abs, VerifyCode>
     ensures refused { IfErr result (λ code. mov64_refusal src dst ≡ Some code) }
 {
     if src.is_unset() {
-        Err(VerifyCode::V1)
+        Err(VerifyCode::UnsetRegister)
     } else if is_frame_pointer(dst) {
-        Err(VerifyCode::V2)
+        Err(VerifyCode::FramePointerWritten)
     } else {
         Ok(src)
     }
@@ -81,11 +81,11 @@ pub(crate) fn one_number(src: Abs, dst: Reg) -> Result<Range, VerifyCode>
     ensures refused { IfErr result (λ code. unary_refusal src dst ≡ Some code) }
 {
     match src {
-        Abs::Unset => Err(VerifyCode::V1),
-        _ if is_frame_pointer(dst) => Err(VerifyCode::V2),
+        Abs::Unset => Err(VerifyCode::UnsetRegister),
+        _ if is_frame_pointer(dst) => Err(VerifyCode::FramePointerWritten),
         Abs::Num(a) => Ok(a),
-        Abs::May(_) => Err(VerifyCode::V11),
-        _ => Err(VerifyCode::V3),
+        Abs::May(_) => Err(VerifyCode::UntestedAnswer),
+        _ => Err(VerifyCode::PointerMisused),
     }
 }
 
@@ -99,11 +99,11 @@ fn binary(op: AluOp, width: Width, left: Abs, right: Abs, dst: Reg) -> Result<Ab
     ensures refused { IfErr result (λ code. binary_refusal left right dst ≡ Some code) }
 {
     match (left, right) {
-        (Abs::Unset, _) | (_, Abs::Unset) => Err(VerifyCode::V1),
-        _ if is_frame_pointer(dst) => Err(VerifyCode::V2),
+        (Abs::Unset, _) | (_, Abs::Unset) => Err(VerifyCode::UnsetRegister),
+        _ if is_frame_pointer(dst) => Err(VerifyCode::FramePointerWritten),
         (Abs::Num(a), Abs::Num(b)) => Ok(Abs::Num(alu(op, width, a, b))),
-        (Abs::May(_), _) | (_, Abs::May(_)) => Err(VerifyCode::V11),
-        _ => Err(VerifyCode::V3),
+        (Abs::May(_), _) | (_, Abs::May(_)) => Err(VerifyCode::UntestedAnswer),
+        _ => Err(VerifyCode::PointerMisused),
     }
 }
 
@@ -172,15 +172,15 @@ fn moving(
     ensures refused { IfErr result (λ code. moving_refusal left right dst moves_by_pointer moves_stack_by_unknown value ≡ Some code) }
 {
     if left.is_unset() || right.is_unset() {
-        Err(VerifyCode::V1)
+        Err(VerifyCode::UnsetRegister)
     } else if is_frame_pointer(dst) {
-        Err(VerifyCode::V2)
+        Err(VerifyCode::FramePointerWritten)
     } else if left.is_may() || right.is_may() {
-        Err(VerifyCode::V11)
+        Err(VerifyCode::UntestedAnswer)
     } else if moves_by_pointer || moves_stack_by_unknown {
-        Err(VerifyCode::V3)
+        Err(VerifyCode::PointerMisused)
     } else {
-        value.ok_or(VerifyCode::V4)
+        value.ok_or(VerifyCode::MovedTooFar)
     }
 }
 

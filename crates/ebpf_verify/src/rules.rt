@@ -85,11 +85,11 @@ pub(crate) fn exit_refusal(result_value: Abs, held: usize) -> Option<VerifyCode>
     ensures { result ≡ exit_refusal result_value held }
 {
     if result_value.is_unset() {
-        Some(VerifyCode::V1)
+        Some(VerifyCode::UnsetRegister)
     } else if held > 0 {
-        Some(VerifyCode::V17)
+        Some(VerifyCode::HeldAtExit)
     } else if result_value.is_pointer() || result_value.is_may() {
-        Some(VerifyCode::V18)
+        Some(VerifyCode::NoNumberReturned)
     } else {
         None
     }

@@ -110,13 +110,13 @@ pub(crate) fn visit(
     let edges = flowed.successors(slot);
     let Some(insn) = flowed.program().at(slot) else {
         return match entries[slot] {
-            EntryState::Conflict => Err(refused_at(slot, VerifyCode::V19)),
+            EntryState::Conflict => Err(refused_at(slot, VerifyCode::PathsDiffer)),
             _ => Ok(()),
         };
     };
     match mem::replace(&mut entries[slot], EntryState::Unreached) {
         EntryState::Known(state) => pass_on(decl, rows, insn, slot, state, edges, entries),
-        EntryState::Conflict => Err(refused_at(slot, VerifyCode::V19)),
+        EntryState::Conflict => Err(refused_at(slot, VerifyCode::PathsDiffer)),
         EntryState::Unreached => Ok(()),
     }
 }

@@ -15,7 +15,7 @@ use Rattle.ebpf_state.specs.Stack.{bytes_in, place_of, loaded, loaded_range}
 use Rattle.ebpf_state.specs.StateView.{StateView}
 use Rattle.ebpf_state.specs.States.{register_of}
 use Rattle.ebpf_verify.specs.declared.fault.VerifyCode.{VerifyCode}
-use Rattle.ebpf_verify.specs.declared.fault.VerifyCode.TheVariants.{V1, V2, V8, V10, V11, V13}
+use Rattle.ebpf_verify.specs.declared.fault.VerifyCode.TheVariants.{UnsetRegister, FramePointerWritten, OutsideContext, OutsideObject, UntestedAnswer, NumberAsAddress}
 use Rattle.ebpf_verify.specs.Memory.{is_number, refused_access, is_in_bounds, size_held, reading_refusal, value_or_unset, loaded_value}
 use Rattle.ebpf_verify.specs.Operations.{is_frame_pointer}
 use Rattle.ebpf_machine.specs.declared.value.Value.{Value}
@@ -46,10 +46,10 @@ neither_refuses (Some c) b e = absurd (cc)
 
 abbrev load_tests : Abs → Reg → Option VerifyCode
 load_tests base dst = first_of (
-    (is_unset base, V1) ∷
-    (is_frame_pointer dst, V2) ∷
-    (is_number base, V13) ∷
-    (is_may base, V11) ∷
+    (is_unset base, UnsetRegister) ∷
+    (is_frame_pointer dst, FramePointerWritten) ∷
+    (is_number base, NumberAsAddress) ∷
+    (is_may base, UntestedAnswer) ∷
     [])
 
 -- ---- from the stack
@@ -76,10 +76,10 @@ load_from v i s size signed offset (May call) x here known no_number no_may fine
 load_from v i s size signed offset (Stk k) (Some (Pointer Stack w)) here known no_number no_may fine h =
     rw h (stack_loaded (calls_of v.objects) size signed (k +ℤ offset) s v.frame.stack (loaded s size signed (k +ℤ offset)) refl fine here.state.words here.sound.fit.stack)
 load_from v i s size signed offset (Ctx low high) (Some (Pointer Context w)) here known no_number no_may fine h =
-    read_sound (calls_of v.objects) ContextAccess v.context v.subject.decl.context size signed low high w offset here.sound.context h.0 h.1 (first_passes (is_in_bounds v.subject.decl.context low high offset (bytes_in size)) V8 fine)
+    read_sound (calls_of v.objects) ContextAccess v.context v.subject.decl.context size signed low high w offset here.sound.context h.0 h.1 (first_passes (is_in_bounds v.subject.decl.context low high offset (bytes_in size)) OutsideContext fine)
 load_from v i s size signed offset (Ob call low high) (Some (Pointer (Object at) w)) here known no_number no_may fine h =
     let it = held_found v s call here.sized here.state.held h.3 in
-    let inside = first_passes (is_in_bounds (size_held v.subject.rows call s) low high offset (bytes_in size)) V10 fine in
+    let inside = first_passes (is_in_bounds (size_held v.subject.rows call s) low high offset (bytes_in size)) OutsideObject fine in
     object_loaded (calls_of v.objects) size signed low high w offset (object_at v.objects at) it.found (size_held v.subject.rows call s) (ap (object_at v.objects) h.0 ∙ it.is) it.long h.1 h.2 inside
 load_from v i s size signed offset (Stk k) None here known no_number no_may fine h = absurd h
 load_from v i s size signed offset (Stk k) (Some (Number n)) here known no_number no_may fine h = absurd h

@@ -18,7 +18,7 @@ use Rattle.ebpf_state.specs.Stack as state
 use Rattle.ebpf_state.specs.StateView.{StateView}
 use Rattle.ebpf_state.specs.States.{register_of}
 use Rattle.ebpf_verify.specs.declared.fault.VerifyCode.{VerifyCode}
-use Rattle.ebpf_verify.specs.declared.fault.VerifyCode.TheVariants.{V1, V11, V13}
+use Rattle.ebpf_verify.specs.declared.fault.VerifyCode.TheVariants.{UnsetRegister, UntestedAnswer, NumberAsAddress}
 use Rattle.ebpf_verify.specs.Memory.{is_number, refused_access, is_in_bounds, size_held, writing_refusal, state_after, after_store}
 use Rattle.ebpf_verify.specs.Branches.{operand}
 use Rattle.ebpf_verify.specs.Rules.{after_fall}
@@ -46,9 +46,9 @@ use Rattle.ebpf_machine.proofs.Rules.LoadsSound.{neither_refuses}
 
 abbrev store_tests : Abs → Abs → Option VerifyCode
 store_tests base value = first_of (
-    (is_unset base || is_unset value, V1) ∷
-    (is_number base, V13) ∷
-    (is_may base, V11) ∷
+    (is_unset base || is_unset value, UnsetRegister) ∷
+    (is_number base, NumberAsAddress) ∷
+    (is_may base, UntestedAnswer) ∷
     [])
 
 -- what a store does with an address and a value of which this is known, and what its rule says

@@ -30,7 +30,7 @@ pub(crate) fn read_line(
     ensures refused { IfErr result (IsStop (line_fault dialect (parsed_script script.old) line.now)) }
 {
     if !is_text(line) {
-        return Err(Stop::Fault(FaultCode::S2));
+        return Err(Stop::Fault(FaultCode::UnprintableByte));
     }
     let words = line_words(alloc, line)?;
     read_words(alloc, dialect, script, &words)
@@ -79,7 +79,7 @@ fn read_program_words(alloc: Global, script: &mut Script, rest: &[&[u8]]) -> Res
 {
     match rest {
         [name, context, held, hex] => read_program(alloc, script, name, context, held, hex),
-        _ => Err(Stop::Fault(FaultCode::S3)),
+        _ => Err(Stop::Fault(FaultCode::UnknownLine)),
     }
 }
 
@@ -99,7 +99,7 @@ fn read_event_words(
         [run, answer] if first == b"exec".as_slice() => read_answered(script, run, answer),
         [kind, slot] if first == b"grow".as_slice() => read_grow(script, kind, slot),
         [kind, slot] if first == b"reap".as_slice() => read_reap(script, kind, slot),
-        _ => Err(Stop::Fault(FaultCode::S3)),
+        _ => Err(Stop::Fault(FaultCode::UnknownLine)),
     }
 }
 
@@ -121,6 +121,6 @@ fn read_job_words(
         }
         [pages] if first == b"arena".as_slice() => read_arena(script, pages),
         [name, hex] if first == b"run".as_slice() => read_job(alloc, script, name, hex),
-        _ => Err(Stop::Fault(FaultCode::S3)),
+        _ => Err(Stop::Fault(FaultCode::UnknownLine)),
     }
 }

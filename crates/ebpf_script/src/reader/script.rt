@@ -3,11 +3,11 @@
 ghost use Rattle.std.specs.Prelude.{◌≡◌};
 
 use ebpf_command::done::{FaultCode, Stop};
-use ebpf_core::event::Event;
+use ebpf_pool::Job;
 use ebpf_verify::decl::Decl;
+use ebpf_world::event::Event;
 use indexmap::IndexMap;
 use std::hash::{BuildHasherDefault, DefaultHasher};
-use worker_pool::Job;
 
 /// Which lines a script may have beside its programs.
 #[derive(Clone, Copy)]

@@ -12,11 +12,11 @@ use crate::reader::numbers::{context_of, held_of, kind_of, pages_of, run_of, slo
 use crate::reader::script::{ProgramText, Script};
 use ebpf_command::done::{FaultCode, Stop};
 use ebpf_command::hex_text::hex_or_dash;
-use ebpf_core::event::{Answer, Event};
 use ebpf_machine::context::Context;
+use ebpf_pool::Job;
 use ebpf_verify::decl::Decl;
+use ebpf_world::event::{Answer, Event};
 use std::alloc::Global;
-use worker_pool::Job;
 
 /// Reads `program NAME CONTEXT HELD HEX`.
 pub(crate) fn read_program(
@@ -31,19 +31,19 @@ pub(crate) fn read_program(
     ensures refused { IfErr result (IsStop (shape_fault (parsed_script script.old) (ProgramLine name.now context.now held.now hex.now))) }
 {
     let Some(context) = context_of(context) else {
-        return Err(Stop::Fault(FaultCode::S4));
+        return Err(Stop::Fault(FaultCode::BadNumber));
     };
     let Some(held) = held_of(held) else {
-        return Err(Stop::Fault(FaultCode::S4));
+        return Err(Stop::Fault(FaultCode::BadNumber));
     };
     let Some(bytes) = hex_or_dash(alloc, hex)? else {
-        return Err(Stop::Fault(FaultCode::S5));
+        return Err(Stop::Fault(FaultCode::BadHex));
     };
     let Some(name) = name_of(name) else {
-        return Err(Stop::Fault(FaultCode::S6));
+        return Err(Stop::Fault(FaultCode::BadName));
     };
     if script.programs.contains_key(name) {
-        return Err(Stop::Fault(FaultCode::S6));
+        return Err(Stop::Fault(FaultCode::BadName));
     }
     let decl = Decl::new(context, held).unwrap();
     let name = String::from_str(alloc, name)?;
@@ -62,13 +62,13 @@ pub(crate) fn read_start(
     ensures refused { IfErr result (IsStop (shape_fault (parsed_script script.old) (StartLine name.now hex.now))) }
 {
     let Some(bytes) = hex_or_dash(alloc, hex)? else {
-        return Err(Stop::Fault(FaultCode::S5));
+        return Err(Stop::Fault(FaultCode::BadHex));
     };
     let Some(name) = name_of(name) else {
-        return Err(Stop::Fault(FaultCode::S6));
+        return Err(Stop::Fault(FaultCode::BadName));
     };
     let Some(program) = script.programs.get_index_of(name) else {
-        return Err(Stop::Fault(FaultCode::S7));
+        return Err(Stop::Fault(FaultCode::UndefinedName));
     };
     let context = Context { bytes };
     script.events.push(Event::Start { program, context })?;
@@ -81,7 +81,7 @@ pub(crate) fn read_exec(script: &mut Script, run: &[u8]) -> Result<(), Stop>
     ensures refused { IfErr result (IsStop (shape_fault (parsed_script script.old) (ExecLine run.now))) }
 {
     let Some(run) = run_of(run) else {
-        return Err(Stop::Fault(FaultCode::S4));
+        return Err(Stop::Fault(FaultCode::BadNumber));
     };
     script.events.push(Event::Exec {
         run,
@@ -96,10 +96,10 @@ pub(crate) fn read_answered(script: &mut Script, run: &[u8], answer: &[u8]) -> R
     ensures refused { IfErr result (IsStop (shape_fault (parsed_script script.old) (AnsweredLine run.now answer.now))) }
 {
     let Some(run) = run_of(run) else {
-        return Err(Stop::Fault(FaultCode::S4));
+        return Err(Stop::Fault(FaultCode::BadNumber));
     };
     let Some(answer) = answer_of(answer) else {
-        return Err(Stop::Fault(FaultCode::S4));
+        return Err(Stop::Fault(FaultCode::BadNumber));
     };
     script.events.push(Event::Exec { run, answer })?;
     Ok(())
@@ -123,10 +123,10 @@ pub(crate) fn read_grow(script: &mut Script, kind: &[u8], slot: &[u8]) -> Result
     ensures refused { IfErr result (IsStop (shape_fault (parsed_script script.old) (GrowLine kind.now slot.now))) }
 {
     let Some(kind) = kind_of(kind) else {
-        return Err(Stop::Fault(FaultCode::S4));
+        return Err(Stop::Fault(FaultCode::BadNumber));
     };
     let Some(slot) = slot_of(slot) else {
-        return Err(Stop::Fault(FaultCode::S4));
+        return Err(Stop::Fault(FaultCode::BadNumber));
     };
     script.events.push(Event::Grow { kind, slot })?;
     Ok(())
@@ -138,10 +138,10 @@ pub(crate) fn read_reap(script: &mut Script, kind: &[u8], slot: &[u8]) -> Result
     ensures refused { IfErr result (IsStop (shape_fault (parsed_script script.old) (ReapLine kind.now slot.now))) }
 {
     let Some(kind) = kind_of(kind) else {
-        return Err(Stop::Fault(FaultCode::S4));
+        return Err(Stop::Fault(FaultCode::BadNumber));
     };
     let Some(slot) = slot_of(slot) else {
-        return Err(Stop::Fault(FaultCode::S4));
+        return Err(Stop::Fault(FaultCode::BadNumber));
     };
     script.events.push(Event::Reap { kind, slot })?;
     Ok(())
@@ -153,10 +153,10 @@ pub(crate) fn read_arena(script: &mut Script, pages: &[u8]) -> Result<(), Stop>
     ensures refused { IfErr result (IsStop (shape_fault (parsed_script script.old) (ArenaLine pages.now))) }
 {
     let Some(pages) = pages_of(pages) else {
-        return Err(Stop::Fault(FaultCode::S4));
+        return Err(Stop::Fault(FaultCode::BadNumber));
     };
     if script.pages.is_some() {
-        return Err(Stop::Fault(FaultCode::S8));
+        return Err(Stop::Fault(FaultCode::SecondArena));
     }
     script.pages = Some(pages);
     Ok(())
@@ -173,16 +173,16 @@ pub(crate) fn read_job(
     ensures refused { IfErr result (IsStop (shape_fault (parsed_script script.old) (JobLine name.now hex.now))) }
 {
     let Some(bytes) = hex_or_dash(alloc, hex)? else {
-        return Err(Stop::Fault(FaultCode::S5));
+        return Err(Stop::Fault(FaultCode::BadHex));
     };
     let Some(name) = name_of(name) else {
-        return Err(Stop::Fault(FaultCode::S6));
+        return Err(Stop::Fault(FaultCode::BadName));
     };
     let Some((program, _, text)) = script.programs.get_full(name) else {
-        return Err(Stop::Fault(FaultCode::S7));
+        return Err(Stop::Fault(FaultCode::UndefinedName));
     };
     if bytes.len() != text.decl.context as usize {
-        return Err(Stop::Fault(FaultCode::S9));
+        return Err(Stop::Fault(FaultCode::WrongContextLength));
     }
     let context = Context { bytes };
     script.jobs.push(Job { program, context })?;

@@ -1,7 +1,7 @@
 //! Events in words, as a script has them, and what `replay` tells of them.
 
 use crate::programs::{column, is_told};
-use ebpf_core::event::{Answer, Event};
+use ebpf_world::event::{Answer, Event};
 use ebpf_script::replay::replay;
 use std::alloc::{AllocError, Global};
 use std::process::Abort;

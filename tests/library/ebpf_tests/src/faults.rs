@@ -27,7 +27,7 @@ no memory
 fn faults(alloc: Global) -> Result<String, AllocError> {
     let mut told = String::new(alloc);
     let slot = 3;
-    let code = FlowCode::F2;
+    let code = FlowCode::JumpIntoWide;
     write!(
         told,
         "{}\n{}\n",
@@ -35,7 +35,7 @@ fn faults(alloc: Global) -> Result<String, AllocError> {
         FlowFault::NoMemory
     )?;
     let slot = 4095;
-    let code = VerifyCode::V19;
+    let code = VerifyCode::PathsDiffer;
     write!(
         told,
         "{}\n{}\n",

@@ -15,7 +15,7 @@ use ebpf_verify::fault::VerifyCode;
 use std::alloc::{AllocError, Global};
 use std::process::Abort;
 use std::test::*;
-use worker_pool::Job;
+use ebpf_pool::Job;
 
 const SCRIPT: &str = "# two programs\nprogram add 4 2 b7000000\n\tprogram Count-1_x 0 64 -\r\n\n\
 start add 00Ff\nstart Count-1_x -\n  # runs\nstart add -\n\
@@ -121,14 +121,14 @@ fn is_line(rt: &impl Abort, alloc: Global, code: FaultCode, expected: &str) {
 
 #[test]
 fn codes_are_written_by_their_names(rt: HostRuntime) {
-    is_line(&rt, rt.alloc(), FaultCode::S1, "fault S1 line 0\n");
-    is_line(&rt, rt.alloc(), FaultCode::S8, "fault S8 line 0\n");
-    is_line(&rt, rt.alloc(), FaultCode::S9, "fault S9 line 0\n");
+    is_line(&rt, rt.alloc(), FaultCode::InputTooLong, "fault S1 line 0\n");
+    is_line(&rt, rt.alloc(), FaultCode::SecondArena, "fault S8 line 0\n");
+    is_line(&rt, rt.alloc(), FaultCode::WrongContextLength, "fault S9 line 0\n");
     for (code, name) in [
-        (RefusalCode::Decode(DecodeCode::I9), "I9"),
-        (RefusalCode::Flow(FlowCode::F3), "F3"),
-        (RefusalCode::Verify(VerifyCode::V1), "V1"),
-        (RefusalCode::Verify(VerifyCode::V19), "V19"),
+        (RefusalCode::Decode(DecodeCode::ProgramTooLong), "I9"),
+        (RefusalCode::Flow(FlowCode::JumpBackward), "F3"),
+        (RefusalCode::Verify(VerifyCode::UnsetRegister), "V1"),
+        (RefusalCode::Verify(VerifyCode::PathsDiffer), "V19"),
     ] {
         holds(&rt, name, code.name() == name);
     }
@@ -142,7 +142,7 @@ fn an_input_is_read_and_its_answer_is_written(rt: HostRuntime) {
     let done = respond(alloc, &mut reader, &mut written, |input| {
         holds(&rt, "the input", input == b"b70".as_slice());
         Ok(Answer {
-            text: fault_line(alloc, FaultCode::S3, 12)?,
+            text: fault_line(alloc, FaultCode::UnknownLine, 12)?,
             done: Done::Refused,
         })
     });

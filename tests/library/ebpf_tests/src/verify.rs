@@ -71,7 +71,7 @@ fn a_pointer_is_no_result(rt: HostRuntime) {
         refused,
         Err(VerifyFault::Refused {
             slot: 1,
-            code: VerifyCode::V18
+            code: VerifyCode::NoNumberReturned
         })
     );
     holds(&rt, "V18 at slot 1", is_refused);

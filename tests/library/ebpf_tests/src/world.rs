@@ -3,10 +3,10 @@
 
 use crate::accepted::read;
 use crate::programs::{column, holds, is_told};
-use ebpf_core::event::{Answer, Event};
-use ebpf_core::fault::{ApplyCode, ApplyFault, ReplayFault};
-use ebpf_core::replay::replay;
-use ebpf_core::world::{Status, World};
+use ebpf_world::event::{Answer, Event};
+use ebpf_world::fault::{ApplyCode, ApplyFault, ReplayFault};
+use ebpf_world::replay::replay;
+use ebpf_world::world::{Status, World};
 use ebpf_machine::context::Context;
 use ebpf_verify::verified::Verified;
 use std::alloc::{AllocError, Global};
@@ -296,7 +296,7 @@ fn two_programs_end_alike_in_each_of_their_924_orders(rt: HostRuntime) {
 
 #[test]
 fn faults_of_events_are_told_in_words(rt: HostRuntime) {
-    let code = ApplyCode::E2;
+    let code = ApplyCode::RunEnded;
     let told = format!(in rt.alloc(); "{}, {}", ApplyFault::Bad(code), ApplyFault::NoMemory).expect(
         &rt,
         "out of memory",

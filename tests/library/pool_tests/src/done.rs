@@ -12,7 +12,7 @@ use std::alloc::{AllocError, Global};
 use std::process::Abort;
 use std::sync::Wait;
 use std::thread::Threads;
-use worker_pool::{Gate, Host, Job, Outcome, PoolFault, run_jobs};
+use ebpf_pool::{Gate, Host, Job, Outcome, PoolFault, run_jobs};
 
 // Does the jobs of a setting, and tells what came of them: the fault or the outcome.
 pub(crate) fn done<G: Gate + Sync, R: Threads + Wait + Abort + Sync>(

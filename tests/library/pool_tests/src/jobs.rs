@@ -3,7 +3,7 @@
 use ebpf_machine::context::Context;
 use ebpf_verify::verified::Verified;
 use std::alloc::{AllocError, Global};
-use worker_pool::Job;
+use ebpf_pool::Job;
 
 // What jobs are done with: how many workers, pages and passes of the reaper, and how many of the first slots another seat has
 // claimed; then how many jobs, and of which programs, over and over.

@@ -11,7 +11,7 @@ use std::alloc::{AllocError, Global};
 use std::sync::atomic::{AtomicU64, Ordering};
 use std::sync::{Mutex, Wait};
 use std::thread::yield_now;
-use worker_pool::{Gate, Host, Point, run_jobs};
+use ebpf_pool::{Gate, Host, Point, run_jobs};
 
 // The slots of cells on the one page of the arena.
 const SLOTS: u32 = 256;

@@ -9,7 +9,7 @@ use std::alloc::{AllocError, Global};
 use std::process::Abort;
 use std::sync::Wait;
 use std::thread::Threads;
-use worker_pool::{NoGate, Outcome};
+use ebpf_pool::{NoGate, Outcome};
 
 // What comes of the jobs of a setting, where there is no fault.
 fn outcome_for<R: Threads + Wait + Abort + Sync>(

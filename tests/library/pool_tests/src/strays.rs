@@ -11,7 +11,7 @@ use std::alloc::{AllocError, Global};
 use std::process::Abort;
 use std::sync::{Mutex, Wait};
 use std::thread::Threads;
-use worker_pool::{Gate, Host, Point, run_jobs};
+use ebpf_pool::{Gate, Host, Point, run_jobs};
 
 // The slots of cells on the first page of an arena.
 const SLOTS: u32 = 256;

@@ -1,7 +1,7 @@
 use Rattle.std.proofs.Common.{◌≡◌, ◌≢◌, ℕ, ◌≤◌, ◌/◌, [], ◌∷◌, ◌++◌, true, false, Some, None, length, refl, ap, ◌∙◌, arith, rules}
 use Rattle.std.proofs.lemmas.Bool.Decides.{nat_tests}
 use Rattle.std.proofs.lemmas.List.{append-nil, length_push}
-use Rattle.ebpf_insn.specs.declared.fault.DecodeCode.TheVariants.{I1, I9}
+use Rattle.ebpf_insn.specs.declared.fault.DecodeCode.TheVariants.{WrongLength, ProgramTooLong}
 use Rattle.ebpf_insn.specs.declared.fault.DecodeFault.TheVariants.{Bad}
 use Rattle.ebpf_insn.specs.Program.{instructions}
 use Rattle.ebpf_insn.specs.Encoding.{IsProgram}
@@ -12,8 +12,8 @@ use Rattle.ebpf_insn.proofs.decode.decode.Goals as goal
 
 pub returns-then-is_empty-clause-only : goal.returns-then-is_empty-clause-only
 returns-then-is_empty-clause-only c p h =
-    let refused : decode_fault c.args.bytes.now ≡ Some (0, I1) = search rules in
-    refusal_is c.args.bytes.now p (Bad 0 I1) h refused
+    let refused : decode_fault c.args.bytes.now ≡ Some (0, WrongLength) = search rules in
+    refusal_is c.args.bytes.now p (Bad 0 WrongLength) h refused
 
 pub loop-slot-init : goal.loop-slot-init
 loop-slot-init c = record {
@@ -28,15 +28,15 @@ loop-slot-init c = record {
 
 pub returns-then-slot-eq-MAX_SLOTS-clause-refused : goal.returns-then-slot-eq-MAX_SLOTS-clause-refused
 returns-then-slot-eq-MAX_SLOTS-clause-refused c =
-    let refused : decode_fault c.args.bytes.now ≡ Some (c.loop-slot.slot, I9) =
-    refused_at c.args.bytes.now c.loop-slot.slot I9 c.loop-slot.invariant.even c.loop-slot.invariant.fine (omega arith) (limit_fault c.args.bytes.now c.loop-slot.slot c.if-slot-eq-MAX_SLOTS.true) in
-    refused ∙ ap (λ (k : ℕ). Some (k, I9)) c.if-slot-eq-MAX_SLOTS.true
+    let refused : decode_fault c.args.bytes.now ≡ Some (c.loop-slot.slot, ProgramTooLong) =
+    refused_at c.args.bytes.now c.loop-slot.slot ProgramTooLong c.loop-slot.invariant.even c.loop-slot.invariant.fine (omega arith) (limit_fault c.args.bytes.now c.loop-slot.slot c.if-slot-eq-MAX_SLOTS.true) in
+    refused ∙ ap (λ (k : ℕ). Some (k, ProgramTooLong)) c.if-slot-eq-MAX_SLOTS.true
 
 pub returns-then-slot-eq-MAX_SLOTS-clause-only : goal.returns-then-slot-eq-MAX_SLOTS-clause-only
 returns-then-slot-eq-MAX_SLOTS-clause-only c p h =
-    let refused : decode_fault c.args.bytes.now ≡ Some (c.loop-slot.slot, I9) =
-    refused_at c.args.bytes.now c.loop-slot.slot I9 c.loop-slot.invariant.even c.loop-slot.invariant.fine (omega arith) (limit_fault c.args.bytes.now c.loop-slot.slot c.if-slot-eq-MAX_SLOTS.true) in
-    refusal_is c.args.bytes.now p (Bad 4096 I9) h (refused ∙ ap (λ (k : ℕ). Some (k, I9)) c.if-slot-eq-MAX_SLOTS.true)
+    let refused : decode_fault c.args.bytes.now ≡ Some (c.loop-slot.slot, ProgramTooLong) =
+    refused_at c.args.bytes.now c.loop-slot.slot ProgramTooLong c.loop-slot.invariant.even c.loop-slot.invariant.fine (omega arith) (limit_fault c.args.bytes.now c.loop-slot.slot c.if-slot-eq-MAX_SLOTS.true) in
+    refusal_is c.args.bytes.now p (Bad 4096 ProgramTooLong) h (refused ∙ ap (λ (k : ℕ). Some (k, ProgramTooLong)) c.if-slot-eq-MAX_SLOTS.true)
 
 pub loop-slot-preserved-then-is_second_half : goal.loop-slot-preserved-then-is_second_half
 loop-slot-preserved-then-is_second_half c =

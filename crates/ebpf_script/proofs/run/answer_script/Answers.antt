@@ -1,6 +1,6 @@
 use Rattle.std.proofs.Common.{◌≡◌, ◌++◌, ℕ, Bool, false, List, string_bytes, Ok, sym, ap, subst, ◌∙◌}
 use Rattle.ebpf_verify.specs.Subject.{Subject}
-use Rattle.worker_pool.specs.declared.outcome.Outcome.{Outcome}
+use Rattle.ebpf_pool.specs.declared.outcome.Outcome.{Outcome}
 use Rattle.ebpf_command.specs.Response.{clean_response}
 use Rattle.ebpf_script.specs.declared.verdicts.Verdicts.{Verdicts}
 use Rattle.ebpf_script.specs.OutcomeLines.{outcome_lines}

@@ -118,12 +118,12 @@ fn why_tells_of_the_verifier_too(rt: HostRuntime) {
 #[test]
 fn a_byte_that_is_not_there_is_zero(rt: HostRuntime) {
     let mut text = String::new(rt.alloc());
-    write_decode_sentence(&mut text, &[0x95, 1], 0, DecodeCode::I4).expect(&rt, "out of memory");
-    write_decode_sentence(&mut text, &[0x95, 1], usize::MAX, DecodeCode::I6).expect(
+    write_decode_sentence(&mut text, &[0x95, 1], 0, DecodeCode::UnusedFieldSet).expect(&rt, "out of memory");
+    write_decode_sentence(&mut text, &[0x95, 1], usize::MAX, DecodeCode::BadSecondSlot).expect(
         &rt,
         "out of memory",
     );
-    write_decode_sentence(&mut text, &[], 4096, DecodeCode::I9).expect(&rt, "out of memory");
+    write_decode_sentence(&mut text, &[], 4096, DecodeCode::ProgramTooLong).expect(&rt, "out of memory");
     let expected =
         "  slot 0 has something in a field that its instruction does not use: 9501000000000000
   slot 18446744073709551615 is a wide load whose second slot has more than a number: 0000000000000000

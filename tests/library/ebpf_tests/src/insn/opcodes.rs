@@ -44,11 +44,11 @@ fn letter_of(alloc: Global, bytes: &[u8]) -> char {
     match decode(alloc, bytes) {
         Ok(_) => '.',
         Err(DecodeFault::Bad { slot: 0, code }) => match code {
-            DecodeCode::I2 => '2',
-            DecodeCode::I4 => '4',
-            DecodeCode::I5 => '5',
-            DecodeCode::I7 => '7',
-            DecodeCode::I8 => '8',
+            DecodeCode::UnknownOpcode => '2',
+            DecodeCode::UnusedFieldSet => '4',
+            DecodeCode::MissingSecondSlot => '5',
+            DecodeCode::UndefinedField => '7',
+            DecodeCode::UnsupportedForm => '8',
             _ => '?',
         },
         Err(_) => '?',

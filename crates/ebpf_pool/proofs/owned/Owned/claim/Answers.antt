@@ -1,0 +1,29 @@
+use Rattle.std.proofs.Common.{ap, ◌∙◌}
+use Rattle.ebpf_pool.specs.Claims.{lost}
+use Rattle.ebpf_pool.proofs.Holding.{once_claimed, once_same}
+use Rattle.ebpf_pool.proofs.Claiming.{lost_as_before, lost_one_more}
+use Rattle.ebpf_pool.proofs.owned.Owned.claim.Goals as goal
+
+pub invariant_of-client : goal.invariant_of-client
+invariant_of-client g c =
+    let client = c.args.client.now in
+    let claim = c.in_default.ensures in record {
+      slots = client.slots;
+      table = client.table;
+      seated = claim.table ∙ client.seated;
+      once = once_claimed _ _ client.seat.held _ claim.ok.0 claim.own client.once;
+      few = client.few;
+      clashed = ap lost claim.ok.1 ∙ (lost_as_before _ client.seat.notes ∙ client.clashed);
+    }
+
+pub invariant_of-client-2 : goal.invariant_of-client-2
+invariant_of-client-2 g c =
+    let client = c.args.client.now in
+    let claim = c.in-Err.ensures in record {
+      slots = client.slots;
+      table = client.table;
+      seated = claim.table ∙ client.seated;
+      once = once_same client.seat.held _ claim.taken.0 client.once;
+      few = (c.count.ensures.few, client.few.1);
+      clashed = lost_one_more _ _ _ _ _ client.seat.notes _ claim.taken.1 c.count.ensures.one_more client.clashed;
+    }

@@ -1,0 +1,46 @@
+use Rattle.std.proofs.Common.{◌≡◌, ◌<◌, length, ℕ, List, [], ◌∷◌, ◌++◌, refl, sym, ap, subst, ◌∙◌, rules}
+use Rattle.std.proofs.Math.ListN.{get_or}
+use Rattle.std.proofs.lemmas.Option.{slice_get_read}
+use Rattle.ebpf_verify.specs.Subject.{Subject}
+use Rattle.ebpf_pool.specs.declared.jobs.Job.{Job}
+use Rattle.ebpf_pool.specs.declared.jobs.Numbered.{Numbered}
+use Rattle.ebpf_machine.specs.Whole.{IsReportOf}
+use Rattle.ebpf_pool.specs.Working.{Answers}
+use Rattle.ebpf_pool.proofs.Evens.{evens}
+use Rattle.ebpf_pool.proofs.worker.answer.Goals as goal
+
+pub returns-clause-even : goal.returns-clause-even
+returns-clause-even g c = evens c.args.store.now.stocks c.run_in.new.objects.stocks c.run_in.ensures.outs c.requires.even
+
+pub returns-clause-answered : goal.returns-clause-answered
+returns-clause-answered g c = (n, refl, answered, items, c.in-Ok-run_in.ensures.granted, c.in-Ok-run_in.ensures.nulls, c.in-Ok-run_in.ensures.gets) where
+  n : Numbered
+  n = record { job = c.args.number; report = c.in-Ok-run_in.report }
+
+  items : c.push_reserved.new.self.items ≡ c.args.answered.now.items ++ n ∷ []
+  items = c.push_reserved.ensures.items ∙ ap (λ (l : List Numbered). l ++ n ∷ []) c.in-Ok.ensures.same
+
+  -- the job that is read is the one of the number
+  program : c.job.inside.0.0 ≡ c.index-shared-number.result.program
+  program = ap (λ (j : Job). j.program) (c.job.view_is ∙ sym c.index-shared-number.is)
+
+  same : c.in-Ok.context.items ≡ c.index-shared-number.result.context
+  same = let context = ap (λ (j : Job). j.context) (c.job.view_is ∙ sym c.index-shared-number.is) in search rules
+
+  inside : c.index-shared-number.result.program < length c.args.shared.now.programs.now
+  inside = subst (λ (j : Job). j.program < length c.args.shared.now.programs.now) (sym c.index-shared-number.is) (c.requires.ready.can c.args.number c.index-shared-number.result c.requires.number).inside
+
+  report : IsReportOf c.index-shared-job.result c.in-Ok.context.items c.in-Ok-run_in.report
+  report = subst (λ (v : Subject). IsReportOf v c.in-Ok.context.items c.in-Ok-run_in.report) (sym c.index-shared-job.is) c.in-Ok-run_in.ensures.report
+
+  there : c.index-shared-job.result ≡ get_or c.args.shared.now.programs.now c.index-shared-number.result.program c.index-shared-job.result
+  there = subst (λ (p : ℕ). c.index-shared-job.result ≡ get_or c.args.shared.now.programs.now p c.index-shared-job.result) program c.index-shared-job.is
+
+  answered : Answers c.args.shared.now.programs.now c.args.shared.now.jobs.now n
+  answered = record {
+    job = c.index-shared-number.result;
+    job_is = slice_get_read _ _ _ _ refl c.requires.number c.index-shared-number.is;
+    subject = c.index-shared-job.result;
+    subject_is = slice_get_read c.args.shared.now.programs.now _ c.index-shared-number.result.program c.index-shared-job.result refl inside there;
+    report = subst (λ (l : List ℕ). IsReportOf c.index-shared-job.result l c.in-Ok-run_in.report) same report;
+  }

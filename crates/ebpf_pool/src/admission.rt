@@ -1,0 +1,87 @@
+//! What is asked of jobs before any worker is started, and why they were not done.
+
+ghost use Rattle.std.specs.Prelude.{◌≡◌, ◌↔◌, ◌≤◌, ◌<◌, Ok, Err, All, length, slice_get, position, IfSome, IfNone, IfErr, IfOk, OnOk};
+ghost use Rattle.ebpf_pool.specs.Admission.{has_program, has_context, without_program, without_context, pool_fault};
+
+use crate::jobs::Job;
+use crate::outcome::{Host, MAX_JOBS, MAX_WORKERS};
+use ebpf_verify::verified::Verified;
+use thiserror::Error;
+use vmem_arena::MAX_PAGES;
+
+/// Why no job was done, or not all of them. The first five are found before any worker is started, in this order.
+#[derive(Clone, Copy, Debug, Error)]
+pub enum PoolFault {
+    /// The arena has no page, or more than [`vmem_arena::MAX_PAGES`].
+    #[error("the arena can't have so many pages")]
+    Pages,
+    /// There is no worker, or more than [`crate::outcome::MAX_WORKERS`].
+    #[error("there can't be so many workers")]
+    Workers,
+    /// There are more jobs than [`crate::outcome::MAX_JOBS`].
+    #[error("there are too many jobs")]
+    Jobs,
+    /// This job's program isn't there; the lowest such job.
+    #[error("the program of job {job} isn't there")]
+    Program { job: usize },
+    /// This job's context doesn't have the length that its program declares; the lowest such job.
+    #[error("the context of job {job} doesn't have the declared length")]
+    Context { job: usize },
+    /// There was no memory. All workers were waited for, and all caches closed.
+    #[error("out of memory")]
+    NoMemory,
+}
+
+/// The first fault of the jobs, of what they are run with, or of the number of workers.
+#[tactic(auto, unfolding(crate::specs::Admission::pool_fault))]
+pub(crate) fn pool_fault(host: &Host, workers: usize, jobs: &[Job]) -> Option<PoolFault>
+    ensures { result ≡ pool_fault host.now workers jobs.now }
+{
+    if host.pages == 0 || host.pages > MAX_PAGES {
+        return Some(PoolFault::Pages);
+    }
+    if workers == 0 || workers > MAX_WORKERS {
+        return Some(PoolFault::Workers);
+    }
+    if jobs.len() as u64 > MAX_JOBS {
+        return Some(PoolFault::Jobs);
+    }
+    if let Some(job) = without_program(&host.programs, jobs) {
+        return Some(PoolFault::Program { job });
+    }
+    if let Some(job) = without_context(&host.programs, jobs) {
+        return Some(PoolFault::Context { job });
+    }
+    None
+}
+
+// The first job whose program isn't there.
+fn without_program(programs: &[Verified], jobs: &[Job]) -> Option<usize>
+    ensures { result ≡ without_program programs.now jobs.now }
+{
+    jobs.iter().position(|job| !has_program(programs, job))
+}
+
+// The first job whose context doesn't have the length that its program declares.
+fn without_context(programs: &[Verified], jobs: &[Job]) -> Option<usize>
+    ensures { result ≡ without_context programs.now jobs.now }
+{
+    jobs.iter().position(|job| !has_context(programs, job))
+}
+
+// Whether the job's program is there.
+fn has_program(programs: &[Verified], job: &Job) -> bool
+    ensures { result ≡ has_program programs.now job.now }
+{
+    job.program < programs.len()
+}
+
+// Whether the job's context has the length that its program declares.
+fn has_context(programs: &[Verified], job: &Job) -> bool
+    ensures { result ≡ has_context programs.now job.now }
+{
+    match programs.get(job.program) {
+        Some(verified) => job.context.bytes.len() == verified.decl().context as usize,
+        None => false,
+    }
+}

@@ -1,0 +1,180 @@
+//! Jobs, each done once.
+//!
+//! *The idea.* All memory is reserved first, then the supplies are opened, and workers are made of their hands, the seats and lists
+//! for reports. The workers do the jobs, with the reaper beside them. Then they are taken apart again, the supplies are closed over
+//! their hands, what the shelves hold goes back, and each report goes to the place of its job.
+//!
+//! *The reason.* The numbers that all workers drew are all the numbers of jobs, each once: so each job has one report. What a
+//! worker's hands took and got is what its reports say, clashes and strays aside, so the same holds of the sums.
+
+ghost use Rattle.std.specs.Prelude.{◌≡◌, ◌+◌, ◌≤◌, ◌<◌, [], None, All, length, vec_len, vec_capacity, IfOk, IfErr, OnOk, OnErr};
+ghost use Rattle.ebpf_machine.specs.Kinds.{AreKnown};
+ghost use Rattle.ebpf_pool.specs.Admission.{pool_fault};
+ghost use Rattle.ebpf_pool.specs.Books.{AreAllFor};
+ghost use Rattle.ebpf_pool.specs.Crews.{AreFresh};
+ghost use Rattle.ebpf_pool.specs.Outcomes.{IsIdle, IsOutcome, AreIdleAgain, IsFaultOf};
+ghost use Rattle.ebpf_pool.specs.Serving.{AreServed};
+ghost use Rattle.ebpf_pool.specs.Working.{AreReady};
+
+use crate::admission::{PoolFault, pool_fault};
+use crate::crew::{Done, Parts, dismiss, recruit, work_and_reap};
+use crate::gate::Gate;
+use crate::jobs::Job;
+use crate::ledgers::Names;
+use crate::outcome::{Host, Outcome, Reports};
+use crate::place::{count_all, place_all};
+use crate::setup::Setup;
+use crate::supply::{Blanks, Closing};
+use crate::worker::{Ending, Shared, Worker};
+use owners_table::owners::{OwnerSeat, Owners};
+use std::alloc::{AllocError, Global};
+use std::marker::Brand;
+use std::sync::Wait;
+use std::thread::Threads;
+
+/// Does each job once, by a worker a seat, with the reaper beside them, and gives the seats back.
+///
+/// Which worker does a job is open, and which calls of `new` are answered null where objects run out. The gate is told how far
+/// each job and the reaper are. A worker that can't be started leaves its jobs to the others, or to the calling thread, and so does
+/// one that finds no memory to begin with; a reaper that can't be started makes its passes when the jobs are done.
+///
+/// # Errors
+/// The faults of [`PoolFault`], in its order.
+pub fn run_jobs<G: Gate + Sync, R: Threads + Wait + Sync>(
+    rt: &R,
+    alloc: Global,
+    host: &Host,
+    owners: &Owners,
+    seats: Vec<OwnerSeat>,
+    jobs: &[Job],
+    reaps: u32,
+    gate: &G,
+) -> (Vec<OwnerSeat>, Result<Outcome, PoolFault>)
+    // A program can be run only if it was verified against the kinds that the caches have.
+    requires known { AreKnown host.now.programs.items }
+    // There is a word for each slot of any arena.
+    requires slots { 65536 ≤ owners.now.slots }
+    requires seats { All (IsIdle owners.now) seats.items }
+    ensures done { IfOk result.1 (IsOutcome host.now.programs.items jobs.now seats.items result.0.items) }
+    ensures due { OnOk result.1 (pool_fault host.now (vec_len seats) jobs.now ≡ None) }
+    ensures refused { IfErr result.1 (IsFaultOf (pool_fault host.now (vec_len seats) jobs.now)) }
+    ensures seats { AreIdleAgain owners.now seats.items result.0.items }
+{
+    if let Some(fault) = pool_fault(host, seats.len(), jobs) {
+        return (seats, Err(fault));
+    }
+    let (seats, done) = run_in::<Brand, G, R>(
+        rt,
+        alloc,
+        host,
+        owners,
+        seats,
+        jobs,
+        reaps,
+        gate,
+        Blanks::new(),
+    );
+    match done {
+        Ok(outcome) => (seats, Ok(outcome)),
+        Err(_) => (seats, Err(PoolFault::NoMemory)),
+    }
+}
+
+// The same with new ledgers, one for each book of a cache, where there is no fault.
+fn run_in<L: Names + Send + Sync, G: Gate + Sync, R: Threads + Wait + Sync>(
+    rt: &R,
+    alloc: Global,
+    host: &Host,
+    owners: &Owners,
+    seats: Vec<OwnerSeat>,
+    jobs: &[Job],
+    reaps: u32,
+    gate: &G,
+    blanks: Blanks,
+) -> (Vec<OwnerSeat>, Result<Outcome, AllocError>)
+    requires blanks { AreAllFor L.outs L.ins L.puts L.gets blanks }
+    requires known { AreKnown host.now.programs.items }
+    requires slots { 65536 ≤ owners.now.slots }
+    requires seats { All (IsIdle owners.now) seats.items }
+    requires fine { pool_fault host.now (vec_len seats) jobs.now ≡ None }
+    ensures done { IfOk result.1 (IsOutcome host.now.programs.items jobs.now seats.items result.0.items) }
+    ensures seats { AreIdleAgain owners.now seats.items result.0.items }
+{
+    let Ok(setup) = Setup::<L>::new(rt, alloc, host.pages, seats.len(), jobs.len(), blanks) else {
+        return (seats, Err(AllocError));
+    };
+    let Setup {
+        mut room,
+        mut workers,
+        supplies,
+        hands,
+    } = setup;
+    let mut parts = Parts {
+        hands,
+        seats,
+        drawers: room.drawers,
+        answered: room.answered,
+    };
+    let shared = Shared {
+        rt,
+        alloc,
+        arena: &room.arena,
+        owners,
+        supplies: &supplies,
+        programs: &host.programs,
+        jobs,
+        tickets: &room.tickets,
+        gate,
+    };
+    let done = serve_all(&shared, reaps, &mut parts, &mut workers);
+    workers.destroy_empty();
+    let Parts {
+        hands,
+        mut seats,
+        drawers,
+        answered,
+    } = parts;
+    let closing = Closing {
+        rt,
+        arena: &room.arena,
+        owners,
+    };
+    let (shelves, totals) = supplies.close(&closing, hands, &mut seats);
+    room.tickets.close(drawers);
+    if !matches!(done.ending, Ending::Through) {
+        return (seats, Err(AllocError));
+    }
+    count_all(&answered, &mut room.jobs_done);
+    place_all(&mut room.reports, answered);
+    let outcome = Outcome {
+        reports: Reports {
+            reports: room.reports,
+        },
+        totals,
+        clashes: done.clashes,
+        shelves,
+        strays: done.strays,
+        jobs_done: room.jobs_done,
+    };
+    (seats, Ok(outcome))
+}
+
+// Makes workers of the parts, lets them do all jobs, and takes them apart.
+fn serve_all<'a, L: Names + Send + Sync, G: Gate + Sync + 'a, R: Threads + Wait + Sync + 'a>(
+    shared: &Shared<'a, L, G, R>,
+    reaps: u32,
+    parts: &mut Parts<L>,
+    workers: &mut Vec<Worker<L>>,
+) -> Done
+    requires ready { AreReady shared.now.programs.now shared.now.jobs.now }
+    requires some { (0 < length parts.old.seats.items) × (length parts.old.seats.items ≤ 64) }
+    requires fresh { AreFresh shared.now.owners.now shared.now.tickets.now (length parts.old.seats.items) parts.old }
+    requires none { workers.old.items ≡ [] }
+    requires room { length parts.old.seats.items ≤ vec_capacity workers.old }
+    ensures none { workers.new.items ≡ [] }
+    ensures served { AreServed shared.now.programs.now shared.now.jobs.now shared.now.owners.now shared.now.tickets.now parts.old.seats.items parts.new result }
+{
+    recruit(shared, parts, workers);
+    work_and_reap(shared, reaps, workers.as_mut_slice());
+    dismiss(workers, parts)
+}

@@ -1,0 +1,134 @@
+//! All that jobs need before there are workers: memory, tickets, supplies with their hands, and a list for workers.
+
+ghost use Rattle.std.specs.Prelude.{◌≡◌, ◌≤◌, ◌<◌, [], None, All, length, vec_len, vec_capacity, IfOk};
+ghost use Rattle.owners_table.specs.Drawing.{fresh};
+ghost use Rattle.ebpf_pool.specs.Books.{AreAllFor};
+ghost use Rattle.ebpf_pool.specs.Crews.{IsPrepared};
+
+use crate::hands::FreeHands;
+use crate::jobs::Numbered;
+use crate::ledgers::Names;
+use crate::supply::{Blanks, Supplies};
+use crate::worker::Worker;
+use ebpf_machine::report::{Answers, Output, Report, Taken};
+use object_cache::ArenaLock;
+use owners_table::tickets::{TicketSeat, Tickets};
+use std::alloc::{AllocError, Global};
+use std::sync::Wait;
+
+/// The arena, a ticket for each job, and for each worker a seat to draw them with and a list of reports; and a place for the
+/// report of each job, where a report that has no exit is none; and room to say how many jobs each worker did.
+#[derive(Drop)]
+pub(crate) struct Room {
+    pub(crate) arena: ArenaLock,
+    pub(crate) tickets: Tickets,
+    pub(crate) drawers: Vec<TicketSeat>,
+    pub(crate) answered: Vec<Vec<Numbered>>,
+    pub(crate) reports: Vec<Report>,
+    pub(crate) jobs_done: Vec<u64>,
+}
+
+impl Room {
+    /// Room for this many workers and jobs.
+    pub(crate) fn new(
+        alloc: Global,
+        pages: u32,
+        workers: usize,
+        jobs: usize,
+    ) -> Result<Room, AllocError>
+        requires workers { (0 < workers) × (workers ≤ 64) }
+        ensures tickets { IfOk result (λ r. (r.tickets.limit ≡ jobs) × (r.tickets.seats ≡ workers)) }
+        ensures drawers { IfOk result (λ r. (length r.drawers.items ≡ workers) × All (λ s. s ≡ fresh r.tickets.table jobs) r.drawers.items) }
+        ensures answered { IfOk result (λ r. (length r.answered.items ≡ workers) × All (λ l. l.items ≡ []) r.answered.items) }
+        ensures reports { IfOk result (λ r. (length r.reports.items ≡ jobs) × All (λ p. p.exit ≡ None) r.reports.items) }
+        ensures jobs_done { IfOk result (λ r. (r.jobs_done.items ≡ []) × (workers ≤ vec_capacity r.jobs_done)) }
+    {
+        let Ok(arena) = ArenaLock::new(alloc, pages) else {
+            return Err(AllocError);
+        };
+        let (tickets, drawers) = Tickets::new(alloc, jobs as u64, workers as u32)?;
+        Ok(Room {
+            arena,
+            tickets,
+            drawers,
+            answered: blank_lists(alloc, workers)?,
+            reports: blank_reports(alloc, jobs)?,
+            jobs_done: Vec::with_capacity(alloc, workers)?,
+        })
+    }
+}
+
+// That many empty lists.
+fn blank_lists(alloc: Global, count: usize) -> Result<Vec<Vec<Numbered>>, AllocError>
+    ensures { IfOk result (λ v. (length v.items ≡ count) × All (λ l. l.items ≡ []) v.items) }
+{
+    let mut lists = Vec::with_capacity(alloc, count)?;
+    for _list in 0..count {
+        lists.push_reserved(Vec::new(alloc));
+    }
+    Ok(lists)
+}
+
+// That many reports of nothing.
+fn blank_reports(alloc: Global, count: usize) -> Result<Vec<Report>, AllocError>
+    ensures { IfOk result (λ v. (length v.items ≡ count) × All (λ p. p.exit ≡ None) v.items) }
+{
+    let mut reports = Vec::with_capacity(alloc, count)?;
+    for _report in 0..count {
+        reports.push_reserved(Report {
+            exit: None,
+            output: Output {
+                numbers: Vec::new(alloc),
+            },
+            executed: 0,
+            answers: Answers {
+                replies: Vec::new(alloc),
+            },
+            taken: Taken {
+                bytes: Vec::new(alloc),
+            },
+            peak: 0,
+        });
+    }
+    Ok(reports)
+}
+
+/// What workers are made of and work with, before there are any.
+pub(crate) struct Setup<L: Names> {
+    pub(crate) room: Room,
+    pub(crate) workers: Vec<Worker<L>>,
+    pub(crate) supplies: Supplies<L>,
+    pub(crate) hands: FreeHands<L>,
+}
+
+impl<L: Names> Setup<L> {
+    /// All that this many workers and jobs need. The supplies come last, so that little is to be undone.
+    ///
+    /// # Errors
+    /// There was no memory. All caches that were made were closed.
+    pub(crate) fn new<R: Wait>(
+        rt: &R,
+        alloc: Global,
+        pages: u32,
+        count: usize,
+        jobs: usize,
+        blanks: Blanks,
+    ) -> Result<Setup<L>, AllocError>
+        requires blanks { AreAllFor L.outs L.ins L.puts L.gets blanks }
+        requires count { (0 < count) × (count ≤ 64) }
+        ensures { IfOk result (IsPrepared count jobs) }
+    {
+        let room = Room::new(alloc, pages, count, jobs)?;
+        let workers = Vec::with_capacity(alloc, count)?;
+        let Ok((supplies, hands)) = Supplies::open(rt, alloc, &room.arena, count, blanks) else {
+            workers.destroy_empty();
+            return Err(AllocError);
+        };
+        Ok(Setup {
+            room,
+            workers,
+            supplies,
+            hands,
+        })
+    }
+}

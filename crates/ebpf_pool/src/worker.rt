@@ -1,0 +1,252 @@
+//! A worker.
+//!
+//! *The idea.* A worker draws the number of a job, runs the job's program over its own store, keeps the report under that number,
+//! and draws again, until it is told that there are no more numbers. One that finds no memory to begin with draws none, and leaves all
+//! jobs to the others.
+//!
+//! *The invariant.* The numbers that it drew are those of the reports that it keeps, in order. Each report is that of its job's
+//! program alone, with the answers that it reports. Of each kind its hands gave back or left on the shelf all that they took or got
+//! from there. What they took, got and were refused is what the reports say, clashes and strays aside.
+//!
+//! *The reason.* A run over whatever store leaves as many objects of each kind out as there were, and its report's answers are
+//! what the store counts. Each number is drawn once, over all workers; so each job has one report.
+
+ghost use Rattle.std.specs.Prelude.{◌≡◌, ◌≢◌, ◌⊎◌, ◌≤◌, ◌<◌, ◌+◌, ◌++◌, ◌∷◌, [], ℕ, All, length, false, vec_len, vec_capacity, IfOk, OnOk, OnErr};
+ghost use Rattle.owners_table.specs.Drawing.{IsOf};
+ghost use Rattle.ebpf_machine.specs.Whole.{granted, refused, fetched};
+ghost use Rattle.ebpf_pool.specs.declared.worker.Ending.TheVariants.{Through, OutOfMemory};
+ghost use Rattle.ebpf_pool.specs.Claims.{lost};
+ghost use Rattle.ebpf_pool.specs.Stocks.{hands_of, grants_by, nulls_by, gets_by};
+ghost use Rattle.ebpf_pool.specs.Working.{IsFresh, IsUnused, IsEven, IsDone, IsServed, AreUsed, AreReady, Answers, HasDrawn, granted_by, refused_by, fetched_by};
+
+use crate::client::{Before, Client};
+use crate::gate::{Gate, Point};
+use crate::hands::Tools;
+use crate::jobs::{Job, Numbered};
+use crate::ledgers::Names;
+use crate::owned::Owned;
+use crate::stocks::Stocks;
+use crate::store::Store;
+use crate::supply::Supplies;
+use ebpf_machine::whole::run_in;
+use ebpf_machine::workspace::Workspace;
+use ebpf_verify::verified::Verified;
+use object_cache::ArenaLock;
+use owners_table::owners::Owners;
+use owners_table::tickets::{TicketSeat, Tickets};
+use std::alloc::{AllocError, Global};
+use std::marker::Brand;
+use std::mem;
+use std::sync::Wait;
+
+/// What all workers use, and none owns: the supplies and tables, the programs and jobs, and the gate. There is a ticket for each job.
+#[derive(Drop)]
+pub(crate) struct Shared<'a, L: Names, G: Gate, R: Wait> {
+    pub(crate) rt: &'a R,
+    pub(crate) alloc: Global,
+    pub(crate) arena: &'a ArenaLock,
+    pub(crate) owners: &'a Owners,
+    pub(crate) supplies: &'a Supplies<L>,
+    pub(crate) programs: &'a [Verified],
+    pub(crate) jobs: &'a [Job],
+    pub(crate) tickets: &'a Tickets,
+    pub(crate) gate: &'a G,
+    ghost slots: { 65536 ≤ owners.now.slots },
+    ghost limit: { tickets.now.limit ≡ length jobs.now },
+}
+
+/// How a worker ended, or several together.
+#[derive(Clone, Copy)]
+pub(crate) enum Ending {
+    /// It was told that there are no more jobs.
+    Through,
+    /// It found no memory to begin with: it drew no job, and left all jobs to the others.
+    Unstarted,
+    /// It drew a job and found no memory for it.
+    OutOfMemory,
+}
+
+impl Ending {
+    /// How two ended together: out of memory where one was, else through where one was.
+    pub(crate) fn with(self, other: Ending) -> Ending
+        ensures kept { result ≢ OutOfMemory → (self ≢ OutOfMemory) × (other ≢ OutOfMemory) }
+        ensures through { result ≡ Through → (self ≡ Through) ⊎ (other ≡ Through) }
+    {
+        match (self, other) {
+            (Ending::OutOfMemory, _) | (_, Ending::OutOfMemory) => Ending::OutOfMemory,
+            (Ending::Unstarted, Ending::Unstarted) => Ending::Unstarted,
+            _ => Ending::Through,
+        }
+    }
+}
+
+/// A worker. While it works its tools are its store's, and not here.
+pub(crate) struct Worker<L: Names> {
+    pub(crate) tools: Option<Tools<L>>,
+    pub(crate) ticket: TicketSeat,
+    pub(crate) answered: Vec<Numbered>,
+    /// How it ended; before it works, `Unstarted`.
+    pub(crate) ending: Ending,
+}
+
+/// Does jobs until there are no more, or memory runs out.
+pub(crate) fn work<'a, L: Names, G: Gate + 'a, R: Wait + 'a>(
+    shared: &Shared<'a, L, G, R>,
+    worker: &mut Worker<L>,
+)
+    requires ready { AreReady shared.now.programs.now shared.now.jobs.now }
+    requires fresh { IsFresh shared.now.owners.now shared.now.tickets.now worker.old }
+    ensures { IsDone shared.now.programs.now shared.now.jobs.now shared.now.tickets.now worker.old worker.new }
+{
+    let Some(tools) = worker.tools.take() else {
+        unreachable!()
+    };
+    // What a job writes to lies with the thread, not beside what another worker writes to.
+    let mut answered = mem::replace(&mut worker.answered, Vec::new(shared.alloc));
+    let (left, ending) = work_with::<L, Brand, G, R>(
+        shared,
+        tools,
+        &mut worker.ticket,
+        &mut answered,
+    );
+    worker.answered = answered;
+    worker.ending = ending;
+    match worker.tools.replace(left) {
+        Some(_) => unreachable!(),
+        None => {}
+    }
+}
+
+// The same with a store of these tools, which are handed back. `N` says what the seat was before.
+fn work_with<'a, L: Names, N: Before + 'a, G: Gate + 'a, R: Wait + 'a>(
+    shared: &Shared<'a, L, G, R>,
+    tools: Tools<L>,
+    ticket: &mut TicketSeat,
+    answered: &mut Vec<Numbered>,
+) -> (Tools<L>, Ending)
+    requires ready { AreReady shared.now.programs.now shared.now.jobs.now }
+    requires unused { IsUnused shared.now.owners.now tools }
+    requires at { tools.seat.table ≡ N.table }
+    requires noted { (length tools.seat.notes ≡ N.noted) × (length tools.seat.fetches ≡ N.fetched) }
+    requires lost { lost tools.seat.notes ≡ N.lost }
+    requires table { IsOf shared.now.tickets.now ticket.old }
+    requires none { (ticket.old.drawn ≡ []) × (ticket.old.passed ≡ false) × (answered.old.items ≡ []) }
+    ensures used { AreUsed tools result.0 answered.new.items }
+    ensures served { IsServed shared.now.programs.now shared.now.jobs.now shared.now.tickets.now ticket.new answered.new.items result.1 }
+{
+    let Tools {
+        hands,
+        seat,
+        clashes: _,
+        strays: _,
+    } = tools;
+    let client: Client<'a, N, R> = Client::new(shared.rt, shared.arena, shared.owners, seat);
+    let stocks = Stocks::new(shared.supplies, hands);
+    let mut store: Store<'a, L, N, R> = Store::new(client, stocks);
+    let ending = serve(shared, &mut store, ticket, answered);
+    (store.end(), ending)
+}
+
+// Draws tickets and does their jobs.
+fn serve<'a, L: Names, N: Before + 'a, G: Gate + 'a, R: Wait + 'a>(
+    shared: &Shared<'a, L, G, R>,
+    store: &mut Store<'a, L, N, R>,
+    ticket: &mut TicketSeat,
+    answered: &mut Vec<Numbered>,
+) -> Ending
+    requires ready { AreReady shared.now.programs.now shared.now.jobs.now }
+    requires even { IsEven (hands_of store.old.stocks) }
+    requires table { IsOf shared.now.tickets.now ticket.old }
+    requires none { (ticket.old.drawn ≡ []) × (ticket.old.passed ≡ false) × (answered.old.items ≡ []) }
+    ensures even { IsEven (hands_of store.new.stocks) }
+    ensures table { IsOf shared.now.tickets.now ticket.new }
+    ensures good { All (Answers shared.now.programs.now shared.now.jobs.now) answered.new.items }
+    ensures drawn { HasDrawn shared.now.jobs.now ticket.new answered.new.items result }
+    ensures granted { grants_by store.new.stocks store.new.client.clashes ≡
+        grants_by store.old.stocks store.old.client.clashes + granted_by answered.new.items }
+    ensures refused { nulls_by store.new.stocks store.new.client.clashes ≡
+        nulls_by store.old.stocks store.old.client.clashes + refused_by answered.new.items }
+    ensures fetched { gets_by store.new.stocks store.new.client.strays ≡
+        gets_by store.old.stocks store.old.client.strays + fetched_by answered.new.items }
+{
+    let Ok(mut workspace) = Workspace::new(shared.alloc) else {
+        return Ending::Unstarted;
+    };
+    for _ in shared.rt.forever() {
+        let Some(number) = shared.tickets.draw(ticket) else {
+            workspace.free();
+            return Ending::Through;
+        };
+        let Ok(left) = answer(shared, number, store, answered, workspace) else {
+            return Ending::OutOfMemory;
+        };
+        workspace = left;
+    }
+    unreachable!()
+}
+
+// Does the job of a number, and keeps its report.
+fn answer<'a, L: Names, N: Before + 'a, G: Gate + 'a, R: Wait + 'a>(
+    shared: &Shared<'a, L, G, R>,
+    number: u64,
+    store: &mut Store<'a, L, N, R>,
+    answered: &mut Vec<Numbered>,
+    workspace: Workspace<Owned>,
+) -> Result<Workspace<Owned>, AllocError>
+    requires ready { AreReady shared.now.programs.now shared.now.jobs.now }
+    requires number { number < length shared.now.jobs.now }
+    requires even { IsEven (hands_of store.old.stocks) }
+    ensures even { IsEven (hands_of store.new.stocks) }
+    ensures answered { OnOk result ((n : Numbered) × (n.job ≡ number) × Answers shared.now.programs.now shared.now.jobs.now n ×
+        (answered.new.items ≡ answered.old.items ++ n ∷ []) ×
+        (grants_by store.new.stocks store.new.client.clashes ≡
+        grants_by store.old.stocks store.old.client.clashes + granted n.report.answers) ×
+        (nulls_by store.new.stocks store.new.client.clashes ≡
+        nulls_by store.old.stocks store.old.client.clashes + refused n.report.answers) ×
+        (gets_by store.new.stocks store.new.client.strays ≡
+        gets_by store.old.stocks store.old.client.strays + fetched n.report.answers)) }
+    ensures failed { OnErr result ((answered.new.items ≡ answered.old.items) ×
+        (grants_by store.new.stocks store.new.client.clashes ≡
+        grants_by store.old.stocks store.old.client.clashes) ×
+        (nulls_by store.new.stocks store.new.client.clashes ≡
+        nulls_by store.old.stocks store.old.client.clashes) ×
+        (gets_by store.new.stocks store.new.client.strays ≡
+        gets_by store.old.stocks store.old.client.strays)) }
+{
+    let job = &shared.jobs[number as usize];
+    let Ok(context) = room_for(shared.alloc, answered, &job.context.bytes) else {
+        workspace.free();
+        return Err(AllocError);
+    };
+    shared.gate.at(number, Point::Begin);
+    store.client.job = number as u32;
+    let Ok((report, workspace)) = run_in(
+        shared.alloc,
+        workspace,
+        &shared.programs[job.program],
+        context,
+        store,
+    ) else {
+        return Err(AllocError);
+    };
+    answered.push_reserved(Numbered {
+        job: number,
+        report,
+    });
+    shared.gate.at(number, Point::Answered);
+    Ok(workspace)
+}
+
+// Room for a report, and a context of these bytes.
+fn room_for(
+    alloc: Global,
+    answered: &mut Vec<Numbered>,
+    bytes: &[u8],
+) -> Result<Vec<u8>, AllocError>
+    ensures same { answered.new.items ≡ answered.old.items }
+    ensures context { IfOk result (λ v. v.items ≡ bytes.now) }
+    ensures room { OnOk result (vec_len answered.new < vec_capacity answered.new) }
+{
+    answered.reserve(1)?;
+    bytes.to_vec(alloc)
+}
