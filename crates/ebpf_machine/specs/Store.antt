@@ -1,6 +1,8 @@
 -- What is said of a store of objects, and of the objects of a run that are out of it.
-use Rattle.std.specs.Prelude.{◌≡◌, ◌≢◌, ℕ, ◌==◌, if◌then◌else◌, List, map, All, AllPairs, Contains, count_by, Option, Some, None, IfSome}
+use Rattle.std.specs.Prelude.{◌≡◌, ◌≢◌, ℕ, ◌==◌, if◌then◌else◌, List, [], ◌++◌, map, All, AllPairs, Contains, count_by, Option, Some, None, option_map, IfSome}
 use Rattle.ebpf_machine.specs.declared.holding.Holding.{Holding}
+use Rattle.ebpf_machine.specs.declared.report.Reply.{Reply}
+use Rattle.ebpf_machine.specs.declared.report.Reply.TheVariants as reply
 use Rattle.ebpf_machine.specs.Effect.{Environment}
 use Rattle.ebpf_machine.specs.World.{Kind}
 use Rattle.ebpf_machine.specs.View.{ObjectView, environment_with}
@@ -10,8 +12,9 @@ pub use Rattle.ebpf_machine.specs.World.{Shelved}
 -- a store in the states S, of objects H: the kinds that there are; the kind and the slot of an object; which objects are out, and
 -- their bytes; what a call of new for a kind, made at a slot of a program, may be answered, with an object in a slot or with none;
 -- what may come off a shelf, in which slot and with which bytes, and whether nothing may; what is known to stand on a shelf, for a store
--- whose shelves nobody else changes; whether an object may come back; how often
--- it granted an object, refused one, gave one from a shelf and had none there; and how many objects of each kind are out
+-- whose shelves nobody else changes; whether an object may come back; how many objects of each kind are out; and how it goes from a
+-- state to a later one by calls of new and of swap that were told these replies: what it keeps, what it counts. It goes from each state to
+-- itself by no replies, and where it goes on, by the replies of both ways
 pub record Store (S H : Type 0) : Type 1 where
   pub kinds : List Kind
   pub kind_of : H → ℕ
@@ -24,34 +27,24 @@ pub record Store (S H : Type 0) : Type 1 where
   pub can_miss : (s : S) (shelf : ℕ) → Type 0
   pub stand : (s : S) (shelf : ℕ) (what : Option Shelved) → Type 0
   pub can_give : S → Type 0
-  pub grants : S → ℕ
-  pub nulls : S → ℕ
-  pub gets : S → ℕ
-  pub misses : S → ℕ
   pub outs : S → ℕ → ℕ
+  pub goes : S → List Reply → S → Type 0
+  pub stays : (s : S) → goes s [] s
+  pub goes_on : (s t u : S) (told more : List Reply) → goes s told t → goes t more u → goes s (told ++ more) u
 
--- ---- what it counts
+-- ---- what a call is told
 
-pub record Counts : Type 0 where
-  pub grants : ℕ
-  pub nulls : ℕ
-  pub gets : ℕ
-  pub misses : ℕ
-  pub outs : ℕ → ℕ
+-- a call of new, by what it was answered
+abbrev pub reply_to_new : {H : Type 0} → Option H → Reply
+reply_to_new (Some h) = reply.Granted
+reply_to_new None = reply.Null
 
-abbrev pub counts_of : {S H : Type 0} → Store S H → S → Counts
-counts_of o s = record { grants = o.grants s; nulls = o.nulls s; gets = o.gets s; misses = o.misses s; outs = o.outs s }
+-- a call of swap
+abbrev pub reply_to_swap : {H : Type 0} → Option H → Reply
+reply_to_swap (Some h) = reply.Shelf
+reply_to_swap None = reply.Empty
 
--- it answered calls of new as often as before
-abbrev pub TakesStay : {S H : Type 0} → Store S H → S → S → Type 0
-TakesStay o old new = (o.grants new ≡ o.grants old) × (o.nulls new ≡ o.nulls old)
-
--- and calls of swap
-abbrev pub SwapsStay : {S H : Type 0} → Store S H → S → S → Type 0
-SwapsStay o old new = (o.gets new ≡ o.gets old) × (o.misses new ≡ o.misses old)
-
-abbrev pub CountsStay : {S H : Type 0} → Store S H → S → S → Type 0
-CountsStay o old new = TakesStay o old new × SwapsStay o old new
+-- ---- how many are out
 
 -- 1 where it is an object, and of this kind
 abbrev pub one_of : {H : Type 0} → Option H → (kind k : ℕ) → ℕ
@@ -91,6 +84,11 @@ OtherShelvesStay shelf o old new = (other : ℕ) (what : Option Shelved) → oth
 -- an object as it is to stand on a shelf
 abbrev pub shelved_as : {S H : Type 0} → Store S H → S → H → Shelved
 shelved_as o s object = record { slot = o.slot_of object; bytes = o.bytes_of s object }
+
+-- on a shelf this is known to stand now, or nothing, and on the others what stood there
+abbrev pub ShelvesExchange : {S H : Type 0} → Option H → (shelf : ℕ) → Store S H → S → S → Type 0
+ShelvesExchange given shelf o old new =
+    ((what : Option Shelved) → o.stand old shelf what → o.stand new shelf (option_map (λ g. shelved_as o old g) given)) × OtherShelvesStay shelf o old new
 
 -- no object that is out is in this slot
 abbrev pub IsNobodys : {S H : Type 0} → ℕ → Store S H → S → Type 0

@@ -4,7 +4,7 @@
 //! `Verified`, so no instruction of it traps and none is tested at run time. What it computes is defined in specs/ by a
 //! machine that tests every access: the world of many runs, one event of it, and a run alone in a world of its own.
 //!
-//! To be read in this order: `value`, `kinds`, `context`, `objects`, `tally`, `holding`, `number`, `stack`, `memory`, `registers`, `arithmetic`, `operate`,
+//! To be read in this order: `value`, `kinds`, `context`, `objects`, `holding`, `number`, `stack`, `memory`, `registers`, `arithmetic`, `operate`,
 //! `report`, `workspace`, `parts`, `overwrite`, `helpers`, `going`, `burst`, `advance`, `run`, `whole`.
 #![tactic(auto)]
 
@@ -26,7 +26,6 @@ mod registers;
 pub mod report;
 pub mod run;
 mod stack;
-pub mod tally;
 pub mod value;
 pub mod whole;
 pub mod workspace;

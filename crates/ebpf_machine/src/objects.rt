@@ -1,15 +1,16 @@
 //! Where the objects of a run come from.
 
-ghost use Rattle.std.specs.Prelude.{◌≡◌, ◌≢◌, ◌≤◌, ◌<◌, ◌+◌, ◌==◌, if◌then◌else◌, ℕ, length, Option, option_map, IfSome, IfNone};
+ghost use Rattle.std.specs.Prelude.{◌≡◌, ◌≢◌, ◌≤◌, ◌<◌, ◌+◌, ◌==◌, if◌then◌else◌, ℕ, [], ◌∷◌, length, IfSome, IfNone};
 ghost use Rattle.ebpf_insn.specs.declared.program.TheConstants.{MAX_SLOTS};
 ghost use Rattle.ebpf_machine.specs.Bytes.{patched};
 ghost use Rattle.ebpf_machine.specs.World.{image_at};
-ghost use Rattle.ebpf_machine.specs.Store.{Store, Shelved, AllStay, AllStayBut, OthersStayThan, ShelvesStay, OtherShelvesStay, IsNobodys, TakesStay, SwapsStay, CountsStay, one_of, shelved_as};
+ghost use Rattle.ebpf_machine.specs.Store.{Store, AllStay, AllStayBut, OthersStayThan, ShelvesStay, ShelvesExchange, IsNobodys, one_of, reply_to_new, reply_to_swap};
 
 /// A store of objects: it answers calls of `new`, `free` and `swap`, and keeps the bytes of the objects that are out.
 ///
-/// What an implementation promises is said by one ghost member, `store`, which is no code: specs/Store says what it tells of
-/// the store in each of its states.
+/// What an implementation promises is said by one ghost member, `store`, which is no code: specs/Store says what it says of
+/// the store in each of its states. Its relation `goes` holds from each state to any later one, with the replies between them,
+/// so it says what the store keeps and what it counts.
 pub trait Objects {
     /// An object that is out. It must be given back and is not dropped.
     type Held;
@@ -26,27 +27,24 @@ pub trait Objects {
         ensures out { IfSome result (λ h. store.is_out self.new h × (store.kind_of h ≡ kind)) }
         ensures apart { IfSome result (λ h. IsNobodys (store.slot_of h) store self.old) }
         ensures image { IfSome result (λ h. store.bytes_of self.new h ≡ image_at store.kinds kind) }
-        ensures granted_count { IfSome result (λ _. (store.grants self.new ≡ store.grants self.old + 1) × (store.nulls self.new ≡ store.nulls self.old)) }
-        ensures refused_count { IfNone result ((store.nulls self.new ≡ store.nulls self.old + 1) × (store.grants self.new ≡ store.grants self.old)) }
-        ensures swaps { SwapsStay store self.old self.new }
-        ensures outs_granted { IfSome result (λ _. (k : ℕ) → store.outs self.new k ≡ store.outs self.old k + (if k == kind then 1 else 0)) }
-        ensures outs_refused { IfNone result ((k : ℕ) → store.outs self.new k ≡ store.outs self.old k) }
+        ensures goes { store.goes self.old (reply_to_new result ∷ []) self.new }
+        ensures outs { (k : ℕ) → store.outs self.new k ≡ store.outs self.old k + one_of result kind k }
         ensures shelves { ShelvesStay store self.old self.new }
         ensures others { AllStay store self.old self.new };
 
-    /// Takes an object back: it is out no more, and nothing else comes out by that.
+    /// Takes an object back: it is no longer out, and nothing else comes out by that.
     fn give(&mut self, kind: u8, object: Self::Held)
         requires room { store.can_give self.old }
         requires out { store.is_out self.old object }
         requires kind { store.kind_of object ≡ kind }
-        ensures counts { CountsStay store self.old self.new }
+        ensures goes { store.goes self.old [] self.new }
         ensures outs { (k : ℕ) → store.outs self.new k + (if k == kind then 1 else 0) ≡ store.outs self.old k }
         ensures back { (other : Self.Held) → store.is_out self.new other → store.is_out self.old other × (store.slot_of other ≢ store.slot_of object) }
         ensures shelves { ShelvesStay store self.old self.new }
         ensures others { AllStayBut (store.slot_of object) store self.old self.new };
 
     /// Answers a call of `swap`, made by the instruction at the slot `at`: takes an object of the shelf's kind, or nothing, onto
-    /// the shelf in place of what stood there, which is out from then on, with the bytes that it had. What is taken is out no more.
+    /// the shelf in place of what was there, which is out from then on, with the bytes that it had. What is taken is no longer out.
     fn swap(&mut self, shelf: u8, given: Option<Self::Held>, at: u16) -> Option<Self::Held>
         requires shelf { shelf < length store.kinds }
         requires at { at < MAX_SLOTS }
@@ -55,13 +53,10 @@ pub trait Objects {
         ensures missed { IfNone result (store.can_miss self.old shelf) }
         ensures out { IfSome result (λ h. store.is_out self.new h × (store.kind_of h ≡ shelf)) }
         ensures apart { IfSome result (λ h. IsNobodys (store.slot_of h) store self.old) }
-        ensures takes { TakesStay store self.old self.new }
-        ensures fetched_count { IfSome result (λ _. (store.gets self.new ≡ store.gets self.old + 1) × (store.misses self.new ≡ store.misses self.old)) }
-        ensures missed_count { IfNone result ((store.misses self.new ≡ store.misses self.old + 1) × (store.gets self.new ≡ store.gets self.old)) }
+        ensures goes { store.goes self.old (reply_to_swap result ∷ []) self.new }
         ensures outs { (k : ℕ) → store.outs self.new k + one_of given shelf k ≡ store.outs self.old k + one_of result shelf k }
         ensures gone { IfSome given (λ g. store.is_out self.new g → ⊥) }
-        ensures shelf { (what : Option Shelved) → store.stand self.old shelf what → store.stand self.new shelf (option_map (λ g. shelved_as store self.old g) given) }
-        ensures other_shelves { OtherShelvesStay shelf store self.old self.new }
+        ensures shelves { ShelvesExchange given shelf store self.old self.new }
         ensures others { OthersStayThan given store self.old self.new };
 
     /// The bytes of an object.
@@ -75,7 +70,7 @@ pub trait Objects {
         requires fits { place + length bytes.now ≤ length (store.bytes_of self.old held.old) }
         ensures same { (store.slot_of held.new ≡ store.slot_of held.old) × (store.kind_of held.new ≡ store.kind_of held.old) × store.is_out self.new held.new }
         ensures written { store.bytes_of self.new held.new ≡ patched (store.bytes_of self.old held.old) place bytes.now }
-        ensures counts { CountsStay store self.old self.new }
+        ensures goes { store.goes self.old [] self.new }
         ensures outs { (k : ℕ) → store.outs self.new k ≡ store.outs self.old k }
         ensures shelves { ShelvesStay store self.old self.new }
         ensures others { AllStayBut (store.slot_of held.old) store self.old self.new };

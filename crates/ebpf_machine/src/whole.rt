@@ -1,9 +1,9 @@
 //! A run as a whole, from its start to its exit.
 
-ghost use Rattle.std.specs.Prelude.{◌≡◌, ◌+◌, ℕ, length, IfOk, IfErr, OnOk, OnErr};
+ghost use Rattle.std.specs.Prelude.{◌≡◌, ℕ, length, IfOk, IfErr, OnOk, OnErr};
 ghost use Rattle.ebpf_machine.specs.World.{kinds_of};
 ghost use Rattle.ebpf_machine.specs.Turns.{IsStartFault};
-ghost use Rattle.ebpf_machine.specs.Whole.{IsReportOf, granted, refused, fetched, missed};
+ghost use Rattle.ebpf_machine.specs.Whole.{IsReportOf};
 
 use crate::objects::Objects;
 use crate::report::Report;
@@ -29,11 +29,8 @@ pub fn run_to_exit<O: Objects>(
     requires room { (store : O) → O.store.can_give store }
     // The report is that of the run alone with the report's answers, and it exited.
     ensures report { IfOk result (IsReportOf verified.now context.items) }
-    // What the store granted and refused, and what it gave from its shelves, is what the report's answers say.
-    ensures granted { IfOk result (λ r. O.store.grants objects.new ≡ O.store.grants objects.old + granted r.answers) }
-    ensures nulls { IfOk result (λ r. O.store.nulls objects.new ≡ O.store.nulls objects.old + refused r.answers) }
-    ensures gets { IfOk result (λ r. O.store.gets objects.new ≡ O.store.gets objects.old + fetched r.answers) }
-    ensures misses { IfOk result (λ r. O.store.misses objects.new ≡ O.store.misses objects.old + missed r.answers) }
+    // The store went by the report's answers.
+    ensures goes { IfOk result (λ r. O.store.goes objects.old r.answers objects.new) }
     // Of each kind as many are out as before.
     ensures outs { (k : ℕ) → O.store.outs objects.new k ≡ O.store.outs objects.old k }
     ensures length { OnOk result (length context.items ≡ verified.now.decl.context) }
@@ -49,7 +46,7 @@ pub fn run_to_exit<O: Objects>(
     Ok(report)
 }
 
-/// The same in the memory of a run that has ended, which is left for the next one.
+/// Runs it in the memory of a run that has ended, which is left for the next one.
 ///
 /// # Errors
 /// As [`run_to_exit`]. The memory is freed then.
@@ -64,11 +61,8 @@ pub fn run_in<O: Objects>(
     requires room { (store : O) → O.store.can_give store }
     // The report is that of the run alone with the report's answers, and it exited.
     ensures report { IfOk result (λ r. IsReportOf verified.now context.items r.0) }
-    // What the store granted and refused, and what it gave from its shelves, is what the report's answers say.
-    ensures granted { IfOk result (λ r. O.store.grants objects.new ≡ O.store.grants objects.old + granted r.0.answers) }
-    ensures nulls { IfOk result (λ r. O.store.nulls objects.new ≡ O.store.nulls objects.old + refused r.0.answers) }
-    ensures gets { IfOk result (λ r. O.store.gets objects.new ≡ O.store.gets objects.old + fetched r.0.answers) }
-    ensures misses { IfOk result (λ r. O.store.misses objects.new ≡ O.store.misses objects.old + missed r.0.answers) }
+    // The store went by the report's answers.
+    ensures goes { IfOk result (λ r. O.store.goes objects.old r.0.answers objects.new) }
     // Of each kind as many are out as before.
     ensures outs { (k : ℕ) → O.store.outs objects.new k ≡ O.store.outs objects.old k }
     ensures length { OnOk result (length context.items ≡ verified.now.decl.context) }

@@ -57,13 +57,13 @@ pub returns-in-Some-clause-advanced : goal.returns-in-Some-clause-advanced
 returns-in-Some-clause-advanced g c =
     let asks = asking _ _ _ _ c.requires.ready c.requires.at c.number-kind.ensures in
     rw (granted_state (state_of c.args.parts.now) (state_of c.hold.new.parts) (state_of c.answer.new.parts) _ _ refl c.hold.ensures.state c.answer.ensures.state)
-    (grant_advanced _ _ _ _ _ asks (ask_known _ _ _ _ asks) refl (record { can = c.in-Some.ensures.granted; out = c.in-Some.ensures.out; apart = c.in-Some.ensures.apart; image = c.in-Some.ensures.image ∙ ap (λ (ks : List Kind). image_at ks c.number-kind.result) c.requires.kinds; counts = c.in-Some.ensures.granted_count; swaps = c.take.ensures.swaps; outs = c.in-Some.ensures.outs_granted; kept = c.take.ensures.others; shelves = c.take.ensures.shelves }))
+    (grant_advanced _ _ _ _ _ asks (ask_known _ _ _ _ asks) refl (record { can = c.in-Some.ensures.granted; out = c.in-Some.ensures.out; apart = c.in-Some.ensures.apart; image = c.in-Some.ensures.image ∙ ap (λ (ks : List Kind). image_at ks c.number-kind.result) c.requires.kinds; goes = c.in-Some.ensures.goes; outs = c.in-Some.ensures.outs; kept = c.take.ensures.others; shelves = c.take.ensures.shelves }))
 
 pub returns-in-None-clause-advanced : goal.returns-in-None-clause-advanced
 returns-in-None-clause-advanced g c =
     let asks = asking _ _ _ _ c.requires.ready c.requires.at c.number-kind.ensures in
     rw (c.answer-in-None.ensures.state, c.push_reserved.ensures.items)
-    (null_advanced _ _ _ _ _ asks (ask_known _ _ _ _ asks) (record { can = c.in-None.ensures.refused; counts = c.in-None.ensures.refused_count; swaps = c.take.ensures.swaps; outs = c.in-None.ensures.outs_refused; kept = c.take.ensures.others; shelves = c.take.ensures.shelves }))
+    (null_advanced _ _ _ _ _ asks (ask_known _ _ _ _ asks) (record { can = c.in-None.ensures.refused; goes = c.in-None.ensures.goes; outs = c.in-None.ensures.outs; kept = c.take.ensures.others; shelves = c.take.ensures.shelves }))
 
 pub answer-requires-in-None-clause-room : goal.answer-requires-in-None-clause-room
 answer-requires-in-None-clause-room g c =

@@ -44,7 +44,7 @@ called : (g : Over) (c : After-part_with-given g) → insn_at c.part_with-given.
 called g c = ap (λ (x : RunState _). insn_at x.subject.program x.pc) (left g c) ∙ c.requires.at.at
 
 swapped : (g : Over) (c : After-swap g) → IsSwapped g.O.Objects.store c.number-shelf.result c.part_with-given.result c.swap.result c.args.objects.now c.swap.new.self
-swapped g c = record { takes = c.swap.ensures.takes; outs = c.swap.ensures.outs; gone = c.swap.ensures.gone; others = c.swap.ensures.others; shelf_holds = c.swap.ensures.shelf; other_shelves = c.swap.ensures.other_shelves }
+swapped g c = record { goes = c.swap.ensures.goes; outs = c.swap.ensures.outs; gone = c.swap.ensures.gone; others = c.swap.ensures.others; shelves = c.swap.ensures.shelves }
 
 pub keep-requires-clause-few : goal.keep-requires-clause-few
 keep-requires-clause-few g c =
@@ -122,8 +122,8 @@ returns-in-Some-clause-advanced g c =
     let h : Holding _ = record { call = c.args.parts.now.pc; kind = c.number-shelf.result; object = object } in
     let size = g.met.O.Objects.has_size c.swap.new.self object c.in-Some.ensures.out.0 in
     let long = fetched_long g.O.Objects.store c.args.parts.now.verified.now.rows c.swap.new.self c.number-shelf.result object c.requires.kinds size.0 c.in-Some.ensures.out.1 in
-    let fetched : IsFetched g.O.Objects.store c.number-shelf.result object c.args.objects.now c.swap.new.self = record { can = c.in-Some.ensures.fetched; out = c.in-Some.ensures.out; apart = c.in-Some.ensures.apart; counts = c.in-Some.ensures.fetched_count } in
-    let swap : IsSwapped g.O.Objects.store c.number-shelf.result c.part_with-given.result (Some object) c.args.objects.now c.swap.new.self = record { takes = c.in-Some.ensures.takes; outs = c.in-Some.ensures.outs; gone = c.in-Some.ensures.gone; others = c.in-Some.ensures.others; shelf_holds = c.in-Some.ensures.shelf; other_shelves = c.in-Some.ensures.other_shelves } in
+    let fetched : IsFetched g.O.Objects.store c.number-shelf.result object c.args.objects.now c.swap.new.self = record { can = c.in-Some.ensures.fetched; out = c.in-Some.ensures.out; apart = c.in-Some.ensures.apart } in
+    let swap : IsSwapped g.O.Objects.store c.number-shelf.result c.part_with-given.result (Some object) c.args.objects.now c.swap.new.self = record { goes = c.in-Some.ensures.goes; outs = c.in-Some.ensures.outs; gone = c.in-Some.ensures.gone; others = c.in-Some.ensures.others; shelves = c.in-Some.ensures.shelves } in
     rw (fetched_state (state_of c.args.parts.now) (state_of t) (state_of c.keep.new.parts) (state_of c.hold.new.parts) (state_of c.answer.new.parts) h _ _ refl (left g at.After-part_with-given) c.keep.ensures.state c.hold.ensures.state c.answer.ensures.state, c.bytes.ensures)
     (fetch_advanced g.O.Objects.store (state_of c.args.parts.now) (state_of t) h c.args.objects.now c.swap.new.self c.part_with-given.result it c.part_with-given.ensures.parted refl swap fetched long)
 
@@ -132,9 +132,9 @@ returns-in-None-clause-advanced g c =
     let at = goal.at.returns-in-None-clause-advanced g c in
     let it = swaps g at.After-number-shelf in
     let t = c.part_with-given.new.parts in
-    let swap : IsSwapped g.O.Objects.store c.number-shelf.result c.part_with-given.result None c.args.objects.now c.swap.new.self = record { takes = c.in-None.ensures.takes; outs = c.in-None.ensures.outs; gone = c.in-None.ensures.gone; others = c.in-None.ensures.others; shelf_holds = c.in-None.ensures.shelf; other_shelves = c.in-None.ensures.other_shelves } in
+    let swap : IsSwapped g.O.Objects.store c.number-shelf.result c.part_with-given.result None c.args.objects.now c.swap.new.self = record { goes = c.in-None.ensures.goes; outs = c.in-None.ensures.outs; gone = c.in-None.ensures.gone; others = c.in-None.ensures.others; shelves = c.in-None.ensures.shelves } in
     rw (missed_state (state_of c.args.parts.now) (state_of t) _ (state_of c.answer-in-None.new.parts) (left g at.After-part_with-given) (ap (λ (replies : List _). record (state_of t) { replies = replies }) c.push_reserved.ensures.items) c.answer-in-None.ensures.state)
-    (miss_advanced g.O.Objects.store (state_of c.args.parts.now) (state_of t) c.args.objects.now c.swap.new.self c.number-shelf.result c.part_with-given.result it c.part_with-given.ensures.parted swap (record { can = c.in-None.ensures.missed; counts = c.in-None.ensures.missed_count }))
+    (miss_advanced g.O.Objects.store (state_of c.args.parts.now) (state_of t) c.args.objects.now c.swap.new.self c.number-shelf.result c.part_with-given.result it c.part_with-given.ensures.parted swap c.in-None.ensures.missed)
 
 -- the run after it parted with an object
 parted_there : (g : Over) (c : After-part_with-given g) → (c.part_with-given.new.parts.pc ≡ c.args.parts.now.pc) × (c.part_with-given.new.parts.exit ≡ c.args.parts.now.exit)
