@@ -1,6 +1,6 @@
 -- What a run leaves on shelves is what its program alone leaves there.
-use Rattle.std.proofs.Common.{◌≡◌, ◌==◌, if◌then◌else◌, ℕ, zero, suc, Bool, true, false, List, [], Option, Some, None, Result, Ok, Err, append_assoc, refl, sym, ap, ◌∙◌, arith}
-use Rattle.std.specs.Prelude.{IfOk, option_map}
+use Rattle.std.proofs.Common.{◌≡◌, ◌==◌, if◌then◌else◌, ℕ, zero, suc, Bool, true, false, List, [], Option, Some, None, append_assoc, refl, sym, ap, ◌∙◌, arith}
+use Rattle.std.specs.Prelude.{option_map}
 use Rattle.std.specs.List.{find}
 use Rattle.ebpf_verify.specs.Subject.{Subject}
 use Rattle.ebpf_machine.specs.declared.holding.Holding.{Holding}
@@ -144,13 +144,8 @@ same_bytes s shelf = of (stock_of s shelf).shelf where
   of None = refl
   of (Some x) = refl
 
-on_machine : (old new : Stocks) (s : Subject) (context : List ℕ) (r : Report) → ((shelf : ℕ) (what : Option Shelved) → what ≡ standing_on old shelf → (now : Option Shelved) × (now ≡ standing_on new shelf) × (bytes_on now ≡ left_in s context r shelf (bytes_on what))) → AreLeft old new s context r
+-- so what a store of these shelves has there is what the machine has
+pub on_machine : (old new : Stocks) (s : Subject) (context : List ℕ) (r : Report) → ((shelf : ℕ) (what : Option Shelved) → what ≡ standing_on old shelf → (now : Option Shelved) × (now ≡ standing_on new shelf) × (bytes_on now ≡ left_in s context r shelf (bytes_on what))) → AreLeft old new s context r
 on_machine old new s context r left shelf =
     let is = left shelf (standing_on old shelf) refl in
     sym (ap bytes_on is.1 ∙ same_bytes new shelf) ∙ is.2 ∙ ap (left_in s context r shelf) (same_bytes old shelf)
-
-pub left_on : {X E : Type 0} (old new : Stocks) (s : Subject) (context : List ℕ) (done : Result (Report × X) E)
-    → IfOk done (λ d. (shelf : ℕ) (what : Option Shelved) → what ≡ standing_on old shelf → (now : Option Shelved) × (now ≡ standing_on new shelf) × (bytes_on now ≡ left_in s context d.0 shelf (bytes_on what)))
-    → IfOk done (λ d. AreLeft old new s context d.0)
-left_on old new s context (Ok d) left = on_machine old new s context d.0 left
-left_on old new s context (Err e) left = tt

@@ -1,6 +1,5 @@
 -- The objects of a machine: a stock of each kind, and what is said of an object of whatever kind there.
-use Rattle.std.specs.Prelude.{◌≡◌, ◌≢◌, ◌+◌, ◌*◌, ℕ, ◌==◌, if◌then◌else◌, List, [], Box, Option, Some, None, option_map}
-use Rattle.std.specs.Option.{MatchOption}
+use Rattle.std.specs.Prelude.{◌≡◌, ◌≢◌, ◌+◌, ◌*◌, ℕ, ◌==◌, if◌then◌else◌, List, [], Option, Some, None, option_map}
 use Rattle.ebpf_object.specs.declared.Object.{Object}
 use Rattle.ebpf_object.specs.Object.{kind_of, slot_of, bytes_of}
 use Rattle.ebpf_host.specs.declared.stocks.Stocks.{Stocks}
@@ -8,17 +7,6 @@ use Rattle.ebpf_host.specs.Stock.{StockView, Shelved, IsHeld, held_count, shelve
 
 abbrev pub no_stock : StockView
 no_stock = record { pages = []; shelf = None }
-
-abbrev pub no_stocks : Stocks
-no_stocks = record { arena = record { pages = 0; out = [] }; cells = no_stock; records = no_stock; blocks = no_stock }
-
--- the stocks of a machine, where they are there and not lent to a run
-abbrev pub stocks_in : {Z : Type 0} → Option (Box Stocks Z) → Stocks
-stocks_in None = no_stocks
-stocks_in (Some b) = b.value
-
-abbrev pub AreThere : {Z : Type 0} → Option (Box Stocks Z) → Type 0
-AreThere s = MatchOption s ⊥ (λ _. Unit {0})
 
 -- the stock of the kind with this number
 abbrev pub stock_of : Stocks → ℕ → StockView

@@ -2,47 +2,38 @@
 
 ghost use Rattle.std.specs.Prelude.{◌≡◌, ◌⊎◌, ◌<◌, ◌↔◌, ℕ, None, length, IfOk, IfErr, OnOk, OnErr};
 ghost use Rattle.vmem_arena.specs.declared.arena.TheConstants.{MAX_PAGES};
-ghost use Rattle.ebpf_machine.specs.Kinds.{known_kinds};
 ghost use Rattle.ebpf_machine.specs.Turns.{IsStartFault};
-ghost use Rattle.ebpf_machine.specs.World.{kinds_of};
 ghost use Rattle.ebpf_host.specs.Leaving.{AreLeft};
 ghost use Rattle.ebpf_host.specs.Reports.{IsReportWithin};
 ghost use Rattle.ebpf_host.specs.Stocks.{stock_of};
 
 use crate::program::Program;
 use crate::stocks::Stocks;
-use crate::store::{Extent, Store};
 use crate::within::run_within;
 use ebpf_machine::report::Report;
 use ebpf_machine::run::StartFault;
-use ebpf_machine::tally::Tally;
 use ebpf_machine::workspace::Workspace;
 use ebpf_object::Object;
 use std::alloc::{AllocError, Global};
-use std::marker::{Brand, Model};
+use std::marker::Model;
 use std::mem;
-use std::sync::ledger::{Blank, Ledger};
 use vmem_arena::{Arena, ArenaFault};
 
 /// The memory of runs and the objects that they take, give back and leave on shelves. It serves one run at a time, of whatever
 /// program; what a run leaves on a shelf is there for the next. All of it ends with the machine.
 pub struct Machine {
     alloc: Global,
-    // None while they are lent to a run, which no caller sees. In a box, so that a pointer is lent.
-    stocks: Option<Box<Stocks>>,
+    stocks: Box<Stocks>,
     // None before the first run, and after one that found no memory.
     workspace: Option<Workspace<Object>>,
 }
 
 impl Model for Machine {
     ghost use Rattle.ebpf_host.specs.declared.stocks.Stocks.{Stocks};
-    ghost use Rattle.ebpf_host.specs.Stocks.{AreThere, stocks_in};
 
     ghost Value = { Stocks };
 
-    ghost view = { λ m. stocks_in m.stocks };
-
-    ghost invariant = { λ m. AreThere m.stocks };
+    ghost view = { λ m. m.stocks.value };
 }
 
 impl Machine {
@@ -60,7 +51,7 @@ impl Machine {
         match Box::new(alloc, Stocks::new(alloc, arena)) {
             Ok(stocks) => Ok(Machine {
                 alloc,
-                stocks: Some(stocks),
+                stocks,
                 workspace: None,
             }),
             Err(failed) => {
@@ -95,25 +86,8 @@ impl Machine {
             return Err(StartFault::ContextLength);
         }
         let (workspace, context) = self.take_workspace(context)?;
-        let Some(stocks) = mem::replace(&mut self.stocks, None) else {
-            unreachable!();
-        };
-        let (stocks, done) = run_on::<Brand, Brand, Brand, Brand>(
-            self.alloc,
-            stocks,
-            workspace,
-            program,
-            context,
-            limit,
-            Blank::new(1),
-            Blank::new(1),
-            Blank::new(1),
-            Blank::new(1),
-        );
-        if let Some(other) = mem::replace(&mut self.stocks, Some(stocks)) {
-            Box::into_inner(other).end();
-        }
-        let (report, workspace) = done?;
+        let stocks = &mut *self.stocks;
+        let (report, workspace) = run_within(self.alloc, workspace, program, context, stocks, limit)?;
         self.put_workspace(workspace);
         Ok(report)
     }
@@ -150,9 +124,7 @@ impl Machine {
         ensures shelves { (kind : ℕ) → (stock_of self.new kind).shelf ≡ (stock_of self.old kind).shelf }
         ensures pages { self.new.arena.pages ≡ self.old.arena.pages }
     {
-        if let Some(stocks) = &mut self.stocks {
-            stocks.reap();
-        }
+        self.stocks.reap();
     }
 }
 
@@ -163,47 +135,9 @@ impl Drop for Machine {
             stocks,
             workspace,
         } = self;
-        if let Some(stocks) = stocks {
-            Box::into_inner(stocks).end();
-        }
+        Box::into_inner(stocks).end();
         if let Some(workspace) = workspace {
             workspace.free();
         }
     }
-}
-
-// Runs a program over stocks, which are handed back, with new ledgers in which contracts count what it is answered.
-fn run_on<G: Ledger + Extent, N: Ledger, F: Ledger, M: Ledger>(
-    alloc: Global,
-    stocks: Box<Stocks>,
-    workspace: Workspace<Object>,
-    program: &Program,
-    context: Vec<u8>,
-    limit: u64,
-    grants: Blank,
-    nulls: Blank,
-    gets: Blank,
-    misses: Blank,
-) -> (Box<Stocks>, Result<(Report, Workspace<Object>), StartFault>)
-    requires grants { (grants.name ≡ G.name) × (grants.parts ≡ G.parts) × (G.parts ≡ 1) }
-    requires nulls { (nulls.name ≡ N.name) × (nulls.parts ≡ N.parts) × (N.parts ≡ 1) }
-    requires gets { (gets.name ≡ F.name) × (gets.parts ≡ F.parts) × (F.parts ≡ 1) }
-    requires misses { (misses.name ≡ M.name) × (misses.parts ≡ M.parts) × (M.parts ≡ 1) }
-    requires pages { stocks.value.arena.pages ≡ G.pages }
-    ensures report { IfOk result.1 (λ r. IsReportWithin program.now.verified context.items limit r.0) }
-    ensures length { OnOk result.1 (length context.items ≡ program.now.verified.decl.context) }
-    ensures refused { IfErr result.1 (IsStartFault (length context.items) program.now.verified.decl.context) }
-    ensures shelves { IfOk result.1 (λ r. AreLeft stocks.value result.0.value program.now.verified context.items r.0) }
-    ensures pages { result.0.value.arena.pages ≡ G.pages }
-    ensures unchanged { OnErr result.1 (result.0 ≡ stocks) }
-{
-    let mut store = Store::<G, N, F, M> {
-        stocks,
-        grants: Tally::open(grants),
-        nulls: Tally::open(nulls),
-        gets: Tally::open(gets),
-        misses: Tally::open(misses),
-    };
-    let done = run_within(alloc, workspace, program, context, &mut store, limit);
-    (store.end(), done)
 }

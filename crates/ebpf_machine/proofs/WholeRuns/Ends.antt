@@ -3,7 +3,6 @@ use Rattle.std.proofs.Common.{◌≡◌, ℕ, ◌+◌, ◌≤◌, List, [], ◌+
 use Rattle.std.specs.Prelude.{IfSome}
 use Rattle.std.proofs.lemmas.List.{append-nil}
 use Rattle.ebpf_verify.specs.Subject.{Subject}
-use Rattle.ebpf_machine.specs.declared.holding.Holding.{Holding}
 use Rattle.ebpf_machine.specs.declared.report.Reply.{Reply}
 use Rattle.ebpf_machine.specs.declared.report.Report.{Report}
 use Rattle.ebpf_machine.specs.Alone.{Replies, outcome_alone, outcome_in_report, more_than, replies_from, replies_in, replies_of}
@@ -13,7 +12,7 @@ use Rattle.ebpf_machine.specs.RunState.{RunState, status_of}
 use Rattle.ebpf_machine.specs.Sound.{IsSound, IsAlone}
 use Rattle.ebpf_machine.specs.Step.{seen_in}
 use Rattle.ebpf_machine.specs.Store.{Store, held_of_kind}
-use Rattle.ebpf_machine.specs.Turns.{HasGone, IsEnded}
+use Rattle.ebpf_machine.specs.Turns.{IsEnded}
 use Rattle.ebpf_machine.specs.Whole.{IsReportOf, told_alone}
 use Rattle.ebpf_machine.proofs.World.Lone.{none_more, outcome_exited, told_exited}
 
@@ -53,21 +52,12 @@ report_with s t context bytes r same_subject same_context is = rw (← same_subj
 
 -- ---- the store, once all that the run held is back
 
--- each reply was to an instruction
-pub few_told : {S H : Type 0} (o : Store S H) (first before : S) (r t : RunState H) → r.replies ≡ [] → r.executed ≡ 0 → HasGone o r t first before → length t.replies ≤ t.executed
-few_told o first before r t none undone gone =
-    let all : length t.replies ≡ length gone.told = ap (λ (rs : List Reply). length rs) (gone.replies ∙ ap (λ (rs : List Reply). rs ++ gone.told) none) in
-    let few = gone.few in
-    omega (arith, all, few, undone)
-
 -- it went by the answers of the report
-pub goes_last : {S H : Type 0} (o : Store S H) (first before now : S) (r t : RunState H) (answers : List Reply) → r.replies ≡ [] → HasGone o r t first before → o.goes before [] now → answers ≡ t.replies → o.goes first answers now
-goes_last o first before now r t answers none gone back is =
-    let all : gone.told ++ [] ≡ answers = append-nil gone.told ∙ ap (λ (rs : List Reply). rs ++ gone.told) (sym none) ∙ sym gone.replies ∙ sym is in
-    subst (λ (rs : List Reply). o.goes first rs now) all (o.goes_on first before now gone.told [] gone.goes back)
+pub goes_last : {S H : Type 0} (o : Store S H) (first before now : S) (t : RunState H) (answers : List Reply) → o.goes first t.replies before → o.goes before [] now → answers ≡ t.replies → o.goes first answers now
+goes_last o first before now t answers told back is =
+    let all : t.replies ++ [] ≡ answers = append-nil t.replies ∙ sym is in
+    subst (λ (rs : List Reply). o.goes first rs now) all (o.goes_on first before now t.replies [] told back)
 
-pub outs_last : {S H : Type 0} (o : Store S H) (first before now : S) (r t : RunState H) (k : ℕ) → r.held ≡ [] → HasGone o r t first before → o.outs now k + held_of_kind t.held k ≡ o.outs before k → o.outs now k ≡ o.outs first k
-outs_last o first before now r t k none gone back =
-    let counts = gone.outs k in
-    let held = ap (λ (hs : List (Holding _)). held_of_kind hs k) none in
-    omega (arith, counts, back, held)
+pub outs_last : {S H : Type 0} (o : Store S H) (first before now : S) (t : RunState H) (k : ℕ) → o.outs before k ≡ o.outs first k + held_of_kind t.held k
+    → o.outs now k + held_of_kind t.held k ≡ o.outs before k → o.outs now k ≡ o.outs first k
+outs_last o first before now t k was back = omega (arith, was, back)

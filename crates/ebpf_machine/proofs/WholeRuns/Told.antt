@@ -1,5 +1,5 @@
 -- The store of a run goes by what the run is told.
-use Rattle.std.proofs.Common.{◌≡◌, ℕ, zero, suc, ◌≤◌, ◌<◌, List, [], ◌∷◌, ◌++◌, length, get_or, refl, sym, ap, ◌∙◌, subst, arith}
+use Rattle.std.proofs.Common.{◌≡◌, ℕ, zero, suc, ◌+◌, ◌≤◌, ◌<◌, List, [], ◌∷◌, ◌++◌, length, get_or, refl, sym, ap, ◌∙◌, subst, arith}
 use Rattle.std.proofs.lemmas.List.{append-nil, append_assoc, length-append}
 use Rattle.std.proofs.lemmas.List.Elements.{All-map}
 use Rattle.ebpf_verify.specs.Subject.{Subject}
@@ -9,10 +9,10 @@ use Rattle.ebpf_machine.specs.World.{Kind, Going, kinds_of, image_at}
 use Rattle.ebpf_machine.specs.Events.{Asking, Unasked, OfKind, AtShelf}
 use Rattle.ebpf_machine.specs.View.{ObjectView, RunView, stepped, reply_in}
 use Rattle.ebpf_machine.specs.RunState.{RunState, status_of, object_seen}
-use Rattle.ebpf_machine.specs.Sound.{AreSized, IsSound}
+use Rattle.ebpf_machine.specs.Sound.{AreSized, IsSound, IsAlone}
 use Rattle.ebpf_machine.specs.Step as step
 use Rattle.ebpf_machine.specs.Step.{Served, Idle, Refused, Granted, Offers, offers_of, MayAnswer, IsStepOver, result_of, told_by, asking_in, seen_in}
-use Rattle.ebpf_machine.specs.Store.{Store, AreOut}
+use Rattle.ebpf_machine.specs.Store.{Store, AreOut, held_of_kind}
 use Rattle.ebpf_machine.specs.Turns.{IsTurn, AreTurns, HasGone}
 use Rattle.ebpf_machine.proofs.World.Asking.{Asks, ForNothing, ForObject, ForShelf, asks_of}
 use Rattle.ebpf_machine.proofs.World.Replies.{heard_by_new, heard_by_swap, replies_kept, replies_added, replies_swapped}
@@ -75,14 +75,15 @@ sized_out o s r sizes known out =
     (λ k d few. let h = out.out k d few in
     (sizes (get_or r.held k d).object h.0).0 ∙ ap (λ (kind : ℕ). length (image_at o.kinds kind)) h.1 ∙ ap (λ (ks : List Kind). length (image_at ks (get_or r.held k d).kind)) known)
 
--- a run that is sound, with its objects out of its store, of kinds that the store has
+-- a run that is sound and where the run alone is, with its objects out of its store, of kinds that the store has
 pub record IsReadyIn {S H : Type 0} (o : Store S H) (s : S) (r : RunState H) : Type 0 where
   pub out : AreOut o s r.held
   pub sound : IsSound (seen_in o s r)
+  pub alone : IsAlone (seen_in o s r)
   pub kinds : o.kinds ≡ kinds_of r.subject.rows
 
 -- one step
-gone_turn : {S H : Type 0} (o : Store S H) (old new : S) (r t : RunState H) → HaveSizes o old → IsReadyIn o old r → IsTurn o r t old new → HasGone o r t old new
+pub gone_turn : {S H : Type 0} (o : Store S H) (old new : S) (r t : RunState H) → HaveSizes o old → IsReadyIn o old r → IsTurn o r t old new → HasGone o r t old new
 gone_turn o old new r t sizes ready turn =
     let v = seen_in o old r in
     let now : v.status ≡ Going = ap status_of turn.going in
@@ -98,6 +99,7 @@ gone_turn o old new r t sizes ready turn =
 -- after any number of them
 pub record IsGone {S H : Type 0} (o : Store S H) (first now : S) (start r : RunState H) : Type 0 where
   pub ready : IsReadyIn o now r
+  pub same : (r.subject ≡ start.subject) × (r.context ≡ start.context)
   pub gone : HasGone o start r first now
 
 pub none_gone : {S H : Type 0} (o : Store S H) (s : S) (r : RunState H) → HasGone o r r s s
@@ -113,15 +115,48 @@ gone_then o old between new r t u was more = record {
   outs = λ k. let before = was.outs k in let after = more.outs k in omega (arith, before, after);
 }
 
-went : {S H : Type 0} (o : Store S H) (old new : S) (number : ℕ) (r t : RunState H) → ((s : S) → HaveSizes o s) → IsReadyIn o old r → AreTurns o number r t old new → IsGone o old new r t
-went o old new zero r t sizes ready turns = rw (turns.0, turns.1) (record { ready = ready; gone = none_gone o old r })
+pub went : {S H : Type 0} (o : Store S H) (old new : S) (number : ℕ) (r t : RunState H) → ((s : S) → HaveSizes o s) → IsReadyIn o old r → AreTurns o number r t old new → IsGone o old new r t
+went o old new zero r t sizes ready turns = rw (turns.0, turns.1) (record { ready = ready; same = (refl, refl); gone = none_gone o old r })
 went o old new (suc number) r t sizes ready turns =
     let before = went o old turns.store number r turns.run sizes ready turns.before in
     let last = turns.last in
     record {
-      ready = record { out = last.out; sound = last.sound (o.bytes_of new); kinds = before.ready.kinds ∙ ap (λ (s : Subject). kinds_of s.rows) (sym last.same.0) };
+      ready = record { out = last.out; sound = last.sound (o.bytes_of new); alone = last.alone; kinds = before.ready.kinds ∙ ap (λ (s : Subject). kinds_of s.rows) (sym last.same.0) };
+      same = (last.same.0 ∙ before.same.0, last.same.1 ∙ before.same.1);
       gone = gone_then o old turns.store new r turns.run t before.gone (gone_turn o turns.store new turns.run t (sizes turns.store) before.ready last);
     }
 
 pub gone_by : {S H : Type 0} (o : Store S H) (old new : S) (number : ℕ) (r t : RunState H) → ((s : S) → HaveSizes o s) → IsReadyIn o old r → AreTurns o number r t old new → HasGone o r t old new
 gone_by o old new number r t sizes ready turns = (went o old new number r t sizes ready turns).gone
+
+-- a run of this program on this context, since the first state of its store: the store went by what the run was told, each reply was to
+-- an instruction, and of each kind as many more are out as the run holds
+pub record IsUnderWay {S H : Type 0} (o : Store S H) (first now : S) (subject : Subject) (context : List ℕ) (r : RunState H) : Type 0 where
+  pub subject_is : r.subject ≡ subject
+  pub context_is : r.context ≡ context
+  pub out : AreOut o now r.held
+  pub alone : IsAlone (seen_in o now r)
+  pub sound : IsSound (seen_in o now r)
+  pub told : o.goes first r.replies now
+  pub few : length r.replies ≤ r.executed
+  pub outs : (k : ℕ) → o.outs now k ≡ o.outs first k + held_of_kind r.held k
+
+pub under_way : {S H : Type 0} (o : Store S H) (first old new : S) (subject : Subject) (context : List ℕ) (number : ℕ) (r t : RunState H) → ((s : S) → HaveSizes o s)
+    → o.kinds ≡ kinds_of subject.rows → IsUnderWay o first old subject context r → AreTurns o number r t old new → IsUnderWay o first new subject context t
+under_way o first old new subject context number r t sizes kinds was turns =
+    let known = kinds ∙ ap (λ (s : Subject). kinds_of s.rows) (sym was.subject_is) in
+    let after = went o old new number r t sizes (record { out = was.out; sound = was.sound; alone = was.alone; kinds = known }) turns in
+    let gone = after.gone in
+    record {
+      subject_is = after.same.0 ∙ was.subject_is;
+      context_is = after.same.1 ∙ was.context_is;
+      out = after.ready.out;
+      alone = after.ready.alone;
+      sound = after.ready.sound;
+      told = subst (λ (rs : List Reply). o.goes first rs new) (sym gone.replies) (o.goes_on first old new r.replies gone.told was.told gone.goes);
+      few =
+          let all = length-append r.replies gone.told in
+          let same = ap (λ (rs : List Reply). length rs) gone.replies in
+          omega (arith, was.few, gone.few, all, same);
+      outs = λ k. let before = was.outs k in let more = gone.outs k in omega (arith, before, more);
+    }

@@ -2,9 +2,12 @@ use Rattle.std.proofs.Common.{ap, sym, ◌∙◌}
 use Rattle.ebpf_machine.specs.Alone.{replies_from}
 use Rattle.ebpf_machine.specs.RunState.{RunState}
 use Rattle.ebpf_machine.proofs.WholeRuns.Starts.{starts}
-use Rattle.ebpf_machine.proofs.WholeRuns.Told.{under_way}
+use Rattle.ebpf_machine.proofs.WholeRuns.Told.{IsUnderWay, under_way}
+use Rattle.ebpf_machine.proofs.WholeRuns.Ends.{goes_last}
 use Rattle.ebpf_host.proofs.CutOff.{within}
 use Rattle.ebpf_host.proofs.Leaving.{leaves}
+use Rattle.ebpf_host.proofs.within.run_within.Given.{Over}
+use Rattle.ebpf_host.proofs.within.run_within.Goals.{After-end}
 use Rattle.ebpf_host.proofs.within.run_within.Goals as goal
 
 pub run-requires-clause-out : goal.run-requires-clause-out
@@ -13,17 +16,20 @@ run-requires-clause-out g c = (starts g.O.Objects.store c.args.objects.now _ _ c
 pub run-requires-clause-alone : goal.run-requires-clause-alone
 run-requires-clause-alone g c = (starts g.O.Objects.store c.args.objects.now _ _ c.in_ok-run.run' c.in_ok-run.ensures.started (c.in_ok-run.ensures.sound _)).alone
 
+-- what holds of the run where it has stopped
+ran : (g : Over) (c : After-end g) → IsUnderWay g.O.Objects.store c.args.objects.now c.run.new.objects c.args.program.now.verified c.args.context.items c.run.new.self
+ran g c =
+    let o = g.O.Objects.store in
+    let start = starts o c.args.objects.now _ _ c.in_ok-run.run' c.in_ok-run.ensures.started (c.in_ok-run.ensures.sound _) in
+    under_way o _ _ _ _ _ _ c.in_ok-run.run' c.run.new.self g.met.O.Objects.has_size (c.requires.kinds ∙ sym c.args.program.now.kinds) start c.run.ensures.turns.turns
+
+pub returns-clause-goes : goal.returns-clause-goes
+returns-clause-goes g c = goes_last g.O.Objects.store _ _ _ c.run.new.self _ (ran g c).told c.end.ensures.goes c.end.ensures.answers
+
 pub returns-clause-report : goal.returns-clause-report
 returns-clause-report g c =
     let o = g.O.Objects.store in
-    let end = c.end.ensures in
-    let start = starts o c.args.objects.now _ _ c.in_ok-run.run' c.in_ok-run.ensures.started (c.in_ok-run.ensures.sound _) in
-    let was = under_way o _ _ _ _ _ _ c.in_ok-run.run' c.run.new.self g.met.O.Objects.has_size (c.requires.kinds ∙ sym c.args.program.now.kinds) start c.run.ensures.turns.turns in
-    within o _ _ _ _ c.args.limit c.in_ok-run.run' c.run.new.self c.end.result.0 c.in_ok-run.ensures.started was c.run.ensures.turns (record {
-      finished = record { exit = end.exit; executed = end.executed; answers = end.answers; taken = end.taken; bounded = end.bounded; declared = end.declared; alone = end.alone };
-      output = end.output;
-      given_up = end.given_up;
-    })
+    within o _ _ _ _ _ c.args.limit c.in_ok-run.run' c.run.new.self c.end.result.0 c.in_ok-run.ensures.started (ran g c) c.run.ensures.turns c.end.ensures
 
 pub returns-clause-shelves : goal.returns-clause-shelves
 returns-clause-shelves g c =
