@@ -26,9 +26,8 @@ lost_at-owner (Run mark) = ap (λ b. if not b then 1 else 0) (positive (owner_wo
 lost_at-owner (Shelf shelf) = ap (λ b. if not b then 1 else 0) (positive (owner_word (Shelf shelf)) (omega arith))
 
 -- a claim that found an owner
-pub lost_one_more : (slot base clashes clashes' : ℕ) (owner : Owner) (notes notes' : List (ℕ × ℕ)) → notes' ≡ notes ++ (slot, owner_word owner) ∷ [] → clashes' ≡ clashes + 1
-    → lost notes ≡ base + clashes → lost notes' ≡ base + clashes'
-lost_one_more slot base clashes clashes' owner notes notes' is counted before =
+pub lost_one_more : (slot : ℕ) (owner : Owner) (notes notes' : List (ℕ × ℕ)) → notes' ≡ notes ++ (slot, owner_word owner) ∷ [] → lost notes' ≡ lost notes + 1
+lost_one_more slot owner notes notes' is =
     let a = lost-append slot (owner_word owner) notes in
     let o = lost_at-owner owner in
     let l = ap lost is in

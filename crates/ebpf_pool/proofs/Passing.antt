@@ -1,9 +1,12 @@
 -- An exchange of objects, by the list of the seat.
-use Rattle.std.proofs.Common.{◌≡◌, ◌≢◌, ℕ, ◌+◌, Option, Some, None, IfSome, IfNone, List, length, refl, ap, sym, subst, arith}
+use Rattle.std.proofs.Common.{[], ◌∷◌, ◌≡◌, ◌≢◌, ℕ, ◌+◌, Option, Some, None, IfSome, IfNone, List, length, refl, ap, sym, subst, arith}
 use Rattle.std.specs.Prelude.{option_map}
 use Rattle.object_cache.specs.ShelfView.{one_if}
 use Rattle.owners_table.specs.Owning.{Holds}
 use Rattle.ebpf_pool.specs.Claims.{HasPassed, less}
+use Rattle.ebpf_machine.specs.Store.{reply_to_swap}
+use Rattle.ebpf_pool.specs.declared.hands.Tools.{Tools}
+use Rattle.ebpf_pool.specs.Going.{GoesBy, HasAnswered}
 use Rattle.ebpf_object.specs.Object.{slot_of, kind_of}
 use Rattle.ebpf_object.specs.declared.Object.{Object}
 use Rattle.ebpf_pool.proofs.Exchanging.{gone, held_got, held_less, held_more, less_length}
@@ -20,14 +23,10 @@ pub even_none : {X : Type 0} (o : Option X) → IfNone o (Unit {0})
 even_none None = tt
 even_none (Some x) = tt
 
--- one that was got is counted, and so is none
-pub one_got : {X : Type 0} (o : Option X) (gets gets' misses misses' : ℕ) → gets' ≡ gets + one_if o → misses' + one_if o ≡ misses + 1 → IfSome o (λ x. (gets' ≡ gets + 1) × (misses' ≡ misses))
-one_got None gets gets' misses misses' g m = tt
-one_got (Some x) gets gets' misses misses' g m = (g, omega (arith, m))
-
-pub none_got : {X : Type 0} (o : Option X) (gets gets' misses misses' : ℕ) → gets' ≡ gets + one_if o → misses' + one_if o ≡ misses + 1 → IfNone o ((misses' ≡ misses + 1) × (gets' ≡ gets))
-none_got None gets gets' misses misses' g m = (omega (arith, m), omega (arith, g))
-none_got (Some x) gets gets' misses misses' g m = tt
+-- the store went by the reply to a call of swap
+pub swapped_goes : {L : Type 0} (before after : Tools L) (got : Option Object) → HasAnswered before after 0 0 (one_if got) → GoesBy before (reply_to_swap got ∷ []) after
+swapped_goes before after None went = went
+swapped_goes before after (Some h) went = went
 
 -- what was got is held
 pub is_held : (given : Option ℕ) (got : Option Object) (kind word : ℕ) (held held' : List (ℕ × ℕ)) → HasPassed given (slots got) word held held' → IfSome got (λ h. kind_of h ≡ kind) → IfSome got (λ h. Holds (slot_of h) held' × (kind_of h ≡ kind))

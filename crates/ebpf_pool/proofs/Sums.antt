@@ -1,21 +1,36 @@
--- One answer more in a worker's sums.
-use Rattle.std.proofs.Common.{◌≡◌, ◌+◌, ℕ, List, [], ◌∷◌, ◌++◌, ap, ◌∙◌, arith}
+-- One answer more in what a worker's store did.
+use Rattle.std.proofs.Common.{◌≡◌, ◌+◌, ℕ, List, [], ◌∷◌, ◌++◌, ap, ◌∙◌, subst, sym, arith}
 use Rattle.std.specs.List.{sum_by}
 use Rattle.std.proofs.lemmas.List.Sums.{sum_by-append}
+use Rattle.ebpf_pool.specs.declared.hands.Tools.{Tools}
 use Rattle.ebpf_pool.specs.declared.jobs.Numbered.{Numbered}
 use Rattle.ebpf_machine.specs.Whole.{granted, refused, fetched}
-use Rattle.ebpf_pool.specs.Working.{granted_by, refused_by, fetched_by}
+use Rattle.ebpf_pool.specs.Going.{GoesBy, HasAnsweredAll}
 
 more : (f : Numbered → ℕ) (start old new : ℕ) (before after : List Numbered) (n : Numbered) → after ≡ before ++ n ∷ [] → old ≡ start + sum_by f before → new ≡ old + f n → new ≡ start + sum_by f after
 more f start old new before after n is was now =
     let sum = ap (sum_by f) is ∙ sum_by-append f before (n ∷ []) in
     omega (arith, sum, was, now)
 
-pub granted_more : (start old new : ℕ) (before after : List Numbered) (n : Numbered) → after ≡ before ++ n ∷ [] → old ≡ start + granted_by before → new ≡ old + granted n.report.answers → new ≡ start + granted_by after
-granted_more start old new before after n is was now = more (λ m. granted m.report.answers) start old new before after n is was now
+pub answered_more : {L : Type 0} (first old new : Tools L) (before after : List Numbered) (n : Numbered) → after ≡ before ++ n ∷ [] → HasAnsweredAll first before old → GoesBy old n.report.answers new → HasAnsweredAll first after new
+answered_more first old new before after n is was now = record {
+  table = now.table ∙ was.table;
+  notes = now.notes ∙ was.notes;
+  fetches = now.fetches ∙ was.fetches;
+  lost = now.lost ∙ was.lost;
+  granted_are = more (λ m. granted m.report.answers) _ _ _ before after n is was.granted_are now.granted_are;
+  refused_are = more (λ m. refused m.report.answers) _ _ _ before after n is was.refused_are now.refused_are;
+  fetched_are = more (λ m. fetched m.report.answers) _ _ _ before after n is was.fetched_are now.fetched_are;
+}
 
-pub refused_more : (start old new : ℕ) (before after : List Numbered) (n : Numbered) → after ≡ before ++ n ∷ [] → old ≡ start + refused_by before → new ≡ old + refused n.report.answers → new ≡ start + refused_by after
-refused_more start old new before after n is was now = more (λ m. refused m.report.answers) start old new before after n is was now
-
-pub fetched_more : (start old new : ℕ) (before after : List Numbered) (n : Numbered) → after ≡ before ++ n ∷ [] → old ≡ start + fetched_by before → new ≡ old + fetched n.report.answers → new ≡ start + fetched_by after
-fetched_more start old new before after n is was now = more (λ m. fetched m.report.answers) start old new before after n is was now
+-- none
+pub answered_same : {L : Type 0} (first old new : Tools L) (before after : List Numbered) → after ≡ before → HasAnsweredAll first before old → GoesBy old [] new → HasAnsweredAll first after new
+answered_same first old new before after is was now = subst (λ (ns : List Numbered). HasAnsweredAll first ns new) (sym is) (record {
+  table = now.table ∙ was.table;
+  notes = now.notes ∙ was.notes;
+  fetches = now.fetches ∙ was.fetches;
+  lost = now.lost ∙ was.lost;
+  granted_are = omega (arith, was.granted_are, now.granted_are);
+  refused_are = omega (arith, was.refused_are, now.refused_are);
+  fetched_are = omega (arith, was.fetched_are, now.fetched_are);
+})

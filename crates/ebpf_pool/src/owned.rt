@@ -11,11 +11,11 @@ ghost use Rattle.std.specs.Prelude.{◌≡◌, ◌≢◌, ◌+◌, ◌<◌, ◌�
 ghost use Rattle.owners_table.specs.Marking.{mark_word};
 ghost use Rattle.owners_table.specs.Owning.{Holds, without};
 ghost use Rattle.owners_table.specs.declared.mark.TheConstants.{SHELVES, WORDS_OF_A_RUN};
-ghost use Rattle.ebpf_pool.specs.Claims.{IsClaimed, shelved_by};
+ghost use Rattle.ebpf_pool.specs.Claims.{IsClaimed, shelved_by, lost};
 ghost use Rattle.ebpf_object.specs.Object.{bytes_of, kind_of, slot_of};
 ghost use Rattle.slab_layer.specs.Images.{patched};
 
-use crate::client::{Before, Client};
+use crate::client::Client;
 use crate::count::count;
 use ebpf_object::Object;
 use owners_table::mark::Mark;
@@ -40,9 +40,9 @@ impl Owned {
     ///
     /// # Errors
     /// The object as it was, where its slot has an owner. That is counted as a clash.
-    pub(crate) fn claim<N: Before, R: Wait>(
+    pub(crate) fn claim<R: Wait>(
         object: Object,
-        client: &mut Client<'_, N, R>,
+        client: &mut Client<'_, R>,
         at: u16,
     ) -> Result<Owned, Object>
         requires at { at < WORDS_OF_A_RUN }
@@ -52,6 +52,8 @@ impl Owned {
         ensures back { IfErr result (λ o. o ≡ object) }
         ensures clash { OnErr result ((client.new.seat.held ≡ client.old.seat.held) × (client.new.clashes ≡ client.old.clashes + 1)) }
         ensures notes { (length client.new.seat.notes ≡ length client.old.seat.notes + 1) × (client.new.seat.fetches ≡ client.old.seat.fetches) }
+        ensures lost { lost client.new.seat.notes + client.old.clashes ≡ lost client.old.seat.notes + client.new.clashes }
+        ensures table { client.new.seat.table ≡ client.old.seat.table }
         ensures rest { (client.new.strays ≡ client.old.strays) × (client.new.job ≡ client.old.job) }
     {
         let mark = Mark {
@@ -66,7 +68,7 @@ impl Owned {
     }
 
     /// Releases the slot, and then hands out the object.
-    pub(crate) fn release<N: Before, R: Wait>(self, client: &mut Client<'_, N, R>) -> Object
+    pub(crate) fn release<R: Wait>(self, client: &mut Client<'_, R>) -> Object
         requires held { Holds (slot_of self) client.old.seat.held }
         ensures object { result ≡ self }
         ensures seat { client.new.seat ≡ record client.old.seat { held = without (slot_of self) client.old.seat.held } }
@@ -78,9 +80,9 @@ impl Owned {
     }
 
     /// Passes the slot to the shelf of this number, which is that of the object's kind, and then hands out the object.
-    pub(crate) fn shelve<N: Before, R: Wait>(
+    pub(crate) fn shelve<R: Wait>(
         self,
-        client: &mut Client<'_, N, R>,
+        client: &mut Client<'_, R>,
         shelf: u8,
     ) -> Object
         requires held { Holds (slot_of self) client.old.seat.held }
@@ -101,9 +103,9 @@ impl Owned {
     /// # Errors
     /// The object as it was, where the table has its slot as another's; or where what was left on the shelf for it was in this slot
     /// too, since then one of the two isn't what its slot says. That is counted as a stray.
-    pub(crate) fn fetch<N: Before, R: Wait>(
+    pub(crate) fn fetch<R: Wait>(
         object: Object,
-        client: &mut Client<'_, N, R>,
+        client: &mut Client<'_, R>,
         shelf: u8,
         left: Option<u32>,
         at: u16,
@@ -118,6 +120,7 @@ impl Owned {
         ensures back { IfErr result (λ o. o ≡ object) }
         ensures stray { OnErr result ((client.new.seat.held ≡ client.old.seat.held) × (client.new.strays ≡ client.old.strays + 1)) }
         ensures notes { (client.new.seat.notes ≡ client.old.seat.notes) × (length client.new.seat.fetches ≡ length client.old.seat.fetches + 1) }
+        ensures table { client.new.seat.table ≡ client.old.seat.table }
         ensures rest { (client.new.clashes ≡ client.old.clashes) × (client.new.job ≡ client.old.job) }
     {
         let mark = Mark {

@@ -9,11 +9,11 @@ ghost use Rattle.owners_table.specs.declared.mark.TheConstants.{SHELVES, WORDS_O
 ghost use Rattle.ebpf_pool.specs.Claims.{HasSwapped, IsSwappable, less};
 ghost use Rattle.ebpf_pool.specs.Hands.{unused_hands};
 ghost use Rattle.ebpf_pool.specs.Counts.{all_allocs, all_come, all_gone, all_gets, outs_of};
-ghost use Rattle.ebpf_pool.specs.Stocks.{hands_of, grants_by, nulls_by, gets_by};
+ghost use Rattle.ebpf_pool.specs.Going.{HasAnswered, GoesBy, answered_on, none_answered, tools_of};
+ghost use Rattle.ebpf_pool.specs.Stocks.{hands_of};
 ghost use Rattle.ebpf_object.specs.Object.{kind_of, slot_of};
 
-use crate::client::{Before, Client};
-use crate::count::count;
+use crate::client::Client;
 use crate::hands::Tools;
 use crate::ledgers::Names;
 use crate::owned::Owned;
@@ -26,66 +26,26 @@ use std::sync::Wait;
 ///
 /// Each object that came out of a cache was claimed, and each that came off a shelf was tried to be fetched. Those that the seat
 /// holds came from there, and went neither back nor onto a shelf.
-pub struct Store<'a, L: Names, N: Before, R: Wait> {
-    pub(crate) client: Client<'a, N, R>,
+pub struct Store<'a, L: Names, R: Wait> {
+    pub(crate) client: Client<'a, R>,
     pub(crate) stocks: Stocks<'a, L>,
-    /// How many calls of `swap` were answered with nothing.
-    pub(crate) misses: u64,
-    ghost noted: { length client.seat.notes ≡ N.noted + all_allocs (hands_of stocks) },
-    ghost fetched: { length client.seat.fetches ≡ N.fetched + all_gets (hands_of stocks) },
+    ghost noted: { all_allocs (hands_of stocks) ≤ length client.seat.notes },
+    ghost fetched: { all_gets (hands_of stocks) ≤ length client.seat.fetches },
     ghost held: { length client.seat.held + all_gone (hands_of stocks) ≡ all_come (hands_of stocks) },
     ghost clashes: { client.clashes ≤ all_allocs (hands_of stocks) },
     ghost strays: { client.strays ≤ all_gets (hands_of stocks) },
 }
 
-impl<'a, L: Names, N: Before, R: Wait> Store<'a, L, N, R> {
+impl<'a, L: Names, R: Wait> Store<'a, L, R> {
     /// A store with nothing out, of hands that did nothing.
-    pub(crate) fn new(client: Client<'a, N, R>, stocks: Stocks<'a, L>) -> Store<'a, L, N, R>
+    pub(crate) fn new(client: Client<'a, R>, stocks: Stocks<'a, L>) -> Store<'a, L, R>
         requires empty { client.seat.held ≡ [] }
         requires none { (client.clashes ≡ 0) × (client.strays ≡ 0) }
         requires hands { hands_of stocks ≡ unused_hands }
-        requires noted { (length client.seat.notes ≡ N.noted) × (length client.seat.fetches ≡ N.fetched) }
         ensures client { (result.client.seat ≡ client.entry.seat) × (result.client.clashes ≡ 0) × (result.client.strays ≡ 0) }
         ensures hands { hands_of result.stocks ≡ unused_hands }
     {
-        Store {
-            client,
-            stocks,
-            misses: 0,
-        }
-    }
-
-    // Exchanges an object of the shelf's kind, or nothing, for what stands there. The slot of what is given is the shelf's before it
-    // stands there, and that of what comes off is claimed for the job and for the call at this slot of its program after that. None
-    // where nothing stood there, or where what did is a stray, whose slot couldn't be fetched: that goes back to the cache.
-    fn exchange(&mut self, shelf: u8, given: Option<Owned>, at: u16) -> Option<Owned>
-        requires shelf { shelf < 3 }
-        requires at { at < WORDS_OF_A_RUN }
-        requires given { IsSwappable given shelf self.old.client.seat.held }
-        ensures seat { HasSwapped given result (mark_word self.old.client.job at) self.old.client.seat.held self.new.client.seat.held }
-        ensures kind { IfSome result (λ h. kind_of h ≡ shelf) }
-        ensures granted { grants_by self.new.stocks self.new.client.clashes ≡
-            grants_by self.old.stocks self.old.client.clashes }
-        ensures refused { nulls_by self.new.stocks self.new.client.clashes ≡
-            nulls_by self.old.stocks self.old.client.clashes }
-        ensures gets { gets_by self.new.stocks self.new.client.strays ≡
-            gets_by self.old.stocks self.old.client.strays + one_if result }
-        ensures misses { self.new.misses ≡ self.old.misses }
-        ensures outs { (k : ℕ) → outs_of (hands_of self.new.stocks) k + one_of given shelf k ≡
-            outs_of (hands_of self.old.stocks) k + one_of result shelf k }
-    {
-        let left = slot_in(&given);
-        let given = shelved(given, &mut self.client, shelf);
-        let Some(object) = self.stocks.swap(self.client.rt, shelf, given) else {
-            return None;
-        };
-        match Owned::fetch(object, &mut self.client, shelf, left, at) {
-            Ok(owned) => Some(owned),
-            Err(stray) => {
-                self.stocks.give(self.client.rt, stray);
-                None
-            }
-        }
+        Store { client, stocks }
     }
 
     /// Its hands and its seat, back, with its counts.
@@ -94,11 +54,7 @@ impl<'a, L: Names, N: Before, R: Wait> Store<'a, L, N, R> {
         ensures seat { result.seat ≡ self.entry.client.seat }
         ensures counts { (result.clashes ≡ self.entry.client.clashes) × (result.strays ≡ self.entry.client.strays) }
     {
-        let Store {
-            client,
-            stocks,
-            misses: _,
-        } = self;
+        let Store { client, stocks } = self;
         let (seat, clashes, strays) = client.end();
         Tools {
             hands: stocks.end(),
@@ -109,7 +65,7 @@ impl<'a, L: Names, N: Before, R: Wait> Store<'a, L, N, R> {
     }
 }
 
-impl<'a, L: Names, N: Before, R: Wait> Objects for Store<'a, L, N, R> {
+impl<'a, L: Names, R: Wait> Objects for Store<'a, L, R> {
     ghost use Rattle.std.specs.Prelude.{◌≡◌, ◌<◌, ◌+◌, ℕ, option_map, IfSome};
     ghost use Rattle.owners_table.specs.Marking.{mark_word};
     ghost use Rattle.ebpf_pool.specs.Claims.{HasSwapped, IsSwappable};
@@ -119,7 +75,8 @@ impl<'a, L: Names, N: Before, R: Wait> Objects for Store<'a, L, N, R> {
     ghost use Rattle.owners_table.specs.Owning.{Holds};
     ghost use Rattle.owners_table.specs.declared.mark.TheConstants.{WORDS_OF_A_RUN};
     ghost use Rattle.ebpf_pool.specs.Counts.{outs_of};
-    ghost use Rattle.ebpf_pool.specs.Stocks.{hands_of, grants_by, nulls_by, gets_by};
+    ghost use Rattle.ebpf_pool.specs.Going.{HasAnswered, GoesBy, answered_on, none_answered, tools_of};
+    ghost use Rattle.ebpf_pool.specs.Stocks.{hands_of};
     ghost use Rattle.ebpf_object.specs.Object.{kind_of, slot_of, bytes_of, has_size};
 
     type Held = Owned;
@@ -138,11 +95,10 @@ impl<'a, L: Names, N: Before, R: Wait> Objects for Store<'a, L, N, R> {
       can_miss = λ s shelf. Unit {0};
       stand = λ s shelf what. ⊥;
       can_give = λ s. Unit {0};
-      grants = λ s. grants_by s.stocks s.client.clashes;
-      nulls = λ s. nulls_by s.stocks s.client.clashes;
-      gets = λ s. gets_by s.stocks s.client.strays;
-      misses = λ s. s.misses;
       outs = λ s kind. outs_of (hands_of s.stocks) kind;
+      goes = λ s told t. GoesBy (tools_of s.stocks s.client) told (tools_of t.stocks t.client);
+      stays = λ s. none_answered (tools_of s.stocks s.client);
+      goes_on = λ s t u told more first then. answered_on (tools_of s.stocks s.client) (tools_of t.stocks t.client) (tools_of u.stocks u.client) told more first then;
     } };
 
     // The object goes back where its slot has an owner.
@@ -164,28 +120,32 @@ impl<'a, L: Names, N: Before, R: Wait> Objects for Store<'a, L, N, R> {
         self.stocks.give(self.client.rt, bare);
     }
 
-    // Its clauses are those of the trait in words of this store, since no parameter of such a type takes them from there.
+    // The slot of what is given is the shelf's before it is there, and that of what comes off is claimed for the job and for the call at
+    // this slot of its program after that. None where nothing was there, or where what was is a stray, whose slot couldn't be fetched:
+    // that goes back to the cache. Its clauses are those of the trait in words of this store, since no parameter of such a type takes
+    // them from there.
     fn swap(&mut self, shelf: u8, given: Option<Owned>, at: u16) -> Option<Owned>
         requires shelf { shelf < 3 }
         requires at { at < WORDS_OF_A_RUN }
         requires given { IsSwappable given shelf self.old.client.seat.held }
         ensures seat { HasSwapped given result (mark_word self.old.client.job at) self.old.client.seat.held self.new.client.seat.held }
         ensures kind { IfSome result (λ h. kind_of h ≡ shelf) }
-        ensures granted { grants_by self.new.stocks self.new.client.clashes ≡
-            grants_by self.old.stocks self.old.client.clashes }
-        ensures refused { nulls_by self.new.stocks self.new.client.clashes ≡
-            nulls_by self.old.stocks self.old.client.clashes }
-        ensures gets { gets_by self.new.stocks self.new.client.strays ≡
-            gets_by self.old.stocks self.old.client.strays + one_if result }
-        ensures misses { self.new.misses + one_if result ≡ self.old.misses + 1 }
+        ensures goes { HasAnswered (tools_of self.old.stocks self.old.client) (tools_of self.new.stocks self.new.client) 0 0 (one_if result) }
         ensures outs { (k : ℕ) → outs_of (hands_of self.new.stocks) k + one_of given shelf k ≡
             outs_of (hands_of self.old.stocks) k + one_of result shelf k }
     {
-        let got = self.exchange(shelf, given, at);
-        if got.is_none() {
-            count(self.client.rt, &mut self.misses);
+        let left = slot_in(&given);
+        let given = shelved(given, &mut self.client, shelf);
+        let Some(object) = self.stocks.swap(self.client.rt, shelf, given) else {
+            return None;
+        };
+        match Owned::fetch(object, &mut self.client, shelf, left, at) {
+            Ok(owned) => Some(owned),
+            Err(stray) => {
+                self.stocks.give(self.client.rt, stray);
+                None
+            }
         }
-        got
     }
 
     fn bytes<'b>(&'b self, held: &'b Owned) -> &'b [u8] {
@@ -210,9 +170,9 @@ fn slot_in(owned: &Option<Owned>) -> Option<u32>
 }
 
 // Gives the slot of an object to the shelf of this number, if there is one.
-fn shelved<N: Before, R: Wait>(
+fn shelved<R: Wait>(
     given: Option<Owned>,
-    client: &mut Client<'_, N, R>,
+    client: &mut Client<'_, R>,
     shelf: u8,
 ) -> Option<Object>
     requires given { IsSwappable given shelf client.old.seat.held }
@@ -220,6 +180,7 @@ fn shelved<N: Before, R: Wait>(
     ensures same { result ≡ given }
     ensures held { client.new.seat.held ≡ less (option_map slot_of given) client.old.seat.held }
     ensures notes { (client.new.seat.notes ≡ client.old.seat.notes) × (client.new.seat.fetches ≡ client.old.seat.fetches) }
+    ensures table { client.new.seat.table ≡ client.old.seat.table }
     ensures rest { (client.new.clashes ≡ client.old.clashes) × (client.new.strays ≡ client.old.strays) × (client.new.job ≡ client.old.job) }
 {
     match given {

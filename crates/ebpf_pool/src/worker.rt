@@ -16,10 +16,11 @@ ghost use Rattle.owners_table.specs.Drawing.{IsOf};
 ghost use Rattle.ebpf_machine.specs.Whole.{granted, refused, fetched};
 ghost use Rattle.ebpf_pool.specs.declared.worker.Ending.TheVariants.{Through, OutOfMemory};
 ghost use Rattle.ebpf_pool.specs.Claims.{lost};
-ghost use Rattle.ebpf_pool.specs.Stocks.{hands_of, grants_by, nulls_by, gets_by};
+ghost use Rattle.ebpf_pool.specs.Going.{GoesBy, HasAnsweredAll, IsAnswered, tools_of};
+ghost use Rattle.ebpf_pool.specs.Stocks.{hands_of};
 ghost use Rattle.ebpf_pool.specs.Working.{IsFresh, IsUnused, IsEven, IsDone, IsServed, AreUsed, AreReady, Answers, HasDrawn, granted_by, refused_by, fetched_by};
 
-use crate::client::{Before, Client};
+use crate::client::Client;
 use crate::gate::{Gate, Point};
 use crate::hands::Tools;
 use crate::jobs::{Job, Numbered};
@@ -35,7 +36,6 @@ use object_cache::ArenaLock;
 use owners_table::owners::Owners;
 use owners_table::tickets::{TicketSeat, Tickets};
 use std::alloc::{AllocError, Global};
-use std::marker::Brand;
 use std::mem;
 use std::sync::Wait;
 
@@ -103,12 +103,7 @@ pub(crate) fn work<'a, L: Names, G: Gate + 'a, R: Wait + 'a>(
     };
     // What a job writes to lies with the thread, not beside what another worker writes to.
     let mut answered = mem::replace(&mut worker.answered, Vec::new(shared.alloc));
-    let (left, ending) = work_with::<L, Brand, G, R>(
-        shared,
-        tools,
-        &mut worker.ticket,
-        &mut answered,
-    );
+    let (left, ending) = work_with(shared, tools, &mut worker.ticket, &mut answered);
     worker.answered = answered;
     worker.ending = ending;
     match worker.tools.replace(left) {
@@ -117,8 +112,8 @@ pub(crate) fn work<'a, L: Names, G: Gate + 'a, R: Wait + 'a>(
     }
 }
 
-// The same with a store of these tools, which are handed back. `N` says what the seat was before.
-fn work_with<'a, L: Names, N: Before + 'a, G: Gate + 'a, R: Wait + 'a>(
+// Does jobs with a store of these tools, which are handed back.
+fn work_with<'a, L: Names, G: Gate + 'a, R: Wait + 'a>(
     shared: &Shared<'a, L, G, R>,
     tools: Tools<L>,
     ticket: &mut TicketSeat,
@@ -126,9 +121,6 @@ fn work_with<'a, L: Names, N: Before + 'a, G: Gate + 'a, R: Wait + 'a>(
 ) -> (Tools<L>, Ending)
     requires ready { AreReady shared.now.programs.now shared.now.jobs.now }
     requires unused { IsUnused shared.now.owners.now tools }
-    requires at { tools.seat.table ≡ N.table }
-    requires noted { (length tools.seat.notes ≡ N.noted) × (length tools.seat.fetches ≡ N.fetched) }
-    requires lost { lost tools.seat.notes ≡ N.lost }
     requires table { IsOf shared.now.tickets.now ticket.old }
     requires none { (ticket.old.drawn ≡ []) × (ticket.old.passed ≡ false) × (answered.old.items ≡ []) }
     ensures used { AreUsed tools result.0 answered.new.items }
@@ -140,17 +132,17 @@ fn work_with<'a, L: Names, N: Before + 'a, G: Gate + 'a, R: Wait + 'a>(
         clashes: _,
         strays: _,
     } = tools;
-    let client: Client<'a, N, R> = Client::new(shared.rt, shared.arena, shared.owners, seat);
+    let client: Client<'a, R> = Client::new(shared.rt, shared.arena, shared.owners, seat);
     let stocks = Stocks::new(shared.supplies, hands);
-    let mut store: Store<'a, L, N, R> = Store::new(client, stocks);
+    let mut store: Store<'a, L, R> = Store::new(client, stocks);
     let ending = serve(shared, &mut store, ticket, answered);
     (store.end(), ending)
 }
 
 // Draws tickets and does their jobs.
-fn serve<'a, L: Names, N: Before + 'a, G: Gate + 'a, R: Wait + 'a>(
+fn serve<'a, L: Names, G: Gate + 'a, R: Wait + 'a>(
     shared: &Shared<'a, L, G, R>,
-    store: &mut Store<'a, L, N, R>,
+    store: &mut Store<'a, L, R>,
     ticket: &mut TicketSeat,
     answered: &mut Vec<Numbered>,
 ) -> Ending
@@ -162,12 +154,7 @@ fn serve<'a, L: Names, N: Before + 'a, G: Gate + 'a, R: Wait + 'a>(
     ensures table { IsOf shared.now.tickets.now ticket.new }
     ensures good { All (Answers shared.now.programs.now shared.now.jobs.now) answered.new.items }
     ensures drawn { HasDrawn shared.now.jobs.now ticket.new answered.new.items result }
-    ensures granted { grants_by store.new.stocks store.new.client.clashes ≡
-        grants_by store.old.stocks store.old.client.clashes + granted_by answered.new.items }
-    ensures refused { nulls_by store.new.stocks store.new.client.clashes ≡
-        nulls_by store.old.stocks store.old.client.clashes + refused_by answered.new.items }
-    ensures fetched { gets_by store.new.stocks store.new.client.strays ≡
-        gets_by store.old.stocks store.old.client.strays + fetched_by answered.new.items }
+    ensures goes { HasAnsweredAll (tools_of store.old.stocks store.old.client) answered.new.items (tools_of store.new.stocks store.new.client) }
 {
     let Ok(mut workspace) = Workspace::new(shared.alloc) else {
         return Ending::Unstarted;
@@ -186,10 +173,10 @@ fn serve<'a, L: Names, N: Before + 'a, G: Gate + 'a, R: Wait + 'a>(
 }
 
 // Does the job of a number, and keeps its report.
-fn answer<'a, L: Names, N: Before + 'a, G: Gate + 'a, R: Wait + 'a>(
+fn answer<'a, L: Names, G: Gate + 'a, R: Wait + 'a>(
     shared: &Shared<'a, L, G, R>,
     number: u64,
-    store: &mut Store<'a, L, N, R>,
+    store: &mut Store<'a, L, R>,
     answered: &mut Vec<Numbered>,
     workspace: Workspace<Owned>,
 ) -> Result<Workspace<Owned>, AllocError>
@@ -197,21 +184,9 @@ fn answer<'a, L: Names, N: Before + 'a, G: Gate + 'a, R: Wait + 'a>(
     requires number { number < length shared.now.jobs.now }
     requires even { IsEven (hands_of store.old.stocks) }
     ensures even { IsEven (hands_of store.new.stocks) }
-    ensures answered { OnOk result ((n : Numbered) × (n.job ≡ number) × Answers shared.now.programs.now shared.now.jobs.now n ×
-        (answered.new.items ≡ answered.old.items ++ n ∷ []) ×
-        (grants_by store.new.stocks store.new.client.clashes ≡
-        grants_by store.old.stocks store.old.client.clashes + granted n.report.answers) ×
-        (nulls_by store.new.stocks store.new.client.clashes ≡
-        nulls_by store.old.stocks store.old.client.clashes + refused n.report.answers) ×
-        (gets_by store.new.stocks store.new.client.strays ≡
-        gets_by store.old.stocks store.old.client.strays + fetched n.report.answers)) }
-    ensures failed { OnErr result ((answered.new.items ≡ answered.old.items) ×
-        (grants_by store.new.stocks store.new.client.clashes ≡
-        grants_by store.old.stocks store.old.client.clashes) ×
-        (nulls_by store.new.stocks store.new.client.clashes ≡
-        nulls_by store.old.stocks store.old.client.clashes) ×
-        (gets_by store.new.stocks store.new.client.strays ≡
-        gets_by store.old.stocks store.old.client.strays)) }
+    ensures answered { OnOk result (IsAnswered shared.now.programs.now shared.now.jobs.now number
+        (tools_of store.old.stocks store.old.client) (tools_of store.new.stocks store.new.client) answered.old.items answered.new.items) }
+    ensures failed { OnErr result ((answered.new.items ≡ answered.old.items) × GoesBy (tools_of store.old.stocks store.old.client) [] (tools_of store.new.stocks store.new.client)) }
 {
     let job = &shared.jobs[number as usize];
     let Ok(context) = room_for(shared.alloc, answered, &job.context.bytes) else {

@@ -13,7 +13,7 @@ pub returns-clause-even : goal.returns-clause-even
 returns-clause-even g c = evens c.args.store.now.stocks c.run_in.new.objects.stocks c.run_in.ensures.outs c.requires.even
 
 pub returns-clause-answered : goal.returns-clause-answered
-returns-clause-answered g c = (n, refl, answered, items, c.in-Ok-run_in.ensures.granted, c.in-Ok-run_in.ensures.nulls, c.in-Ok-run_in.ensures.gets) where
+returns-clause-answered g c = record { made = n; job = refl; good = answered; kept = items; goes = c.in-Ok-run_in.ensures.goes } where
   n : Numbered
   n = record { job = c.args.number; report = c.in-Ok-run_in.report }
 

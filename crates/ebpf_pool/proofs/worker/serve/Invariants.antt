@@ -1,8 +1,8 @@
 use Rattle.std.proofs.Common.{◌≡◌, ◌+◌, All, map, false}
 use Rattle.owners_table.specs.Drawing.{IsOf}
-use Rattle.ebpf_pool.specs.Counts.{grants_of, nulls_of, gets_of}
+use Rattle.ebpf_pool.specs.Going.{HasAnsweredAll, tools_of}
 use Rattle.ebpf_pool.specs.Stocks.{hands_of}
-use Rattle.ebpf_pool.specs.Working.{IsEven, Answers, granted_by, refused_by, fetched_by, number_of}
+use Rattle.ebpf_pool.specs.Working.{IsEven, Answers, number_of}
 use Rattle.ebpf_pool.proofs.worker.serve.Given as goal
 
 abbrev pub invariant-loop : goal.invariant-loop
@@ -12,7 +12,5 @@ invariant-loop g l = record {
   going : l.ticket.passed ≡ false;
   drawn : l.ticket.drawn ≡ map number_of l.answered.items;
   good : All (Answers l.shared.programs.now l.shared.jobs.now) l.answered.items;
-  granted : grants_of (hands_of l.store.stocks) l.store.client.clashes ≡ grants_of (hands_of l.fn.store.stocks) l.fn.store.client.clashes + granted_by l.answered.items;
-  refused : nulls_of (hands_of l.store.stocks) l.store.client.clashes ≡ nulls_of (hands_of l.fn.store.stocks) l.fn.store.client.clashes + refused_by l.answered.items;
-  fetched : gets_of (hands_of l.store.stocks) l.store.client.strays ≡ gets_of (hands_of l.fn.store.stocks) l.fn.store.client.strays + fetched_by l.answered.items;
+  goes : HasAnsweredAll (tools_of l.fn.store.stocks l.fn.store.client) l.answered.items (tools_of l.store.stocks l.store.client);
 }

@@ -1,4 +1,4 @@
-use Rattle.std.proofs.Common.{ap, ◌∙◌}
+use Rattle.std.proofs.Common.{ap, ◌∙◌, arith}
 use Rattle.ebpf_pool.specs.Claims.{lost}
 use Rattle.ebpf_pool.proofs.Holding.{once_same, once_claimed, without_first}
 use Rattle.ebpf_pool.proofs.owned.Owned.fetch.Goals as goal
@@ -8,11 +8,10 @@ invariant_of-client g c =
     let client = c.args.client.now in
     let e = c.in_default.ensures in record {
       slots = client.slots;
-      table = client.table;
       seated = e.table ∙ client.seated;
       once = once_same client.seat.held _ e.other.1 client.once;
       few = (client.few.0, c.count.ensures.few);
-      clashed = ap lost e.rest.0 ∙ client.clashed;
+      clashed = let same = ap lost e.rest.0 in omega (arith, same, client.clashed);
     }
 
 pub invariant_of-client-then-eq : goal.invariant_of-client-then-eq
@@ -21,11 +20,10 @@ invariant_of-client-then-eq g c =
     let e = c.in-Ok.ensures in
     let is = c.release.ensures in record {
       slots = client.slots;
-      table = client.table;
       seated = ap (λ s. s.table) is ∙ (e.table ∙ client.seated);
       once = once_same client.seat.held _ (ap (λ s. s.held) is ∙ without_first c.slot-slot.result _ client.seat.held _ e.ok.0) client.once;
       few = (client.few.0, c.count-then-eq.ensures.few);
-      clashed = ap (λ s. lost s.notes) is ∙ (ap lost e.rest.0 ∙ client.clashed);
+      clashed = let same = ap (λ s. lost s.notes) is ∙ ap lost e.rest.0 in omega (arith, same, client.clashed);
     }
 
 pub invariant_of-client-else-eq : goal.invariant_of-client-else-eq
@@ -33,9 +31,8 @@ invariant_of-client-else-eq g c =
     let client = c.args.client.now in
     let e = c.in-Ok.ensures in record {
       slots = client.slots;
-      table = client.table;
       seated = e.table ∙ client.seated;
       once = once_claimed _ _ client.seat.held _ e.ok.0 e.own client.once;
       few = client.few;
-      clashed = ap lost e.rest.0 ∙ client.clashed;
+      clashed = let same = ap lost e.rest.0 in omega (arith, same, client.clashed);
     }

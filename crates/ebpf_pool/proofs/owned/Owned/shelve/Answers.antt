@@ -1,4 +1,4 @@
-use Rattle.std.proofs.Common.{ap, ◌∙◌}
+use Rattle.std.proofs.Common.{ap, ◌∙◌, arith}
 use Rattle.ebpf_object.specs.Object.{slot_of}
 use Rattle.ebpf_pool.specs.Claims.{lost}
 use Rattle.ebpf_pool.proofs.Holding.{once_released}
@@ -9,9 +9,8 @@ invariant_of-client g c =
     let client = c.args.client.now in
     let is = c.shelve.ensures in record {
       slots = client.slots;
-      table = client.table;
       seated = ap (λ s. s.table) is ∙ client.seated;
       once = once_released _ _ client.seat.held _ (c.slot.ensures.is ∙ ap slot_of c.self.view_is) (ap (λ s. s.held) is) c.requires.held client.once;
       few = client.few;
-      clashed = ap (λ s. lost s.notes) is ∙ client.clashed;
+      clashed = let same = ap (λ s. lost s.notes) is in omega (arith, same, client.clashed);
     }

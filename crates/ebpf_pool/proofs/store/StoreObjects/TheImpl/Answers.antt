@@ -2,7 +2,7 @@
 use Rattle.std.proofs.Common.{◌≡◌, refl}
 use Rattle.owners_table.specs.Owning.{Holds}
 use Rattle.ebpf_object.specs.Object.{slot_of, kind_of}
-use Rattle.ebpf_pool.proofs.Passing.{slots, whatever, even_none, one_got, none_got, is_held, is_apart, is_gone, is_still_held, first_of}
+use Rattle.ebpf_pool.proofs.Passing.{slots, whatever, even_none, swapped_goes, is_held, is_apart, is_gone, is_still_held, first_of}
 use Rattle.ebpf_pool.proofs.store.StoreObjects.TheImpl.Goals as goal
 
 pub swap-tells : goal.swap-tells
@@ -14,12 +14,9 @@ swap-tells g c =
       missed = even_none c.result;
       out = is_held (slots c.args.given) c.result c.args.shelf _ held _ e.seat e.kind;
       apart = is_apart (slots c.args.given) c.result _ held _ e.seat;
-      takes = (e.granted, e.refused);
-      fetched_count = one_got c.result _ _ _ _ e.gets e.misses;
-      missed_count = none_got c.result _ _ _ _ e.gets e.misses;
+      goes = swapped_goes _ _ c.result e.goes;
       outs = e.outs;
       gone = is_gone c.args.given (slots c.result) _ held _ given c.args.self.now.client.once e.seat;
-      shelf = λ what stood. absurd stood;
-      other_shelves = λ other what apart stood. absurd stood;
+      shelves = (λ what stood. absurd stood, λ other what apart stood. absurd stood);
       others = λ other now apart. (is_still_held c.args.given (slots c.result) _ other held _ given e.seat now apart, refl);
     }
