@@ -19,11 +19,11 @@ use denote.Param.{param, layouts}
 use denote.Triple.Walked.{Stays, walk_of}
 use Rattle.std.proofs.raw_atomic.Walks.{proved_at, leaves}
 use Rattle.std.specs.Prelude.{Option, None}
-use Rattle.c_handle.proofs.Values.{pointer_good, word, word_good, held_in}
-use Rattle.c_handle.specs.contracts.Held.empty.{ended, clauses}
-use Rattle.c_handle.specs.contracts.Held.empty.Key.{name as #self}
-use Rattle.c_handle.proofs.Held.empty.Statement.{statement}
-use Rattle.c_handle.proofs.Held.empty.Code as code
+use Rattle.ebpf_handle.proofs.Values.{pointer_good, word, word_good, held_in}
+use Rattle.ebpf_handle.specs.contracts.held.Held.empty.{ended, clauses}
+use Rattle.ebpf_handle.specs.contracts.held.Held.empty.Key.{name as #self}
+use Rattle.ebpf_handle.proofs.held.Held.empty.Statement.{statement}
+use Rattle.ebpf_handle.proofs.held.Held.empty.Code as code
 
 pub empty_spec : {M : Type 1} → statement M
 empty_spec 𝓤 𝓛 𝓜 𝓡 wired T L =

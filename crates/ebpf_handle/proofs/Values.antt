@@ -25,8 +25,8 @@ use Rattle.std.specs.Prelude.{Option, Some, None}
 use Rattle.std.proofs.GlobalToken.{dealloc_token-Testable}
 use Rattle.std.specs.contracts.impls.GlobalAllocator.TheImpl.{ghosts}
 use Rattle.std.specs.Ptr.{points_to}
-use Rattle.c_handle.specs.Ownership.{heap, heap_box, held}
-use Rattle.c_handle.specs.contracts.Held as handle
+use Rattle.ebpf_handle.specs.Ownership.{heap, heap_box, held}
+use Rattle.ebpf_handle.specs.contracts.held.Held as handle
 
 abbrev pub Good : Ty → Val → Type 0
 Good τ v = T (has_ty τ v) × WT v

@@ -1,21 +1,18 @@
 //! A box that a caller outside Rattle keeps, as a pointer.
-#![tactic(auto)]
 
 ghost use Rattle.std.specs.Prelude.{◌≡◌, Option, Some, None};
 ghost use Rattle.std.specs.Option.{MatchOption};
-ghost use Rattle.c_handle.specs.Ownership.{held};
+ghost use Rattle.ebpf_handle.specs.Ownership.{held};
 
-mod loose;
-
-use loose::Loose;
+use crate::loose::Loose;
 use std::alloc::Global;
 use std::marker::Model;
 use std::ptr::null_mut;
 
 /// A boxed `T`, or nothing, as a pointer that is null where there is nothing.
-pub struct Held<T> {
-    pub at: *mut T,
-    pub ghost value: { Option T },
+pub(crate) struct Held<T> {
+    pub(crate) at: *mut T,
+    pub(crate) ghost value: { Option T },
 }
 
 impl<T> Model for Held<T> {
@@ -24,7 +21,7 @@ impl<T> Model for Held<T> {
 
 impl<T> Held<T> {
     /// Holds nothing.
-    pub fn empty() -> Held<T>
+    pub(crate) fn empty() -> Held<T>
         ensures { result.value ≡ None }
     {
         let at = null_mut();
@@ -52,14 +49,14 @@ impl<T> Held<T> {
 
 impl<T: Drop> Held<T> {
     /// Holds `value`.
-    pub fn of(value: Box<T>) -> Held<T>
+    pub(crate) fn of(value: Box<T>) -> Held<T>
         ensures { result.value ≡ Some value.value }
     {
         Held::of_loose(Loose::of(value))
     }
 
     /// Gives the box back, if there is one.
-    pub fn into_box(self, alloc: Global) -> Option<Box<T>>
+    pub(crate) fn into_box(self, alloc: Global) -> Option<Box<T>>
         ensures { MatchOption result (self.value ≡ None) (λ b. self.value ≡ Some b.value) }
     {
         match self.into_loose(alloc) {

@@ -23,7 +23,7 @@ use Rattle.std.proofs.alloc.Calls.{Al, handle_tells}
 use Rattle.std.proofs.cell.Inside.{Good}
 use Rattle.std.specs.Box.Ownership.{box_owns}
 use Rattle.std.proofs.ResultValues.{and_tt}
-use Rattle.c_handle.specs.contracts.loose.Loose as loose
+use Rattle.ebpf_handle.specs.contracts.loose.Loose as loose
 
 abbrev pub both : Val → Val → Val
 both v w = vstruct (vcons v (vcons w vnil))

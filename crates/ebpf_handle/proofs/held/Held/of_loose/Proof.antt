@@ -25,12 +25,12 @@ use Rattle.std.proofs.alloc.Global.TheLaws as global_laws
 use Rattle.std.specs.contracts.impls.GlobalAllocator.TheImpl.{ghosts}
 use Rattle.std.proofs.raw_atomic.Walks.{proved_at, leaves}
 use Rattle.std.specs.Prelude.{Option, Some}
-use Rattle.c_handle.proofs.Loosened.{both, Loose, loose_good, loose_out}
-use Rattle.c_handle.proofs.Values.{word, word_good, held_in}
-use Rattle.c_handle.specs.contracts.Held.of_loose.{ended, clauses}
-use Rattle.c_handle.specs.contracts.Held.of_loose.Key.{name as #self}
-use Rattle.c_handle.proofs.Held.of_loose.Statement.{statement}
-use Rattle.c_handle.proofs.Held.of_loose.Code as code
+use Rattle.ebpf_handle.proofs.Loosened.{both, Loose, loose_good, loose_out}
+use Rattle.ebpf_handle.proofs.Values.{word, word_good, held_in}
+use Rattle.ebpf_handle.specs.contracts.held.Held.of_loose.{ended, clauses}
+use Rattle.ebpf_handle.specs.contracts.held.Held.of_loose.Key.{name as #self}
+use Rattle.ebpf_handle.proofs.held.Held.of_loose.Statement.{statement}
+use Rattle.ebpf_handle.proofs.held.Held.of_loose.Code as code
 
 pub of_loose_spec : {M : Type 1} → statement M
 of_loose_spec 𝓤 𝓛 𝓜 𝓡 wired T L =

@@ -29,12 +29,12 @@ use Rattle.std.proofs.alloc.Global.TheLaws as global_laws
 use Rattle.std.specs.contracts.impls.GlobalAllocator.TheImpl.{ghosts}
 use Rattle.std.proofs.raw_atomic.Walks.{proved_at, leaves}
 use Rattle.std.specs.Prelude.{None, Some}
-use Rattle.c_handle.proofs.Loosened.{both, al, Loose, loose_good, loose_in}
-use Rattle.c_handle.proofs.Values.{Good, pointer_good, word, word_good, Held, held_out, cases}
-use Rattle.c_handle.specs.contracts.Held.into_loose.{ended, clauses}
-use Rattle.c_handle.specs.contracts.Held.into_loose.Key.{name as #self}
-use Rattle.c_handle.proofs.Held.into_loose.Statement.{statement}
-use Rattle.c_handle.proofs.Held.into_loose.Code as code
+use Rattle.ebpf_handle.proofs.Loosened.{both, al, Loose, loose_good, loose_in}
+use Rattle.ebpf_handle.proofs.Values.{Good, pointer_good, word, word_good, Held, held_out, cases}
+use Rattle.ebpf_handle.specs.contracts.held.Held.into_loose.{ended, clauses}
+use Rattle.ebpf_handle.specs.contracts.held.Held.into_loose.Key.{name as #self}
+use Rattle.ebpf_handle.proofs.held.Held.into_loose.Statement.{statement}
+use Rattle.ebpf_handle.proofs.held.Held.into_loose.Code as code
 
 pub into_loose_spec : {M : Type 1} → statement M
 into_loose_spec 𝓤 𝓛 𝓜 𝓡 wired T L =
