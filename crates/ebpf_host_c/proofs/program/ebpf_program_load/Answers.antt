@@ -4,7 +4,7 @@ use Rattle.ebpf_command.specs.Codes.{refusal_name}
 use Rattle.ebpf_host.specs.Loading.{IsLoadFault}
 use Rattle.ebpf_host.specs.declared.refusal.Refusal.{Refusal}
 use Rattle.ebpf_host_c.specs.Told.{copied}
-use Rattle.ebpf_host_c.proofs.ebpf_program_load.Goals as goal
+use Rattle.ebpf_host_c.proofs.program.ebpf_program_load.Goals as goal
 
 pub returns-in-Err-Refused-clause-refused : goal.returns-in-Err-Refused-clause-refused
 returns-in-Err-Refused-clause-refused c = λ _.
