@@ -2,11 +2,11 @@
 
 ghost use Rattle.std.specs.Prelude.{◌≡◌, Option, Some, None};
 ghost use Rattle.std.specs.Option.{MatchOption};
-ghost use Rattle.c_handle.specs.Ownership.{held};
+ghost use Rattle.ebpf_handle.specs.Ownership.{held};
 ghost use Rattle.ebpf_host.specs.declared.machine.Machine.{Machine};
 ghost use Rattle.ebpf_host.specs.contracts.machine.Machine.{the_row as machine_row};
 
-use c_handle::Held;
+use crate::held::Held;
 use ebpf_host::machine::Machine;
 use std::alloc::Global;
 use std::marker::Model;

@@ -2,11 +2,11 @@
 
 ghost use Rattle.std.specs.Prelude.{◌≡◌, Option, Some, None};
 ghost use Rattle.std.specs.Option.{MatchOption};
-ghost use Rattle.c_handle.specs.Ownership.{held};
+ghost use Rattle.ebpf_handle.specs.Ownership.{held};
 ghost use Rattle.ebpf_host.specs.declared.program.Program.{Program};
 ghost use Rattle.ebpf_host.specs.contracts.program.Program.{the_row as program_row};
 
-use c_handle::Held;
+use crate::held::Held;
 use ebpf_host::program::Program;
 use std::alloc::Global;
 use std::marker::Model;

@@ -9,8 +9,8 @@ use Rattle.ebpf_host.specs.declared.stocks.Stocks.{Stocks}
 use Rattle.ebpf_host.specs.Leaving.{AreLeft}
 use Rattle.ebpf_host.specs.Loading.{IsRefusedAs}
 use Rattle.ebpf_host.specs.Reports.{IsReportWithin}
-use Rattle.ebpf_host_c.specs.declared.Refused.{Refused}
-use Rattle.ebpf_host_c.specs.declared.Reported.{Reported}
+use Rattle.ebpf_host_c.specs.declared.told.Refused.{Refused}
+use Rattle.ebpf_host_c.specs.declared.told.Reported.{Reported}
 
 -- as many of the items as there is room for, and the rest of the room as it was
 abbrev pub copied : {X : Type 0} → List X → List X → List X

@@ -27,11 +27,12 @@ use Rattle.ebpf_machine.proofs.World.Owners.{owner_of}
 use Rattle.ebpf_world.specs.declared.event.Answer.{Answer}
 use Rattle.ebpf_world.specs.declared.event.Answer.TheVariants.{Absent, Null, Slot}
 use Rattle.ebpf_world.specs.declared.fault.ApplyCode.TheVariants.{SlotOfAnotherKind}
-use Rattle.ebpf_world.specs.declared.passing.Object.{Object}
+use Rattle.ebpf_shelves.specs.declared.object.Object.{Object}
 use Rattle.ebpf_world.specs.declared.place.Place.{Place}
 use Rattle.ebpf_world.specs.declared.place.Place.TheVariants.{Home, Held, Shelved}
 use Rattle.ebpf_world.specs.Events.{answer_of}
-use Rattle.ebpf_world.specs.Passing.{IsOut, IsAway, as_shelved, AreStanding, on_shelf, slot_on, standing_on, is_bare, one_away, offers}
+use Rattle.ebpf_shelves.specs.Shelves.{IsAway, as_shelved, on_shelf, slot_on, standing_on}
+use Rattle.ebpf_world.specs.Passing.{IsOut, is_bare, one_away, offers}
 use Rattle.ebpf_world.specs.Places.{Places, place_at, object_home, lent_by, place_lent}
 use Rattle.ebpf_world.specs.Shown.{WorldState, Shows, IsTended, ArePlaced, IsPlaced, IsAtHome, run_seen, slots_of}
 use Rattle.ebpf_world.specs.Stepping.{slot_code, code_by, IsNewObject, CanLend}
@@ -85,8 +86,8 @@ held_off : (kept : WorldState) (k : ℕ) (r : RunState Object) (h : Holding Obje
 held_off kept k r h placed at among shelf e = let held = held_placed kept k r h placed at among in absurd (cc)
 
 -- so it can be lent what is at home
-pub can_lend : (kept : WorldState) (k : ℕ) (answer : Answer) (r : RunState Object) → ArePlaced kept → AreStanding None kept.shelves → IsTended r → slice_get kept.runs k ≡ Some r → code_by kept.places answer (wanted (asking_in (run_seen r))) ≡ None → CanLend (lent_by answer kept.places) kept.shelves r
-can_lend kept k answer r placed standing tended at fine = by (loan kept.places answer (wanted (asking_in (run_seen r))) fine) where
+pub can_lend : (kept : WorldState) (k : ℕ) (answer : Answer) (r : RunState Object) → ArePlaced kept → IsTended r → slice_get kept.runs k ≡ Some r → code_by kept.places answer (wanted (asking_in (run_seen r))) ≡ None → CanLend (lent_by answer kept.places) kept.shelves r
+can_lend kept k answer r placed tended at fine = by (loan kept.places answer (wanted (asking_in (run_seen r))) fine) where
   off : (h : Holding Object) → Contains r.held h → (shelf : ℕ) → IsAway (on_shelf kept.shelves shelf) h.object.slot
   off h among shelf = away_from (on_shelf kept.shelves shelf) h.object.slot (off_shelves kept h.object.slot placed (held_off kept k r h placed at among) shelf)
 
@@ -97,15 +98,15 @@ can_lend kept k answer r placed standing tended at fine = by (loan kept.places a
   }
     where
       still : (h : Holding Object) → Contains r.held h → IsOut None [] h.object × (h.object.kind ≡ h.kind) → IsOut lent kept.shelves h.object × (h.object.kind ≡ h.kind)
-      still h among was = (record { size = was.0.size; known = was.0.known; away = away h among; off = off h among }, was.1)
+      still h among was = (record { sized = was.0.sized; away = away h among; off = off h among }, was.1)
 
   by : IsLoan kept.places answer (wanted (asking_in (run_seen r))) → CanLend (lent_by answer kept.places) kept.shelves r
-  by (Nothing unanswered none stays) = subst (λ (l : Option Object). CanLend l kept.shelves r) (sym none) (record { image = tt; out = out None (λ h among. tt); asked = λ e. refl; standing = standing })
+  by (Nothing unanswered none stays) = subst (λ (l : Option Object). CanLend l kept.shelves r) (sym none) (record { image = tt; out = out None (λ h among. tt); asked = λ e. refl; away = λ shelf p q on is. absurd (cc) })
   by (Loan slot o is home wants) = subst (λ (l : Option Object). CanLend l kept.shelves r) (sym (lent_loan kept.places answer slot o is home)) (record {
     image = (here.image, here.known);
     out = out (Some o) away;
     asked = λ unasked. let none = ap wanted unasked in absurd (cc);
-    standing = record { fit = standing.fit; apart = standing.apart; away = λ shelf p q on lent. apart shelf p q on lent };
+    away = apart;
   })
     where
       here : IsAtHome kept slot o
@@ -265,7 +266,7 @@ freed_its kept k answer r t freed o h i leaves is among slots = by (cases_eq o.s
   by (inl same) = same
   by (inr ne) =
       let out = All-contains (λ x. IsOut None [] x.object × (x.object.kind ≡ x.kind)) r.held h i.run.out.out among in
-      let there : IsOut freed i.after h.object = subst (λ (f : Option Object). IsOut f i.after h.object) (sym is) (record { size = out.0.size; known = out.0.known; away = λ e. ne (sym e); off = λ shelf. away_from (on_shelf i.after shelf) h.object.slot (λ other stands. off_shelves kept h.object.slot i.tended.placed (held_off kept k r h i.tended.placed i.at among) shelf other (sym (leaves.same shelf) ∙ stands)) }) in
+      let there : IsOut freed i.after h.object = subst (λ (f : Option Object). IsOut f i.after h.object) (sym is) (record { sized = out.0.sized; away = λ e. ne (sym e); off = λ shelf. away_from (on_shelf i.after shelf) h.object.slot (λ other stands. off_shelves kept h.object.slot i.tended.placed (held_off kept k r h i.tended.placed i.at among) shelf other (sym (leaves.same shelf) ∙ stands)) }) in
       absurd (i.step.gone h among (All-by_contains (λ x. x.object.slot ≢ h.object.slot) t.held others) there)
 
 frees : (w : World) (kept : WorldState) (k : ℕ) (answer : Answer) (r t : RunState Object) (freed : Option Object) → Shows w kept → (i : IsInstruction kept k answer r t freed) → LeavesShelves kept r i.after → lent_by answer kept.places ≡ None → ((run at q : ℕ) → place_lent answer run at kept.places q ≡ place_at kept.places q)

@@ -21,13 +21,14 @@ use Rattle.ebpf_world.specs.declared.event.Answer.{Answer}
 use Rattle.ebpf_world.specs.declared.event.Answer.TheVariants.{Absent, Null, Slot}
 use Rattle.ebpf_world.specs.declared.fault.ApplyCode.{ApplyCode}
 use Rattle.ebpf_world.specs.declared.fault.ApplyCode.TheVariants.{SlotOfAnotherKind}
-use Rattle.ebpf_world.specs.declared.passing.Object.{Object}
+use Rattle.ebpf_shelves.specs.declared.object.Object.{Object}
 use Rattle.ebpf_world.specs.declared.place.Place.{Place}
 use Rattle.ebpf_world.specs.declared.place.Place.TheVariants as place
 use Rattle.ebpf_world.specs.declared.place.Place.TheVariants.{Home, Held}
 use Rattle.ebpf_world.specs.Events.{answer_of}
 use Rattle.ebpf_world.specs.Faults.{code_of}
-use Rattle.ebpf_world.specs.Passing.{IsOut, as_shelved, standing_on, offers}
+use Rattle.ebpf_shelves.specs.Shelves.{as_shelved, standing_on}
+use Rattle.ebpf_world.specs.Passing.{IsOut, offers}
 use Rattle.ebpf_world.specs.Places.{Places, place_at, object_home, lent_by}
 use Rattle.ebpf_world.specs.Shown.{WorldState, Shows, IsTended, IsTendedWorld, ArePlaced, IsPlaced, run_seen, slots_of}
 use Rattle.ebpf_world.specs.Stepping.{slot_code, code_by, IsStepped}
@@ -42,7 +43,7 @@ sized_tended r h = All-map IsLong (object_seen (λ o. o.bytes.items)) r.held (λ
   IsLong o = length o.bytes ≡ length (image_at (kinds_of r.subject.rows) o.kind)
 
   long : (x : Holding Object) → IsOut None [] x.object × (x.object.kind ≡ x.kind) → length x.object.bytes.items ≡ length (image_at (kinds_of r.subject.rows) x.kind)
-  long x (out, kind) = out.size ∙ ap (λ (k : ℕ). length (image_at known_kinds k)) kind ∙ ap (λ (ks : List Kind). length (image_at ks x.kind)) (sym h.kinds)
+  long x (out, kind) = out.sized.size ∙ ap (λ (k : ℕ). length (image_at known_kinds k)) kind ∙ ap (λ (ks : List Kind). length (image_at ks x.kind)) (sym h.kinds)
 
 -- ---- the answer that the store gives is the event's
 

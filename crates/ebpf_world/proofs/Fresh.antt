@@ -1,29 +1,17 @@
 -- The world before any event is shown, and what always holds of a world holds of it.
-use Rattle.std.proofs.Common.{◌≡◌, ℕ, zero, suc, List, [], ◌∷◌, Option, Some, None, option_map, refl, sym, ap, arith}
+use Rattle.std.proofs.Common.{List, [], ◌∷◌, option_map, refl, sym, ap, arith}
 use Rattle.ebpf_verify.specs.Subject.{Subject}
 use Rattle.ebpf_machine.specs.Kinds.{known_kinds}
 use Rattle.ebpf_machine.proofs.World.Owned.{owned_empty}
-use Rattle.ebpf_world.specs.declared.passing.Object.{Object}
+use Rattle.ebpf_shelves.specs.declared.object.Object.{Object}
 use Rattle.ebpf_world.specs.Events.{first_world}
-use Rattle.ebpf_world.specs.Passing.{as_shelved, on_shelf}
+use Rattle.ebpf_shelves.specs.Shelves.{as_shelved, bare}
+use Rattle.ebpf_shelves.proofs.Shelving.{bare_none}
 use Rattle.ebpf_world.specs.Shown.{WorldState, Shows, IsTendedWorld}
 use Rattle.ebpf_machine.specs.Kinds.{AreKnown}
 
-abbrev bare : List (Option Object)
-bare = None ∷ None ∷ None ∷ []
-
 abbrev fresh : List Subject → WorldState
 fresh programs = record { programs = programs; runs = []; ledgers = [] ∷ [] ∷ [] ∷ []; places = []; shelves = bare }
-
--- nothing stands on shelves
-bare_none : (shelf : ℕ) → on_shelf bare shelf ≡ None
-bare_none zero = refl
-bare_none (suc zero) = refl
-bare_none (suc (suc zero)) = refl
-bare_none (suc (suc (suc shelf))) = refl
-
-not_bare : (shelf : ℕ) (o : Object) → on_shelf bare shelf ≡ Some o → ⊥
-not_bare shelf o e = let none = bare_none shelf in absurd (cc)
 
 fresh_shows : (programs : List Subject) → Shows first_world (fresh programs)
 fresh_shows programs = record {
@@ -41,6 +29,5 @@ tended_fresh programs known = record {
   known = known;
   runs = λ k d lt. absurd (omega (arith, lt));
   placed = record { each = λ slot. refl; held = λ run r there. absurd (cc); shelved = λ shelf slot stands. let none = ap (option_map (λ (o : Object). o.slot)) (bare_none shelf) in absurd (cc) };
-  standing = record { fit = λ shelf o on. absurd (not_bare shelf o on); apart = λ shelf other o p on. absurd (not_bare shelf o on); away = λ shelf o p on. absurd (not_bare shelf o on) };
   shown = (first_world, fresh_shows programs);
 }

@@ -21,7 +21,7 @@ use Rattle.ebpf_machine.proofs.World.Owned.{owned_empty}
 use Rattle.ebpf_machine.proofs.World.Steps.{going_of, bounded, first_sound, sound_stepped}
 use Rattle.ebpf_machine.proofs.World.Execs.{sized_in, shown_run}
 use Rattle.ebpf_machine.proofs.World.Lone.{served_fits_shelf, none_more, alone_stepped, seen_alone, outcome_exited}
-use Rattle.ebpf_world.specs.declared.passing.Object.{Object}
+use Rattle.ebpf_shelves.specs.declared.object.Object.{Object}
 use Rattle.ebpf_world.specs.declared.event.Answer.{Answer}
 use Rattle.ebpf_world.specs.declared.event.Event.{Event}
 use Rattle.ebpf_world.specs.declared.event.Event.TheVariants.{Start, Exec, Grow, Reap}

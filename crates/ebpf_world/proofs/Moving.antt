@@ -12,10 +12,10 @@ use Rattle.ebpf_machine.proofs.Lists.Mapped.{Contains-kept}
 use Rattle.ebpf_machine.proofs.World.Owners.{owner_of}
 use Rattle.ebpf_world.specs.declared.event.Answer.{Answer}
 use Rattle.ebpf_world.specs.declared.event.Answer.TheVariants.{Slot}
-use Rattle.ebpf_world.specs.declared.passing.Object.{Object}
+use Rattle.ebpf_shelves.specs.declared.object.Object.{Object}
 use Rattle.ebpf_world.specs.declared.place.Place.{Place}
 use Rattle.ebpf_world.specs.declared.place.Place.TheVariants.{Home, Held, Shelved}
-use Rattle.ebpf_world.specs.Passing.{slot_on}
+use Rattle.ebpf_shelves.specs.Shelves.{slot_on}
 use Rattle.ebpf_world.specs.Places.{Places, place_at, place_lent, place_returned, place_exchanged}
 use Rattle.ebpf_world.specs.Shown.{WorldState, Shows, ArePlaced, IsPlaced, IsAtHome, run_seen, slots_of}
 use Rattle.ebpf_world.proofs.Executing.{IsInstruction}

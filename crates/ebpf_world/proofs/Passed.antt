@@ -11,10 +11,10 @@ use Rattle.ebpf_machine.specs.Step.{asking_in, reached}
 use Rattle.ebpf_machine.proofs.Lists.ListLemmas.{Contains-filter, get_set_same}
 use Rattle.ebpf_machine.proofs.Lists.Mapped.{Contains-kept}
 use Rattle.ebpf_world.specs.declared.event.Answer.{Answer}
-use Rattle.ebpf_world.specs.declared.passing.Object.{Object}
+use Rattle.ebpf_shelves.specs.declared.object.Object.{Object}
 use Rattle.ebpf_world.specs.declared.place.Place.{Place}
 use Rattle.ebpf_world.specs.declared.place.Place.TheVariants.{Held, Shelved}
-use Rattle.ebpf_world.specs.Passing.{slot_on}
+use Rattle.ebpf_shelves.specs.Shelves.{slot_on}
 use Rattle.ebpf_world.specs.Places.{Places, place_at, place_lent, place_returned, is_slot, place_exchanged}
 use Rattle.ebpf_world.specs.Shown.{WorldState, Shows, ArePlaced, IsPlaced, run_seen, slots_of}
 use Rattle.ebpf_world.proofs.Executing.{IsInstruction}

@@ -14,10 +14,10 @@ use Rattle.ebpf_machine.proofs.Lists.Mapped.{Contains-mapped, Contains-unmapped}
 use Rattle.ebpf_machine.proofs.World.Owners.{owner_of, is_shelf-own, held_owner}
 use Rattle.ebpf_world.specs.declared.event.Answer.{Answer}
 use Rattle.ebpf_world.specs.declared.event.Answer.TheVariants.{Absent, Null, Slot}
-use Rattle.ebpf_world.specs.declared.passing.Object.{Object}
+use Rattle.ebpf_shelves.specs.declared.object.Object.{Object}
 use Rattle.ebpf_world.specs.declared.place.Place.{Place}
 use Rattle.ebpf_world.specs.declared.place.Place.TheVariants.{Home, Held, Shelved}
-use Rattle.ebpf_world.specs.Passing.{as_shelved, on_shelf, slot_on}
+use Rattle.ebpf_shelves.specs.Shelves.{as_shelved, on_shelf, slot_on}
 use Rattle.ebpf_world.specs.Places.{place_at}
 use Rattle.ebpf_world.specs.Shown.{WorldState, Shows, ArePlaced, IsPlaced, slots_of, run_seen}
 use Rattle.ebpf_world.proofs.LegalAnswers.{IsKeptIn, AnswersFrom}

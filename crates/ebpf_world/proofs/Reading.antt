@@ -14,10 +14,10 @@ use Rattle.ebpf_machine.specs.RunState.{RunState, status_of}
 use Rattle.ebpf_machine.proofs.Lists.ListLemmas.{IsFound, find_is}
 use Rattle.ebpf_machine.proofs.Lists.Mapped.{Contains-unmapped}
 use Rattle.ebpf_machine.proofs.World.Owners.{owner_of, kind_in-ledger, owned_there}
-use Rattle.ebpf_world.specs.declared.passing.Object.{Object}
+use Rattle.ebpf_shelves.specs.declared.object.Object.{Object}
 use Rattle.ebpf_world.specs.declared.place.Place.TheVariants.{Home, Held, Shelved}
 use Rattle.ebpf_world.specs.declared.world.Status.TheVariants as status
-use Rattle.ebpf_world.specs.Passing.{as_shelved, on_shelf, slot_on}
+use Rattle.ebpf_shelves.specs.Shelves.{as_shelved, on_shelf, slot_on}
 use Rattle.ebpf_world.specs.Places.{place_at}
 use Rattle.ebpf_world.specs.Shown.{WorldState, Shows, ArePlaced, IsAtHome, IsPlaced, slots_of}
 use Rattle.ebpf_world.specs.Readers.{run_of, status_in, output_in, executed_in, owner_in, shelf_in, bytes_in}

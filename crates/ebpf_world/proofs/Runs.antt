@@ -13,7 +13,7 @@ use Rattle.ebpf_machine.specs.Store.{AreOutBy}
 use Rattle.ebpf_machine.specs.Alone.{replies_from}
 use Rattle.ebpf_machine.proofs.World.Lone.{after_none}
 use Rattle.ebpf_machine.proofs.World.Execs.{shown_run}
-use Rattle.ebpf_world.specs.declared.passing.Object.{Object}
+use Rattle.ebpf_shelves.specs.declared.object.Object.{Object}
 use Rattle.ebpf_world.specs.Passing.{IsOut}
 use Rattle.ebpf_world.specs.Shown.{WorldState, Shows, IsTended, run_seen}
 

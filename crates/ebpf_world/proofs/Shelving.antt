@@ -1,92 +1,103 @@
--- What a call of swap leaves on the shelves of a store.
-use Rattle.std.proofs.Common.{◌≡◌, ◌≢◌, ◌⊎◌, inl, inr, ℕ, ◌<◌, List, length, Option, Some, None, refl, sym, ap, ◌∙◌, subst}
-use Rattle.std.specs.Prelude.{IfSome, slice_set}
-use Rattle.std.proofs.lemmas.Bool.{cases_eq}
-use Rattle.std.proofs.lemmas.List.{get_or-set_same, get_or-set_other}
-use Rattle.ebpf_machine.specs.World.{image_at}
-use Rattle.ebpf_machine.specs.Kinds.{known_kinds}
-use Rattle.ebpf_world.specs.declared.passing.Object.{Object}
-use Rattle.ebpf_world.specs.Passing.{IsOut, IsAway, FitShelves, AreApart, AreAway, on_shelf}
+-- What a call of swap leaves of the objects that are out, beside the one that is lent.
+use Rattle.std.proofs.Common.{◌≡◌, ◌≢◌, ◌⊎◌, inl, inr, ℕ, ◌+◌, cond, List, Option, Some, None, refl, sym, ap, ◌∙◌, subst, arith}
+use Rattle.std.specs.Prelude.{IfSome}
+use Rattle.std.proofs.lemmas.Bool.{cases_eq, eq-eqb}
+use Rattle.ebpf_machine.specs.Store.{one_of}
+use Rattle.ebpf_shelves.specs.declared.object.Object.{Object}
+use Rattle.ebpf_shelves.specs.Shelves.{FitsOn, IsAway, IsExchanged, IsOff, on_shelf}
+use Rattle.ebpf_shelves.proofs.Shelving.{away_from, away_of}
+use Rattle.ebpf_world.specs.Passing.{AreAway, IsOut, is_bare, out_of_kind}
 
--- what stands on a shelf where one changed
-here : (shelves : List (Option Object)) (shelf : ℕ) (given : Option Object) → shelf < length shelves → on_shelf (slice_set shelves shelf given) shelf ≡ given
-here shelves shelf given lt = get_or-set_same shelves shelf given None lt
+-- what is given is out, and of the shelf's kind
+abbrev pub IsGivable : Option Object → List (Option Object) → ℕ → Option Object → Type 0
+IsGivable lent shelves shelf given = IfSome given (λ g. IsOut lent shelves g × (g.kind ≡ shelf))
 
-elsewhere : (shelves : List (Option Object)) (shelf other : ℕ) (given : Option Object) → other ≢ shelf → on_shelf (slice_set shelves shelf given) other ≡ on_shelf shelves other
-elsewhere shelves shelf other given ne = get_or-set_other shelves shelf other given None ne
+module _ (lent : Option Object) {shelf : ℕ} {given got : Option Object} {old new : List (Option Object)} (e : IsExchanged shelf given got old new) where
+  -- none on the shelves is in the slot of the one that is lent
+  pub away_then : AreAway lent old → IsGivable lent old shelf given → AreAway lent new
+  away_then away out k o p on is = by (cases_eq k shelf) where
+    given_is : (x : Option Object) → x ≡ Some o → IsGivable lent old shelf x → o.slot ≢ p.slot
+    given_is None none givable = absurd (cc)
+    given_is (Some g) same givable =
+        let there : g ≡ o = cc in
+        subst (λ (x : Object). x.slot ≢ p.slot) there (away_of lent p g.slot is givable.0.away)
 
-module _ (lent : Option Object) (shelves : List (Option Object)) (shelf : ℕ) (given : Option Object) where
-  -- what is given was out, and of the shelf's kind
-  abbrev IsGivable : Type 0
-  IsGivable = IfSome given (λ g. IsOut lent shelves g × (g.kind ≡ shelf))
+    by : (k ≡ shelf) ⊎ (k ≢ shelf) → o.slot ≢ p.slot
+    by (inl same) = given_is given (sym e.now ∙ ap (on_shelf new) (sym same) ∙ on) out
+    by (inr ne) = away k o p (sym (e.others k ne) ∙ on) is
 
-  given_is : (o : Object) → given ≡ Some o → IsGivable → IsOut lent shelves o × (o.kind ≡ shelf)
-  given_is o is out = subst (λ (x : Option Object). IfSome x (λ g. IsOut lent shelves g × (g.kind ≡ shelf))) is out
+  -- what came off is out
+  pub got_out : AreAway lent old → IfSome got (λ h. IsOut lent new h × (h.kind ≡ shelf))
+  got_out away = by got e.was e.fits e.off where
+    by : (x : Option Object) → x ≡ on_shelf old shelf → IfSome x (FitsOn shelf) → IfSome x (λ h. IsOff new h.slot)
+        → IfSome x (λ h. IsOut lent new h × (h.kind ≡ shelf))
+    by None is fits off = tt
+    by (Some h) is fits off = (record { sized = fits.0; away = away_from lent h.slot (λ p there. away shelf h p (sym is) there); off = off }, fits.1)
 
-  -- so it is none of the others
-  given_apart : (o p : Object) (other : ℕ) → given ≡ Some o → IsGivable → on_shelf shelves other ≡ Some p → o.slot ≢ p.slot
-  given_apart o p other is out stands = subst (λ (x : Option Object). IsAway x o.slot) stands ((given_is o is out).0.off other)
+  -- it wasn't before
+  pub got_apart : IfSome got (λ h. (other : Object) → IsOut lent old other → other.slot ≢ h.slot)
+  got_apart = by got e.was where
+    by : (x : Option Object) → x ≡ on_shelf old shelf → IfSome x (λ h. (other : Object) → IsOut lent old other → other.slot ≢ h.slot)
+    by None is = tt
+    by (Some h) is = λ other out. away_of (on_shelf old shelf) h other.slot (sym is) (out.off shelf)
 
-  pub fit_then : shelf < length shelves → FitShelves shelves → IsGivable → FitShelves (slice_set shelves shelf given)
-  fit_then lt fit out other o stands = by (cases_eq other shelf) where
-    by : (other ≡ shelf) ⊎ (other ≢ shelf) → (o.kind ≡ other) × (other < length known_kinds) × (length o.bytes.items ≡ length (image_at known_kinds other))
+  -- what is given is out no longer
+  pub given_gone : IfSome given (λ g. IsOut lent new g → ⊥)
+  given_gone = by given e.now where
+    by : (x : Option Object) → on_shelf new shelf ≡ x → IfSome x (λ g. IsOut lent new g → ⊥)
+    by None is = tt
+    by (Some g) is = λ out. away_of (on_shelf new shelf) g g.slot is (out.off shelf) refl
+
+  -- what else is out stays so
+  pub others_out : (other : Object) → IsOut lent old other → IfSome given (λ g. other.slot ≢ g.slot) → IsOut lent new other
+  others_out other out apart = record { sized = out.sized; away = out.away; off = λ k. by k (cases_eq k shelf) } where
+    given_away : (x : Option Object) → IfSome x (λ g. other.slot ≢ g.slot) → IsAway x other.slot
+    given_away None is = tt
+    given_away (Some g) is = is
+
+    by : (k : ℕ) → (k ≡ shelf) ⊎ (k ≢ shelf) → IsAway (on_shelf new k) other.slot
+    by k (inl same) = subst (λ (x : Option Object). IsAway x other.slot) (sym (ap (on_shelf new) same ∙ e.now)) (given_away given apart)
+    by k (inr ne) = subst (λ (x : Option Object). IsAway x other.slot) (sym (e.others k ne)) (out.off k)
+
+  -- and that many are out
+  pub counted : (k : ℕ) → out_of_kind lent new k + one_of given shelf k ≡ out_of_kind lent old k + one_of got shelf k
+  counted k = by (cases_eq k shelf) where
+    bare_there : (x : Option Object) → k ≡ shelf → is_bare x + one_of x shelf k ≡ 1
+    bare_there None same = refl
+    bare_there (Some o) same = let one = ap (λ b. cond {A = ℕ} b 1 0) (eq-eqb k shelf same) in omega (arith, one)
+
+    none_there : (x : Option Object) → k ≢ shelf → one_of x shelf k ≡ 0
+    none_there None ne = refl
+    none_there (Some o) ne = grind (arith, ne)
+
+    by : (k ≡ shelf) ⊎ (k ≢ shelf) → out_of_kind lent new k + one_of given shelf k ≡ out_of_kind lent old k + one_of got shelf k
     by (inl same) =
-        let is : given ≡ Some o = sym (here shelves shelf given lt) ∙ ap (on_shelf (slice_set shelves shelf given)) (sym same) ∙ stands in
-        let its = given_is o is out in
-        let kind : o.kind ≡ other = its.1 ∙ sym same in
-        (kind, subst (λ (k : ℕ). k < length known_kinds) kind its.0.known, its.0.size ∙ ap (λ (k : ℕ). length (image_at known_kinds k)) kind)
-    by (inr ne) = fit other o (sym (elsewhere shelves shelf other given ne) ∙ stands)
+        let now = ap is_bare (ap (on_shelf new) same ∙ e.now) in
+        let was = ap is_bare (ap (on_shelf old) same ∙ sym e.was) in
+        let left = bare_there given same in
+        let got_one = bare_there got same in
+        omega (arith, now, was, left, got_one)
+    by (inr ne) =
+        let stays = ap is_bare (e.others k ne) in
+        let left = none_there given ne in
+        let got_none = none_there got ne in
+        omega (arith, stays, left, got_none)
 
-  pub apart_then : shelf < length shelves → AreApart shelves → IsGivable → AreApart (slice_set shelves shelf given)
-  apart_then lt apart out a b o p on_a on_b same = by (cases_eq a shelf) (cases_eq b shelf) where
-    new : (k : ℕ) (x : Object) → k ≡ shelf → on_shelf (slice_set shelves shelf given) k ≡ Some x → given ≡ Some x
-    new k x e on = sym (here shelves shelf given lt) ∙ ap (on_shelf (slice_set shelves shelf given)) (sym e) ∙ on
+-- where the one that is lent stays
+pub record IsSwapped (lent now : Option Object) (shelf : ℕ) (given got : Option Object) (old new : List (Option Object)) : Type 0 where
+  pub out : IfSome got (λ h. IsOut now new h × (h.kind ≡ shelf))
+  pub apart : IfSome got (λ h. (other : Object) → IsOut lent old other → other.slot ≢ h.slot)
+  pub counted : (k : ℕ) → out_of_kind now new k + one_of given shelf k ≡ out_of_kind lent old k + one_of got shelf k
+  pub gone : IfSome given (λ g. IsOut now new g → ⊥)
+  pub others : (other : Object) → IsOut lent old other → IfSome given (λ g. other.slot ≢ g.slot) → IsOut now new other
 
-    old : (k : ℕ) (x : Object) → k ≢ shelf → on_shelf (slice_set shelves shelf given) k ≡ Some x → on_shelf shelves k ≡ Some x
-    old k x ne on = sym (elsewhere shelves shelf k given ne) ∙ on
-
-    by : (a ≡ shelf) ⊎ (a ≢ shelf) → (b ≡ shelf) ⊎ (b ≢ shelf) → a ≡ b
-    by (inl e) (inl f) = e ∙ sym f
-    by (inl e) (inr f) = absurd (given_apart o p b (new a o e on_a) out (old b p f on_b) same)
-    by (inr e) (inl f) = absurd (given_apart p o a (new b p f on_b) out (old a o e on_a) (sym same))
-    by (inr e) (inr f) = apart a b o p (old a o e on_a) (old b p f on_b) same
-
-  pub away_then : shelf < length shelves → AreAway lent shelves → IsGivable → AreAway lent (slice_set shelves shelf given)
-  away_then lt away out other o p stands is_here = by (cases_eq other shelf) where
-    by : (other ≡ shelf) ⊎ (other ≢ shelf) → o.slot ≢ p.slot
-    by (inl same) =
-        let is : given ≡ Some o = sym (here shelves shelf given lt) ∙ ap (on_shelf (slice_set shelves shelf given)) (sym same) ∙ stands in
-        subst (λ (x : Option Object). IsAway x o.slot) is_here (given_is o is out).0.away
-    by (inr ne) = away other o p (sym (elsewhere shelves shelf other given ne) ∙ stands) is_here
-
-  -- what stood there is out
-  pub got_out : (got : Option Object) → shelf < length shelves → FitShelves shelves → AreApart shelves → AreAway lent shelves → IsGivable → got ≡ on_shelf shelves shelf → IfSome got (λ h. IsOut lent (slice_set shelves shelf given) h × (h.kind ≡ shelf))
-  got_out None lt fit apart away out is = tt
-  got_out (Some h) lt fit apart away out is = (record { size = fits.2 ∙ ap (λ (k : ℕ). length (image_at known_kinds k)) (sym fits.0); known = subst (λ (k : ℕ). k < length known_kinds) (sym fits.0) fits.1; away = off_lent lent refl; off = off }, fits.0) where
-    fits : (h.kind ≡ shelf) × (shelf < length known_kinds) × (length h.bytes.items ≡ length (image_at known_kinds shelf))
-    fits = fit shelf h (sym is)
-
-    off_lent : (x : Option Object) → lent ≡ x → IsAway lent h.slot
-    off_lent None e = subst (λ (y : Option Object). IsAway y h.slot) (sym e) tt
-    off_lent (Some p) e = subst (λ (y : Option Object). IsAway y h.slot) (sym e) (away shelf h p (sym is) e)
-
-    from_given : (x : Option Object) → given ≡ x → IsAway given h.slot
-    from_given None e = subst (λ (y : Option Object). IsAway y h.slot) (sym e) tt
-    from_given (Some g) e = subst (λ (y : Option Object). IsAway y h.slot) (sym e) (λ same. given_apart g h shelf e out (sym is) (sym same))
-
-    from_other : (other : ℕ) → other ≢ shelf → (x : Option Object) → on_shelf shelves other ≡ x → IsAway (on_shelf shelves other) h.slot
-    from_other other ne None e = subst (λ (y : Option Object). IsAway y h.slot) (sym e) tt
-    from_other other ne (Some p) e = subst (λ (y : Option Object). IsAway y h.slot) (sym e) (λ same. ne (sym (apart shelf other h p (sym is) e same)))
-
-    off : (other : ℕ) → IsAway (on_shelf (slice_set shelves shelf given) other) h.slot
-    off other = by (cases_eq other shelf) where
-      by : (other ≡ shelf) ⊎ (other ≢ shelf) → IsAway (on_shelf (slice_set shelves shelf given) other) h.slot
-      by (inl e) = subst (λ (k : ℕ). IsAway (on_shelf (slice_set shelves shelf given) k) h.slot) (sym e) (subst (λ (y : Option Object). IsAway y h.slot) (sym (here shelves shelf given lt)) (from_given given refl))
-      by (inr ne) = subst (λ (y : Option Object). IsAway y h.slot) (sym (elsewhere shelves shelf other given ne)) (from_other other ne (on_shelf shelves other) refl)
-
-  -- and what is given is out no more
-  pub given_gone : shelf < length shelves → IfSome given (λ g. IsOut lent (slice_set shelves shelf given) g → ⊥)
-  given_gone lt = by given refl where
-    by : (x : Option Object) → given ≡ x → IfSome x (λ g. IsOut lent (slice_set shelves shelf given) g → ⊥)
-    by None e = tt
-    by (Some g) e = λ out. subst (λ (y : Option Object). IsAway y g.slot) (here shelves shelf given lt ∙ e) (out.off shelf) refl
+pub swapped : (lent now : Option Object) {shelf : ℕ} {given got : Option Object} {old new : List (Option Object)}
+    → now ≡ lent → IsExchanged shelf given got old new → AreAway lent old
+    → IsSwapped lent now shelf given got old new
+swapped lent now {shelf} {given} {got} {old} {new} same e away = subst (λ (x : Option Object). IsSwapped lent x shelf given got old new) (sym same) (record {
+  out = got_out lent e away;
+  apart = got_apart lent e;
+  counted = counted lent e;
+  gone = given_gone lent e;
+  others = others_out lent e;
+})

@@ -18,10 +18,10 @@ use Rattle.ebpf_machine.proofs.World.NewSlots as new_slots
 use Rattle.ebpf_machine.proofs.World.Owners.{owner_of, kind_in-ledger, owned_there}
 use Rattle.ebpf_machine.proofs.World.PartedSlots.{IsReapable, owned_parted, parted_away, view_parted}
 use Rattle.ebpf_machine.proofs.World.PartedSlots as parted_slots
-use Rattle.ebpf_world.specs.declared.passing.Object.{Object}
+use Rattle.ebpf_shelves.specs.declared.object.Object.{Object}
 use Rattle.ebpf_world.specs.declared.place.Place.{Place}
 use Rattle.ebpf_world.specs.declared.place.Place.TheVariants.{Home, Held, Shelved}
-use Rattle.ebpf_world.specs.Passing.{slot_on}
+use Rattle.ebpf_shelves.specs.Shelves.{slot_on}
 use Rattle.ebpf_world.specs.Places.{Places, place_at, is_home_of}
 use Rattle.ebpf_world.specs.Shown.{WorldState, Shows, ArePlaced, IsPlaced, IsTendedWorld, slots_of}
 use Rattle.ebpf_world.proofs.Ledgers.{parted_joined}
@@ -202,7 +202,6 @@ grow_tended kept kind slot o ledgers places tended grown =
     let next = grow_done w kept kind slot o ledgers places h tended.placed grown in
     let moved = placed_moved kept kind slot (with_slot slot (kept_of kept kind)) (Some (Home o)) places tended.placed (grown_moved w kept kind slot o ledgers places h tended.placed grown) in
     record {
-      standing = tended.standing;
       known = tended.known;
       runs = tended.runs;
       placed = subst (λ (ls : List (List ℕ)). ArePlaced (record kept { ledgers = ls; places = places })) (sym grown.ledgers_are) moved;
@@ -303,7 +302,6 @@ reap_tended kept kind slot ledgers places tended reaped =
     let next = reap_done w kept kind slot ledgers places h tended.placed reaped in
     let moved = placed_moved kept kind slot (without_slot slot (kept_of kept kind)) None places tended.placed (reaped_moved w kept kind slot ledgers places h tended.placed reaped) in
     record {
-      standing = tended.standing;
       known = tended.known;
       runs = tended.runs;
       placed = subst (λ (ls : List (List ℕ)). ArePlaced (record kept { ledgers = ls; places = places })) (sym reaped.ledgers_are) moved;

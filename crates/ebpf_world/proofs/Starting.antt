@@ -17,7 +17,7 @@ use Rattle.ebpf_machine.proofs.Lists.ListLemmas.{get_push, get_push_cases}
 use Rattle.ebpf_machine.proofs.World.Owned.{owned_started}
 use Rattle.ebpf_world.specs.declared.fault.ApplyCode.{ApplyCode}
 use Rattle.ebpf_world.specs.declared.fault.ApplyCode.TheVariants as apply
-use Rattle.ebpf_world.specs.declared.passing.Object.{Object}
+use Rattle.ebpf_shelves.specs.declared.object.Object.{Object}
 use Rattle.ebpf_world.specs.declared.place.Place.{Place}
 use Rattle.ebpf_world.specs.declared.place.Place.TheVariants.{Home, Held, Shelved}
 use Rattle.ebpf_world.specs.Faults.{code_of}
@@ -138,7 +138,6 @@ started_tended kept s context r kinds first sound tended = record {
   known = tended.known;
   runs = All-push IsTended kept.runs r tended.runs (tended_first s context r first sound kinds);
   placed = placed_started kept r (ap slots_of first) tended.placed;
-  standing = tended.standing;
   shown = (
     started s context tended.shown.0,
     subst (λ (x : RunState Object). Shows (started s context tended.shown.0) (with_started kept x)) (sym first) (started_shows tended.shown.0 kept s context (kinds ∙ sym tended.shown.1.kinds) tended.shown.1),

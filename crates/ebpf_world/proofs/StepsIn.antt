@@ -17,8 +17,9 @@ use Rattle.ebpf_machine.specs.Shelves.{shelf_done, shelved_from}
 use Rattle.ebpf_machine.specs.Events.{Unasked, asking, asking_helper}
 use Rattle.ebpf_machine.specs.View.{RunView, effect_of_view}
 use Rattle.ebpf_machine.specs.Values.{Frame}
-use Rattle.ebpf_world.specs.declared.passing.Object.{Object}
-use Rattle.ebpf_world.specs.Passing.{IsOut, AreStanding, as_shelved, standing_on, out_of_kind, offers}
+use Rattle.ebpf_shelves.specs.declared.object.Object.{Object}
+use Rattle.ebpf_shelves.specs.Shelves.{as_shelved, standing_on}
+use Rattle.ebpf_world.specs.Passing.{IsOut, out_of_kind, offers}
 use Rattle.ebpf_world.specs.Shown.{run_seen}
 use Rattle.ebpf_world.specs.Stepping.{IsNewObject, IsStepped}
 
@@ -27,9 +28,9 @@ pub stepped_in : (o : Option ℕ) (lent freed was here : Option Object) (before 
     → IfNone o ((served : Served) × MayAnswer (offers was stood) r.pc (asking_in (run_seen r)) served × IsStep (λ x. x.slot) served (run_seen r) (run_seen t) r.held t.held old new
     × ((shelf : ℕ) (what : Option Shelved) → what ≡ standing_on stood shelf → shelf_done (shelved_from as_shelved r.held) (effect_of_view (run_seen r)) shelf what ≡ standing_on stand shelf))
     → ((h : Holding Object) → Contains r.held h → All (λ k. k.object.slot ≢ h.object.slot) t.held → IsOut here stand h.object → ⊥)
-    → IfSome freed IsNewObject → AreStanding freed after → IfNone o (IsStepped lent freed before after r t)
-stepped_in (Some n) lent freed was here before after stood stand r t old new l f b a outs outs_new step gone image standing = tt
-stepped_in None lent freed was here before after stood stand r t old new l f b a outs outs_new (served, may, step, follow) gone image standing = record {
+    → IfSome freed IsNewObject → IfNone o (IsStepped lent freed before after r t)
+stepped_in (Some n) lent freed was here before after stood stand r t old new l f b a outs outs_new step gone image = tt
+stepped_in None lent freed was here before after stood stand r t old new l f b a outs outs_new (served, may, step, follow) gone image = record {
   served = served;
   may = subst (λ (x : Option Object). MayAnswer (offers x before) r.pc (asking_in (run_seen r)) served) l (subst (λ (xs : List (Option Object)). MayAnswer (offers was xs) r.pc (asking_in (run_seen r)) served) b may);
   state = step.state;
@@ -43,7 +44,6 @@ stepped_in None lent freed was here before after stood stand r t old new l f b a
   gone = λ h among all out. gone h among all (subst (λ (x : Option Object). IsOut x stand h.object) f (subst (λ (xs : List (Option Object)). IsOut freed xs h.object) a out));
   image = image;
   shelves = λ shelf. ap (λ (xs : List (Option Object)). standing_on xs shelf) a ∙ sym (follow shelf (standing_on before shelf) (ap (λ (xs : List (Option Object)). standing_on xs shelf) (sym b)));
-  standing = standing;
 }
 
 pub new_object : (o : Option Object) → IfSome o (λ x. x.bytes.items ≡ image_at known_kinds x.kind) → IfSome o (λ x. x.kind < length known_kinds) → IfSome o IsNewObject

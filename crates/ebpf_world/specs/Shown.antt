@@ -8,14 +8,15 @@ use Rattle.ebpf_machine.specs.View.{RunView, view_in, slots_in}
 use Rattle.ebpf_machine.specs.RunState.{RunState, seen, slots_kept}
 use Rattle.ebpf_machine.specs.Sound.{IsSound, IsAlone, IsOwned}
 use Rattle.ebpf_machine.specs.Store.{AreOutBy}
-use Rattle.ebpf_world.specs.declared.passing.Object.{Object}
+use Rattle.ebpf_shelves.specs.declared.object.Object.{Object}
+use Rattle.ebpf_shelves.specs.Shelves.{slot_on, standing_on}
 use Rattle.ebpf_world.specs.declared.place.Place.{Place}
 use Rattle.ebpf_world.specs.declared.place.Place.TheVariants.{Home, Held, Shelved}
 use Rattle.ebpf_world.specs.declared.event.Event.{Event}
 use Rattle.ebpf_world.specs.declared.fault.ApplyFault.{ApplyFault}
 use Rattle.ebpf_world.specs.Events.{happened}
 use Rattle.ebpf_world.specs.Faults.{IsApplyFault}
-use Rattle.ebpf_world.specs.Passing.{IsOut, AreStanding, slot_on, standing_on}
+use Rattle.ebpf_world.specs.Passing.{IsOut}
 use Rattle.ebpf_world.specs.Places.{Places, place_at}
 
 -- the world as it is kept: the programs, the runs in the order of their starts, the slots of each kind, where each slot is, and the
@@ -79,7 +80,6 @@ pub record IsTendedWorld (kept : WorldState) : Type 0 where
   pub known : AreKnown kept.programs
   pub runs : All IsTended kept.runs
   pub placed : ArePlaced kept
-  pub standing : AreStanding None kept.shelves
   pub shown : (w : World) × Shows w kept
 
 -- ---- what calls say of it

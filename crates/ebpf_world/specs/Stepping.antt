@@ -15,10 +15,11 @@ use Rattle.ebpf_world.specs.declared.event.Answer.{Answer}
 use Rattle.ebpf_world.specs.declared.event.Answer.TheVariants.{Absent, Null, Slot}
 use Rattle.ebpf_world.specs.declared.fault.ApplyCode.{ApplyCode}
 use Rattle.ebpf_world.specs.declared.fault.ApplyCode.TheVariants.{SlotNotHome, SlotOfAnotherKind, AnswerUnasked, AnswerMissing, NoSuchProgramOrKind, WrongContext}
-use Rattle.ebpf_world.specs.declared.passing.Object.{Object}
+use Rattle.ebpf_shelves.specs.declared.object.Object.{Object}
+use Rattle.ebpf_shelves.specs.Shelves.{as_shelved, standing_on}
 use Rattle.ebpf_world.specs.declared.place.Place.{Place}
 use Rattle.ebpf_world.specs.declared.place.Place.TheVariants.{Home}
-use Rattle.ebpf_world.specs.Passing.{IsOut, AreStanding, as_shelved, standing_on, out_of_kind, offers}
+use Rattle.ebpf_world.specs.Passing.{IsOut, AreAway, out_of_kind, offers}
 use Rattle.ebpf_world.specs.Places.{Places, place_at}
 use Rattle.ebpf_world.specs.Shown.{run_seen, slots_of}
 
@@ -47,13 +48,13 @@ IsFor blank name parts = (blank.name ≡ name) × (blank.parts ≡ parts) × (pa
 abbrev pub IsNewObject : Object → Type 0
 IsNewObject o = (o.bytes.items ≡ image_at known_kinds o.kind) × (o.kind < length known_kinds)
 
--- an object can be lent to a run: it has its image and is none of the run's own, and the run asks for one; the shelves are in order,
--- and what stands there is neither
+-- an object can be lent to a run: it has its image and is none of the run's own, and the run asks for one; what stands on the shelves is
+-- neither
 pub record CanLend (lent : Option Object) (shelves : List (Option Object)) (r : RunState Object) : Type 0 where
   pub image : IfSome lent IsNewObject
   pub out : AreOutBy (IsOut lent shelves) (λ o. o.kind) (λ o. o.slot) r.held
   pub asked : asking_in (run_seen r) ≡ Unasked → lent ≡ None
-  pub standing : AreStanding lent shelves
+  pub away : AreAway lent shelves
 
 -- what stands on a shelf after its instruction, where these objects stood on the shelves
 abbrev pub standing_next : RunState Object → List (Option Object) → ℕ → Option Shelved
@@ -69,7 +70,6 @@ pub record IsStepped (lent freed : Option Object) (old new : List (Option Object
   pub gone : (h : Holding Object) → Contains r.held h → All (λ k. k.object.slot ≢ h.object.slot) t.held → IsOut freed new h.object → ⊥
   pub image : IfSome freed IsNewObject
   pub shelves : (shelf : ℕ) → standing_on new shelf ≡ standing_next r old shelf
-  pub standing : AreStanding freed new
 
 -- ---- the code of a start that is not legal
 

@@ -4,7 +4,7 @@ ghost use Rattle.std.specs.Prelude.{◌≡◌, ℕ, IfSome, IsSome, option_copie
 ghost use Rattle.ebpf_world.specs.Places.{place_at, is_home_of, IsLendable, lent_by, place_lent, place_returned, place_set, place_exchanged};
 
 use crate::event::Answer;
-use crate::passing::Object;
+use ebpf_shelves::object::Object;
 use std::collections::BTreeMap;
 use std::mem;
 

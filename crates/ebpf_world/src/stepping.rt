@@ -6,10 +6,12 @@ ghost use Rattle.ebpf_world.specs.Stepping.{slot_code, start_code, code_by, CanL
 
 use crate::event::Answer;
 use crate::fault::ApplyCode;
-use crate::passing::{Object, Passing};
+use crate::passing::Passing;
 use crate::place::Place;
 use ebpf_machine::run::Run;
 use ebpf_machine::tally::Tally;
+use ebpf_shelves::object::Object;
+use ebpf_shelves::shelves::Shelves;
 use ebpf_verify::verified::Verified;
 use std::collections::BTreeMap;
 use std::sync::ledger::{Blank, Ledger};
@@ -86,9 +88,9 @@ pub(crate) fn new_blanks() -> Blanks
 pub(crate) fn step_in<G: Ledger, N: Ledger, F: Ledger, M: Ledger>(
     run: &mut Run<Object>,
     lent: Option<Object>,
-    shelves: [Option<Object>; 3],
+    shelves: Shelves,
     blanks: Blanks,
-) -> (Option<Object>, [Option<Object>; 3])
+) -> (Option<Object>, Shelves)
     requires grants { IsFor blanks.grants G.name G.parts }
     requires nulls { IsFor blanks.nulls N.name N.parts }
     requires gets { IsFor blanks.gets F.name F.parts }

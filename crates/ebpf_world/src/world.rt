@@ -25,11 +25,13 @@ ghost use Rattle.ebpf_state.specs.Ascending.{IsAscending};
 use crate::event::{Answer, Event};
 use crate::fault::{ApplyCode, ApplyFault};
 use crate::ledger::{Ledger, join, leave};
-use crate::passing::{Object, bytes_on, slot_on, slot_reached};
+use crate::passing::slot_reached;
 use crate::place::{Place, exchange, is_home_of, lend, put};
 use crate::stepping::{answer_fault, new_blanks, start_fault, step_in};
 use ebpf_machine::context::Context;
 use ebpf_machine::run::{Run, StartFault};
+use ebpf_shelves::object::Object;
+use ebpf_shelves::shelves::Shelves;
 use ebpf_verify::verified::Verified;
 use std::alloc::{AllocError, Global};
 use std::collections::BTreeMap;
@@ -53,7 +55,7 @@ pub struct World<'v> {
     runs: Vec<Run<'v, Object>>,
     ledgers: [Ledger; 3],
     places: BTreeMap<u32, Place>,
-    shelves: [Option<Object>; 3],
+    shelves: Shelves,
 }
 
 impl<'v> Model for World<'v> {
@@ -83,7 +85,7 @@ impl<'v> World<'v> {
             runs: Vec::new(alloc),
             ledgers: [Ledger::new(alloc), Ledger::new(alloc), Ledger::new(alloc)],
             places: BTreeMap::new(alloc),
-            shelves: [None, None, None],
+            shelves: Shelves::empty(),
         })
     }
 
@@ -175,7 +177,7 @@ impl<'v> World<'v> {
         let reached = run.reaches();
         let stood = slot_reached(&self.shelves, reached);
         let lent = lend(&mut self.places, answer, number, at);
-        let shelves = mem::replace(&mut self.shelves, [None, None, None]);
+        let shelves = mem::replace(&mut self.shelves, Shelves::empty());
         let (freed, shelves) = step_in::<Brand, Brand, Brand, Brand>(
             run,
             lent,
@@ -290,7 +292,7 @@ impl<'v> World<'v> {
     pub fn shelf(&self, shelf: u8) -> Option<u32>
         ensures { OfWorld self.now (λ w. result ≡ shelf_in w shelf) }
     {
-        slot_on(&self.shelves, shelf)
+        self.shelves.slot_on(shelf)
     }
 
     /// The bytes of a slot; `None` where it is in no ledger.
@@ -300,7 +302,7 @@ impl<'v> World<'v> {
         match self.places.get(&slot)? {
             Place::Home(object) => Some(&object.bytes),
             Place::Held { run, at } => Some(&self.runs[*run].object(*at)?.bytes),
-            Place::Shelved { shelf } => bytes_on(&self.shelves, *shelf),
+            Place::Shelved { shelf } => self.shelves.bytes_on(*shelf),
         }
     }
 

@@ -51,6 +51,8 @@ mod run;
 #[cfg(test)]
 mod script;
 #[cfg(test)]
+mod shelves;
+#[cfg(test)]
 mod state;
 #[cfg(test)]
 mod streams;

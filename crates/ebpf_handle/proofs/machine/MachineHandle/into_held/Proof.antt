@@ -16,7 +16,7 @@ use denote.Signature.{types_at, plain}
 use denote.Steps.{nothing}
 use denote.Triple.Walked.{Stays, stay_dropped, walk_of, Goes-dropped}
 use Rattle.std.proofs.raw_atomic.Walks.{proved_at, leaves}
-use Rattle.c_handle.proofs.Values.{pointer_good, word, word_good, Held, held_out, held_in}
+use Rattle.ebpf_handle.proofs.Values.{pointer_good, word, word_good, Held, held_out, held_in}
 use Rattle.ebpf_host.specs.contracts.machine.Machine.{the_row as Machine}
 use Rattle.ebpf_handle.specs.contracts.machine.MachineHandle.{the_row as MachineHandle}
 use Rattle.ebpf_handle.specs.contracts.machine.MachineHandle.into_held.{ended, clauses}

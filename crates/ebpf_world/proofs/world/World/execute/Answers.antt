@@ -3,7 +3,7 @@ use Rattle.std.specs.Prelude.{is_some}
 use Rattle.std.proofs.lemmas.Option.{slice_get_past, slice_get_read}
 use Rattle.std.proofs.lemmas.List.Elements.{All-set}
 use Rattle.ebpf_machine.specs.Events.{NoSuchRun, RunEnded}
-use Rattle.ebpf_world.specs.declared.passing.Object.{Object}
+use Rattle.ebpf_shelves.specs.declared.object.Object.{Object}
 use Rattle.ebpf_world.specs.Places.{lent_by, place_lent}
 use Rattle.ebpf_world.specs.Shown.{IsTended}
 use Rattle.ebpf_world.specs.Stepping.{code_by, CanLend}
@@ -45,7 +45,7 @@ step_in-freed-requires-clause-lends c =
     let at = slice_get_read c.self.inside.runs.items _ c.args.run r refl (omega arith) c.index_mut-run.ensures.value in
     let tended = at_number IsTended c.self.inside.runs.items c.args.run r c.self.invariant.runs at in
     let fine = ap (code_by c.self.inside.places.entries c.args.answer) (sym c.wants.ensures) ∙ sym c.answer_fault.ensures ∙ c.in_default.is in
-    subst (λ (l : Option Object). CanLend l c.replace-shelves.result r) (sym c.lend-lent.ensures.object) (subst (λ (s : List (Option Object)). CanLend (lent_by c.args.answer c.self.inside.places.entries) s r) (sym c.replace-shelves.ensures.value) (can_lend _ c.args.run c.args.answer r c.self.invariant.placed c.self.invariant.standing tended at fine))
+    subst (λ (l : Option Object). CanLend l c.replace-shelves.result r) (sym c.lend-lent.ensures.object) (subst (λ (s : List (Option Object)). CanLend (lent_by c.args.answer c.self.inside.places.entries) s r) (sym c.replace-shelves.ensures.value) (can_lend _ c.args.run c.args.answer r c.self.invariant.placed tended at fine))
 
 -- it is one instruction of this run, in the world that is kept
 pub put-requires : goal.put-requires
@@ -81,7 +81,6 @@ invariant_of-self-2 c =
       known = c.self.invariant.known;
       runs = All-set IsTended c.self.inside.runs.items c.args.run t c.step_in-freed.ensures.tended c.self.invariant.runs;
       placed = placed_after w.0 _ c.args.run c.args.answer r t c.step_in-freed.result.0 _ c.put.new.places.entries c.exchange.new.places.entries w.1 i m;
-      standing = record { fit = i.step.standing.fit; apart = i.step.standing.apart; away = λ shelf o p on is. absurd (cc) };
       shown = (after.after, after.shows c.exchange.new.places.entries);
     }
 

@@ -1,0 +1,120 @@
+//! Machines, as C makes them, runs programs on them, and frees them.
+
+ghost use Rattle.std.specs.Prelude.{◌≡◌, ◌≢◌, ◌⊎◌, ◌<◌, ℕ, None, length};
+ghost use Rattle.std.specs.Option.{MatchOption};
+ghost use Rattle.vmem_arena.specs.declared.arena.TheConstants.{MAX_PAGES};
+ghost use Rattle.ebpf_host.specs.Stocks.{stock_of};
+ghost use Rattle.ebpf_host_c.specs.Told.{IsReportTold};
+
+use crate::status::{CONTEXT, DONE, EMPTY, NO_MEMORY, PAGES};
+use crate::told::{Reported, tell_report};
+use ebpf_handle::machine::MachineHandle;
+use ebpf_handle::program::ProgramHandle;
+use ebpf_host::machine::Machine;
+use ebpf_host::program::Program;
+use ebpf_machine::run::StartFault;
+use std::alloc::Global;
+use vmem_arena::ArenaFault;
+
+/// Makes a machine whose objects lie on up to so many pages, and frees what the handle held before.
+#[unsafe(no_mangle)]
+pub extern "C" fn ebpf_machine_new(alloc: Global, machine: &mut MachineHandle, pages: u32) -> u32
+    ensures made { result ≡ 0 → MatchOption machine.new.value ⊥ (λ m. (m.arena.pages ≡ pages) × ((kind : ℕ) → (stock_of m kind).shelf ≡ None)) }
+    ensures pages { result ≡ 3 → (pages ≡ 0) ⊎ (MAX_PAGES < pages) }
+    ensures statuses { (result ≡ 0) ⊎ (result ≡ 3) ⊎ (result ≡ 6) }
+    ensures kept { result ≢ 0 → machine.new.value ≡ machine.old.value }
+{
+    match Machine::new(alloc, pages) {
+        Ok(made) => match Box::new(alloc, made) {
+            Ok(boxed) => {
+                machine.put(alloc, boxed);
+                DONE
+            }
+            Err(_) => NO_MEMORY,
+        },
+        Err(ArenaFault::Pages) => PAGES,
+        Err(ArenaFault::NoMemory) => NO_MEMORY,
+    }
+}
+
+/// Frees a machine with all its objects. The handle holds nothing then, and may be freed again.
+#[unsafe(no_mangle)]
+pub extern "C" fn ebpf_machine_free(alloc: Global, machine: &mut MachineHandle)
+    ensures { machine.new.value ≡ None }
+{
+    drop(machine.take(alloc));
+}
+
+/// Gives the pages of a machine on which there is no object that is held or stands on a shelf back to its arena.
+#[unsafe(no_mangle)]
+pub extern "C" fn ebpf_machine_reap(alloc: Global, machine: &mut MachineHandle) -> u32
+    ensures told { MatchOption machine.old.value (result ≡ 5) (λ _. result ≡ 0) }
+    ensures shelves { MatchOption machine.old.value (machine.new.value ≡ None) (λ old. MatchOption machine.new.value ⊥ (λ new. (kind : ℕ) → (stock_of new kind).shelf ≡ (stock_of old kind).shelf)) }
+    ensures pages { MatchOption machine.old.value (machine.new.value ≡ None) (λ old. MatchOption machine.new.value ⊥ (λ new. new.arena.pages ≡ old.arena.pages)) }
+{
+    match machine.take(alloc) {
+        None => EMPTY,
+        Some(mut held) => {
+            held.reap();
+            machine.put(alloc, held);
+            DONE
+        }
+    }
+}
+
+/// Runs a program on a context, `limit` instructions at most, and tells what it did: by `report`, and its output by `output`, as far as
+/// there is room.
+#[unsafe(no_mangle)]
+pub extern "C" fn ebpf_machine_run(
+    alloc: Global,
+    machine: &mut MachineHandle,
+    program: &mut ProgramHandle,
+    context: &[u8],
+    limit: u64,
+    output: &mut [u64],
+    report: &mut Reported,
+) -> u32
+    ensures report { result ≡ 0 → MatchOption program.old.value ⊥ (λ p. MatchOption machine.old.value ⊥ (λ old. MatchOption machine.new.value ⊥ (λ new. IsReportTold old new p.verified context.now limit output.old output.new report.new))) }
+    ensures pages { MatchOption machine.old.value (machine.new.value ≡ None) (λ old. MatchOption machine.new.value ⊥ (λ new. new.arena.pages ≡ old.arena.pages)) }
+    ensures unchanged { result ≢ 0 → machine.new.value ≡ machine.old.value }
+    ensures context { result ≡ 4 → MatchOption program.old.value ⊥ (λ p. length context.now ≢ p.verified.decl.context) }
+    ensures empty { MatchOption machine.old.value (result ≡ 5) (λ _. MatchOption program.old.value (result ≡ 5) (λ _. (result ≡ 0) ⊎ (result ≡ 4) ⊎ (result ≡ 6))) }
+    ensures kept { program.new.value ≡ program.old.value }
+{
+    let Some(mut held) = machine.take(alloc) else {
+        return EMPTY;
+    };
+    let Some(loaded) = program.take(alloc) else {
+        machine.put(alloc, held);
+        return EMPTY;
+    };
+    let status = run_held(&mut held, &loaded, context, limit, output, report);
+    machine.put(alloc, held);
+    program.put(alloc, loaded);
+    status
+}
+
+// The same with what the handles hold.
+fn run_held(
+    machine: &mut Machine,
+    program: &Program,
+    context: &[u8],
+    limit: u64,
+    output: &mut [u64],
+    report: &mut Reported,
+) -> u32
+    ensures report { result ≡ 0 → IsReportTold machine.old machine.new program.now.verified context.now limit output.old output.new report.new }
+    ensures pages { machine.new.arena.pages ≡ machine.old.arena.pages }
+    ensures unchanged { result ≢ 0 → machine.new ≡ machine.old }
+    ensures context { result ≡ 4 → length context.now ≢ program.now.verified.decl.context }
+    ensures statuses { (result ≡ 0) ⊎ (result ≡ 4) ⊎ (result ≡ 6) }
+{
+    match machine.run(program, context, limit) {
+        Ok(done) => {
+            tell_report(&done, output, report);
+            DONE
+        }
+        Err(StartFault::ContextLength) => CONTEXT,
+        Err(StartFault::NoMemory) => NO_MEMORY,
+    }
+}

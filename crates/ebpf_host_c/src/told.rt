@@ -1,0 +1,136 @@
+//! What C is told: why bytes are refused, and what a run did.
+
+ghost use Rattle.std.specs.Prelude.{◌≡◌, [], ◌∷◌, filter, is_some, length, string_bytes, unwrap_or};
+ghost use Rattle.ebpf_machine.specs.Whole.{is_granted, is_null, is_fetched, is_empty};
+ghost use Rattle.ebpf_command.specs.Codes.{refusal_name};
+ghost use Rattle.ebpf_host_c.specs.Told.{copied};
+
+use ebpf_host::refusal::Refusal;
+use ebpf_machine::report::{Reply, Report};
+
+/// Why bytes are refused.
+#[repr(C)]
+#[derive(Drop)]
+pub struct Refused {
+    /// The letter of the stage that refuses them, `I`, `F` or `V`, and the digits behind it; zero where there is none.
+    pub code: [u8; 4],
+    /// The lowest slot that is at fault.
+    pub slot: u32,
+    /// How many bytes the sentence has.
+    pub length: u64,
+}
+
+/// What a run did.
+#[repr(C)]
+#[derive(Drop)]
+pub struct Reported {
+    /// The number that it returned, 0 where it was given up.
+    pub exit: u64,
+    /// How many instructions it did.
+    pub executed: u64,
+    /// The most objects that it held at one time.
+    pub peak: u64,
+    /// How many numbers it added to its output.
+    pub outputs: u64,
+    /// How many calls of `new` were granted an object.
+    pub granted: u64,
+    /// How many calls of `new` were answered null.
+    pub refused: u64,
+    /// How many calls of `swap` found an object on the shelf.
+    pub fetched: u64,
+    /// How many calls of `swap` found nothing there.
+    pub missed: u64,
+    /// Whether it exited within the limit.
+    pub exited: bool,
+}
+
+// Copies as many items as there is room for.
+fn copy<T: Copy>(items: &[T], room: &mut [T])
+    ensures { room.new ≡ copied items.now room.old }
+{
+    if items.len() <= room.len() {
+        room[..items.len()].copy_from_slice(items);
+    } else {
+        room.copy_from_slice(&items[..room.len()]);
+    }
+}
+
+/// Tells a refusal.
+pub(crate) fn tell_refusal(refusal: Refusal, text: &mut [u8], refused: &mut Refused)
+    ensures code { refused.new.code ≡ copied (refusal_name refusal.code) (0 ∷ 0 ∷ 0 ∷ 0 ∷ []) }
+    ensures slot { refused.new.slot ≡ refusal.slot }
+    ensures length { refused.new.length ≡ length (string_bytes refusal.sentence) }
+    ensures sentence { text.new ≡ copied (string_bytes refusal.sentence) text.old }
+{
+    let name = refusal.code.name().as_bytes();
+    let mut code = [0; 4];
+    copy(name, &mut code);
+    let sentence = refusal.sentence.as_bytes();
+    copy(sentence, text);
+    *refused = Refused {
+        code,
+        slot: u32::from(refusal.slot),
+        length: sentence.len() as u64,
+    };
+}
+
+// How many replies there are of each kind.
+#[derive(Clone, Copy)]
+struct Counts {
+    granted: usize,
+    refused: usize,
+    fetched: usize,
+    missed: usize,
+}
+
+fn counts_of(replies: &[Reply]) -> Counts
+    ensures granted { result.granted ≡ length (filter is_granted replies.now) }
+    ensures refused { result.refused ≡ length (filter is_null replies.now) }
+    ensures fetched { result.fetched ≡ length (filter is_fetched replies.now) }
+    ensures missed { result.missed ≡ length (filter is_empty replies.now) }
+{
+    let (mut granted, mut refused, mut fetched, mut missed) = (0, 0, 0, 0);
+    for reply in replies {
+        match reply {
+            Reply::Granted => granted += 1,
+            Reply::Null => refused += 1,
+            Reply::Shelf => fetched += 1,
+            Reply::Empty => missed += 1,
+        }
+    }
+    Counts {
+        granted,
+        refused,
+        fetched,
+        missed,
+    }
+}
+
+/// Tells a report.
+pub(crate) fn tell_report(done: &Report, output: &mut [u64], report: &mut Reported)
+    ensures numbers { output.new ≡ copied done.now.output output.old }
+    ensures exited { report.new.exited ≡ is_some done.now.exit }
+    ensures exit { report.new.exit ≡ unwrap_or done.now.exit 0 }
+    ensures executed { report.new.executed ≡ done.now.executed }
+    ensures peak { report.new.peak ≡ done.now.peak }
+    ensures outputs { report.new.outputs ≡ length done.now.output }
+    ensures granted { report.new.granted ≡ length (filter is_granted done.now.answers) }
+    ensures refused { report.new.refused ≡ length (filter is_null done.now.answers) }
+    ensures fetched { report.new.fetched ≡ length (filter is_fetched done.now.answers) }
+    ensures missed { report.new.missed ≡ length (filter is_empty done.now.answers) }
+{
+    let numbers = &done.output.numbers;
+    copy(numbers, output);
+    let counts = counts_of(&done.answers.replies);
+    *report = Reported {
+        exit: done.exit.unwrap_or(0),
+        executed: done.executed,
+        peak: done.peak,
+        outputs: numbers.len() as u64,
+        granted: counts.granted as u64,
+        refused: counts.refused as u64,
+        fetched: counts.fetched as u64,
+        missed: counts.missed as u64,
+        exited: done.exit.is_some(),
+    };
+}

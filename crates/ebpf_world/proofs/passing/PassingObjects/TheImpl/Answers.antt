@@ -1,0 +1,24 @@
+-- An exchange keeps the laws of swap.
+use Rattle.std.proofs.Common.{refl}
+use Rattle.ebpf_shelves.proofs.Shelving.{fetched, missed, left, left_elsewhere}
+use Rattle.ebpf_world.proofs.Shelving.{swapped}
+use Rattle.ebpf_world.proofs.passing.PassingObjects.TheImpl.Goals as goal
+
+pub swap-tells : goal.swap-tells
+swap-tells g c =
+    let e = c.ensures in
+    let x = e.exchanged in
+    let s = swapped c.args.self.now.object c.new.self.now.object e.object x c.args.self.now.away in record {
+      fetched = fetched x;
+      missed = missed x;
+      out = s.out;
+      apart = s.apart;
+      takes = e.takes;
+      fetched_count = e.fetched;
+      missed_count = e.missed;
+      outs = s.counted;
+      gone = s.gone;
+      shelf = left x;
+      other_shelves = left_elsewhere x;
+      others = λ other out ne. (s.others other out ne, refl);
+    }
