@@ -1,11 +1,13 @@
 -- The run in a world of its own goes on as the run over its store does, to the end that is reported.
-use Rattle.std.proofs.Common.{◌≡◌, ℕ, zero, suc, ◌+◌, ◌-◌, ◌<◌, ◌≤◌, max, Bool, true, false, List, [], ◌∷◌, length, map, Option, Some, None, Result, Ok, Err, refl, sym, ap, ◌∙◌, subst, arith}
+use Rattle.std.proofs.Common.{◌≡◌, ℕ, zero, suc, ◌+◌, ◌-◌, ◌<◌, ◌≤◌, max, Bool, true, false, cond, List, [], ◌∷◌, length, map, Option, Some, None, Result, Ok, Err, refl, sym, ap, ◌∙◌, subst, arith}
 use Rattle.std.specs.Prelude.{IfSome, slice_get}
 use Rattle.std.specs.List.{list_any}
 use Rattle.std.proofs.lemmas.List.{length-map}
+use Rattle.std.proofs.lemmas.List.Sums.{sum_by-append}
 use Rattle.ebpf_insn.specs.Program.{instructions}
 use Rattle.ebpf_state.specs.declared.kinds.KindRow.{KindRow}
 use Rattle.ebpf_verify.specs.Subject.{Subject}
+use Rattle.ebpf_machine.specs.declared.report.Reply.{Reply}
 use Rattle.ebpf_machine.specs.declared.report.Report.{Report}
 use Rattle.ebpf_machine.specs.World.{World, Running, Going, Exited, kinds_of, held_by, holds_of, is_in, shelved_in}
 use Rattle.ebpf_machine.specs.Events.{Illegal, RunEnded, Asking, Unasked, OfNoKind, OfKind, AtShelf, answer_fault, asking_of, exec}
@@ -14,14 +16,14 @@ use Rattle.ebpf_machine.specs.View.{RunView, object_in, view_of, view_in, effect
 use Rattle.ebpf_machine.specs.RunState.{RunState, first_state_of, seen, status_of}
 use Rattle.ebpf_machine.specs.Store.{Store}
 use Rattle.ebpf_machine.specs.Sound.{IsSound, IsAlone}
-use Rattle.ebpf_machine.specs.Step.{FitsShelf, Served, answer_for, refused_in, result_of, asking_in, seen_in}
-use Rattle.ebpf_machine.specs.Turns.{IsTurn, AreTurns, AreTurnsWithin}
-use Rattle.ebpf_machine.specs.Whole.{granted}
+use Rattle.ebpf_machine.specs.Step.{FitsShelf, Served, answer_for, told_by, result_of, asking_in, seen_in}
+use Rattle.ebpf_machine.specs.Turns.{IsTurn, AreTurns, AreTurnsWithin, IsEnded}
+use Rattle.ebpf_machine.specs.Whole.{granted, refused, is_granted}
 use Rattle.ebpf_machine.proofs.World.Asking.{asking_seen}
 use Rattle.ebpf_machine.proofs.World.Execs.{IsNextWorld, next_world, shown_run}
 use Rattle.ebpf_machine.proofs.World.Lone.{after_none, none_more, outcome_exited, peak_stepped, served_fits_shelf}
 use Rattle.ebpf_machine.proofs.World.Owned.{owned_first}
-use Rattle.ebpf_machine.proofs.WholeRuns.Told.{HaveSizes, IsUnderWay, under_way}
+use Rattle.ebpf_machine.proofs.WholeRuns.Told.{HaveSizes, IsReadyIn, IsUnderWay, told_turn, under_way}
 use Rattle.ebpf_machine.proofs.WholeRuns.Turning.{exits, few_instructions}
 use Rattle.ebpf_one.specs.Reports.{IsReportWith}
 use Rattle.ebpf_one.specs.Solo.{next_slot, provided, solo_after, solo_by, solo_next}
@@ -65,14 +67,13 @@ module _ {S H : Type 0} (o : Store S H) (s new : S) (r t : RunState H) (a : Alon
       ∙ sym (peak_stepped v (result_of served) sound alone goes fits)
       ∙ (λ i. (alone_after (sym turn.counted i) (sym turn.same.0 i) (sym turn.same.1 i) (replies_of (sym state i))).peak)
 
-  pub shows_next : IsShown o s r a → IsShown o new t (advanced (exec f.world 0 f.answer) a)
-  shows_next was = by shown where
+  pub shows_next : IsShown o s r a → granted t.replies ≡ granted r.replies + granted (told_by served) → IsShown o new t (advanced (exec f.world 0 f.answer) a)
+  shows_next was more = by shown where
     by : (x : Running) × (slice_get f.world.runs 0 ≡ Some x) × (view_of f.world 0 x ≡ v) → IsShown o new t (advanced (exec f.world 0 f.answer) a)
     by (x, there, seen) =
         let n = next x there seen in
         let legal : exec f.world 0 (answer_for served) ≡ Ok n.0 = ap (exec f.world 0) (sym p.answer) ∙ n.1.legal in
         let event = turn.step.2.event f.world n.0 0 p.owned p.view p.slots p.serves legal in
-        let more = turn.step.2.counts.grants in
         subst (λ (result : Result World Illegal). IsShown o new t (advanced result a)) (sym n.1.legal) (record {
           owned = n.1.owned;
           view = event.0;
@@ -107,54 +108,53 @@ starts_alone {H} bytes subject context r first = subst (λ (x : RunState H). IsA
 
 -- ---- instruction after instruction
 
--- a run begins over a store that answers so, granted nothing, and has nothing on its shelves
-pub record IsBegun {S H : Type 0} (o : Store S H) (nulls : Bool) (first : S) (subject : Subject) (context : List ℕ) (r : RunState H) : Type 0 where
-  pub so : AnswersSo o nulls
+-- a run begins over a store that answers so, granted nothing, and has nothing on its shelves; where the store is fine in the end, it was so
+-- all the time, and refused no call that was to be granted
+pub record IsBegun {S H : Type 0} (o : Store S H) (IsFine : S → Type 0) (nulls : Bool) (first : S) (subject : Subject) (context : List ℕ) (r : RunState H) : Type 0 where
+  pub so : (told : List Reply) (s : S) → o.goes first told s → AnswersSo o nulls (granted told) s
+  pub ample : (s t : S) (told : List Reply) → o.goes s told t → IsFine t → IsFine s × (nulls ≡ false → refused told ≡ 0)
   pub sizes : (s : S) → HaveSizes o s
   pub kinds : o.kinds ≡ kinds_of subject.rows
-  pub none : o.grants first ≡ 0
   pub bare : (shelf : ℕ) → o.stand first shelf None
   pub is : r ≡ first_state_of subject context
   pub starts : IsUnderWay o first first subject context r
 
-module _ {S H : Type 0} (o : Store S H) (nulls : Bool) (first : S) (subject : Subject) (context : List ℕ) (r : RunState H) (begun : IsBegun o nulls first subject context r) where
-  -- the store refused no call that was to be granted
-  abbrev IsAmple : S → Type 0
-  IsAmple s = nulls ≡ false → o.nulls s ≡ 0
-
-  one_more : (s new : S) (between t : RunState H) (a : Alone) → IsUnderWay o first s subject context between → IsShown o s between a → (turn : IsTurn o between t s new) → IsAmple new → IsShown o new t (solo_next nulls a)
-  one_more s new between t a was shown turn ample = by (shown_run a.world 0 v shown.view) where
+module _ {S H : Type 0} (o : Store S H) (IsFine : S → Type 0) (nulls : Bool) (first : S) (subject : Subject) (context : List ℕ) (r : RunState H) (begun : IsBegun o IsFine nulls first subject context r) where
+  one_more : (s new : S) (between t : RunState H) (a : Alone) → IsUnderWay o first s subject context between → IsShown o s between a → (turn : IsTurn o between t s new) → IsFine new → IsShown o new t (solo_next nulls a)
+  one_more s new between t a was shown turn fine = by (shown_run a.world 0 v shown.view) where
     v : RunView
     v = seen_in o s between
 
-    none_refused : nulls ≡ false → refused_in turn.step.0 ≡ 0
-    none_refused e = let none = ample e in let counts = turn.step.2.counts.nulls in omega (arith, none, counts)
+    given : IsProvided o s between turn.step.0 (provided (asking_in v) nulls (granted between.replies) a.world)
+    given =
+        provides o nulls s between a turn.step.0 (begun.so between.replies s was.told) shown was.sound (ap status_of turn.going) turn.step.1
+        (begun.ample s new (told_by turn.step.0) turn.step.2.store.goes fine).1
 
-    given : IsProvided o s between turn.step.0 (provided (asking_in v) nulls (o.grants s) a.world)
-    given = provides o nulls s between a turn.step.0 begun.so shown was.sound (ap status_of turn.going) turn.step.1 none_refused
+    ready : IsReadyIn o s between
+    ready = record { out = was.out; sound = was.sound; alone = was.alone; kinds = begun.kinds ∙ ap (λ (x : Subject). kinds_of x.rows) (sym was.subject_is) }
+
+    more : granted t.replies ≡ granted between.replies + granted (told_by turn.step.0)
+    more =
+        ap (λ (rs : List Reply). granted rs) (told_turn o s new between t (begun.sizes s) ready turn)
+        ∙ sum_by-append (λ (x : Reply). cond (is_granted x) 1 0) between.replies (told_by turn.step.0)
 
     by : (x : Running) × (slice_get a.world.runs 0 ≡ Some x) × (view_of a.world 0 x ≡ v) → IsShown o new t (solo_next nulls a)
     by (x, there, seen) =
         let asked : asking_of a.world x ≡ asking_in v = asking_seen a.world 0 x shown.owned there ∙ ap asking_in seen in
-        let told : next_slot x ≡ granted between.replies = ap (λ (u : RunView). granted u.replies) seen in
-        let slot : next_slot x ≡ o.grants s = told ∙ (let counts = was.counted.told.granted_are in let none = begun.none in omega (arith, counts, none)) in
-        let same : provided (asking_in v) nulls (o.grants s) a.world ≡ provided (asking_of a.world x) nulls (next_slot x) a.world = λ i. provided (sym asked i) nulls (sym slot i) a.world in
-        let after = shows_next o s new between t a turn (provided (asking_of a.world x) nulls (next_slot x) a.world) (subst (IsProvided o s between turn.step.0) same given) was.sound was.alone shown in
+        let slot : next_slot x ≡ granted between.replies = ap (λ (u : RunView). granted u.replies) seen in
+        let same : provided (asking_in v) nulls (granted between.replies) a.world ≡ provided (asking_of a.world x) nulls (next_slot x) a.world = λ i. provided (sym asked i) nulls (sym slot i) a.world in
+        let after = shows_next o s new between t a turn (provided (asking_of a.world x) nulls (next_slot x) a.world) (subst (IsProvided o s between turn.step.0) same given) was.sound was.alone shown more in
         subst (λ (running : Option Running). IsShown o new t (solo_by running nulls a)) (sym there) after
 
-  -- it was so before the last instruction too
-  ample_before : (s new : S) (between t : RunState H) → IsTurn o between t s new → IsAmple new → IsAmple s
-  ample_before s new between t turn ample e = let none = ample e in let counts = turn.step.2.counts.nulls in omega (arith, none, counts)
-
-  pub shows_after : (number : ℕ) (new : S) (t : RunState H) → AreTurns o number r t first new → IsAmple new → IsShown o new t (solo_after number subject context nulls)
+  pub shows_after : (number : ℕ) (new : S) (t : RunState H) → AreTurns o number r t first new → IsFine new → IsShown o new t (solo_after number subject context nulls)
   unfolding solo_after
-  shows_after zero new t turns ample =
+  shows_after zero new t turns fine =
       let from_first = shows_first o first subject context begun.bare in
       subst (λ (x : RunState H). IsShown o new x (alone_first subject context)) (sym (turns.0 ∙ begun.is)) (subst (λ (x : S). IsShown o x (first_state_of subject context) (alone_first subject context)) (sym turns.1) from_first)
-  shows_after (suc number) new t turns ample =
-      let before = shows_after number turns.store turns.run turns.before (ample_before turns.store new turns.run t turns.last ample) in
+  shows_after (suc number) new t turns fine =
+      let before = shows_after number turns.store turns.run turns.before (begun.ample turns.store new (told_by turns.last.step.0) turns.last.step.2.store.goes fine).0 in
       let was = under_way o first first turns.store subject context number r turns.run begun.sizes begun.kinds begun.starts turns.before in
-      one_more turns.store new turns.run t (solo_after number subject context nulls) was before turns.last ample
+      one_more turns.store new turns.run t (solo_after number subject context nulls) was before turns.last fine
 
 -- ---- once it has exited
 
@@ -181,18 +181,9 @@ stays_after (suc more) number subject context nulls x n there ended =
 
 -- ---- the report
 
--- what is found out where a run ends
-pub record IsReported {H : Type 0} (t : RunState H) (report : Report) : Type 0 where
-  pub exit : report.exit ≡ t.exit
-  pub output : report.output ≡ t.output
-  pub executed : report.executed ≡ t.executed
-  pub answers : report.answers ≡ t.replies
-  pub taken : report.taken ≡ t.taken
-  pub alone : IfSome t.exit (λ m. outcome_alone t.subject t.context (replies_in report) ≡ outcome_in_report m report)
-
 -- the most objects that it held are those that the run alone did
-reported_peak : {S H : Type 0} (o : Store S H) (s : S) (t : RunState H) (n : ℕ) (report : Report) → t.exit ≡ Some n → IsReported t report → IsSound (seen_in o s t) → IsAlone (seen_in o s t) → report.peak ≡ (alone_after t.executed t.subject t.context (replies_from t.replies t.taken)).peak
-reported_peak o s t n report exited is sound alone =
+reported_peak : {S H : Type 0} (o : Store S H) (s after : S) (t : RunState H) (n : ℕ) (report : Report) → t.exit ≡ Some n → IsEnded o t report s after → IsSound (seen_in o s t) → IsAlone (seen_in o s t) → report.peak ≡ (alone_after t.executed t.subject t.context (replies_from t.replies t.taken)).peak
+reported_peak o s after t n report exited is sound alone =
     let v = seen_in o s t in
     let replies : replies_in report ≡ replies_of v = λ i. replies_from (is.answers i) (is.taken i) in
     let told : outcome_alone t.subject t.context (replies_in report) ≡ outcome_in_report n report = subst (λ (e : Option ℕ). IfSome e (λ m. outcome_alone t.subject t.context (replies_in report) ≡ outcome_in_report m report)) exited is.alone in
@@ -200,9 +191,9 @@ reported_peak o s t n report exited is sound alone =
     ap (λ (out : Outcome). out.peak) (sym told ∙ ap (outcome_alone t.subject t.context) (replies ∙ sym (none_more (replies_of v))) ∙ ends)
 
 -- so the report of a run that exited is that of the run in a world of its own
-reports_exit : {S H : Type 0} (o : Store S H) (nulls : Bool) (first new : S) (subject : Subject) (context : List ℕ) (r t : RunState H) (number n : ℕ) (report : Report) → IsBegun o nulls first subject context r → AreTurns o number r t first new → t.executed ≡ number → number ≤ length (instructions subject.program)
-    → (nulls ≡ false → o.nulls new ≡ 0) → t.exit ≡ Some n → IsReported t report → IsReportWith subject context nulls report
-reports_exit o nulls first new subject context r t number n report begun turns counted few ample exited is = by (shown_run a.world 0 v shown.view) where
+reports_exit : {S H : Type 0} (o : Store S H) (IsFine : S → Type 0) (nulls : Bool) (first new after : S) (subject : Subject) (context : List ℕ) (r t : RunState H) (number n : ℕ) (report : Report) → IsBegun o IsFine nulls first subject context r → AreTurns o number r t first new → t.executed ≡ number → number ≤ length (instructions subject.program)
+    → IsFine new → t.exit ≡ Some n → IsEnded o t report new after → IsReportWith subject context nulls report
+reports_exit o IsFine nulls first new after subject context r t number n report begun turns counted few fine exited is = by (shown_run a.world 0 v shown.view) where
   was : IsUnderWay o first new subject context t
   was = under_way o first first new subject context number r t begun.sizes begun.kinds begun.starts turns
 
@@ -213,14 +204,14 @@ reports_exit o nulls first new subject context r t number n report begun turns c
   a = solo_after number subject context nulls
 
   shown : IsShown o new t a
-  shown = shows_after o nulls first subject context r begun number new t turns ample
+  shown = shows_after o IsFine nulls first subject context r begun number new t turns fine
 
   outcome : (x : Running) → slice_get a.world.runs 0 ≡ Some x → view_of a.world 0 x ≡ v → outcome_of a ≡ record { status = Exited n; output = report.output; executed = report.executed; peak = report.peak }
   outcome x there seen =
       let status : x.status ≡ Exited n = ap (λ (u : RunView). u.status) seen ∙ ap status_of exited in
       let output : x.frame.output ≡ report.output = ap (λ (u : RunView). u.frame.output) seen ∙ sym is.output in
       let executed : x.executed ≡ report.executed = ap (λ (u : RunView). u.executed) seen ∙ sym is.executed in
-      let peak : a.peak ≡ report.peak = shown.peak ∙ sym (reported_peak o new t n report exited is was.sound was.alone) in
+      let peak : a.peak ≡ report.peak = shown.peak ∙ sym (reported_peak o new after t n report exited is was.sound was.alone) in
       rw (there, status, output, executed, peak) refl
 
   by : (x : Running) × (slice_get a.world.runs 0 ≡ Some x) × (view_of a.world 0 x ≡ v) → IsReportWith subject context nulls report
@@ -235,12 +226,12 @@ reports_exit o nulls first new subject context r t number n report begun turns c
       }
 
 -- as no program has so many instructions as the run may do, it exits
-pub report_solo : {S H : Type 0} (o : Store S H) (limit : ℕ) (first new : S) (r t : RunState H) → AreTurnsWithin o limit r t first new → 4096 < limit → t.executed ≤ length (instructions t.subject.program) → (nulls : Bool) (subject : Subject) (context : List ℕ) → IsBegun o nulls first subject context r
-    → (nulls ≡ false → o.nulls new ≡ 0) → (report : Report) → IsReported t report → IsReportWith subject context nulls report
-report_solo o limit first new r t within many bounded nulls subject context begun ample report is =
+pub report_solo : {S H : Type 0} (o : Store S H) (IsFine : S → Type 0) (limit : ℕ) (first new after : S) (r t : RunState H) → AreTurnsWithin o limit r t first new → 4096 < limit → t.executed ≤ length (instructions t.subject.program) → (nulls : Bool) (subject : Subject) (context : List ℕ) → IsBegun o IsFine nulls first subject context r
+    → IsFine new → (report : Report) → IsEnded o t report new after → IsReportWith subject context nulls report
+report_solo o IsFine limit first new after r t within many bounded nulls subject context begun fine report is =
     let was = under_way o first first new subject context within.number r t begun.sizes begun.kinds begun.starts within.turns in
     let exited = exits o limit r t first new (let few = few_instructions (o.bytes_of new) t was.sound in omega (arith, few, many)) bounded within in
     let none : r.executed ≡ 0 = ap (λ (x : RunState _). x.executed) begun.is in
     let counted : t.executed ≡ within.number = omega (arith, within.counted, none) in
     let same = ap (λ (s : Subject). length (instructions s.program)) was.subject_is in
-    reports_exit o nulls first new subject context r t within.number exited.0 report begun within.turns counted (omega (arith, bounded, counted, same)) ample exited.1 is
+    reports_exit o IsFine nulls first new after subject context r t within.number exited.0 report begun within.turns counted (omega (arith, bounded, counted, same)) fine exited.1 is

@@ -80,11 +80,7 @@ impl Owned {
     }
 
     /// Passes the slot to the shelf of this number, which is that of the object's kind, and then hands out the object.
-    pub(crate) fn shelve<R: Wait>(
-        self,
-        client: &mut Client<'_, R>,
-        shelf: u8,
-    ) -> Object
+    pub(crate) fn shelve<R: Wait>(self, client: &mut Client<'_, R>, shelf: u8) -> Object
         requires held { Holds (slot_of self) client.old.seat.held }
         requires shelf { shelf < SHELVES }
         requires kind { kind_of self ≡ shelf }

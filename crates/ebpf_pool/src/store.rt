@@ -170,11 +170,7 @@ fn slot_in(owned: &Option<Owned>) -> Option<u32>
 }
 
 // Gives the slot of an object to the shelf of this number, if there is one.
-fn shelved<R: Wait>(
-    given: Option<Owned>,
-    client: &mut Client<'_, R>,
-    shelf: u8,
-) -> Option<Object>
+fn shelved<R: Wait>(given: Option<Owned>, client: &mut Client<'_, R>, shelf: u8) -> Option<Object>
     requires given { IsSwappable given shelf client.old.seat.held }
     requires shelf { shelf < SHELVES }
     ensures same { result ≡ given }

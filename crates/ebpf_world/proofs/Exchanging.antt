@@ -15,8 +15,9 @@ use Rattle.ebpf_machine.specs.Events.{Asking, AtShelf}
 use Rattle.ebpf_machine.specs.Advance.{slots_without}
 use Rattle.ebpf_machine.specs.View.{ObjectView, without_given}
 use Rattle.ebpf_machine.specs.RunState.{RunState, object_seen, status_of}
+use Rattle.ebpf_machine.specs.Whole as whole
 use Rattle.ebpf_machine.specs.Step as step
-use Rattle.ebpf_machine.specs.Step.{Served, MayAnswer, answer_for, asking_in, wanted, reached, got_in}
+use Rattle.ebpf_machine.specs.Step.{Served, MayAnswer, answer_for, asking_in, wanted, reached, told_by}
 use Rattle.ebpf_machine.specs.Store.{AreOutBy, held_of_kind}
 use Rattle.ebpf_machine.specs.Shelves.{shelved_from}
 use Rattle.ebpf_machine.proofs.Instructions.Returning.{calls_kept, seen_calls, one_place, others_held, removed_is}
@@ -388,7 +389,7 @@ given_of r shelf (Some call) tended going (o, among, is_call, is_kind) = record 
         ap (λ (y : Holding Object). Some y.object.slot) same
 
 -- and what stood there is what it gets
-got_of : (lent : Option Object) (shelves : List (Option Object)) (at shelf : ℕ) (served : Served) → MayAnswer (offers lent shelves) at (AtShelf shelf) served → (slots_fetched at served ≡ got_by (slot_on shelves shelf) at) × (got_in served + is_bare (on_shelf shelves shelf) ≡ 1)
+got_of : (lent : Option Object) (shelves : List (Option Object)) (at shelf : ℕ) (served : Served) → MayAnswer (offers lent shelves) at (AtShelf shelf) served → (slots_fetched at served ≡ got_by (slot_on shelves shelf) at) × (whole.fetched (told_by served) + is_bare (on_shelf shelves shelf) ≡ 1)
 got_of lent shelves at shelf (step.Fetched slot bytes) may =
     let is : slot_on shelves shelf ≡ Some slot = slot_standing shelves shelf ∙ ap (option_map (λ (x : world.Shelved). x.slot)) may in
     (sym (ap (λ (o : Option ℕ). got_by o at) is), omega (arith, bare_slot shelves shelf ∙ ap (λ (o : Option ℕ). cond {A = ℕ} (is_some o) 0 1) is))
@@ -412,7 +413,7 @@ swaps kept k answer r t freed i none stays s = Swaps s.shelf its.name (none_free
     its : IsGivenOf r s.shelf s.given
     its = given_of r s.shelf s.given i.run i.going s.there
 
-    got : (slots_fetched r.pc i.step.served ≡ got_by (slot_on kept.shelves s.shelf) r.pc) × (got_in i.step.served + is_bare (on_shelf kept.shelves s.shelf) ≡ 1)
+    got : (slots_fetched r.pc i.step.served ≡ got_by (slot_on kept.shelves s.shelf) r.pc) × (whole.fetched (told_by i.step.served) + is_bare (on_shelf kept.shelves s.shelf) ≡ 1)
     got = got_of (lent_by answer kept.places) kept.shelves r.pc s.shelf i.step.served (subst (λ (a : Asking). MayAnswer (offers (lent_by answer kept.places) kept.shelves) r.pc a i.step.served) s.asked i.step.may)
 
     leaves : (shelf : ℕ) → slot_on i.after shelf ≡ option_map (λ (x : world.Shelved). x.slot) (if shelf == s.shelf then shelved_from as_shelved r.held s.given else standing_on kept.shelves shelf)
@@ -434,14 +435,14 @@ swaps kept k answer r t freed i none stays s = Swaps s.shelf its.name (none_free
     one kind true is =
         let same : kind ≡ s.shelf = eqb-true kind s.shelf is in
         let counts = counted_all kept k answer r t freed i kind in
-        let more = s.kinds kind ∙ ap (λ (b : Bool). of_kind kind (without_given s.given (run_seen r).objects) + cond b (got_in i.step.served) 0) is in
+        let more = s.kinds kind ∙ ap (λ (b : Bool). of_kind kind (without_given s.given (run_seen r).objects) + cond b (whole.fetched (told_by i.step.served)) 0) is in
         let less = sym (ap (λ (b : Bool). of_kind kind (without_given s.given (run_seen r).objects) + cond b (cond (is_some its.name) 1 0) 0) is) ∙ its.kinds kind in
         let now = ap (λ (n : ℕ). is_bare (on_shelf i.after n)) same in
         let was = ap (λ (n : ℕ). is_bare (on_shelf kept.shelves n)) same in
         omega (arith, counts, more, less, now, was, given_bare, got.1, lent_none kept answer kind none)
     one kind false is =
         let counts = counted_all kept k answer r t freed i kind in
-        let more = s.kinds kind ∙ ap (λ (b : Bool). of_kind kind (without_given s.given (run_seen r).objects) + cond b (got_in i.step.served) 0) is in
+        let more = s.kinds kind ∙ ap (λ (b : Bool). of_kind kind (without_given s.given (run_seen r).objects) + cond b (whole.fetched (told_by i.step.served)) 0) is in
         let less = sym (ap (λ (b : Bool). of_kind kind (without_given s.given (run_seen r).objects) + cond b (cond (is_some its.name) 1 0) 0) is) ∙ its.kinds kind in
         omega (arith, counts, more, less, same_bare i.after kept.shelves kind (elsewhere kind is), lent_none kept answer kind none)
 

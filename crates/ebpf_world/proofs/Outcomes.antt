@@ -13,8 +13,9 @@ use Rattle.ebpf_machine.specs.Effect.{Found, Act, Nothing, Write, Ask, Free, Exc
 use Rattle.ebpf_machine.specs.World.{Name, Shelved, Going, name_of}
 use Rattle.ebpf_machine.specs.Events.{Unasked, OfKind, AtShelf}
 use Rattle.ebpf_machine.specs.View.{ObjectView, RunView, found_in, object_at, patched_at, environment_of_view, effect_of_view, without_given, exchanged, acted, stepped}
+use Rattle.ebpf_machine.specs.Whole as whole
 use Rattle.ebpf_machine.specs.Step as step
-use Rattle.ebpf_machine.specs.Step.{Served, result_of, asking_in, reached, got_in}
+use Rattle.ebpf_machine.specs.Step.{Served, result_of, asking_in, reached, told_by}
 use Rattle.ebpf_machine.specs.Shelves.{shelf_acted, shelf_done}
 use Rattle.ebpf_machine.specs.Advance.{slots_without, slots_exchanged, slots_acted, slots_after}
 use Rattle.ebpf_machine.specs.Sound.{IsSound, AreSized}
@@ -65,7 +66,7 @@ pub record IsSwapped (v u : RunView) (served : Served) (slots now : List Name) :
   pub leaves : (given_is : Option ℕ → Option Shelved) (other : ℕ) (what : Option Shelved) → shelf_done given_is (effect_of_view v) other what ≡ (if other == shelf then given_is given else what)
   pub there : IfSome given (λ call. (o : ObjectView) × Contains v.objects o × (o.call ≡ call) × (o.kind ≡ shelf))
   pub slots_are : now ≡ slots_without given slots ++ slots_fetched v.pc served
-  pub kinds : (kind : ℕ) → of_kind kind u.objects ≡ of_kind kind (without_given given v.objects) + (if kind == shelf then got_in served else 0)
+  pub kinds : (kind : ℕ) → of_kind kind u.objects ≡ of_kind kind (without_given given v.objects) + (if kind == shelf then whole.fetched (told_by served) else 0)
 
 -- it reaches no shelf, and leaves all of them as they are
 pub record IsQuiet (v : RunView) : Type 0 where
@@ -170,7 +171,7 @@ nothing_more kind shelf n = by (kind == shelf) where
 
 swapped_got : (v : RunView) (to : ℕ) (after : Frame ℕ) (shelf : ℕ) (given : Option ℕ) (served : Served) (slots : List Name) → length (without_given given v.objects) < v.subject.decl.held → length (slots_without given slots) ≡ length (without_given given v.objects)
     → (slots_exchanged served v.subject.decl.held v.pc given slots ≡ slots_without given slots ++ slots_fetched v.pc served)
-    × ((kind : ℕ) → of_kind kind (exchanged (result_of served) to after shelf given v).objects ≡ of_kind kind (without_given given v.objects) + cond (kind == shelf) (got_in served) 0)
+    × ((kind : ℕ) → of_kind kind (exchanged (result_of served) to after shelf given v).objects ≡ of_kind kind (without_given given v.objects) + cond (kind == shelf) (whole.fetched (told_by served)) 0)
 swapped_got v to after shelf given (step.Fetched slot bytes) slots room many =
     let few = room_for v.subject.decl.held (length (without_given given v.objects)) room in
     let few_slots = ap (nat_le v.subject.decl.held) many ∙ few in

@@ -1,6 +1,5 @@
 -- One instruction of a run that is kept: which answers are legal, the object that is lent to it, and the one that it frees.
 use Rattle.std.specs.Prelude.{◌≡◌, ◌≢◌, ◌<◌, ◌+◌, ℕ, ◌==◌, if◌then◌else◌, List, length, All, Contains, Option, Some, None, IfSome}
-use Rattle.std.specs.declared.sync.ledger.Blank.{Blank}
 use Rattle.ebpf_verify.specs.Subject.{Subject}
 use Rattle.ebpf_machine.specs.declared.holding.Holding.{Holding}
 use Rattle.ebpf_machine.specs.World.{Shelved, image_at}
@@ -39,10 +38,6 @@ code_by places Null (Some kind) = None
 code_by places (Slot slot) wants = slot_code (place_at places slot) wants
 
 -- ---- one instruction
-
--- a blank is for a type of this name, which is not cut
-abbrev pub IsFor : Blank → (name parts : ℕ) → Type 0
-IsFor blank name parts = (blank.name ≡ name) × (blank.parts ≡ parts) × (parts ≡ 1)
 
 -- an object has its kind's image
 abbrev pub IsNewObject : Object → Type 0

@@ -10,51 +10,29 @@ ghost use Rattle.ebpf_world.specs.Passing.{AreAway, is_of_kind};
 
 use ebpf_machine::kinds::row_of;
 use ebpf_machine::objects::Objects;
-use ebpf_machine::tally::Tally;
 use ebpf_shelves::object::Object;
 use ebpf_shelves::shelves::Shelves;
-use std::sync::ledger::Ledger;
 
 /// The store of one instruction of a run. An object that is lent to it goes to the run where a call of `new` takes it, and
-/// one that the run frees lies here afterwards; a call of `swap` reaches the shelves; all others are out of the instruction's reach.
-///
-/// What it answers is counted by contracts alone.
+/// one that the run frees is here afterwards; a call of `swap` reaches the shelves; all others are out of the instruction's reach.
 #[derive(Drop)]
-pub struct Passing<G: Ledger, N: Ledger, F: Ledger, M: Ledger> {
+pub struct Passing {
     object: Option<Object>,
     shelves: Shelves,
-    grants: Tally<G>,
-    nulls: Tally<N>,
-    gets: Tally<F>,
-    misses: Tally<M>,
     ghost image: { IfSome object (λ o. o.bytes.items ≡ image_at known_kinds o.kind) } by { Prim.hlevel props },
     ghost known: { IfSome object (λ o. o.kind < length known_kinds) } by { Prim.hlevel props },
     ghost away: { AreAway object shelves } by { Prim.hlevel props },
 }
 
-impl<G: Ledger, N: Ledger, F: Ledger, M: Ledger> Passing<G, N, F, M> {
-    /// A store that is lent this object, or none, over these shelves, which has answered nothing yet.
-    pub(crate) fn new(
-        object: Option<Object>,
-        shelves: Shelves,
-        grants: Tally<G>,
-        nulls: Tally<N>,
-        gets: Tally<F>,
-        misses: Tally<M>,
-    ) -> Passing<G, N, F, M>
+impl Passing {
+    /// A store that is lent this object, or none, over these shelves.
+    pub(crate) fn new(object: Option<Object>, shelves: Shelves) -> Passing
         requires lent { IfSome object (λ o. (o.bytes.items ≡ image_at known_kinds o.kind) × (o.kind < length known_kinds)) }
         requires away { AreAway object shelves }
         ensures object { result.object ≡ object }
         ensures shelves { result.shelves ≡ shelves }
     {
-        Passing {
-            object,
-            shelves,
-            grants,
-            nulls,
-            gets,
-            misses,
-        }
+        Passing { object, shelves }
     }
 
     /// The object that lies here after the instruction, where one does: it has its kind's image. And what stands on the shelves.
@@ -100,7 +78,7 @@ fn restored(object: Object) -> Object
     Object { slot, kind, bytes }
 }
 
-impl<G: Ledger, N: Ledger, F: Ledger, M: Ledger> Objects for Passing<G, N, F, M> {
+impl Objects for Passing {
     ghost use Rattle.std.specs.Prelude.{◌≡◌, ◌<◌, ◌+◌, length, None, IfSome, IfNone};
     ghost use Rattle.ebpf_machine.specs.Kinds.{known_kinds};
     ghost use Rattle.ebpf_shelves.specs.Shelves.{IsExchanged, StandsNone, StandsThere, standing_on};
@@ -120,19 +98,16 @@ impl<G: Ledger, N: Ledger, F: Ledger, M: Ledger> Objects for Passing<G, N, F, M>
       can_miss = λ p shelf. StandsNone p.shelves shelf;
       stand = λ p shelf what. what ≡ standing_on p.shelves shelf;
       can_give = λ p. p.object ≡ None;
-      grants = λ p. p.grants;
-      nulls = λ p. p.nulls;
-      gets = λ p. p.gets;
-      misses = λ p. p.misses;
       outs = λ p kind. out_of_kind p.object p.shelves kind;
+      goes = λ p told q. Unit {0};
+      stays = λ p. tt;
+      goes_on = λ p q r told more first then. tt;
     } };
 
     fn take(&mut self, kind: u8, _at: u16) -> Option<Object> {
         if is_of_kind(&self.object, kind) {
-            self.grants.add_one();
             return self.object.take();
         }
-        self.nulls.add_one();
         None
     }
 
@@ -146,17 +121,8 @@ impl<G: Ledger, N: Ledger, F: Ledger, M: Ledger> Objects for Passing<G, N, F, M>
         requires given { IfSome given (λ g. IsOut self.old.object self.old.shelves g × (g.kind ≡ shelf)) }
         ensures object { self.new.object ≡ self.old.object }
         ensures exchanged { IsExchanged shelf given result self.old.shelves self.new.shelves }
-        ensures takes { (self.new.grants ≡ self.old.grants) × (self.new.nulls ≡ self.old.nulls) }
-        ensures fetched { IfSome result (λ _. (self.new.gets ≡ self.old.gets + 1) × (self.new.misses ≡ self.old.misses)) }
-        ensures missed { IfNone result ((self.new.misses ≡ self.old.misses + 1) × (self.new.gets ≡ self.old.gets)) }
     {
-        let got = self.shelves.exchange(shelf, given);
-        if got.is_some() {
-            self.gets.add_one();
-        } else {
-            self.misses.add_one();
-        }
-        got
+        self.shelves.exchange(shelf, given)
     }
 
     fn bytes<'a>(&'a self, held: &'a Object) -> &'a [u8] {

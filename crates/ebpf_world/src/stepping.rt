@@ -2,19 +2,17 @@
 
 ghost use Rattle.std.specs.Prelude.{◌≡◌, IfNone, option_copied, slice_get};
 ghost use Rattle.ebpf_world.specs.Shown.{IsTended};
-ghost use Rattle.ebpf_world.specs.Stepping.{slot_code, start_code, code_by, CanLend, IsFor, IsStepped};
+ghost use Rattle.ebpf_world.specs.Stepping.{slot_code, start_code, code_by, CanLend, IsStepped};
 
 use crate::event::Answer;
 use crate::fault::ApplyCode;
 use crate::passing::Passing;
 use crate::place::Place;
 use ebpf_machine::run::Run;
-use ebpf_machine::tally::Tally;
 use ebpf_shelves::object::Object;
 use ebpf_shelves::shelves::Shelves;
 use ebpf_verify::verified::Verified;
 use std::collections::BTreeMap;
-use std::sync::ledger::{Blank, Ledger};
 
 /// Why a run of the program of this number can't start on a context of this length.
 pub(crate) fn start_fault(programs: &[Verified], program: usize, length: usize) -> Option<ApplyCode>
@@ -63,57 +61,19 @@ fn slot_fault(place: Option<&Place>, wants: Option<u8>) -> Option<ApplyCode>
     }
 }
 
-/// New ledgers for what an instruction is answered.
-pub(crate) struct Blanks {
-    pub(crate) grants: Blank,
-    pub(crate) nulls: Blank,
-    pub(crate) gets: Blank,
-    pub(crate) misses: Blank,
-}
-
-/// Ledgers that no type stands for yet.
-pub(crate) fn new_blanks() -> Blanks
-    ensures { (result.grants.parts ≡ 1) × (result.nulls.parts ≡ 1) × (result.gets.parts ≡ 1) × (result.misses.parts ≡ 1) }
-{
-    Blanks {
-        grants: Blank::new(1),
-        nulls: Blank::new(1),
-        gets: Blank::new(1),
-        misses: Blank::new(1),
-    }
-}
-
-/// Does one instruction of a run that is lent this object, or none, and reaches these shelves, with new ledgers for what it is
-/// answered. The answer is the object that it freed, and what stands on the shelves then.
-pub(crate) fn step_in<G: Ledger, N: Ledger, F: Ledger, M: Ledger>(
+/// Does one instruction of a run that is lent this object, or none, and reaches these shelves. The answer is the object that it freed,
+/// and what is on the shelves then.
+pub(crate) fn step_in(
     run: &mut Run<Object>,
     lent: Option<Object>,
     shelves: Shelves,
-    blanks: Blanks,
 ) -> (Option<Object>, Shelves)
-    requires grants { IsFor blanks.grants G.name G.parts }
-    requires nulls { IsFor blanks.nulls N.name N.parts }
-    requires gets { IsFor blanks.gets F.name F.parts }
-    requires misses { IsFor blanks.misses M.name M.parts }
     requires tended { IsTended run.old }
     requires lends { CanLend lent shelves run.old }
     ensures stepped { IfNone run.old.exit (IsStepped lent result.0 shelves result.1 run.old run.new) }
     ensures tended { IsTended run.new }
 {
-    let Blanks {
-        grants,
-        nulls,
-        gets,
-        misses,
-    } = blanks;
-    let mut passing = Passing::<G, N, F, M>::new(
-        lent,
-        shelves,
-        Tally::open(grants),
-        Tally::open(nulls),
-        Tally::open(gets),
-        Tally::open(misses),
-    );
-    run.step(&mut passing);
+    let mut passing = Passing::new(lent, shelves);
+    let _ = run.step(&mut passing);
     passing.into_parts()
 }

@@ -27,7 +27,7 @@ use crate::fault::{ApplyCode, ApplyFault};
 use crate::ledger::{Ledger, join, leave};
 use crate::passing::slot_reached;
 use crate::place::{Place, exchange, is_home_of, lend, put};
-use crate::stepping::{answer_fault, new_blanks, start_fault, step_in};
+use crate::stepping::{answer_fault, start_fault, step_in};
 use ebpf_machine::context::Context;
 use ebpf_machine::run::{Run, StartFault};
 use ebpf_shelves::object::Object;
@@ -35,7 +35,7 @@ use ebpf_shelves::shelves::Shelves;
 use ebpf_verify::verified::Verified;
 use std::alloc::{AllocError, Global};
 use std::collections::BTreeMap;
-use std::marker::{Brand, Model};
+use std::marker::Model;
 use std::mem;
 
 /// How far a run is.
@@ -178,12 +178,7 @@ impl<'v> World<'v> {
         let stood = slot_reached(&self.shelves, reached);
         let lent = lend(&mut self.places, answer, number, at);
         let shelves = mem::replace(&mut self.shelves, Shelves::empty());
-        let (freed, shelves) = step_in::<Brand, Brand, Brand, Brand>(
-            run,
-            lent,
-            shelves,
-            new_blanks(),
-        );
+        let (freed, shelves) = step_in(run, lent, shelves);
         let stands = slot_reached(&shelves, reached);
         self.shelves = shelves;
         put(&mut self.places, freed);

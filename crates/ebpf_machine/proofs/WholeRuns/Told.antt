@@ -82,15 +82,21 @@ pub record IsReadyIn {S H : Type 0} (o : Store S H) (s : S) (r : RunState H) : T
   pub alone : IsAlone (seen_in o s r)
   pub kinds : o.kinds ≡ kinds_of r.subject.rows
 
--- one step
-pub gone_turn : {S H : Type 0} (o : Store S H) (old new : S) (r t : RunState H) → HaveSizes o old → IsReadyIn o old r → IsTurn o r t old new → HasGone o r t old new
-gone_turn o old new r t sizes ready turn =
+-- the replies after one step
+pub told_turn : {S H : Type 0} (o : Store S H) (old new : S) (r t : RunState H) → HaveSizes o old → IsReadyIn o old r → (turn : IsTurn o r t old new) → t.replies ≡ r.replies ++ told_by turn.step.0
+told_turn o old new r t sizes ready turn =
     let v = seen_in o old r in
     let now : v.status ≡ Going = ap status_of turn.going in
     let s : IsStepOver o r t old new = turn.step in
+    ap (λ (u : RunView). u.replies) s.2.state ∙ told_next v s.0 (offers_of o old) ready.sound (sized_out o old r sizes ready.kinds ready.out) now s.1
+
+-- one step
+gone_turn : {S H : Type 0} (o : Store S H) (old new : S) (r t : RunState H) → HaveSizes o old → IsReadyIn o old r → IsTurn o r t old new → HasGone o r t old new
+gone_turn o old new r t sizes ready turn =
+    let s : IsStepOver o r t old new = turn.step in
     record {
       told = told_by s.0;
-      replies = ap (λ (u : RunView). u.replies) s.2.state ∙ told_next v s.0 (offers_of o old) ready.sound (sized_out o old r sizes ready.kinds ready.out) now s.1;
+      replies = told_turn o old new r t sizes ready turn;
       goes = s.2.store.goes;
       few = let one = one_at_most s.0 in omega (arith, one, turn.counted);
       outs = s.2.store.outs;

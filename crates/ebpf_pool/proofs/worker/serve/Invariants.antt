@@ -1,4 +1,4 @@
-use Rattle.std.proofs.Common.{◌≡◌, ◌+◌, All, map, false}
+use Rattle.std.proofs.Common.{◌≡◌, All, map, false}
 use Rattle.owners_table.specs.Drawing.{IsOf}
 use Rattle.ebpf_pool.specs.Going.{HasAnsweredAll, tools_of}
 use Rattle.ebpf_pool.specs.Stocks.{hands_of}

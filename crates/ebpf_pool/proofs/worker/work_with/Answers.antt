@@ -1,4 +1,4 @@
-use Rattle.std.proofs.Common.{length, ℕ, ◌+◌, ap, sym, ◌∙◌, arith}
+use Rattle.std.proofs.Common.{length, ap, ◌∙◌, arith}
 use Rattle.std.proofs.lemmas.List.{nil_from_length}
 use Rattle.owners_table.specs.Owning.{SeatView}
 use Rattle.ebpf_pool.specs.Claims.{lost}

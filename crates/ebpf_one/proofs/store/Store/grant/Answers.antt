@@ -2,11 +2,8 @@ use Rattle.ebpf_one.proofs.Shelving.{stands_granted}
 use Rattle.ebpf_one.proofs.store.Store.grant.Goals as goal
 
 pub invariant_of-self : goal.invariant_of-self
-invariant_of-self g c =
+invariant_of-self c =
     let s = c.args.self.now in
     record {
-      policy = s.policy;
-      counts = s.counts;
-      nulled = s.nulled;
       standing = stands_granted s.table.items s.shelves _ _ c.push.new.self.items c.push.ensures.items s.standing;
     }

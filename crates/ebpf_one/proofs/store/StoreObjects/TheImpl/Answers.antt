@@ -1,11 +1,12 @@
 -- An exchange keeps the laws of swap.
 use Rattle.std.proofs.Common.{refl}
 use Rattle.ebpf_shelves.proofs.Shelving.{fetched, missed, left, left_elsewhere}
+use Rattle.ebpf_one.proofs.Granting.{swapped_goes}
 use Rattle.ebpf_one.proofs.Shelving.{swapped}
 use Rattle.ebpf_one.proofs.store.StoreObjects.TheImpl.Goals as goal
 
 pub swap-tells : goal.swap-tells
-swap-tells g c =
+swap-tells c =
     let e = c.ensures in
     let x = e.exchanged in
     let old = c.args.self.now in
@@ -14,12 +15,9 @@ swap-tells g c =
       missed = missed x;
       out = s.out;
       apart = s.apart;
-      takes = e.takes;
-      fetched_count = e.fetched;
-      missed_count = e.missed;
+      goes = swapped_goes _ _ _ _ _ _ c.result e.slots e.stays;
       outs = s.counted;
       gone = s.gone;
-      shelf = left x;
-      other_shelves = left_elsewhere x;
+      shelves = (left x, left_elsewhere x);
       others = λ other out ne. (s.others other out ne, refl);
     }

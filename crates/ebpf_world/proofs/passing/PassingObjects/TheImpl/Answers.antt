@@ -5,7 +5,7 @@ use Rattle.ebpf_world.proofs.Shelving.{swapped}
 use Rattle.ebpf_world.proofs.passing.PassingObjects.TheImpl.Goals as goal
 
 pub swap-tells : goal.swap-tells
-swap-tells g c =
+swap-tells c =
     let e = c.ensures in
     let x = e.exchanged in
     let s = swapped c.args.self.now.object c.new.self.now.object e.object x c.args.self.now.away in record {
@@ -13,12 +13,9 @@ swap-tells g c =
       missed = missed x;
       out = s.out;
       apart = s.apart;
-      takes = e.takes;
-      fetched_count = e.fetched;
-      missed_count = e.missed;
+      goes = tt;
       outs = s.counted;
       gone = s.gone;
-      shelf = left x;
-      other_shelves = left_elsewhere x;
+      shelves = (left x, left_elsewhere x);
       others = λ other out ne. (s.others other out ne, refl);
     }
