@@ -5,7 +5,7 @@ use Rattle.object_cache.specs.ShelfView.{one_if}
 use Rattle.owners_table.specs.Owning.{Holds}
 use Rattle.ebpf_pool.specs.Claims.{HasPassed, less}
 use Rattle.ebpf_object.specs.Object.{slot_of, kind_of}
-use Rattle.ebpf_object.specs.declared.Object.{Object}
+use Rattle.ebpf_object.specs.declared.object.Object.{Object}
 use Rattle.ebpf_pool.proofs.Exchanging.{gone, held_got, held_less, held_more, less_length}
 use Rattle.ebpf_pool.proofs.Holding.{Once}
 
