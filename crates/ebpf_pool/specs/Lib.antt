@@ -11,3 +11,4 @@ pub mod Supplies
 pub mod Crews
 pub mod Places
 pub mod Serving
+pub mod Settling
