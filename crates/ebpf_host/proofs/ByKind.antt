@@ -5,7 +5,7 @@ use Rattle.std.proofs.lemmas.Bool.{cases_eq}
 use Rattle.std.proofs.lemmas.Bool.Decides.{nat_tests}
 use Rattle.slab_layer.specs.Slots.{Pages, IsOut, out_count}
 use Rattle.ebpf_machine.specs.Store.{one_of}
-use Rattle.ebpf_object.specs.declared.Object.{Object}
+use Rattle.ebpf_object.specs.declared.object.Object.{Object}
 use Rattle.ebpf_object.specs.Object.{kind_of, slot_of, bytes_of, has_size}
 use Rattle.ebpf_host.specs.declared.stocks.Stocks.{Stocks}
 use Rattle.ebpf_host.specs.Stock.{StockView, Shelved, IsHeld, Takes, Gives, Exchanges, one_if, held_count, shelved_at}

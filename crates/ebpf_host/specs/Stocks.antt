@@ -1,6 +1,6 @@
 -- The objects of a machine: a stock of each kind, and what is said of an object of whatever kind there.
 use Rattle.std.specs.Prelude.{◌≡◌, ◌≢◌, ◌+◌, ◌*◌, ℕ, ◌==◌, if◌then◌else◌, List, [], Option, Some, None, option_map}
-use Rattle.ebpf_object.specs.declared.Object.{Object}
+use Rattle.ebpf_object.specs.declared.object.Object.{Object}
 use Rattle.ebpf_object.specs.Object.{kind_of, slot_of, bytes_of}
 use Rattle.ebpf_host.specs.declared.stocks.Stocks.{Stocks}
 use Rattle.ebpf_host.specs.Stock.{StockView, Shelved, IsHeld, held_count, shelved_at}

@@ -3,8 +3,8 @@ use Rattle.std.specs.Prelude.{◌≡◌, ◌<◌, ℕ, List, length}
 use Rattle.std.proofs.Common.{suc-le-suc, zero-le}
 use Rattle.ebpf_machine.specs.World.{image_at}
 use Rattle.ebpf_machine.specs.Kinds.{known_kinds}
-use Rattle.ebpf_object.specs.declared.Object.{Object}
-use Rattle.ebpf_object.specs.declared.Object.TheVariants.{Cell, Record, Block}
+use Rattle.ebpf_object.specs.declared.object.Object.{Object}
+use Rattle.ebpf_object.specs.declared.object.Object.TheVariants.{Cell, Record, Block}
 
 abbrev pub kind_of : Object → ℕ
 kind_of (Cell o) = 0

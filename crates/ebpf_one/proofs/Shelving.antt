@@ -8,7 +8,7 @@ use Rattle.ebpf_machine.specs.Store.{one_of}
 use Rattle.ebpf_machine.proofs.Lists.ListLemmas.{get_push, get_set_other}
 use Rattle.ebpf_shelves.specs.declared.object.Object.{Object}
 use Rattle.ebpf_shelves.specs.Shelves.{FitsOn, IsExchanged, IsOff, on_shelf}
-use Rattle.ebpf_shelves.proofs.Shelving.{away_from, away_of}
+use Rattle.ebpf_shelves.proofs.Shelving.{away_from, away_of, in_some, some_by}
 use Rattle.ebpf_one.specs.declared.store.Entry.{Entry}
 use Rattle.ebpf_one.specs.Store.{AreStanding, IsOut, marked, out_of_kind}
 use Rattle.ebpf_one.proofs.Slots.{flag_in, given_counted, got_counted, marked_other, marked_same}
@@ -63,50 +63,38 @@ module _ (table : List Entry) {shelf : ℕ} {given got : Option Object} {old new
   after = marked between got true
 
   given_is : (o : Object) → given ≡ Some o → IsOut table o × (o.kind ≡ shelf)
-  given_is o is = subst (λ (x : Option Object). IsGivable table shelf x) is givable
+  given_is o is = in_some (λ g. IsOut table g × (g.kind ≡ shelf)) given o is givable
 
   -- what stood there isn't among those that are out
   pub got_apart : IfSome got (λ h. (other : Object) → IsOut table other → other.slot ≢ h.slot)
-  got_apart = by got e.was where
-    by : (x : Option Object) → x ≡ on_shelf old shelf → IfSome x (λ h. (other : Object) → IsOut table other → other.slot ≢ h.slot)
-    by None is = tt
-    by (Some h) is = λ other out. out_apart table other shelf h.slot out (standing shelf h (sym is))
+  got_apart = some_by (λ h. (other : Object) → IsOut table other → other.slot ≢ h.slot) got (λ h is other out.
+      out_apart table other shelf h.slot out (standing shelf h (sym e.was ∙ is)))
 
   got_other : (other : Object) → IsOut table other → IfSome got (λ h. other.slot ≢ h.slot)
-  got_other other out = by got got_apart where
-    by : (x : Option Object) → IfSome x (λ h. (o : Object) → IsOut table o → o.slot ≢ h.slot) → IfSome x (λ h. other.slot ≢ h.slot)
-    by None is = tt
-    by (Some h) is = is other out
+  got_other other out = some_by (λ h. other.slot ≢ h.slot) got (λ h is.
+      in_some (λ x. (o : Object) → IsOut table o → o.slot ≢ x.slot) got h is got_apart other out)
 
   -- and what is given is in another slot than whatever stands on a shelf
-  given_apart : (k slot : ℕ) → Stands table k slot → IfSome given (λ g. slot ≢ g.slot)
-  given_apart k slot on = by given refl where
-    by : (x : Option Object) → given ≡ x → IfSome x (λ g. slot ≢ g.slot)
-    by None is = tt
-    by (Some g) is = λ same. out_apart table g k slot (given_is g is).0 on (sym same)
-
   still : (k slot : ℕ) → Stands table k slot → Stands between k slot
-  still k slot on = marked_other table given false slot (given_apart k slot on) ∙ on
+  still k slot on = marked_other table given false slot (some_by (λ g. slot ≢ g.slot) given (λ g is same.
+      out_apart table g k slot (given_is g is).0 on (sym same))) ∙ on
 
   got_between : IfSome got (λ h. (h.kind ≡ shelf) × Stands between shelf h.slot)
-  got_between = by got e.was e.fits where
-    by : (x : Option Object) → x ≡ on_shelf old shelf → IfSome x (FitsOn shelf) → IfSome x (λ h. (h.kind ≡ shelf) × Stands between shelf h.slot)
-    by None is fits = tt
-    by (Some h) is fits = (fits.1, still shelf h.slot (standing shelf h (sym is)))
+  got_between = some_by (λ h. (h.kind ≡ shelf) × Stands between shelf h.slot) got (λ h is.
+      ((in_some (FitsOn shelf) got h is e.fits).1, still shelf h.slot (standing shelf h (sym e.was ∙ is))))
+
+  at_between : (h : Object) → got ≡ Some h → Stands between shelf h.slot
+  at_between h is = (in_some (λ x. (x.kind ≡ shelf) × Stands between shelf x.slot) got h is got_between).1
 
   pub got_inside : IfSome got (λ h. h.slot < length between)
-  got_inside = by got got_between where
-    by : (x : Option Object) → IfSome x (λ h. (h.kind ≡ shelf) × Stands between shelf h.slot) → IfSome x (λ h. h.slot < length between)
-    by None was = tt
-    by (Some h) was = slice_get_within between h.slot _ was.1
+  got_inside = some_by (λ h. h.slot < length between) got (λ h is. slice_get_within between h.slot _ (at_between h is))
 
   -- what stood there is out
   pub got_out : IfSome got (λ h. IsOut after h × (h.kind ≡ shelf))
-  got_out = by got e.fits got_between where
-    by : (x : Option Object) → IfSome x (FitsOn shelf) → IfSome x (λ h. (h.kind ≡ shelf) × Stands between shelf h.slot)
-        → IfSome x (λ h. IsOut (marked between x true) h × (h.kind ≡ shelf))
-    by None fits was = tt
-    by (Some h) fits was = (record { entry = marked_same between h true _ was.1; sized = fits.0 }, fits.1)
+  got_out = some_by (λ h. IsOut after h × (h.kind ≡ shelf)) got (λ h is.
+      let fits = in_some (FitsOn shelf) got h is e.fits in
+      let entry = ap (λ (x : Option Object). slice_get (marked between x true) h.slot) is ∙ marked_same between h true _ (at_between h is) in
+      (record { entry = entry; sized = fits.0 }, fits.1))
 
   -- what else is out stays so
   pub others_out : (other : Object) → IsOut table other → IfSome given (λ g. other.slot ≢ g.slot) → IsOut after other
@@ -124,23 +112,20 @@ module _ (table : List Entry) {shelf : ℕ} {given got : Option Object} {old new
 
   -- it is out no longer
   pub given_gone : IfSome given (λ g. IsOut after g → ⊥)
-  given_gone = by given refl where
-    by : (x : Option Object) → given ≡ x → IfSome x (λ g. IsOut after g → ⊥)
-    by None is = tt
-    by (Some g) is = λ out. out_apart after g g.kind g.slot out (given_entry g is) refl
+  given_gone = some_by (λ g. IsOut after g → ⊥) given (λ g is out. out_apart after g g.kind g.slot out (given_entry g is) refl)
 
   -- and stands on the shelf; other shelves are as they were
   pub stands_after : AreStanding after new
   stands_after k o on = by (cases_eq k shelf) where
-    off : (x : Option Object) → IfSome x (λ h. IsOff new h.slot) → IfSome x (λ h. o.slot ≢ h.slot)
-    off None is = tt
-    off (Some h) is = λ same. away_of (on_shelf new k) o h.slot on (is k) (sym same)
+    off : IfSome got (λ h. o.slot ≢ h.slot)
+    off = some_by (λ h. o.slot ≢ h.slot) got (λ h is same.
+        away_of (on_shelf new k) o h.slot on (in_some (λ x. IsOff new x.slot) got h is e.off k) (sym same))
 
     by : (k ≡ shelf) ⊎ (k ≢ shelf) → Stands after k o.slot
     by (inl same) =
         let is : given ≡ Some o = sym e.now ∙ ap (on_shelf new) (sym same) ∙ on in
         given_entry o is ∙ ap (λ (n : ℕ). Some (record { kind = n; is_out = false })) ((given_is o is).1 ∙ sym same)
-    by (inr ne) = marked_other between got true o.slot (off got e.off) ∙ still k o.slot (standing k o (sym (e.others k ne) ∙ on))
+    by (inr ne) = marked_other between got true o.slot off ∙ still k o.slot (standing k o (sym (e.others k ne) ∙ on))
 
   -- and that many are out
   pub counted_after : (k : ℕ) → out_of_kind after k + one_of given shelf k ≡ out_of_kind table k + one_of got shelf k

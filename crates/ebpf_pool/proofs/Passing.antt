@@ -8,7 +8,7 @@ use Rattle.ebpf_machine.specs.Store.{reply_to_swap}
 use Rattle.ebpf_pool.specs.declared.hands.Tools.{Tools}
 use Rattle.ebpf_pool.specs.Going.{GoesBy, HasAnswered}
 use Rattle.ebpf_object.specs.Object.{slot_of, kind_of}
-use Rattle.ebpf_object.specs.declared.Object.{Object}
+use Rattle.ebpf_object.specs.declared.object.Object.{Object}
 use Rattle.ebpf_pool.proofs.Exchanging.{gone, held_got, held_less, held_more, less_length}
 use Rattle.ebpf_pool.proofs.Holding.{Once}
 

@@ -3,7 +3,7 @@ use Rattle.std.specs.Prelude.{◌≡◌, ℕ, ◌+◌, ◌==◌, not, List, [], 
 use Rattle.object_cache.specs.ShelfView.{one_if}
 use Rattle.owners_table.specs.Owning.{Holds, SeatView, without}
 use Rattle.ebpf_object.specs.Object.{kind_of, slot_of}
-use Rattle.ebpf_object.specs.declared.Object.{Object}
+use Rattle.ebpf_object.specs.declared.object.Object.{Object}
 
 -- how many claims found an owner, where each is noted with the word that it found
 abbrev pub lost : List (ℕ × ℕ) → ℕ

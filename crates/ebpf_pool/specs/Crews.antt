@@ -83,8 +83,8 @@ module _ {L : Type 0} where
   pub record IsPrepared (count jobs : ℕ) (s : Setup L) : Type 0 where
     pub limit : s.room.tickets.limit ≡ jobs
     pub tickets : s.room.tickets.seats ≡ count
-    pub drawers : (length s.room.drawers.items ≡ count) × All (λ d. d ≡ drawing.fresh s.room.tickets.table jobs) s.room.drawers.items
-    pub answered : (length s.room.answered.items ≡ count) × All (λ l. l.items ≡ []) s.room.answered.items
+    pub drawers : (length s.drawers.items ≡ count) × All (λ d. d ≡ drawing.fresh s.room.tickets.table jobs) s.drawers.items
+    pub answered : (length s.answered.items ≡ count) × All (λ l. l.items ≡ []) s.answered.items
     pub reports : (length s.room.reports.items ≡ jobs) × All (λ r. r.exit ≡ None) s.room.reports.items
     pub jobs_done : (s.room.jobs_done.items ≡ []) × (count ≤ vec_capacity s.room.jobs_done)
     pub workers : (s.workers.items ≡ []) × (count ≤ vec_capacity s.workers)

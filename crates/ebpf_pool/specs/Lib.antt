@@ -12,3 +12,4 @@ pub mod Serving
 pub mod Stocks
 pub mod Supplies
 pub mod Working
+pub mod Settling

@@ -28,7 +28,7 @@ pub struct Owned {
 }
 
 impl Model for Owned {
-    ghost use Rattle.ebpf_object.specs.declared.Object.{Object};
+    ghost use Rattle.ebpf_object.specs.declared.object.Object.{Object};
 
     ghost Value = { Object };
 

@@ -7,11 +7,13 @@
 //! *The reason.* The numbers that all workers drew are all the numbers of jobs, each once: so each job has one report. What a
 //! worker's hands took and got is what its reports say, clashes and strays aside, so the same holds of the sums.
 
-ghost use Rattle.std.specs.Prelude.{◌≡◌, ◌+◌, ◌≤◌, ◌<◌, [], None, All, length, vec_len, vec_capacity, IfOk, IfErr, OnOk, OnErr};
+ghost use Rattle.std.specs.Prelude.{◌≡◌, ◌≤◌, ◌<◌, List, [], None, All, length, vec_len, vec_capacity, IfOk, IfErr, OnOk};
+ghost use Rattle.owners_table.specs.Owning.{SeatView};
 ghost use Rattle.ebpf_machine.specs.Kinds.{AreKnown};
 ghost use Rattle.ebpf_pool.specs.Admission.{pool_fault};
 ghost use Rattle.ebpf_pool.specs.Books.{AreAllFor};
 ghost use Rattle.ebpf_pool.specs.Crews.{AreFresh};
+ghost use Rattle.ebpf_pool.specs.Settling.{AreLeft, Settles};
 ghost use Rattle.ebpf_pool.specs.Outcomes.{IsIdle, IsOutcome, AreIdleAgain, IsFaultOf};
 ghost use Rattle.ebpf_pool.specs.Serving.{AreServed};
 ghost use Rattle.ebpf_pool.specs.Working.{AreReady};
@@ -23,14 +25,27 @@ use crate::jobs::Job;
 use crate::ledgers::Names;
 use crate::outcome::{Host, Outcome, Reports};
 use crate::place::{count_all, place_all};
-use crate::setup::Setup;
-use crate::supply::{Blanks, Closing};
+use crate::setup::{Room, Setup};
+use crate::supply::{Blanks, Closing, Supplies};
 use crate::worker::{Ending, Shared, Worker};
 use owners_table::owners::{OwnerSeat, Owners};
 use std::alloc::{AllocError, Global};
 use std::marker::Brand;
 use std::sync::Wait;
 use std::thread::Threads;
+
+// What jobs are done with, beside seats and the memory of books. There is a word for each slot of any arena.
+#[derive(Drop)]
+struct Given<'a, G: Gate, R: Wait> {
+    rt: &'a R,
+    alloc: Global,
+    host: &'a Host,
+    owners: &'a Owners,
+    jobs: &'a [Job],
+    reaps: u32,
+    gate: &'a G,
+    ghost slots: { 65536 ≤ owners.now.slots },
+}
 
 /// Does each job once, by a worker a seat, with the reaper beside them, and gives the seats back.
 ///
@@ -63,17 +78,16 @@ pub fn run_jobs<G: Gate + Sync, R: Threads + Wait + Sync>(
     if let Some(fault) = pool_fault(host, seats.len(), jobs) {
         return (seats, Err(fault));
     }
-    let (seats, done) = run_in::<Brand, G, R>(
+    let given = Given {
         rt,
         alloc,
         host,
         owners,
-        seats,
         jobs,
         reaps,
         gate,
-        Blanks::new(),
-    );
+    };
+    let (seats, done) = run_in::<Brand, G, R>(&given, seats, Blanks::new());
     match done {
         Ok(outcome) => (seats, Ok(outcome)),
         Err(_) => (seats, Err(PoolFault::NoMemory)),
@@ -82,29 +96,31 @@ pub fn run_jobs<G: Gate + Sync, R: Threads + Wait + Sync>(
 
 // The same with new ledgers, one for each book of a cache, where there is no fault.
 fn run_in<L: Names + Send + Sync, G: Gate + Sync, R: Threads + Wait + Sync>(
-    rt: &R,
-    alloc: Global,
-    host: &Host,
-    owners: &Owners,
+    given: &Given<G, R>,
     seats: Vec<OwnerSeat>,
-    jobs: &[Job],
-    reaps: u32,
-    gate: &G,
     blanks: Blanks,
 ) -> (Vec<OwnerSeat>, Result<Outcome, AllocError>)
     requires blanks { AreAllFor L.outs L.ins L.puts L.gets blanks }
-    requires known { AreKnown host.now.programs.items }
-    requires slots { 65536 ≤ owners.now.slots }
-    requires seats { All (IsIdle owners.now) seats.items }
-    requires fine { pool_fault host.now (vec_len seats) jobs.now ≡ None }
-    ensures done { IfOk result.1 (IsOutcome host.now.programs.items jobs.now seats.items result.0.items) }
-    ensures seats { AreIdleAgain owners.now seats.items result.0.items }
+    requires known { AreKnown given.now.host.now.programs.items }
+    requires seats { All (IsIdle given.now.owners.now) seats.items }
+    requires fine { pool_fault given.now.host.now (vec_len seats) given.now.jobs.now ≡ None }
+    ensures done { IfOk result.1 (IsOutcome given.now.host.now.programs.items given.now.jobs.now seats.items result.0.items) }
+    ensures seats { AreIdleAgain given.now.owners.now seats.items result.0.items }
 {
-    let Ok(setup) = Setup::<L>::new(rt, alloc, host.pages, seats.len(), jobs.len(), blanks) else {
+    let Ok(setup) = Setup::<L>::new(
+        given.rt,
+        given.alloc,
+        given.host.pages,
+        seats.len(),
+        given.jobs.len(),
+        blanks,
+    ) else {
         return (seats, Err(AllocError));
     };
     let Setup {
-        mut room,
+        room,
+        drawers,
+        answered,
         mut workers,
         supplies,
         hands,
@@ -112,22 +128,58 @@ fn run_in<L: Names + Send + Sync, G: Gate + Sync, R: Threads + Wait + Sync>(
     let mut parts = Parts {
         hands,
         seats,
-        drawers: room.drawers,
-        answered: room.answered,
+        drawers,
+        answered,
     };
-    let shared = Shared {
-        rt,
-        alloc,
-        arena: &room.arena,
-        owners,
-        supplies: &supplies,
-        programs: &host.programs,
-        jobs,
-        tickets: &room.tickets,
-        gate,
-    };
-    let done = serve_all(&shared, reaps, &mut parts, &mut workers);
+    let done = serve_all(given, &room, &supplies, &mut parts, &mut workers);
     workers.destroy_empty();
+    settle(given, room, supplies, parts, done)
+}
+
+// Makes workers of the parts, lets them do all jobs, and takes them apart.
+fn serve_all<L: Names + Send + Sync, G: Gate + Sync, R: Threads + Wait + Sync>(
+    given: &Given<G, R>,
+    room: &Room,
+    supplies: &Supplies<L>,
+    parts: &mut Parts<L>,
+    workers: &mut Vec<Worker<L>>,
+) -> Done
+    requires ready { AreReady given.now.host.now.programs.items given.now.jobs.now }
+    requires limit { room.now.tickets.limit ≡ length given.now.jobs.now }
+    requires some { (0 < length parts.old.seats.items) × (length parts.old.seats.items ≤ 64) }
+    requires fresh { AreFresh given.now.owners.now room.now.tickets (length parts.old.seats.items) parts.old }
+    requires none { workers.old.items ≡ [] }
+    requires room { length parts.old.seats.items ≤ vec_capacity workers.old }
+    ensures none { workers.new.items ≡ [] }
+    ensures served { AreServed given.now.host.now.programs.items given.now.jobs.now given.now.owners.now room.now.tickets parts.old.seats.items parts.new result }
+{
+    let shared = Shared {
+        rt: given.rt,
+        alloc: given.alloc,
+        arena: &room.arena,
+        owners: given.owners,
+        supplies,
+        programs: &given.host.programs,
+        jobs: given.jobs,
+        tickets: &room.tickets,
+        gate: given.gate,
+    };
+    recruit(&shared, parts, workers);
+    work_and_reap(&shared, given.reaps, workers.as_mut_slice());
+    dismiss(workers, parts)
+}
+
+// Takes apart what the jobs were done with, and puts the reports in the places of their jobs.
+fn settle<L: Names, G: Gate, R: Wait>(
+    given: &Given<G, R>,
+    mut room: Room,
+    supplies: Supplies<L>,
+    parts: Parts<L>,
+    done: Done,
+) -> (Vec<OwnerSeat>, Result<Outcome, AllocError>)
+    requires left { (before : List SeatView) × AreLeft given.now.host.now.programs.items given.now.jobs.now given.now.owners.now before room supplies parts done }
+    ensures { Settles given.now.host.now.programs.items given.now.jobs.now given.now.owners.now room supplies parts done result.0.items result.1 }
+{
     let Parts {
         hands,
         mut seats,
@@ -135,9 +187,9 @@ fn run_in<L: Names + Send + Sync, G: Gate + Sync, R: Threads + Wait + Sync>(
         answered,
     } = parts;
     let closing = Closing {
-        rt,
+        rt: given.rt,
         arena: &room.arena,
-        owners,
+        owners: given.owners,
     };
     let (shelves, totals) = supplies.close(&closing, hands, &mut seats);
     room.tickets.close(drawers);
@@ -157,24 +209,4 @@ fn run_in<L: Names + Send + Sync, G: Gate + Sync, R: Threads + Wait + Sync>(
         jobs_done: room.jobs_done,
     };
     (seats, Ok(outcome))
-}
-
-// Makes workers of the parts, lets them do all jobs, and takes them apart.
-fn serve_all<'a, L: Names + Send + Sync, G: Gate + Sync + 'a, R: Threads + Wait + Sync + 'a>(
-    shared: &Shared<'a, L, G, R>,
-    reaps: u32,
-    parts: &mut Parts<L>,
-    workers: &mut Vec<Worker<L>>,
-) -> Done
-    requires ready { AreReady shared.now.programs.now shared.now.jobs.now }
-    requires some { (0 < length parts.old.seats.items) × (length parts.old.seats.items ≤ 64) }
-    requires fresh { AreFresh shared.now.owners.now shared.now.tickets.now (length parts.old.seats.items) parts.old }
-    requires none { workers.old.items ≡ [] }
-    requires room { length parts.old.seats.items ≤ vec_capacity workers.old }
-    ensures none { workers.new.items ≡ [] }
-    ensures served { AreServed shared.now.programs.now shared.now.jobs.now shared.now.owners.now shared.now.tickets.now parts.old.seats.items parts.new result }
-{
-    recruit(shared, parts, workers);
-    work_and_reap(shared, reaps, workers.as_mut_slice());
-    dismiss(workers, parts)
 }

@@ -16,45 +16,41 @@ use owners_table::tickets::{TicketSeat, Tickets};
 use std::alloc::{AllocError, Global};
 use std::sync::Wait;
 
-/// The arena, a ticket for each job, and for each worker a seat to draw them with and a list of reports; and a place for the
-/// report of each job, where a report that has no exit is none; and room to say how many jobs each worker did.
+/// The arena and a ticket for each job; a place for the report of each job, where a report that has no exit is none; and room to
+/// say how many jobs each worker did.
 #[derive(Drop)]
 pub(crate) struct Room {
     pub(crate) arena: ArenaLock,
     pub(crate) tickets: Tickets,
-    pub(crate) drawers: Vec<TicketSeat>,
-    pub(crate) answered: Vec<Vec<Numbered>>,
     pub(crate) reports: Vec<Report>,
     pub(crate) jobs_done: Vec<u64>,
 }
 
 impl Room {
-    /// Room for this many workers and jobs.
+    /// Room for this many workers and jobs, with a seat for each worker to draw tickets with.
     pub(crate) fn new(
         alloc: Global,
         pages: u32,
         workers: usize,
         jobs: usize,
-    ) -> Result<Room, AllocError>
+    ) -> Result<(Room, Vec<TicketSeat>), AllocError>
         requires workers { (0 < workers) × (workers ≤ 64) }
-        ensures tickets { IfOk result (λ r. (r.tickets.limit ≡ jobs) × (r.tickets.seats ≡ workers)) }
-        ensures drawers { IfOk result (λ r. (length r.drawers.items ≡ workers) × All (λ s. s ≡ fresh r.tickets.table jobs) r.drawers.items) }
-        ensures answered { IfOk result (λ r. (length r.answered.items ≡ workers) × All (λ l. l.items ≡ []) r.answered.items) }
-        ensures reports { IfOk result (λ r. (length r.reports.items ≡ jobs) × All (λ p. p.exit ≡ None) r.reports.items) }
-        ensures jobs_done { IfOk result (λ r. (r.jobs_done.items ≡ []) × (workers ≤ vec_capacity r.jobs_done)) }
+        ensures tickets { IfOk result (λ r. (r.0.tickets.limit ≡ jobs) × (r.0.tickets.seats ≡ workers)) }
+        ensures drawers { IfOk result (λ r. (length r.1.items ≡ workers) × All (λ s. s ≡ fresh r.0.tickets.table jobs) r.1.items) }
+        ensures reports { IfOk result (λ r. (length r.0.reports.items ≡ jobs) × All (λ p. p.exit ≡ None) r.0.reports.items) }
+        ensures jobs_done { IfOk result (λ r. (r.0.jobs_done.items ≡ []) × (workers ≤ vec_capacity r.0.jobs_done)) }
     {
         let Ok(arena) = ArenaLock::new(alloc, pages) else {
             return Err(AllocError);
         };
         let (tickets, drawers) = Tickets::new(alloc, jobs as u64, workers as u32)?;
-        Ok(Room {
+        let room = Room {
             arena,
             tickets,
-            drawers,
-            answered: blank_lists(alloc, workers)?,
             reports: blank_reports(alloc, jobs)?,
             jobs_done: Vec::with_capacity(alloc, workers)?,
-        })
+        };
+        Ok((room, drawers))
     }
 }
 
@@ -93,9 +89,12 @@ fn blank_reports(alloc: Global, count: usize) -> Result<Vec<Report>, AllocError>
     Ok(reports)
 }
 
-/// What workers are made of and work with, before there are any.
+/// What workers are made of and work with, before there are any: for each a seat to draw tickets with, a list for its reports and
+/// its hands.
 pub(crate) struct Setup<L: Names> {
     pub(crate) room: Room,
+    pub(crate) drawers: Vec<TicketSeat>,
+    pub(crate) answered: Vec<Vec<Numbered>>,
     pub(crate) workers: Vec<Worker<L>>,
     pub(crate) supplies: Supplies<L>,
     pub(crate) hands: FreeHands<L>,
@@ -118,7 +117,8 @@ impl<L: Names> Setup<L> {
         requires count { (0 < count) × (count ≤ 64) }
         ensures { IfOk result (IsPrepared count jobs) }
     {
-        let room = Room::new(alloc, pages, count, jobs)?;
+        let (room, drawers) = Room::new(alloc, pages, count, jobs)?;
+        let answered = blank_lists(alloc, count)?;
         let workers = Vec::with_capacity(alloc, count)?;
         let Ok((supplies, hands)) = Supplies::open(rt, alloc, &room.arena, count, blanks) else {
             workers.destroy_empty();
@@ -126,6 +126,8 @@ impl<L: Names> Setup<L> {
         };
         Ok(Setup {
             room,
+            drawers,
+            answered,
             workers,
             supplies,
             hands,

@@ -21,6 +21,15 @@ not_bare shelf o on = let none = bare_none shelf in absurd (cc)
 pub are_bare : AreShelves bare
 are_bare = record { long = refl; fit = λ shelf o on. absurd (not_bare shelf o on); apart = λ shelf other o p on there same. absurd (not_bare shelf o on) }
 
+-- ---- what holds of an object, if it is one
+
+pub some_by : (P : Object → Type 0) (x : Option Object) → ((o : Object) → x ≡ Some o → P o) → IfSome x P
+some_by P None holds = tt
+some_by P (Some o) holds = holds o refl
+
+pub in_some : (P : Object → Type 0) (x : Option Object) (o : Object) → x ≡ Some o → IfSome x P → P o
+in_some P x o is = subst (λ (y : Option Object). IfSome y P) is
+
 -- ---- an exchange
 
 -- an object is in another slot than what is in none of a shelf's
@@ -41,9 +50,6 @@ module _ (shelves : List (Option Object)) (shelf : ℕ) (given : Option Object) 
   elsewhere : (other : ℕ) → other ≢ shelf → on_shelf after other ≡ on_shelf shelves other
   elsewhere other ne = get_or-set_other shelves shelf other given None ne
 
-  given_is : (P : Object → Type 0) (o : Object) → given ≡ Some o → IfSome given P → P o
-  given_is P o is holds = subst (λ (x : Option Object). IfSome x P) is holds
-
   -- what is on a shelf then is what is given, or was there
   stood : (k : ℕ) (o : Object) → on_shelf after k ≡ Some o → ((k ≡ shelf) × (given ≡ Some o)) ⊎ ((k ≢ shelf) × (on_shelf shelves k ≡ Some o))
   stood k o on = by (cases_eq k shelf) where
@@ -58,12 +64,12 @@ module _ (shelves : List (Option Object)) (shelf : ℕ) (given : Option Object) 
     apart = λ a b o p on_a on_b same. apart a b o p same (stood a o on_a) (stood b p on_b);
   } where
     new : (o p : Object) (k : ℕ) → given ≡ Some o → on_shelf shelves k ≡ Some p → o.slot ≢ p.slot
-    new o p k is on = away_of (on_shelf shelves k) p o.slot on (given_is (λ g. IsOff shelves g.slot) o is off k)
+    new o p k is on = away_of (on_shelf shelves k) p o.slot on (in_some (λ g. IsOff shelves g.slot) given o is off k)
 
     fit : (k : ℕ) (o : Object) → on_shelf after k ≡ Some o → FitsOn k o
     fit k o on = by (stood k o on) where
       by : ((k ≡ shelf) × (given ≡ Some o)) ⊎ ((k ≢ shelf) × (on_shelf shelves k ≡ Some o)) → FitsOn k o
-      by (inl (same, is)) = subst (λ (n : ℕ). FitsOn n o) (sym same) (given_is (FitsOn shelf) o is fits)
+      by (inl (same, is)) = subst (λ (n : ℕ). FitsOn n o) (sym same) (in_some (FitsOn shelf) given o is fits)
       by (inr (ne, was)) = are.fit k o was
 
     apart : (a b : ℕ) (o p : Object) → o.slot ≡ p.slot → ((a ≡ shelf) × (given ≡ Some o)) ⊎ ((a ≢ shelf) × (on_shelf shelves a ≡ Some o))
@@ -75,26 +81,25 @@ module _ (shelves : List (Option Object)) (shelf : ℕ) (given : Option Object) 
 
   pub is_exchanged : (got : Option Object) → AreShelves shelves → IfSome given (λ g. IsOff shelves g.slot) → got ≡ on_shelf shelves shelf
       → IsExchanged shelf given got shelves after
-  is_exchanged got are off is = record { was = is; now = here; others = elsewhere; fits = fits got is; off = gone got is } where
-    fits : (x : Option Object) → x ≡ on_shelf shelves shelf → IfSome x (FitsOn shelf)
-    fits None e = tt
-    fits (Some h) e = are.fit shelf h (sym e)
-
-    gone : (x : Option Object) → x ≡ on_shelf shelves shelf → IfSome x (λ h. IsOff after h.slot)
-    gone None e = tt
-    gone (Some h) e = λ k. away_from (on_shelf after k) h.slot (λ o on same. by k o same (stood k o on)) where
-      by : (k : ℕ) (o : Object) → h.slot ≡ o.slot → ((k ≡ shelf) × (given ≡ Some o)) ⊎ ((k ≢ shelf) × (on_shelf shelves k ≡ Some o)) → ⊥
-      by k o same (inl (here_it_is, is)) = away_of (on_shelf shelves shelf) h o.slot (sym e) (given_is (λ g. IsOff shelves g.slot) o is off shelf) (sym same)
-      by k o same (inr (ne, was)) = ne (sym (are.apart shelf k h o (sym e) was same))
+  is_exchanged got are off is = record {
+    was = is;
+    now = here;
+    others = elsewhere;
+    fits = some_by (FitsOn shelf) got (λ h e. are.fit shelf h (sym is ∙ e));
+    off = some_by (λ h. IsOff after h.slot) got (λ h e k. away_from (on_shelf after k) h.slot (λ o on same. apart h o k (sym is ∙ e) same (stood k o on)));
+  } where
+    apart : (h o : Object) (k : ℕ) → on_shelf shelves shelf ≡ Some h → h.slot ≡ o.slot
+        → ((k ≡ shelf) × (given ≡ Some o)) ⊎ ((k ≢ shelf) × (on_shelf shelves k ≡ Some o)) → ⊥
+    apart h o k at same (inl (there, it)) =
+        let away = in_some (λ g. IsOff shelves g.slot) given o it off shelf in
+        away_of (on_shelf shelves shelf) h o.slot at away (sym same)
+    apart h o k at same (inr (ne, was)) = ne (sym (are.apart shelf k h o at was same))
 
 -- ---- what a store answers, over shelves that were exchanged
 
 module _ {shelf : ℕ} {given got : Option Object} {old new : List (Option Object)} (e : IsExchanged shelf given got old new) where
   pub fetched : IfSome got (λ h. StandsThere old shelf h.slot h.bytes.items)
-  fetched = by got e.was where
-    by : (x : Option Object) → x ≡ on_shelf old shelf → IfSome x (λ h. StandsThere old shelf h.slot h.bytes.items)
-    by None is = tt
-    by (Some h) is = ap (option_map as_shelved) (sym is)
+  fetched = some_by (λ h. StandsThere old shelf h.slot h.bytes.items) got (λ h is. ap (option_map as_shelved) (sym e.was ∙ is))
 
   pub missed : IfNone got (StandsNone old shelf)
   missed = by got e.was where

@@ -5,7 +5,7 @@ use Rattle.std.proofs.lemmas.Bool.{cases_eq, eq-eqb}
 use Rattle.ebpf_machine.specs.Store.{one_of}
 use Rattle.ebpf_shelves.specs.declared.object.Object.{Object}
 use Rattle.ebpf_shelves.specs.Shelves.{FitsOn, IsAway, IsExchanged, IsOff, on_shelf}
-use Rattle.ebpf_shelves.proofs.Shelving.{away_from, away_of}
+use Rattle.ebpf_shelves.proofs.Shelving.{away_from, away_of, in_some, some_by}
 use Rattle.ebpf_world.specs.Passing.{AreAway, IsOut, is_bare, out_of_kind}
 
 -- what is given is out, and of the shelf's kind
@@ -16,47 +16,34 @@ module _ (lent : Option Object) {shelf : ℕ} {given got : Option Object} {old n
   -- none on the shelves is in the slot of the one that is lent
   pub away_then : AreAway lent old → IsGivable lent old shelf given → AreAway lent new
   away_then away out k o p on is = by (cases_eq k shelf) where
-    given_is : (x : Option Object) → x ≡ Some o → IsGivable lent old shelf x → o.slot ≢ p.slot
-    given_is None none givable = absurd (cc)
-    given_is (Some g) same givable =
-        let there : g ≡ o = cc in
-        subst (λ (x : Object). x.slot ≢ p.slot) there (away_of lent p g.slot is givable.0.away)
-
     by : (k ≡ shelf) ⊎ (k ≢ shelf) → o.slot ≢ p.slot
-    by (inl same) = given_is given (sym e.now ∙ ap (on_shelf new) (sym same) ∙ on) out
+    by (inl same) =
+        let it : given ≡ Some o = sym e.now ∙ ap (on_shelf new) (sym same) ∙ on in
+        away_of lent p o.slot is (in_some (λ g. IsOut lent old g × (g.kind ≡ shelf)) given o it out).0.away
     by (inr ne) = away k o p (sym (e.others k ne) ∙ on) is
 
   -- what came off is out
   pub got_out : AreAway lent old → IfSome got (λ h. IsOut lent new h × (h.kind ≡ shelf))
-  got_out away = by got e.was e.fits e.off where
-    by : (x : Option Object) → x ≡ on_shelf old shelf → IfSome x (FitsOn shelf) → IfSome x (λ h. IsOff new h.slot)
-        → IfSome x (λ h. IsOut lent new h × (h.kind ≡ shelf))
-    by None is fits off = tt
-    by (Some h) is fits off = (record { sized = fits.0; away = away_from lent h.slot (λ p there. away shelf h p (sym is) there); off = off }, fits.1)
+  got_out away = some_by (λ h. IsOut lent new h × (h.kind ≡ shelf)) got (λ h is.
+      let fits = in_some (FitsOn shelf) got h is e.fits in
+      let off = in_some (λ x. IsOff new x.slot) got h is e.off in
+      (record { sized = fits.0; away = away_from lent h.slot (λ p there. away shelf h p (sym e.was ∙ is) there); off = off }, fits.1))
 
   -- it wasn't before
   pub got_apart : IfSome got (λ h. (other : Object) → IsOut lent old other → other.slot ≢ h.slot)
-  got_apart = by got e.was where
-    by : (x : Option Object) → x ≡ on_shelf old shelf → IfSome x (λ h. (other : Object) → IsOut lent old other → other.slot ≢ h.slot)
-    by None is = tt
-    by (Some h) is = λ other out. away_of (on_shelf old shelf) h other.slot (sym is) (out.off shelf)
+  got_apart = some_by (λ h. (other : Object) → IsOut lent old other → other.slot ≢ h.slot) got (λ h is other out.
+      away_of (on_shelf old shelf) h other.slot (sym e.was ∙ is) (out.off shelf))
 
   -- what is given is out no longer
   pub given_gone : IfSome given (λ g. IsOut lent new g → ⊥)
-  given_gone = by given e.now where
-    by : (x : Option Object) → on_shelf new shelf ≡ x → IfSome x (λ g. IsOut lent new g → ⊥)
-    by None is = tt
-    by (Some g) is = λ out. away_of (on_shelf new shelf) g g.slot is (out.off shelf) refl
+  given_gone = some_by (λ g. IsOut lent new g → ⊥) given (λ g is out. away_of (on_shelf new shelf) g g.slot (e.now ∙ is) (out.off shelf) refl)
 
   -- what else is out stays so
   pub others_out : (other : Object) → IsOut lent old other → IfSome given (λ g. other.slot ≢ g.slot) → IsOut lent new other
   others_out other out apart = record { sized = out.sized; away = out.away; off = λ k. by k (cases_eq k shelf) } where
-    given_away : (x : Option Object) → IfSome x (λ g. other.slot ≢ g.slot) → IsAway x other.slot
-    given_away None is = tt
-    given_away (Some g) is = is
-
     by : (k : ℕ) → (k ≡ shelf) ⊎ (k ≢ shelf) → IsAway (on_shelf new k) other.slot
-    by k (inl same) = subst (λ (x : Option Object). IsAway x other.slot) (sym (ap (on_shelf new) same ∙ e.now)) (given_away given apart)
+    by k (inl same) = away_from (on_shelf new k) other.slot (λ g on.
+        in_some (λ x. other.slot ≢ x.slot) given g (sym e.now ∙ ap (on_shelf new) (sym same) ∙ on) apart)
     by k (inr ne) = subst (λ (x : Option Object). IsAway x other.slot) (sym (e.others k ne)) (out.off k)
 
   -- and that many are out

@@ -3,6 +3,7 @@
 use ebpf_machine::kinds::row_of;
 use ebpf_machine::objects::Objects;
 use ebpf_machine::report::Reply;
+use ebpf_shelves::object::Object;
 use std::alloc::{AllocError, Global};
 use std::sync::ledger::{Blank, Book, Ledger, Share};
 
@@ -11,13 +12,6 @@ use std::sync::ledger::{Blank, Book, Ledger, Share};
 pub(crate) struct Entry {
     pub(crate) kind: u8,
     pub(crate) is_out: bool,
-}
-
-// An object that is out. It has its bytes with it.
-pub(crate) struct Object {
-    pub(crate) slot: usize,
-    pub(crate) kind: u8,
-    pub(crate) bytes: Vec<u8>,
 }
 
 // How often objects of each kind were granted, and refused, and how often they were put on its shelf, and got from there.
@@ -118,7 +112,7 @@ impl<L: Ledger> Store<L> {
             kind: _,
             bytes: _,
         } = object;
-        self.table[slot] = Entry {
+        self.table[slot as usize] = Entry {
             kind,
             is_out: false,
         };
@@ -133,7 +127,7 @@ impl<L: Ledger> Store<L> {
 
     // An object of a kind in a fresh slot, with these bytes; none where memory runs out.
     fn put_out(&mut self, kind: u8, bytes: Vec<u8>) -> Option<Object> {
-        let slot = self.table.len();
+        let slot = self.table.len() as u32;
         let entry = Entry { kind, is_out: true };
         if self.table.push(entry).is_err() {
             self.is_short = true;

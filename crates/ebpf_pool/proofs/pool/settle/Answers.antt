@@ -1,0 +1,81 @@
+use Rattle.std.proofs.Common.{rules, ◌≡◌, ◌<◌, List, All, length, map, vec_len, refl, ap, ◌∙◌, subst, arith}
+use Rattle.owners_table.specs.Drawing.{NeverWraps}
+use Rattle.ebpf_pool.specs.declared.worker.Ending.TheVariants.{Through}
+use Rattle.ebpf_pool.specs.declared.jobs.Numbered.{Numbered}
+use Rattle.ebpf_pool.specs.declared.outcome.Outcome.{Outcome}
+use Rattle.ebpf_verify.specs.Subject.{Subject}
+use Rattle.object_cache.specs.declared.totals.Totals.{Totals}
+use Rattle.owners_table.specs.Owning.{OwnersView, SeatView}
+use Rattle.owners_table.specs.Drawing.{TicketsView}
+use Rattle.ebpf_pool.specs.declared.crew.Done.{Done}
+use Rattle.ebpf_pool.specs.declared.crew.Parts.{Parts}
+use Rattle.ebpf_pool.specs.declared.jobs.Job.{Job}
+use Rattle.ebpf_pool.specs.declared.outcome.ShelfTotals.{ShelfTotals}
+use Rattle.ebpf_pool.specs.Outcomes.{AreIdleAgain}
+use Rattle.ebpf_pool.specs.Serving.{AreServed, reports_of}
+use Rattle.ebpf_pool.specs.Supplies.{AreClosed}
+use Rattle.ebpf_pool.proofs.Outcoming.{outcome, placed_once, answered_inside, answered_exits}
+use Rattle.ebpf_pool.proofs.pool.settle.Goals as goal
+
+-- the seats that come back are those that the workers had
+again : {L : Type 0} {programs : List Subject} {jobs : List Job} {o : OwnersView} {t : TicketsView} {p : Parts L} {done : Done}
+    {after : List SeatView} {shelves : List ShelfTotals} {ts : List Totals}
+    → (before : List SeatView) → AreServed programs jobs o t before p done → AreClosed o p.hands p.seats.items after shelves ts → AreIdleAgain o before after
+again before s closed = record { all = closed.all ∙ s.seats_all; idle = closed.idle }
+
+-- the first part is that what is passed is not too large
+pub close-requires : goal.close-requires
+close-requires g c =
+    let can = c.requires.left.1 in
+    let some = can.some in
+    let all = can.served.seats_all in (omega arith, (can.made, (can.hands, (search rules, can.served.idle))))
+
+pub place_all-requires-clause-inside : goal.place_all-requires-clause-inside
+place_all-requires-clause-inside g c =
+    let can = c.requires.left.1 in
+    let inside = answered_inside _ _ (reports_of c.args.parts) can.served.good in
+    let all = can.reports.0 in
+    let len : length c.args.given.now.jobs.now ≡ vec_len c.args.room.reports = search rules in
+    subst (λ k. All (All (λ (n : Numbered). n.job < k)) (reports_of c.args.parts)) len inside
+
+pub place_all-requires-clause-exited : goal.place_all-requires-clause-exited
+place_all-requires-clause-exited g c = answered_exits _ _ (reports_of c.args.parts) c.requires.left.1.served.good
+
+pub place_all-requires-clause-once : goal.place_all-requires-clause-once
+place_all-requires-clause-once g c =
+    let can = c.requires.left.1 in
+    let few = can.few in
+    let few_jobs = can.few_jobs in
+    let limit = can.limit in
+    let tickets = can.tickets in
+    let through : c.args.done.ending ≡ Through = search rules in
+    let fits : NeverWraps c.args.room.tickets.limit c.args.room.tickets.seats = search rules in
+    placed_once _ _ _ _ _ _ _ through can.served (c.close-2.ensures.once fits) c.args.room.reports.items can.reports.1
+
+pub returns : goal.returns
+returns g c = λ before can.
+    let few = can.few in
+    let few_jobs = can.few_jobs in
+    let limit = can.limit in
+    let tickets = can.tickets in
+    let s = can.served in
+    let through : c.args.done.ending ≡ Through = search rules in
+    let fits : NeverWraps c.args.room.tickets.limit c.args.room.tickets.seats = search rules in
+    let drawers = s.drawers_all in
+    let all : vec_len c.args.parts.drawers ≡ c.args.room.tickets.seats = search rules in
+    let made : Outcome = record {
+      reports = c.place_all.new.places.items;
+      totals = c.close.result.1;
+      clashes = c.args.done.clashes;
+      shelves = c.close.result.0;
+      strays = c.args.done.strays;
+      jobs_done = c.count_all.new.counts;
+    } in
+    let reports = can.reports.0 in
+    let len : length c.place_all.new.places.items ≡ length c.args.given.now.jobs.now = search rules in
+    let e = c.place_all.ensures in
+    let done = outcome _ _ _ _ _ _ _ through s (c.close-2.ensures.once fits) c.args.room.reports.items can.reports.1
+    (λ x below. c.close-2.ensures.each fits all (s.through through) x (omega (arith, below, limit)))
+    c.place_all.new.places.items len e.filled e.weight e.from c.close.new.seats.items c.close.result.0 c.close.result.1 c.close.ensures made refl refl refl refl refl
+    (c.count_all.ensures ∙ ap (map (λ l. vec_len l)) c.deref.ensures.value) in
+    record { done = done; seats = again before can.served c.close.ensures }
