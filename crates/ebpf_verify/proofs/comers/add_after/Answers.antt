@@ -7,13 +7,13 @@ use Rattle.ebpf_verify.proofs.comers.add_after.Goals as goal
 
 pub returns : goal.returns
 returns c =
-    let passed = after_fall c.args.from c.args.insn.now c.args.state.now in
-    let taken = after_jump c.args.insn.now c.args.state.now in
+    let passed = after_fall c.args.sender.now.from c.args.sender.now.insn.now c.args.sender.now.state.now in
+    let taken = after_jump c.args.sender.now.insn.now c.args.sender.now.state.now in
     let edges : Edges = record { fall = c.way.result; jump = c.way-2.result } in
-    let fell = came_to_first c.args.insn.now edges c.args.from c.args.state.now c.in_ok-copy.field-0 c.in_ok-sent.sent.items c.pass_on.new.entries.items c.replace-fall.result
-    c.in_ok-copy.ensures c.in_ok-sent.ensures c.in-Ok.ensures.len c.in-Ok.ensures.sent (c.replace-fall.ensures.value ∙ rw (c.replace-fall.ensures.value) c.index_mut.ensures.value) in
-    let jumped = came_to_second c.args.insn.now edges c.args.from c.args.state.now c.in_ok-copy.field-0 c.in_ok-sent.sent.items c.pass_on.new.entries.items c.replace-jump.result c.replace-fall.new.dest
-    c.in_ok-copy.ensures c.in_ok-sent.ensures c.in-Ok.ensures.len c.in-Ok.ensures.sent (c.replace-jump.ensures.value ∙ rw (c.replace-jump.ensures.value) c.index_mut-2.ensures.value) in
-    let f : comer_in c.replace-fall.result c.args.from ≡ along passed c.args.falls c.args.from = came_by_fall _ _ c.args.falls c.args.jumps passed taken c.args.from _ c.way.ensures c.way-2.ensures fell in
-    let j : comer_in c.replace-jump.result c.args.from ≡ along taken c.args.jumps c.args.from = came_by_jump _ _ c.args.falls c.args.jumps passed taken c.args.from _ c.way.ensures c.way-2.ensures jumped in
+    let fell = came_to_first c.args.sender.now.insn.now edges c.args.sender.now.from c.args.sender.now.state.now c.in_ok-state.state c.in_ok-sent.sent.items c.pass_on-passed.new.entries.items c.replace-fall.result
+    c.in_ok-state.ensures c.in_ok-sent.ensures c.in-Ok.ensures.len c.in-Ok.ensures.sent (c.replace-fall.ensures.value ∙ rw (c.replace-fall.ensures.value) c.index_mut.ensures.value) in
+    let jumped = came_to_second c.args.sender.now.insn.now edges c.args.sender.now.from c.args.sender.now.state.now c.in_ok-state.state c.in_ok-sent.sent.items c.pass_on-passed.new.entries.items c.replace-jump.result c.replace-fall.new.dest
+    c.in_ok-state.ensures c.in_ok-sent.ensures c.in-Ok.ensures.len c.in-Ok.ensures.sent (c.replace-jump.ensures.value ∙ rw (c.replace-jump.ensures.value) c.index_mut-2.ensures.value) in
+    let f : comer_in c.replace-fall.result c.args.sender.now.from ≡ along passed c.args.falls c.args.sender.now.from = came_by_fall _ _ c.args.falls c.args.jumps passed taken c.args.sender.now.from _ c.way.ensures c.way-2.ensures fell in
+    let j : comer_in c.replace-jump.result c.args.sender.now.from ≡ along taken c.args.jumps c.args.sender.now.from = came_by_jump _ _ c.args.falls c.args.jumps passed taken c.args.sender.now.from _ c.way.ensures c.way-2.ensures jumped in
     added_both c.add_known-2.result c.args.comers.now.items c.add_known.new.comers.items c.add_known-2.new.comers.items _ _ _ _ c.in_ok-add_known.ensures c.add_known-2.ensures j f
