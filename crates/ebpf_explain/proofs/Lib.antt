@@ -1,4 +1,3 @@
 pub mod TextLemmas
 pub mod FaultLemmas
 pub mod MeetingLemmas
-pub mod Traced

@@ -37,10 +37,13 @@ abbrev pub paths_apart : List KindRow → Comer → Option ℕ → List Comer �
 paths_apart rows a None cs = unknown_paths
 paths_apart rows a (Some number) cs = both_paths rows a (slice_get cs number)
 
+abbrev pub paths_after : List KindRow → Comer → List Comer → List ℕ
+paths_after rows a cs = paths_apart rows a (holds_other a.state.held cs) cs
+
 -- the first that comes, and the first that doesn't hold the same
 abbrev pub paths_from : List KindRow → Option Comer → List Comer → List ℕ
 paths_from rows None cs = unknown_paths
-paths_from rows (Some a) cs = paths_apart rows a (holds_other a.state.held cs) cs
+paths_from rows (Some a) cs = paths_after rows a cs
 
 -- a line: two blanks, the slot, what meets there, and what would mend it
 abbrev pub meeting_sentence : ℕ → List Comer → List KindRow → List ℕ

@@ -3,7 +3,6 @@
 use Rattle.std.specs.Prelude.{◌≡◌, ℕ, List, [], length, Option, Some, None}
 use Rattle.ebpf_insn.specs.declared.fault.DecodeCode.{DecodeCode}
 use Rattle.ebpf_insn.specs.declared.insn.Insn.{Insn}
-use Rattle.ebpf_insn.specs.Program.{insn_at}
 use Rattle.ebpf_insn.specs.Encoding.{IsProgram}
 use Rattle.ebpf_insn.specs.Decoding.{decode_fault}
 use Rattle.ebpf_flow.specs.declared.fault.FlowCode.{FlowCode}
@@ -12,32 +11,33 @@ use Rattle.ebpf_state.specs.declared.kinds.KindRow.{KindRow}
 use Rattle.ebpf_verify.specs.declared.decl.Decl.{Decl}
 use Rattle.ebpf_verify.specs.declared.entry.EntryState.{EntryState}
 use Rattle.ebpf_verify.specs.declared.fault.VerifyCode.{VerifyCode}
-use Rattle.ebpf_verify.specs.Comers.{comers}
-use Rattle.ebpf_verify.specs.Entry.{entry_in}
 use Rattle.ebpf_verify.specs.Subject.{Subject}
 use Rattle.ebpf_verify.specs.Traces.{looked_at, entries_below}
 use Rattle.ebpf_verify.specs.Verdict.{verdict}
 use Rattle.ebpf_explain.specs.DecodeSentences.{decode_sentence}
-use Rattle.ebpf_explain.specs.Reasons.{reason, misled_at}
+use Rattle.ebpf_explain.specs.Reasons.{reason_at, misled_in}
 
 -- by the entries that the verifier looks at
 abbrev pub why_refused : Option (ℕ × VerifyCode) → Subject → List EntryState → List ℕ
 why_refused None s entries = []
-why_refused (Some refusal) s entries = reason (insn_at s.program refusal.0) (entry_in entries refusal.0) (comers s.program refusal.0) refusal.0 refusal.1 s.decl s.rows
+why_refused (Some refusal) s entries = reason_at s entries refusal.0 refusal.1
 
 abbrev pub why_verified : Subject → List ℕ
 why_verified s = why_refused (verdict s) s (entries_below s.program (looked_at (verdict s) (length s.program)))
 
 -- a program is refused for its flow, or goes on to the verifier
 abbrev pub why_flowed : Option (ℕ × FlowCode) → Subject → List ℕ
-why_flowed (Some refusal) s = misled_at (insn_at s.program refusal.0) refusal.0 (length s.program) refusal.1
+why_flowed (Some refusal) s = misled_in s.program refusal.0 refusal.1
 why_flowed None s = why_verified s
+
+abbrev pub why_program : List (Option Insn) → Decl → List KindRow → List ℕ
+why_program p decl rows = why_flowed (flow_fault p) (record { program = p; decl = decl; rows = rows })
 
 -- bytes are refused as no program, or are the program that they encode
 abbrev pub IsWhyBy : Option (ℕ × DecodeCode) → List ℕ → Decl → List KindRow → List ℕ → Type 0
 IsWhyBy (Some refusal) bytes decl rows why = why ≡ decode_sentence bytes refusal.0 refusal.1
 IsWhyBy None bytes decl rows why =
-    (p : List (Option Insn)) × IsProgram bytes p × (why ≡ why_flowed (flow_fault p) (record { program = p; decl = decl; rows = rows }))
+    (p : List (Option Insn)) × IsProgram bytes p × (why ≡ why_program p decl rows)
 
 -- why bytes are refused, with what is declared and the kinds
 abbrev pub IsWhy : List ℕ → Decl → List KindRow → List ℕ → Type 0

@@ -3,7 +3,7 @@
 
 ghost use Rattle.std.specs.Prelude.{◌≡◌, ◌++◌, string_bytes, OnOk, slice_get};
 ghost use Rattle.std.specs.List.{flat_map};
-ghost use Rattle.ebpf_explain.specs.Meeting.{both_paths, coming, held_from, holds_other, meeting_sentence, next_held, pair_text, paths_apart, paths_from};
+ghost use Rattle.ebpf_explain.specs.Meeting.{both_paths, coming, held_from, holds_other, meeting_sentence, next_held, pair_text, paths_after, paths_from};
 
 use crate::references::write_held;
 use ebpf_state::held::Held;
@@ -47,7 +47,7 @@ fn write_from(
     comers: &[Comer],
     rows: &[KindRow],
 ) -> Result<(), AllocError>
-    ensures { OnOk result (string_bytes text.new ≡ string_bytes text.old ++ paths_apart rows.now first.now (holds_other first.now.state.held comers.now) comers.now) }
+    ensures { OnOk result (string_bytes text.new ≡ string_bytes text.old ++ paths_after rows.now first.now comers.now) }
 {
     match holds_other(first.state.references(), comers) {
         Some(number) => write_both(text, first, comers, number, rows),

@@ -1,23 +1,18 @@
 //! Why a slot of a program is refused, by what stands there and what comes there.
 
-ghost use Rattle.std.specs.Prelude.{◌≡◌, ◌<◌, ◌++◌, OnOk, length, string_bytes};
-ghost use Rattle.ebpf_insn.specs.Program.{insn_at};
-ghost use Rattle.ebpf_verify.specs.Comers.{AreLookedAt, comers};
-ghost use Rattle.ebpf_verify.specs.Entry.{entry_in};
-ghost use Rattle.ebpf_verify.specs.Verdict.{AreRows};
-ghost use Rattle.ebpf_explain.specs.Reasons.{misled_at, reason};
+ghost use Rattle.std.specs.Prelude.{◌≡◌, ◌++◌, OnOk, string_bytes};
+ghost use Rattle.ebpf_verify.specs.Looked.{subject_of};
+ghost use Rattle.ebpf_explain.specs.Reasons.{misled_in, reason_at};
 
 use crate::flow_sentence::write_flow_sentence;
 use crate::meeting::write_meeting;
 use crate::verify_sentence::write_verify_sentence;
 use ebpf_flow::fault::FlowCode;
-use ebpf_flow::flowed::Flowed;
 use ebpf_insn::program::Program;
-use ebpf_state::kinds::KindRow;
 use ebpf_verify::comers::comers_to;
-use ebpf_verify::decl::Decl;
 use ebpf_verify::entry::EntryState;
 use ebpf_verify::fault::VerifyCode;
+use ebpf_verify::looked::Looked;
 use std::alloc::{AllocError, Global};
 
 /// Writes behind a text why the edges of a slot are refused, as [`write_flow_sentence`] does; nothing, where no instruction
@@ -31,7 +26,7 @@ pub fn write_misled(
     slot: usize,
     code: FlowCode,
 ) -> Result<(), AllocError>
-    ensures { OnOk result (string_bytes text.new ≡ string_bytes text.old ++ misled_at (insn_at program.now slot) slot (length program.now) code) }
+    ensures { OnOk result (string_bytes text.new ≡ string_bytes text.old ++ misled_in program.now slot code) }
 {
     match program.at(slot) {
         Some(insn) => write_flow_sentence(text, slot, insn, program.slots(), code),
@@ -39,37 +34,31 @@ pub fn write_misled(
     }
 }
 
-/// Writes behind a text why an instruction is refused, by what comes to its slot, as [`write_verify_sentence`] does; where paths
-/// meet that hold different objects, which two those are, and what each holds; nothing, where no instruction begins there or
-/// nothing comes. The entries are those of a trace.
+/// Writes after a text why an instruction is refused, by what comes to its slot, as [`write_verify_sentence`] does; where paths
+/// meet that hold different objects, which two those are, and what each holds; nothing, where no instruction begins there, nothing
+/// comes or the slot was not looked at.
 ///
 /// # Errors
 /// It fails only where an allocation fails, and a part of the line may be written then.
 pub fn write_reason(
     alloc: Global,
     text: &mut String,
-    flowed: &Flowed,
-    entries: &[EntryState],
+    looked: &Looked,
     slot: usize,
     code: VerifyCode,
-    decl: Decl,
-    rows: &[KindRow],
 ) -> Result<(), AllocError>
-    requires rows { AreRows rows.now }
-    requires looked { AreLookedAt (record { program = flowed.now; decl = decl; rows = rows.now }) entries.now }
-    requires inside { slot < length entries.now }
-    ensures { OnOk result (string_bytes text.new ≡ string_bytes text.old ++ reason (insn_at flowed.now slot) (entry_in entries.now slot) (comers flowed.now slot) slot code decl rows.now) }
+    ensures { OnOk result (string_bytes text.new ≡ string_bytes text.old ++ reason_at (subject_of looked.now) looked.now.entries.now slot code) }
 {
-    let Some(insn) = flowed.program().at(slot) else {
+    let Some(insn) = looked.flowed.program().at(slot) else {
         return Ok(());
     };
-    match entries.get(slot) {
+    match looked.entries.get(slot) {
         Some(EntryState::Known(state)) => {
-            write_verify_sentence(text, slot, insn, state, code, decl, rows)
+            write_verify_sentence(text, slot, insn, state, code, looked.decl, looked.kinds)
         }
         Some(EntryState::Conflict) => {
-            let comers = comers_to(alloc, flowed, decl, rows, entries, slot)?;
-            write_meeting(text, slot, &comers, rows)
+            let comers = comers_to(alloc, looked, slot)?;
+            write_meeting(text, slot, &comers, looked.kinds)
         }
         _ => Ok(()),
     }

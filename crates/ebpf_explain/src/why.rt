@@ -1,13 +1,11 @@
 //! Why the bytes of a program are refused, in a sentence.
 
-ghost use Rattle.std.specs.Prelude.{◌≡◌, ◌++◌, ℕ, List, Option, length, string_bytes, OnOk};
-ghost use Rattle.ebpf_flow.specs.Flow.{flow_fault};
+ghost use Rattle.std.specs.Prelude.{◌≡◌, ◌++◌, ℕ, List, Option, string_bytes, OnOk};
 ghost use Rattle.ebpf_insn.specs.declared.insn.Insn.{Insn};
 ghost use Rattle.ebpf_insn.specs.Encoding.{IsProgram};
-ghost use Rattle.ebpf_insn.specs.Program.{insn_at};
 ghost use Rattle.ebpf_verify.specs.Verdict.{AreRows};
-ghost use Rattle.ebpf_explain.specs.Reasons.{misled_at};
-ghost use Rattle.ebpf_explain.specs.Why.{IsWhy, why_flowed, why_verified};
+ghost use Rattle.ebpf_explain.specs.Reasons.{misled_in};
+ghost use Rattle.ebpf_explain.specs.Why.{IsWhy, why_program, why_verified};
 
 use crate::decode_sentence::write_decode_sentence;
 use crate::reason::{write_misled, write_reason};
@@ -19,6 +17,7 @@ use ebpf_insn::fault::DecodeFault;
 use ebpf_insn::program::Program;
 use ebpf_state::kinds::KindRow;
 use ebpf_verify::decl::Decl;
+use ebpf_verify::looked::Looked;
 use ebpf_verify::trace::trace_verdict;
 use std::alloc::{AllocError, Global};
 
@@ -57,7 +56,7 @@ fn write_why_program(
 ) -> Result<(), AllocError>
     requires rows { AreRows rows.now }
     requires encoded { IsProgram bytes.now program }
-    ensures { OnOk result (string_bytes text.new ≡ string_bytes text.old ++ why_flowed (flow_fault program) (record { program = program; decl = decl; rows = rows.now })) }
+    ensures { OnOk result (string_bytes text.new ≡ string_bytes text.old ++ why_program program decl rows.now) }
 {
     match check(alloc, program) {
         Ok(flowed) => write_why_flowed(alloc, text, &flowed, decl, rows),
@@ -78,7 +77,7 @@ pub fn write_misled_in(
     slot: u16,
     code: FlowCode,
 ) -> Result<(), AllocError>
-    ensures { OnOk result ((p : List (Option Insn)) → IsProgram bytes.now p → string_bytes text.new ≡ string_bytes text.old ++ misled_at (insn_at p slot) slot (length p) code) }
+    ensures { OnOk result ((p : List (Option Insn)) → IsProgram bytes.now p → string_bytes text.new ≡ string_bytes text.old ++ misled_in p slot code) }
 {
     let Ok(program) = decode(alloc, bytes) else {
         return Err(AllocError);
@@ -101,14 +100,6 @@ fn write_why_flowed(
     let Some((slot, code)) = trace.refusal else {
         return Ok(());
     };
-    write_reason(
-        alloc,
-        text,
-        flowed,
-        &trace.entries,
-        slot as usize,
-        code,
-        decl,
-        rows,
-    )
+    let looked = Looked::of(flowed, decl, rows, &trace);
+    write_reason(alloc, text, &looked, slot as usize, code)
 }

@@ -25,14 +25,6 @@ reverse-push code i = reverse-append code (reverse (placed i)) ∙ ap (λ (x : L
 pub count_fits : (code : List (Option Insn)) (count : ℕ) → IsCode code count → count ≤ 8192
 count_fits code count h = omega (arith, h.few, h.counted, instructions-length (reverse code), length-reverse code)
 
-pub no_code : IsCode [] 0
-no_code = record {
-  few = omega arith;
-  counted = refl;
-  defined = tt;
-  placed = refl;
-}
-
 pub code_more : (code : List (Option Insn)) (count : ℕ) (i : Insn) → IsCode code count → IsDefined i → length code + slots_in i ≤ 8192 → IsCode (code ++ reverse (placed i)) (count + 1)
 code_more code count i h defined few =
     let back = reverse-push code i in

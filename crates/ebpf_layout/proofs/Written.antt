@@ -1,14 +1,12 @@
 -- One instruction more before what is written.
-use Rattle.std.proofs.Common.{◌≡◌, ◌≢◌, ℕ, ◌+◌, ◌<◌, ◌≤◌, ℤ, pos, List, [], ◌∷◌, ◌++◌, length, get_or, Option, Some, None, false, eqb, refl, sym, ap, ◌∙◌, subst, arith, inl, inr, ◌⊎◌, w16, w32, FitsSigned}
+use Rattle.std.proofs.Common.{◌≡◌, ◌≢◌, ℕ, ◌+◌, ◌<◌, ◌≤◌, ℤ, pos, List, [], ◌∷◌, ◌++◌, length, get_or, Option, Some, None, false, eqb, refl, sym, ap, ◌∙◌, subst, arith, inl, inr, ◌⊎◌}
 use Rattle.std.specs.Prelude.{slice_get}
-use Rattle.std.proofs.lemmas.Int.{ints}
 use Rattle.std.proofs.lemmas.Bool.{cases_Bool, eqb-true, eqb-false}
 use Rattle.std.proofs.lemmas.Option.{none-some, same_Some, slice_get_within, get_or_from_slice_get}
 use Rattle.std.proofs.lemmas.List.{append-nil, length-append, length_push, get_or_read}
 use Rattle.ebpf_insn.specs.declared.insn.Insn.{Insn}
 use Rattle.ebpf_insn.specs.declared.insn.Insn.TheVariants as insn
 use Rattle.ebpf_insn.specs.Program.{insn_at, slots_in}
-use Rattle.ebpf_insn.specs.Encoding.{IsDefined}
 use Rattle.ebpf_flow.specs.Edges.{displacement_of, jump_of, fall_of}
 use Rattle.ebpf_layout.specs.declared.mark.Mark.{Mark}
 use Rattle.ebpf_layout.specs.declared.mark.Mark.TheVariants.{New, Done}
@@ -33,23 +31,6 @@ moved_none (insn.Jump offset) z e = absurd (none-some offset (sym e))
 moved_none (insn.JumpFar offset) z e = absurd (none-some offset (sym e))
 moved_none (insn.Branch width condition left right offset) z e = absurd (none-some offset (sym e))
 moved_none _ z e = refl
-
-fits_16 : (way : ℕ) → way ≤ 8192 → FitsSigned w16 (pos way)
-fits_16 way few = record { sfits = omega (arith, ints) }
-
-fits_32 : (way : ℕ) → way ≤ 8192 → FitsSigned w32 (pos way)
-fits_32 way few = record { sfits = omega (arith, ints) }
-
-pub moved_defined : (i : Insn) (way : ℕ) → way ≤ 8192 → IsDefined i → IsDefined (moved i (pos way))
-moved_defined (insn.Jump offset) way few d = fits_16 way few
-moved_defined (insn.JumpFar offset) way few d = fits_32 way few
-moved_defined (insn.Branch width condition left right offset) way few d = (d.0, fits_16 way few)
-moved_defined _ way few d = d
-
-pub moved_to_defined : (marks : List Mark) (places : List ℕ) (code : List (Option Insn)) (i : Insn) (jump : Option ℕ) (new : Insn) → length code ≤ 8192 → IsDefined i
-    → IsMovedTo marks places code i jump new → IsDefined new
-moved_to_defined marks places code i None new few d h = rw h.0 d
-moved_to_defined marks places code i (Some to) new few d h = let way = h.1.way_is in rw h.2 (moved_defined i h.0 (omega arith) d)
 
 one_slot : (i : Insn) (slot to : ℕ) → jump_of i slot ≡ Some to → slots_in i ≡ 1
 one_slot (insn.Wide dst value) slot to e = absurd (none-some to e)

@@ -30,6 +30,10 @@ pub record GoesNext (p : List (Option Insn)) (found marks : List Mark) (order : 
   pub ready : is_ready p found marks slot ≡ true
   pub falls : (last from : ℕ) → slice_get order (length order - 1) ≡ Some last → (edges_at p from).fall ≡ Some last → is_ready p found marks from ≡ true → from ≡ slot
 
+-- this slot, and no other, may fall to the one that was placed last
+abbrev pub IsBeforeLast : List (Option Insn) → List ℕ → Option ℕ → Type 0
+IsBeforeLast p order before = (last from : ℕ) → slice_get order (length order - 1) ≡ Some last → (edges_at p from).fall ≡ Some last → before ≡ Some from
+
 -- what an instruction jumps to isn't placed before or as this number of the order
 abbrev pub Waits : List (Option Insn) → List ℕ → ℕ → ℕ → Type 0
 Waits p order n slot =

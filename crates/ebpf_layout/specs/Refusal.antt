@@ -1,6 +1,7 @@
 -- Why a program can't be laid out.
 use Rattle.std.specs.Prelude.{◌≡◌, ◌<◌, ℕ, List, length, Option, Some, None}
 use Rattle.ebpf_insn.specs.declared.insn.Insn.{Insn}
+use Rattle.ebpf_insn.specs.declared.program.TheConstants.{MAX_SLOTS}
 use Rattle.ebpf_flow.specs.declared.fault.FlowCode.{FlowCode}
 use Rattle.ebpf_layout.specs.declared.fault.LayoutFault.{LayoutFault}
 use Rattle.ebpf_layout.specs.declared.fault.LayoutFault.TheVariants.{Flow, Loop, Slots, NoMemory}
@@ -24,5 +25,5 @@ abbrev pub IsLayoutFault : List (Option Insn) → LayoutFault → Type 0
 IsLayoutFault p (Flow slot code) = IsLowestFault p slot code
 IsLayoutFault p (Loop from to) = IsLoop p from to
 -- laid out, it is too long
-IsLayoutFault p Slots = (q : List (Option Insn)) × IsLaidOut p q × (4096 < length q)
+IsLayoutFault p Slots = (q : List (Option Insn)) × IsLaidOut p q × (MAX_SLOTS < length q)
 IsLayoutFault p NoMemory = Unit {0}

@@ -3,6 +3,8 @@ use Rattle.std.specs.Prelude.{◌≡◌, ◌⊎◌, ◌<◌, ◌+◌, ℕ, List,
 use Rattle.ebpf_insn.specs.declared.insn.Insn.{Insn}
 use Rattle.ebpf_insn.specs.Program.{insn_at, slots_in}
 use Rattle.ebpf_insn.specs.Encoding.{IsWellFormed}
+use Rattle.ebpf_layout.specs.declared.fault.LayoutFault.{LayoutFault}
+use Rattle.ebpf_layout.specs.declared.fault.LayoutFault.TheVariants.{Loop}
 use Rattle.ebpf_layout.specs.declared.mark.Mark.{Mark}
 use Rattle.ebpf_layout.specs.declared.mark.Mark.TheVariants.{New, Open, Done}
 use Rattle.ebpf_layout.specs.Paths.{IsEdge, IsReached}
@@ -36,6 +38,10 @@ left_at (Done n) = 0
 abbrev pub left : List Mark → ℕ
 left [] = 0
 left (mark ∷ marks) = left_at mark + left marks
+
+-- an edge leads back to the path of the search, and so closes a loop
+abbrev pub ClosesLoop : List Mark → (from : ℕ) → Option ℕ → LayoutFault → Type 0
+ClosesLoop marks from edge fault = (to : ℕ) × (k : ℕ) × (edge ≡ Some to) × (mark_at marks to ≡ Open k) × (fault ≡ Loop from to)
 
 -- all that an instruction leads to comes earlier in the order
 abbrev pub IsBehind : List (Option Insn) → List ℕ → ℕ → ℕ → Type 0

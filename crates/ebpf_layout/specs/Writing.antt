@@ -86,6 +86,14 @@ pub record IsWayTo (marks : List Mark) (places : List ℕ) (code : List (Option 
 abbrev pub with_jump : List (Option Insn) → ℕ → List (Option Insn)
 with_jump code way = if way == 0 then code else code ++ Some (insn.Jump (pos way)) ∷ []
 
+-- a jump to a place was written, unless what is written next is right before it
+abbrev pub WritesJump : List (Option Insn) → ℕ → List (Option Insn) → Type 0
+WritesJump code place new = (way : ℕ) × (place + way + 1 ≡ length code) × (new ≡ with_jump code way)
+
+-- the place of the last slot of the code was noted
+abbrev pub NotesLast : List (Option Insn) → List ℕ → List ℕ → Type 0
+NotesLast code old new = (place : ℕ) × (place + 1 ≡ length code) × (new ≡ old ++ place ∷ [])
+
 -- what an instruction falls to comes right behind what is written next
 abbrev pub LeadsOn : List Mark → List ℕ → List (Option Insn) → Option ℕ → List (Option Insn) → Type 0
 LeadsOn marks places code None new = new ≡ code

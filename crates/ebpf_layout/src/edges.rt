@@ -1,6 +1,7 @@
 //! Where an instruction leads, forward or back.
 
 ghost use Rattle.std.specs.Prelude.{◌≡◌, ◌<◌, pos, negsuc, ◌≤ℤ◌, Some};
+ghost use Rattle.ebpf_insn.specs.declared.program.TheConstants.{MAX_SLOTS};
 ghost use Rattle.ebpf_insn.specs.Program.{insn_at};
 ghost use Rattle.ebpf_flow.specs.Edges.{fall_of, target_of, jump_of, edges_at};
 ghost use Rattle.ebpf_layout.specs.Search.{standing};
@@ -11,7 +12,7 @@ use ebpf_insn::program::Program;
 
 // The slot that a jump by so many slots leads to: none below slot 0.
 pub(crate) fn target_of(slot: usize, displacement: i64) -> Option<usize>
-    requires few { slot < 4096 }
+    requires few { slot < MAX_SLOTS }
     requires low { negsuc 2147483647 ≤ℤ displacement }
     requires high { displacement ≤ℤ pos 2147483647 }
     ensures { result ≡ target_of (Some displacement) slot }
@@ -22,7 +23,7 @@ pub(crate) fn target_of(slot: usize, displacement: i64) -> Option<usize>
 
 // The slot that the jump of an instruction leads to.
 pub(crate) fn jump_of(insn: Insn, slot: usize) -> Option<usize>
-    requires { slot < 4096 }
+    requires { slot < MAX_SLOTS }
     ensures { result ≡ jump_of insn slot }
 {
     match displacement_of(insn) {
@@ -33,7 +34,7 @@ pub(crate) fn jump_of(insn: Insn, slot: usize) -> Option<usize>
 
 // The slot that an instruction goes on to.
 pub(crate) fn fall_of(insn: Insn, slot: usize) -> Option<usize>
-    requires { slot < 4096 }
+    requires { slot < MAX_SLOTS }
     ensures { result ≡ fall_of insn slot }
 {
     if falls(insn) {
@@ -45,7 +46,7 @@ pub(crate) fn fall_of(insn: Insn, slot: usize) -> Option<usize>
 
 // The instruction that a slot's jump leads to.
 pub(crate) fn jump_from(program: &Program, slot: usize) -> Option<usize>
-    requires { slot < 4096 }
+    requires { slot < MAX_SLOTS }
     ensures { result ≡ standing program.now (edges_at program.now slot).jump }
 {
     let insn = program.at(slot)?;
@@ -54,7 +55,7 @@ pub(crate) fn jump_from(program: &Program, slot: usize) -> Option<usize>
 
 // The instruction that a slot goes on to.
 pub(crate) fn fall_from(program: &Program, slot: usize) -> Option<usize>
-    requires { slot < 4096 }
+    requires { slot < MAX_SLOTS }
     ensures { result ≡ standing program.now (edges_at program.now slot).fall }
 {
     let insn = program.at(slot)?;

@@ -6,10 +6,11 @@
 
 ghost use Rattle.std.specs.Prelude.{◌≡◌, ◌≤◌, ◌<◌, ◌-◌, ◌++◌, [], ◌∷◌, ℕ, Some, length, slice_get, slice_set};
 ghost use Rattle.std.specs.Prelude.{IfOk, IfSome, OnOk, true, false};
+ghost use Rattle.ebpf_insn.specs.declared.program.TheConstants.{MAX_SLOTS};
 ghost use Rattle.ebpf_insn.specs.Encoding.{IsWellFormed};
 ghost use Rattle.ebpf_flow.specs.Edges.{edges_at};
 ghost use Rattle.ebpf_layout.specs.declared.mark.Mark.{Mark};
-ghost use Rattle.ebpf_layout.specs.Placing.{is_placed, is_left, is_ready, GoesNext, IsPlacing, AreNeighbours};
+ghost use Rattle.ebpf_layout.specs.Placing.{is_placed, is_left, is_ready, GoesNext, IsBeforeLast, IsPlacing, AreNeighbours};
 ghost use Rattle.ebpf_layout.specs.Search.{is_done, mark_at, IsOrder};
 
 use crate::edges::{fall_from, jump_from};
@@ -69,7 +70,7 @@ fn next(program: &Program, found: &Order, order: &Order, top: usize) -> usize
 fn before_last(program: &Program, order: &Order) -> Option<usize>
     requires { IsPlacing program.now order.now.marks.items order.now.slots.items }
     ensures inside { IfSome result (λ k. k < length program.now) }
-    ensures only { (last from : ℕ) → slice_get order.now.slots.items (length order.now.slots.items - 1) ≡ Some last → (edges_at program.now from).fall ≡ Some last → result ≡ Some from }
+    ensures only { IsBeforeLast program.now order.now.slots.items result }
 {
     let last = order.slots.last().copied()?;
     before(program, last)
@@ -94,7 +95,7 @@ fn before(program: &Program, slot: usize) -> Option<usize>
 
 // The highest slot that may be placed. From `top` on nothing is left.
 fn highest(program: &Program, found: &Order, order: &Order, top: usize) -> usize
-    requires few { length program.now ≤ 4096 }
+    requires few { length program.now ≤ MAX_SLOTS }
     requires inside { top ≤ length program.now }
     requires above { (k : ℕ) → top ≤ k → is_left found.now.marks.items order.now.marks.items k ≡ false }
     requires some { (k : ℕ) × (k < length program.now) × (is_ready program.now found.now.marks.items order.now.marks.items k ≡ true) }
@@ -125,7 +126,7 @@ fn lowered(found: &Order, order: &Order, top: usize) -> usize
 
 // Whether a slot may be placed: it is left, and all that it leads to is placed.
 fn is_ready(program: &Program, found: &Order, order: &Order, slot: usize) -> bool
-    requires { slot < 4096 }
+    requires { slot < MAX_SLOTS }
     ensures { result ≡ is_ready program.now found.now.marks.items order.now.marks.items slot }
 {
     is_left(found, order, slot)

@@ -2,6 +2,7 @@
 
 ghost use Rattle.std.specs.Prelude.{◌≡◌, ◌≤◌, ◌<◌, ◌+◌, ℕ, ℤ, pos, negsuc, ◌≤ℤ◌, Option, Some, None, length, slice_get};
 ghost use Rattle.std.specs.Prelude.{IfErr, IfSome, OnOk, false, true};
+ghost use Rattle.ebpf_insn.specs.declared.program.TheConstants.{MAX_SLOTS};
 ghost use Rattle.ebpf_insn.specs.Program.{insn_at, slots_in};
 ghost use Rattle.ebpf_layout.specs.Paths.{IsReached};
 ghost use Rattle.ebpf_layout.specs.EdgeFaults.{edge_fault, edge_fault_at, jump_fault, fall_fault, target_fault};
@@ -38,7 +39,7 @@ pub(crate) fn check_edges(program: &Program, order: &Order) -> Result<(), Layout
 // The first code of a slot, if it is reached.
 fn reached_fault(program: &Program, order: &Order, slot: usize) -> Option<FlowCode>
     requires inside { slot < length program.now }
-    requires few { length program.now ≤ 4096 }
+    requires few { length program.now ≤ MAX_SLOTS }
     requires all { length order.now.marks.items ≡ length program.now }
     ensures found { IfSome result (λ code. IsDone (mark_at order.now.marks.items slot) × (edge_fault_at program.now slot ≡ Some code)) }
     ensures none { result ≡ None → IsDone (mark_at order.now.marks.items slot) → edge_fault_at program.now slot ≡ None }
@@ -51,7 +52,7 @@ fn reached_fault(program: &Program, order: &Order, slot: usize) -> Option<FlowCo
 
 // The first code of an edge that leads to no instruction.
 fn edge_fault(program: &Program, slot: usize) -> Option<FlowCode>
-    requires { slot < 4096 }
+    requires { slot < MAX_SLOTS }
     ensures { result ≡ edge_fault_at program.now slot }
 {
     let insn = program.at(slot)?;
@@ -63,7 +64,7 @@ fn edge_fault(program: &Program, slot: usize) -> Option<FlowCode>
 
 // The code of a jump by so many slots, if it is one.
 fn jump_fault(program: &Program, slot: usize, displacement: Option<i64>) -> Option<FlowCode>
-    requires few { slot < 4096 }
+    requires few { slot < MAX_SLOTS }
     requires low { IfSome displacement (λ z. negsuc 2147483647 ≤ℤ z) }
     requires high { IfSome displacement (λ z. z ≤ℤ pos 2147483647) }
     ensures { result ≡ jump_fault program.now slot displacement }
@@ -92,7 +93,7 @@ fn target_fault(program: &Program, target: Option<usize>) -> Option<FlowCode>
 
 // The code of going on past the last slot.
 fn fall_fault(program: &Program, slot: usize, insn: Insn) -> Option<FlowCode>
-    requires { slot < 4096 }
+    requires { slot < MAX_SLOTS }
     ensures { result ≡ fall_fault program.now slot insn }
 {
     if falls(insn) && slot + insn.slots() >= program.slots() {

@@ -7,13 +7,14 @@
 
 ghost use Rattle.std.specs.Prelude.{◌≡◌, ◌≤◌, ◌<◌, ◌+◌, ◌-◌, ◌++◌, [], ◌∷◌, ℕ, Option, Some, None, length, slice_get, slice_set};
 ghost use Rattle.std.specs.Prelude.{IfOk, IfErr, IfSome, OnOk, take, is_none, true, false};
+ghost use Rattle.ebpf_insn.specs.declared.program.TheConstants.{MAX_SLOTS};
 ghost use Rattle.ebpf_insn.specs.Program.{insn_at};
 ghost use Rattle.ebpf_flow.specs.Edges.{edges_at};
 ghost use Rattle.ebpf_layout.specs.declared.mark.Mark.{Mark};
 ghost use Rattle.ebpf_layout.specs.declared.fault.LayoutFault.{LayoutFault};
 ghost use Rattle.ebpf_layout.specs.Paths.{IsEdge};
 ghost use Rattle.ebpf_layout.specs.Refusal.{IsLayoutFault};
-ghost use Rattle.ebpf_layout.specs.Search.{IsSearch, IsOrder, IsDone, left, mark_at, standing};
+ghost use Rattle.ebpf_layout.specs.Search.{ClosesLoop, IsSearch, IsOrder, IsDone, left, mark_at, standing};
 
 use crate::edges::{fall_from, jump_from};
 use crate::fault::LayoutFault;
@@ -132,12 +133,12 @@ fn follow(
 
 // The slot that an edge leads to, if the search has not come to it. An edge to a slot on the path closes a loop.
 fn new_slot(search: &Search, from: usize, edge: Option<usize>) -> Result<Option<usize>, LayoutFault>
-    requires few { length search.now.marks.items ≤ 4096 }
+    requires few { length search.now.marks.items ≤ MAX_SLOTS }
     requires from { from < length search.now.marks.items }
     requires inside { IfSome edge (λ to. to < length search.now.marks.items) }
     ensures found { IfOk result (λ found. IfSome found (λ to. (edge ≡ Some to) × (mark_at search.now.marks.items to ≡ Mark.New))) }
     ensures none { IfOk result (λ found. found ≡ None → IfSome edge (λ to. IsDone (mark_at search.now.marks.items to))) }
-    ensures closes { IfErr result (λ e. (to : ℕ) × (k : ℕ) × (edge ≡ Some to) × (mark_at search.now.marks.items to ≡ Mark.Open k) × (e ≡ LayoutFault.Loop from to)) }
+    ensures closes { IfErr result (ClosesLoop search.now.marks.items from edge) }
 {
     let Some(to) = edge else {
         return Ok(None);

@@ -14,7 +14,7 @@ ghost use Rattle.ebpf_layout.specs.Layout.{moved};
 ghost use Rattle.ebpf_layout.specs.Paths.{IsReached};
 ghost use Rattle.ebpf_layout.specs.Placing.{AreNeighbours};
 ghost use Rattle.ebpf_layout.specs.Search.{IsOrder};
-ghost use Rattle.ebpf_layout.specs.Writing.{half_of, with_jump, HasPlace, IsPlaced, IsWayTo, IsCode, LeadsOn, IsMovedTo, Writes, AreWritten, IsWriting};
+ghost use Rattle.ebpf_layout.specs.Writing.{half_of, with_jump, HasPlace, NotesLast, WritesJump, IsPlaced, IsWayTo, IsCode, LeadsOn, IsMovedTo, Writes, AreWritten, IsWriting};
 
 use crate::edges::{fall_of, jump_of};
 use crate::mark::Mark;
@@ -96,7 +96,7 @@ fn write_insn(
     requires jumps { jump ≡ None → displacement_of insn ≡ None }
     ensures code { OnOk result (IsCode writer.new.code.items writer.new.count) }
     ensures written { OnOk result (Writes order.now.marks.items writer.old.places.items writer.old.code.items insn fall jump writer.new.code.items) }
-    ensures places { OnOk result ((place : ℕ) × (place + 1 ≡ length writer.new.code.items) × (writer.new.places.items ≡ writer.old.places.items ++ place ∷ [])) }
+    ensures places { OnOk result (NotesLast writer.new.code.items writer.old.places.items writer.new.places.items) }
 {
     write_fall(writer, order, fall)?;
     let moved = moved_to(writer, order, insn, jump);
@@ -164,7 +164,7 @@ fn write_jump(writer: &mut Writer, place: usize) -> Result<(), AllocError>
     requires place { place < length writer.old.code.items }
     ensures code { OnOk result (IsCode writer.new.code.items writer.new.count) }
     ensures places { writer.new.places.items ≡ writer.old.places.items }
-    ensures written { OnOk result ((way : ℕ) × (place + way + 1 ≡ length writer.old.code.items) × (writer.new.code.items ≡ with_jump writer.old.code.items way)) }
+    ensures written { OnOk result (WritesJump writer.old.code.items place writer.new.code.items) }
 {
     let way = way_to(writer, place);
     if way > 0 {

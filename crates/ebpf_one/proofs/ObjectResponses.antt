@@ -1,14 +1,16 @@
 -- A command responds to an object file that is too long as to its beginning.
-use Rattle.std.proofs.Common.{◌≡◌, ◌==◌, false, inl, inr, ℕ, ◌<◌, List, [], ◌∷◌, Result, length, refl, subst, arith}
+use Rattle.std.proofs.Common.{◌≡◌, ◌==◌, false, inl, inr, ℕ, ◌<◌, List, [], ◌∷◌, Option, Result, length, refl, subst, arith}
 use Rattle.std.proofs.lemmas.List.{length-take-le}
 use Rattle.ebpf_object_file.specs.declared.object_fault.ObjectFault.{ObjectFault}
 use Rattle.std.specs.Prelude.{IfErr}
 use Rattle.ebpf_object_file.specs.Function.{IsNamedFault}
+use Rattle.ebpf_command.specs.declared.done.Done.{Done}
+use Rattle.ebpf_command.specs.declared.done.EngineFault.{EngineFault}
 use Rattle.ebpf_command.specs.Input.{read_of}
 use Rattle.ebpf_command.specs.Response.{Response, refused_response}
-use Rattle.ebpf_command.specs.Writing.{Responding}
-use Rattle.ebpf_command.proofs.Written.{CutsLong}
-use Rattle.ebpf_one.specs.ObjectText.{IsWantedFault, IsTaken, IsTakenFault, RespondsObject, object_fault_lines}
+use Rattle.ebpf_command.specs.Writing.{Responding, Writes, WritesBeginning}
+use Rattle.ebpf_command.proofs.Written.{CutsLong, response_through, begun_through}
+use Rattle.ebpf_one.specs.ObjectText.{IsWantedFault, IsTaken, IsTakenFault, RespondsObject, Answers, object_fault_lines}
 
 read_long : (file : List ℕ) → 1048577 < length file → length (read_of file) ≡ 1048577
 read_long file long = length-take-le 1048577 file (omega (arith, long))
@@ -34,6 +36,15 @@ of_taken P name file bytes response is h = inl (bytes, is, h)
 pub of_fault : (P : Responding) (name : List ℕ) (file : List ℕ) (e : ObjectFault) (response : Response) → IsTakenFault name file e
     → response ≡ refused_response (object_fault_lines e) → RespondsObject P name file response
 of_fault P name file e response is h = inr (e, is, h)
+
+-- so what was answered of what was read is what the command writes
+pub answers_by : {Answered : Responding} (P : Responding) (name : List ℕ) (input old new : Option (List ℕ)) (result : Result Done EngineFault)
+    → Writes Answered input old new result → WritesBeginning Answered input old new result
+    → ((all : List ℕ) (response : Response) → Answered all response → RespondsObject P name all response) → Answers P name input old new result
+answers_by P name input old new result wrote began responds = record {
+  response = response_through (RespondsObject P name) input old new result wrote responds;
+  beginning = begun_through (RespondsObject P name) input old new result began responds;
+}
 
 -- why a name that is not empty has no function
 pub named_refused : {A : Type 0} (r : Result A ObjectFault) (name given file : List ℕ) → given ≡ name → false ≡ (length name == 0)

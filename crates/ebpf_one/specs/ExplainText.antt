@@ -3,7 +3,7 @@
 use Rattle.std.specs.Prelude.{◌≡◌, ℕ, ◌++◌, List, length, Option, Some, None}
 use Rattle.ebpf_insn.specs.declared.fault.DecodeCode.{DecodeCode}
 use Rattle.ebpf_insn.specs.declared.insn.Insn.{Insn}
-use Rattle.ebpf_insn.specs.Program.{instructions, insn_at}
+use Rattle.ebpf_insn.specs.Program.{instructions}
 use Rattle.ebpf_insn.specs.Encoding.{IsProgram}
 use Rattle.ebpf_insn.specs.Decoding.{decode_fault}
 use Rattle.ebpf_flow.specs.declared.fault.FlowCode.{FlowCode}
@@ -12,14 +12,11 @@ use Rattle.ebpf_state.specs.declared.kinds.KindRow.{KindRow}
 use Rattle.ebpf_verify.specs.declared.decl.Decl.{Decl}
 use Rattle.ebpf_verify.specs.declared.entry.EntryState.{EntryState}
 use Rattle.ebpf_verify.specs.declared.fault.VerifyCode.{VerifyCode}
-use Rattle.ebpf_verify.specs.Comers.{comers}
-use Rattle.ebpf_verify.specs.Entry.{entry_in}
 use Rattle.ebpf_verify.specs.Subject.{Subject}
 use Rattle.ebpf_verify.specs.Traces.{looked_at, entries_below}
 use Rattle.ebpf_verify.specs.Verdict.{verdict}
-use Rattle.ebpf_explain.specs.Reasons.{misled_at, reason}
-use Rattle.ebpf_explain.specs.Slots.{slot_lines}
-use Rattle.ebpf_explain.specs.StackWords.{texts_below}
+use Rattle.ebpf_explain.specs.Reasons.{misled_in, reason_at}
+use Rattle.ebpf_explain.specs.Slots.{known_lines}
 use Rattle.ebpf_command.specs.declared.codes.RefusalCode.TheVariants.{Decode, Flow, Verify}
 use Rattle.ebpf_command.specs.declared.done.FaultCode.{FaultCode}
 use Rattle.ebpf_command.specs.Codes.{refusal_name}
@@ -32,15 +29,11 @@ use Rattle.ebpf_one.specs.InputFaults.{undecoded_sentence, fault_sentence}
 use Rattle.ebpf_one.specs.Lines.{refused_line, accepted_line}
 use Rattle.ebpf_one.specs.OneText.{AreGiven}
 
--- what is known before each of the slots that these come to, and what is lost there, beside the instructions
-abbrev pub known_lines : Subject → List EntryState → List ℕ
-known_lines s entries = texts_below (length entries) (slot_lines s.program entries s.rows)
-
 -- the listing up to the refused slot and why that is refused, or the listing of all
 abbrev pub explained_by : Option (ℕ × VerifyCode) → Subject → List EntryState → Response
 explained_by (Some refusal) s entries =
     refused_response (known_lines s entries ++ (refused_line (refusal_name (Verify refusal.1)) refusal.0
-    ++ reason (insn_at s.program refusal.0) (entry_in entries refusal.0) (comers s.program refusal.0) refusal.0 refusal.1 s.decl s.rows))
+    ++ reason_at s entries refusal.0 refusal.1))
 explained_by None s entries = clean_response (known_lines s entries ++ accepted_line (length (instructions s.program)))
 
 -- by the entries that the verifier looks at
@@ -48,7 +41,7 @@ abbrev pub explained : Subject → Response
 explained s = explained_by (verdict s) s (entries_below s.program (looked_at (verdict s) (length s.program)))
 
 abbrev pub misled_response : List (Option Insn) → ℕ → FlowCode → Response
-misled_response p slot code = refused_response (refused_line (refusal_name (Flow code)) slot ++ misled_at (insn_at p slot) slot (length p) code)
+misled_response p slot code = refused_response (refused_line (refusal_name (Flow code)) slot ++ misled_in p slot code)
 
 -- a program is refused for its flow, or goes on to the verifier
 abbrev pub ExplainsFlow : Option (ℕ × FlowCode) → Subject → Response → Type 0

@@ -1,9 +1,8 @@
 -- The response of `lay-out` to its input: the hex of the program laid out anew, or why it can't be.
-use Rattle.std.specs.Prelude.{◌≡◌, ◌≢◌, ◌⊎◌, ℕ, ◌++◌, List, [], length, Option, Some, None, codes, decimal}
+use Rattle.std.specs.Prelude.{◌≡◌, ◌≢◌, ◌⊎◌, ℕ, ◌++◌, List, [], Option, Some, None, codes, decimal}
 use Rattle.hex.specs.Hex.{encode_lower}
 use Rattle.ebpf_insn.specs.declared.fault.DecodeCode.{DecodeCode}
 use Rattle.ebpf_insn.specs.declared.insn.Insn.{Insn}
-use Rattle.ebpf_insn.specs.Program.{insn_at}
 use Rattle.ebpf_insn.specs.Encoding.{IsProgram}
 use Rattle.ebpf_insn.specs.Decoding.{decode_fault}
 use Rattle.ebpf_flow.specs.Flow.{flow_fault}
@@ -11,7 +10,7 @@ use Rattle.ebpf_layout.specs.declared.fault.LayoutFault.{LayoutFault}
 use Rattle.ebpf_layout.specs.declared.fault.LayoutFault.TheVariants.{Flow, Loop, Slots, NoMemory}
 use Rattle.ebpf_layout.specs.Layout.{IsLaidOut}
 use Rattle.ebpf_layout.specs.Refusal.{IsLayoutFault}
-use Rattle.ebpf_explain.specs.Reasons.{misled_at}
+use Rattle.ebpf_explain.specs.Reasons.{misled_in}
 use Rattle.ebpf_command.specs.declared.codes.RefusalCode.TheVariants.{Decode}
 use Rattle.ebpf_command.specs.declared.done.FaultCode.{FaultCode}
 use Rattle.ebpf_command.specs.Codes.{refusal_name, flow_name}
@@ -29,7 +28,7 @@ IsHexOf q response = (bytes : List ℕ) × IsProgram bytes q × (response ≡ cl
 
 -- why a program can't be laid out: an edge that leads to no instruction, an edge that closes a loop, or too many slots
 abbrev pub layout_lines : List (Option Insn) → LayoutFault → List ℕ
-layout_lines p (Flow slot code) = refused_line (flow_name code) slot ++ misled_at (insn_at p slot) slot (length p) code
+layout_lines p (Flow slot code) = refused_line (flow_name code) slot ++ misled_in p slot code
 layout_lines p (Loop from to) =
     codes "loop " ++ (decimal from ++ (codes " " ++ (decimal to ++ (codes "\n  slot " ++ (decimal from ++ (codes " leads to slot " ++ (decimal to ++
     codes ", from which a path leads back to it: unroll the loop\n")))))))

@@ -1,13 +1,15 @@
 -- The response of a command to an object file: its response to the slots of the function that is asked for, as raw bytes, or why the file has
 -- no such program.
-use Rattle.std.specs.Prelude.{◌≡◌, ◌≤◌, ◌<◌, ◌⊎◌, ℕ, ◌++◌, ◌∷◌, List, [], length, codes}
+use Rattle.std.specs.Prelude.{◌≡◌, ◌≤◌, ◌<◌, ◌⊎◌, ℕ, ◌++◌, ◌∷◌, List, [], length, codes, Option, Result}
 use Rattle.ebpf_object_file.specs.declared.function.Function.{Function}
 use Rattle.ebpf_object_file.specs.declared.object_fault.ObjectFault.{ObjectFault}
 use Rattle.ebpf_object_file.specs.declared.object_fault.ObjectFault.TheVariants.{File, NoFunction, SeveralFunctions, Outside}
 use Rattle.ebpf_object_file.specs.Function.{IsAlone, IsNamed, IsOnlyOne, IsNamedFault, IsOnlyFault}
 use Rattle.ebpf_object_file.specs.Sentences.{object_sentence}
+use Rattle.ebpf_command.specs.declared.done.Done.{Done}
+use Rattle.ebpf_command.specs.declared.done.EngineFault.{EngineFault}
 use Rattle.ebpf_command.specs.Response.{refused_response}
-use Rattle.ebpf_command.specs.Writing.{Responding}
+use Rattle.ebpf_command.specs.Writing.{Responding, Writes, WritesBeginning}
 
 -- the function of a name, or where no name is given the file's only one, and it is a program by itself
 abbrev pub IsWanted : List ℕ → List ℕ → Function → Type 0
@@ -44,3 +46,8 @@ abbrev pub RespondsObject : Responding → List ℕ → Responding
 RespondsObject Responds name file response =
     ((bytes : List ℕ) × IsTaken name file bytes × Responds bytes response)
     ⊎ ((e : ObjectFault) × IsTakenFault name file e × (response ≡ refused_response (object_fault_lines e)))
+
+-- what a command writes of an object file: the text of a response, or a beginning of it where it could not write
+pub record Answers (Responds : Responding) (name : List ℕ) (input old new : Option (List ℕ)) (result : Result Done EngineFault) : Type 0 where
+  pub response : Writes (RespondsObject Responds name) input old new result
+  pub beginning : WritesBeginning (RespondsObject Responds name) input old new result

@@ -5,6 +5,7 @@ ghost use Rattle.ebpf_flow.specs.Flow.{flow_fault};
 ghost use Rattle.ebpf_insn.specs.declared.insn.Insn.{Insn};
 ghost use Rattle.ebpf_insn.specs.Decoding.{decode_fault};
 ghost use Rattle.ebpf_insn.specs.Encoding.{IsProgram};
+ghost use Rattle.ebpf_verify.specs.Looked.{subject_of};
 ghost use Rattle.ebpf_command.specs.declared.codes.RefusalCode.TheVariants.{Decode};
 ghost use Rattle.ebpf_state.specs.Kinds.{AreKinds};
 ghost use Rattle.ebpf_command.specs.declared.done.EngineFault.TheVariants.{Output};
@@ -14,7 +15,7 @@ ghost use Rattle.ebpf_command.specs.Response.{refused_response};
 ghost use Rattle.ebpf_command.specs.Writing.{Writes, WritesBeginning, Reads};
 ghost use Rattle.ebpf_one.specs.InputFaults.{undecoded_sentence, fault_sentence};
 ghost use Rattle.ebpf_one.specs.Lines.{refused_line};
-ghost use Rattle.ebpf_one.specs.ExplainText.{ExplainsTo, ExplainsBytes, ExplainsDecoded, ExplainsFlow, explained, misled_response};
+ghost use Rattle.ebpf_one.specs.ExplainText.{ExplainsTo, ExplainsBytes, ExplainsDecoded, ExplainsFlow, explained, explained_by, misled_response};
 
 use crate::form::Form;
 use crate::input_faults::{write_fault_sentence, write_undecoded};
@@ -35,6 +36,8 @@ use ebpf_insn::fault::{DecodeCode, DecodeFault};
 use ebpf_insn::program::Program;
 use ebpf_state::kinds::{KindRow, kinds};
 use ebpf_verify::decl::Decl;
+use ebpf_verify::fault::VerifyCode;
+use ebpf_verify::looked::Looked;
 use ebpf_verify::trace::trace_verdict;
 use std::alloc::{AllocError, Global};
 use std::io::{Read, Write};
@@ -189,10 +192,22 @@ fn explain_flowed(
     ensures { IfOk result (λ answer. answer ≡ explained (record { program = flowed.now; decl = decl; rows = rows.now })) }
 {
     let trace = trace_verdict(alloc, flowed, decl, rows)?;
+    let looked = Looked::of(flowed, decl, rows, &trace);
+    answer_looked(alloc, &looked, trace.refusal)
+}
+
+// The answer to a program that was looked at, by the refusal of its trace.
+fn answer_looked(
+    alloc: Global,
+    looked: &Looked,
+    refusal: Option<(u16, VerifyCode)>,
+) -> Result<Answer, AllocError>
+    ensures { IfOk result (λ answer. answer ≡ explained_by refusal (subject_of looked.now) looked.now.entries.now) }
+{
     let mut text = String::new(alloc);
-    write_slots(alloc, &mut text, flowed, decl, &trace.entries, rows)?;
-    let Some((slot, code)) = trace.refusal else {
-        let len = flowed.program().len();
+    write_slots(alloc, &mut text, looked)?;
+    let Some((slot, code)) = refusal else {
+        let len = looked.flowed.program().len();
         write!(text, "accepted {len}\n")?;
         return Ok(Answer {
             text,
@@ -201,16 +216,7 @@ fn explain_flowed(
     };
     let name = RefusalCode::Verify(code).name();
     write!(text, "refused {name} {slot}\n")?;
-    write_reason(
-        alloc,
-        &mut text,
-        flowed,
-        &trace.entries,
-        slot as usize,
-        code,
-        decl,
-        rows,
-    )?;
+    write_reason(alloc, &mut text, looked, slot as usize, code)?;
     Ok(Answer {
         text,
         done: Done::Refused,

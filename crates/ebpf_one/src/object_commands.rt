@@ -2,12 +2,12 @@
 
 ghost use Rattle.std.specs.Prelude.{◌≡◌, ◌≢◌, IfOk, IfErr};
 ghost use Rattle.ebpf_command.specs.declared.done.EngineFault.TheVariants.{Output};
-ghost use Rattle.ebpf_command.specs.Writing.{Writes, WritesBeginning, Reads};
+ghost use Rattle.ebpf_command.specs.Writing.{Reads};
 ghost use Rattle.ebpf_one.specs.declared.form.Form.TheVariants.{Raw};
 ghost use Rattle.ebpf_one.specs.ExplainText.{ExplainsTo};
 ghost use Rattle.ebpf_one.specs.LayOutText.{LaysOut};
 ghost use Rattle.ebpf_one.specs.ListText.{RespondsList};
-ghost use Rattle.ebpf_one.specs.ObjectText.{RespondsObject};
+ghost use Rattle.ebpf_one.specs.ObjectText.{Answers, RespondsObject};
 ghost use Rattle.ebpf_one.specs.OneText.{Responds};
 
 use crate::answer::answer_input;
@@ -36,10 +36,9 @@ pub fn one_object<R: Read, W: Write>(
     nulls: bool,
 ) -> Result<Done, EngineFault>
     // What `one` writes of the function's slots is written, or the fault of the file, and nothing else.
-    ensures response { Writes (RespondsObject (Responds Raw context.now held nulls) function.now) (R.remaining reader.old) (W.contents writer.old) (W.contents writer.new) result }
+    ensures text { Answers (Responds Raw context.now held nulls) function.now (R.remaining reader.old) (W.contents writer.old) (W.contents writer.new) result }
     ensures consumed { Reads (R.remaining reader.old) (R.remaining reader.new) result }
     ensures untouched { IfErr result (λ fault. fault ≢ Output → writer.new ≡ writer.old) }
-    ensures beginning { WritesBeginning (RespondsObject (Responds Raw context.now held nulls) function.now) (R.remaining reader.old) (W.contents writer.old) (W.contents writer.new) result }
 {
     respond(alloc, reader, writer, |file| {
         one_of(alloc, file, function, context, held, nulls)
@@ -75,10 +74,9 @@ pub fn list_object<R: Read, W: Write>(
     function: &str,
 ) -> Result<Done, EngineFault>
     // What `list` writes of the function's slots is written, or the fault of the file, and nothing else.
-    ensures response { Writes (RespondsObject (RespondsList Raw) function.now) (R.remaining reader.old) (W.contents writer.old) (W.contents writer.new) result }
+    ensures text { Answers (RespondsList Raw) function.now (R.remaining reader.old) (W.contents writer.old) (W.contents writer.new) result }
     ensures consumed { Reads (R.remaining reader.old) (R.remaining reader.new) result }
     ensures untouched { IfErr result (λ fault. fault ≢ Output → writer.new ≡ writer.old) }
-    ensures beginning { WritesBeginning (RespondsObject (RespondsList Raw) function.now) (R.remaining reader.old) (W.contents writer.old) (W.contents writer.new) result }
 {
     respond(alloc, reader, writer, |file| {
         list_of(alloc, file, function)
@@ -109,10 +107,9 @@ pub fn explain_object<R: Read, W: Write>(
     held: u8,
 ) -> Result<Done, EngineFault>
     // What `explain` writes of the function's slots is written, or the fault of the file, and nothing else.
-    ensures response { Writes (RespondsObject (ExplainsTo Raw context.now held) function.now) (R.remaining reader.old) (W.contents writer.old) (W.contents writer.new) result }
+    ensures text { Answers (ExplainsTo Raw context.now held) function.now (R.remaining reader.old) (W.contents writer.old) (W.contents writer.new) result }
     ensures consumed { Reads (R.remaining reader.old) (R.remaining reader.new) result }
     ensures untouched { IfErr result (λ fault. fault ≢ Output → writer.new ≡ writer.old) }
-    ensures beginning { WritesBeginning (RespondsObject (ExplainsTo Raw context.now held) function.now) (R.remaining reader.old) (W.contents writer.old) (W.contents writer.new) result }
 {
     respond(alloc, reader, writer, |file| {
         explain_of(alloc, file, function, context, held)
@@ -147,10 +144,9 @@ pub fn lay_out_object<R: Read, W: Write>(
     function: &str,
 ) -> Result<Done, EngineFault>
     // What `lay-out` writes of the function's slots is written, or the fault of the file, and nothing else.
-    ensures response { Writes (RespondsObject (LaysOut Raw) function.now) (R.remaining reader.old) (W.contents writer.old) (W.contents writer.new) result }
+    ensures text { Answers (LaysOut Raw) function.now (R.remaining reader.old) (W.contents writer.old) (W.contents writer.new) result }
     ensures consumed { Reads (R.remaining reader.old) (R.remaining reader.new) result }
     ensures untouched { IfErr result (λ fault. fault ≢ Output → writer.new ≡ writer.old) }
-    ensures beginning { WritesBeginning (RespondsObject (LaysOut Raw) function.now) (R.remaining reader.old) (W.contents writer.old) (W.contents writer.new) result }
 {
     respond(alloc, reader, writer, |file| {
         lay_out_of(alloc, file, function)

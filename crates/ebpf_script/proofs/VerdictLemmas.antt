@@ -1,8 +1,6 @@
--- The verdicts on the programs of a script, one after another.
-use Rattle.std.proofs.Common.{◌≡◌, ◌||◌, ℕ, zero, suc, true, false, Bool, List, [], ◌∷◌, ◌++◌, map, string_bytes, refl, sym, ap, ◌∙◌, subst, append_assoc, arith}
+-- The programs of a script that are accepted.
+use Rattle.std.proofs.Common.{◌≡◌, ◌||◌, ℕ, zero, suc, true, false, Bool, List, [], ◌∷◌, ◌++◌, map, refl, sym, ap, ◌∙◌, subst, arith}
 use Rattle.std.proofs.lemmas.List.{map-append}
-use Rattle.std.proofs.lemmas.Grind.{flat_map-append, common_steps}
-use Rattle.std.proofs.lemmas.List.Folds.{list_any-append}
 use Rattle.std.proofs.lemmas.List.Elements.{All-append}
 use Rattle.ebpf_state.specs.declared.kinds.KindRow.{KindRow}
 use Rattle.ebpf_state.specs.Kinds.{AreKinds}
@@ -18,35 +16,8 @@ use Rattle.ebpf_command.proofs.JudgedRows.{accepted_decl, accepted_rows}
 use Rattle.ebpf_machine.proofs.Instructions.KindLemmas.{kinds_known}
 use Rattle.ebpf_script.specs.declared.verdicts.Verdicts.{Verdicts}
 use Rattle.ebpf_script.specs.ParsedScript.{Named}
-use Rattle.ebpf_script.specs.Verdicts.{Verdict, verdict_lines, accepted_of, is_any_refused, judged_line, accepted_in, is_refused}
+use Rattle.ebpf_script.specs.Verdicts.{Verdict, accepted_of, is_any_refused, accepted_in, is_refused}
 use Rattle.ebpf_script.specs.VerdictsKept.{AreKept}
-
--- the verdicts on all programs but those that are left
-pub record AreKeptBefore (programs left : List Named) (kept : Verdicts) : Type 0 where
-  pub verdicts : List Verdict
-  pub on : map (λ v. v.program) verdicts ++ left ≡ programs
-  pub text : string_bytes kept.text ≡ verdict_lines verdicts
-  pub accepted : kept.accepted.items ≡ accepted_of verdicts
-  pub refused : kept.refused ≡ is_any_refused verdicts
-
-append_nil_of : {A : Type 0} (xs : List A) → xs ++ [] ≡ xs
-append_nil_of xs = grind (arith, common_steps)
-
--- a verdict more
-pub kept_next : (programs left : List Named) (old new : Verdicts) (v : Verdict) → AreKeptBefore programs (v.program ∷ left) old
-    → string_bytes new.text ≡ string_bytes old.text ++ judged_line v.program.name v.judged → new.accepted.items ≡ old.accepted.items ++ accepted_in v.judged → new.refused ≡ (old.refused || is_refused v.judged)
-    → AreKeptBefore programs left new
-kept_next programs left old new v h text accepted refused = record {
-  verdicts = h.verdicts ++ v ∷ [];
-  on = ap (λ (ps : List Named). ps ++ left) (map-append (λ (x : Verdict). x.program) h.verdicts (v ∷ [])) ∙ (append_assoc (map (λ (x : Verdict). x.program) h.verdicts) (v.program ∷ []) left ∙ h.on);
-  text = text ∙ (ap (λ xs. xs ++ judged_line v.program.name v.judged) h.text ∙ (ap (λ xs. verdict_lines h.verdicts ++ xs) (sym (append_nil_of _)) ∙ sym (flat_map-append (λ (x : Verdict). judged_line x.program.name x.judged) h.verdicts (v ∷ []))));
-  accepted = accepted ∙ (ap (λ (xs : List Subject). xs ++ accepted_in v.judged) h.accepted ∙ (ap (λ (xs : List Subject). accepted_of h.verdicts ++ xs) (sym (append_nil_of _)) ∙ sym (flat_map-append (λ (x : Verdict). accepted_in x.judged) h.verdicts (v ∷ []))));
-  refused = refused ∙ (ap (λ (b : Bool). b || is_refused v.judged) h.refused ∙ (ap (λ (b : Bool). is_any_refused h.verdicts || b) (sym (or_false (is_refused v.judged))) ∙ sym (list_any-append (λ (x : Verdict). is_refused x.judged) h.verdicts (v ∷ []))));
-}
-  where
-    or_false : (b : Bool) → (b || false) ≡ b
-    or_false true = refl
-    or_false false = refl
 
 -- ---- the programs that are accepted were verified with the known kinds
 

@@ -1,5 +1,5 @@
 -- The verdicts on the programs of a script, each with why the program is refused.
-use Rattle.std.specs.Prelude.{◌≡◌, ℕ, ◌++◌, List, [], map}
+use Rattle.std.specs.Prelude.{◌≡◌, ℕ, ◌++◌, Bool, true, false, List, [], map}
 use Rattle.std.specs.List.{flat_map}
 use Rattle.ebpf_state.specs.declared.kinds.KindRow.{KindRow}
 use Rattle.ebpf_verify.specs.declared.decl.Decl.{Decl}
@@ -8,20 +8,21 @@ use Rattle.ebpf_command.specs.declared.judge.Judged.TheVariants.{Accepted, Refus
 use Rattle.ebpf_explain.specs.Why.{IsWhy}
 use Rattle.ebpf_script.specs.Verdicts.{Verdict, judged_line}
 
--- the sentence that tells why; of a program that is accepted there is none
-abbrev pub IsTold : Judged → List ℕ → Decl → List KindRow → List ℕ → Type 0
-IsTold (Accepted s) bytes decl rows why = why ≡ []
-IsTold (Refused code slot) bytes decl rows why = IsWhy bytes decl rows why
+-- the sentence that says why, where that is asked for; of a program that is accepted there is none
+abbrev pub IsTold : Bool → Judged → List ℕ → Decl → List KindRow → List ℕ → Type 0
+IsTold true (Accepted s) bytes decl rows why = why ≡ []
+IsTold true (Refused code slot) bytes decl rows why = IsWhy bytes decl rows why
+IsTold false judged bytes decl rows why = why ≡ []
 
--- a verdict, and what is told behind its line
-pub record Explained : Type 0 where
+-- a verdict, and what is said after its line
+pub record Explained (asked : Bool) : Type 0 where
   pub verdict : Verdict
   pub why : List ℕ
-  pub is : IsTold verdict.judged verdict.program.bytes verdict.decl verdict.rows why
+  pub is : IsTold asked verdict.judged verdict.program.bytes verdict.decl verdict.rows why
 
--- each line, and what is told behind it
-abbrev pub explained_lines : List Explained → List ℕ
+-- each line, and what is said after it
+abbrev pub explained_lines : {asked : Bool} → List (Explained asked) → List ℕ
 explained_lines explained = flat_map (λ e. judged_line e.verdict.program.name e.verdict.judged ++ e.why) explained
 
-abbrev pub verdicts_of : List Explained → List Verdict
+abbrev pub verdicts_of : {asked : Bool} → List (Explained asked) → List Verdict
 verdicts_of explained = map (λ e. e.verdict) explained

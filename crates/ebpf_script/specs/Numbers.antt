@@ -1,6 +1,8 @@
 -- The numbers of a script: decimal digits alone, with any number of leading zeros.
 use Rattle.std.specs.Prelude.{ℕ, ◌+◌, ◌-◌, ◌*◌, Bool, not, ◌&&◌, ◌==◌, nat_le, if◌then◌else◌, List, length, fold, Option, Some, None}
 use Rattle.std.specs.Str.{all_ascii_digits}
+use Rattle.ebpf_verify.specs.declared.decl.TheConstants.{MAX_CONTEXT, MAX_HELD}
+use Rattle.vmem_arena.specs.declared.arena.TheConstants.{MAX_PAGES}
 
 -- the value of decimal digits
 abbrev pub value_of : List ℕ → ℕ
@@ -16,10 +18,10 @@ number_to most word = if is_number word && nat_le (value_of word) most then Some
 
 -- the length of a context, and the most objects to hold
 abbrev pub context_of : List ℕ → Option ℕ
-context_of word = number_to 4096 word
+context_of word = number_to MAX_CONTEXT word
 
 abbrev pub held_of : List ℕ → Option ℕ
-held_of word = number_to 64 word
+held_of word = number_to MAX_HELD word
 
 -- the number of a run, of a kind and of a slot
 abbrev pub run_of : List ℕ → Option ℕ
@@ -38,4 +40,4 @@ unless_zero (Some n) = if n == 0 then None else Some n
 
 -- the pages of an arena
 abbrev pub pages_of : List ℕ → Option ℕ
-pages_of word = unless_zero (number_to 256 word)
+pages_of word = unless_zero (number_to MAX_PAGES word)

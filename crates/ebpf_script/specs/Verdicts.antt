@@ -1,5 +1,5 @@
 -- The verdicts on the programs of a script, and their lines.
-use Rattle.std.specs.Prelude.{◌≡◌, ℕ, ◌++◌, Bool, true, false, List, [], ◌∷◌, length, map, codes, decimal}
+use Rattle.std.specs.Prelude.{◌≡◌, ℕ, ◌++◌, Bool, true, false, if◌then◌else◌, List, [], ◌∷◌, length, map, codes, decimal}
 use Rattle.std.specs.List.{flat_map, list_any}
 use Rattle.ebpf_insn.specs.Program.{instructions}
 use Rattle.ebpf_state.specs.declared.kinds.KindRow.{KindRow}
@@ -10,6 +10,7 @@ use Rattle.ebpf_command.specs.declared.judge.Judged.{Judged}
 use Rattle.ebpf_command.specs.declared.judge.Judged.TheVariants.{Accepted, Refused}
 use Rattle.ebpf_command.specs.Codes.{refusal_name}
 use Rattle.ebpf_command.specs.Judging.{IsJudged}
+use Rattle.ebpf_command.specs.Response.{Response, refused_response, clean_response}
 use Rattle.ebpf_script.specs.ParsedScript.{Named}
 
 -- what a program of a script is judged to be, with what it declares and the kinds that there are
@@ -49,3 +50,7 @@ is_refused (Refused code slot) = true
 
 abbrev pub is_any_refused : List Verdict → Bool
 is_any_refused verdicts = list_any (λ v. is_refused v.judged) verdicts
+
+-- the response of a text, by whether a program is refused
+abbrev pub answered : List ℕ → Bool → Response
+answered text refused = if refused then refused_response text else clean_response text

@@ -49,14 +49,5 @@ fn answer_text(alloc: Global, text: &[u8]) -> Result<Answer, AllocError>
 fn answer_script(alloc: Global, script: &Script) -> Result<Answer, AllocError>
     ensures { IfOk result (RespondsScript DoesCheck (Ok (parsed_script script.now))) }
 {
-    let verdicts = verdicts_on(alloc, &script.programs)?;
-    let done = if verdicts.refused {
-        Done::Refused
-    } else {
-        Done::Clean
-    };
-    Ok(Answer {
-        text: verdicts.text,
-        done,
-    })
+    Ok(verdicts_on(alloc, &script.programs)?.into_answer())
 }

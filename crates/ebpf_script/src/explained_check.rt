@@ -66,14 +66,6 @@ fn answer_unread(alloc: Global, text: &[u8], fault: ScriptFault) -> Result<Answe
 fn answer_script(alloc: Global, script: &Script) -> Result<Answer, AllocError>
     ensures { IfOk result (ExplainsScript (parsed_script script.now)) }
 {
-    let verdicts = explained_verdicts_on(alloc, &script.programs)?;
-    let done = if verdicts.refused {
-        Done::Refused
-    } else {
-        Done::Clean
-    };
-    Ok(Answer {
-        text: verdicts.text,
-        done,
-    })
+    let verdicts = explained_verdicts_on(alloc, &script.programs, true)?;
+    Ok(verdicts.into_answer())
 }

@@ -9,7 +9,7 @@ ghost use Rattle.ebpf_script.specs.Scripts.{parsed_text};
 
 mod line;
 mod names;
-mod numbers;
+pub(crate) mod numbers;
 pub mod script;
 mod statement;
 mod words;

@@ -59,10 +59,7 @@ fn answer_script(alloc: Global, script: &Script) -> Result<Answer, AllocError>
 {
     let verdicts = verdicts_on(alloc, &script.programs)?;
     if verdicts.refused {
-        return Ok(Answer {
-            text: verdicts.text,
-            done: Done::Refused,
-        });
+        return Ok(verdicts.into_answer());
     }
     answer_events(alloc, verdicts.text, &verdicts.accepted, &script.events)
 }

@@ -13,6 +13,7 @@ ghost use Rattle.ebpf_script.specs.ScriptText.{RespondsScript};
 use crate::meter::{Meter, Stage};
 use crate::outcome_stats::stats_of;
 use crate::outcome_text::write_outcome;
+use crate::reader::numbers::SLOTS;
 use crate::reader::read_script;
 use crate::reader::script::{Dialect, Script, ScriptStop};
 use crate::verdicts::verdicts_on;
@@ -24,12 +25,7 @@ use std::alloc::{AllocError, Global};
 use std::io::{Read, Write};
 use std::sync::Wait;
 use std::thread::Threads;
-
-// The pages of the arena, where no line says how many.
-const PAGES: u32 = 256;
-
-// The slots of an arena of so many pages.
-const SLOTS: u32 = 65_536;
+use vmem_arena::MAX_PAGES;
 
 /// Reads a script of jobs, judges its programs, has the jobs done by this many workers, and writes what came of each, of the
 /// caches and of the shelves. The reaper makes this many passes beside them, and those of the script's lines. The meter is told how far
@@ -103,16 +99,13 @@ fn answer_script<R: Threads + Wait + Sync, M: Meter>(
     ensures { IfOk result (RespondsScript DoesRun (Ok (parsed_script script))) }
 {
     let verdicts = verdicts_on(alloc, &script.programs)?;
-    let mut text = verdicts.text;
     if verdicts.refused {
-        return Ok(Answer {
-            text,
-            done: Done::Refused,
-        });
+        return Ok(verdicts.into_answer());
     }
+    let mut text = verdicts.text;
     meter.ended(Stage::Judging);
     let host = Host {
-        pages: script.pages.unwrap_or(PAGES),
+        pages: script.pages.unwrap_or(MAX_PAGES),
         programs: verdicts.accepted,
     };
     let outcome = outcome_of(

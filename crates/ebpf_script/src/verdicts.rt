@@ -1,17 +1,18 @@
 //! The verdicts on the programs of a script.
 
-ghost use Rattle.std.specs.Prelude.{◌≡◌, ◌++◌, ◌||◌, map, string_bytes, IfOk, OnOk};
+ghost use Rattle.std.specs.Prelude.{◌≡◌, ◌++◌, ◌||◌, ◌&&◌, map, string_bytes, IfOk, OnOk};
 ghost use Rattle.ebpf_state.specs.Kinds.{AreKinds};
 ghost use Rattle.ebpf_script.specs.ExplainedKept.{AreExplained, IsOneMore};
 ghost use Rattle.ebpf_script.specs.ReadScripts.{named};
-ghost use Rattle.ebpf_script.specs.Verdicts.{Verdict, AreOn, verdict_lines, accepted_of, is_any_refused, judged_line, accepted_in, is_refused};
+ghost use Rattle.ebpf_script.specs.Verdicts.{judged_line, accepted_in, is_refused, answered};
 ghost use Rattle.ebpf_script.specs.VerdictsKept.{AreKept};
 
-use crate::reader::script::Programs;
+use crate::reader::script::{ProgramText, Programs};
+use ebpf_command::answer::Answer;
+use ebpf_command::done::Done;
 use ebpf_command::judge::{Judged, judge};
 use ebpf_explain::why::write_why;
 use ebpf_state::kinds::{KindRow, kinds};
-use ebpf_verify::decl::Decl;
 use ebpf_verify::verified::Verified;
 use std::alloc::{AllocError, Global};
 
@@ -28,25 +29,17 @@ pub struct Verdicts {
 pub(crate) fn verdicts_on(alloc: Global, programs: &Programs) -> Result<Verdicts, AllocError>
     ensures { IfOk result (AreKept (map named programs.now.entries)) }
 {
-    let rows = kinds();
-    let mut verdicts = Verdicts {
-        text: String::new(alloc),
-        accepted: Vec::new(alloc),
-        refused: false,
-    };
-    for (name, program) in programs.iter() {
-        let judged = judge(alloc, &program.bytes, program.decl, &rows)?;
-        verdicts.add(name.as_str(), judged)?;
-    }
-    Ok(verdicts)
+    explained_verdicts_on(alloc, programs, false)
 }
 
-/// Judges each program of a script, and tells why it is refused. It fails only where an allocation fails.
+/// Judges each program of a script, and where that is asked for says after the line of each why it is refused. It fails only where
+/// an allocation fails.
 pub(crate) fn explained_verdicts_on(
     alloc: Global,
     programs: &Programs,
+    explain: bool,
 ) -> Result<Verdicts, AllocError>
-    ensures { IfOk result (AreExplained (map named programs.now.entries)) }
+    ensures { IfOk result (AreExplained explain (map named programs.now.entries)) }
 {
     let rows = kinds();
     let mut verdicts = Verdicts {
@@ -55,29 +48,44 @@ pub(crate) fn explained_verdicts_on(
         refused: false,
     };
     for (name, program) in programs.iter() {
-        verdicts.add_explained(alloc, name.as_str(), &program.bytes, program.decl, &rows)?;
+        verdicts.add_on(alloc, name.as_str(), program, &rows, explain)?;
     }
     Ok(verdicts)
 }
 
 impl Verdicts {
-    // The verdict on one program more, and why it is refused.
-    fn add_explained(
+    /// The answer of their text, by whether a program is refused.
+    pub(crate) fn into_answer(self) -> Answer
+        ensures { result ≡ answered (string_bytes self.text) self.refused }
+    {
+        let done = if self.refused {
+            Done::Refused
+        } else {
+            Done::Clean
+        };
+        Answer {
+            text: self.text,
+            done,
+        }
+    }
+
+    // The verdict on one program more, and where that is asked for why it is refused.
+    fn add_on(
         &mut self,
         alloc: Global,
         name: &str,
-        bytes: &[u8],
-        decl: Decl,
+        program: &ProgramText,
         rows: &[KindRow],
+        explain: bool,
     ) -> Result<(), AllocError>
         requires { AreKinds rows.now }
-        ensures { OnOk result (IsOneMore name.now bytes.now decl rows.now self.old self.new) }
+        ensures { OnOk result (IsOneMore explain name.now program.now.bytes.items program.now.decl rows.now self.old self.new) }
     {
-        let judged = judge(alloc, bytes, decl, rows)?;
-        let is_refused = is_refused(&judged);
+        let judged = judge(alloc, &program.bytes, program.decl, rows)?;
+        let is_told = is_told(explain, &judged);
         self.add(name, judged)?;
-        if is_refused {
-            write_why(alloc, &mut self.text, bytes, decl, rows)
+        if is_told {
+            write_why(alloc, &mut self.text, &program.bytes, program.decl, rows)
         } else {
             Ok(())
         }
@@ -105,9 +113,9 @@ impl Verdicts {
     }
 }
 
-// Whether a program is refused.
-fn is_refused(judged: &Judged) -> bool
-    ensures { result ≡ is_refused judged.now }
+// Whether it is said why a program is refused: where it is, and that is asked for.
+fn is_told(explain: bool, judged: &Judged) -> bool
+    ensures { result ≡ (explain && is_refused judged.now) }
 {
-    matches!(judged, Judged::Refused { .. })
+    explain && matches!(judged, Judged::Refused { .. })
 }

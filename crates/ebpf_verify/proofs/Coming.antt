@@ -13,11 +13,11 @@ use Rattle.ebpf_verify.specs.declared.entry.EntryState.{EntryState}
 use Rattle.ebpf_verify.specs.declared.entry.EntryState.TheVariants.{Unreached, Known, Conflict}
 use Rattle.ebpf_verify.specs.declared.fault.VerifyCode.{VerifyCode}
 use Rattle.ebpf_verify.specs.declared.trace.Trace.{Trace}
-use Rattle.ebpf_verify.specs.Comers.{along, comer_in, sent_by, comers_below, AreLookedAt}
+use Rattle.ebpf_verify.specs.Comers.{along, comer_in, sent_by, comers_below}
 use Rattle.ebpf_verify.specs.Entry.{entry_of, with_edge, with_sent, ChangesEach}
-use Rattle.ebpf_verify.specs.Rules.{after_fall, after_jump}
+use Rattle.ebpf_verify.specs.Rules.{refusal, after_fall, after_jump}
 use Rattle.ebpf_verify.specs.Subject.{Subject}
-use Rattle.ebpf_verify.specs.Traces.{entries_below, looked_at, IsTrace}
+use Rattle.ebpf_verify.specs.Traces.{entries_below, looked_at, IsTrace, AreLookedAt}
 use Rattle.ebpf_verify.specs.Verdict.{verdict, refusal_at, refusal_in}
 
 -- from no slot
@@ -48,48 +48,41 @@ sent_nowhere i p slot to here before f j = sym (append-nil before) ∙ ap (λ (c
   none_sent (Some i) Conflict = refl
   none_sent (Some i) (Known s) = rw (f, j, along_none, along_none) refl
 
--- what a fall leaves at slot 0, and a jump at slot 1
-pub came_by_fall : (fall jump : Option ℕ) (falls jumps : Bool) (passed taken : Option StateView) (from : ℕ) (e : EntryState) → fall ≡ cond falls (Some 0) None → jump ≡ cond jumps (Some 1) None
-    → e ≡ with_edge passed (leads_to fall 0) (with_edge taken (leads_to jump 0) Unreached) → comer_in e from ≡ along passed falls from
-came_by_fall fall jump falls jumps passed taken from e f j is = rw (is, f, j) (each falls jumps passed taken) where
-  each : (falls jumps : Bool) (passed taken : Option StateView) → comer_in (with_edge passed (leads_to (cond falls (Some 0) None) 0) (with_edge taken (leads_to (cond jumps (Some 1) None) 0) Unreached)) from ≡ along passed falls from
-  each true true (Some s) (Some t) = refl
-  each true true (Some s) None = refl
-  each true true None (Some t) = refl
-  each true true None None = refl
-  each true false (Some s) (Some t) = refl
-  each true false (Some s) None = refl
-  each true false None (Some t) = refl
-  each true false None None = refl
-  each false true (Some s) (Some t) = refl
-  each false true (Some s) None = refl
-  each false true None (Some t) = refl
-  each false true None None = refl
-  each false false (Some s) (Some t) = refl
-  each false false (Some s) None = refl
-  each false false None (Some t) = refl
-  each false false None None = refl
+-- nothing comes by an edge that leads elsewhere, and to a slot to which nothing else comes just what the edge carries
+by_no_edge : (s : Option StateView) (e : EntryState) → with_edge s false e ≡ e
+by_no_edge None e = refl
+by_no_edge (Some s) e = refl
 
-pub came_by_jump : (fall jump : Option ℕ) (falls jumps : Bool) (passed taken : Option StateView) (from : ℕ) (e : EntryState) → fall ≡ cond falls (Some 0) None → jump ≡ cond jumps (Some 1) None
+by_one_edge : (s : Option StateView) (leads : Bool) (from : ℕ) → comer_in (with_edge s leads Unreached) from ≡ along s leads from
+by_one_edge None leads from = refl
+by_one_edge (Some s) true from = refl
+by_one_edge (Some s) false from = refl
+
+-- what a fall leaves at slot 0, and a jump at slot 1
+pub came_by_fall : (fall jump : Option ℕ) (falls jumps : Bool) (passed taken : Option StateView) (from : ℕ) (e : EntryState)
+    → fall ≡ cond falls (Some 0) None → jump ≡ cond jumps (Some 1) None
+    → e ≡ with_edge passed (leads_to fall 0) (with_edge taken (leads_to jump 0) Unreached) → comer_in e from ≡ along passed falls from
+came_by_fall fall jump falls jumps passed taken from e f j is = rw (is, f, j, here falls, elsewhere jumps, by_no_edge taken Unreached) (by_one_edge passed falls from) where
+  here : (b : Bool) → leads_to (cond b (Some 0) None) 0 ≡ b
+  here true = refl
+  here false = refl
+
+  elsewhere : (b : Bool) → leads_to (cond b (Some 1) None) 0 ≡ false
+  elsewhere true = refl
+  elsewhere false = refl
+
+pub came_by_jump : (fall jump : Option ℕ) (falls jumps : Bool) (passed taken : Option StateView) (from : ℕ) (e : EntryState)
+    → fall ≡ cond falls (Some 0) None → jump ≡ cond jumps (Some 1) None
     → e ≡ with_edge passed (leads_to fall 1) (with_edge taken (leads_to jump 1) Unreached) → comer_in e from ≡ along taken jumps from
-came_by_jump fall jump falls jumps passed taken from e f j is = rw (is, f, j) (each falls jumps passed taken) where
-  each : (falls jumps : Bool) (passed taken : Option StateView) → comer_in (with_edge passed (leads_to (cond falls (Some 0) None) 1) (with_edge taken (leads_to (cond jumps (Some 1) None) 1) Unreached)) from ≡ along taken jumps from
-  each true true (Some s) (Some t) = refl
-  each true true (Some s) None = refl
-  each true true None (Some t) = refl
-  each true true None None = refl
-  each true false (Some s) (Some t) = refl
-  each true false (Some s) None = refl
-  each true false None (Some t) = refl
-  each true false None None = refl
-  each false true (Some s) (Some t) = refl
-  each false true (Some s) None = refl
-  each false true None (Some t) = refl
-  each false true None None = refl
-  each false false (Some s) (Some t) = refl
-  each false false (Some s) None = refl
-  each false false None (Some t) = refl
-  each false false None None = refl
+came_by_jump fall jump falls jumps passed taken from e f j is =
+    rw (is, f, j, elsewhere falls, here jumps, by_no_edge passed (with_edge taken jumps Unreached)) (by_one_edge taken jumps from) where
+      here : (b : Bool) → leads_to (cond b (Some 1) None) 1 ≡ b
+      here true = refl
+      here false = refl
+
+      elsewhere : (b : Bool) → leads_to (cond b (Some 0) None) 1 ≡ false
+      elsewhere true = refl
+      elsewhere false = refl
 
 -- ---- the entries of a trace
 
@@ -129,13 +122,15 @@ looked_at_by_trace s t h = from_verdict (verdict s) refl t.entries.items h.entri
         fine = λ slot lt. none_below (refusal_at s) at low.before slot (omega (arith, len));
       }
 
--- what is known of a slot below another that was looked at
-pub refusal_below : (s : Subject) (entries : List EntryState) (slot to : ℕ) (here : EntryState) → AreLookedAt s entries → slot < to → to < length entries → here ≡ entry_of s.program slot
-    → refusal_in s.decl s.rows (insn_at s.program slot) here ≡ None
-refusal_below s entries slot to here h below inside e = ap (refusal_in s.decl s.rows (insn_at s.program slot)) e ∙ h.fine slot (omega arith)
-
 pub entry_looked_at : (s : Subject) (entries : List EntryState) (slot : ℕ) (d : EntryState) → AreLookedAt s entries → slot < length entries → get_or entries slot d ≡ entry_of s.program slot
 entry_looked_at s entries slot d h lt = ap (λ (es : List EntryState). get_or es slot d) h.all ∙ entry_below s.program (length entries) slot d lt
+
+-- a slot before another that was looked at is not refused
+pub refusal_below : (s : Subject) (entries : List EntryState) (slot to : ℕ) (i : Insn) (known : StateView) → AreLookedAt s entries → slot < to → to < length entries
+    → insn_at s.program slot ≡ Some i → Known known ≡ entry_of s.program slot → refusal s.decl s.rows i known ≡ None
+refusal_below s entries slot to i known h below inside at here =
+    let fine : refusal_in s.decl s.rows (insn_at s.program slot) (entry_of s.program slot) ≡ None = h.fine slot (omega arith) in
+    ap (refusal_in s.decl s.rows (Some i)) here ∙ (ap (λ (o : Option Insn). refusal_in s.decl s.rows o (entry_of s.program slot)) (sym at) ∙ fine)
 
 -- ---- one after another
 

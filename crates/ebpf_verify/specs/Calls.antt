@@ -1,6 +1,6 @@
 -- Calls of helpers (RFC 9669, section 4.3.1): the codes that refuse one, in order, and what is known after it. A helper takes its
 -- arguments in r1 and r2 and leaves its result in r0; r1 to r5 are lost.
-use Rattle.std.specs.Prelude.{ℕ, zero, suc, ℤ, pos, nat_lt, nat_le, length, List, [], ◌∷◌, Bool, false, not, ◌&&◌, ◌==◌, Option, Some, None}
+use Rattle.std.specs.Prelude.{ℕ, pos, nat_lt, nat_le, length, List, [], ◌∷◌, Bool, false, not, ◌&&◌, ◌==◌, Option, Some, None}
 use Rattle.std.specs.Ordering.{int_eq}
 use Rattle.ebpf_insn.specs.declared.register.Reg.TheVariants.{R0, R1, R2, R3, R4, R5}
 use Rattle.ebpf_insn.specs.Faults.{first_of}

@@ -9,4 +9,5 @@ pub mod Rules
 pub mod Entry
 pub mod Verdict
 pub mod Traces
+pub mod Looked
 pub mod Comers

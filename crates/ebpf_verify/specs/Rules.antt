@@ -64,6 +64,21 @@ refusal decl rows (insn.Load size signed dst base offset) s = load_refusal decl.
 refusal decl rows (insn.Store size base offset src) s = refusal_of_store rows size base offset src s
 refusal decl rows (insn.Call number) s = call_refusal decl rows (helper_of number) s
 
+-- an instruction that goes to the slot after it alone
+abbrev pub Acts : Insn → Type 0
+Acts (insn.Jump offset) = ⊥
+Acts (insn.JumpFar offset) = ⊥
+Acts (insn.Branch width condition left right offset) = ⊥
+Acts insn.Exit = ⊥
+Acts _ = Unit {0}
+
+-- an instruction that writes what it makes of one number
+abbrev pub ChangesNumber : Insn → Type 0
+ChangesNumber (insn.Sext width bits dst src) = Unit {0}
+ChangesNumber (insn.Neg width dst) = Unit {0}
+ChangesNumber (insn.Swap order bits dst) = Unit {0}
+ChangesNumber _ = ⊥
+
 -- what is known after arithmetic, or a load, that is not refused
 abbrev pub after_operation : Insn → StateView → Option StateView
 after_operation (insn.Alu width o dst src) s = Some (with_register s dst (result_of width o (register_of s dst) (operand s width src)))

@@ -1,12 +1,12 @@
 -- What the verdict stands on.
-use Rattle.std.specs.Prelude.{◌≡◌, ◌++◌, ℕ, zero, suc, List, [], ◌∷◌, length, Option, Some, None}
+use Rattle.std.specs.Prelude.{◌≡◌, ◌<◌, ◌≤◌, ◌++◌, ℕ, zero, suc, List, [], ◌∷◌, length, Option, Some, None}
 use Rattle.ebpf_insn.specs.declared.insn.Insn.{Insn}
 use Rattle.ebpf_verify.specs.declared.entry.EntryState.{EntryState}
 use Rattle.ebpf_verify.specs.declared.fault.VerifyCode.{VerifyCode}
 use Rattle.ebpf_verify.specs.declared.trace.Trace.{Trace}
 use Rattle.ebpf_verify.specs.Subject.{Subject}
 use Rattle.ebpf_verify.specs.Entry.{entry_of}
-use Rattle.ebpf_verify.specs.Verdict.{verdict}
+use Rattle.ebpf_verify.specs.Verdict.{verdict, refusal_at}
 
 -- how many slots are looked at: those up to the refused one
 abbrev pub looked_at : Option (ℕ × VerifyCode) → ℕ → ℕ
@@ -22,3 +22,9 @@ entries_below p (suc m) = entries_below p m ++ entry_of p m ∷ []
 pub record IsTrace (s : Subject) (t : Trace) : Type 0 where
   pub refusal : t.refusal ≡ verdict s
   pub entries : t.entries.items ≡ entries_below s.program (looked_at (verdict s) (length s.program))
+
+-- these are the entries of the slots that were looked at, and none but the last of those is refused
+pub record AreLookedAt (s : Subject) (entries : List EntryState) : Type 0 where
+  pub all : entries ≡ entries_below s.program (length entries)
+  pub inside : length entries ≤ length s.program
+  pub fine : (slot : ℕ) → suc slot < length entries → refusal_at s slot ≡ None

@@ -21,6 +21,19 @@ pub(crate) struct Branch {
     pub(crate) right: Source,
 }
 
+impl Branch {
+    pub(crate) fn new(width: Width, cond: Cond, left: Reg, right: Source) -> Branch
+        ensures { result ≡ record { width = width; cond = cond; left = left; right = right } }
+    {
+        Branch {
+            width,
+            cond,
+            left,
+            right,
+        }
+    }
+}
+
 /// What is known of a second operand.
 pub(crate) fn operand(state: &State, width: Width, source: Source) -> Abs
     ensures value { result ≡ operand state.now width source }

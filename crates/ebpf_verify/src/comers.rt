@@ -1,21 +1,18 @@
 //! What comes to a slot, state by state: what its entry is the join of.
 
-ghost use Rattle.std.specs.Prelude.{◌≡◌, ◌<◌, ◌≤◌, ◌∷◌, ◌++◌, [], if◌then◌else◌, IfOk, OnOk, length, None, Some};
-ghost use Rattle.ebpf_flow.specs.Edges.{edges_at, leads_to};
-ghost use Rattle.ebpf_insn.specs.Program.{insn_at};
+ghost use Rattle.std.specs.Prelude.{◌≡◌, ◌<◌, ◌∷◌, ◌++◌, [], if◌then◌else◌, IfOk, OnOk, length, None, Some};
+ghost use Rattle.ebpf_flow.specs.Edges.{leads_to};
 ghost use Rattle.ebpf_insn.specs.declared.program.TheConstants.{MAX_SLOTS};
-ghost use Rattle.ebpf_verify.specs.Comers.{AreLookedAt, along, comer_in, comers, sent_by};
-ghost use Rattle.ebpf_verify.specs.Rules.{refusal, after_fall, after_jump};
-ghost use Rattle.ebpf_verify.specs.Verdict.{AreRows, refusal_in};
+ghost use Rattle.ebpf_verify.specs.Comers.{comer_in, comers, sent_along, sent_from};
+ghost use Rattle.ebpf_verify.specs.Entry.{entry_of};
+ghost use Rattle.ebpf_verify.specs.Rules.{refusal};
 
-use crate::decl::Decl;
 use crate::entry::EntryState;
 use crate::fault::VerifyFault;
+use crate::looked::Looked;
 use crate::propagate::pass_on;
 use ebpf_flow::edges::Edges;
-use ebpf_flow::flowed::Flowed;
 use ebpf_insn::insn::Insn;
-use ebpf_state::kinds::KindRow;
 use ebpf_state::state::State;
 use std::alloc::{AllocError, Global};
 use std::mem;
@@ -29,65 +26,52 @@ pub struct Comer {
     pub state: State,
 }
 
-/// What comes to a slot, in the order of the slots that it comes from; from one that leads there twice, first by its jump. The
-/// entries are those of a trace. It looks at each lower slot once.
+// What sends: the instruction at a slot, and what is known before it.
+#[derive(Drop)]
+struct Sender<'a> {
+    insn: &'a Insn,
+    from: usize,
+    state: &'a State,
+}
+
+/// What comes to a slot that was looked at, in the order of the slots that it comes from; from one that leads there twice, first by
+/// its jump. It looks at each lower slot once.
 ///
 /// # Errors
 /// It fails only where an allocation fails.
-pub fn comers_to(
-    alloc: Global,
-    flowed: &Flowed,
-    decl: Decl,
-    rows: &[KindRow],
-    entries: &[EntryState],
-    to: usize,
-) -> Result<Vec<Comer>, AllocError>
-    requires rows { AreRows rows.now }
-    requires looked { AreLookedAt (record { program = flowed.now; decl = decl; rows = rows.now }) entries.now }
-    requires inside { to < length entries.now }
-    ensures { IfOk result (λ v. v.items ≡ comers flowed.now to) }
+pub fn comers_to(alloc: Global, looked: &Looked, to: usize) -> Result<Vec<Comer>, AllocError>
+    requires inside { to < length looked.now.entries.now }
+    ensures { IfOk result (λ v. v.items ≡ comers looked.now.flowed.now to) }
 {
     let mut comers = Vec::new(alloc);
     for from in 0..to {
-        add_from(
-            alloc,
-            flowed,
-            decl,
-            rows,
-            from,
-            &entries[from],
-            to,
-            &mut comers,
-        )?;
+        add_from(alloc, looked, from, to, &mut comers)?;
     }
     Ok(comers)
 }
 
-// Adds what one slot sends to another.
+// Adds what one slot sends to a later one that was looked at.
 fn add_from(
     alloc: Global,
-    flowed: &Flowed,
-    decl: Decl,
-    rows: &[KindRow],
+    looked: &Looked,
     from: usize,
-    entry: &EntryState,
     to: usize,
     comers: &mut Vec<Comer>,
 ) -> Result<(), AllocError>
-    requires inside { from < length flowed.now }
-    requires few { length rows.now ≤ 8 }
-    requires fine { refusal_in decl rows.now (insn_at flowed.now from) entry.now ≡ None }
-    ensures { OnOk result (comers.new.items ≡ comers.old.items ++ sent_by (insn_at flowed.now from) (edges_at flowed.now from) from to entry.now) }
+    requires before { from < to }
+    requires inside { to < length looked.now.entries.now }
+    ensures { OnOk result (comers.new.items ≡ comers.old.items ++ sent_from looked.now.flowed.now from to (entry_of looked.now.flowed.now from)) }
 {
-    let edges = flowed.successors(from);
+    let edges = looked.flowed.successors(from);
     let falls = leads_to(edges.fall, to);
     let jumps = leads_to(edges.jump, to);
     if !falls && !jumps {
         return Ok(());
     }
-    match (flowed.program().at(from), entry) {
+    match (looked.flowed.program().at(from), &looked.entries[from]) {
         (Some(insn), EntryState::Known(state)) => {
-            add_after(alloc, decl, rows, insn, from, state, jumps, falls, comers)
+            let sender = Sender { insn, from, state };
+            add_after(alloc, looked, &sender, jumps, falls, comers)
         }
         _ => Ok(()),
     }
@@ -107,26 +91,33 @@ fn leads_to(edge: Option<u16>, to: usize) -> bool
 // edges of their own: a fall to 0, and a jump to 1.
 fn add_after(
     alloc: Global,
-    decl: Decl,
-    rows: &[KindRow],
-    insn: &Insn,
-    from: usize,
-    state: &State,
+    looked: &Looked,
+    sender: &Sender,
     jumps: bool,
     falls: bool,
     comers: &mut Vec<Comer>,
 ) -> Result<(), AllocError>
-    requires inside { from < MAX_SLOTS }
-    requires few { length rows.now ≤ 8 }
-    requires fine { refusal decl rows.now insn.now state.now ≡ None }
-    ensures { OnOk result (comers.new.items ≡ comers.old.items ++ (along (after_jump insn.now state.now) jumps from ++ along (after_fall from insn.now state.now) falls from)) }
+    requires inside { sender.now.from < MAX_SLOTS }
+    requires fine { refusal looked.now.decl looked.now.kinds.now sender.now.insn.now sender.now.state.now ≡ None }
+    ensures { OnOk result (comers.new.items ≡ comers.old.items ++ sent_along sender.now.insn.now sender.now.from sender.now.state.now jumps falls) }
 {
+    let from = sender.from;
     let edges = Edges {
         fall: way(falls, 0),
         jump: way(jumps, 1),
     };
     let mut sent = two_entries(alloc)?;
-    match pass_on(decl, rows, insn, from, state.copy()?, edges, &mut sent) {
+    let state = sender.state.copy()?;
+    let passed = pass_on(
+        looked.decl,
+        looked.kinds,
+        sender.insn,
+        from,
+        state,
+        edges,
+        &mut sent,
+    );
+    match passed {
         Ok(()) => {}
         Err(VerifyFault::NoMemory) => return Err(AllocError),
         Err(VerifyFault::Refused { .. }) => unreachable!(),

@@ -7,7 +7,7 @@ ghost use Rattle.ebpf_range.specs.Refinements.{refinement};
 ghost use Rattle.ebpf_state.specs.References.{settled};
 ghost use Rattle.ebpf_state.specs.States.{register_of};
 ghost use Rattle.ebpf_verify.specs.Branches.{with_operands, is_null_where, after_branch};
-ghost use Rattle.ebpf_verify.specs.Rules.{exit_refusal, refusal_of_branch, refusal, after_operation};
+ghost use Rattle.ebpf_verify.specs.Rules.{Acts, exit_refusal, refusal_of_branch, refusal, after_operation, after_fall, after_jump};
 ghost use Rattle.ebpf_verify.specs.Verdict.{IsSlotFault};
 ghost use Rattle.ebpf_verify.specs.Entry.{with_sent, ChangesEach, Sends, SendsBoth};
 
@@ -51,10 +51,7 @@ pub(crate) fn pass_on(
     ensures refused { IfErr result (IsSlotFault slot (refusal decl rows.now insn.now state)) }
 {
     match *insn {
-        Insn::Jump { .. } | Insn::JumpFar { .. } => {
-            send(entries, edges.jump, state);
-            return Ok(());
-        }
+        Insn::Jump { .. } | Insn::JumpFar { .. } => send(entries, edges.jump, state),
         Insn::Branch {
             width,
             cond,
@@ -62,29 +59,44 @@ pub(crate) fn pass_on(
             right,
             ..
         } => {
-            let branch = Branch {
-                width,
-                cond,
-                left,
-                right,
-            };
-            return branch_on(branch, slot, state, edges, entries);
+            let branch = Branch::new(width, cond, left, right);
+            branch_on(branch, slot, state, edges, entries)?;
         }
-        Insn::Exit => return exit_at(slot, &state),
+        Insn::Exit => exit_at(slot, &state)?,
+        _ => {
+            act(decl, rows, insn, slot, &mut state)?;
+            send(entries, edges.fall, state);
+        }
+    }
+    Ok(())
+}
+
+// Says in the state what is known after an instruction that goes to the slot after it alone, or says why that is refused.
+fn act(
+    decl: Decl,
+    rows: &[KindRow],
+    insn: &Insn,
+    slot: usize,
+    state: &mut State,
+) -> Result<(), VerifyFault>
+    requires inside { slot < MAX_SLOTS }
+    requires few { length rows.now ≤ 8 }
+    requires acts { Acts insn.now }
+    ensures fine { OnOk result (refusal decl rows.now insn.now state.old ≡ None) }
+    ensures known { OnOk result (after_fall slot insn.now state.old ≡ Some state.new) }
+    ensures straight { OnOk result (after_jump insn.now state.old ≡ None) }
+    ensures refused { IfErr result (IsSlotFault slot (refusal decl rows.now insn.now state.old)) }
+{
+    match *insn {
         Insn::Store {
             size,
             base,
             offset,
             src,
-        } => {
-            let store = Store::new(size, base, offset, src);
-            store_value(rows, store, slot, &mut state)?;
-        }
-        Insn::Call { number } => call(decl, rows, number, slot, &mut state)?,
-        _ => operate(decl, rows, insn, slot, &mut state)?,
+        } => store_value(rows, Store::new(size, base, offset, src), slot, state),
+        Insn::Call { number } => call(decl, rows, number, slot, state),
+        _ => operate(decl, rows, insn, slot, state),
     }
-    send(entries, edges.fall, state);
-    Ok(())
 }
 
 // Nothing goes on from an exit.

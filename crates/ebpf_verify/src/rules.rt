@@ -1,11 +1,13 @@
 //! The rules of the instructions: what refuses one, or else what it writes.
 
-ghost use Rattle.std.specs.Prelude.{◌≡◌, ◌≤◌, OnOk, IfOk, IfErr, IsSome, Some, None};
+ghost use Rattle.std.specs.Prelude.{◌≡◌, ◌≤◌, OnOk, IfOk, IfErr, IsSome, Some, None, List};
 ghost use Rattle.ebpf_state.specs.declared.value.Abs.{Abs};
 ghost use Rattle.ebpf_state.specs.Abstract.{IsProper};
 ghost use Rattle.ebpf_state.specs.States.{register_of, with_register};
 ghost use Rattle.ebpf_verify.specs.Operations.{unary_refusal};
-ghost use Rattle.ebpf_verify.specs.Rules.{exit_refusal, refusal, after_operation};
+ghost use Rattle.ebpf_verify.specs.Rules.{ChangesNumber, exit_refusal, refusal, after_operation};
+ghost use Rattle.ebpf_verify.specs.declared.decl.Decl.{Decl};
+ghost use Rattle.ebpf_state.specs.declared.kinds.KindRow.{KindRow};
 
 use crate::branches::operand;
 use crate::decl::Decl;
@@ -40,21 +42,10 @@ pub(crate) fn operation(
             op,
             dst,
             src,
-        } => Ok((
-            dst,
-            alu_value(width, op, dst, operand(state, width, src), state)?,
-        )),
-        Insn::Sext {
-            width,
-            bits,
-            dst,
-            src,
-        } => Ok((dst, Abs::Num(sext(width, bits, number(state, src, dst)?)))),
-        Insn::Neg { width, dst } => Ok((dst, Abs::Num(neg(width, number(state, dst, dst)?)))),
-        Insn::Swap { order, bits, dst } => {
-            Ok((dst, Abs::Num(swap(order, bits, number(state, dst, dst)?))))
+        } => {
+            let right = operand(state, width, src);
+            Ok((dst, alu_value(width, op, dst, right, state)?))
         }
-        Insn::Wide { dst, value } => Ok((dst, constant_value(value, dst)?)),
         Insn::Load {
             size,
             signed,
@@ -66,6 +57,31 @@ pub(crate) fn operation(
             let value = load_value(decl.context, rows, load, state.reg(base), state)?;
             Ok((dst, value))
         }
+        Insn::Wide { dst, value } => Ok((dst, constant_value(value, dst)?)),
+        _ => {
+            let (dst, value) = changed(insn, state)?;
+            Ok((dst, Abs::Num(value)))
+        }
+    }
+}
+
+// The register that `movsx`, `neg` or `end` writes and the range of what it writes, or the first code that refuses it.
+fn changed(insn: &Insn, state: &State) -> Result<(Reg, Range), VerifyCode>
+    requires { ChangesNumber insn.now }
+    ensures fine { OnOk result ((decl : Decl) (rows : List KindRow) → refusal decl rows insn.now state.now ≡ None) }
+    ensures value { IfOk result (λ written. after_operation insn.now state.now ≡ Some (with_register state.now written.0 (Abs.Num written.1))) }
+    ensures ordered { IfOk result (λ written. written.1.lo ≤ written.1.hi) }
+    ensures refused { IfErr result (λ code. (decl : Decl) (rows : List KindRow) → refusal decl rows insn.now state.now ≡ Some code) }
+{
+    match *insn {
+        Insn::Sext {
+            width,
+            bits,
+            dst,
+            src,
+        } => Ok((dst, sext(width, bits, number(state, src, dst)?))),
+        Insn::Neg { width, dst } => Ok((dst, neg(width, number(state, dst, dst)?))),
+        Insn::Swap { order, bits, dst } => Ok((dst, swap(order, bits, number(state, dst, dst)?))),
         _ => unreachable!(),
     }
 }

@@ -5,9 +5,11 @@ ghost use Rattle.ebpf_verify.specs.declared.decl.TheConstants.{MAX_CONTEXT, MAX_
 ghost use Rattle.ebpf_script.specs.Numbers.{number_to, context_of, held_of, run_of, kind_of, slot_of, pages_of};
 
 use ebpf_verify::decl::{MAX_CONTEXT, MAX_HELD};
+use slab_layer::SLOTS_OF_A_PAGE;
+use vmem_arena::MAX_PAGES;
 
-// The most pages of an arena.
-const MAX_PAGES: u32 = 256;
+/// How many slots there are in an arena of the most pages.
+pub(crate) const SLOTS: u32 = MAX_PAGES * SLOTS_OF_A_PAGE;
 
 /// The length of a context, 0 to [`MAX_CONTEXT`].
 pub(crate) fn context_of(word: &[u8]) -> Option<u32>
@@ -42,11 +44,11 @@ pub(crate) fn kind_of(word: &[u8]) -> Option<u8>
     Some(kind as u8)
 }
 
-/// The number of a slot, 0 to 65535.
+/// The number of a slot, below [`SLOTS`].
 pub(crate) fn slot_of(word: &[u8]) -> Option<u32>
     ensures { result ≡ slot_of word.now }
 {
-    number_to(65_535, word)
+    number_to(SLOTS - 1, word)
 }
 
 /// The pages of an arena, 1 to [`MAX_PAGES`].

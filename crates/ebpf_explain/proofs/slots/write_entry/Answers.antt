@@ -15,8 +15,12 @@ returns-in_ok-comers-in-Known c =
 
 pub returns-in-Unreached : goal.returns-in-Unreached
 returns-in-Unreached c =
-    rw c.in-Unreached.is (pushed _ (string_bytes c.args.text.now) _ (entry_line c.args.rows.now (comers c.args.flowed.now c.args.slot) Unreached) c.push_str-in-Unreached.ensures.bytes)
+    let looked = c.args.looked.now in
+    rw c.in-Unreached.is (pushed _ (string_bytes c.args.text.now) _ (entry_line looked.kinds.now (comers looked.flowed.now c.args.slot) Unreached)
+    c.push_str-in-Unreached.ensures.bytes)
 
 pub returns-in-Conflict : goal.returns-in-Conflict
 returns-in-Conflict c =
-    rw c.in-Conflict.is (pushed _ (string_bytes c.args.text.now) _ (entry_line c.args.rows.now (comers c.args.flowed.now c.args.slot) Conflict) c.push_str-in-Conflict.ensures.bytes)
+    let looked = c.args.looked.now in
+    rw c.in-Conflict.is (pushed _ (string_bytes c.args.text.now) _ (entry_line looked.kinds.now (comers looked.flowed.now c.args.slot) Conflict)
+    c.push_str-in-Conflict.ensures.bytes)

@@ -1,21 +1,18 @@
 use Rattle.std.proofs.Common.{rules}
-use Rattle.ebpf_command.proofs.Written.{response_through, begun_through, response_of_shown}
+use Rattle.ebpf_command.proofs.Written.{response_of_shown}
 use Rattle.ebpf_one.specs.declared.form.Form.TheVariants.{Raw}
 use Rattle.ebpf_one.specs.ExplainText.{ExplainsTo}
 use Rattle.ebpf_one.specs.ObjectText.{RespondsObject}
-use Rattle.ebpf_one.proofs.ObjectResponses.{object_cuts}
+use Rattle.ebpf_one.proofs.ObjectResponses.{answers_by, object_cuts}
 use Rattle.ebpf_one.proofs.Responses.{explain_cuts}
 use Rattle.ebpf_one.proofs.object_commands.explain_object.Goals as goal
 
-pub returns-clause-response : goal.returns-clause-response
-returns-clause-response g c =
-    let P = RespondsObject (ExplainsTo Raw c.args.context.now c.args.held) c.args.function.now in
-    response_through P _ _ _ _ c.respond.ensures.response (λ all response k. response_of_shown P (object_cuts (ExplainsTo Raw c.args.context.now c.args.held) (explain_cuts Raw c.args.context.now c.args.held) _) all response k.0 k.2 (let h = k.1 in search rules))
+pub returns-clause-text : goal.returns-clause-text
+returns-clause-text g c =
+    let P = ExplainsTo Raw c.args.context.now c.args.held in
+    let name = c.args.function.now in
+    answers_by P name _ _ _ _ c.respond.ensures.response c.respond.ensures.beginning (λ all response k.
+    response_of_shown (RespondsObject P name) (object_cuts P (explain_cuts Raw c.args.context.now c.args.held) name) all response k.0 k.2 (let h = k.1 in search rules))
 
 pub returns-clause-consumed : goal.returns-clause-consumed
 returns-clause-consumed g c = c.respond.ensures.consumed
-
-pub returns-clause-beginning : goal.returns-clause-beginning
-returns-clause-beginning g c =
-    let P = RespondsObject (ExplainsTo Raw c.args.context.now c.args.held) c.args.function.now in
-    begun_through P _ _ _ _ c.respond.ensures.beginning (λ all response k. response_of_shown P (object_cuts (ExplainsTo Raw c.args.context.now c.args.held) (explain_cuts Raw c.args.context.now c.args.held) _) all response k.0 k.2 (let h = k.1 in search rules))
