@@ -15,7 +15,7 @@ use Rattle.owners_table.specs.declared.mark.Owner.TheVariants.{Run, Shelf}
 use Rattle.owners_table.specs.declared.mark.TheConstants.{SHELVES}
 use Rattle.owners_table.specs.declared.owning.OwnerSheet.{OwnerSheet}
 use Rattle.owners_table.specs.Marking.{IsMarkWord}
-use Rattle.owners_table.specs.Owning.{IsSlotWord, IsOwn, owner_word, Owned, Holds, word_at, without, weigh, weigh_word, weigh_words, weigh_shelf, weigh_shelves, blank, gained, after_claim, after_release, after_shelve, after_fetch, claimed, released, was_shelved, fetched, looked}
+use Rattle.owners_table.specs.Owning.{IsSlotWord, IsOwn, owner_word, Owned, Holds, word_at, without, weigh, weigh_word, weigh_words, weigh_shelf, blank, gained, after_claim, after_release, after_shelve, after_fetch, claimed, released, was_shelved, fetched, looked}
 use Rattle.owners_table.specs.Sheets.{first_or}
 use Rattle.owners_table.proofs.Sums.{sum_by-change, sum_by-member, sum_by-split, sum_by-join, sum-is_additive, length-is_additive}
 use Rattle.owners_table.proofs.Lists.{only, once, differs, differs-same, word-none, word-some, words-change, shelf-none, shelf-free, shelf-some, shelves-change, words-of_run, words-of_none, words-once, weigh-without, word_at-same}
