@@ -1,10 +1,11 @@
 //! The instruction of a line.
 
-ghost use Rattle.std.specs.Prelude.{◌≡◌, ◌≢◌, ◌≤◌, ◌+◌, [], IfOk, IfErr, map};
+ghost use Rattle.std.specs.Prelude.{◌≡◌, ◌≢◌, ◌≤◌, ◌+◌, [], IfOk, IfErr};
 ghost use Rattle.std.specs.Option.{MatchOption};
 ghost use Rattle.ebpf_insn.specs.Program.{slots_in};
 ghost use Rattle.ebpf_assembly.specs.Lines.{words, IsInsnAt};
 ghost use Rattle.ebpf_assembly.specs.Faults.{IsLineFault, IsLineStop};
+ghost use Rattle.ebpf_assembly.specs.Reading.{texts};
 
 use crate::fault::{AssemblyFault, LineFault};
 use crate::insn::read_insn;
@@ -40,9 +41,9 @@ pub(crate) fn read_line(
 // The instruction that has these words at a slot.
 fn insn_at(slot: usize, words: &[&[u8]]) -> Result<Insn, LineFault>
     requires few { slot ≤ 4096 }
-    requires some { map (λ w. w.now) words.now ≢ [] }
-    ensures ok { IfOk result (λ i. IsInsnAt slot (map (λ w. w.now) words.now) i × (slot + slots_in i ≤ 4096)) }
-    ensures refused { IfErr result (IsLineFault slot (map (λ w. w.now) words.now)) }
+    requires some { texts words.now ≢ [] }
+    ensures ok { IfOk result (λ i. IsInsnAt slot (texts words.now) i × (slot + slots_in i ≤ 4096)) }
+    ensures refused { IfErr result (IsLineFault slot (texts words.now)) }
 {
     let Some(rest) = unlabelled(slot, words) else {
         return Err(LineFault::WrongSlot);
