@@ -1,7 +1,8 @@
 -- The response of `assemble` to its input: the slots of the program that it is a text of, or why it is of none.
 use Rattle.std.specs.Prelude.{◌≡◌, ◌≢◌, ◌≤◌, ◌⊎◌, ℕ, nat_lt, if◌then◌else◌, List, length, Option, Some, None, Result}
 use Rattle.ebpf_insn.specs.declared.insn.Insn.{Insn}
-use Rattle.ebpf_insn.specs.Encoding.{IsProgram}
+use Rattle.ebpf_insn.specs.Encoding.{IsProgram, IsWellFormed}
+use Rattle.ebpf_text.specs.Listing.{listing_of}
 use Rattle.ebpf_assembly.specs.declared.fault.AssemblyFault.{AssemblyFault}
 use Rattle.ebpf_assembly.specs.declared.fault.AssemblyFault.TheVariants.{NoMemory}
 use Rattle.ebpf_assembly.specs.Assembly.{IsAssembled}
@@ -48,3 +49,11 @@ Assembles input response = AssemblesGiven (long_fault input) input response
 abbrev pub WritesSlotsOf : List ℕ → List (Option Insn) → (input old new : Option (List ℕ)) → Result Done EngineFault → Type 0
 WritesSlotsOf text p input old new result =
     length text ≤ 1048576 → input ≡ Some text → Writes (λ _ response. AreSlotsOf p response) input old new result
+
+-- of each text of a program the slots are written
+abbrev pub WritesEachText : (input old new : Option (List ℕ)) → Result Done EngineFault → Type 0
+WritesEachText input old new result = (text : List ℕ) (p : List (Option Insn)) → IsAssembled text p → WritesSlotsOf text p input old new result
+
+-- and so of the listing of each program
+abbrev pub WritesEachListing : (input old new : Option (List ℕ)) → Result Done EngineFault → Type 0
+WritesEachListing input old new result = (p : List (Option Insn)) → IsWellFormed p → WritesSlotsOf (listing_of p) p input old new result
