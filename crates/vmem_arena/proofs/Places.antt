@@ -33,9 +33,6 @@ bit_of-at words at bit within =
 pub none_in_zero : (words : List ℕ) (i : ℕ) → slice_index words (i / 64) ≡ 0 → bit_of words i ≡ 0
 none_in_zero words i none = ap (λ n. bit_at n (i % 64)) none ∙ bit_at-zero (i % 64)
 
-pub none_past : (words : List ℕ) (from i : ℕ) → from / 64 ≡ length words → from ≤ i → bit_of words i ≡ 0
-none_past words from i end past = none_in_zero words i (get_or_past words (i / 64) 0 (omega arith))
-
 -- a word is as its bit says
 pub filled_some : (words : List ℕ) (filled at : ℕ) → IsFilled words filled → bit_at filled at ≡ 1 → 0 < slice_index words at
 filled_some words filled at ok one = elim (ok at) [ inl some ↦ some.1 | inr none ↦ absurd (omega (arith, none.0)) ]
