@@ -10,7 +10,7 @@ use Rattle.owners_table.specs.declared.mark.Owner.{Owner}
 use Rattle.owners_table.specs.declared.mark.Owner.TheVariants.{Run, Shelf}
 use Rattle.owners_table.specs.declared.mark.TheConstants.{SHELVES, WORDS_OF_A_RUN}
 use Rattle.owners_table.specs.Marking.{mark_word, IsMarkWord}
-use Rattle.owners_table.specs.Sheets.{tally, sheet_count, first_or}
+use Rattle.owners_table.specs.Sheets.{tally, sheet_count, sheet_of}
 
 -- what the word of a slot can be: past that of the last shelf, only the word of a mark
 abbrev pub IsSlotWord : ℕ → Type 0
@@ -167,15 +167,10 @@ pub record SeatView : Type 0 where
 abbrev pub fresh : TableId → SeatView
 fresh table = record { table = table; held = []; tries = 0; notes = []; fetches = []; shelved = []; got = [] }
 
-abbrev pub sheet_of : Seat (Unit {0}) (List OwnerSheet) → OwnerSheet
-sheet_of p = first_or blank p.me.0
-
 abbrev pub seat_view : Seat (Unit {0}) (List OwnerSheet) → SeatView
-seat_view p = record { table = p.table_id; held = (sheet_of p).held; tries = (sheet_of p).tries; notes = (sheet_of p).notes; fetches = (sheet_of p).fetches; shelved = (sheet_of p).shelved; got = (sheet_of p).got }
-
--- the seat has one sheet
-abbrev pub IsSingle : Seat (Unit {0}) (List OwnerSheet) → Type 0
-IsSingle p = (p.me.0 ≡ sheet_of p ∷ []) × (p.me.1 ≡ [])
+seat_view p =
+    let s = sheet_of blank p in
+    record { table = p.table_id; held = s.held; tries = s.tries; notes = s.notes; fetches = s.fetches; shelved = s.shelved; got = s.got }
 
 -- What contracts see of a table: which it is, how many slots it has, and how many seats were made
 pub record OwnersView : Type 0 where

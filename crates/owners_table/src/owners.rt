@@ -55,13 +55,14 @@ pub struct OwnerSeat {
 }
 
 impl Model for OwnerSeat {
-    ghost use Rattle.owners_table.specs.Owning.{SeatView, seat_view, IsSingle};
+    ghost use Rattle.owners_table.specs.Owning.{SeatView, blank, seat_view};
+    ghost use Rattle.owners_table.specs.Sheets.{IsSingle};
 
     ghost Value = { SeatView };
 
     ghost view = { λ s. seat_view s.seat };
 
-    ghost invariant = { λ s. IsSingle s.seat };
+    ghost invariant = { λ s. IsSingle blank s.seat };
 }
 
 impl Owners {
