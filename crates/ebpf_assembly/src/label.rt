@@ -3,7 +3,9 @@
 //! *The idea.* A label names the slot of the instruction after it. How many slots a line takes is seen by its first word, so all
 //! labels are known before any instruction is read.
 
-ghost use Rattle.std.specs.Prelude.{◌≡◌, ◌≤◌, ◌++◌, IfOk, OnOk, option_map, is_some, take};
+ghost use Rattle.std.specs.Prelude.{◌≡◌, ◌≤◌, ◌+◌, ◌++◌, IfOk, OnOk, option_map, is_some, take};
+ghost use Rattle.ebpf_insn.specs.declared.program.TheConstants.{MAX_SLOTS};
+ghost use Rattle.ebpf_assembly.specs.declared.label.TheConstants.{MAX_LABELS};
 ghost use Rattle.ebpf_assembly.specs.Lines.{text_lines};
 ghost use Rattle.ebpf_assembly.specs.Labels.{names_of};
 ghost use Rattle.ebpf_assembly.specs.Reading.{texts};
@@ -39,7 +41,7 @@ pub(crate) fn read_labels(alloc: Global, text: &[u8]) -> Result<Vec<Label<'_>>, 
 
 // The labels that may be named: a name is looked for among them, one by one.
 pub(crate) fn first_labels<'a, 'b>(labels: &'a [Label<'b>]) -> &'a [Label<'b>]
-    ensures { names_of result.now ≡ take 256 (names_of labels.now) }
+    ensures { names_of result.now ≡ take MAX_LABELS (names_of labels.now) }
 {
     if labels.len() <= MAX_LABELS {
         return labels;
@@ -66,9 +68,9 @@ fn push_label<'a>(
 
 // The slot after a line.
 pub(crate) fn slot_after(slot: usize, words: &[&[u8]]) -> usize
-    requires { slot ≤ 4098 }
+    requires { slot ≤ MAX_SLOTS + 2 }
     ensures value { result ≡ slot_after slot (texts words.now) }
-    ensures bound { result ≤ 4098 }
+    ensures bound { result ≤ MAX_SLOTS + 2 }
 {
     if slot > MAX_SLOTS {
         return slot;

@@ -1,6 +1,7 @@
 //! A text without labels and names, which has offsets in their place.
 
 ghost use Rattle.std.specs.Prelude.{◌≡◌, ◌≤◌, ◌++◌, ◌+◌, IfOk, OnOk, codes, string_bytes};
+ghost use Rattle.ebpf_insn.specs.declared.program.TheConstants.{MAX_SLOTS};
 ghost use Rattle.ebpf_assembly.specs.Lines.{text_lines};
 ghost use Rattle.ebpf_assembly.specs.Labels.{names_of};
 ghost use Rattle.ebpf_assembly.specs.Reading.{texts};
@@ -46,7 +47,7 @@ fn push_line(
     slot: usize,
     words: &[&[u8]],
 ) -> Result<(), AllocError>
-    requires { slot ≤ 4098 }
+    requires { slot ≤ MAX_SLOTS + 2 }
     ensures { OnOk result (text.new.items ≡ text.old.items ++ (codes "\n" ++ words_text (plain_words (names_of labels.now) slot (texts words.now)))) }
 {
     text.push(b'\n')?;
@@ -74,7 +75,7 @@ fn push_plain(
     slot: usize,
     words: &[&[u8]],
 ) -> Result<(), AllocError>
-    requires { slot ≤ 4098 }
+    requires { slot ≤ MAX_SLOTS + 2 }
     ensures { OnOk result (text.new.items ≡ text.old.items ++ words_text (targeted (names_of labels.now) slot (texts words.now))) }
 {
     if !is_jump(words) {
@@ -132,7 +133,7 @@ fn push_target(
     slot: usize,
     word: &[u8],
 ) -> Result<(), AllocError>
-    requires { slot ≤ 4098 }
+    requires { slot ≤ MAX_SLOTS + 2 }
     ensures { OnOk result (text.new.items ≡ text.old.items ++ (target_by slot word.now target ++ codes " ")) }
 {
     match target {
