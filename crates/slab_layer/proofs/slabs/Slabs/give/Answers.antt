@@ -35,6 +35,10 @@ overflow_sub-self g c =
     let some = out_some c.self.inside.slabs.items (c.slot-slot.result / 256) (c.slot-slot.result % 256) c.index_mut.result.now c.self.inside.partial.items c.self.inside.out c.self.invariant.0 (inside g h) c.index_mut.ensures.value (out g h c.index_mut.result.now c.index_mut.ensures.value) in
     elim c.if-is_first.branch [ then-is_first w ↦ rw w.self-inside-is some | else-is_first w ↦ rw w.self-inside-is some ]
 
+-- what the slab has once the object is home
+homed : (g : Over) (c : After-give g) → c.give.new.self.places.items ≡ set c.index_mut.result.now.places.items (c.slot-slot.result % 256) Home
+homed g c = c.give.ensures.home ∙ ap (λ n. set c.index_mut.result.now.places.items (n % 256) Home) (sym c.slot-slot.ensures)
+
 pub invariant_of-self : goal.invariant_of-self
 invariant_of-self g c =
     let h = (goal.at.invariant_of-self g c).After-index-2 in
@@ -44,7 +48,7 @@ invariant_of-self g c =
     let partial = c.self.inside.partial.items in
     let old = c.index_mut.result.now in
     let was = out g h old c.index_mut.ensures.value in
-    let is : c.give.new.self.places.items ≡ set old.places.items index Home = c.give.ensures.home ∙ ap (λ n. set old.places.items (n % 256) Home) (sym c.slot-slot.ensures) in
+    let is = homed g (goal.at.invariant_of-self g c).After-give in
     let before : c.has_home-is_first.result ≡ has_home old.places.items = c.has_home-is_first.ensures ∙ ap (λ s. has_home s.places.items) (same_read xs at c.index-2.result.now old (inside g h) c.index-2.ensures c.index_mut.ensures.value) in
     let some = out_some xs at index old partial c.self.inside.out c.self.invariant.0 (inside g h) c.index_mut.ensures.value was in
     let given = partial_given xs at index old c.give.new.self partial c.self.inside.out (c.self.inside.out - 1) c.has_home-is_first.result c.self.invariant.0 (inside g h) c.index_mut.ensures.value c.give.ensures.page was is before (omega (arith, some)) in
@@ -53,10 +57,6 @@ invariant_of-self g c =
       | then-is_first w ↦ rw w.self-inside-is (given w.push_reserved.new.self.items (w.push_reserved.ensures.items ∙ sym (ap pushed w.if-is_first.true)), omega (arith, c.self.invariant.1, w.push_reserved.ensures.capacity))
       | else-is_first w ↦ rw w.self-inside-is (given partial (sym (ap pushed w.if-is_first.false)), c.self.invariant.1)
     ]
-
--- what the slab has once the object is home
-homed : (g : Over) (c : After-give g) → c.give.new.self.places.items ≡ set c.index_mut.result.now.places.items (c.slot-slot.result % 256) Home
-homed g c = c.give.ensures.home ∙ ap (λ n. set c.index_mut.result.now.places.items (n % 256) Home) (sym c.slot-slot.ensures)
 
 pub returns-clause-moved : goal.returns-clause-moved
 returns-clause-moved g c = λ _.
