@@ -1,15 +1,11 @@
 //! The command `assemble`.
 
-ghost use Rattle.std.specs.Prelude.{◌≡◌, ◌≢◌, IfOk, IfErr, ℕ, List, Option};
-ghost use Rattle.ebpf_insn.specs.declared.insn.Insn.{Insn};
-ghost use Rattle.ebpf_insn.specs.Encoding.{IsWellFormed};
-ghost use Rattle.ebpf_text.specs.Listing.{listing_of};
-ghost use Rattle.ebpf_assembly.specs.Assembly.{IsAssembled};
+ghost use Rattle.std.specs.Prelude.{◌≡◌, ◌≢◌, IfOk, IfErr};
 ghost use Rattle.ebpf_command.specs.declared.done.EngineFault.TheVariants.{Output};
 ghost use Rattle.ebpf_command.specs.Response.{refused_response};
 ghost use Rattle.ebpf_command.specs.Writing.{Writes, WritesBeginning, Reads};
 ghost use Rattle.ebpf_assemble.specs.FaultText.{long_text_lines, assembly_fault_lines};
-ghost use Rattle.ebpf_assemble.specs.AssembleText.{Assembles, AreSlotsOf, WritesSlotsOf};
+ghost use Rattle.ebpf_assemble.specs.AssembleText.{Assembles, AreSlotsOf, WritesEachText, WritesEachListing};
 
 use crate::fault_text::assembly_fault_text;
 use crate::slots_text::slots_text;
@@ -38,9 +34,9 @@ pub fn assemble<R: Read, W: Write>(
     // The slots of the program that the input is a text of are written, or why it is of none, and nothing else.
     ensures response { Writes Assembles (R.remaining reader.old) (W.contents writer.old) (W.contents writer.new) result }
     // Of a text of a program its slots are written, and no fault.
-    ensures only { (text : List ℕ) (p : List (Option Insn)) → IsAssembled text p → WritesSlotsOf text p (R.remaining reader.old) (W.contents writer.old) (W.contents writer.new) result }
+    ensures only { WritesEachText (R.remaining reader.old) (W.contents writer.old) (W.contents writer.new) result }
     // So they are of its listing.
-    ensures back { (p : List (Option Insn)) → IsWellFormed p → WritesSlotsOf (listing_of p) p (R.remaining reader.old) (W.contents writer.old) (W.contents writer.new) result }
+    ensures back { WritesEachListing (R.remaining reader.old) (W.contents writer.old) (W.contents writer.new) result }
     ensures consumed { Reads (R.remaining reader.old) (R.remaining reader.new) result }
     ensures untouched { IfErr result (λ fault. fault ≢ Output → writer.new ≡ writer.old) }
     ensures beginning { WritesBeginning Assembles (R.remaining reader.old) (W.contents writer.old) (W.contents writer.new) result }

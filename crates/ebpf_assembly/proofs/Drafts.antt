@@ -1,11 +1,13 @@
 -- The program of the lines that are read so far.
-use Rattle.std.proofs.Common.{arith, ◌≡◌, ◌≢◌, inl, inr, ℕ, suc, add-one, ◌+◌, ◌<◌, ◌≤◌, ◌^◌, List, [], ◌∷◌, ◌++◌, length, get_or, take, drop, refl, sym, ap, ◌∙◌, subst, append_assoc, length-append, drop-cons, take-append-drop, Option, Some, None}
+use Rattle.std.proofs.Common.{arith, ◌≡◌, ◌≢◌, inl, inr, ℕ, suc, add-one, ◌+◌, ◌<◌, ◌≤◌, ◌^◌, List, [], ◌∷◌, ◌++◌, length, get_or, take, drop, refl, sym, ap, ◌∙◌, subst, append_assoc, length-append, drop-cons, take-append-drop, Option}
 use Rattle.std.specs.List.{flat_map, AllByRecursion}
 use Rattle.std.proofs.lemmas.List.{append-nil, take_more, take_all, length-take-le}
 use Rattle.ebpf_insn.specs.declared.insn.Insn.{Insn}
 use Rattle.ebpf_insn.specs.declared.insn.Insn.TheVariants as insn
 use Rattle.ebpf_insn.specs.Program.{instructions, placed, slots_in}
 use Rattle.ebpf_insn.specs.Encoding.{IsDefined}
+use Rattle.ebpf_insn.proofs.ProgramBytes.{instructions-append}
+use Rattle.ebpf_insn.proofs.ProgramLemmas.{instructions-length}
 use Rattle.ebpf_assembly.specs.declared.fault.AssemblyFault.{AssemblyFault}
 use Rattle.ebpf_assembly.specs.declared.fault.AssemblyFault.TheVariants.{Bad, Empty, NoMemory}
 use Rattle.ebpf_assembly.specs.Faults.{IsLineFault, IsLineStop, IsPlainFault}
@@ -37,24 +39,9 @@ with_insn slot (l ∷ lines) line is i (inr a) at =
     further : slot + length (flat_map placed is) ≡ slot + slots_in a.0 + length (flat_map placed a.1)
     further = omega (arith, ap (λ (js : List Insn). length (flat_map placed js)) a.2, length-append (placed a.0) (flat_map placed a.1))
 
-instructions-append : (p q : List (Option Insn)) → instructions (p ++ q) ≡ instructions p ++ instructions q
-instructions-append [] q = refl
-instructions-append (None ∷ p) q = instructions-append p q
-instructions-append (Some i ∷ p) q = ap (λ (is : List Insn). i ∷ is) (instructions-append p q)
-
 one : (i : Insn) → instructions (placed i) ≡ i ∷ []
 one (insn.Alu width o dst src) = refl
-one (insn.Sext width bits dst src) = refl
-one (insn.Neg width dst) = refl
-one (insn.Swap order bits dst) = refl
-one (insn.Wide dst value) = refl
-one (insn.Load s signed dst base offset) = refl
-one (insn.Store s base offset src) = refl
-one (insn.Jump offset) = refl
-one (insn.JumpFar offset) = refl
-one (insn.Branch width c left right offset) = refl
-one (insn.Call number) = refl
-one insn.Exit = refl
+one _ = refl
 
 more : (p : List (Option Insn)) (i : Insn) → instructions (p ++ placed i) ≡ instructions p ++ i ∷ []
 more p i = instructions-append p (placed i) ∙ ap (λ (is : List Insn). instructions p ++ is) (one i)
@@ -94,14 +81,8 @@ draft_more lines n line slots next len i inside here at is d = subst (λ (p : Li
       (with_insn 0 (take n lines) line (instructions slots) i d.read (subst (λ (k : ℕ). IsInsnAt k (words line) i) (omega (arith, ap length d.placed)) at)));
 })
 
--- a program has as many slots as instructions at least
-fewer : (p : List (Option Insn)) → length (instructions p) ≤ length p
-fewer [] = omega arith
-fewer (None ∷ p) = omega (arith, fewer p)
-fewer (Some i ∷ p) = omega (arith, fewer p)
-
 pub few_len : (lines : List (List ℕ)) (slots : List (Option Insn)) (len : ℕ) → length slots ≤ 4096 → IsDraft lines slots len → len + 1 < 2 ^ 64
-few_len lines slots len few d = omega (arith, few, d.count, fewer slots)
+few_len lines slots len few d = omega (arith, few, d.count, instructions-length slots)
 
 -- a line that is at fault
 pub fault_here : (text : List ℕ) (n : ℕ) (line : List ℕ) (slots : List (Option Insn)) (len : ℕ) (e : AssemblyFault) → n < length (text_lines text) → line ≡ get_or (text_lines text) n line
@@ -135,6 +116,6 @@ empty_here text n slots len all none d =
 
 pub finished : (text : List ℕ) (n : ℕ) (slots : List (Option Insn)) (len : ℕ) → n ≡ length (text_lines text) → length slots ≤ 4096 → len ≢ 0 → IsDraft (take n (text_lines text)) slots len → IsAssembledPlain text slots
 finished text n slots len all few some d = record {
-  formed = record { some = omega (arith, some, d.count, fewer slots); few = few; defined = d.defined; placed = d.placed };
+  formed = record { some = omega (arith, some, d.count, instructions-length slots); few = few; defined = d.defined; placed = d.placed };
   lines = all_read text n (instructions slots) (omega (arith, all)) d.read;
 }

@@ -1,5 +1,5 @@
 -- A text that is refused is of no program.
-use Rattle.std.proofs.Common.{rules, arith, ◌≡◌, ◌≢◌, ◌⊎◌, inl, inr, ℕ, ◌+◌, ◌<◌, ◌≤◌, ◌^◌, List, [], ◌∷◌, ◌++◌, length, get_or, refl, sym, ap, ◌∙◌, subst, Bool, true, false, append_assoc, length-append, Option}
+use Rattle.std.proofs.Common.{arith, ◌≡◌, ◌≢◌, ◌⊎◌, inl, inr, ℕ, ◌+◌, ◌<◌, ◌≤◌, ◌^◌, List, [], ◌∷◌, ◌++◌, length, refl, sym, ap, ◌∙◌, subst, true, false, append_assoc, length-append, Option}
 use Rattle.std.specs.Prelude.{codes, decimal, Result, Ok, Err, IfOk, IfErr, MatchResult}
 use Rattle.std.specs.List.{flat_map}
 use Rattle.ebpf_insn.specs.declared.insn.Insn.{Insn}
@@ -18,8 +18,9 @@ use Rattle.ebpf_assembly.specs.declared.fault.AssemblyFault.{AssemblyFault}
 use Rattle.ebpf_assembly.specs.declared.fault.AssemblyFault.TheVariants.{Bad, Empty, NoMemory}
 use Rattle.ebpf_assembly.specs.Lines.{text_lines, words, words_of, slot_label, AreInsns, IsAssembledPlain}
 use Rattle.ebpf_assembly.specs.Faults.{IsLineFault, IsPlainFault}
-use Rattle.ebpf_assembly.proofs.KindWords.{swap_16, swap_32, swap_64, swap_cases}
-use Rattle.ebpf_assembly.proofs.Unique.{blank, same, unique, IsShort, shorter, short, assembled_unique}
+use Rattle.ebpf_assembly.proofs.KindWords.{swap_16, swap_32, swap_64}
+use Rattle.ebpf_assembly.proofs.Shapes.{swap_cases}
+use Rattle.ebpf_assembly.proofs.Unique.{first, not_empty, blank, same, unique, IsShort, shorter, short, assembled_unique}
 use Rattle.ebpf_assembly.proofs.WordsUnique.{init, init_back}
 
 -- no mnemonic ends with a colon
@@ -88,16 +89,6 @@ no_label (insn.Branch W32 c left right offset) d = low _ 50 (last_append (cond_n
 no_label (insn.Branch W64 c left right offset) d = low _ 52 (last_append (cond_name c) 54 (52 ∷ [])) (omega arith)
 no_label (insn.Call number) d = high _ 108 refl (omega arith)
 no_label insn.Exit d = high _ 116 refl (omega arith)
-
-abbrev first : List (List ℕ) → List ℕ
-first ws = get_or ws 0 []
-
-abbrev is_empty : List (List ℕ) → Bool
-is_empty [] = true
-is_empty (t ∷ ts) = false
-
-not_empty : (ts : List (List ℕ)) (t : List ℕ) (us : List (List ℕ)) → ts ≡ [] → ts ≡ t ∷ us → ⊥
-not_empty ts t us e f = search (rules, sym (ap is_empty e) ∙ ap is_empty f)
 
 -- the lines of a program, from one line on
 record IsRest (slot : ℕ) (lines : List (List ℕ)) (is js : List Insn) : Type 0 where

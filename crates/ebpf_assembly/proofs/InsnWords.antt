@@ -16,20 +16,11 @@ use Rattle.ebpf_assembly.proofs.Shapes.{shape_of, shape_unique}
 
 -- a mnemonic is that of its kind
 named : (i : Insn) → mnemonic_of i ≡ kind_name (kind_of i)
-named (insn.Alu w o dst src) = refl
-named (insn.Sext w b dst src) = refl
-named (insn.Neg w dst) = refl
-named (insn.Swap o b dst) = refl
-named (insn.Wide dst value) = refl
 named (insn.Load s false dst base offset) = refl
 named (insn.Load s true dst base offset) = refl
 named (insn.Store s base offset (Imm z)) = refl
 named (insn.Store s base offset (Register r)) = refl
-named (insn.Jump offset) = refl
-named (insn.JumpFar offset) = refl
-named (insn.Branch w c left right offset) = refl
-named (insn.Call number) = refl
-named insn.Exit = refl
+named _ = refl
 
 is_kind : (i : Insn) → IsDefined i → IsKind (kind_of i)
 is_kind (insn.Alu w o dst src) d = tt
@@ -49,18 +40,7 @@ is_kind insn.Exit d = tt
 -- one mnemonic, one kind
 again : (k : Kind) → kind_of (shape_of (sample k)) ≡ k
 again (kind.Alu w o) = refl
-again (kind.Sext w b) = refl
-again (kind.Neg w) = refl
-again (kind.Swap o b) = refl
-again kind.Wide = refl
-again (kind.Load s signed) = refl
-again (kind.StoreImmediate s) = refl
-again (kind.StoreRegister s) = refl
-again kind.Jump = refl
-again kind.JumpFar = refl
-again (kind.Branch w c) = refl
-again kind.Call = refl
-again kind.Exit = refl
+again _ = refl
 
 kind_unique : (k l : Kind) → IsKind k → IsKind l → kind_name k ≡ kind_name l → k ≡ l
 kind_unique k l a b e = sym (again k) ∙ (ap kind_of (shape_unique (sample k) (sample l) a b e) ∙ again l)

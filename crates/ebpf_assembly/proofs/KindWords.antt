@@ -1,5 +1,5 @@
 -- The words of kinds whose numbers of bits are written in decimal.
-use Rattle.std.proofs.Common.{rules, arith, ◌≡◌, ◌≢◌, ◌⊎◌, inl, inr, ℕ, ◌<◌, List, [], ◌∷◌, ◌++◌, refl, sym, ap, ◌∙◌, subst, Bool, true, false}
+use Rattle.std.proofs.Common.{rules, arith, ◌≡◌, ◌≢◌, ℕ, ◌<◌, List, [], ◌∷◌, ◌++◌, refl, sym, ap, ◌∙◌, subst, Bool, true, false}
 use Rattle.std.specs.Prelude.{codes, decimal, not, ◌&&◌, ◌||◌, ◌==◌, nat_lt}
 use Rattle.std.specs.List.{list_all}
 use Rattle.std.specs.Str.{IsAscii, IsUtf8}
@@ -15,32 +15,7 @@ use Rattle.ebpf_assembly.specs.Lines.{is_gap, is_newline}
 use Rattle.ebpf_assembly.specs.Kinds.{IsKind, kind_name, sample}
 use Rattle.ebpf_assembly.specs.declared.kind.Kind.{Kind}
 use Rattle.ebpf_assembly.proofs.PlainTexts.{is_plain, IsPlain, of_mnemonic}
-use Rattle.ebpf_assembly.proofs.Shapes.{eight, sixteen, thirty_two, sixty_four, either, is}
-
--- the numbers of bits
-pub swap_cases : (P : ℕ → Type 0) → P 16 → P 32 → P 64 → (bits : ℕ) → is_swap_of bits ≡ true → P bits
-swap_cases P a b c bits d = one (either (bits == 16 || bits == 32) (bits == 64) d) where
-  two : (bits == 16 ≡ true) ⊎ (bits == 32 ≡ true) → P bits
-  two (inl e) = subst P (is bits 16 e) a
-  two (inr e) = subst P (is bits 32 e) b
-
-  one : ((bits == 16 || bits == 32) ≡ true) ⊎ (bits == 64 ≡ true) → P bits
-  one (inl e) = two (either (bits == 16) (bits == 32) e)
-  one (inr e) = subst P (is bits 64 e) c
-
-move_cases : (P : Width → ℕ → Type 0) → P W32 8 → P W32 16 → P W64 8 → P W64 16 → P W64 32 → (width : Width) (bits : ℕ) → is_move_of width bits ≡ true → P width bits
-move_cases P a b c d e W32 bits h = one (either (bits == 8) (bits == 16) h) where
-  one : (bits == 8 ≡ true) ⊎ (bits == 16 ≡ true) → P W32 bits
-  one (inl f) = subst (P W32) (is bits 8 f) a
-  one (inr f) = subst (P W32) (is bits 16 f) b
-move_cases P a b c d e W64 bits h = one (either (bits == 8 || bits == 16) (bits == 32) h) where
-  two : (bits == 8 ≡ true) ⊎ (bits == 16 ≡ true) → P W64 bits
-  two (inl f) = subst (P W64) (is bits 8 f) c
-  two (inr f) = subst (P W64) (is bits 16 f) d
-
-  one : ((bits == 8 || bits == 16) ≡ true) ⊎ (bits == 32 ≡ true) → P W64 bits
-  one (inl f) = two (either (bits == 8) (bits == 16) f)
-  one (inr f) = subst (P W64) (is bits 32 f) e
+use Rattle.ebpf_assembly.proofs.Shapes.{eight, sixteen, thirty_two, sixty_four, swap_cases, move_cases}
 
 -- the words
 pub swap_16 : (o : Order) → order_name o ++ decimal 16 ≡ order_name o ++ codes "16"

@@ -116,32 +116,12 @@ minus_read first rest word size None given sign small same h = none where
 minus_read first rest word size (Some z) given sign small same h =
     (h.0, begins given sign ∙ (ap (λ (xs : List ℕ). 45 ∷ xs) (same ∙ ap decimal h.1.1) ∙ ap signed_decimal (sym h.1.2)))
 
-pub plain_unread : (first : ℕ) (rest word : List ℕ) → word ≡ first ∷ rest → first ≢ 45 → NoNumber word → (z : ℤ) → FitsSigned w32 z → word ≢ signed_decimal z
-plain_unread first rest word is sign none (pos n) fits e = none n (omega (arith, few_pos n fits)) e
-plain_unread first rest word is sign none (negsuc n) fits e = sign (head (sym is ∙ e))
-
 pub plain_read : (first : ℕ) (rest word : List ℕ) (size : ℕ) (o : Option ℤ) → word ≡ first ∷ rest → first ≢ 45 → size < 2 ^ 64 → word ≡ decimal size → IsPositive size o → IsImmediate word o
 plain_read first rest word size None is sign small same h = none where
   none : (z : ℤ) → FitsSigned w32 z → word ≢ signed_decimal z
   none (pos n) fits e = omega (arith, h, few_pos n fits, decimal_injective size n small (omega (arith, few_pos n fits)) (sym same ∙ e))
   none (negsuc n) fits e = sign (head (sym is ∙ e))
 plain_read first rest word size (Some z) is sign small same h = (h.0, same ∙ ap signed_decimal (sym h.1))
-
-pub offset_empty : (word : List ℕ) → length word ≡ 0 → (z : ℤ) → word ≢ offset_text z
-offset_empty word is (pos n) e = omega (arith, is, ap length e)
-offset_empty word is (negsuc n) e = omega (arith, is, ap length e)
-
-pub offset_unsigned : (first : ℕ) (rest word : List ℕ) → word ≡ first ∷ rest → first ≢ 45 → first ≢ 43 → (z : ℤ) → word ≢ offset_text z
-offset_unsigned first rest word is minus plus (pos n) e = plus (head (sym is ∙ e))
-offset_unsigned first rest word is minus plus (negsuc n) e = minus (head (sym is ∙ e))
-
-pub offset_minus_unread : (first : ℕ) (rest word : List ℕ) → word ≡ first ∷ rest → first ≡ 45 → NoNumber rest → (z : ℤ) → FitsSigned w32 z → word ≢ offset_text z
-offset_minus_unread first rest word given sign none (pos n) fits e = omega (arith, head (sym (begins given sign) ∙ e))
-offset_minus_unread first rest word given sign none (negsuc n) fits e = none (suc n) (omega (arith, few_negsuc n fits)) (tail (sym (begins given sign) ∙ e))
-
-pub offset_plus_unread : (first : ℕ) (rest word : List ℕ) → word ≡ first ∷ rest → first ≡ 43 → NoNumber rest → (z : ℤ) → FitsSigned w32 z → word ≢ offset_text z
-offset_plus_unread first rest word given sign none (pos n) fits e = none n (omega (arith, few_pos n fits)) (tail (sym (begins given sign) ∙ e))
-offset_plus_unread first rest word given sign none (negsuc n) fits e = omega (arith, head (sym (begins given sign) ∙ e))
 
 pub offset_minus_read : (first : ℕ) (rest word : List ℕ) (size : ℕ) (o : Option ℤ) → word ≡ first ∷ rest → first ≡ 45 → size < 2 ^ 64 → rest ≡ decimal size → IsNegative size o → IsFarOffset word o
 offset_minus_read first rest word size None given sign small same h = none where

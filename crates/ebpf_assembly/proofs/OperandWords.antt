@@ -1,5 +1,5 @@
 -- Which words are registers and places.
-use Rattle.std.proofs.Common.{arith, ◌≡◌, ◌≢◌, ◌⊎◌, inl, inr, ℕ, ◌<◌, ◌^◌, List, [], ◌∷◌, ◌++◌, length, get_or, drop, sym, ap, ◌∙◌, append_assoc}
+use Rattle.std.proofs.Common.{arith, ◌≡◌, ◌≢◌, ◌⊎◌, inl, inr, ℕ, ◌<◌, ◌^◌, List, [], ◌∷◌, ◌++◌, length, drop, sym, ap, ◌∙◌, append_assoc}
 use Rattle.std.specs.Prelude.{ℤ, Option, Some, None, FitsSigned, decimal}
 use Rattle.std.specs.Option.{MatchOption}
 use Rattle.std.specs.Int.{w16}
@@ -8,6 +8,7 @@ use Rattle.ebpf_insn.specs.declared.register.Reg.{Reg}
 use Rattle.ebpf_insn.specs.declared.register.Reg.TheVariants.{R0, R1, R2, R3, R4, R5, R6, R7, R8, R9, R10}
 use Rattle.ebpf_insn.specs.Registers.{number_of}
 use Rattle.ebpf_text.specs.Operands.{register_text, offset_text, place_text}
+use Rattle.ebpf_assembly.specs.Reading.{IsPlaceRead, IsPlaceReadAt}
 use Rattle.ebpf_assembly.proofs.WordsUnique.{init, init_back}
 use Rattle.ebpf_assembly.proofs.RegisterNames.{names}
 
@@ -31,15 +32,6 @@ IsRegister word o = MatchOption o ((r : Reg) → word ≢ register_text r) (λ r
 begins : {word rest : List ℕ} {first k : ℕ} → word ≡ first ∷ rest → first ≡ k → word ≡ k ∷ rest
 begins {word} {rest} e f = e ∙ ap (λ (c : ℕ). c ∷ rest) f
 
-pub register_empty : (word : List ℕ) → length word ≡ 0 → (r : Reg) → word ≢ register_text r
-register_empty word none r e = omega (arith, none, ap length e)
-
-pub register_other : (first : ℕ) (rest word : List ℕ) → word ≡ first ∷ rest → first ≢ 114 → (r : Reg) → word ≢ register_text r
-register_other first rest word is other r e = other (ap (λ (xs : List ℕ). get_or xs 0 0) (sym is ∙ e))
-
-pub register_unread : (first : ℕ) (rest word : List ℕ) → word ≡ first ∷ rest → ((n : ℕ) → n < 2 ^ 64 → rest ≢ decimal n) → (r : Reg) → word ≢ register_text r
-register_unread first rest word is none r e = none (number_of r) (few r) (ap (drop 1) (sym is ∙ e))
-
 pub register_read : (first : ℕ) (rest word : List ℕ) (n : ℕ) (o : Option Reg) → word ≡ first ∷ rest → first ≡ 114 → n < 2 ^ 64 → rest ≡ decimal n
     → MatchOption o ((r : Reg) → n ≢ number_of r) (λ r. n ≡ number_of r) → IsRegister word o
 register_read first rest word n (Some r) is letter small same of = begins is letter ∙ ap (λ (xs : List ℕ). 114 ∷ xs) (same ∙ ap decimal of)
@@ -47,14 +39,6 @@ register_read first rest word n None is letter small same of =
     λ r e. of r (decimal_injective n (number_of r) small (few r) (sym same ∙ ap (drop 1) (sym (begins is letter) ∙ e)))
 
 -- places
-abbrev IsPlaceAt : List ℕ → ℕ → Option (Reg × ℤ) → Type 0
-IsPlaceAt text len o =
-    MatchOption o ((r : Reg) (z : ℤ) → FitsSigned w16 z → length (register_text r) ≡ len → text ≢ register_text r ++ offset_text z)
-    (λ p. FitsSigned w16 p.1 × (text ≡ register_text p.0 ++ offset_text p.1))
-
-abbrev IsPlace : List ℕ → Option (Reg × ℤ) → Type 0
-IsPlace word o = MatchOption o ((r : Reg) (z : ℤ) → FitsSigned w16 z → word ≢ place_text r z) (λ p. FitsSigned w16 p.1 × (word ≡ place_text p.0 p.1))
-
 name_len : (r : Reg) → (length (register_text r) ≡ 2) ⊎ (length (register_text r) ≡ 3)
 name_len R0 = inl (ap length (names R0))
 name_len R1 = inl (ap length (names R1))
@@ -81,7 +65,7 @@ inside word inner r z is e =
 pub place_found : (word inner : List ℕ) (r : Reg) (z : ℤ) → word ≡ 91 ∷ (inner ++ 93 ∷ []) → inner ≡ register_text r ++ offset_text z → word ≡ place_text r z
 place_found word inner r z is e = is ∙ (ap (λ (xs : List ℕ). 91 ∷ (xs ++ 93 ∷ [])) e ∙ sym (bracketed r z))
 
-pub place_read : (word inner : List ℕ) (o : Option (Reg × ℤ)) → word ≡ 91 ∷ (inner ++ 93 ∷ []) → IsPlaceAt inner 2 None → IsPlaceAt inner 3 o → IsPlace word o
+pub place_read : (word inner : List ℕ) (o : Option (Reg × ℤ)) → word ≡ 91 ∷ (inner ++ 93 ∷ []) → IsPlaceReadAt inner 2 None → IsPlaceReadAt inner 3 o → IsPlaceRead word o
 place_read word inner (Some p) is two three = (three.0, place_found word inner p.0 p.1 is three.1)
 place_read word inner None is two three = λ r z fits e. which r z fits (inside word inner r z is e) (name_len r) where
   which : (r : Reg) (z : ℤ) → FitsSigned w16 z → inner ≡ register_text r ++ offset_text z → (length (register_text r) ≡ 2) ⊎ (length (register_text r) ≡ 3) → ⊥

@@ -11,7 +11,7 @@ use Rattle.std.proofs.lemmas.Fmt.{digits_decimal}
 use Rattle.std.proofs.lemmas.List.Folds.{list_all-append}
 use Rattle.std.proofs.lemmas.Str.Parse.{numerals_by_value, tells_digits, digit_from_value}
 use Rattle.ebpf_insn.specs.declared.register.Reg.{Reg}
-use Rattle.ebpf_insn.specs.declared.register.Reg.TheVariants.{R0, R1, R2, R3, R4, R5, R6, R7, R8, R9, R10}
+use Rattle.ebpf_insn.specs.declared.register.Reg.TheVariants.{R0}
 use Rattle.ebpf_insn.specs.declared.insn.Insn.{Insn}
 use Rattle.ebpf_insn.specs.declared.insn.Insn.TheVariants as insn
 use Rattle.ebpf_insn.specs.declared.insn.Width.{Width}
@@ -19,7 +19,7 @@ use Rattle.ebpf_insn.specs.declared.insn.Width.TheVariants.{W32, W64}
 use Rattle.ebpf_insn.specs.declared.insn.Size.{Size}
 use Rattle.ebpf_insn.specs.declared.insn.Size.TheVariants as size
 use Rattle.ebpf_insn.specs.declared.insn.Order.{Order}
-use Rattle.ebpf_insn.specs.declared.insn.Order.TheVariants.{Little, Big, Flip}
+use Rattle.ebpf_insn.specs.declared.insn.Order.TheVariants.{Little}
 use Rattle.ebpf_insn.specs.declared.insn.AluOp.{AluOp}
 use Rattle.ebpf_insn.specs.declared.insn.AluOp.TheVariants as op
 use Rattle.ebpf_insn.specs.declared.insn.Cond.{Cond}
@@ -88,16 +88,7 @@ of_offset (negsuc n) small = of_decimal (suc n) (omega (arith, small))
 
 named : (r : Reg) → IsPlain (name_of r)
 named R0 = refl
-named R1 = refl
-named R2 = refl
-named R3 = refl
-named R4 = refl
-named R5 = refl
-named R6 = refl
-named R7 = refl
-named R8 = refl
-named R9 = refl
-named R10 = refl
+named _ = refl
 
 pub of_register : (r : Reg) → IsPlain (register_text r)
 of_register r = ap (list_all is_plain) (names r) ∙ named r
@@ -121,43 +112,19 @@ of_width W64 = refl
 
 of_size : (s : Size) → IsPlain (size_name s)
 of_size size.B = refl
-of_size size.H = refl
-of_size size.W = refl
-of_size size.D = refl
+of_size _ = refl
 
 of_order : (o : Order) → IsPlain (order_name o)
 of_order Little = refl
-of_order Big = refl
-of_order Flip = refl
+of_order _ = refl
 
 of_alu : (o : AluOp) → IsPlain (alu_name o)
 of_alu op.Add = refl
-of_alu op.Sub = refl
-of_alu op.Mul = refl
-of_alu op.Div = refl
-of_alu op.SDiv = refl
-of_alu op.Or = refl
-of_alu op.And = refl
-of_alu op.Lsh = refl
-of_alu op.Rsh = refl
-of_alu op.Rem = refl
-of_alu op.SRem = refl
-of_alu op.Xor = refl
-of_alu op.Mov = refl
-of_alu op.Arsh = refl
+of_alu _ = refl
 
 of_cond : (c : Cond) → IsPlain (cond_name c)
 of_cond cond.Eq = refl
-of_cond cond.Ne = refl
-of_cond cond.Gt = refl
-of_cond cond.Ge = refl
-of_cond cond.Lt = refl
-of_cond cond.Le = refl
-of_cond cond.Set = refl
-of_cond cond.SGt = refl
-of_cond cond.SGe = refl
-of_cond cond.SLt = refl
-of_cond cond.SLe = refl
+of_cond _ = refl
 
 few_move : (w : Width) (bits : ℕ) → is_move_of w bits ≡ true → bits < 2 ^ 64
 few_move W32 bits d = search (rules, d)

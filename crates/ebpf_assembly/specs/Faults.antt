@@ -3,6 +3,7 @@ use Rattle.std.specs.Prelude.{◌≡◌, ◌≢◌, ◌⊎◌, ◌<◌, ℕ, ◌
 use Rattle.std.specs.List.{flat_map}
 use Rattle.ebpf_insn.specs.declared.insn.Insn.{Insn}
 use Rattle.ebpf_insn.specs.Program.{placed, slots_in}
+use Rattle.ebpf_insn.specs.declared.program.TheConstants.{MAX_SLOTS}
 use Rattle.ebpf_assembly.specs.declared.fault.LineFault.{LineFault}
 use Rattle.ebpf_assembly.specs.declared.fault.LineFault.TheVariants.{WrongSlot, NoInstruction, TooManySlots}
 use Rattle.ebpf_assembly.specs.declared.fault.AssemblyFault.{AssemblyFault}
@@ -26,7 +27,7 @@ IsUnlabelled slot ws rest = (ws ≡ slot_label slot ∷ rest) ⊎ ((ws ≡ rest)
 abbrev pub IsLineFault : ℕ → List (List ℕ) → LineFault → Type 0
 IsLineFault slot ws WrongSlot = IsLabelledWrong slot ws
 IsLineFault slot ws NoInstruction = (ws ≢ []) × IsLabelledRight slot ws × ((i : Insn) → ¬ (IsInsnAt slot ws i))
-IsLineFault slot ws TooManySlots = (i : Insn) × IsInsnAt slot ws i × (4096 < slot + slots_in i)
+IsLineFault slot ws TooManySlots = (i : Insn) × IsInsnAt slot ws i × (MAX_SLOTS < slot + slots_in i)
 
 -- the line of this number, counted from 1, after lines that are these instructions
 pub record IsLineAfter (text : List ℕ) (number : ℕ) (line : List ℕ) (is : List Insn) : Type 0 where

@@ -2,6 +2,8 @@
 use Rattle.std.specs.Prelude.{ℕ, ◌+◌, ◌-◌, ◌==◌, ◌&&◌, ◌||◌, nat_le, nat_lt, Bool, false, if◌then◌else◌, List, [], ◌∷◌, ◌++◌, take, Option, Some, None, is_some, option_map, codes, decimal}
 use Rattle.std.specs.Str.{bytes_eq}
 use Rattle.std.specs.List.{flat_map}
+use Rattle.ebpf_insn.specs.declared.program.TheConstants.{MAX_SLOTS}
+use Rattle.ebpf_assembly.specs.declared.label.TheConstants.{MAX_LABELS}
 use Rattle.ebpf_assembly.specs.Lines.{text_lines, words}
 
 -- a letter, or an underscore
@@ -37,7 +39,7 @@ slots_of_words (word ∷ ws) = slots_of_word word
 
 -- the slot after a line; past the last slot that a program can have there is no need to count
 abbrev pub slot_after : ℕ → List (List ℕ) → ℕ
-slot_after slot ws = if nat_lt 4096 slot then slot else slot + slots_of_words (unlabelled ws)
+slot_after slot ws = if nat_lt MAX_SLOTS slot then slot else slot + slots_of_words (unlabelled ws)
 
 -- a name, and the slot that it stands for
 pub record Named : Type 0 where
@@ -132,9 +134,9 @@ abbrev pub plain_by : List Named → List ℕ → List ℕ
 plain_by [] text = text
 plain_by (l ∷ labels) text = without_first (plain_lines (l ∷ labels) 0 (text_lines text))
 
--- the labels of a text: the first 256, so that a name is found in time
+-- the labels of a text: the first `MAX_LABELS`, so that a name is found in time
 abbrev pub labels_of : List ℕ → List Named
-labels_of text = take 256 (labels_from 0 (text_lines text))
+labels_of text = take MAX_LABELS (labels_from 0 (text_lines text))
 
 -- the text without labels and names; it has as many lines
 abbrev pub plain : List ℕ → List ℕ

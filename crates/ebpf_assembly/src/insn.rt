@@ -1,11 +1,9 @@
 //! An instruction, read from its words.
 
-ghost use Rattle.std.specs.Prelude.{◌≡◌, ◌≢◌, map};
-ghost use Rattle.std.specs.Option.{MatchOption};
-ghost use Rattle.ebpf_insn.specs.declared.insn.Insn.{Insn};
 ghost use Rattle.ebpf_insn.specs.Encoding.{IsDefined};
 ghost use Rattle.ebpf_assembly.specs.Lines.{words_of};
 ghost use Rattle.ebpf_assembly.specs.Kinds.{IsKind, IsOfKind};
+ghost use Rattle.ebpf_assembly.specs.Reading.{IsRead, texts};
 
 use crate::kind::{Kind, read_kind};
 use crate::operands::{
@@ -16,7 +14,7 @@ use ebpf_insn::insn::Insn;
 
 // The instruction that has these words.
 pub(crate) fn read_insn(words: &[&[u8]]) -> Option<Insn>
-    ensures { MatchOption result ((i : Insn) → IsDefined i → map (λ w. w.now) words.now ≢ words_of i) (λ i. IsDefined i × (map (λ w. w.now) words.now ≡ words_of i)) }
+    ensures { IsRead IsDefined words_of (texts words.now) result }
 {
     let (mnemonic, operands) = words.split_first()?;
     with_operands(read_kind(mnemonic)?, operands)
@@ -25,7 +23,7 @@ pub(crate) fn read_insn(words: &[&[u8]]) -> Option<Insn>
 // The instruction of a kind that has these operands.
 fn with_operands(kind: Kind, words: &[&[u8]]) -> Option<Insn>
     requires { IsKind kind }
-    ensures { IsOfKind kind (map (λ w. w.now) words.now) result }
+    ensures { IsOfKind kind (texts words.now) result }
 {
     match kind {
         Kind::Alu { width, op } => alu(width, op, words),

@@ -3,16 +3,12 @@
 //! *The idea.* A mnemonic says all of an instruction but its operands: that is its kind. Words are looked up by families, each a
 //! table, since most are two names put together.
 
-ghost use Rattle.std.specs.Prelude.{◌≡◌, ◌≢◌, ◌++◌, ℕ, Bool, if◌then◌else◌};
+ghost use Rattle.std.specs.Prelude.{◌≡◌, ◌++◌};
 ghost use Rattle.std.specs.Option.{MatchOption};
-ghost use Rattle.ebpf_insn.specs.declared.insn.AluOp.{AluOp};
-ghost use Rattle.ebpf_insn.specs.declared.insn.Cond.{Cond};
-ghost use Rattle.ebpf_insn.specs.declared.insn.Order.{Order};
-ghost use Rattle.ebpf_insn.specs.declared.insn.Size.{Size};
-ghost use Rattle.ebpf_insn.specs.declared.insn.Width.{Width};
 ghost use Rattle.ebpf_text.specs.Names.{alu_name, cond_name, width_name};
 ghost use Rattle.ebpf_assembly.specs.Kinds.{IsKind, IsNoOther, kind_name};
-ghost use Rattle.ebpf_assembly.specs.declared.kind.Kind.{Kind};
+ghost use Rattle.ebpf_assembly.specs.Reading.{IsRead, IsPairRead, IsKindRead, IsStoreRead};
+ghost use Rattle.ebpf_assembly.specs.declared.kind.Kind.TheVariants as kind;
 
 use ebpf_insn::insn::{AluOp, Cond, Order, Size, Width};
 
@@ -36,7 +32,7 @@ pub enum Kind {
 
 // The kind of a mnemonic.
 pub(crate) fn read_kind(word: &[u8]) -> Option<Kind>
-    ensures { MatchOption result ((k : Kind) → IsKind k → word.now ≢ kind_name k) (λ k. IsKind k × (word.now ≡ kind_name k)) }
+    ensures { IsRead IsKind kind_name word.now result }
 {
     let Ok(word) = str::from_utf8(word) else {
         return None;
@@ -68,7 +64,7 @@ pub(crate) fn read_kind(word: &[u8]) -> Option<Kind>
 
 // The operation and the width of arithmetic.
 fn arithmetic(word: &str) -> Option<(AluOp, Width)>
-    ensures { MatchOption result ((op : AluOp) (width : Width) → word.now ≢ alu_name op ++ width_name width) (λ r. word.now ≡ alu_name r.0 ++ width_name r.1) }
+    ensures { IsPairRead (λ op width. alu_name op ++ width_name width) word.now result }
 {
     match word {
         "add32" => Some((AluOp::Add, Width::W32)),
@@ -105,7 +101,7 @@ fn arithmetic(word: &str) -> Option<(AluOp, Width)>
 
 // The condition and the width of a branch.
 fn condition(word: &str) -> Option<(Cond, Width)>
-    ensures { MatchOption result ((cond : Cond) (width : Width) → word.now ≢ cond_name cond ++ width_name width) (λ r. word.now ≡ cond_name r.0 ++ width_name r.1) }
+    ensures { IsPairRead (λ cond width. cond_name cond ++ width_name width) word.now result }
 {
     match word {
         "jeq32" => Some((Cond::Eq, Width::W32)),
@@ -136,7 +132,7 @@ fn condition(word: &str) -> Option<(Cond, Width)>
 
 // The size of a load, and whether it extends the sign.
 fn load(word: &str) -> Option<(Size, bool)>
-    ensures { MatchOption result ((size : Size) (signed : Bool) → IsKind (Kind.Load size signed) → word.now ≢ kind_name (Kind.Load size signed)) (λ r. IsKind (Kind.Load r.0 r.1) × (word.now ≡ kind_name (Kind.Load r.0 r.1))) }
+    ensures { IsKindRead kind.Load word.now result }
 {
     match word {
         "ldxb" => Some((Size::B, false)),
@@ -152,7 +148,7 @@ fn load(word: &str) -> Option<(Size, bool)>
 
 // The size of a store, and whether it stores a register.
 fn store(word: &str) -> Option<(Size, bool)>
-    ensures { MatchOption result ((size : Size) → (word.now ≢ kind_name (Kind.StoreImmediate size)) × (word.now ≢ kind_name (Kind.StoreRegister size))) (λ r. word.now ≡ kind_name (if r.1 then Kind.StoreRegister r.0 else Kind.StoreImmediate r.0)) }
+    ensures { IsStoreRead word.now result }
 {
     match word {
         "stb" => Some((Size::B, false)),
@@ -169,7 +165,7 @@ fn store(word: &str) -> Option<(Size, bool)>
 
 // The width of a sign extension, and how many bits it takes.
 fn sign_extension(word: &str) -> Option<(Width, u8)>
-    ensures { MatchOption result ((width : Width) (bits : ℕ) → IsKind (Kind.Sext width bits) → word.now ≢ kind_name (Kind.Sext width bits)) (λ r. IsKind (Kind.Sext r.0 r.1) × (word.now ≡ kind_name (Kind.Sext r.0 r.1))) }
+    ensures { IsKindRead kind.Sext word.now result }
 {
     match word {
         "movs8_32" => Some((Width::W32, 8)),
@@ -183,7 +179,7 @@ fn sign_extension(word: &str) -> Option<(Width, u8)>
 
 // The order of a byte swap, and how many bits it takes.
 fn swap(word: &str) -> Option<(Order, u8)>
-    ensures { MatchOption result ((order : Order) (bits : ℕ) → IsKind (Kind.Swap order bits) → word.now ≢ kind_name (Kind.Swap order bits)) (λ r. IsKind (Kind.Swap r.0 r.1) × (word.now ≡ kind_name (Kind.Swap r.0 r.1))) }
+    ensures { IsKindRead kind.Swap word.now result }
 {
     match word {
         "le16" => Some((Order::Little, 16)),

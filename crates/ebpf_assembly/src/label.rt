@@ -3,9 +3,12 @@
 //! *The idea.* A label names the slot of the instruction after it. How many slots a line takes is seen by its first word, so all
 //! labels are known before any instruction is read.
 
-ghost use Rattle.std.specs.Prelude.{◌≡◌, ◌≤◌, ◌++◌, IfOk, OnOk, map, option_map, is_some, take};
+ghost use Rattle.std.specs.Prelude.{◌≡◌, ◌≤◌, ◌+◌, ◌++◌, IfOk, OnOk, option_map, is_some, take};
+ghost use Rattle.ebpf_insn.specs.declared.program.TheConstants.{MAX_SLOTS};
+ghost use Rattle.ebpf_assembly.specs.declared.label.TheConstants.{MAX_LABELS};
 ghost use Rattle.ebpf_assembly.specs.Lines.{text_lines};
 ghost use Rattle.ebpf_assembly.specs.Labels.{names_of};
+ghost use Rattle.ebpf_assembly.specs.Reading.{texts};
 ghost use Rattle.ebpf_assembly.specs.Names.{is_letter, is_lettered, before_colon, name_in, unlabelled, slots_of_word, slots_of_words, slot_after, label_of, labels_from, slot_of, is_slot, labels_slot};
 
 use crate::words::{label, line_words};
@@ -38,7 +41,7 @@ pub(crate) fn read_labels(alloc: Global, text: &[u8]) -> Result<Vec<Label<'_>>, 
 
 // The labels that may be named: a name is looked for among them, one by one.
 pub(crate) fn first_labels<'a, 'b>(labels: &'a [Label<'b>]) -> &'a [Label<'b>]
-    ensures { names_of result.now ≡ take 256 (names_of labels.now) }
+    ensures { names_of result.now ≡ take MAX_LABELS (names_of labels.now) }
 {
     if labels.len() <= MAX_LABELS {
         return labels;
@@ -52,7 +55,7 @@ fn push_label<'a>(
     slot: usize,
     words: &[&'a [u8]],
 ) -> Result<(), AllocError>
-    ensures { OnOk result (names_of labels.new.items ≡ names_of labels.old.items ++ label_of slot (map (λ w. w.now) words.now)) }
+    ensures { OnOk result (names_of labels.new.items ≡ names_of labels.old.items ++ label_of slot (texts words.now)) }
 {
     let Some((first, _)) = words.split_first() else {
         return Ok(());
@@ -65,9 +68,9 @@ fn push_label<'a>(
 
 // The slot after a line.
 pub(crate) fn slot_after(slot: usize, words: &[&[u8]]) -> usize
-    requires { slot ≤ 4098 }
-    ensures value { result ≡ slot_after slot (map (λ w. w.now) words.now) }
-    ensures bound { result ≤ 4098 }
+    requires { slot ≤ MAX_SLOTS + 2 }
+    ensures value { result ≡ slot_after slot (texts words.now) }
+    ensures bound { result ≤ MAX_SLOTS + 2 }
 {
     if slot > MAX_SLOTS {
         return slot;
@@ -77,7 +80,7 @@ pub(crate) fn slot_after(slot: usize, words: &[&[u8]]) -> usize
 
 // The words after the label or the slot.
 pub(crate) fn unlabelled_words<'a, 'b>(words: &'a [&'b [u8]]) -> &'a [&'b [u8]]
-    ensures { map (λ w. w.now) result.now ≡ unlabelled (map (λ w. w.now) words.now) }
+    ensures { texts result.now ≡ unlabelled (texts words.now) }
 {
     let Some((first, rest)) = words.split_first() else {
         return words;
@@ -90,7 +93,7 @@ pub(crate) fn unlabelled_words<'a, 'b>(words: &'a [&'b [u8]]) -> &'a [&'b [u8]]
 
 // How many slots the instruction of these words takes.
 fn slots_of_words(words: &[&[u8]]) -> usize
-    ensures value { result ≡ slots_of_words (map (λ w. w.now) words.now) }
+    ensures value { result ≡ slots_of_words (texts words.now) }
     ensures bound { result ≤ 2 }
 {
     match words.split_first() {

@@ -1,10 +1,12 @@
 //! The instruction of a line.
 
-ghost use Rattle.std.specs.Prelude.{◌≡◌, ◌≢◌, ◌≤◌, ◌+◌, [], IfOk, IfErr, map};
+ghost use Rattle.std.specs.Prelude.{◌≡◌, ◌≢◌, ◌≤◌, ◌+◌, [], IfOk, IfErr};
 ghost use Rattle.std.specs.Option.{MatchOption};
 ghost use Rattle.ebpf_insn.specs.Program.{slots_in};
+ghost use Rattle.ebpf_insn.specs.declared.program.TheConstants.{MAX_SLOTS};
 ghost use Rattle.ebpf_assembly.specs.Lines.{words, IsInsnAt};
 ghost use Rattle.ebpf_assembly.specs.Faults.{IsLineFault, IsLineStop};
+ghost use Rattle.ebpf_assembly.specs.Reading.{texts};
 
 use crate::fault::{AssemblyFault, LineFault};
 use crate::insn::read_insn;
@@ -20,8 +22,8 @@ pub(crate) fn read_line(
     slot: usize,
     line: &[u8],
 ) -> Result<Option<Insn>, AssemblyFault>
-    requires { slot ≤ 4096 }
-    ensures ok { IfOk result (λ o. MatchOption o (words line.now ≡ []) (λ i. IsInsnAt slot (words line.now) i × (slot + slots_in i ≤ 4096))) }
+    requires { slot ≤ MAX_SLOTS }
+    ensures ok { IfOk result (λ o. MatchOption o (words line.now ≡ []) (λ i. IsInsnAt slot (words line.now) i × (slot + slots_in i ≤ MAX_SLOTS))) }
     ensures refused { IfErr result (IsLineStop number slot line.now) }
 {
     let words = line_words(alloc, line)?;
@@ -39,10 +41,10 @@ pub(crate) fn read_line(
 
 // The instruction that has these words at a slot.
 fn insn_at(slot: usize, words: &[&[u8]]) -> Result<Insn, LineFault>
-    requires few { slot ≤ 4096 }
-    requires some { map (λ w. w.now) words.now ≢ [] }
-    ensures ok { IfOk result (λ i. IsInsnAt slot (map (λ w. w.now) words.now) i × (slot + slots_in i ≤ 4096)) }
-    ensures refused { IfErr result (IsLineFault slot (map (λ w. w.now) words.now)) }
+    requires few { slot ≤ MAX_SLOTS }
+    requires some { texts words.now ≢ [] }
+    ensures ok { IfOk result (λ i. IsInsnAt slot (texts words.now) i × (slot + slots_in i ≤ MAX_SLOTS)) }
+    ensures refused { IfErr result (IsLineFault slot (texts words.now)) }
 {
     let Some(rest) = unlabelled(slot, words) else {
         return Err(LineFault::WrongSlot);

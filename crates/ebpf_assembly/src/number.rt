@@ -1,14 +1,15 @@
 //! The numbers of a text, as a listing writes them.
 
-ghost use Rattle.std.specs.Prelude.{◌≡◌, ◌≢◌, ◌≤◌, ◌<◌, ◌^◌, ◌∷◌, ℕ, ℤ, pos, negsuc, suc, FitsSigned, decimal};
+ghost use Rattle.std.specs.Prelude.{◌≡◌, ◌≢◌, ◌≤◌, ◌<◌, ◌^◌, ℕ, pos, negsuc, suc, FitsSigned, decimal};
 ghost use Rattle.std.specs.Option.{MatchOption};
 ghost use Rattle.std.specs.Int.{w16, w32};
 ghost use Rattle.std.specs.Fmt.{signed_decimal};
 ghost use Rattle.ebpf_text.specs.Operands.{offset_text};
+ghost use Rattle.ebpf_assembly.specs.Reading.{IsRead};
 
 // A number without a sign: decimal digits, the first of which is 0 only where it is the only one.
 pub(crate) fn number(word: &[u8]) -> Option<u64>
-    ensures { MatchOption result ((n : ℕ) → n < 2 ^ 64 → word.now ≢ decimal n) (λ n. (n < 2 ^ 64) × (word.now ≡ decimal n)) }
+    ensures { IsRead (λ n. n < 2 ^ 64) decimal word.now result }
 {
     let (first, rest) = word.split_first()?;
     if *first == b'+' {
@@ -25,7 +26,7 @@ pub(crate) fn number(word: &[u8]) -> Option<u64>
 
 // An immediate: a minus where it is negative.
 pub(crate) fn immediate(word: &[u8]) -> Option<i32>
-    ensures { MatchOption result ((z : ℤ) → FitsSigned w32 z → word.now ≢ signed_decimal z) (λ z. FitsSigned w32 z × (word.now ≡ signed_decimal z)) }
+    ensures { IsRead (FitsSigned w32) signed_decimal word.now result }
 {
     let (first, rest) = word.split_first()?;
     if *first == b'-' {
@@ -36,7 +37,7 @@ pub(crate) fn immediate(word: &[u8]) -> Option<i32>
 
 // The displacement of a far jump: with its sign, a plus also at zero.
 pub(crate) fn far_offset(word: &[u8]) -> Option<i32>
-    ensures { MatchOption result ((z : ℤ) → FitsSigned w32 z → word.now ≢ offset_text z) (λ z. FitsSigned w32 z × (word.now ≡ offset_text z)) }
+    ensures { IsRead (FitsSigned w32) offset_text word.now result }
 {
     let (first, rest) = word.split_first()?;
     match *first {
@@ -48,7 +49,7 @@ pub(crate) fn far_offset(word: &[u8]) -> Option<i32>
 
 // The offset of a load, a store, a jump or a branch.
 pub(crate) fn offset(word: &[u8]) -> Option<i16>
-    ensures { MatchOption result ((z : ℤ) → FitsSigned w16 z → word.now ≢ offset_text z) (λ z. FitsSigned w16 z × (word.now ≡ offset_text z)) }
+    ensures { IsRead (FitsSigned w16) offset_text word.now result }
 {
     i16::try_from(far_offset(word)?).ok()
 }

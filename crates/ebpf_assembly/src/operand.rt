@@ -1,13 +1,12 @@
 //! The operands of an instruction, each a word.
 
-ghost use Rattle.std.specs.Prelude.{◌≡◌, ◌≢◌, ◌∷◌, [], ◌++◌, ℕ, ℤ, List, FitsSigned, length};
+ghost use Rattle.std.specs.Prelude.{◌≡◌, ◌≢◌, ◌∷◌, [], ◌++◌, ℕ, List};
 ghost use Rattle.std.specs.Option.{MatchOption};
-ghost use Rattle.std.specs.Int.{w16};
 ghost use Rattle.ebpf_insn.specs.declared.register.Reg.{Reg};
-ghost use Rattle.ebpf_insn.specs.declared.insn.Source.{Source};
 ghost use Rattle.ebpf_insn.specs.Encoding.{IsSource};
 ghost use Rattle.ebpf_insn.specs.Registers.{number_of};
-ghost use Rattle.ebpf_text.specs.Operands.{register_text, source_text, offset_text, place_text};
+ghost use Rattle.ebpf_text.specs.Operands.{register_text, source_text};
+ghost use Rattle.ebpf_assembly.specs.Reading.{IsRead, IsPlaceRead, IsPlaceReadAt};
 
 use crate::number::{immediate, number, offset};
 use ebpf_insn::insn::Source;
@@ -26,7 +25,7 @@ pub(crate) fn register(word: &[u8]) -> Option<Reg>
 
 // A second operand: a register, or an immediate.
 pub(crate) fn source(word: &[u8]) -> Option<Source>
-    ensures { MatchOption result ((s : Source) → IsSource s → word.now ≢ source_text s) (λ s. IsSource s × (word.now ≡ source_text s)) }
+    ensures { IsRead IsSource source_text word.now result }
 {
     if let Some(register) = register(word) {
         return Some(Source::Register(register));
@@ -36,7 +35,7 @@ pub(crate) fn source(word: &[u8]) -> Option<Source>
 
 // A place in memory: a base and an offset, in brackets.
 pub(crate) fn place(word: &[u8]) -> Option<(Reg, i16)>
-    ensures { MatchOption result ((r : Reg) (z : ℤ) → FitsSigned w16 z → word.now ≢ place_text r z) (λ p. FitsSigned w16 p.1 × (word.now ≡ place_text p.0 p.1)) }
+    ensures { IsPlaceRead word.now result }
 {
     let inner = within_brackets(word)?;
     // The name of a register has two bytes, or three.
@@ -62,7 +61,7 @@ fn within_brackets(word: &[u8]) -> Option<&[u8]>
 
 // A base whose name has this length, and an offset.
 fn place_at(text: &[u8], name_len: usize) -> Option<(Reg, i16)>
-    ensures { MatchOption result ((r : Reg) (z : ℤ) → FitsSigned w16 z → length (register_text r) ≡ name_len → text.now ≢ register_text r ++ offset_text z) (λ p. FitsSigned w16 p.1 × (text.now ≡ register_text p.0 ++ offset_text p.1)) }
+    ensures { IsPlaceReadAt text.now name_len result }
 {
     let (name, displacement) = text.split_at_checked(name_len)?;
     let base = register(name)?;

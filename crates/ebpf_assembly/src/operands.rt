@@ -1,8 +1,8 @@
 //! The operands of each kind of instruction, read from the words after its mnemonic.
 
-ghost use Rattle.std.specs.Prelude.{map};
 ghost use Rattle.ebpf_assembly.specs.declared.kind.Kind.TheVariants as kind;
 ghost use Rattle.ebpf_assembly.specs.Kinds.{IsKind, IsOfKind};
+ghost use Rattle.ebpf_assembly.specs.Reading.{texts};
 
 use crate::number::{far_offset, immediate, number, offset};
 use crate::operand::{place, register, source};
@@ -10,7 +10,7 @@ use ebpf_insn::insn::{AluOp, Cond, Insn, Order, Size, Source, Width};
 
 // What is written, and a second operand.
 pub(crate) fn alu(width: Width, op: AluOp, words: &[&[u8]]) -> Option<Insn>
-    ensures { IsOfKind (kind.Alu width op) (map (λ w. w.now) words.now) result }
+    ensures { IsOfKind (kind.Alu width op) (texts words.now) result }
 {
     let [dst, src] = words else {
         return None;
@@ -26,7 +26,7 @@ pub(crate) fn alu(width: Width, op: AluOp, words: &[&[u8]]) -> Option<Insn>
 // What is written, and the register that is extended.
 pub(crate) fn sext(width: Width, bits: u8, words: &[&[u8]]) -> Option<Insn>
     requires { IsKind (kind.Sext width bits) }
-    ensures { IsOfKind (kind.Sext width bits) (map (λ w. w.now) words.now) result }
+    ensures { IsOfKind (kind.Sext width bits) (texts words.now) result }
 {
     let [dst, src] = words else {
         return None;
@@ -41,7 +41,7 @@ pub(crate) fn sext(width: Width, bits: u8, words: &[&[u8]]) -> Option<Insn>
 
 // The register that is negated.
 pub(crate) fn neg(width: Width, words: &[&[u8]]) -> Option<Insn>
-    ensures { IsOfKind (kind.Neg width) (map (λ w. w.now) words.now) result }
+    ensures { IsOfKind (kind.Neg width) (texts words.now) result }
 {
     let [dst] = words else {
         return None;
@@ -55,7 +55,7 @@ pub(crate) fn neg(width: Width, words: &[&[u8]]) -> Option<Insn>
 // The register whose bytes are swapped.
 pub(crate) fn swap(order: Order, bits: u8, words: &[&[u8]]) -> Option<Insn>
     requires { IsKind (kind.Swap order bits) }
-    ensures { IsOfKind (kind.Swap order bits) (map (λ w. w.now) words.now) result }
+    ensures { IsOfKind (kind.Swap order bits) (texts words.now) result }
 {
     let [dst] = words else {
         return None;
@@ -69,7 +69,7 @@ pub(crate) fn swap(order: Order, bits: u8, words: &[&[u8]]) -> Option<Insn>
 
 // What is written, and a number of 64 bits.
 pub(crate) fn wide(words: &[&[u8]]) -> Option<Insn>
-    ensures { IsOfKind kind.Wide (map (λ w. w.now) words.now) result }
+    ensures { IsOfKind kind.Wide (texts words.now) result }
 {
     let [dst, value] = words else {
         return None;
@@ -83,7 +83,7 @@ pub(crate) fn wide(words: &[&[u8]]) -> Option<Insn>
 // What is written, and the place that is read.
 pub(crate) fn load(size: Size, signed: bool, words: &[&[u8]]) -> Option<Insn>
     requires { IsKind (kind.Load size signed) }
-    ensures { IsOfKind (kind.Load size signed) (map (λ w. w.now) words.now) result }
+    ensures { IsOfKind (kind.Load size signed) (texts words.now) result }
 {
     let [dst, from] = words else {
         return None;
@@ -101,7 +101,7 @@ pub(crate) fn load(size: Size, signed: bool, words: &[&[u8]]) -> Option<Insn>
 
 // The place that is written, and an immediate.
 pub(crate) fn store_immediate(size: Size, words: &[&[u8]]) -> Option<Insn>
-    ensures { IsOfKind (kind.StoreImmediate size) (map (λ w. w.now) words.now) result }
+    ensures { IsOfKind (kind.StoreImmediate size) (texts words.now) result }
 {
     let [to, value] = words else {
         return None;
@@ -118,7 +118,7 @@ pub(crate) fn store_immediate(size: Size, words: &[&[u8]]) -> Option<Insn>
 
 // The place that is written, and a register.
 pub(crate) fn store_register(size: Size, words: &[&[u8]]) -> Option<Insn>
-    ensures { IsOfKind (kind.StoreRegister size) (map (λ w. w.now) words.now) result }
+    ensures { IsOfKind (kind.StoreRegister size) (texts words.now) result }
 {
     let [to, value] = words else {
         return None;
@@ -135,7 +135,7 @@ pub(crate) fn store_register(size: Size, words: &[&[u8]]) -> Option<Insn>
 
 // How far to jump.
 pub(crate) fn jump(words: &[&[u8]]) -> Option<Insn>
-    ensures { IsOfKind kind.Jump (map (λ w. w.now) words.now) result }
+    ensures { IsOfKind kind.Jump (texts words.now) result }
 {
     let [to] = words else {
         return None;
@@ -147,7 +147,7 @@ pub(crate) fn jump(words: &[&[u8]]) -> Option<Insn>
 
 // The same, in 32 bits.
 pub(crate) fn jump_far(words: &[&[u8]]) -> Option<Insn>
-    ensures { IsOfKind kind.JumpFar (map (λ w. w.now) words.now) result }
+    ensures { IsOfKind kind.JumpFar (texts words.now) result }
 {
     let [to] = words else {
         return None;
@@ -159,7 +159,7 @@ pub(crate) fn jump_far(words: &[&[u8]]) -> Option<Insn>
 
 // What is compared, and how far to jump.
 pub(crate) fn branch(width: Width, cond: Cond, words: &[&[u8]]) -> Option<Insn>
-    ensures { IsOfKind (kind.Branch width cond) (map (λ w. w.now) words.now) result }
+    ensures { IsOfKind (kind.Branch width cond) (texts words.now) result }
 {
     let [left, right, to] = words else {
         return None;
@@ -175,7 +175,7 @@ pub(crate) fn branch(width: Width, cond: Cond, words: &[&[u8]]) -> Option<Insn>
 
 // The number of the helper.
 pub(crate) fn call(words: &[&[u8]]) -> Option<Insn>
-    ensures { IsOfKind kind.Call (map (λ w. w.now) words.now) result }
+    ensures { IsOfKind kind.Call (texts words.now) result }
 {
     let [called] = words else {
         return None;
@@ -187,7 +187,7 @@ pub(crate) fn call(words: &[&[u8]]) -> Option<Insn>
 
 // Nothing.
 pub(crate) fn exit(words: &[&[u8]]) -> Option<Insn>
-    ensures { IsOfKind kind.Exit (map (λ w. w.now) words.now) result }
+    ensures { IsOfKind kind.Exit (texts words.now) result }
 {
     if !words.is_empty() {
         return None;

@@ -1,8 +1,10 @@
 //! A text without labels and names, which has offsets in their place.
 
-ghost use Rattle.std.specs.Prelude.{◌≡◌, ◌≤◌, ◌++◌, ◌+◌, IfOk, OnOk, codes, map, string_bytes};
+ghost use Rattle.std.specs.Prelude.{◌≡◌, ◌≤◌, ◌++◌, ◌+◌, IfOk, OnOk, codes, string_bytes};
+ghost use Rattle.ebpf_insn.specs.declared.program.TheConstants.{MAX_SLOTS};
 ghost use Rattle.ebpf_assembly.specs.Lines.{text_lines};
 ghost use Rattle.ebpf_assembly.specs.Labels.{names_of};
+ghost use Rattle.ebpf_assembly.specs.Reading.{texts};
 ghost use Rattle.ebpf_assembly.specs.Names.{own_words, begins_with_j, is_jump, distance_text, target_by, words_text, targeted, plain_words, plain_lines, without_first};
 
 use crate::label::{Label, labels_slot, slot_after, slot_of, unlabelled_words};
@@ -45,8 +47,8 @@ fn push_line(
     slot: usize,
     words: &[&[u8]],
 ) -> Result<(), AllocError>
-    requires { slot ≤ 4098 }
-    ensures { OnOk result (text.new.items ≡ text.old.items ++ (codes "\n" ++ words_text (plain_words (names_of labels.now) slot (map (λ w. w.now) words.now)))) }
+    requires { slot ≤ MAX_SLOTS + 2 }
+    ensures { OnOk result (text.new.items ≡ text.old.items ++ (codes "\n" ++ words_text (plain_words (names_of labels.now) slot (texts words.now)))) }
 {
     text.push(b'\n')?;
     push_plain(alloc, text, labels, slot, own_words(labels, slot, words))
@@ -54,7 +56,7 @@ fn push_line(
 
 // The words without the label of their slot.
 fn own_words<'a, 'b>(labels: &[Label<'_>], slot: usize, words: &'a [&'b [u8]]) -> &'a [&'b [u8]]
-    ensures { map (λ w. w.now) result.now ≡ own_words (names_of labels.now) slot (map (λ w. w.now) words.now) }
+    ensures { texts result.now ≡ own_words (names_of labels.now) slot (texts words.now) }
 {
     let Some((first, rest)) = words.split_first() else {
         return words;
@@ -73,8 +75,8 @@ fn push_plain(
     slot: usize,
     words: &[&[u8]],
 ) -> Result<(), AllocError>
-    requires { slot ≤ 4098 }
-    ensures { OnOk result (text.new.items ≡ text.old.items ++ words_text (targeted (names_of labels.now) slot (map (λ w. w.now) words.now))) }
+    requires { slot ≤ MAX_SLOTS + 2 }
+    ensures { OnOk result (text.new.items ≡ text.old.items ++ words_text (targeted (names_of labels.now) slot (texts words.now))) }
 {
     if !is_jump(words) {
         return push_words(text, words);
@@ -88,7 +90,7 @@ fn push_plain(
 
 // Whether words are those of a jump.
 fn is_jump(words: &[&[u8]]) -> bool
-    ensures { result ≡ is_jump (map (λ w. w.now) words.now) }
+    ensures { result ≡ is_jump (texts words.now) }
 {
     match unlabelled_words(words).split_first() {
         Some((first, _)) => begins_with_j(first),
@@ -107,7 +109,7 @@ fn begins_with_j(word: &[u8]) -> bool
 
 // Adds words, each with a space after it.
 fn push_words(text: &mut Vec<u8>, words: &[&[u8]]) -> Result<(), AllocError>
-    ensures { OnOk result (text.new.items ≡ text.old.items ++ words_text (map (λ w. w.now) words.now)) }
+    ensures { OnOk result (text.new.items ≡ text.old.items ++ words_text (texts words.now)) }
 {
     for word in words {
         push_word(text, word)?;
@@ -131,7 +133,7 @@ fn push_target(
     slot: usize,
     word: &[u8],
 ) -> Result<(), AllocError>
-    requires { slot ≤ 4098 }
+    requires { slot ≤ MAX_SLOTS + 2 }
     ensures { OnOk result (text.new.items ≡ text.old.items ++ (target_by slot word.now target ++ codes " ")) }
 {
     match target {

@@ -1,16 +1,17 @@
 //! The words of a line.
 
-ghost use Rattle.std.specs.Prelude.{◌≡◌, ◌≢◌, ◌∷◌, ◌++◌, IfOk, List, ℕ, codes, map};
+ghost use Rattle.std.specs.Prelude.{◌≡◌, ◌≢◌, ◌∷◌, ◌++◌, IfOk, List, ℕ, codes};
 ghost use Rattle.std.specs.Option.{MatchOption};
 ghost use Rattle.ebpf_assembly.specs.Lines.{is_gap, is_word, uncommented, words};
 ghost use Rattle.ebpf_assembly.specs.Faults.{IsLabelledWrong, IsUnlabelled};
+ghost use Rattle.ebpf_assembly.specs.Reading.{texts};
 
 use crate::number::number;
 use std::alloc::{AllocError, Global};
 
 // The words of a line, without its comment.
 pub(crate) fn line_words(alloc: Global, line: &[u8]) -> Result<Vec<&[u8]>, AllocError>
-    ensures { IfOk result (λ v. map (λ w. w.now) v.items ≡ words line.now) }
+    ensures { IfOk result (λ v. texts v.items ≡ words line.now) }
 {
     uncommented(line)
         .split(|c| is_gap(*c))
@@ -54,7 +55,7 @@ pub(crate) fn label(word: &[u8]) -> Option<&[u8]>
 // The words after the label of the slot, or all of them where they begin with no label; `None` where the label is that of another
 // slot.
 pub(crate) fn unlabelled<'a, 'b>(slot: usize, words: &'a [&'b [u8]]) -> Option<&'a [&'b [u8]]>
-    ensures { MatchOption result (IsLabelledWrong slot (map (λ w. w.now) words.now)) (λ rest. IsUnlabelled slot (map (λ w. w.now) words.now) (map (λ w. w.now) rest.now)) }
+    ensures { MatchOption result (IsLabelledWrong slot (texts words.now)) (λ rest. IsUnlabelled slot (texts words.now) (texts rest.now)) }
 {
     let Some((first, rest)) = words.split_first() else {
         return Some(words);

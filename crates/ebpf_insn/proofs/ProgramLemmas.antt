@@ -12,16 +12,6 @@ instructions-length [] = omega arith
 instructions-length (None ∷ p) = omega (arith, instructions-length p)
 instructions-length (Some i ∷ p) = omega (arith, instructions-length p)
 
--- no more stand below a slot than below a later one
-pub count_below-mono : (p : List (Option Insn)) (j k : ℕ) → j ≤ k → count_below p j ≤ count_below p k
-count_below-mono [] zero k le = omega arith
-count_below-mono [] (suc j) zero le = absurd (omega arith)
-count_below-mono [] (suc j) (suc k) le = omega arith
-count_below-mono (o ∷ p) zero k le = omega arith
-count_below-mono (o ∷ p) (suc j) zero le = absurd (omega arith)
-count_below-mono (None ∷ p) (suc j) (suc k) le = count_below-mono p j k (omega arith)
-count_below-mono (Some i ∷ p) (suc j) (suc k) le = omega (arith, count_below-mono p j k (omega arith))
-
 -- an instruction counts below every later slot
 pub count_below-more : (p : List (Option Insn)) (j k : ℕ) (i : Insn) → insn_at p j ≡ Some i → j < k → count_below p j < count_below p k
 count_below-more [] j k i at lt = absurd (cc)

@@ -212,31 +212,12 @@ is_wide_form _ = false
 
 same_wide : (i : Insn) → is_wide_form (form_of_insn i) ≡ is_wide i
 same_wide (insn.Alu width o dst src) = refl
-same_wide (insn.Sext width bits dst src) = refl
-same_wide (insn.Neg width dst) = refl
-same_wide (insn.Swap order bits dst) = refl
-same_wide (insn.Wide dst value) = refl
-same_wide (insn.Load size signed dst base offset) = refl
-same_wide (insn.Store size base offset src) = refl
-same_wide (insn.Jump offset) = refl
-same_wide (insn.JumpFar offset) = refl
-same_wide (insn.Branch width c left right offset) = refl
-same_wide (insn.Call number) = refl
-same_wide insn.Exit = refl
+same_wide _ = refl
 
 -- a form other than that of a wide instruction
 other_form : (f : Form) → (f ≡ form.Wide → ⊥) → false ≡ is_wide_form f
 other_form form.Wide ne = absurd (ne refl)
-other_form (form.Alu width o operand) ne = refl
-other_form (form.Neg width) ne = refl
-other_form (form.Swap order) ne = refl
-other_form (form.Load size signed) ne = refl
-other_form (form.Store size operand) ne = refl
-other_form form.Jump ne = refl
-other_form form.JumpFar ne = refl
-other_form (form.Branch width c operand) ne = refl
-other_form form.Call ne = refl
-other_form form.Exit ne = refl
+other_form _ ne = refl
 
 wide_form : (n : ℕ) (f : Form) → form_of n ≡ Some f → eqb n (opcode_of form.Wide) ≡ is_wide_form f
 wide_form n f here =
@@ -309,16 +290,8 @@ unsigned_again _ = refl
 insn_form : (i : Insn) → IsDefined i → IsForm (form_of_insn i)
 insn_form (insn.Alu width o dst src) h = unsigned_again o
 insn_form (insn.Sext width bits dst src) h = refl
-insn_form (insn.Neg width dst) h = tt
-insn_form (insn.Swap order bits dst) h = tt
-insn_form (insn.Wide dst value) h = tt
 insn_form (insn.Load size signed dst base offset) h = h.0
-insn_form (insn.Store size base offset src) h = tt
-insn_form (insn.Jump offset) h = tt
-insn_form (insn.JumpFar offset) h = tt
-insn_form (insn.Branch width c left right offset) h = tt
-insn_form (insn.Call number) h = tt
-insn_form insn.Exit h = tt
+insn_form _ h = tt
 
 pub insn_form_again : (i : Insn) → IsDefined i → form_of (opcode_of (form_of_insn i)) ≡ Some (form_of_insn i)
 insn_form_again i h = form_again (form_of_insn i) (insn_form i h)
@@ -330,14 +303,4 @@ same_code width operand _ = refl
 
 pub same_opcode : (i : Insn) → opcode_of (form_of_insn i) ≡ (first_slot i).opcode
 same_opcode (insn.Alu width o dst src) = same_code width (operand_of src) o
-same_opcode (insn.Sext width bits dst src) = refl
-same_opcode (insn.Neg width dst) = refl
-same_opcode (insn.Swap order bits dst) = refl
-same_opcode (insn.Wide dst value) = refl
-same_opcode (insn.Load size signed dst base offset) = refl
-same_opcode (insn.Store size base offset src) = refl
-same_opcode (insn.Jump offset) = refl
-same_opcode (insn.JumpFar offset) = refl
-same_opcode (insn.Branch width c left right offset) = refl
-same_opcode (insn.Call number) = refl
-same_opcode insn.Exit = refl
+same_opcode _ = refl

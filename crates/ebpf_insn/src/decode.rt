@@ -2,7 +2,8 @@
 
 ghost use Rattle.std.specs.Prelude.{◌≡◌, ◌≤◌, ◌<◌, ◌+◌, ◌*◌, [], ◌∷◌, ℕ, take, drop, None, Some, false, List, Option, length, IfOk, IfErr, OnOk, MatchResult};
 ghost use Rattle.ebpf_insn.specs.declared.insn.Insn.{Insn};
-ghost use Rattle.ebpf_insn.specs.declared.fault.DecodeFault.TheVariants.{NoMemory};
+ghost use Rattle.ebpf_insn.specs.declared.fault.DecodeFault.TheVariants.{Bad, NoMemory};
+ghost use Rattle.ebpf_insn.specs.declared.program.TheConstants.{MAX_SLOTS};
 ghost use Rattle.ebpf_insn.specs.Program.{slots_in};
 ghost use Rattle.ebpf_insn.specs.Encoding.{slots_of, encoding, program_bytes, IsDefined, IsWellFormed, IsProgram};
 ghost use Rattle.ebpf_insn.specs.Decoding.{slot_fault, place_fault, decode_fault, second_at, second_of, is_second_half, IsDecodeFault};
@@ -38,10 +39,7 @@ pub fn decode(alloc: Global, bytes: &[u8]) -> Result<Program, DecodeFault>
     ensures only { (p : List (Option Insn)) → IsProgram bytes.now p → MatchResult result (λ q. q ≡ p) (λ e. e ≡ NoMemory) }
 {
     if bytes.is_empty() || bytes.len() % 8 != 0 {
-        return Err(DecodeFault::Bad {
-            slot: 0,
-            code: DecodeCode::WrongLength,
-        });
+        return Err(bad(0, DecodeCode::WrongLength));
     }
     let count = bytes.len() / 8;
     let mut slots = Vec::with_capacity(alloc, count.min(MAX_SLOTS))?;
@@ -49,10 +47,7 @@ pub fn decode(alloc: Global, bytes: &[u8]) -> Result<Program, DecodeFault>
     let mut is_second_half = false;
     for slot in 0..count {
         if slot == MAX_SLOTS {
-            return Err(DecodeFault::Bad {
-                slot: MAX_SLOTS as u16,
-                code: DecodeCode::ProgramTooLong,
-            });
+            return Err(bad(MAX_SLOTS, DecodeCode::ProgramTooLong));
         }
         if is_second_half {
             slots.push_reserved(None);
@@ -64,16 +59,22 @@ pub fn decode(alloc: Global, bytes: &[u8]) -> Result<Program, DecodeFault>
                 slots.push_reserved(Some(insn));
                 is_second_half = insn.slots() == 2;
             }
-            Err(code) => {
-                return Err(DecodeFault::Bad {
-                    slot: slot as u16,
-                    code,
-                });
-            }
+            Err(code) => return Err(bad(slot, code)),
         }
         len += 1;
     }
     Ok(Program::new(slots, len))
+}
+
+// The fault of a slot.
+fn bad(slot: usize, code: DecodeCode) -> DecodeFault
+    requires { slot ≤ MAX_SLOTS }
+    ensures { result ≡ Bad slot code }
+{
+    DecodeFault::Bad {
+        slot: slot as u16,
+        code,
+    }
 }
 
 // The instruction that begins at a place in the bytes, or the first code that applies there.

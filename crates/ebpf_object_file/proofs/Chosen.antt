@@ -58,22 +58,20 @@ two_in file symbols n m first second same one two = record {
   after : (a b : ℕ) (x : Bool) → (nat_le a b && x) ≡ true → a ≤ b
   after a b x e = grind (arith, nat_tests)
 
+-- what is read of the bytes that the functions keep is so of the file
+of_file : (file : List ℕ) (f : Functions) (number : ℕ) (g : Function) → AreFunctions file f → IsAt f.file.now f.symbols.now number g × IsAlone f.file.now g
+    → IsAt file f.symbols.now number g × IsAlone file g
+of_file file f number g are there =
+    (subst (λ (x : List ℕ). IsAt x f.symbols.now number g) are.same there.0, subst (λ (x : List ℕ). IsAlone x g) are.same there.1)
+
 -- the function of a name, and why it is none
 pub named_found : (file name : List ℕ) (f : Functions) (number : ℕ) (r : Result Function ObjectFault) → AreFunctions file f
     → IsFirst (named_in file f.symbols.now f.strings.now name) (length f.symbols.now / 24) number
     → IfOk r (λ g. IsAt f.file.now f.symbols.now number g × IsAlone f.file.now g) → IfOk r (λ g. IsNamed file name g × IsAlone file g)
 named_found file name f number r are first h =
-    IfOk-weaker r (λ g. IsAt f.file.now f.symbols.now number g × IsAlone f.file.now g) (λ g. IsNamed file name g × IsAlone file g) (λ g there. (
-      record {
-        symbols = f.symbols.now;
-        strings = f.strings.now;
-        are = are.symbols;
-        number = number;
-        first = first;
-        at = subst (λ (x : List ℕ). IsAt x f.symbols.now number g) are.same there.0;
-      },
-      subst (λ (x : List ℕ). IsAlone x g) are.same there.1,
-    )) h
+    IfOk-weaker r (λ g. IsAt f.file.now f.symbols.now number g × IsAlone f.file.now g) (λ g. IsNamed file name g × IsAlone file g) (λ g there.
+    let own = of_file file f number g are there in
+    (record { symbols = f.symbols.now; strings = f.strings.now; are = are.symbols; number = number; first = first; at = own.0 }, own.1)) h
 
 pub named_refused : (file name : List ℕ) (f : Functions) (number : ℕ) (r : Result Function ObjectFault) → AreFunctions file f → length name ≤ name_limit
     → IsFirst (named_in file f.symbols.now f.strings.now name) (length f.symbols.now / 24) number
@@ -98,17 +96,9 @@ pub only_found : (file : List ℕ) (f : Functions) (number : ℕ) (r : Result Fu
     → IsOnly (function_in file f.symbols.now) (length f.symbols.now / 24) number
     → IfOk r (λ g. IsAt f.file.now f.symbols.now number g × IsAlone f.file.now g) → IfOk r (λ g. IsOnlyOne file g × IsAlone file g)
 only_found file f number r are only h =
-    IfOk-weaker r (λ g. IsAt f.file.now f.symbols.now number g × IsAlone f.file.now g) (λ g. IsOnlyOne file g × IsAlone file g) (λ g there. (
-      record {
-        symbols = f.symbols.now;
-        strings = f.strings.now;
-        are = are.symbols;
-        number = number;
-        only = only;
-        at = subst (λ (x : List ℕ). IsAt x f.symbols.now number g) are.same there.0;
-      },
-      subst (λ (x : List ℕ). IsAlone x g) are.same there.1,
-    )) h
+    IfOk-weaker r (λ g. IsAt f.file.now f.symbols.now number g × IsAlone f.file.now g) (λ g. IsOnlyOne file g × IsAlone file g) (λ g there.
+    let own = of_file file f number g are there in
+    (record { symbols = f.symbols.now; strings = f.strings.now; are = are.symbols; number = number; only = only; at = own.0 }, own.1)) h
 
 pub only_refused : (file : List ℕ) (f : Functions) (number : ℕ) (r : Result Function ObjectFault) → AreFunctions file f
     → IsOnly (function_in file f.symbols.now) (length f.symbols.now / 24) number

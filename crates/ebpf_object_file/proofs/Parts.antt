@@ -9,9 +9,6 @@ pub record HasPassed (size : ℕ) (strings name bytes rest : List ℕ) : Type 0 
   pub follows : Follows size bytes parts rest
   pub others : NoneNamed strings name parts
 
-pub passed_none : (size : ℕ) (strings name bytes : List ℕ) → HasPassed size strings name bytes bytes
-passed_none size strings name bytes = record { parts = []; follows = refl; others = record {} }
-
 follows_more : (size : ℕ) (bytes rest : List ℕ) (ps : List PartValue) → Follows size bytes ps rest → is_part size rest ≡ true
     → Follows size bytes (ps ++ part_of size rest ∷ []) (drop (part_size size rest) rest)
 follows_more size bytes rest [] f here = rw (← f) (here, refl, refl)

@@ -1,20 +1,19 @@
 -- What the searches found, in the words of the definitions.
-use Rattle.std.proofs.Common.{◌≡◌, ◌<◌, ◌≤◌, ◌+◌, ◌/◌, ℕ, Bool, false, true, List, length, Option, sym, ap, subst, ◌∙◌, arith, inl, inr}
+use Rattle.std.proofs.Common.{◌≡◌, ◌<◌, ◌/◌, ℕ, Bool, false, true, List, length, Option, sym, ap, subst, ◌∙◌, arith, inl, inr}
 use Rattle.std.proofs.lemmas.Bool.Decides.{eqb_tells, nat_tests}
 use Rattle.ebpf_object_file.specs.declared.header.Header.{Header}
 use Rattle.ebpf_object_file.specs.declared.symbol.Symbol.{Symbol}
 use Rattle.ebpf_object_file.specs.declared.relocation.Relocation.{Relocation}
 use Rattle.ebpf_object_file.specs.declared.outside.Place.{Place}
-use Rattle.ebpf_object_file.specs.declared.section.Section.{Section}
 use Rattle.ebpf_object_file.specs.declared.section.Wanted.TheVariants.{RelocationsFor, AddendsFor}
 use Rattle.ebpf_object_file.specs.Header.{header_of}
 use Rattle.ebpf_object_file.specs.First.{NoneBelow, IsFirst, IsOnly, Finds}
-use Rattle.ebpf_object_file.specs.Section.{section_of, sections_in, wanted_in, bytes_of}
+use Rattle.ebpf_object_file.specs.Section.{sections_in, wanted_in, bytes_of}
 use Rattle.ebpf_object_file.specs.Symbol.{symbol_of, is_function, is_function_named}
 use Rattle.ebpf_object_file.specs.Relocation.{relocation_of, reaches}
-use Rattle.ebpf_object_file.specs.File.{AreSymbols, IsTable, named_in}
+use Rattle.ebpf_object_file.specs.File.{named_in}
 use Rattle.ebpf_object_file.specs.Outside.{IsReached, IsReachedFirst}
-use Rattle.ebpf_object_file.specs.Function.{IsPlace, is_code}
+use Rattle.ebpf_object_file.specs.Function.{IsPlace}
 
 true_false : (b : Bool) → b ≡ true → b ≡ false → ⊥
 true_false true t f = absurd (cc)
@@ -31,23 +30,11 @@ symbol_inside file h s read same is function =
     let count : h.sections ≡ sections_in file = ap (λ (x : Header). x.sections) same in
     subst (λ (n : ℕ). read.section < n) count (subst (λ (x : Symbol). x.section < h.sections) (sym is) (section_inside h.sections s function))
 
-pub named_is_function : (n : ℕ) (strings name : List ℕ) (s : Symbol) → is_function_named n strings name s ≡ true → is_function n s ≡ true
-named_is_function n strings name s e = grind (arith, nat_tests)
-
 -- a search in as many sections as the file has is one in the file
 pub found_named : (file symbols strings name : List ℕ) (n m : ℕ) (r : Option ℕ) → n ≡ sections_in file
     → Finds (λ k. is_function_named n strings name (symbol_of symbols k)) m r → Finds (named_in file symbols strings name) m r
 found_named file symbols strings name n m r e found =
     subst (λ (x : ℕ). Finds (λ k. is_function_named x strings name (symbol_of symbols k)) m r) e found
-
-pub are_symbols : (file symbols strings : List ℕ) (table : ℕ) (s : Section) → IsTable file table → symbols ≡ bytes_of file table
-    → s ≡ section_of file table → strings ≡ bytes_of file s.link → AreSymbols file symbols strings
-are_symbols file symbols strings table s is symbols_are same strings_are = record {
-  table = table;
-  is = is;
-  symbols_are = symbols_are;
-  strings_are = strings_are ∙ ap (λ (x : Section). bytes_of file x.link) same;
-}
 
 -- no section has relocations for the place's
 pub none_wanted : (file : List ℕ) (p : Place) → NoneBelow (wanted_in file (RelocationsFor p.section)) (sections_in file)
@@ -82,19 +69,7 @@ is_reached_first file p i k bytes r none only same first is = record {
   is = is ∙ ap (λ (x : List ℕ). relocation_of x k) same;
 }
 
--- the bytes of a place are in its section
-code_inside : (file : List ℕ) (s : Symbol) → is_code file s ≡ true → s.value + s.size ≤ length (bytes_of file s.section)
-code_inside file s e = grind (arith, nat_tests)
-
-pub place_inside : (file symbols : List ℕ) (number : ℕ) (p : Place) → IsPlace file symbols number p → p.from + p.size ≤ length (bytes_of file p.section)
-place_inside file symbols number p h =
-    let inside = code_inside file (symbol_of symbols number) h.code in
-    let len : length (bytes_of file p.section) ≡ length (bytes_of file (symbol_of symbols number).section) = ap (λ (x : ℕ). length (bytes_of file x)) h.section in
-    let from : p.from ≡ (symbol_of symbols number).value = h.from in
-    let size : p.size ≡ (symbol_of symbols number).size = h.size in
-    rw (from, size, len) inside
-
--- and its section is in the file
+-- the section of a place is in the file
 pub place_section : (file symbols : List ℕ) (number : ℕ) (p : Place) (h : Header) → h ≡ header_of file
     → is_function h.sections (symbol_of symbols number) ≡ true → IsPlace file symbols number p → p.section < sections_in file
 place_section file symbols number p h same function is =

@@ -1,5 +1,5 @@
 -- Ranges: which numbers they hold, the hull of two, and the low half.
-use Rattle.std.specs.Prelude.{◌≤◌, ◌-◌, ◌/◌, ◌%◌, ◌^◌, ℕ, if◌then◌else◌, ◌==◌, nat_lt, min, max}
+use Rattle.std.specs.Prelude.{◌≤◌, ◌<◌, ◌-◌, ◌/◌, ◌%◌, ◌^◌, ℕ, if◌then◌else◌, ◌==◌, nat_lt, min, max}
 use Rattle.ebpf_range.specs.declared.range.Range.{Range}
 
 -- the range holds the number
@@ -12,6 +12,13 @@ constant n = record { lo = n; hi = n }
 -- all numbers below a modulus
 abbrev pub all_below : ℕ → Range
 all_below m = record { lo = 0; hi = m - 1 }
+
+-- both are ranges of numbers below a modulus
+pub record AreBelow (m : ℕ) (a b : Range) : Type 0 where
+  pub left : a.lo ≤ a.hi
+  pub right : b.lo ≤ b.hi
+  pub left_below : a.hi < m
+  pub right_below : b.hi < m
 
 abbrev pub hull : Range → Range → Range
 hull a b = record { lo = min a.lo b.lo; hi = max a.hi b.hi }

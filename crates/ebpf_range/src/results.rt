@@ -2,7 +2,7 @@
 
 ghost use Rattle.std.specs.Prelude.{◌≡◌, ◌≤◌, ◌<◌, ◌%◌, ◌^◌, ℕ};
 ghost use Rattle.ebpf_insn.specs.Arithmetic.{modulus, result_at, extension_at, negation_at, swapped_bits, swap_of};
-ghost use Rattle.ebpf_range.specs.Interval.{low, IsWithin};
+ghost use Rattle.ebpf_range.specs.Interval.{AreBelow, low, IsWithin};
 ghost use Rattle.ebpf_range.specs.Results.{low_at, row, row_or_constant, result_range, extension_or_any};
 ghost use Rattle.ebpf_range.specs.Results.{extension_range, negation_or_any, negation_range, swap_range};
 
@@ -65,10 +65,7 @@ fn low_at(width: Width, a: Range) -> Range
 
 // The result where both operands are constant, else the row of the operation.
 fn row_or_constant(op: AluOp, width: Width, a: Range, b: Range) -> Range
-    requires left { a.lo ≤ a.hi }
-    requires right { b.lo ≤ b.hi }
-    requires left_below { a.hi < modulus width }
-    requires right_below { b.hi < modulus width }
+    requires { AreBelow (modulus width) a b }
     ensures { result ≡ row_or_constant op width a b }
 {
     if a.lo == a.hi && b.lo == b.hi {
@@ -80,10 +77,7 @@ fn row_or_constant(op: AluOp, width: Width, a: Range, b: Range) -> Range
 
 // The row of an operation.
 fn row(op: AluOp, width: Width, a: Range, b: Range) -> Range
-    requires left { a.lo ≤ a.hi }
-    requires right { b.lo ≤ b.hi }
-    requires left_below { a.hi < modulus width }
-    requires right_below { b.hi < modulus width }
+    requires { AreBelow (modulus width) a b }
     ensures { result ≡ row op width a b }
 {
     match op {

@@ -2,7 +2,7 @@
 
 ghost use Rattle.std.specs.Prelude.{◌≡◌, ◌≤◌, ◌<◌, ◌+◌, ◌^◌, ℕ};
 ghost use Rattle.ebpf_insn.specs.Arithmetic.{modulus, factor_at};
-ghost use Rattle.ebpf_range.specs.Interval.{all_below};
+ghost use Rattle.ebpf_range.specs.Interval.{AreBelow, all_below};
 ghost use Rattle.ebpf_range.specs.Results.{up, sum_of, difference_of, product_of, quotient_of, remainder_of, left_shift_of, right_shift_of, signed_shift_of};
 
 use crate::arithmetic::{modulus, power_of_two};
@@ -21,10 +21,7 @@ pub(crate) fn all_at(width: Width) -> Range
 
 // The sum, which wraps.
 pub(crate) fn sum(width: Width, a: Range, b: Range) -> Range
-    requires left { a.lo ≤ a.hi }
-    requires right { b.lo ≤ b.hi }
-    requires left_below { a.hi < modulus width }
-    requires right_below { b.hi < modulus width }
+    requires { AreBelow (modulus width) a b }
     ensures { result ≡ sum_of (modulus width) a b }
 {
     let modulus = modulus(width);
@@ -47,10 +44,7 @@ pub(crate) fn sum(width: Width, a: Range, b: Range) -> Range
 
 // The difference, which wraps below zero.
 pub(crate) fn difference(width: Width, a: Range, b: Range) -> Range
-    requires left { a.lo ≤ a.hi }
-    requires right { b.lo ≤ b.hi }
-    requires left_below { a.hi < modulus width }
-    requires right_below { b.hi < modulus width }
+    requires { AreBelow (modulus width) a b }
     ensures { result ≡ difference_of (modulus width) a b }
 {
     if b.hi <= a.lo {

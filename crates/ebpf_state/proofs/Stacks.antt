@@ -3,7 +3,7 @@ use Rattle.std.proofs.Common.{◌≡◌, ℕ, zero, suc, ◌+◌, ◌-◌, ◌�
 use Rattle.std.specs.Prelude.{replicate, map}
 use Rattle.std.specs.Int.Bits.{and_zero_l, and_zero_r}
 use Rattle.std.proofs.lemmas.List.{length-map, length-replicate, set-append_right, replicate-append-replicate, append_assoc}
-use Rattle.ebpf_state.specs.declared.value.Abs.TheVariants.{Unset, Num, Stk, Ctx, Ob, May}
+use Rattle.ebpf_state.specs.declared.value.Abs.TheVariants.{Unset}
 use Rattle.ebpf_state.specs.declared.word.Word.{Word}
 use Rattle.ebpf_state.specs.declared.word.Word.TheVariants.{Spill, Bytes}
 use Rattle.ebpf_state.specs.Words.{joined_word, all_words}
@@ -13,11 +13,7 @@ use Rattle.ebpf_state.specs.States.{joined_list}
 pub joined_nothing : (w : Word) → joined_word (Bytes 0) w ≡ Bytes 0
 joined_nothing (Bytes b) = ap Bytes (and_zero_l b)
 joined_nothing (Spill Unset) = refl
-joined_nothing (Spill (Num a)) = refl
-joined_nothing (Spill (Stk k)) = refl
-joined_nothing (Spill (Ctx a b)) = refl
-joined_nothing (Spill (Ob r a b)) = refl
-joined_nothing (Spill (May r)) = refl
+joined_nothing (Spill _) = refl
 
 pub length-all_words : (words : List Word) → length words ≤ 64 → length (all_words words) ≡ 64
 length-all_words words few = length-append (replicate (64 - length words) (Bytes 0)) words ∙ omega (arith, length-replicate (64 - length words) (Bytes 0), few)
@@ -33,11 +29,7 @@ joined_below (suc n) left (r ∷ rs) le =
 nothing_joined : (w : Word) → joined_word w (Bytes 0) ≡ Bytes 0
 nothing_joined (Bytes a) = ap Bytes (and_zero_r a)
 nothing_joined (Spill Unset) = refl
-nothing_joined (Spill (Num a)) = refl
-nothing_joined (Spill (Stk k)) = refl
-nothing_joined (Spill (Ctx a b)) = refl
-nothing_joined (Spill (Ob r a b)) = refl
-nothing_joined (Spill (May r)) = refl
+nothing_joined (Spill _) = refl
 
 -- the same, from the last words of the other
 joined_above : (n : ℕ) (left right : List Word) → n ≤ length left → replicate n (Bytes 0) ++ joined_list joined_word (drop n left) right ≡ joined_list joined_word left (replicate n (Bytes 0) ++ right)

@@ -51,7 +51,7 @@ had_less (suc n) old new page removes has below = elim (cases_lt page n) [
 ]
 
 -- and no slot that is out goes with it
-pub out_stays : (old new : Pages) (page : ℕ) → RemovesPage old new page → ((slot : ℕ) → slot / 256 ≡ page → IsOut old slot → ⊥) → (slot : ℕ) → IsOut new slot ↔ IsOut old slot
+out_stays : (old new : Pages) (page : ℕ) → RemovesPage old new page → ((slot : ℕ) → slot / 256 ≡ page → IsOut old slot → ⊥) → (slot : ℕ) → IsOut new slot ↔ IsOut old slot
 out_stays old new page removes idle slot = elim (cases_eq (slot / 256) page) [
   | inl here ↦
       let gone = removes.removed slot here in
@@ -62,7 +62,7 @@ out_stays old new page removes idle slot = elim (cases_eq (slot / 256) page) [
 ]
 
 -- and of a page that stays no slot changes
-pub place_stays : (old new : Pages) (page : ℕ) → RemovesPage old new page → (slot : ℕ) → Has new (slot / 256) → Has old (slot / 256) × (place_of new slot ≡ place_of old slot)
+place_stays : (old new : Pages) (page : ℕ) → RemovesPage old new page → (slot : ℕ) → Has new (slot / 256) → Has old (slot / 256) × (place_of new slot ≡ place_of old slot)
 place_stays old new page removes slot has = elim (cases_eq (slot / 256) page) [
   | inl here ↦
       let gone = removes.removed (slot / 256 * 256) (omega arith) in
@@ -71,3 +71,17 @@ place_stays old new page removes slot has = elim (cases_eq (slot / 256) page) [
       let first = removes.others (slot / 256 * 256) (λ e. other (omega arith)) in
       (sym (ap is_some first) ∙ has, removes.others slot other)
 ]
+
+-- so what is said of slots since some first pages stays so
+pub out_since : (first old new : Pages) (page : ℕ) → RemovesPage old new page → ((slot : ℕ) → slot / 256 ≡ page → IsOut old slot → ⊥)
+    → ((slot : ℕ) → IsOut old slot ↔ IsOut first slot) → (slot : ℕ) → IsOut new slot ↔ IsOut first slot
+out_since first old new page removes idle since slot =
+    let stays = out_stays old new page removes idle slot in
+    (λ is. (since slot).0 (stays.0 is), λ is. stays.1 ((since slot).1 is))
+
+pub place_since : (first old new : Pages) (page : ℕ) → RemovesPage old new page
+    → ((slot : ℕ) → Has old (slot / 256) → place_of old slot ≡ place_of first slot)
+    → (slot : ℕ) → Has new (slot / 256) → place_of new slot ≡ place_of first slot
+place_since first old new page removes since slot has =
+    let stays = place_stays old new page removes slot has in
+    stays.1 ∙ since slot stays.0

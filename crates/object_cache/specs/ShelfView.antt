@@ -1,5 +1,6 @@
 -- A shelf and its hands as their callers see them, and what they keep.
 use Rattle.std.specs.Prelude.{◌≡◌, ℕ, ◌^◌, ◌<◌, ◌≤◌, List, length, slice_index_or, Option, Some, None, IsSome}
+use Rattle.object_cache.specs.declared.count.TheConstants.{MAX_HANDS}
 
 -- how many hands were made
 pub record ShelfView : Type 0 where
@@ -30,5 +31,5 @@ pub record IsShelfHand (h : ShelfHandView) (put_parts puts get_parts gets : ℕ)
 
 -- there is a part of the books for each hand that isn't made yet
 pub record HasSpares {X : Type 0} (hands : ℕ) (spares : List (Option X)) : Type 0 where
-  pub wide : length spares ≡ 64
-  pub each : (k : ℕ) → hands ≤ k → k < 64 → IsSome (slice_index_or spares k None)
+  pub wide : length spares ≡ MAX_HANDS
+  pub each : (k : ℕ) → hands ≤ k → k < MAX_HANDS → IsSome (slice_index_or spares k None)

@@ -11,10 +11,11 @@ ghost use Rattle.std.specs.Prelude.{◌≡◌, ◌⊎◌, ◌+◌, ◌<◌, ◌�
 ghost use Rattle.magazine.specs.LayerView.{rounds_of, IsEmpty, IsFull};
 ghost use Rattle.object_cache.specs.CacheView.{AreHomes};
 ghost use Rattle.object_cache.specs.HandView.{fresh, refilled};
+ghost use Rattle.object_cache.specs.declared.count.TheConstants.{MAX_HANDS, PARTS};
 
 use crate::arena_lock::ArenaLock;
 use crate::asking::{refill_anywhere, relieve_anywhere};
-use crate::count::MOST;
+use crate::count::{MOST, PARTS};
 use crate::fault::TakeFault;
 use crate::hand::Hand;
 use crate::inner::Inner;
@@ -38,16 +39,17 @@ pub struct Cache<K: Kind, A: Ledger, B: Ledger> {
 impl<K: Kind, A: Ledger, B: Ledger> Model for Cache<K, A, B> {
     ghost use Rattle.std.specs.Prelude.{◌≡◌, ◌+◌, ◌≤◌, vec_len};
     ghost use Rattle.object_cache.specs.CacheView.{CacheView};
+    ghost use Rattle.object_cache.specs.declared.count.TheConstants.{MAX_HANDS, PARTS};
 
     ghost Value = { CacheView };
 
     ghost view = { λ c. record { hands = c.hands } };
 
-    ghost invariant = { λ c. (c.hands ≤ 64) × (vec_len c.parts + c.hands ≡ 65) };
+    ghost invariant = { λ c. (c.hands ≤ MAX_HANDS) × (vec_len c.parts + c.hands ≡ PARTS) };
 }
 
 impl<K: Kind, A: Ledger, B: Ledger> Cache<K, A, B> {
-    /// A cache with no object and no page, for up to 64 hands. The blanks become its two books: of what leaves it for
+    /// A cache with no object and no page, for up to `MAX_HANDS` hands. The blanks become its two books: of what leaves it for
     /// hands, and of what comes in from them.
     ///
     /// # Errors
@@ -55,13 +57,13 @@ impl<K: Kind, A: Ledger, B: Ledger> Cache<K, A, B> {
     pub fn new(alloc: Global, outs: Blank, ins: Blank) -> Result<Cache<K, A, B>, AllocError>
         requires names { (outs.name ≡ A.name) × (ins.name ≡ B.name) }
         requires parts { (outs.parts ≡ A.parts) × (ins.parts ≡ B.parts) }
-        requires all { (A.parts ≡ 65) × (B.parts ≡ 65) }
+        requires all { (A.parts ≡ PARTS) × (B.parts ≡ PARTS) }
         ensures { IfOk result (λ cache. cache.hands ≡ 0) }
     {
-        let mut parts = Vec::with_capacity(alloc, 65)?;
+        let mut parts = Vec::with_capacity(alloc, PARTS as usize)?;
         let (mut outs, mut out_rest) = outs.open::<A>();
         let (mut ins, mut in_rest) = ins.open::<B>();
-        for _i in 0..65u64 {
+        for _i in 0..PARTS {
             let mut out_part = out_rest.split_off(1, 0);
             let mut in_part = in_rest.split_off(1, 0);
             outs.add(&mut out_part, MOST);
@@ -75,12 +77,12 @@ impl<K: Kind, A: Ledger, B: Ledger> Cache<K, A, B> {
         })
     }
 
-    /// Makes a hand, one of 64 at most.
+    /// Makes a hand, one of `MAX_HANDS` at most.
     ///
     /// # Errors
     /// It fails only where an allocation fails, and the cache stays as it is.
     pub fn hand(&mut self, alloc: Global) -> Result<Hand<K, A, B>, AllocError>
-        requires { self.old.hands < 64 }
+        requires { self.old.hands < MAX_HANDS }
         ensures made { OnOk result (self.new.hands ≡ self.old.hands + 1) }
         ensures fresh { IfOk result (λ hand. hand ≡ fresh) }
         ensures unchanged { OnErr result (self.new ≡ self.old) }
@@ -262,7 +264,7 @@ impl<K: Kind, A: Ledger, B: Ledger> Cache<K, A, B> {
     /// each page with nothing out goes back to the arena.
     pub fn close<R: Wait>(self, rt: &R, mut hands: Vec<Hand<K, A, B>>, arena: &ArenaLock) -> Totals
         requires all { vec_len hands ≡ self.hands }
-        requires parts { (A.parts ≡ 65) × (B.parts ≡ 65) }
+        requires parts { (A.parts ≡ PARTS) × (B.parts ≡ PARTS) }
         ensures allocs { result.allocs ≡ sum_by (λ h. h.allocs) hands.items }
         ensures frees { result.frees ≡ sum_by (λ h. h.frees) hands.items }
         ensures nulls { result.nulls ≡ sum_by (λ h. h.nulls) hands.items }
@@ -280,22 +282,14 @@ impl<K: Kind, A: Ledger, B: Ledger> Cache<K, A, B> {
         let mut frees = 0;
         let mut nulls = 0;
         while let Some(hand) = hands.pop() {
-            let Hand {
-                number: _,
-                mut layer,
-                outs,
-                mut ins,
-                allocs: made,
-                frees: given,
-                nulls: refused,
-            } = hand;
+            allocs += hand.allocs;
+            frees += hand.frees;
+            nulls += hand.nulls;
+            let (mut layer, outs, mut ins) = hand.end();
             inner.empty(rt, &mut layer, &mut ins);
             layer.end();
             all_outs.merge(outs);
             all_ins.merge(ins);
-            allocs += made;
-            frees += given;
-            nulls += refused;
         }
         hands.destroy_empty();
         inner.give_pages(rt, arena);

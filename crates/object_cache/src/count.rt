@@ -1,6 +1,6 @@
 //! Counts that stop at 2^56.
 //!
-//! *The reason.* No host ever counts that far, and the sums of 64 such counts fit a word. So a count needs no error
+//! *The reason.* No host ever counts that far, and the sums of `MAX_HANDS` such counts fit a word. So a count needs no error
 //! that nobody meets: a call that would pass the end waits for ever.
 
 ghost use Rattle.std.specs.Prelude.{◌≡◌, ◌+◌, ◌^◌, ◌≤◌};
@@ -9,6 +9,12 @@ use std::sync::Wait;
 
 /// The most that is counted.
 pub const MOST: u64 = 1 << 56;
+
+/// The most hands of a cache, or of a shelf.
+pub const MAX_HANDS: u64 = 64;
+
+/// The parts of a book: one for each hand, and one that no hand has.
+pub const PARTS: u64 = MAX_HANDS + 1;
 
 /// Counts one more.
 #[inline]

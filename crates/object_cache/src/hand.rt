@@ -13,7 +13,7 @@
 
 ghost use Rattle.std.specs.Prelude.{◌≡◌, ◌⊎◌, ◌≤◌, ℕ, ◌+◌, ◌^◌, ◌∷◌, length, replicate, IsOk, IfOk, OnErr, MatchResult, IsPermutation};
 ghost use Rattle.magazine.specs.LayerView.{rounds_of, IsEmpty, IsFull};
-ghost use Rattle.object_cache.specs.HandView.{HasRound, HasRoom, refilled};
+ghost use Rattle.object_cache.specs.HandView.{HasRound, HasRoom, IsHand, refilled};
 
 use crate::arena_lock::ArenaLock;
 use crate::cache::Cache;
@@ -80,13 +80,8 @@ impl<K: Kind, A: Ledger, B: Ledger> Hand<K, A, B> {
         let object = match self.layer.try_take() {
             Some(object) => object,
             None => {
-                if let Err(fault) = cache.supply(
-                    rt,
-                    arena,
-                    self.number,
-                    &mut self.layer,
-                    &mut self.outs,
-                ) {
+                let (number, layer) = (self.number, &mut self.layer);
+                if let Err(fault) = cache.supply(rt, arena, number, layer, &mut self.outs) {
                     count(rt, &mut self.nulls);
                     return Err(fault);
                 }
@@ -133,6 +128,23 @@ impl<K: Kind, A: Ledger, B: Ledger> Hand<K, A, B> {
             &mut self.ins,
             back,
         );
+    }
+
+    /// What the hand has: its layer, and its shares of both books.
+    pub(crate) fn end(self) -> (Layer<K>, Share<A>, Share<B>)
+        ensures layer { result.0 ≡ self.layer }
+        ensures shares { IsHand self result.1.parts result.1.amount result.2.parts result.2.amount }
+    {
+        let Hand {
+            number: _,
+            layer,
+            outs,
+            ins,
+            allocs: _,
+            frees: _,
+            nulls: _,
+        } = self;
+        (layer, outs, ins)
     }
 
     /// Sends all rounds of this hand home to the slabs. It waits for the cache's lock. The cache is the one that made

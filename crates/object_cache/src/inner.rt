@@ -13,7 +13,7 @@
 
 ghost use Rattle.std.specs.Prelude.{◌≡◌, ℕ, ◌+◌, ◌/◌, ◌^◌, ◌<◌, ◌≤◌, ◌↔◌, ◌⊎◌, [], ◌∷◌, ◌++◌, length, false, None, Contains, IsTrue, IsSome, IsOk, IfOk, OnOk, OnErr, IfSome, IfNone, MatchOption, IsPermutation};
 ghost use Rattle.vmem_arena.specs.Spans.{AreFree};
-ghost use Rattle.slab_layer.specs.declared.kind.TheConstants.{SLOTS_OF_A_PAGE};
+ghost use Rattle.slab_layer.specs.declared.kind.TheConstants.{PAGE_BYTES, SLOTS_OF_A_PAGE};
 ghost use Rattle.slab_layer.specs.Slots.{IsHome, IsOut, Has, Moves, TakesOut, out_count, place_of};
 ghost use Rattle.slab_layer.specs.declared.place.Place.TheVariants.{Out};
 ghost use Rattle.magazine.specs.LayerView.{rounds_of, IsEmpty};
@@ -111,7 +111,7 @@ impl<K: Kind, A: Ledger, B: Ledger> Inner<K, A, B> {
     // Adds a page of the arena to the slabs.
     fn grow(&mut self, arena: &mut Arena) -> Result<(), TakeFault>
         ensures pages { arena.new.pages ≡ arena.old.pages }
-        ensures grown { OnOk result (GrowsBy self.old.slabs self.new.slabs arena.old arena.new (4096 / K.SIZE)) }
+        ensures grown { OnOk result (GrowsBy self.old.slabs self.new.slabs arena.old arena.new (PAGE_BYTES / K.SIZE)) }
         ensures home { OnOk result ((slot : ℕ) × IsHome self.new.slabs slot) }
         ensures no_page { result ≡ Err TakeFault.NoSpan →
             ((page : ℕ) → AreFree arena.old page 1 → Has self.old.slabs page → ⊥) → (page : ℕ) → AreFree arena.old page 1 → ⊥ }

@@ -46,6 +46,7 @@ mod totals;
 pub use activity::{DepotCounts, PageCounts};
 pub use arena_lock::ArenaLock;
 pub use cache::Cache;
+pub use count::{MAX_HANDS, PARTS};
 pub use fault::TakeFault;
 pub use hand::Hand;
 pub use shelf::{Left, Shelf, ShelfHand};

@@ -11,17 +11,15 @@
 
 ghost use Rattle.std.specs.Prelude.{◌≡◌, ◌+◌, ◌^◌, ◌<◌, ◌≤◌, vec_len, sum_by};
 ghost use Rattle.object_cache.specs.ShelfView.{HasSpares, new_hand, one_if};
+ghost use Rattle.object_cache.specs.declared.count.TheConstants.{MAX_HANDS, PARTS};
 
-use crate::count::count;
+use crate::count::{MAX_HANDS, count};
 use crate::spare::Spare;
 use slab_layer::{Held, Kind, Obj};
 use std::marker::Model;
 use std::sync::ledger::{Blank, Book, Ledger, Share};
 use std::sync::{Mutex, Wait};
 use std::{array, mem};
-
-/// The most hands of a shelf.
-const HANDS: usize = 64;
 
 /// What lies under the lock of a shelf: what stands there, and the books, with a part of each that no hand has.
 struct Board<K: Kind, A: Ledger, B: Ledger> {
@@ -67,16 +65,16 @@ impl<K: Kind, A: Ledger, B: Ledger> Board<K, A, B> {
 // The shares of all parts of the books with which no hand was made, where so many hands were.
 fn gathered<A: Ledger, B: Ledger>(
     own: Spare<A, B>,
-    mut spares: [Option<Mutex<Spare<A, B>>>; HANDS],
+    mut spares: [Option<Mutex<Spare<A, B>>>; MAX_HANDS as usize],
     hands: usize,
 ) -> (Share<A>, Share<B>)
-    requires few { hands ≤ 64 }
+    requires few { hands ≤ MAX_HANDS }
     requires spares { HasSpares hands spares }
-    ensures parts { (result.0.parts + hands ≡ 65) × (result.1.parts + hands ≡ 65) }
+    ensures parts { (result.0.parts + hands ≡ PARTS) × (result.1.parts + hands ≡ PARTS) }
     ensures unused { (result.0.amount ≡ 0) × (result.1.amount ≡ 0) }
 {
     let (mut all_puts, mut all_gets) = own.end();
-    for place in hands..HANDS {
+    for place in hands..MAX_HANDS as usize {
         let Some(spare) = spares[place].take() else {
             unreachable!()
         };
@@ -121,34 +119,35 @@ impl<A: Ledger, B: Ledger> Model for ShelfHand<A, B> {
 /// A shelf for one object of a kind, which all hands share. It must be closed.
 pub struct Shelf<K: Kind, A: Ledger, B: Ledger> {
     board: Mutex<Board<K, A, B>>,
-    spares: [Option<Mutex<Spare<A, B>>>; HANDS],
+    spares: [Option<Mutex<Spare<A, B>>>; MAX_HANDS as usize],
     hands: u64,
 }
 
 impl<K: Kind, A: Ledger, B: Ledger> Model for Shelf<K, A, B> {
     ghost use Rattle.std.specs.Prelude.{◌≤◌};
     ghost use Rattle.object_cache.specs.ShelfView.{ShelfView, HasSpares};
+    ghost use Rattle.object_cache.specs.declared.count.TheConstants.{MAX_HANDS};
 
     ghost Value = { ShelfView };
 
     ghost view = { λ s. record { hands = s.hands } };
 
-    ghost invariant = { λ s. (s.hands ≤ 64) × HasSpares s.hands s.spares };
+    ghost invariant = { λ s. (s.hands ≤ MAX_HANDS) × HasSpares s.hands s.spares };
 }
 
 impl<K: Kind, A: Ledger, B: Ledger> Shelf<K, A, B> {
-    /// A shelf on which nothing stands, for up to 64 hands. The blanks become its two books: of what is put there, and of what
+    /// A shelf on which nothing stands, for up to `MAX_HANDS` hands. The blanks become its two books: of what is put there, and of what
     /// is got. It takes no memory.
     pub fn new(puts: Blank, gets: Blank) -> Shelf<K, A, B>
         requires names { (puts.name ≡ A.name) × (gets.name ≡ B.name) }
         requires parts { (puts.parts ≡ A.parts) × (gets.parts ≡ B.parts) }
-        requires all { (A.parts ≡ 65) × (B.parts ≡ 65) }
+        requires all { (A.parts ≡ PARTS) × (B.parts ≡ PARTS) }
         ensures { result.hands ≡ 0 }
     {
         let (puts, mut put_rest) = puts.open::<A>();
         let (gets, mut get_rest) = gets.open::<B>();
         let mut spares = array::from_fn(|_| None);
-        for place in 0..HANDS {
+        for place in 0..MAX_HANDS as usize {
             let spare = Spare::new(put_rest.split_off(1, 0), get_rest.split_off(1, 0));
             spares[place] = Some(Mutex::new(spare));
         }
@@ -164,9 +163,9 @@ impl<K: Kind, A: Ledger, B: Ledger> Shelf<K, A, B> {
         }
     }
 
-    /// Makes a hand, one of 64 at most.
+    /// Makes a hand, one of `MAX_HANDS` at most.
     pub fn hand(&mut self) -> ShelfHand<A, B>
-        requires { self.old.hands < 64 }
+        requires { self.old.hands < MAX_HANDS }
         ensures made { self.new.hands ≡ self.old.hands + 1 }
         ensures fresh { result ≡ new_hand }
     {
@@ -212,7 +211,7 @@ impl<K: Kind, A: Ledger, B: Ledger> Shelf<K, A, B> {
     /// got, and what is left.
     pub fn close(self, mut hands: Vec<ShelfHand<A, B>>) -> Left<K>
         requires all { vec_len hands ≡ self.hands }
-        requires parts { (A.parts ≡ 65) × (B.parts ≡ 65) }
+        requires parts { (A.parts ≡ PARTS) × (B.parts ≡ PARTS) }
         ensures puts { result.puts ≡ sum_by (λ h. h.puts) hands.items }
         ensures gets { result.gets ≡ sum_by (λ h. h.gets) hands.items }
         ensures balance { result.puts ≡ result.gets + one_if result.object }

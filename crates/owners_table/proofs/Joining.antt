@@ -1,5 +1,5 @@
 -- Seats that are joined from the last to the first.
-use Rattle.std.proofs.Common.{◌≡◌, ℕ, zero, suc, List, [], ◌∷◌, ◌++◌, length, map, reverse, refl, ap, ◌∙◌, arith, length-append}
+use Rattle.std.proofs.Common.{◌≡◌, ℕ, zero, suc, List, [], ◌∷◌, ◌++◌, length, map, reverse, refl, sym, ap, ◌∙◌, arith, append_assoc, length-append}
 use Rattle.std.specs.List.{All}
 use Rattle.std.specs.Prelude.{sum_by}
 use Rattle.std.proofs.lemmas.List.{reverse-append, map-append}
@@ -17,6 +17,15 @@ all_front P (y ∷ ys) x h (suc k) d l = all_front P ys x (λ j e m. h (suc j) e
 pub all_last : {A : Type 0} (P : A → Type 0) (xs : List A) (x : A) → All P (xs ++ x ∷ []) → P x
 all_last P [] x h = h zero x (omega arith)
 all_last P (y ∷ ys) x h = all_last P ys x (λ j e m. h (suc j) e (omega arith))
+
+-- the sheets of one more seat, the last of those that are left
+pub joins-last : {S T : Type 0} (sheet : S → T) (left seats : List S) (other : S) (all both v rest : List T) → seats ≡ left ++ other ∷ [] → both ≡ all ++ v → v ≡ sheet other ∷ []
+    → all ++ reverse (map sheet seats) ≡ rest → both ++ reverse (map sheet left) ≡ rest
+joins-last sheet left seats other all both v rest popped joined one before =
+    ap (λ w. w ++ reverse (map sheet left)) joined
+    ∙ (ap (λ w. (all ++ w) ++ reverse (map sheet left)) one
+    ∙ (append_assoc all (sheet other ∷ []) (reverse (map sheet left))
+    ∙ (ap (λ w. all ++ w) (sym (ap (λ ss. reverse (map sheet ss)) popped ∙ last-first sheet left other)) ∙ before)))
 
 -- sums and lengths go by no order
 pub sum_by-joined : {A B : Type 0} (g : A → B) (f : B → ℕ) (xs : List A) → sum_by f (reverse (map g xs)) ≡ sum_by (λ x. f (g x)) xs

@@ -139,12 +139,13 @@ weigh-flat_map h f (x ∷ xs) =
     let c = sum_by-cons (λ x. weigh h (f x)) x xs in
     omega (arith, weigh-flat_map h f xs)
 
--- a slot of no entry
-pub entries-none : (slot : ℕ) (es : List (ℕ × ℕ)) → weigh (only slot once) es ≡ 0 → entries_of slot es ≡ []
-entries-none slot [] none = refl
-entries-none slot (e ∷ es) none = go (λ none. entries-none slot es none) (e.0 == slot) refl
+-- a list with no entry of the slot: what holds of none holds of it, where one of another slot keeps it
+with_none : (slot : ℕ) (P : List (ℕ × ℕ) → Type 0) → P [] → ((e : ℕ × ℕ) (es : List (ℕ × ℕ)) → (e.0 == slot) ≡ false → P es → P (e ∷ es))
+    → (es : List (ℕ × ℕ)) → weigh (only slot once) es ≡ 0 → P es
+with_none slot P empty more [] none = empty
+with_none slot P empty more (e ∷ es) none = go (λ none. with_none slot P empty more es none) (e.0 == slot) refl
   where
-    go : (weigh (only slot once) es ≡ 0 → entries_of slot es ≡ []) → (b : Bool) → (e.0 == slot) ≡ b → cond b (e ∷ entries_of slot es) (entries_of slot es) ≡ []
+    go : (weigh (only slot once) es ≡ 0 → P es) → (b : Bool) → (e.0 == slot) ≡ b → P (e ∷ es)
     go again true is =
         let c = sum_by-cons (λ e. only slot once e.0 e.1) e es in
         let s = only-same slot once e.0 e.1 (test-true e.0 slot is) in
@@ -152,7 +153,17 @@ entries-none slot (e ∷ es) none = go (λ none. entries-none slot es none) (e.0
     go again false is =
         let c = sum_by-cons (λ e. only slot once e.0 e.1) e es in
         let o = only-other slot once e.0 e.1 (test-false e.0 slot is) in
-        again (omega arith)
+        more e es is (again (omega arith))
+
+-- it has no entry of the slot
+pub entries-none : (slot : ℕ) (es : List (ℕ × ℕ)) → weigh (only slot once) es ≡ 0 → entries_of slot es ≡ []
+entries-none slot es none =
+    with_none slot (λ es. entries_of slot es ≡ []) refl (λ e es other h. ap (λ b. cond b (e ∷ entries_of slot es) (entries_of slot es)) other ∙ h) es none
+
+-- and no word of it
+pub word_at-none : (slot : ℕ) (es : List (ℕ × ℕ)) → weigh (only slot once) es ≡ 0 → word_at slot es ≡ 0
+word_at-none slot es none =
+    with_none slot (λ es. word_at slot es ≡ 0) refl (λ e es other h. ap (λ b. if b then e.1 else word_at slot es) other ∙ h) es none
 
 -- a slot of one entry
 pub entries-one : (slot word : ℕ) (es : List (ℕ × ℕ)) → weigh (only slot once) es ≡ 1 → weigh (only slot (differs word)) es ≡ 0 → entries_of slot es ≡ (slot, word) ∷ []
@@ -177,18 +188,3 @@ entries-one slot word (e ∷ es) one none = go (λ one none. entries-one slot wo
         let o = only-other slot once e.0 e.1 away in
         let p = only-other slot (differs word) e.0 e.1 away in
         again (omega arith) (omega arith)
-
--- a slot of no entry has no word
-pub word_at-none : (slot : ℕ) (es : List (ℕ × ℕ)) → weigh (only slot once) es ≡ 0 → word_at slot es ≡ 0
-word_at-none slot [] none = refl
-word_at-none slot (e ∷ es) none = go (λ none. word_at-none slot es none) (e.0 == slot) refl
-  where
-    go : (weigh (only slot once) es ≡ 0 → word_at slot es ≡ 0) → (b : Bool) → (e.0 == slot) ≡ b → (if b then e.1 else word_at slot es) ≡ 0
-    go again true is =
-        let c = sum_by-cons (λ e. only slot once e.0 e.1) e es in
-        let s = only-same slot once e.0 e.1 (test-true e.0 slot is) in
-        absurd (omega arith)
-    go again false is =
-        let c = sum_by-cons (λ e. only slot once e.0 e.1) e es in
-        let o = only-other slot once e.0 e.1 (test-false e.0 slot is) in
-        again (omega arith)

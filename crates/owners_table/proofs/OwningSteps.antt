@@ -8,6 +8,7 @@ use native.Mathlib.Decide.{ℕ_discrete, dec_le}
 use lib.ListN.{get_elem?}
 use lib.Seq.{set-get_or}
 use prog.Atomic.{either}
+use Rattle.atomic_table.specs.declared.shared.Seat.{Seat}
 use Rattle.atomic_table.specs.Table.{State, Me, step, keeps, stepped, Allows, Splits, Joins}
 use Rattle.atomic_table.proofs.Lists.{set_again, exchanged}
 use Rattle.owners_table.specs.declared.mark.Owner.{Owner}
@@ -15,8 +16,8 @@ use Rattle.owners_table.specs.declared.mark.Owner.TheVariants.{Run, Shelf}
 use Rattle.owners_table.specs.declared.mark.TheConstants.{SHELVES}
 use Rattle.owners_table.specs.declared.owning.OwnerSheet.{OwnerSheet}
 use Rattle.owners_table.specs.Marking.{IsMarkWord}
-use Rattle.owners_table.specs.Owning.{IsSlotWord, IsOwn, owner_word, Owned, Holds, word_at, without, weigh, weigh_word, weigh_words, weigh_shelf, weigh_shelves, blank, gained, after_claim, after_release, after_shelve, after_fetch, claimed, released, was_shelved, fetched, looked}
-use Rattle.owners_table.specs.Sheets.{first_or}
+use Rattle.owners_table.specs.Owning.{SeatView, seat_view, IsSlotWord, IsOwn, owner_word, Owned, Holds, word_at, without, weigh, weigh_word, weigh_words, weigh_shelf, blank, gained, after_claim, after_release, after_shelve, after_fetch, claimed, released, was_shelved, fetched, looked}
+use Rattle.owners_table.specs.Sheets.{first_or, sheet_of}
 use Rattle.owners_table.proofs.Sums.{sum_by-change, sum_by-member, sum_by-split, sum_by-join, sum-is_additive, length-is_additive}
 use Rattle.owners_table.proofs.Lists.{only, once, differs, differs-same, word-none, word-some, words-change, shelf-none, shelf-free, shelf-some, shelves-change, words-of_run, words-of_none, words-once, weigh-without, word_at-same}
 
@@ -264,4 +265,25 @@ looks slots seats homes id me i st r _ at _ = (
         let b = words-once slot st.words in
         omega arith,
   ),
+)
+
+-- ---- what a seat's one sheet shows after a claim or a fetch
+
+pub counts-try : (v : View) (t : OwnerSheet) (p : Seat (Unit {0}) View) (old : SeatView) → v ≡ t ∷ [] → t.tries ≡ (sheet_of blank p).tries + 1 → seat_view p ≡ old
+    → (first_or blank v).tries ≡ old.tries + 1
+counts-try v t p old e more seen = ap (λ (w : View). (first_or blank w).tries) e ∙ (more ∙ ap (λ (s : SeatView). s.tries + 1) seen)
+
+pub claim-rest : (slot word found : ℕ) (v : View) (p : Seat (Unit {0}) View) (old : SeatView) → v ≡ after_claim slot word found (sheet_of blank p) ∷ [] → seat_view p ≡ old
+    → ((first_or blank v).fetches ≡ old.fetches) × ((first_or blank v).shelved ≡ old.shelved) × ((first_or blank v).got ≡ old.got)
+claim-rest slot word found v p old e seen = (
+  ap (λ (w : View). (first_or blank w).fetches) e ∙ ap (λ (s : SeatView). s.fetches) seen,
+  ap (λ (w : View). (first_or blank w).shelved) e ∙ ap (λ (s : SeatView). s.shelved) seen,
+  ap (λ (w : View). (first_or blank w).got) e ∙ ap (λ (s : SeatView). s.got) seen,
+)
+
+pub fetch-rest : (slot from word found : ℕ) (v : View) (p : Seat (Unit {0}) View) (old : SeatView) → v ≡ after_fetch slot from word found (sheet_of blank p) ∷ [] → seat_view p ≡ old
+    → ((first_or blank v).notes ≡ old.notes) × ((first_or blank v).shelved ≡ old.shelved)
+fetch-rest slot from word found v p old e seen = (
+  ap (λ (w : View). (first_or blank w).notes) e ∙ ap (λ (s : SeatView). s.notes) seen,
+  ap (λ (w : View). (first_or blank w).shelved) e ∙ ap (λ (s : SeatView). s.shelved) seen,
 )

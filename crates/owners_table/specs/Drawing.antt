@@ -4,7 +4,7 @@ use Rattle.atomic_table.specs.Table.{State, Me, Step}
 use Rattle.atomic_table.specs.Seated.{TableId}
 use Rattle.atomic_table.specs.declared.shared.Seat.{Seat}
 use Rattle.owners_table.specs.declared.drawing.TicketSheet.{TicketSheet}
-use Rattle.owners_table.specs.Sheets.{tally, sheet_count, first_or}
+use Rattle.owners_table.specs.Sheets.{tally, sheet_count, sheet_of}
 
 -- how often x stands in the list
 abbrev pub times : ℕ → List ℕ → ℕ
@@ -58,15 +58,10 @@ pub record TicketView : Type 0 where
 abbrev pub fresh : TableId → ℕ → TicketView
 fresh table limit = record { table = table; limit = limit; drawn = []; passed = false }
 
-abbrev pub sheet_of : Seat (Unit {0}) (List TicketSheet) → TicketSheet
-sheet_of p = first_or (blank 0) p.me.0
-
 abbrev pub ticket_view : Seat (Unit {0}) (List TicketSheet) → TicketView
-ticket_view p = record { table = p.table_id; limit = (sheet_of p).limit; drawn = (sheet_of p).drawn; passed = (sheet_of p).passed }
-
--- the seat has one sheet
-abbrev pub IsSingle : Seat (Unit {0}) (List TicketSheet) → Type 0
-IsSingle p = (p.me.0 ≡ sheet_of p ∷ []) × (p.me.1 ≡ [])
+ticket_view p =
+    let s = sheet_of (blank 0) p in
+    record { table = p.table_id; limit = s.limit; drawn = s.drawn; passed = s.passed }
 
 -- What contracts see of tickets: which they are, the limit, and how many seats were made
 pub record TicketsView : Type 0 where

@@ -1,16 +1,16 @@
 -- Who owns which slot. The word of a slot is 0 where the slot is free, one more than a shelf's number where that shelf owns it, and
--- the word of a mark where a run owns it; words below 4096 are no run's.
+-- the word of a mark where a run owns it; words below `WORDS_OF_A_RUN` are no run's.
 -- What a seat holds, what its claims and fetches found, and what it shelved, are lists of entries: a slot with a word.
-use Rattle.std.specs.Prelude.{◌≡◌, ℕ, suc, ◌+◌, ◌<◌, ◌≤◌, ◌==◌, nat_lt, if◌then◌else◌, List, [], ◌∷◌, ◌++◌, length, slice_index, sum_by, count_by, filter, flat_map, Option, Some, None}
+use Rattle.std.specs.Prelude.{◌≡◌, ◌≢◌, ℕ, suc, ◌+◌, ◌<◌, ◌≤◌, ◌==◌, nat_lt, if◌then◌else◌, List, [], ◌∷◌, ◌++◌, length, slice_index, sum_by, count_by, filter, flat_map, Option, Some, None}
 use Rattle.atomic_table.specs.Table.{State, Me, Step}
 use Rattle.atomic_table.specs.Seated.{TableId}
 use Rattle.atomic_table.specs.declared.shared.Seat.{Seat}
 use Rattle.owners_table.specs.declared.owning.OwnerSheet.{OwnerSheet}
 use Rattle.owners_table.specs.declared.mark.Owner.{Owner}
 use Rattle.owners_table.specs.declared.mark.Owner.TheVariants.{Run, Shelf}
-use Rattle.owners_table.specs.declared.mark.TheConstants.{SHELVES}
+use Rattle.owners_table.specs.declared.mark.TheConstants.{SHELVES, WORDS_OF_A_RUN}
 use Rattle.owners_table.specs.Marking.{mark_word, IsMarkWord}
-use Rattle.owners_table.specs.Sheets.{tally, sheet_count, first_or}
+use Rattle.owners_table.specs.Sheets.{tally, sheet_count, sheet_of}
 
 -- what the word of a slot can be: past that of the last shelf, only the word of a mark
 abbrev pub IsSlotWord : ℕ → Type 0
@@ -33,7 +33,7 @@ found_word (Some owner) = owner_word owner
 
 -- the word where it is a run's, else 0
 abbrev pub run_word : ℕ → ℕ
-run_word w = if nat_lt w 4096 then 0 else w
+run_word w = if nat_lt w WORDS_OF_A_RUN then 0 else w
 
 -- the entries of the slot
 abbrev pub entries_of : ℕ → List (ℕ × ℕ) → List (ℕ × ℕ)
@@ -63,7 +63,7 @@ weigh h es = sum_by (λ e. h e.0 e.1) es
 
 -- a slot's word weighs nothing where it is no run's
 abbrev pub weigh_word : (ℕ → ℕ → ℕ) → ℕ → ℕ → ℕ
-weigh_word h slot w = if nat_lt w 4096 then 0 else h slot w
+weigh_word h slot w = if nat_lt w WORDS_OF_A_RUN then 0 else h slot w
 
 -- the words of the slots from `slot` on, weighed and added up
 abbrev pub weigh_words : (ℕ → ℕ → ℕ) → ℕ → List ℕ → ℕ
@@ -72,7 +72,7 @@ weigh_words h slot (w ∷ ws) = weigh_word h slot w + weigh_words h (suc slot) w
 
 -- a slot's word weighs as a shelf's only where it is one
 abbrev pub weigh_shelf : (ℕ → ℕ → ℕ) → ℕ → ℕ → ℕ
-weigh_shelf h slot w = if w == 0 then 0 else if nat_lt w 4096 then h slot w else 0
+weigh_shelf h slot w = if w == 0 then 0 else if nat_lt w WORDS_OF_A_RUN then h slot w else 0
 
 abbrev pub weigh_shelves : (ℕ → ℕ → ℕ) → ℕ → List ℕ → ℕ
 weigh_shelves h slot [] = 0
@@ -95,7 +95,7 @@ all_held views = flat_map (λ sheets. flat_map (λ t. t.held) sheets) views
 
 -- what a slot with this word has in the lists: where the word is a run's, one entry with that word, and else none
 abbrev pub owner_of : ℕ → ℕ → List (ℕ × ℕ)
-owner_of slot w = if nat_lt w 4096 then [] else (slot, w) ∷ []
+owner_of slot w = if nat_lt w WORDS_OF_A_RUN then [] else (slot, w) ∷ []
 
 -- all the entries of the slot, in whatever list, are what its word says
 abbrev pub HasOneOwner : List ℕ → List (ℕ × ℕ) → ℕ → Type 0
@@ -130,7 +130,7 @@ after_fetch slot from word found t = record { held = gained slot from word found
 
 -- where the list has the slot, the word that was found is a run's, and the one in the list
 abbrev pub IsOwn : ℕ → ℕ → List (ℕ × ℕ) → Type 0
-IsOwn slot found es = Holds slot es → (4096 ≤ found) × (found ≡ word_at slot es)
+IsOwn slot found es = Holds slot es → (WORDS_OF_A_RUN ≤ found) × (found ≡ word_at slot es)
 
 -- What a claim tells a seat of one sheet: what it found, and that this was the seat's own word where it had the slot
 abbrev pub claimed : Step (Unit {0}) → Me (Unit {0}) (List OwnerSheet) → ℕ → Me (Unit {0}) (List OwnerSheet) → Type 0
@@ -167,21 +167,34 @@ pub record SeatView : Type 0 where
 abbrev pub fresh : TableId → SeatView
 fresh table = record { table = table; held = []; tries = 0; notes = []; fetches = []; shelved = []; got = [] }
 
-abbrev pub sheet_of : Seat (Unit {0}) (List OwnerSheet) → OwnerSheet
-sheet_of p = first_or blank p.me.0
-
 abbrev pub seat_view : Seat (Unit {0}) (List OwnerSheet) → SeatView
-seat_view p = record { table = p.table_id; held = (sheet_of p).held; tries = (sheet_of p).tries; notes = (sheet_of p).notes; fetches = (sheet_of p).fetches; shelved = (sheet_of p).shelved; got = (sheet_of p).got }
-
--- the seat has one sheet
-abbrev pub IsSingle : Seat (Unit {0}) (List OwnerSheet) → Type 0
-IsSingle p = (p.me.0 ≡ sheet_of p ∷ []) × (p.me.1 ≡ [])
+seat_view p =
+    let s = sheet_of blank p in
+    record { table = p.table_id; held = s.held; tries = s.tries; notes = s.notes; fetches = s.fetches; shelved = s.shelved; got = s.got }
 
 -- What contracts see of a table: which it is, how many slots it has, and how many seats were made
 pub record OwnersView : Type 0 where
   pub table : TableId
   pub slots : ℕ
   pub seats : ℕ
+
+-- the seat has the slot more, with this word, and notes that its claim found the slot free
+abbrev pub IsClaimed : (slot word : ℕ) (old new : SeatView) → Type 0
+IsClaimed slot word old new = (new.held ≡ (slot, word) ∷ old.held) × (new.notes ≡ old.notes ++ (slot, 0) ∷ [])
+
+-- the seat has what it had, and notes that its claim found this word
+abbrev pub IsTaken : (slot found : ℕ) (old new : SeatView) → Type 0
+IsTaken slot found old new = (new.held ≡ old.held) × (new.notes ≡ old.notes ++ (slot, found) ∷ [])
+
+-- the seat has the slot more, with this word, and notes that its fetch found the word of the shelf, and got it from there
+abbrev pub IsFetched : (slot shelf word : ℕ) (old new : SeatView) → Type 0
+IsFetched slot shelf word old new =
+    (new.held ≡ (slot, word) ∷ old.held) × (new.fetches ≡ old.fetches ++ (slot, shelf) ∷ []) × (new.got ≡ (slot, shelf) ∷ old.got)
+
+-- the seat has what it had, and notes that its fetch found this word, which isn't that of the shelf
+abbrev pub IsElsewhere : (slot shelf found : ℕ) (old new : SeatView) → Type 0
+IsElsewhere slot shelf found old new =
+    (found ≢ shelf) × (new.held ≡ old.held) × (new.fetches ≡ old.fetches ++ (slot, found) ∷ []) × (new.got ≡ old.got)
 
 -- the entries that the seats hold
 abbrev pub held_by : List SeatView → List (ℕ × ℕ)

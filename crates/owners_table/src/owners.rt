@@ -1,9 +1,9 @@
 //! The table of owners.
 
-ghost use Rattle.std.specs.Prelude.{◌≡◌, ◌≢◌, ◌+◌, ◌<◌, ◌≤◌, [], ◌∷◌, ◌++◌, ℕ, map, reverse, slice_index, vec_len, All, IfSome, IfNone, IfOk, OnOk, IfErr, IsErrAnd};
+ghost use Rattle.std.specs.Prelude.{◌≡◌, ◌+◌, ◌<◌, ◌≤◌, [], ◌∷◌, ◌++◌, ℕ, map, reverse, slice_index, vec_len, All, IfSome, IfNone, IfOk, OnOk, IfErr, IsErrAnd};
 ghost use Rattle.std.specs.Slots.{slots_items, slots_len, IsFull};
 ghost use Rattle.owners_table.specs.Marking.{mark_word};
-ghost use Rattle.owners_table.specs.Owning.{Holds, Apart, HasOneOwner, EachHasOneOwner, IsLeft, IsOwner, IsSlotWord, fresh, sheet, held_by, owner_word, found_word, run_word, without, word_at};
+ghost use Rattle.owners_table.specs.Owning.{Holds, Apart, HasOneOwner, EachHasOneOwner, IsLeft, IsOwner, IsSlotWord, IsClaimed, IsTaken, IsFetched, IsElsewhere, fresh, sheet, held_by, owner_word, found_word, run_word, without, word_at};
 ghost use Rattle.owners_table.specs.declared.mark.TheConstants.{SHELVES};
 
 use crate::mark::{Mark, Owner, SHELVES};
@@ -55,13 +55,14 @@ pub struct OwnerSeat {
 }
 
 impl Model for OwnerSeat {
-    ghost use Rattle.owners_table.specs.Owning.{SeatView, seat_view, IsSingle};
+    ghost use Rattle.owners_table.specs.Owning.{SeatView, blank, seat_view};
+    ghost use Rattle.owners_table.specs.Sheets.{IsSingle};
 
     ghost Value = { SeatView };
 
     ghost view = { λ s. seat_view s.seat };
 
-    ghost invariant = { λ s. IsSingle s.seat };
+    ghost invariant = { λ s. IsSingle blank s.seat };
 }
 
 impl Owners {
@@ -102,8 +103,8 @@ impl Owners {
         requires slot { slot < self.now.slots }
         ensures table { seat.new.table ≡ seat.old.table }
         ensures tries { seat.new.tries ≡ seat.old.tries + 1 }
-        ensures ok { OnOk result ((seat.new.held ≡ (slot, mark_word mark.run mark.at) ∷ seat.old.held) × (seat.new.notes ≡ seat.old.notes ++ (slot, 0) ∷ [])) }
-        ensures taken { IfErr result (λ t. (seat.new.held ≡ seat.old.held) × (seat.new.notes ≡ seat.old.notes ++ (slot, owner_word t.owner) ∷ [])) }
+        ensures ok { OnOk result (IsClaimed slot (mark_word mark.run mark.at) seat.old seat.new) }
+        ensures taken { IfErr result (λ t. IsTaken slot (owner_word t.owner) seat.old seat.new) }
         // A shelf that is told is one that there is, so the word and its owner tell each other.
         ensures owner { IfErr result (λ t. IsOwner t.owner) }
         ensures rest { (seat.new.fetches ≡ seat.old.fetches) × (seat.new.shelved ≡ seat.old.shelved) × (seat.new.got ≡ seat.old.got) }
@@ -156,8 +157,8 @@ impl Owners {
         requires shelf { shelf < SHELVES }
         ensures table { seat.new.table ≡ seat.old.table }
         ensures tries { seat.new.tries ≡ seat.old.tries + 1 }
-        ensures ok { OnOk result ((seat.new.held ≡ (slot, mark_word mark.run mark.at) ∷ seat.old.held) × (seat.new.fetches ≡ seat.old.fetches ++ (slot, shelf + 1) ∷ []) × (seat.new.got ≡ (slot, shelf + 1) ∷ seat.old.got)) }
-        ensures other { IfErr result (λ o. (found_word o.found ≢ shelf + 1) × (seat.new.held ≡ seat.old.held) × (seat.new.fetches ≡ seat.old.fetches ++ (slot, found_word o.found) ∷ []) × (seat.new.got ≡ seat.old.got)) }
+        ensures ok { OnOk result (IsFetched slot (shelf + 1) (mark_word mark.run mark.at) seat.old seat.new) }
+        ensures other { IfErr result (λ o. IsElsewhere slot (shelf + 1) (found_word o.found) seat.old seat.new) }
         // A shelf that is told is one that there is, so the word and its owner tell each other.
         ensures found { IfErr result (λ o. IfSome o.found IsOwner) }
         ensures rest { (seat.new.notes ≡ seat.old.notes) × (seat.new.shelved ≡ seat.old.shelved) }
@@ -239,7 +240,8 @@ impl Owners {
         // word is no run's.
         ensures words { IfOk result (λ ws. vec_len seats ≡ self.seats → (slot : ℕ) → slot < self.slots →
             run_word (slice_index ws.items slot) ≡ word_at slot (held_by seats.items)) }
-        ensures one { IfOk result (λ ws. vec_len seats ≡ self.seats → (slot : ℕ) → slot < self.slots → HasOneOwner ws.items (held_by seats.items) slot) }
+        ensures one { IfOk result (λ ws. vec_len seats ≡ self.seats → (slot : ℕ) → slot < self.slots →
+            HasOneOwner ws.items (held_by seats.items) slot) }
         // Where besides they hold nothing, each slot is free or a shelf's.
         ensures free { IfOk result (λ ws. vec_len seats ≡ self.seats → All (λ s. s.held ≡ []) seats.items → All (λ w. w ≤ SHELVES) ws.items) }
     {

@@ -41,13 +41,14 @@ pub struct TicketSeat {
 
 impl Model for TicketSeat {
     ghost use Rattle.std.specs.Prelude.{◌≡◌};
-    ghost use Rattle.owners_table.specs.Drawing.{TicketView, ticket_view, sheet_of, IsSingle};
+    ghost use Rattle.owners_table.specs.Drawing.{TicketView, blank, ticket_view};
+    ghost use Rattle.owners_table.specs.Sheets.{sheet_of, IsSingle};
 
     ghost Value = { TicketView };
 
     ghost view = { λ s. ticket_view s.seat };
 
-    ghost invariant = { λ s. IsSingle s.seat × ((sheet_of s.seat).passed ≡ s.passed) };
+    ghost invariant = { λ s. IsSingle (blank 0) s.seat × ((sheet_of (blank 0) s.seat).passed ≡ s.passed) };
 }
 
 impl Tickets {

@@ -3,7 +3,7 @@ use Rattle.std.proofs.Common.{◌≡◌, ℕ, ◌+◌, ◌*◌, ◌/◌, ◌%◌
 use Rattle.std.specs.Prelude.{slice_get}
 use Rattle.std.proofs.lemmas.Bool.{cases_lt, cases_eq}
 use Rattle.slab_layer.specs.declared.place.Place.{Place}
-use Rattle.slab_layer.specs.declared.place.Place.TheVariants.{Home, Out}
+use Rattle.slab_layer.specs.declared.place.Place.TheVariants.{Out}
 use Rattle.slab_layer.specs.Slots.{Pages, place_of, IsHome, IsOut, Has, Moves, AddsPage, TakesOut}
 use Rattle.slab_layer.proofs.Pages.{not_had}
 

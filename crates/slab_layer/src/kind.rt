@@ -12,9 +12,12 @@
 //! | 2 | block | 512 | 0x5a | 2 | 8 |
 //!
 //! *The reason.* Code that is generic in the kind can rely on the table: a page has at least one object and at
-//! most 256, so that each has a slot of its own among those of its page.
+//! most `SLOTS_OF_A_PAGE`, so that each has a slot of its own among those of its page.
 
 ghost use Rattle.std.specs.Prelude.{◌≡◌, ◌≤◌, ◌<◌, ◌/◌, ℕ};
+ghost use Rattle.slab_layer.specs.declared.kind.TheConstants.{PAGE_BYTES, SLOTS_OF_A_PAGE};
+
+use vmem_arena::MAX_PAGES;
 
 /// The bytes of a page.
 pub const PAGE_BYTES: usize = 4096;
@@ -22,9 +25,13 @@ pub const PAGE_BYTES: usize = 4096;
 /// How many slots a page has. The slot of its object with some index is `page * SLOTS_OF_A_PAGE + index`.
 pub const SLOTS_OF_A_PAGE: u32 = 256;
 
+/// How many slots all pages have. The number of a slot is below this.
+pub const SLOTS: u32 = MAX_PAGES * SLOTS_OF_A_PAGE;
+
 /// A kind of object, which is a row of the table above.
 pub trait Kind {
     ghost use Rattle.std.specs.Prelude.{ℕ, ◌/◌};
+    ghost use Rattle.slab_layer.specs.declared.kind.TheConstants.{PAGE_BYTES};
     ghost use Rattle.slab_layer.specs.Kinds.{IsRow};
 
     ghost NUMBER: { ℕ };
@@ -48,7 +55,7 @@ pub trait Kind {
     const ROUNDS: usize;
 
     /// The constants are those of one row.
-    ghost is_row: { IsRow (record { number = NUMBER; size = SIZE; fill = FILL; rounds = ROUNDS; objects = 4096 / SIZE }) };
+    ghost is_row: { IsRow (record { number = NUMBER; size = SIZE; fill = FILL; rounds = ROUNDS; objects = PAGE_BYTES / SIZE }) };
 }
 
 /// Objects of 16 bytes, all 0x00.
@@ -128,9 +135,9 @@ impl Kind for BlockKind {
 
 /// How many objects of the kind a page has: 256, 64 or 8.
 pub fn objects_of_a_page<K: Kind>() -> usize
-    ensures value { result ≡ 4096 / K.SIZE }
+    ensures value { result ≡ PAGE_BYTES / K.SIZE }
     ensures some { 0 < result }
-    ensures most { result ≤ 256 }
+    ensures most { result ≤ SLOTS_OF_A_PAGE }
 {
     PAGE_BYTES / K::SIZE
 }

@@ -21,7 +21,7 @@ mod slab;
 mod slab_tables;
 mod slabs;
 
-pub use kind::{BlockKind, CellKind, Kind, RecordKind, SLOTS_OF_A_PAGE};
+pub use kind::{BlockKind, CellKind, Kind, RecordKind, SLOTS, SLOTS_OF_A_PAGE};
 pub use object::{Held, Home, Obj, Ready, State};
 pub use place::Place;
 pub use slabs::Slabs;

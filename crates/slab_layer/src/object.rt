@@ -13,6 +13,7 @@
 
 ghost use Rattle.std.specs.Prelude.{◌≡◌, ℕ, ◌<◌, ◌+◌, ◌≤◌, replicate, length, if◌then◌else◌};
 ghost use Rattle.slab_layer.specs.Images.{patched};
+ghost use Rattle.slab_layer.specs.declared.kind.TheConstants.{SLOTS};
 
 use crate::kind::Kind;
 use std::marker::PhantomData;
@@ -67,13 +68,13 @@ pub struct Obj<K: Kind, S: State> {
     slot: u64,
     bytes: Vec<u8>,
     of: PhantomData<(K, S)>,
-    pub ghost placed: { slot < 65536 },
+    pub ghost placed: { slot < SLOTS },
     pub ghost sized: { length bytes.items ≡ K.SIZE },
     pub ghost image: { (if S.imaged then bytes.items else replicate K.SIZE K.FILL) ≡ replicate K.SIZE K.FILL },
 }
 
 impl<K: Kind, S: State> Obj<K, S> {
-    /// The number of the object's slot, `page * SLOTS_OF_A_PAGE + index`, below 65,536. It stays for the object's life.
+    /// The number of the object's slot, `page * SLOTS_OF_A_PAGE + index`, below `SLOTS`. It stays for the object's life.
     pub fn slot(&self) -> u32
         ensures { result ≡ self.now.slot }
     {
@@ -84,7 +85,7 @@ impl<K: Kind, S: State> Obj<K, S> {
 impl<K: Kind> Obj<K, Home> {
     /// An object of this slot, which owns these bytes from now on.
     pub(crate) fn new(slot: u32, bytes: Vec<u8>) -> Obj<K, Home>
-        requires placed { slot < 65536 }
+        requires placed { slot < SLOTS }
         requires sized { length bytes.items ≡ K.SIZE }
         ensures { result.slot ≡ slot }
     {

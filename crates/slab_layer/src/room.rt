@@ -11,6 +11,7 @@
 //! taken apart.
 
 ghost use Rattle.std.specs.Prelude.{◌≡◌, ◌≤◌, ◌/◌, length, vec_len, vec_capacity, All};
+ghost use Rattle.slab_layer.specs.declared.kind.TheConstants.{PAGE_BYTES};
 
 use crate::kind::{Kind, objects_of_a_page};
 use crate::object::{Home, Obj};
@@ -23,11 +24,11 @@ pub struct Room<K: Kind> {
     pub places: Vec<Place>,
     pub home: Vec<Obj<K, Home>>,
     ghost each: { All (λ b. length b.items ≡ K.SIZE) bytes.items },
-    ghost all: { vec_len bytes ≡ 4096 / K.SIZE },
+    ghost all: { vec_len bytes ≡ PAGE_BYTES / K.SIZE },
     ghost no_places: { vec_len places ≡ 0 },
-    ghost few_places: { 4096 / K.SIZE ≤ vec_capacity places },
+    ghost few_places: { PAGE_BYTES / K.SIZE ≤ vec_capacity places },
     ghost none_home: { vec_len home ≡ 0 },
-    ghost few_home: { 4096 / K.SIZE ≤ vec_capacity home },
+    ghost few_home: { PAGE_BYTES / K.SIZE ≤ vec_capacity home },
 }
 
 impl<K: Kind> Room<K> {

@@ -19,7 +19,7 @@ ghost use Rattle.std.specs.Prelude.{◌≡◌, ◌≤◌, ◌<◌, ◌+◌, ◌*
 ghost use Rattle.std.specs.Option.{ForSome};
 ghost use Rattle.slab_layer.specs.Stacks.{HasSame, selected};
 ghost use Rattle.slab_layer.specs.Slots.{is_home, has_home, outs_in};
-ghost use Rattle.slab_layer.specs.declared.kind.TheConstants.{SLOTS_OF_A_PAGE};
+ghost use Rattle.slab_layer.specs.declared.kind.TheConstants.{PAGE_BYTES, SLOTS_OF_A_PAGE};
 ghost use Rattle.slab_layer.specs.declared.place.Place.TheVariants.{Home as HomePlace, Out};
 ghost use Rattle.vmem_arena.specs.Spans.{pages_of};
 ghost use Rattle.vmem_arena.specs.declared.arena.TheConstants.{MAX_PAGES};
@@ -38,7 +38,7 @@ pub struct Slab<K: Kind> {
     home: Vec<Obj<K, Home>>,
     places: Vec<Place>,
     ghost low: { page < MAX_PAGES },
-    ghost whole: { length places.items ≡ (if is_some span then 4096 / K.SIZE else 0) },
+    ghost whole: { length places.items ≡ (if is_some span then PAGE_BYTES / K.SIZE else 0) },
     ghost own: { ForSome span (λ s. ((pages_of s).first ≡ page) × ((pages_of s).len ≡ 1)) },
     ghost room: { length places.items ≤ vec_capacity home },
     ghost stacked: { HasSame (map (λ o. o.slot) home.items) (selected is_home (page * SLOTS_OF_A_PAGE) places.items) },
@@ -63,7 +63,7 @@ impl<K: Kind> Slab<K> {
     pub fn new(room: Room<K>, span: Span) -> Slab<K>
         requires { (pages_of span).len ≡ 1 }
         ensures page { result.page ≡ (pages_of span).first }
-        ensures places { result.places.items ≡ replicate (4096 / K.SIZE) HomePlace }
+        ensures places { result.places.items ≡ replicate (PAGE_BYTES / K.SIZE) HomePlace }
     {
         let page = span.first();
         let Room {

@@ -3,7 +3,7 @@
 //! *The idea* (Bonwick 1994, section 3.2). A cache's objects live in slabs, a page each. The back end of the
 //! cache gives out objects one at a time, asks for a page when it has none, and gives pages back when they are
 //! whole. Bonwick keeps the slabs in a list, the full ones before the partial ones, and looks at the head. Here
-//! a table has the slab of each page number, since there are 256 at most, and a stack has the numbers of the
+//! a table has the slab of each page number, since an arena has `MAX_PAGES` at most, and a stack has the numbers of the
 //! pages with an object at home.
 //!
 //! *The invariant.* The stack has exactly the pages with an object at home, each once. The count of objects
@@ -20,7 +20,7 @@
 
 ghost use Rattle.std.specs.Prelude.{◌≡◌, ◌≢◌, ℕ, ◌≤◌, ◌<◌, ◌+◌, ◌*◌, ◌/◌, ◌↔◌, ⊤, [], false, length, IsTrue, IfSome, IfNone, IfErr, OnOk, OnErr, OnSome};
 ghost use Rattle.slab_layer.specs.Slots.{IsHome, IsOut, Has, Moves, AddsPage, RemovesPage, out_count};
-ghost use Rattle.slab_layer.specs.declared.kind.TheConstants.{SLOTS_OF_A_PAGE};
+ghost use Rattle.slab_layer.specs.declared.kind.TheConstants.{PAGE_BYTES, SLOTS_OF_A_PAGE};
 ghost use Rattle.slab_layer.specs.declared.place.Place.TheVariants.{Home as HomePlace, Out};
 ghost use Rattle.vmem_arena.specs.Spans.{pages_of};
 
@@ -131,7 +131,7 @@ impl<K: Kind> Slabs<K> {
     pub fn grow(&mut self, span: Span) -> Result<(), Span>
         requires one_page { (pages_of span).len ≡ 1 }
         requires not_had { Has self.old (pages_of span).first → ⊥ }
-        ensures added { OnOk result (AddsPage self.old self.new (pages_of span).first (4096 / K.SIZE)) }
+        ensures added { OnOk result (AddsPage self.old self.new (pages_of span).first (PAGE_BYTES / K.SIZE)) }
         ensures counted { OnOk result (out_count self.new ≡ out_count self.old) }
         ensures returned { IfErr result (λ back. pages_of back ≡ pages_of span) }
         ensures unchanged { OnErr result (self.new ≡ self.old) }

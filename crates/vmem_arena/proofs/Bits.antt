@@ -1,5 +1,5 @@
 -- Bits of words: those from one on, the lowest and the highest that are set.
-use Rattle.std.proofs.Common.{◌≡◌, ◌≢◌, ℕ, zero, suc, ◌-◌, ◌*◌, ◌%◌, ◌^◌, ◌<◌, ◌≤◌, inl, inr, bit_and, w64, sym, ap, ◌∙◌, arith}
+use Rattle.std.proofs.Common.{◌≡◌, ◌≢◌, ℕ, suc, ◌-◌, ◌*◌, ◌%◌, ◌^◌, ◌<◌, ◌≤◌, inl, inr, bit_and, w64, sym, ap, ◌∙◌, arith}
 use Rattle.std.specs.Int.{bit_at, trailing_zeros}
 use Rattle.std.proofs.Math.Nat.{pow-succ'}
 use Rattle.std.proofs.lemmas.Bool.{cases_lt}
@@ -70,8 +70,3 @@ cleared_other n k i within fits other = elim (cases_lt i 64) [
 
 pub none_above : (n k i : ℕ) → n < 2 * 2 ^ k → k < i → bit_at n i ≡ 0
 none_above n k i fits above = bit_at_above n (suc k) i (omega (arith, pow-succ' 2 k)) (omega arith)
-
--- a word that has a bit is not 0
-pub some_bit : (n i : ℕ) → bit_at n i ≡ 1 → 0 < n
-some_bit zero i one = let none = bit_at-zero i in absurd (omega arith)
-some_bit (suc n) i one = omega arith

@@ -72,15 +72,6 @@ pub listed_less : (words news : List ℕ) (tags new : List Tag) (page len place 
 listed_less words news tags new page len place at here others listed old is same =
     relisted words news tags new page len 0 place listed at.page old is (here ∙ sym (in_class_zero (place / 256))) (λ class apart. in_class_other (place / 256) class len at.least at.most apart ∙ sym (in_class_zero class)) others same
 
-pub listed_same : (words : List ℕ) (tags new : List Tag) → IsListed words tags → ((q : ℕ) → free_len new q ≡ free_len tags q) → IsListed words new
-listed_same words tags new listed same i = listed i ∙ ap (in_class (i / 256)) (sym (same (i % 256)))
-
-pub listed_still : (words : List ℕ) (tags new : List Tag) (page : ℕ) → IsListed words tags → free_len new page ≡ free_len tags page → SameBut page tags new → IsListed words new
-listed_still words tags new page listed here same = listed_same words tags new listed (λ q. elim (cases_eq q page) [
-  | inl this ↦ ap (free_len new) this ∙ here ∙ sym (ap (free_len tags) this)
-  | inr other ↦ same q other
-])
-
 -- ---- what the classes say of a segment
 -- a place that is taken is that of a free segment of its class
 pub listed_at : (words : List ℕ) (tags : List Tag) (i : ℕ) → IsListed words tags → bit_of words i ≡ 1 → (2 ^ (i / 256) ≤ free_len tags (i % 256)) × (free_len tags (i % 256) < 2 ^ (i / 256 + 1))

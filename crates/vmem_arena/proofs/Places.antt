@@ -1,11 +1,11 @@
 -- Places: the bits of 36 words, and the word that says which of them are not 0.
-use Rattle.std.proofs.Common.{◌≡◌, ◌≢◌, ℕ, zero, suc, ◌+◌, ◌*◌, ◌/◌, ◌%◌, ◌^◌, ◌<◌, ◌≤◌, ◌⊎◌, inl, inr, List, length, set, replicate, refl, sym, ap, subst, ◌∙◌, arith}
+use Rattle.std.proofs.Common.{◌≡◌, ◌≢◌, ℕ, zero, suc, ◌+◌, ◌*◌, ◌/◌, ◌%◌, ◌^◌, ◌<◌, ◌≤◌, ◌⊎◌, inl, inr, List, length, w64, set, replicate, refl, sym, ap, subst, ◌∙◌, arith}
 use Rattle.std.specs.List.{slice_index}
-use Rattle.std.specs.Int.{bit_at}
+use Rattle.std.specs.Int.{bit_at, trailing_zeros}
 use Rattle.std.proofs.Math.Nat.{div-eq_of_lt-le}
 use Rattle.std.proofs.lemmas.Bool.{cases_lt, cases_eq}
 use Rattle.std.proofs.lemmas.List.{get_or_past, get_or-set_same, get_or-set_other}
-use Rattle.std.proofs.lemmas.Nat.Bits.{bit_at-zero, same_from_bits}
+use Rattle.std.proofs.lemmas.Nat.Bits.{bit_at-zero, bit_at-trailing_zeros, same_from_bits}
 use Rattle.vmem_arena.specs.Classes.{bit_of, IsFilled}
 use Rattle.vmem_arena.proofs.Bits.{none_above}
 
@@ -33,15 +33,24 @@ bit_of-at words at bit within =
 pub none_in_zero : (words : List ℕ) (i : ℕ) → slice_index words (i / 64) ≡ 0 → bit_of words i ≡ 0
 none_in_zero words i none = ap (λ n. bit_at n (i % 64)) none ∙ bit_at-zero (i % 64)
 
-pub none_past : (words : List ℕ) (from i : ℕ) → from / 64 ≡ length words → from ≤ i → bit_of words i ≡ 0
-none_past words from i end past = none_in_zero words i (get_or_past words (i / 64) 0 (omega arith))
-
 -- a word is as its bit says
 pub filled_some : (words : List ℕ) (filled at : ℕ) → IsFilled words filled → bit_at filled at ≡ 1 → 0 < slice_index words at
 filled_some words filled at ok one = elim (ok at) [ inl some ↦ some.1 | inr none ↦ absurd (omega (arith, none.0)) ]
 
 pub filled_none : (words : List ℕ) (filled i : ℕ) → IsFilled words filled → bit_at filled (i / 64) ≡ 0 → bit_of words i ≡ 0
 filled_none words filled i ok zero_here = elim (ok (i / 64)) [ inl some ↦ absurd (omega (arith, some.0)) | inr none ↦ none_in_zero words i none.1 ]
+
+-- the lowest bit of a word that its bit says is not 0 is a place that is taken
+pub record HasLowest (words : List ℕ) (at : ℕ) : Type 0 where
+  pub within : at < length words
+  pub bit : trailing_zeros w64 (slice_index words at) < 64
+  pub taken : bit_of words (64 * at + trailing_zeros w64 (slice_index words at)) ≡ 1
+
+pub has_lowest : (words : List ℕ) (filled at : ℕ) → IsFilled words filled → bit_at filled at ≡ 1 → slice_index words at < 2 ^ 64 → HasLowest words at
+has_lowest words filled at ok one fits =
+    let some = filled_some words filled at ok one in
+    let bit = bit_at-trailing_zeros w64 (slice_index words at) some fits in
+    record { within = in_words words at some; bit = bit.0; taken = bit_of-at words at _ bit.0 ∙ bit.1 }
 
 -- no place is taken between the one that is asked from and the one that is found
 pub none_before : (words : List ℕ) (filled from at bit i : ℕ) → IsFilled words filled → ((k : ℕ) → from % 64 ≤ k → bit_at (slice_index words (from / 64)) k ≡ 0) → ((k : ℕ) → from / 64 + 1 ≤ k → k < at → bit_at filled k ≡ 0) → ((k : ℕ) → k < bit → bit_at (slice_index words at) k ≡ 0) → bit < 64 → from ≤ i → i < 64 * at + bit → bit_of words i ≡ 0

@@ -20,7 +20,7 @@
 ghost use Rattle.std.specs.Prelude.{◌≡◌, ◌≢◌, ℕ, ◌+◌, ◌<◌, ◌≤◌, ◌↔◌, ◌⊎◌, [], ◌∷◌, true, false, Contains, IsPermutation, IfOk, IfErr, OnErr, OnOk, IsTrue};
 ghost use Rattle.vmem_arena.specs.Spans.{AreFree, pages_of};
 
-use crate::classes::Classes;
+use crate::classes::{Classes, PLACES_OF_A_CLASS};
 use crate::fault::{ArenaFault, NoSpan};
 use crate::fit::{fit, longest};
 use crate::segment::Table;
@@ -88,7 +88,7 @@ impl Arena {
         let Some(place) = fit(&self.table, &self.classes, n) else {
             return Err(NoSpan);
         };
-        let first = (place % 256) as u32;
+        let first = (place % PLACES_OF_A_CLASS) as u32;
         let len = self.table.free_at(first as usize);
         self.classes.strike(place);
         self.table.cut(first as usize, n, len - n);

@@ -6,36 +6,42 @@
 //!
 //! *The invariant.* A bit of that word is set exactly where the word of its number is not 0.
 //!
-//! *The reason.* A place is `256 * class + page`, so the next place from a class on lies in the lowest class
+//! *The reason.* A place is `PLACES_OF_A_CLASS * class + page`, so the next place from a class on lies in the lowest class
 //! that has a segment, and no class is looked at by itself to find it. A segment comes or goes by one bit, with
 //! no list to follow. What the places stand for is the arena's business.
 
-ghost use Rattle.std.specs.Prelude.{◌≡◌, ◌≢◌, ℕ, ◌+◌, ◌*◌, ◌%◌, ◌^◌, ◌<◌, ◌≤◌, List, IfSome, IfNone};
-ghost use Rattle.vmem_arena.specs.Classes.{bit_of, IsPlace, IsListed, SameBut};
-ghost use Rattle.vmem_arena.specs.Segments.{free_len};
-ghost use Rattle.vmem_arena.specs.declared.segment.Tag.{Tag};
+ghost use Rattle.std.specs.Prelude.{◌≡◌, ◌≢◌, ℕ, ◌+◌, ◌*◌, ◌%◌, ◌<◌, ◌≤◌, IfSome, IfNone};
+ghost use Rattle.vmem_arena.specs.Classes.{bit_of, IsPlace, Relists};
+ghost use Rattle.vmem_arena.specs.declared.arena.TheConstants.{MAX_PAGES};
 
-use crate::word::{highest, lowest_from, with_bit, without_bit};
+use crate::arena::MAX_PAGES;
+use crate::word::{BITS, highest, lowest_from, with_bit, without_bit};
 use std::marker::Model;
 
-/// How many places there are: nine classes of 256 pages.
-pub const PLACES: usize = 2304;
+/// The places of a class: one for each page that a segment may begin at.
+pub const PLACES_OF_A_CLASS: usize = MAX_PAGES as usize;
 
-// The place of a segment of so many pages that begins at this page.
+/// How many places there are, in nine classes.
+pub const PLACES: usize = 9 * PLACES_OF_A_CLASS;
+
+/// The words that have a bit for each place.
+const WORDS: usize = PLACES / BITS;
+
+// The place of a segment of `len` pages that begins at this page.
 fn place(page: u32, len: u32) -> usize
-    requires page { page < 256 }
+    requires page { page < MAX_PAGES }
     requires some { 0 < len }
-    requires within { len ≤ 256 }
+    requires within { len ≤ MAX_PAGES }
     ensures place { IsPlace page len result }
     ensures below { result < PLACES }
 {
-    len.ilog2() as usize * 256 + page as usize
+    len.ilog2() as usize * PLACES_OF_A_CLASS + page as usize
 }
 
 /// Places, some of which are taken.
 #[derive(Drop)]
 pub struct Classes {
-    words: [u64; 36],
+    words: [u64; WORDS],
     filled: u64,
 }
 
@@ -57,7 +63,7 @@ impl Classes {
         ensures { (i : ℕ) → bit_of result i ≡ 0 }
     {
         Classes {
-            words: [0; 36],
+            words: [0; WORDS],
             filled: 0,
         }
     }
@@ -68,8 +74,8 @@ impl Classes {
         ensures here { bit_of self.new place ≡ 1 }
         ensures others { (i : ℕ) → i ≢ place → bit_of self.new i ≡ bit_of self.old i }
     {
-        let at = place / 64;
-        self.words[at] = with_bit(self.words[at], (place % 64) as u32);
+        let at = place / BITS;
+        self.words[at] = with_bit(self.words[at], (place % BITS) as u32);
         self.filled = with_bit(self.filled, at as u32);
     }
 
@@ -79,8 +85,8 @@ impl Classes {
         ensures here { bit_of self.new place ≡ 0 }
         ensures others { (i : ℕ) → i ≢ place → bit_of self.new i ≡ bit_of self.old i }
     {
-        let at = place / 64;
-        let word = without_bit(self.words[at], (place % 64) as u32);
+        let at = place / BITS;
+        let word = without_bit(self.words[at], (place % BITS) as u32);
         self.words[at] = word;
         if word == 0 {
             self.filled = without_bit(self.filled, at as u32);
@@ -89,8 +95,8 @@ impl Classes {
 
     /// Lists the free segment of `len` pages that begins at a page, and nothing where `len` is 0.
     pub fn insert(&mut self, page: u32, len: u32)
-        requires { page + len ≤ 256 }
-        ensures { (old new : List Tag) → IsListed self.old old → free_len old page ≡ 0 → free_len new page ≡ len → SameBut page old new → IsListed self.new new }
+        requires { page + len ≤ MAX_PAGES }
+        ensures { Relists page 0 len self.old self.new }
     {
         if len > 0 {
             self.set(place(page, len));
@@ -99,8 +105,8 @@ impl Classes {
 
     /// Strikes off the free segment of `len` pages that begins at a page, and nothing where `len` is 0.
     pub fn remove(&mut self, page: u32, len: u32)
-        requires { page + len ≤ 256 }
-        ensures { (old new : List Tag) → IsListed self.old old → free_len old page ≡ len → free_len new page ≡ 0 → SameBut page old new → IsListed self.new new }
+        requires { page + len ≤ MAX_PAGES }
+        ensures { Relists page len 0 self.old self.new }
     {
         if len > 0 {
             self.clear(place(page, len));
@@ -111,7 +117,7 @@ impl Classes {
     pub fn strike(&mut self, place: usize)
         requires below { place < PLACES }
         requires listed { bit_of self.old place ≡ 1 }
-        ensures { (old new : List Tag) → IsListed self.old old → free_len new (place % 256) ≡ 0 → SameBut (place % 256) old new → IsListed self.new new }
+        ensures { (len : ℕ) → Relists (place % PLACES_OF_A_CLASS) len 0 self.old self.new }
     {
         self.clear(place);
     }
@@ -119,11 +125,11 @@ impl Classes {
     /// A place that is taken, in the lowest class that has one, of this class and those above.
     pub fn lowest(&self, class: u32) -> Option<usize>
         requires { class ≤ 9 }
-        ensures found { IfSome result (λ i. (256 * class ≤ i) × (i < PLACES) × (bit_of self.now i ≡ 1)) }
-        ensures none { IfNone result ((j : ℕ) → 256 * class ≤ j → bit_of self.now j ≡ 0) }
+        ensures found { IfSome result (λ i. (PLACES_OF_A_CLASS * class ≤ i) × (i < PLACES) × (bit_of self.now i ≡ 1)) }
+        ensures none { IfNone result ((j : ℕ) → PLACES_OF_A_CLASS * class ≤ j → bit_of self.now j ≡ 0) }
     {
         let at = lowest_from(self.filled, 4 * class)? as usize;
-        Some(64 * at + self.words[at].trailing_zeros() as usize)
+        Some(BITS * at + self.words[at].trailing_zeros() as usize)
     }
 
     /// The lowest place that is taken, of those from `from` on.
@@ -134,15 +140,15 @@ impl Classes {
         ensures none { IfNone result ((j : ℕ) → from ≤ j → bit_of self.now j ≡ 0) }
     {
         let filled = self.filled;
-        let at = from / 64;
+        let at = from / BITS;
         if at == self.words.len() {
             return None;
         }
-        if let Some(bit) = lowest_from(self.words[at], (from % 64) as u32) {
-            return Some(64 * at + bit as usize);
+        if let Some(bit) = lowest_from(self.words[at], (from % BITS) as u32) {
+            return Some(BITS * at + bit as usize);
         }
         let at = lowest_from(filled, at as u32 + 1)? as usize;
-        Some(64 * at + self.words[at].trailing_zeros() as usize)
+        Some(BITS * at + self.words[at].trailing_zeros() as usize)
     }
 
     /// The highest place that is taken.
@@ -152,6 +158,6 @@ impl Classes {
         ensures none { IfNone result ((j : ℕ) → bit_of self.now j ≡ 0) }
     {
         let at = highest(self.filled)? as usize;
-        Some(64 * at + self.words[at].ilog2() as usize)
+        Some(BITS * at + self.words[at].ilog2() as usize)
     }
 }

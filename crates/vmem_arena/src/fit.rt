@@ -12,41 +12,43 @@
 ghost use Rattle.std.specs.Prelude.{◌≡◌, ℕ, ◌+◌, ◌%◌, ◌<◌, ◌≤◌, IfSome, IfNone};
 ghost use Rattle.vmem_arena.specs.Classes.{bit_of, IsListed};
 ghost use Rattle.vmem_arena.specs.Segments.{free_len};
+ghost use Rattle.vmem_arena.specs.declared.arena.TheConstants.{MAX_PAGES};
 
-use crate::classes::{Classes, PLACES};
+use crate::arena::MAX_PAGES;
+use crate::classes::{Classes, PLACES, PLACES_OF_A_CLASS};
 use crate::segment::Table;
 
 /// The place of a free segment that has n pages or more.
 pub fn fit(table: &Table, classes: &Classes, n: u32) -> Option<usize>
     requires some { 0 < n }
     requires listed { IsListed classes.now table.now }
-    requires short { (page : ℕ) → 0 < free_len table.now page → page + free_len table.now page ≤ 256 }
+    requires short { (page : ℕ) → 0 < free_len table.now page → page + free_len table.now page ≤ MAX_PAGES }
     ensures listed { IfSome result (λ place. (place < PLACES) × (bit_of classes.now place ≡ 1)) }
-    ensures fits { IfSome result (λ place. n ≤ free_len table.now (place % 256)) }
+    ensures fits { IfSome result (λ place. n ≤ free_len table.now (place % PLACES_OF_A_CLASS)) }
     ensures none { IfNone result ((page : ℕ) → free_len table.now page < n) }
 {
-    if n > 256 {
+    if n > MAX_PAGES {
         return None;
     }
     let class = n.ilog2();
     let full = if n == 1 << class { class } else { class + 1 };
     match classes.lowest(full) {
         Some(place) => Some(place),
-        None => walk(table, classes, class as usize * 256, n),
+        None => walk(table, classes, class as usize * PLACES_OF_A_CLASS, n),
     }
 }
 
-/// The same, of the classes from a place on.
+/// The place of a free segment that has n pages or more, of the classes from a place on.
 fn walk(table: &Table, classes: &Classes, start: usize, n: u32) -> Option<usize>
     requires start { start ≤ PLACES }
     requires listed { IsListed classes.now table.now }
     ensures listed { IfSome result (λ place. (place < PLACES) × (bit_of classes.now place ≡ 1)) }
-    ensures fits { IfSome result (λ place. n ≤ free_len table.now (place % 256)) }
-    ensures none { IfNone result ((i : ℕ) → start ≤ i → bit_of classes.now i ≡ 1 → free_len table.now (i % 256) < n) }
+    ensures fits { IfSome result (λ place. n ≤ free_len table.now (place % PLACES_OF_A_CLASS)) }
+    ensures none { IfNone result ((i : ℕ) → start ≤ i → bit_of classes.now i ≡ 1 → free_len table.now (i % PLACES_OF_A_CLASS) < n) }
 {
     let mut from = start;
     while let Some(place) = classes.next(from) {
-        if table.free_at(place % 256) >= n {
+        if table.free_at(place % PLACES_OF_A_CLASS) >= n {
             return Some(place);
         }
         from = place + 1;
@@ -57,17 +59,17 @@ fn walk(table: &Table, classes: &Classes, start: usize, n: u32) -> Option<usize>
 /// The length of the longest free segment, 0 where none is free.
 pub fn longest(table: &Table, classes: &Classes) -> u32
     requires listed { IsListed classes.now table.now }
-    requires short { (page : ℕ) → 0 < free_len table.now page → page + free_len table.now page ≤ 256 }
+    requires short { (page : ℕ) → 0 < free_len table.now page → page + free_len table.now page ≤ MAX_PAGES }
     ensures longest { (page : ℕ) → free_len table.now page ≤ result }
     ensures reached { (page : ℕ) × (free_len table.now page ≡ result) }
 {
     let Some(last) = classes.last() else {
         return 0;
     };
-    let mut longest = table.free_at(last % 256);
-    let mut from = last / 256 * 256;
+    let mut longest = table.free_at(last % PLACES_OF_A_CLASS);
+    let mut from = last / PLACES_OF_A_CLASS * PLACES_OF_A_CLASS;
     while let Some(place) = classes.next(from) {
-        longest = longest.max(table.free_at(place % 256));
+        longest = longest.max(table.free_at(place % PLACES_OF_A_CLASS));
         from = place + 1;
     }
     longest

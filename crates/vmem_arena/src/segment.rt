@@ -10,6 +10,7 @@
 //! *The reason.* Since no tag is left over from an earlier segment, a tag answers alone whether a span is out.
 
 ghost use Rattle.std.specs.Prelude.{◌≡◌, ℕ, ◌+◌, ◌-◌, ◌<◌, ◌≤◌, ◌↔◌, length, IsTrue, IfOk};
+ghost use Rattle.vmem_arena.specs.declared.arena.TheConstants.{MAX_PAGES};
 ghost use Rattle.vmem_arena.specs.Segments.{tag_at, free_len, IsOut, whole, taken, freed};
 
 use std::alloc::{AllocError, Global};
@@ -51,7 +52,7 @@ impl Model for Table {
 impl Table {
     ghost use Rattle.vmem_arena.specs.Segments.{with_before};
 
-    /// So many pages, all in one free segment.
+    /// The tags of this many pages, all in one free segment.
     pub fn new(alloc: Global, pages: u32) -> Result<Table, AllocError>
         requires { 0 < pages }
         ensures { IfOk result (λ table. table ≡ whole pages) }
@@ -100,7 +101,7 @@ impl Table {
     pub fn cut(&mut self, first: usize, n: u32, rest: u32)
         requires some { 0 < n }
         requires within { first + n + rest ≤ length self.old }
-        requires short { length self.old ≤ 256 }
+        requires short { length self.old ≤ MAX_PAGES }
         ensures { self.new ≡ taken self.old first n rest }
     {
         self.tags[first] = Tag {
@@ -125,7 +126,7 @@ impl Table {
         requires low { low ≤ first }
         requires some { 0 < len }
         requires within { first + len + high ≤ length self.old }
-        requires short { length self.old ≤ 256 }
+        requires short { length self.old ≤ MAX_PAGES }
         ensures { self.new ≡ freed self.old first low len high }
     {
         let at = first - low as usize;

@@ -9,10 +9,14 @@
 
 ghost use Rattle.std.specs.Prelude.{◌≡◌, ◌≢◌, ℕ, ◌<◌, ◌≤◌, IfSome, IfNone};
 ghost use Rattle.std.specs.Int.{bit_at};
+ghost use Rattle.vmem_arena.specs.declared.word.TheConstants.{BITS};
+
+/// The bits of a word.
+pub const BITS: usize = 64;
 
 /// The word with this bit set.
 pub fn with_bit(word: u64, bit: u32) -> u64
-    requires { bit < 64 }
+    requires { bit < BITS }
     ensures set { bit_at result bit ≡ 1 }
     ensures others { (i : ℕ) → i ≢ bit → bit_at result i ≡ bit_at word i }
 {
@@ -21,7 +25,7 @@ pub fn with_bit(word: u64, bit: u32) -> u64
 
 /// The word with this bit clear.
 pub fn without_bit(word: u64, bit: u32) -> u64
-    requires { bit < 64 }
+    requires { bit < BITS }
     ensures clear { bit_at result bit ≡ 0 }
     ensures others { (i : ℕ) → i ≢ bit → bit_at result i ≡ bit_at word i }
 {
@@ -30,8 +34,8 @@ pub fn without_bit(word: u64, bit: u32) -> u64
 
 /// The lowest bit that is set, of those from `from` on.
 pub fn lowest_from(word: u64, from: u32) -> Option<u32>
-    requires { from < 64 }
-    ensures found { IfSome result (λ bit. (from ≤ bit) × (bit < 64) × (bit_at word bit ≡ 1)) }
+    requires { from < BITS }
+    ensures found { IfSome result (λ bit. (from ≤ bit) × (bit < BITS) × (bit_at word bit ≡ 1)) }
     ensures lowest { IfSome result (λ bit. (i : ℕ) → from ≤ i → i < bit → bit_at word i ≡ 0) }
     ensures none { IfNone result ((i : ℕ) → from ≤ i → bit_at word i ≡ 0) }
 {
@@ -45,7 +49,7 @@ pub fn lowest_from(word: u64, from: u32) -> Option<u32>
 
 /// The highest bit that is set.
 pub fn highest(word: u64) -> Option<u32>
-    ensures found { IfSome result (λ bit. (bit < 64) × (bit_at word bit ≡ 1)) }
+    ensures found { IfSome result (λ bit. (bit < BITS) × (bit_at word bit ≡ 1)) }
     ensures highest { IfSome result (λ bit. (i : ℕ) → bit < i → bit_at word i ≡ 0) }
     ensures none { IfNone result ((i : ℕ) → bit_at word i ≡ 0) }
 {

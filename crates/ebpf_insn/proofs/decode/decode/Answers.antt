@@ -8,12 +8,13 @@ use Rattle.ebpf_insn.specs.Encoding.{IsProgram}
 use Rattle.ebpf_insn.specs.Decoding.{fault_at, decode_fault}
 use Rattle.ebpf_insn.proofs.FaultLemmas.{lowest-zero, lowest-more_none}
 use Rattle.ebpf_insn.proofs.ProgramBytes.{IsReadSoFar, read_none, read_half, read_more, is_even, refused_at, refusal_is, fault_from_lowest, fault_at_is, limit_fault, half_fault, none_pending, is_well_formed, is_program, same_program, instructions-append}
+use Rattle.ebpf_insn.proofs.decode.decode.Goals.{In-Err}
 use Rattle.ebpf_insn.proofs.decode.decode.Goals as goal
 
 pub returns-then-is_empty-clause-only : goal.returns-then-is_empty-clause-only
 returns-then-is_empty-clause-only c p h =
     let refused : decode_fault c.args.bytes.now ≡ Some (0, WrongLength) = search rules in
-    refusal_is c.args.bytes.now p (Bad 0 WrongLength) h refused
+    rw c.bad.ensures (refusal_is c.args.bytes.now p (Bad 0 WrongLength) h refused)
 
 pub loop-slot-init : goal.loop-slot-init
 loop-slot-init c = record {
@@ -30,13 +31,14 @@ pub returns-then-slot-eq-MAX_SLOTS-clause-refused : goal.returns-then-slot-eq-MA
 returns-then-slot-eq-MAX_SLOTS-clause-refused c =
     let refused : decode_fault c.args.bytes.now ≡ Some (c.loop-slot.slot, ProgramTooLong) =
     refused_at c.args.bytes.now c.loop-slot.slot ProgramTooLong c.loop-slot.invariant.even c.loop-slot.invariant.fine (omega arith) (limit_fault c.args.bytes.now c.loop-slot.slot c.if-slot-eq-MAX_SLOTS.true) in
-    refused ∙ ap (λ (k : ℕ). Some (k, ProgramTooLong)) c.if-slot-eq-MAX_SLOTS.true
+    rw c.bad-then-slot-eq-MAX_SLOTS.ensures (refused ∙ ap (λ (k : ℕ). Some (k, ProgramTooLong)) c.if-slot-eq-MAX_SLOTS.true)
 
 pub returns-then-slot-eq-MAX_SLOTS-clause-only : goal.returns-then-slot-eq-MAX_SLOTS-clause-only
 returns-then-slot-eq-MAX_SLOTS-clause-only c p h =
     let refused : decode_fault c.args.bytes.now ≡ Some (c.loop-slot.slot, ProgramTooLong) =
     refused_at c.args.bytes.now c.loop-slot.slot ProgramTooLong c.loop-slot.invariant.even c.loop-slot.invariant.fine (omega arith) (limit_fault c.args.bytes.now c.loop-slot.slot c.if-slot-eq-MAX_SLOTS.true) in
-    refusal_is c.args.bytes.now p (Bad 4096 ProgramTooLong) h (refused ∙ ap (λ (k : ℕ). Some (k, ProgramTooLong)) c.if-slot-eq-MAX_SLOTS.true)
+    rw c.bad-then-slot-eq-MAX_SLOTS.ensures
+    (refusal_is c.args.bytes.now p (Bad 4096 ProgramTooLong) h (refused ∙ ap (λ (k : ℕ). Some (k, ProgramTooLong)) c.if-slot-eq-MAX_SLOTS.true))
 
 pub loop-slot-preserved-then-is_second_half : goal.loop-slot-preserved-then-is_second_half
 loop-slot-preserved-then-is_second_half c =
@@ -57,17 +59,19 @@ loop-slot-preserved-then-is_second_half c =
 pub decode_at-requires-clause-first : goal.decode_at-requires-clause-first
 decode_at-requires-clause-first c = c.loop-slot.invariant.read.here ∙ c.if-is_second_half.false
 
+-- what is wrong at a slot
+refused_here : (c : In-Err) → decode_fault c.args.bytes.now ≡ Some (c.loop-slot.slot, c.in-Err.code)
+refused_here c =
+    refused_at c.args.bytes.now c.loop-slot.slot c.in-Err.code c.loop-slot.invariant.even c.loop-slot.invariant.fine (omega arith)
+    (fault_at_is c.args.bytes.now c.loop-slot.slot _ c.if-slot-eq-MAX_SLOTS.false c.in-Err.ensures.fault)
+
 pub returns-in-Err-clause-refused : goal.returns-in-Err-clause-refused
-returns-in-Err-clause-refused c =
-    refused_at c.args.bytes.now c.loop-slot.slot c.in-Err.code c.loop-slot.invariant.even c.loop-slot.invariant.fine (omega arith) (fault_at_is c.args.bytes.now c.loop-slot.slot _ c.if-slot-eq-MAX_SLOTS.false c.in-Err.ensures.fault)
+returns-in-Err-clause-refused c = rw c.bad-in-Err.ensures (refused_here (goal.at.returns-in-Err-clause-refused c).In-Err)
 
 pub returns-in-Err-clause-only : goal.returns-in-Err-clause-only
 returns-in-Err-clause-only c p h =
-    refusal_is c.args.bytes.now p (Bad c.loop-slot.slot c.in-Err.code) h
-    (refused_at c.args.bytes.now c.loop-slot.slot c.in-Err.code c.loop-slot.invariant.even c.loop-slot.invariant.fine (omega arith) (fault_at_is c.args.bytes.now c.loop-slot.slot _ c.if-slot-eq-MAX_SLOTS.false c.in-Err.ensures.fault))
-
-pub overflow_cast-result : goal.overflow_cast-result
-overflow_cast-result c = let few : c.loop-slot.slot ≤ 4096 = c.loop-slot.invariant.few in search rules
+    rw c.bad-in-Err.ensures
+    (refusal_is c.args.bytes.now p (Bad c.loop-slot.slot c.in-Err.code) h (refused_here (goal.at.returns-in-Err-clause-only c).In-Err))
 
 pub overflow_add-len : goal.overflow_add-len
 overflow_add-len c = let short : c.loop-slot.len ≤ c.loop-slot.slot = c.loop-slot.invariant.short in let few : c.loop-slot.slot ≤ 4096 = c.loop-slot.invariant.few in search rules

@@ -1,7 +1,7 @@
 use Rattle.std.proofs.Common.{refl, ap, ◌∙◌, length, arith}
 use Rattle.vmem_arena.specs.Spans.{Spans, pages_of}
 use Rattle.object_cache.proofs.Moving.{one_more}
-use Rattle.object_cache.proofs.Reaping.{had_most, had_less, out_stays, place_stays}
+use Rattle.object_cache.proofs.Reaping.{had_most, had_less, out_since, place_since}
 use Rattle.object_cache.proofs.homing.give_pages.Goals as goal
 
 pub loop-span-init : goal.loop-span-init
@@ -28,12 +28,8 @@ loop-span-preserved-then-give g c =
       pages = c.if-give.ensures.pages ∙ i.pages;
       taken = omega (arith, one_more (pages_of c.in-Some.span) c.give.new.self.out c.loop-span.arena.out (c.if-give.ensures.back refl), i.taken);
       few = omega (arith, less, i.few);
-      out = λ slot.
-          let stays = out_stays _ _ _ c.in-Some.ensures.removed c.in-Some.ensures.idle slot in
-          (λ is. (i.out slot).0 (stays.0 is), λ is. stays.1 ((i.out slot).1 is));
-      kept = λ slot has.
-          let stays = place_stays c.loop-span.slabs c.reap.new.self c.in-Some.span.first c.in-Some.ensures.removed slot has in
-          stays.1 ∙ i.kept slot stays.0;
+      out = out_since _ _ _ _ c.in-Some.ensures.removed c.in-Some.ensures.idle i.out;
+      kept = place_since _ _ _ _ c.in-Some.ensures.removed i.kept;
       counted = c.in-Some.ensures.counted ∙ i.counted;
     }
 
@@ -45,12 +41,8 @@ loop-span-preserved g c =
       pages = c.if-give.ensures.pages ∙ i.pages;
       taken = omega (arith, ap (λ (s : Spans). length s.out) (c.if-give.ensures.unchanged refl), i.taken);
       few = omega (arith, less, i.few);
-      out = λ slot.
-          let stays = out_stays _ _ _ c.in-Some.ensures.removed c.in-Some.ensures.idle slot in
-          (λ is. (i.out slot).0 (stays.0 is), λ is. stays.1 ((i.out slot).1 is));
-      kept = λ slot has.
-          let stays = place_stays c.loop-span.slabs c.reap.new.self c.in-Some.span.first c.in-Some.ensures.removed slot has in
-          stays.1 ∙ i.kept slot stays.0;
+      out = out_since _ _ _ _ c.in-Some.ensures.removed c.in-Some.ensures.idle i.out;
+      kept = place_since _ _ _ _ c.in-Some.ensures.removed i.kept;
       counted = c.in-Some.ensures.counted ∙ i.counted;
     }
 

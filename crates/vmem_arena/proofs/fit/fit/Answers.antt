@@ -6,12 +6,12 @@ use Rattle.vmem_arena.proofs.fit.fit.Goals.{then-n-class, else-n-class}
 
 pub lowest-requires : goal.lowest-requires
 lowest-requires c =
-    let low = class_low c.ilog2-class.result c.args.n c.ilog2-class.ensures.power_le c.if-n-gt256.false in
+    let low = class_low c.ilog2-class.result c.args.n c.ilog2-class.ensures.power_le c.if-n-gt-MAX_PAGES.false in
     elim c.if-n-class.branch [ then-n-class w ↦ omega arith | else-n-class w ↦ omega arith ]
 
 pub walk-requires-clause-start : goal.walk-requires-clause-start
 walk-requires-clause-start c =
-    let low = class_low c.ilog2-class.result c.args.n c.ilog2-class.ensures.power_le c.if-n-gt256.false in
+    let low = class_low c.ilog2-class.result c.args.n c.ilog2-class.ensures.power_le c.if-n-gt-MAX_PAGES.false in
     omega arith
 
 pub returns-in-Some-clause-fits : goal.returns-in-Some-clause-fits

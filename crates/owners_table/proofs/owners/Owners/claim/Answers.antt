@@ -1,9 +1,10 @@
-use Rattle.std.proofs.Common.{ℕ, ◌+◌, [], ◌∷◌, ◌++◌, List, sym, ap, ◌∙◌, subst, arith}
+use Rattle.std.proofs.Common.{ℕ, [], ◌∷◌, ◌++◌, List, refl, sym, ap, ◌∙◌, subst, arith}
 use Rattle.owners_table.specs.declared.owning.OwnerSheet.{OwnerSheet}
 use Rattle.owners_table.specs.Marking.{mark_word}
-use Rattle.owners_table.specs.Sheets.{first_or}
-use Rattle.owners_table.specs.Owning.{SeatView, OwnersView, Holds, owner_word, blank, sheet_of}
-use Rattle.owners_table.proofs.OwningSteps.{claims, held-won, held-lost, owner-there}
+use Rattle.owners_table.specs.Sheets.{first_or, sheet_of}
+use Rattle.owners_table.specs.Owning.{SeatView, OwnersView, Holds, owner_word, blank}
+use Rattle.owners_table.proofs.Dealing.{only-first}
+use Rattle.owners_table.proofs.OwningSteps.{counts-try, claim-rest, claims, held-won, held-lost, owner-there}
 use Rattle.owners_table.proofs.owners.Owners.claim.Goals as goal
 
 pub compare_exchange-found-requires : goal.compare_exchange-found-requires
@@ -20,19 +21,19 @@ pub invariant_of-seat : goal.invariant_of-seat
 invariant_of-seat c =
     let told = c.compare_exchange-found.ensures.2 in
     let e = (told.2 _ c.seat.invariant.0).0 in
-    (e ∙ ap (λ (v : List OwnerSheet). first_or blank v ∷ []) (sym e), told.0 ∙ c.seat.invariant.1)
+    (only-first blank _ _ e, told.0 ∙ c.seat.invariant.1)
 
 pub returns-in_default-clause-tries : goal.returns-in_default-clause-tries
 returns-in_default-clause-tries c =
     let e = (c.compare_exchange-found.ensures.2.2 _ c.seat.invariant.0).0 in
-    ap (λ (v : List OwnerSheet). (first_or blank v).tries) e ∙ ap (λ (v : SeatView). v.tries + 1) c.seat.view_is
+    counts-try _ _ c.seat.inside.seat _ e refl c.seat.view_is
 
 pub returns-in_default-clause-ok : goal.returns-in_default-clause-ok
 returns-in_default-clause-ok c =
     let e = (c.compare_exchange-found.ensures.2.2 _ c.seat.invariant.0).0 in
     let free = sym c.in_default.ensures.word in
     let slot = c.args.slot in
-    let sheet = sheet_of c.seat.inside.seat in (
+    let sheet = sheet_of blank c.seat.inside.seat in (
       ap (λ (v : List OwnerSheet). (first_or blank v).held) e
           ∙ (held-won slot 0 c.word.result c.compare_exchange-found.result sheet.held free
           ∙ (ap (λ (w : ℕ). (slot, w) ∷ sheet.held) c.word.ensures.value ∙ ap (λ (v : SeatView). (slot, mark_word c.args.mark.run c.args.mark.at) ∷ v.held) c.seat.view_is)),
@@ -41,11 +42,8 @@ returns-in_default-clause-ok c =
 
 pub returns-in_default-clause-rest : goal.returns-in_default-clause-rest
 returns-in_default-clause-rest c =
-    let e = (c.compare_exchange-found.ensures.2.2 _ c.seat.invariant.0).0 in (
-      ap (λ (v : List OwnerSheet). (first_or blank v).fetches) e ∙ ap (λ (v : SeatView). v.fetches) c.seat.view_is,
-      ap (λ (v : List OwnerSheet). (first_or blank v).shelved) e ∙ ap (λ (v : SeatView). v.shelved) c.seat.view_is,
-      ap (λ (v : List OwnerSheet). (first_or blank v).got) e ∙ ap (λ (v : SeatView). v.got) c.seat.view_is,
-    )
+    let e = (c.compare_exchange-found.ensures.2.2 _ c.seat.invariant.0).0 in
+    claim-rest c.args.slot c.word.result c.compare_exchange-found.result _ c.seat.inside.seat _ e c.seat.view_is
 
 pub returns-in_default-clause-own : goal.returns-in_default-clause-own
 returns-in_default-clause-own c has =
@@ -58,19 +56,19 @@ pub invariant_of-seat-2 : goal.invariant_of-seat-2
 invariant_of-seat-2 c =
     let told = c.compare_exchange-found.ensures.2 in
     let e = (told.2 _ c.seat.invariant.0).0 in
-    (e ∙ ap (λ (v : List OwnerSheet). first_or blank v ∷ []) (sym e), told.0 ∙ c.seat.invariant.1)
+    (only-first blank _ _ e, told.0 ∙ c.seat.invariant.1)
 
 pub returns-clause-tries : goal.returns-clause-tries
 returns-clause-tries c =
     let e = (c.compare_exchange-found.ensures.2.2 _ c.seat.invariant.0).0 in
-    ap (λ (v : List OwnerSheet). (first_or blank v).tries) e ∙ ap (λ (v : SeatView). v.tries + 1) c.seat.view_is
+    counts-try _ _ c.seat.inside.seat _ e refl c.seat.view_is
 
 pub returns-clause-taken : goal.returns-clause-taken
 returns-clause-taken c =
     let e = (c.compare_exchange-found.ensures.2.2 _ c.seat.invariant.0).0 in
     let found = c.in-Some.ensures.word in
     let slot = c.args.slot in
-    let sheet = sheet_of c.seat.inside.seat in (
+    let sheet = sheet_of blank c.seat.inside.seat in (
       ap (λ (v : List OwnerSheet). (first_or blank v).held) e
           ∙ (held-lost slot 0 c.word.result c.compare_exchange-found.result sheet.held (owner-there c.in-Some.owner _ found) ∙ ap (λ (v : SeatView). v.held) c.seat.view_is),
       ap (λ (v : List OwnerSheet). (first_or blank v).notes) e
@@ -79,8 +77,5 @@ returns-clause-taken c =
 
 pub returns-clause-rest : goal.returns-clause-rest
 returns-clause-rest c =
-    let e = (c.compare_exchange-found.ensures.2.2 _ c.seat.invariant.0).0 in (
-      ap (λ (v : List OwnerSheet). (first_or blank v).fetches) e ∙ ap (λ (v : SeatView). v.fetches) c.seat.view_is,
-      ap (λ (v : List OwnerSheet). (first_or blank v).shelved) e ∙ ap (λ (v : SeatView). v.shelved) c.seat.view_is,
-      ap (λ (v : List OwnerSheet). (first_or blank v).got) e ∙ ap (λ (v : SeatView). v.got) c.seat.view_is,
-    )
+    let e = (c.compare_exchange-found.ensures.2.2 _ c.seat.invariant.0).0 in
+    claim-rest c.args.slot c.word.result c.compare_exchange-found.result _ c.seat.inside.seat _ e c.seat.view_is

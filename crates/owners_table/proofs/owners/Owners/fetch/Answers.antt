@@ -1,9 +1,10 @@
-use Rattle.std.proofs.Common.{ℕ, ◌+◌, [], ◌∷◌, ◌++◌, List, sym, ap, ◌∙◌, subst, arith}
+use Rattle.std.proofs.Common.{ℕ, ◌+◌, [], ◌∷◌, ◌++◌, List, refl, sym, ap, ◌∙◌, subst, arith}
 use Rattle.owners_table.specs.declared.owning.OwnerSheet.{OwnerSheet}
 use Rattle.owners_table.specs.Marking.{mark_word}
-use Rattle.owners_table.specs.Sheets.{first_or}
-use Rattle.owners_table.specs.Owning.{SeatView, OwnersView, Holds, found_word, blank, sheet_of}
-use Rattle.owners_table.proofs.OwningSteps.{fetches, held-won, held-lost}
+use Rattle.owners_table.specs.Sheets.{first_or, sheet_of}
+use Rattle.owners_table.specs.Owning.{SeatView, OwnersView, Holds, found_word, blank}
+use Rattle.owners_table.proofs.Dealing.{only-first}
+use Rattle.owners_table.proofs.OwningSteps.{counts-try, fetch-rest, fetches, held-won, held-lost}
 use Rattle.owners_table.proofs.owners.Owners.fetch.Goals as goal
 
 pub compare_exchange-found-requires : goal.compare_exchange-found-requires
@@ -22,12 +23,12 @@ pub invariant_of-seat : goal.invariant_of-seat
 invariant_of-seat c =
     let told = c.compare_exchange-found.ensures.2 in
     let e = (told.2 _ c.seat.invariant.0).0 in
-    (e ∙ ap (λ (v : List OwnerSheet). first_or blank v ∷ []) (sym e), told.0 ∙ c.seat.invariant.1)
+    (only-first blank _ _ e, told.0 ∙ c.seat.invariant.1)
 
 pub returns-then-found-wanted-clause-tries : goal.returns-then-found-wanted-clause-tries
 returns-then-found-wanted-clause-tries c =
     let e = (c.compare_exchange-found.ensures.2.2 _ c.seat.invariant.0).0 in
-    ap (λ (v : List OwnerSheet). (first_or blank v).tries) e ∙ ap (λ (v : SeatView). v.tries + 1) c.seat.view_is
+    counts-try _ _ c.seat.inside.seat _ e refl c.seat.view_is
 
 pub returns-then-found-wanted-clause-other : goal.returns-then-found-wanted-clause-other
 returns-then-found-wanted-clause-other c =
@@ -36,7 +37,7 @@ returns-then-found-wanted-clause-other c =
     let wanted = c.from-wanted.ensures in
     let other = c.if-found-wanted.true in
     let slot = c.args.slot in
-    let sheet = sheet_of c.seat.inside.seat in (
+    let sheet = sheet_of blank c.seat.inside.seat in (
       λ same. other (omega arith),
       ap (λ (v : List OwnerSheet). (first_or blank v).held) e
           ∙ (held-lost slot (c.from-wanted.result + 1) c.word.result c.compare_exchange-found.result sheet.held other ∙ ap (λ (v : SeatView). v.held) c.seat.view_is),
@@ -48,28 +49,26 @@ returns-then-found-wanted-clause-other c =
 
 pub returns-then-found-wanted-clause-rest : goal.returns-then-found-wanted-clause-rest
 returns-then-found-wanted-clause-rest c =
-    let e = (c.compare_exchange-found.ensures.2.2 _ c.seat.invariant.0).0 in (
-      ap (λ (v : List OwnerSheet). (first_or blank v).notes) e ∙ ap (λ (v : SeatView). v.notes) c.seat.view_is,
-      ap (λ (v : List OwnerSheet). (first_or blank v).shelved) e ∙ ap (λ (v : SeatView). v.shelved) c.seat.view_is,
-    )
+    let e = (c.compare_exchange-found.ensures.2.2 _ c.seat.invariant.0).0 in
+    fetch-rest c.args.slot (c.from-wanted.result + 1) c.word.result c.compare_exchange-found.result _ c.seat.inside.seat _ e c.seat.view_is
 
 pub invariant_of-seat-2 : goal.invariant_of-seat-2
 invariant_of-seat-2 c =
     let told = c.compare_exchange-found.ensures.2 in
     let e = (told.2 _ c.seat.invariant.0).0 in
-    (e ∙ ap (λ (v : List OwnerSheet). first_or blank v ∷ []) (sym e), told.0 ∙ c.seat.invariant.1)
+    (only-first blank _ _ e, told.0 ∙ c.seat.invariant.1)
 
 pub returns-clause-tries : goal.returns-clause-tries
 returns-clause-tries c =
     let e = (c.compare_exchange-found.ensures.2.2 _ c.seat.invariant.0).0 in
-    ap (λ (v : List OwnerSheet). (first_or blank v).tries) e ∙ ap (λ (v : SeatView). v.tries + 1) c.seat.view_is
+    counts-try _ _ c.seat.inside.seat _ e refl c.seat.view_is
 
 pub returns-clause-ok : goal.returns-clause-ok
 returns-clause-ok c =
     let e = (c.compare_exchange-found.ensures.2.2 _ c.seat.invariant.0).0 in
     let found = c.if-found-wanted.false in
     let slot = c.args.slot in
-    let sheet = sheet_of c.seat.inside.seat in (
+    let sheet = sheet_of blank c.seat.inside.seat in (
       ap (λ (v : List OwnerSheet). (first_or blank v).held) e
           ∙ (held-won slot (c.from-wanted.result + 1) c.word.result c.compare_exchange-found.result sheet.held found
           ∙ (ap (λ (w : ℕ). (slot, w) ∷ sheet.held) c.word.ensures.value ∙ ap (λ (v : SeatView). (slot, mark_word c.args.mark.run c.args.mark.at) ∷ v.held) c.seat.view_is)),
@@ -82,10 +81,8 @@ returns-clause-ok c =
 
 pub returns-clause-rest : goal.returns-clause-rest
 returns-clause-rest c =
-    let e = (c.compare_exchange-found.ensures.2.2 _ c.seat.invariant.0).0 in (
-      ap (λ (v : List OwnerSheet). (first_or blank v).notes) e ∙ ap (λ (v : SeatView). v.notes) c.seat.view_is,
-      ap (λ (v : List OwnerSheet). (first_or blank v).shelved) e ∙ ap (λ (v : SeatView). v.shelved) c.seat.view_is,
-    )
+    let e = (c.compare_exchange-found.ensures.2.2 _ c.seat.invariant.0).0 in
+    fetch-rest c.args.slot (c.from-wanted.result + 1) c.word.result c.compare_exchange-found.result _ c.seat.inside.seat _ e c.seat.view_is
 
 pub returns-clause-own : goal.returns-clause-own
 returns-clause-own c has =

@@ -1,8 +1,7 @@
-use Rattle.std.proofs.Common.{◌≡◌, List, [], ◌∷◌, ◌++◌, map, reverse, All, sym, ap, ◌∙◌, subst, arith, append_assoc}
-use Rattle.owners_table.specs.declared.owning.OwnerSheet.{OwnerSheet}
+use Rattle.std.proofs.Common.{◌≡◌, [], ◌∷◌, All, sym, ap, ◌∙◌, subst, arith}
 use Rattle.owners_table.specs.Owning.{SeatView, OwnersView, sheet}
 use Rattle.owners_table.proofs.OwningSteps.{joins}
-use Rattle.owners_table.proofs.Joining.{last-first, all_front, all_last}
+use Rattle.owners_table.proofs.Joining.{joins-last, all_front, all_last}
 use Rattle.owners_table.proofs.owners.Owners.joined.Goals as goal
 
 pub join_seat-requires : goal.join_seat-requires
@@ -24,13 +23,10 @@ loop-other-preserved c =
     let i = c.loop-other.invariant in
     let j = c.join_seat.ensures in
     let left = c.pop-in-loop-other.new.self.items in
-    let own = subst (All (λ (s : SeatView). s.table ≡ c.args.self.now.table)) c.in-Some.ensures.items i.others in
-    let popped = ap (λ (ss : List SeatView). reverse (map sheet ss)) c.in-Some.ensures.items ∙ last-first sheet left c.in-Some.other in
-    let one = c.other.invariant.0 ∙ ap (λ (s : SeatView). sheet s ∷ []) c.other.view_is in
-    let all = c.loop-other.all.me.0 in record {
+    let popped = c.in-Some.ensures.items in
+    let one = c.other.invariant.0 ∙ ap (λ (s : SeatView). sheet s ∷ []) c.other.view_is in record {
       table = j.0 ∙ i.table;
       bare = ap (λ m. m.1) j.2 ∙ i.bare;
-      sheets = ap (λ m. m.0 ++ reverse (map sheet left)) j.2 ∙ (ap (λ (v : List OwnerSheet). (all ++ v) ++ reverse (map sheet left)) one
-          ∙ (append_assoc all (sheet c.in-Some.other ∷ []) (reverse (map sheet left)) ∙ (ap (λ (v : List OwnerSheet). all ++ v) (sym popped) ∙ i.sheets)));
-      others = all_front (λ (s : SeatView). s.table ≡ c.args.self.now.table) left c.in-Some.other own;
+      sheets = joins-last sheet left _ c.in-Some.other c.loop-other.all.me.0 _ _ _ popped (ap (λ m. m.0) j.2) one i.sheets;
+      others = all_front (λ (s : SeatView). s.table ≡ c.args.self.now.table) left c.in-Some.other (subst (All (λ (s : SeatView). s.table ≡ c.args.self.now.table)) popped i.others);
     }

@@ -1,6 +1,7 @@
 use Rattle.std.proofs.Common.{◌++◌, sym, ap, ◌∙◌, subst, arith}
 use Rattle.owners_table.specs.declared.owning.OwnerSheet.{OwnerSheet}
-use Rattle.owners_table.specs.Owning.{SeatView, OwnersView, Apart, sheet_of}
+use Rattle.owners_table.specs.Sheets.{sheet_of}
+use Rattle.owners_table.specs.Owning.{SeatView, OwnersView, Apart, blank}
 use Rattle.owners_table.proofs.OwningSteps.{splits, joins, looks}
 use Rattle.owners_table.proofs.owners.Owners.meet.Goals as goal
 
@@ -35,8 +36,8 @@ split_seat-one-requires c =
 
 pub returns-clause-apart : goal.returns-clause-apart
 returns-clause-apart c =
-    let t : OwnerSheet = sheet_of c.first.inside.seat in
-    let u : OwnerSheet = sheet_of c.second.inside.seat in
+    let t : OwnerSheet = sheet_of blank c.first.inside.seat in
+    let u : OwnerSheet = sheet_of blank c.second.inside.seat in
     let both = ap (λ m. m.0) c.join_seat.ensures.2 ∙ λ i. c.first.invariant.0 i ++ c.second.invariant.0 i in
     let apart = c.load.ensures.2.1 t u both in
     subst (λ (p : SeatView × SeatView). Apart p.0.held p.1.held) (λ i. (c.first.view_is i, c.second.view_is i)) apart

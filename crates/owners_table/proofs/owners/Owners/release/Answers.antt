@@ -1,7 +1,6 @@
-use Rattle.std.proofs.Common.{List, [], ◌∷◌, sym, ap, ◌∙◌, subst, arith}
-use Rattle.owners_table.specs.declared.owning.OwnerSheet.{OwnerSheet}
-use Rattle.owners_table.specs.Sheets.{first_or}
+use Rattle.std.proofs.Common.{sym, ap, ◌∙◌, subst, arith}
 use Rattle.owners_table.specs.Owning.{SeatView, OwnersView, Holds, blank}
+use Rattle.owners_table.proofs.Dealing.{only-first}
 use Rattle.owners_table.proofs.OwningSteps.{releases}
 use Rattle.owners_table.proofs.owners.Owners.release.Goals as goal
 
@@ -19,4 +18,4 @@ pub invariant_of-seat : goal.invariant_of-seat
 invariant_of-seat c =
     let told = c.swap.ensures.2 in
     let e = told.1 _ c.seat.invariant.0 in
-    (e ∙ ap (λ (v : List OwnerSheet). first_or blank v ∷ []) (sym e), told.0 ∙ c.seat.invariant.1)
+    (only-first blank _ _ e, told.0 ∙ c.seat.invariant.1)

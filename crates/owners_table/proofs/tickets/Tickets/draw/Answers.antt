@@ -1,7 +1,8 @@
-use Rattle.std.proofs.Common.{◌≡◌, ℕ, List, [], ◌∷◌, sym, ap, ◌∙◌, arith}
+use Rattle.std.proofs.Common.{◌≡◌, ℕ, List, sym, ap, ◌∙◌, arith}
 use Rattle.owners_table.specs.declared.drawing.TicketSheet.{TicketSheet}
-use Rattle.owners_table.specs.Sheets.{first_or}
-use Rattle.owners_table.specs.Drawing.{TicketView, TicketsView, blank, sheet_of}
+use Rattle.owners_table.specs.Sheets.{first_or, sheet_of}
+use Rattle.owners_table.specs.Drawing.{TicketView, TicketsView, blank}
+use Rattle.owners_table.proofs.Dealing.{only-first}
 use Rattle.owners_table.proofs.DrawingSteps.{draws, draws-below, draws-late}
 use Rattle.owners_table.proofs.tickets.Tickets.draw.Goals as goal
 
@@ -24,8 +25,8 @@ invariant_of-seat c =
     let s = c.seat.invariant in
     let e = told.1 _ s.0.0 in
     let limit = limits _ _ _ c.self.inside.limit (ap (λ (v : TicketView). v.limit) c.seat.view_is) c.requires.1 (ap (λ (t : TicketsView). t.limit) c.self.view_is) in (
-      (e ∙ ap (λ (v : List TicketSheet). first_or (blank 0) v ∷ []) (sym e), told.0 ∙ s.0.1),
-      ap (λ (v : List TicketSheet). (first_or (blank 0) v).passed) e ∙ (draws-below c.fetch_add-n.result c.self.inside.limit (sheet_of c.seat.inside.seat) limit c.if-n-self.true ∙ s.1),
+      (only-first (blank 0) _ _ e, told.0 ∙ s.0.1),
+      ap (λ (v : List TicketSheet). (first_or (blank 0) v).passed) e ∙ (draws-below c.fetch_add-n.result c.self.inside.limit (sheet_of (blank 0) c.seat.inside.seat) limit c.if-n-self.true ∙ s.1),
     )
 
 pub invariant_of-seat-2 : goal.invariant_of-seat-2
@@ -34,6 +35,6 @@ invariant_of-seat-2 c =
     let s = c.seat.invariant in
     let e = told.1 _ s.0.0 in
     let limit = limits _ _ _ c.self.inside.limit (ap (λ (v : TicketView). v.limit) c.seat.view_is) c.requires.1 (ap (λ (t : TicketsView). t.limit) c.self.view_is) in (
-      (e ∙ ap (λ (v : List TicketSheet). first_or (blank 0) v ∷ []) (sym e), told.0 ∙ s.0.1),
-      ap (λ (v : List TicketSheet). (first_or (blank 0) v).passed) e ∙ draws-late c.fetch_add-n.result c.self.inside.limit (sheet_of c.seat.inside.seat) limit c.if-n-self.false,
+      (only-first (blank 0) _ _ e, told.0 ∙ s.0.1),
+      ap (λ (v : List TicketSheet). (first_or (blank 0) v).passed) e ∙ draws-late c.fetch_add-n.result c.self.inside.limit (sheet_of (blank 0) c.seat.inside.seat) limit c.if-n-self.false,
     )

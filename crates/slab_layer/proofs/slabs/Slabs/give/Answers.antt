@@ -6,7 +6,7 @@ use Rattle.slab_layer.specs.declared.place.Place.TheVariants.{Home, Out}
 use Rattle.slab_layer.specs.Slots.{has_home}
 use Rattle.slab_layer.proofs.Changes.{same_read, out_read, partial_given, count_given, room_given, out_some, moves, number_is}
 use Rattle.slab_layer.proofs.slabs.Slabs.give.Given.{Over}
-use Rattle.slab_layer.proofs.slabs.Slabs.give.Goals.{After-index-2, then-is_first, else-is_first}
+use Rattle.slab_layer.proofs.slabs.Slabs.give.Goals.{After-index-2, After-give, then-is_first, else-is_first}
 use Rattle.slab_layer.proofs.slabs.Slabs.give.Goals as goal
 
 -- the slot's page is in the table
@@ -35,6 +35,10 @@ overflow_sub-self g c =
     let some = out_some c.self.inside.slabs.items (c.slot-slot.result / 256) (c.slot-slot.result % 256) c.index_mut.result.now c.self.inside.partial.items c.self.inside.out c.self.invariant.0 (inside g h) c.index_mut.ensures.value (out g h c.index_mut.result.now c.index_mut.ensures.value) in
     elim c.if-is_first.branch [ then-is_first w ↦ rw w.self-inside-is some | else-is_first w ↦ rw w.self-inside-is some ]
 
+-- what the slab has once the object is home
+homed : (g : Over) (c : After-give g) → c.give.new.self.places.items ≡ set c.index_mut.result.now.places.items (c.slot-slot.result % 256) Home
+homed g c = c.give.ensures.home ∙ ap (λ n. set c.index_mut.result.now.places.items (n % 256) Home) (sym c.slot-slot.ensures)
+
 pub invariant_of-self : goal.invariant_of-self
 invariant_of-self g c =
     let h = (goal.at.invariant_of-self g c).After-index-2 in
@@ -44,7 +48,7 @@ invariant_of-self g c =
     let partial = c.self.inside.partial.items in
     let old = c.index_mut.result.now in
     let was = out g h old c.index_mut.ensures.value in
-    let is : c.give.new.self.places.items ≡ set old.places.items index Home = c.give.ensures.home ∙ ap (λ n. set old.places.items (n % 256) Home) (sym c.slot-slot.ensures) in
+    let is = homed g (goal.at.invariant_of-self g c).After-give in
     let before : c.has_home-is_first.result ≡ has_home old.places.items = c.has_home-is_first.ensures ∙ ap (λ s. has_home s.places.items) (same_read xs at c.index-2.result.now old (inside g h) c.index-2.ensures c.index_mut.ensures.value) in
     let some = out_some xs at index old partial c.self.inside.out c.self.invariant.0 (inside g h) c.index_mut.ensures.value was in
     let given = partial_given xs at index old c.give.new.self partial c.self.inside.out (c.self.inside.out - 1) c.has_home-is_first.result c.self.invariant.0 (inside g h) c.index_mut.ensures.value c.give.ensures.page was is before (omega (arith, some)) in
@@ -56,23 +60,25 @@ invariant_of-self g c =
 
 pub returns-clause-moved : goal.returns-clause-moved
 returns-clause-moved g c = λ _.
-    let h = (goal.at.returns-clause-moved g c).After-index-2 in
+    let p = goal.at.returns-clause-moved g c in
     let xs = c.self.inside.slabs.items in
     let at = c.slot-slot.result / 256 in
     let old = c.index_mut.result.now in
-    let is : c.give.new.self.places.items ≡ set old.places.items (c.slot-slot.result % 256) Home = c.give.ensures.home ∙ ap (λ n. set old.places.items (n % 256) Home) (sym c.slot-slot.ensures) in
     let kept : c.if-is_first.self-inside.slabs.items ≡ set xs at c.give.new.self = elim c.if-is_first.branch [ then-is_first w ↦ ap (λ s. s.slabs.items) w.self-inside-is | else-is_first w ↦ ap (λ s. s.slabs.items) w.self-inside-is ] in
-    rw (← c.self.view_is, kept, ← c.slot-slot.ensures) (moves xs c.slot-slot.result at Home old c.give.new.self (inside g h) c.index_mut.ensures.value refl (slice_get_within _ _ Out (out g h old c.index_mut.ensures.value)) is)
+    let there = slice_get_within _ _ Out (out g p.After-index-2 old c.index_mut.ensures.value) in
+    rw (← c.self.view_is, kept, ← c.slot-slot.ensures)
+    (moves xs c.slot-slot.result at Home old c.give.new.self (inside g p.After-index-2) c.index_mut.ensures.value refl there (homed g p.After-give))
 
 pub returns-clause-counted : goal.returns-clause-counted
 returns-clause-counted g c = λ _.
-    let h = (goal.at.returns-clause-counted g c).After-index-2 in
+    let p = goal.at.returns-clause-counted g c in
     let xs = c.self.inside.slabs.items in
     let at = c.slot-slot.result / 256 in
     let old = c.index_mut.result.now in
-    let is : c.give.new.self.places.items ≡ set old.places.items (c.slot-slot.result % 256) Home = c.give.ensures.home ∙ ap (λ n. set old.places.items (n % 256) Home) (sym c.slot-slot.ensures) in
     let kept : c.if-is_first.self-inside.slabs.items ≡ set xs at c.give.new.self = elim c.if-is_first.branch [ then-is_first w ↦ ap (λ s. s.slabs.items) w.self-inside-is | else-is_first w ↦ ap (λ s. s.slabs.items) w.self-inside-is ] in
-    rw (← c.self.view_is, kept) (count_given xs at (c.slot-slot.result % 256) old c.give.new.self (inside g h) c.index_mut.ensures.value (out g h old c.index_mut.ensures.value) is)
+    let was = out g p.After-index-2 old c.index_mut.ensures.value in
+    rw (← c.self.view_is, kept)
+    (count_given xs at (c.slot-slot.result % 256) old c.give.new.self (inside g p.After-index-2) c.index_mut.ensures.value was (homed g p.After-give))
 
 -- the parts of a slot's number
 page_fits : (n slot : ℕ) → n ≡ slot → slot < 65536 → Fits w64 (n / 256)

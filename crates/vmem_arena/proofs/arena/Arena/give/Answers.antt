@@ -7,7 +7,8 @@ use Rattle.vmem_arena.specs.Segments.{free_len, IsTable, IsOut, without, freed}
 use Rattle.vmem_arena.specs.Classes.{IsListed}
 use Rattle.vmem_arena.proofs.Outs.{outs_of, outs_has}
 use Rattle.vmem_arena.proofs.Listing.{free-without_other}
-use Rattle.vmem_arena.proofs.Steps.{low_read, high_within, length-freed, freed_table, freed_back, low_goes, whole_comes}
+use Rattle.vmem_arena.proofs.Steps.{IsLow, low_read, high_within, length-freed, freed_table, freed_back, low_goes, whole_comes}
+use Rattle.vmem_arena.proofs.arena.Arena.give.Goals.{After-free_at-low, After-free_at-high}
 use Rattle.vmem_arena.proofs.arena.Arena.give.Goals as goal
 
 pub returns-then-not-is_out-clause-known : goal.returns-then-not-is_out-clause-known
@@ -22,6 +23,19 @@ returns-then-not-is_out-clause-known c =
           absurd (false≢true (sym c.if-not-is_out.true ∙ is)),
     )
 
+-- what is free below the span
+below : (c : After-free_at-low) → IsLow c.self.inside.table c.args.span.first c.free_at-low.result
+below c =
+    let out = c.is_out.ensures.0 c.if-not-is_out.false in
+    (low_read c.self.inside.table c.args.span.first c.args.span.len c.before-2.result c.free_at-low.result c.self.invariant.0 out
+    c.args.span.some c.before-2.ensures c.free_at-low.ensures).1
+
+-- and above it
+above : (c : After-free_at-high) → c.args.span.first + c.args.span.len + c.free_at-high.result ≤ length c.self.inside.table
+above c =
+    let out = c.is_out.ensures.0 c.if-not-is_out.false in
+    omega (arith, high_within c.self.inside.table c.args.span.first c.args.span.len c.self.invariant.0 out c.args.span.some, c.free_at-high.ensures)
+
 pub overflow_sub-at : goal.overflow_sub-at
 overflow_sub-at c =
     let out = c.is_out.ensures.0 c.if-not-is_out.false in
@@ -29,52 +43,43 @@ overflow_sub-at c =
 
 pub overflow_sub-first : goal.overflow_sub-first
 overflow_sub-first c =
-    let out = c.is_out.ensures.0 c.if-not-is_out.false in
-    (low_read c.self.inside.table c.args.span.first c.args.span.len c.before-2.result c.free_at-low.result c.self.invariant.0 out c.args.span.some c.before-2.ensures c.free_at-low.ensures).1.back
+    (below (goal.at.overflow_sub-first c).After-free_at-low).back
 
 pub overflow_sub-first-2 : goal.overflow_sub-first-2
 overflow_sub-first-2 c =
-    let out = c.is_out.ensures.0 c.if-not-is_out.false in
-    (low_read c.self.inside.table c.args.span.first c.args.span.len c.before-2.result c.free_at-low.result c.self.invariant.0 out c.args.span.some c.before-2.ensures c.free_at-low.ensures).1.back
+    (below (goal.at.overflow_sub-first-2 c).After-free_at-low).back
 
 pub merge-requires-clause-low : goal.merge-requires-clause-low
 merge-requires-clause-low c =
-    let out = c.is_out.ensures.0 c.if-not-is_out.false in
-    (low_read c.self.inside.table c.args.span.first c.args.span.len c.before-2.result c.free_at-low.result c.self.invariant.0 out c.args.span.some c.before-2.ensures c.free_at-low.ensures).1.back
+    (below (goal.at.merge-requires-clause-low c).After-free_at-low).back
 
 pub remove-requires : goal.remove-requires
 remove-requires c =
-    let out = c.is_out.ensures.0 c.if-not-is_out.false in
-    let low = (low_read c.self.inside.table c.args.span.first c.args.span.len c.before-2.result c.free_at-low.result c.self.invariant.0 out c.args.span.some c.before-2.ensures c.free_at-low.ensures).1.back in
+    let low = (below (goal.at.remove-requires c).After-free_at-low).back in
     omega (arith, c.args.span.within)
 
 pub merge-requires-clause-within : goal.merge-requires-clause-within
 merge-requires-clause-within c =
-    let out = c.is_out.ensures.0 c.if-not-is_out.false in
-    omega (arith, high_within c.self.inside.table c.args.span.first c.args.span.len c.self.invariant.0 out c.args.span.some, c.free_at-high.ensures)
+    omega (arith, above (goal.at.merge-requires-clause-within c).After-free_at-high)
 
 pub remove-requires-2 : goal.remove-requires-2
 remove-requires-2 c =
-    let out = c.is_out.ensures.0 c.if-not-is_out.false in
-    omega (arith, high_within c.self.inside.table c.args.span.first c.args.span.len c.self.invariant.0 out c.args.span.some, c.free_at-high.ensures, c.self.invariant.2)
+    omega (arith, above (goal.at.remove-requires-2 c).After-free_at-high, c.self.invariant.2)
 
 pub overflow_add-low : goal.overflow_add-low
 overflow_add-low c =
-    let out = c.is_out.ensures.0 c.if-not-is_out.false in
-    let low = (low_read c.self.inside.table c.args.span.first c.args.span.len c.before-2.result c.free_at-low.result c.self.invariant.0 out c.args.span.some c.before-2.ensures c.free_at-low.ensures).1.back in
+    let low = (below (goal.at.overflow_add-low c).After-free_at-low).back in
     omega (arith, c.args.span.within)
 
 pub overflow_add-low-2 : goal.overflow_add-low-2
 overflow_add-low-2 c =
-    let out = c.is_out.ensures.0 c.if-not-is_out.false in
-    let low = (low_read c.self.inside.table c.args.span.first c.args.span.len c.before-2.result c.free_at-low.result c.self.invariant.0 out c.args.span.some c.before-2.ensures c.free_at-low.ensures).1.back in
-    omega (arith, high_within c.self.inside.table c.args.span.first c.args.span.len c.self.invariant.0 out c.args.span.some, c.free_at-high.ensures, c.self.invariant.2)
+    let low = (below (goal.at.overflow_add-low-2 c).After-free_at-low).back in
+    omega (arith, above (goal.at.overflow_add-low-2 c).After-free_at-high, c.self.invariant.2)
 
 pub insert-requires : goal.insert-requires
 insert-requires c =
-    let out = c.is_out.ensures.0 c.if-not-is_out.false in
-    let low = (low_read c.self.inside.table c.args.span.first c.args.span.len c.before-2.result c.free_at-low.result c.self.invariant.0 out c.args.span.some c.before-2.ensures c.free_at-low.ensures).1.back in
-    omega (arith, high_within c.self.inside.table c.args.span.first c.args.span.len c.self.invariant.0 out c.args.span.some, c.free_at-high.ensures, c.self.invariant.2)
+    let low = (below (goal.at.insert-requires c).After-free_at-low).back in
+    omega (arith, above (goal.at.insert-requires c).After-free_at-high, c.self.invariant.2)
 
 pub invariant_of-self : goal.invariant_of-self
 invariant_of-self c =
@@ -111,5 +116,5 @@ returns-clause-known c =
 pub returns-clause-back : goal.returns-clause-back
 returns-clause-back c =
     let out = c.is_out.ensures.0 c.if-not-is_out.false in
-    let below = (low_read c.self.inside.table c.args.span.first c.args.span.len c.before-2.result c.free_at-low.result c.self.invariant.0 out c.args.span.some c.before-2.ensures c.free_at-low.ensures).1 in
+    let below = below (goal.at.returns-clause-back c).After-free_at-low in
     λ _. rw (← c.self.view_is, c.merge.ensures) (freed_back c.self.inside.table c.args.span.first c.free_at-low.result c.args.span.len c.free_at-high.result c.self.invariant.0 out c.args.span.some below (sym c.free_at-high.ensures))

@@ -1,4 +1,4 @@
-use Rattle.std.proofs.Common.{◌≡◌, ◌+◌, ◌-◌, ◌≤◌, ◌%◌, List, length, sym, ap, subst, ◌∙◌, arith}
+use Rattle.std.proofs.Common.{◌≡◌, ◌+◌, ◌-◌, ◌≤◌, ◌%◌, List, length, refl, sym, ap, subst, ◌∙◌, arith}
 use Rattle.vmem_arena.specs.declared.segment.Tag.{Tag}
 use Rattle.vmem_arena.specs.Spans.{Spans, AreFree}
 use Rattle.vmem_arena.specs.Segments.{free_len, IsTable, taken}
@@ -37,7 +37,7 @@ invariant_of-self c =
     let within = within_table ts first c.self.invariant.0 (omega (arith, c.requires)) in
     let goes = first_goes ts first n (omega (arith, c.requires)) in
     let comes = rest_comes ts first n rest c.self.invariant.0 c.requires whole in
-    let listed = c.insert.ensures (with_span ts first n) (taken ts first n rest) (c.strike.ensures ts (with_span ts first n) c.self.invariant.1 goes.0 goes.1) comes.0 comes.1 comes.2 in
+    let listed = c.insert.ensures (with_span ts first n) (taken ts first n rest) (c.strike.ensures _ ts (with_span ts first n) c.self.invariant.1 refl goes.0 goes.1) comes.0 comes.1 comes.2 in
     let P : List Tag → Type 0 = λ us. IsTable us × IsListed c.insert.new.self us × (length us ≤ 256) in
     subst P (sym c.cut.ensures) (taken_table ts first n rest c.self.invariant.0 c.requires whole, listed, omega (arith, length-taken ts first n rest, c.self.invariant.2))
 
