@@ -10,9 +10,9 @@ use std::alloc::{AllocError, Global};
 
 // Of each fault a line, in the order of `faults`.
 const WORDS: &str = "\
-slot 3 is refused with F2
+slot 3 is refused with JumpIntoWide
 out of memory
-slot 4095 is refused with V19
+slot 4095 is refused with PathsDiffer
 out of memory
 the paths that meet hold different references
 out of memory

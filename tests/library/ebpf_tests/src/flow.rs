@@ -9,7 +9,7 @@ use std::test::*;
 
 // What a row shows, the program, and why it is refused.
 const REFUSED: &str = "\
-an exit after an exit is not reached | 95000000000000009500000000000000 | slot 1 is refused with F5";
+an exit after an exit is not reached | 95000000000000009500000000000000 | slot 1 is refused with Unreachable";
 
 // Tries a row of the refused.
 fn has_its_fault(rt: &impl Abort, alloc: Global, row: &str) {

@@ -24,11 +24,11 @@ b7000000020000000500020000000000180000000100000000000000020000009500000000000000
 a jump to itself is a loop | 0500ffff00000000 | slot 0 leads back to slot 0
 a branch back to what leads to it is a loop | b7000000000000001500feff000000009500000000000000 | slot 1 leads back to slot 0
 a loop is told before a fault | 15000500000000000500feff00000000 | slot 1 leads back to slot 0
-past the last slot there is nothing | 0500050000000000 | slot 0 is refused with F1
-nor is there below slot 0 | 0500fdff00000000 | slot 0 is refused with F1
-a second half is no instruction | 050001000000000018000000010000000000000002000000 | slot 0 is refused with F2
-the last instruction doesn't fall | b700000001000000 | slot 0 is refused with F4
-the lowest slot is told | 150002000000000005000900000000009500000000000000b700000001000000 | slot 1 is refused with F1";
+past the last slot there is nothing | 0500050000000000 | slot 0 is refused with JumpOutside
+nor is there below slot 0 | 0500fdff00000000 | slot 0 is refused with JumpOutside
+a second half is no instruction | 050001000000000018000000010000000000000002000000 | slot 0 is refused with JumpIntoWide
+the last instruction doesn't fall | b700000001000000 | slot 0 is refused with FallsOffEnd
+the lowest slot is told | 150002000000000005000900000000009500000000000000b700000001000000 | slot 1 is refused with JumpOutside";
 
 // The bytes of a program that the check of the flow takes.
 fn told_of(rt: &impl Abort, alloc: Global, laid: Program) -> String {

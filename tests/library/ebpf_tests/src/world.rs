@@ -142,13 +142,13 @@ fn a_number_that_is_emitted_is_output(rt: HostRuntime) {
 
 // What is wrong, its code, and a sixth event behind those of `SEVEN`.
 const ILLEGAL: &str = "\
-of no run | E1 | exec 2
-of a run that has ended | E2 | exec 0
-with a slot of no ledger | E3 | exec 1 0
-with null unasked | E5 | exec 1 null
-a slot that is nowhere leaves | E8 | reap 1 0
-a slot joins no kind | E9 | grow 3 0
-the context is too long | E10 | start seven 09
+of no run | NoSuchRun | exec 2
+of a run that has ended | RunEnded | exec 0
+with a slot of no ledger | SlotNotHome | exec 1 0
+with null unasked | AnswerUnasked | exec 1 null
+a slot that is nowhere leaves | SlotNotReapable | reap 1 0
+a slot joins no kind | NoSuchProgramOrKind | grow 3 0
+the context is too long | WrongContext | start seven 09
 ";
 
 // The code and the number of the first event that isn't legal.
@@ -208,11 +208,11 @@ fn a_start_of_no_program_is_not_legal(rt: HostRuntime) {
             bytes: Vec::new(alloc),
         },
     };
-    is_refused(&rt, rt.alloc(), &programs, &events, start(rt.alloc()), "E9");
+    is_refused(&rt, rt.alloc(), &programs, &events, start(rt.alloc()), "NoSuchProgramOrKind");
     let is_pushed = events.push(start(rt.alloc())).is_ok();
     holds(&rt, "there is memory", is_pushed);
     let told = fault_of(rt.alloc(), &programs, &events).expect(&rt, "out of memory");
-    is_told(&rt, "no such program", told.as_str(), "E9 5");
+    is_told(&rt, "no such program", told.as_str(), "NoSuchProgramOrKind 5");
 }
 
 const TWO_FAULTS: &str = "\
@@ -226,7 +226,7 @@ exec 0 null
 fn the_first_fault_of_two_is_told(rt: HostRuntime) {
     let (programs, events) = read(&rt, rt.alloc(), TWO_FAULTS);
     let told = fault_of(rt.alloc(), &programs, &events).expect(&rt, "out of memory");
-    is_told(&rt, "two faults", told.as_str(), "E1 1");
+    is_told(&rt, "two faults", told.as_str(), "NoSuchRun 1");
 }
 
 // A number, three sums and an exit, twice: 7 + 3 * 1, and 100 + 3 * 2.
