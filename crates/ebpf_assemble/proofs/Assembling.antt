@@ -31,18 +31,21 @@ is_short text short = rw (not_above 1048576 (length text) short) refl
 pub assemble_cuts : CutsLong Assembles
 assemble_cuts input response long h =
     let cut : length (read_of input) ≡ 1048577 = length-take-le 1048577 input (omega (arith, long)) in
-    let of_beginning : AssemblesGiven (Some InputTooLong) (read_of input) response = subst (λ (f : Option FaultCode). AssemblesGiven f (read_of input) response) (is_long (read_of input) (omega (arith, cut))) h in
+    let of_beginning : AssemblesGiven (Some InputTooLong) (read_of input) response =
+    subst (λ (f : Option FaultCode). AssemblesGiven f (read_of input) response) (is_long (read_of input) (omega (arith, cut))) h in
     subst (λ (f : Option FaultCode). AssemblesGiven f input response) (sym (is_long input (omega (arith, long)))) of_beginning
 
 -- the response to a text of a program is its slots
-slots_of : (text : List ℕ) (p : List (Option Insn)) (response : Response) → IsAssembled text p → length text ≤ 1048576 → Assembles text response → AreSlotsOf p response
+slots_of : (text : List ℕ) (p : List (Option Insn)) (response : Response) → IsAssembled text p → length text ≤ 1048576
+    → Assembles text response → AreSlotsOf p response
 slots_of text p response is short h = by_answer (subst (λ (f : Option FaultCode). AssemblesGiven f text response) (is_short text short) h) where
   by_answer : AssemblesGiven None text response → AreSlotsOf p response
   by_answer (inl of) = subst (λ (q : List (Option Insn)). AreSlotsOf q response) (named_unique text of.program p of.assembled is) of.told
   by_answer (inr none) = absurd (none.none (named_only text (Err none.fault) tt none.is p is))
 
 -- so its slots are written
-pub writes_slots : (text : List ℕ) (p : List (Option Insn)) (input old new : Option (List ℕ)) (result : Result Done EngineFault) → IsAssembled text p → Writes Assembles input old new result → WritesSlotsOf text p input old new result
+pub writes_slots : (text : List ℕ) (p : List (Option Insn)) (input old new : Option (List ℕ)) (result : Result Done EngineFault)
+    → IsAssembled text p → Writes Assembles input old new result → WritesSlotsOf text p input old new result
 writes_slots text p input old new result is h short given =
     of_result result (subst (λ (i : Option (List ℕ)). Writes Assembles i old new result) given h)
   where
@@ -51,5 +54,6 @@ writes_slots text p input old new result is h short given =
     of_result (Err fault) k = tt
 
 -- and those of a program of which the input is the listing
-pub writes_listed : (p : List (Option Insn)) (input old new : Option (List ℕ)) (result : Result Done EngineFault) → IsWellFormed p → Writes Assembles input old new result → WritesSlotsOf (listing_of p) p input old new result
+pub writes_listed : (p : List (Option Insn)) (input old new : Option (List ℕ)) (result : Result Done EngineFault) → IsWellFormed p
+    → Writes Assembles input old new result → WritesSlotsOf (listing_of p) p input old new result
 writes_listed p input old new result formed h = writes_slots (listing_of p) p input old new result (named_listing p formed) h

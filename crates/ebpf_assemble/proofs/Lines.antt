@@ -38,7 +38,8 @@ unfolding slot_lines
 no_line = refl
 
 -- a chunk is eight bytes, or the last
-pub line_of_chunk : (all chunk rest : List ℕ) → all ≡ chunk ++ rest → length chunk ≡ min 8 (length all) → 0 < length all → slot_lines all ≡ hex_line chunk ++ slot_lines rest
+pub line_of_chunk : (all chunk rest : List ℕ) → all ≡ chunk ++ rest → length chunk ≡ min 8 (length all) → 0 < length all
+    → slot_lines all ≡ hex_line chunk ++ slot_lines rest
 line_of_chunk all chunk rest parts size some =
     let sum = ap length parts ∙ length-append chunk rest in
     elim (cases_lt (length all) 8) [
@@ -51,7 +52,8 @@ line_of_chunk all chunk rest parts size some =
     ]
 
 -- the line of a chunk is written
-pub line_more : (before text all chunk rest bytes : List ℕ) → all ≡ chunk ++ rest → length chunk ≡ min 8 (length all) → 0 < length all → text ≡ before ++ hex_line chunk
+pub line_more : (before text all chunk rest bytes : List ℕ) → all ≡ chunk ++ rest → length chunk ≡ min 8 (length all)
+    → 0 < length all → text ≡ before ++ hex_line chunk
     → before ++ slot_lines all ≡ slot_lines bytes → text ++ slot_lines rest ≡ slot_lines bytes
 line_more before text all chunk rest bytes parts size some written h =
     ap (λ (x : List ℕ). x ++ slot_lines rest) written
@@ -64,6 +66,7 @@ none_more text rest bytes none h =
     sym (append-nil text) ∙ (ap (λ (x : List ℕ). text ++ x) (sym (ap slot_lines (nil_from_length rest none) ∙ no_line)) ∙ h)
 
 -- a line is its digits and a newline
-pub line_of_digits : (before digits mid text chunk : List ℕ) → digits ≡ encode_lower chunk → mid ≡ before ++ digits → text ≡ mid ++ codes "\n" → text ≡ before ++ hex_line chunk
+pub line_of_digits : (before digits mid text chunk : List ℕ) → digits ≡ encode_lower chunk → mid ≡ before ++ digits
+    → text ≡ mid ++ codes "\n" → text ≡ before ++ hex_line chunk
 line_of_digits before digits mid text chunk is one two =
     two ∙ (ap (λ (x : List ℕ). x ++ codes "\n") (one ∙ ap (λ (x : List ℕ). before ++ x) is) ∙ append_assoc before (encode_lower chunk) (codes "\n"))

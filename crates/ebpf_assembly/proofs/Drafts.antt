@@ -23,12 +23,14 @@ pub nothing : IsDraft [] [] 0
 nothing = record { count = refl; defined = tt; placed = refl; read = refl }
 
 -- a line more
-with_blank : (slot : ℕ) (lines : List (List ℕ)) (line : List ℕ) (is : List Insn) → AreInsns slot lines is → words line ≡ [] → AreInsns slot (lines ++ line ∷ []) is
+with_blank : (slot : ℕ) (lines : List (List ℕ)) (line : List ℕ) (is : List Insn) → AreInsns slot lines is → words line ≡ []
+    → AreInsns slot (lines ++ line ∷ []) is
 with_blank slot [] line is a e = inl (e, a)
 with_blank slot (l ∷ lines) line is (inl a) e = inl (a.0, with_blank slot lines line is a.1 e)
 with_blank slot (l ∷ lines) line is (inr a) e = inr (a.0, a.1, a.2, a.3, with_blank (slot + slots_in a.0) lines line a.1 a.4 e)
 
-with_insn : (slot : ℕ) (lines : List (List ℕ)) (line : List ℕ) (is : List Insn) (i : Insn) → AreInsns slot lines is → IsInsnAt (slot + length (flat_map placed is)) (words line) i
+with_insn : (slot : ℕ) (lines : List (List ℕ)) (line : List ℕ) (is : List Insn) (i : Insn) → AreInsns slot lines is
+    → IsInsnAt (slot + length (flat_map placed is)) (words line) i
     → AreInsns slot (lines ++ line ∷ []) (is ++ i ∷ [])
 with_insn slot [] line is i a at =
     inr (i, [], ap (λ (js : List Insn). js ++ i ∷ []) a, subst (λ (k : ℕ). IsInsnAt k (words line) i) (omega (arith, ap (λ (js : List Insn). length (flat_map placed js)) a)) at, refl)
@@ -61,7 +63,8 @@ parted : (lines : List (List ℕ)) (n : ℕ) (line : List ℕ) → n < length li
 parted lines n line inside here =
     sym (take-append-drop n lines) ∙ ap (λ (ls : List (List ℕ)). take n lines ++ ls) (rw (add-one, drop-cons lines n line) (ap (λ (l : List ℕ). l ∷ drop (suc n) lines) (sym here)))
 
-pub draft_blank : (lines : List (List ℕ)) (n : ℕ) (line : List ℕ) (slots : List (Option Insn)) (len : ℕ) → n < length lines → line ≡ get_or lines n line → words line ≡ []
+pub draft_blank : (lines : List (List ℕ)) (n : ℕ) (line : List ℕ) (slots : List (Option Insn)) (len : ℕ) → n < length lines
+    → line ≡ get_or lines n line → words line ≡ []
     → IsDraft (take n lines) slots len → IsDraft (take (n + 1) lines) slots len
 draft_blank lines n line slots len inside here blank d = record {
   count = d.count;
@@ -70,7 +73,8 @@ draft_blank lines n line slots len inside here blank d = record {
   read = subst (λ (ls : List (List ℕ)). AreInsns 0 ls (instructions slots)) (sym (longer lines n line inside here)) (with_blank 0 (take n lines) line (instructions slots) d.read blank);
 }
 
-pub draft_more : (lines : List (List ℕ)) (n : ℕ) (line : List ℕ) (slots next : List (Option Insn)) (len : ℕ) (i : Insn) → n < length lines → line ≡ get_or lines n line
+pub draft_more : (lines : List (List ℕ)) (n : ℕ) (line : List ℕ) (slots next : List (Option Insn)) (len : ℕ) (i : Insn)
+    → n < length lines → line ≡ get_or lines n line
     → IsInsnAt (length slots) (words line) i → next ≡ slots ++ placed i → IsDraft (take n lines) slots len → IsDraft (take (n + 1) lines) next (len + 1)
 draft_more lines n line slots next len i inside here at is d = subst (λ (p : List (Option Insn)). IsDraft (take (n + 1) lines) p (len + 1)) (sym is) (record {
   count = omega (arith, d.count, ap length (more slots i), length-append (instructions slots) (i ∷ []));
@@ -85,7 +89,8 @@ pub few_len : (lines : List (List ℕ)) (slots : List (Option Insn)) (len : ℕ)
 few_len lines slots len few d = omega (arith, few, d.count, instructions-length slots)
 
 -- a line that is at fault
-pub fault_here : (text : List ℕ) (n : ℕ) (line : List ℕ) (slots : List (Option Insn)) (len : ℕ) (e : AssemblyFault) → n < length (text_lines text) → line ≡ get_or (text_lines text) n line
+pub fault_here : (text : List ℕ) (n : ℕ) (line : List ℕ) (slots : List (Option Insn)) (len : ℕ) (e : AssemblyFault)
+    → n < length (text_lines text) → line ≡ get_or (text_lines text) n line
     → IsDraft (take n (text_lines text)) slots len → IsLineStop (n + 1) (length slots) line e → IsPlainFault text e
 fault_here text n line slots len NoMemory inside here d stop = tt
 fault_here text n line slots len (Empty m) inside here d stop = absurd stop
@@ -110,11 +115,13 @@ none_left : (is : List Insn) → length is ≡ 0 → is ≡ []
 none_left [] e = refl
 none_left (i ∷ is) e = absurd (omega (arith, e))
 
-pub empty_here : (text : List ℕ) (n : ℕ) (slots : List (Option Insn)) (len : ℕ) → n ≡ length (text_lines text) → len ≡ 0 → IsDraft (take n (text_lines text)) slots len → IsPlainFault text (Empty n)
+pub empty_here : (text : List ℕ) (n : ℕ) (slots : List (Option Insn)) (len : ℕ) → n ≡ length (text_lines text) → len ≡ 0
+    → IsDraft (take n (text_lines text)) slots len → IsPlainFault text (Empty n)
 empty_here text n slots len all none d =
     (all, subst (AreInsns 0 (text_lines text)) (none_left (instructions slots) (omega (arith, d.count, none))) (all_read text n (instructions slots) (omega (arith, all)) d.read))
 
-pub finished : (text : List ℕ) (n : ℕ) (slots : List (Option Insn)) (len : ℕ) → n ≡ length (text_lines text) → length slots ≤ 4096 → len ≢ 0 → IsDraft (take n (text_lines text)) slots len → IsAssembledPlain text slots
+pub finished : (text : List ℕ) (n : ℕ) (slots : List (Option Insn)) (len : ℕ) → n ≡ length (text_lines text) → length slots ≤ 4096
+    → len ≢ 0 → IsDraft (take n (text_lines text)) slots len → IsAssembledPlain text slots
 finished text n slots len all few some d = record {
   formed = record { some = omega (arith, some, d.count, instructions-length slots); few = few; defined = d.defined; placed = d.placed };
   lines = all_read text n (instructions slots) (omega (arith, all)) d.read;

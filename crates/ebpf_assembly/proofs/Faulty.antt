@@ -52,7 +52,8 @@ low word k is h = unlike word k is (inl h)
 high : (word : List ℕ) (k : ℕ) → last_of word ≡ k → 58 < k → IsNoLabel word
 high word k is h = unlike word k is (inr h)
 
-swap_no_label : (o : Order) (xs : List ℕ) → (xs ≡ order_name o ++ codes "16") ⊎ ((xs ≡ order_name o ++ codes "32") ⊎ (xs ≡ order_name o ++ codes "64")) → IsNoLabel xs
+swap_no_label : (o : Order) (xs : List ℕ)
+    → (xs ≡ order_name o ++ codes "16") ⊎ ((xs ≡ order_name o ++ codes "32") ⊎ (xs ≡ order_name o ++ codes "64")) → IsNoLabel xs
 swap_no_label o xs (inl e) = low xs 54 (ap last_of e ∙ last_append (order_name o) 49 (54 ∷ [])) (omega arith)
 swap_no_label o xs (inr (inl e)) = low xs 50 (ap last_of e ∙ last_append (order_name o) 51 (50 ∷ [])) (omega arith)
 swap_no_label o xs (inr (inr e)) = low xs 52 (ap last_of e ∙ last_append (order_name o) 54 (52 ∷ [])) (omega arith)
@@ -96,7 +97,8 @@ record IsRest (slot : ℕ) (lines : List (List ℕ)) (is js : List Insn) : Type 
   parted : js ≡ is ++ rest
   read : AreInsns (slot + length (flat_map placed is)) lines rest
 
-from : (slot : ℕ) (before after : List (List ℕ)) (is js : List Insn) → IsShort slot js → AreInsns slot before is → AreInsns slot (before ++ after) js → IsRest slot after is js
+from : (slot : ℕ) (before after : List (List ℕ)) (is js : List Insn) → IsShort slot js → AreInsns slot before is
+    → AreInsns slot (before ++ after) js → IsRest slot after is js
 from slot [] after is js small a b = record {
   rest = js;
   parted = ap (λ (ks : List Insn). ks ++ js) (sym a);
@@ -124,10 +126,12 @@ from slot (l ∷ before) after is js small (inr a) (inr b) = more (from (slot + 
 
 flat_map-append : (is js : List Insn) → flat_map placed (is ++ js) ≡ flat_map placed is ++ flat_map placed js
 flat_map-append [] js = refl
-flat_map-append (i ∷ is) js = ap (λ (p : List (Option Insn)). placed i ++ p) (flat_map-append is js) ∙ sym (append_assoc (placed i) (flat_map placed is) (flat_map placed js))
+flat_map-append (i ∷ is) js =
+    ap (λ (p : List (Option Insn)). placed i ++ p) (flat_map-append is js) ∙ sym (append_assoc (placed i) (flat_map placed is) (flat_map placed js))
 
 -- such a line is of none of these
-at_fault : (slot : ℕ) (line : List ℕ) (after : List (List ℕ)) (rest : List Insn) (fault : LineFault) → slot < 2 ^ 64 → slot + length (flat_map placed rest) ≤ 4096 → IsLineFault slot (words line) fault
+at_fault : (slot : ℕ) (line : List ℕ) (after : List (List ℕ)) (rest : List Insn) (fault : LineFault) → slot < 2 ^ 64
+    → slot + length (flat_map placed rest) ≤ 4096 → IsLineFault slot (words line) fault
     → AreInsns slot (line ∷ after) rest → ⊥
 at_fault slot line after rest WrongSlot small few f (inl a) = not_empty (words line) _ _ a.0 f.2
 at_fault slot line after rest WrongSlot small few f (inr a) = which a.3.1 where
@@ -140,7 +144,8 @@ at_fault slot line after rest TooManySlots small few f (inl a) = blank slot line
 at_fault slot line after rest TooManySlots small few f (inr a) =
     omega (arith, few, f.2, ap slots_in (same slot line f.0 a.0 small f.1 a.3), ap (λ (ks : List Insn). length (flat_map placed ks)) a.2, length-append (placed a.0) (flat_map placed a.1))
 
-few_slots : (p : List (Option Insn)) (is rest : List Insn) → IsWellFormed p → instructions p ≡ is ++ rest → length (flat_map placed is) + length (flat_map placed rest) ≤ 4096
+few_slots : (p : List (Option Insn)) (is rest : List Insn) → IsWellFormed p → instructions p ≡ is ++ rest
+    → length (flat_map placed is) + length (flat_map placed rest) ≤ 4096
 few_slots p is rest formed e =
     omega (arith, formed.few, ap length formed.placed, ap (λ (ks : List Insn). length (flat_map placed ks)) e, ap length (flat_map-append is rest), length-append (flat_map placed is) (flat_map placed rest))
 

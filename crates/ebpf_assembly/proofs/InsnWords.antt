@@ -48,7 +48,8 @@ kind_unique k l a b e = sym (again k) ∙ (ap kind_of (shape_unique (sample k) (
 abbrev first_of : List (List ℕ) → List ℕ
 first_of ws = get_or ws 0 []
 
-pub insn_unread : (word : List ℕ) (ws rest : List (List ℕ)) → ws ≡ word ∷ rest → ((k : Kind) → IsKind k → word ≢ kind_name k) → (i : Insn) → IsDefined i → ws ≢ words_of i
+pub insn_unread : (word : List ℕ) (ws rest : List (List ℕ)) → ws ≡ word ∷ rest → ((k : Kind) → IsKind k → word ≢ kind_name k)
+    → (i : Insn) → IsDefined i → ws ≢ words_of i
 insn_unread word ws rest is none i d e = none (kind_of i) (is_kind i d) (ap first_of (sym is ∙ e) ∙ named i)
 
 pub insn_read : (word : List ℕ) (ws rest : List (List ℕ)) (k : Kind) (o : Option Insn) → ws ≡ word ∷ rest → IsKind k → word ≡ kind_name k

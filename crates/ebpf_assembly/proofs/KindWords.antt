@@ -39,12 +39,14 @@ move_16 w = ap (λ (xs : List ℕ). moves xs w) sixteen
 pub move_32 : (w : Width) → moves (decimal 32) w ≡ moves (codes "32") w
 move_32 w = ap (λ (xs : List ℕ). moves xs w) thirty_two
 
-pub no_swap : (word : List ℕ) → ((o : Order) → word ≢ order_name o ++ codes "16") → ((o : Order) → word ≢ order_name o ++ codes "32") → ((o : Order) → word ≢ order_name o ++ codes "64")
+pub no_swap : (word : List ℕ) → ((o : Order) → word ≢ order_name o ++ codes "16")
+    → ((o : Order) → word ≢ order_name o ++ codes "32") → ((o : Order) → word ≢ order_name o ++ codes "64")
     → (o : Order) (bits : ℕ) → is_swap_of bits ≡ true → word ≢ order_name o ++ decimal bits
 no_swap word a b c o bits d =
     swap_cases (λ (n : ℕ). word ≢ order_name o ++ decimal n) (λ e. a o (e ∙ swap_16 o)) (λ e. b o (e ∙ swap_32 o)) (λ e. c o (e ∙ swap_64 o)) bits d
 
-pub no_move : (word : List ℕ) → word ≢ codes "movs8_32" → word ≢ codes "movs16_32" → word ≢ codes "movs8_64" → word ≢ codes "movs16_64" → word ≢ codes "movs32_64"
+pub no_move : (word : List ℕ) → word ≢ codes "movs8_32" → word ≢ codes "movs16_32" → word ≢ codes "movs8_64"
+    → word ≢ codes "movs16_64" → word ≢ codes "movs32_64"
     → (w : Width) (bits : ℕ) → is_move_of w bits ≡ true → word ≢ moves (decimal bits) w
 no_move word a b c d e w bits h =
     move_cases (λ (v : Width) (n : ℕ). word ≢ moves (decimal n) v) (λ f. a (f ∙ move_8 W32)) (λ f. b (f ∙ move_16 W32)) (λ f. c (f ∙ move_8 W64)) (λ f. d (f ∙ move_16 W64)) (λ f. e (f ∙ move_32 W64)) w bits h

@@ -26,7 +26,8 @@ some_is x y e = cc
 none_some : {A : Type 0} (x : A) → None ≡ Some x → ⊥
 none_some x e = cc
 
-more : (c : ℕ) (word label : List ℕ) → ((l : List ℕ) → before_colon word ≡ Some l → word ≡ l ++ codes ":") → option_map (λ l. c ∷ l) (before_colon word) ≡ Some label → c ∷ word ≡ label ++ codes ":"
+more : (c : ℕ) (word label : List ℕ) → ((l : List ℕ) → before_colon word ≡ Some l → word ≡ l ++ codes ":")
+    → option_map (λ l. c ∷ l) (before_colon word) ≡ Some label → c ∷ word ≡ label ++ codes ":"
 more c word label sound_of e = which (before_colon word) refl e where
   which : (o : Option (List ℕ)) → before_colon word ≡ o → option_map (λ l. c ∷ l) o ≡ Some label → c ∷ word ≡ label ++ codes ":"
   which None is f = absurd (none_some label f)
@@ -47,7 +48,8 @@ no_colon word none = which (before_colon word) refl where
   which None is = is
   which (Some label) is = absurd (none label (sound word label is))
 
-pub same_label : (o : Option (Bor (List ℕ))) (word : List ℕ) → MatchOption o ((label : List ℕ) → word ≢ label ++ codes ":") (λ label. word ≡ label.now ++ codes ":")
+pub same_label : (o : Option (Bor (List ℕ))) (word : List ℕ)
+    → MatchOption o ((label : List ℕ) → word ≢ label ++ codes ":") (λ label. word ≡ label.now ++ codes ":")
     → option_map (λ label. label.now) o ≡ before_colon word
 same_label None word none = sym (no_colon word none)
 same_label (Some label) word is = sym (ap before_colon is ∙ back label.now)
@@ -60,14 +62,18 @@ label_here slot n lines line inside here =
     at_drop_more (labels_from slot) lines n line inside
     ∙ ap (λ (l : List ℕ). label_of slot (words l) ++ labels_from (slot_after slot (words l)) (drop (n + 1) lines)) (sym here)
 
-pub label_more : (before after all : List Named) (slot next n : ℕ) (lines : List (List ℕ)) (line : List ℕ) (ws vs : List (List ℕ)) → n < length lines → line ≡ get_or lines n line → ws ≡ words line → vs ≡ words line
-    → after ≡ before ++ label_of slot ws → next ≡ slot_after slot vs → before ++ labels_from slot (drop n lines) ≡ all → after ++ labels_from next (drop (n + 1) lines) ≡ all
+pub label_more : (before after all : List Named) (slot next n : ℕ) (lines : List (List ℕ)) (line : List ℕ) (ws vs : List (List ℕ))
+    → n < length lines → line ≡ get_or lines n line → ws ≡ words line → vs ≡ words line
+    → after ≡ before ++ label_of slot ws → next ≡ slot_after slot vs → before ++ labels_from slot (drop n lines) ≡ all
+    → after ++ labels_from next (drop (n + 1) lines) ≡ all
 label_more before after all slot next n lines line ws vs inside here same again added stepped h =
     rw (added, stepped, same, again) (append_assoc before (label_of slot (words line)) _ ∙ (ap (λ (ls : List Named). before ++ ls) (sym (label_here slot n lines line inside here)) ∙ h))
 
-pub all_labels : (labels all : List Named) (slot n : ℕ) (lines : List (List ℕ)) → length lines ≤ n → labels ++ labels_from slot (drop n lines) ≡ all → labels ≡ all
+pub all_labels : (labels all : List Named) (slot n : ℕ) (lines : List (List ℕ)) → length lines ≤ n
+    → labels ++ labels_from slot (drop n lines) ≡ all → labels ≡ all
 unfolding labels_from
-all_labels labels all slot n lines past h = sym (append-nil labels) ∙ (ap (λ (ls : List Named). labels ++ ls) (sym (at_drop_all (labels_from slot) lines n past)) ∙ h)
+all_labels labels all slot n lines past h =
+    sym (append-nil labels) ∙ (ap (λ (ls : List Named). labels ++ ls) (sym (at_drop_all (labels_from slot) lines n past)) ∙ h)
 
 -- the plain line of a line more
 line_here : (labels : List Named) (slot n : ℕ) (lines : List (List ℕ)) (line : List ℕ) → n < length lines → line ≡ get_or lines n line
@@ -77,18 +83,23 @@ line_here labels slot n lines line inside here =
     at_drop_more (plain_lines labels slot) lines n line inside
     ∙ ap (λ (l : List ℕ). codes "\n" ++ (words_text (plain_words labels slot (words l)) ++ plain_lines labels (slot_after slot (words l)) (drop (n + 1) lines))) (sym here)
 
-pub line_more : (labels : List Named) (before after all : List ℕ) (slot next n : ℕ) (lines : List (List ℕ)) (line : List ℕ) (ws vs : List (List ℕ)) → n < length lines → line ≡ get_or lines n line → ws ≡ words line → vs ≡ words line
-    → after ≡ before ++ (codes "\n" ++ words_text (plain_words labels slot ws)) → next ≡ slot_after slot vs → before ++ plain_lines labels slot (drop n lines) ≡ all
+pub line_more : (labels : List Named) (before after all : List ℕ) (slot next n : ℕ) (lines : List (List ℕ)) (line : List ℕ) (ws vs : List (List ℕ))
+    → n < length lines → line ≡ get_or lines n line → ws ≡ words line → vs ≡ words line
+    → after ≡ before ++ (codes "\n" ++ words_text (plain_words labels slot ws)) → next ≡ slot_after slot vs
+    → before ++ plain_lines labels slot (drop n lines) ≡ all
     → after ++ plain_lines labels next (drop (n + 1) lines) ≡ all
 line_more labels before after all slot next n lines line ws vs inside here same again added stepped h =
     rw (added, stepped, same, again) (append_assoc before (codes "\n" ++ words_text (plain_words labels slot (words line))) _ ∙ (ap (λ (x : List ℕ). before ++ x) (sym (line_here labels slot n lines line inside here)) ∙ h))
 
-pub all_plain : (labels : List Named) (text all : List ℕ) (slot n : ℕ) (lines : List (List ℕ)) → length lines ≤ n → text ++ plain_lines labels slot (drop n lines) ≡ all → text ≡ all
+pub all_plain : (labels : List Named) (text all : List ℕ) (slot n : ℕ) (lines : List (List ℕ)) → length lines ≤ n
+    → text ++ plain_lines labels slot (drop n lines) ≡ all → text ≡ all
 unfolding plain_lines
-all_plain labels text all slot n lines past h = sym (append-nil text) ∙ (ap (λ (x : List ℕ). text ++ x) (sym (at_drop_all (plain_lines labels slot) lines n past)) ∙ h)
+all_plain labels text all slot n lines past h =
+    sym (append-nil text) ∙ (ap (λ (x : List ℕ). text ++ x) (sym (at_drop_all (plain_lines labels slot) lines n past)) ∙ h)
 
 -- the target of a jump is its last word
-pub last_target : (labels : List Named) (slot : ℕ) (others : List (List ℕ)) (last : List ℕ) → with_target labels slot (others ++ last ∷ []) ≡ others ++ target_text labels slot last ∷ []
+pub last_target : (labels : List Named) (slot : ℕ) (others : List (List ℕ)) (last : List ℕ)
+    → with_target labels slot (others ++ last ∷ []) ≡ others ++ target_text labels slot last ∷ []
 unfolding with_target
 last_target labels slot [] last = refl
 last_target labels slot (w ∷ []) last = refl
@@ -100,17 +111,20 @@ name_here : (name : List ℕ) (labels : List Label) (n : ℕ) (d : Label) → n 
 unfolding slot_of
 name_here name labels n d inside = at_drop_more (λ (ls : List Label). slot_of name (names_of ls)) labels n d inside
 
-pub name_found : (name : List ℕ) (labels : List Label) (n : ℕ) (d : Label) (r : Bool) (all : Option ℕ) → n < length labels → r ≡ true → r ≡ bytes_eq (get_or labels n d).name.now name
+pub name_found : (name : List ℕ) (labels : List Label) (n : ℕ) (d : Label) (r : Bool) (all : Option ℕ) → n < length labels
+    → r ≡ true → r ≡ bytes_eq (get_or labels n d).name.now name
     → slot_of name (names_of (drop n labels)) ≡ all → Some (get_or labels n d).slot ≡ all
 name_found name labels n d r all inside found test h =
     sym (name_here name labels n d inside ∙ ap (λ (b : Bool). if b then Some (get_or labels n d).slot else slot_of name (names_of (drop (n + 1) labels))) (sym test ∙ found)) ∙ h
 
-pub name_passed : (name : List ℕ) (labels : List Label) (n : ℕ) (d : Label) (r : Bool) (all : Option ℕ) → n < length labels → r ≡ false → r ≡ bytes_eq (get_or labels n d).name.now name
+pub name_passed : (name : List ℕ) (labels : List Label) (n : ℕ) (d : Label) (r : Bool) (all : Option ℕ) → n < length labels
+    → r ≡ false → r ≡ bytes_eq (get_or labels n d).name.now name
     → slot_of name (names_of (drop n labels)) ≡ all → slot_of name (names_of (drop (n + 1) labels)) ≡ all
 name_passed name labels n d r all inside other test h =
     sym (name_here name labels n d inside ∙ ap (λ (b : Bool). if b then Some (get_or labels n d).slot else slot_of name (names_of (drop (n + 1) labels))) (sym test ∙ other)) ∙ h
 
-pub no_name_left : (name : List ℕ) (labels : List Label) (n : ℕ) (all : Option ℕ) → length labels ≤ n → slot_of name (names_of (drop n labels)) ≡ all → None ≡ all
+pub no_name_left : (name : List ℕ) (labels : List Label) (n : ℕ) (all : Option ℕ) → length labels ≤ n
+    → slot_of name (names_of (drop n labels)) ≡ all → None ≡ all
 unfolding slot_of
 no_name_left name labels n all past h = sym (at_drop_all (λ (ls : List Label). slot_of name (names_of ls)) labels n past) ∙ h
 
@@ -123,8 +137,10 @@ seen_last : (others : List (Bor (List ℕ))) (last : Bor (List ℕ)) → map (λ
 seen_last [] last = refl
 seen_last (w ∷ others) last = ap (λ (ws : List (List ℕ)). w.now ∷ ws) (seen_last others last)
 
-pub jump_text : (labels : List Named) (slot : ℕ) (ws others : List (Bor (List ℕ))) (last : Bor (List ℕ)) (before mid after : List ℕ) → is_jump (map (λ w. w.now) ws) ≡ true → ws ≡ others ++ last ∷ []
-    → mid ≡ before ++ words_text (map (λ w. w.now) others) → after ≡ mid ++ (target_text labels slot last.now ++ codes " ") → after ≡ before ++ words_text (targeted labels slot (map (λ w. w.now) ws))
+pub jump_text : (labels : List Named) (slot : ℕ) (ws others : List (Bor (List ℕ))) (last : Bor (List ℕ)) (before mid after : List ℕ)
+    → is_jump (map (λ w. w.now) ws) ≡ true → ws ≡ others ++ last ∷ []
+    → mid ≡ before ++ words_text (map (λ w. w.now) others) → after ≡ mid ++ (target_text labels slot last.now ++ codes " ")
+    → after ≡ before ++ words_text (targeted labels slot (map (λ w. w.now) ws))
 jump_text labels slot ws others last before mid after jump parts one two =
     two
     ∙ (ap (λ (t : List ℕ). t ++ (target_text labels slot last.now ++ codes " ")) one

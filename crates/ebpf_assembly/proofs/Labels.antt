@@ -10,14 +10,17 @@ use Rattle.ebpf_assembly.specs.declared.fault.LineFault.TheVariants.{NoInstructi
 use Rattle.ebpf_assembly.proofs.Unique.{no_slot}
 use Rattle.ebpf_assembly.proofs.WordsUnique.{init, init_back}
 
-labelled : (slot : ℕ) (ws : List (List ℕ)) (first : List ℕ) (rest : List (List ℕ)) (label : List ℕ) → ws ≡ first ∷ rest → first ≡ label ++ codes ":" → label ≢ decimal slot → IsLabelledWrong slot ws
+labelled : (slot : ℕ) (ws : List (List ℕ)) (first : List ℕ) (rest : List (List ℕ)) (label : List ℕ) → ws ≡ first ∷ rest
+    → first ≡ label ++ codes ":" → label ≢ decimal slot → IsLabelledWrong slot ws
 labelled slot ws first rest label is ends other = (label, rest, is ∙ ap (λ (w : List ℕ). w ∷ rest) ends, other)
 
-pub no_number : (slot : ℕ) (ws : List (List ℕ)) (first : List ℕ) (rest : List (List ℕ)) (label : List ℕ) → slot < 2 ^ 64 → ws ≡ first ∷ rest → first ≡ label ++ codes ":"
+pub no_number : (slot : ℕ) (ws : List (List ℕ)) (first : List ℕ) (rest : List (List ℕ)) (label : List ℕ) → slot < 2 ^ 64
+    → ws ≡ first ∷ rest → first ≡ label ++ codes ":"
     → ((n : ℕ) → n < 2 ^ 64 → label ≢ decimal n) → IsLabelledWrong slot ws
 no_number slot ws first rest label small is ends none = labelled slot ws first rest label is ends (none slot small)
 
-pub other_number : (slot n : ℕ) (ws : List (List ℕ)) (first : List ℕ) (rest : List (List ℕ)) (label : List ℕ) → slot < 2 ^ 64 → n < 2 ^ 64 → ws ≡ first ∷ rest → first ≡ label ++ codes ":"
+pub other_number : (slot n : ℕ) (ws : List (List ℕ)) (first : List ℕ) (rest : List (List ℕ)) (label : List ℕ) → slot < 2 ^ 64
+    → n < 2 ^ 64 → ws ≡ first ∷ rest → first ≡ label ++ codes ":"
     → label ≡ decimal n → n ≢ slot → IsLabelledWrong slot ws
 other_number slot n ws first rest label small few is ends same other =
     labelled slot ws first rest label is ends (λ e. other (decimal_injective n slot few small (sym same ∙ e)))
@@ -25,7 +28,8 @@ other_number slot n ws first rest label small few is ends same other =
 abbrev first : List (List ℕ) → List ℕ
 first ws = get_or ws 0 []
 
-pub no_insn : (slot : ℕ) (ws rest : List (List ℕ)) → slot < 2 ^ 64 → ws ≢ [] → IsUnlabelled slot ws rest → ((i : Insn) → IsDefined i → rest ≢ words_of i) → IsLineFault slot ws NoInstruction
+pub no_insn : (slot : ℕ) (ws rest : List (List ℕ)) → slot < 2 ^ 64 → ws ≢ [] → IsUnlabelled slot ws rest
+    → ((i : Insn) → IsDefined i → rest ≢ words_of i) → IsLineFault slot ws NoInstruction
 no_insn slot ws rest small some unlabelled none = (some, right unlabelled, missing unlabelled) where
   right : IsUnlabelled slot ws rest → IsLabelledRight slot ws
   right (inl f) label others e = sym (init_back label 58) ∙ (ap init (ap first (sym e ∙ f)) ∙ init_back (decimal slot) 58)

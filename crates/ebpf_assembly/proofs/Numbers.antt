@@ -41,7 +41,8 @@ no_plus first rest word n is plus small e = no_sign first rest n (omega (arith, 
 
 pub no_zero : (first : ℕ) (rest word : List ℕ) (n : ℕ) → word ≡ first ∷ rest → first ≡ 48 → length rest ≢ 0 → n < 2 ^ 64 → word ≢ decimal n
 no_zero first rest word zero is zeroed some small e = some (omega (arith, ap length (sym is ∙ (e ∙ decimal_digit 0 (omega arith)))))
-no_zero first rest word (suc n) is zeroed some small e = omega (arith, zeroed, first_decimal (suc n) (omega arith) small, ap (λ (xs : List ℕ). get_or xs 0 0) (sym is ∙ e))
+no_zero first rest word (suc n) is zeroed some small e =
+    omega (arith, zeroed, first_decimal (suc n) (omega arith) small, ap (λ (xs : List ℕ). get_or xs 0 0) (sym is ∙ e))
 
 pub only_zero : (first : ℕ) (rest word : List ℕ) → word ≡ first ∷ rest → first ≡ 48 → length rest ≡ 0 → word ≡ decimal 0
 only_zero first [] word is zeroed none = is ∙ (ap (λ (c : ℕ). c ∷ []) zeroed ∙ sym (decimal_digit 0 (omega arith)))
@@ -53,7 +54,8 @@ no_bytes word n not small e = not (subst IsUtf8 (sym e) (IsUtf8-from_ascii (deci
 abbrev IsNumber : List ℕ → Option ℕ → Type 0
 IsNumber word o = MatchOption o ((n : ℕ) → n < 2 ^ 64 → word ≢ decimal n) (λ n. (n < 2 ^ 64) × (word ≡ decimal n))
 
-pub parsed : {E : Type 0} (first : ℕ) (rest word : List ℕ) (r : Result ℕ E) → word ≡ first ∷ rest → first ≢ 43 → first ≢ 48 → ParsesUnsigned 64 10 word r → IsNumber word (result_ok r)
+pub parsed : {E : Type 0} (first : ℕ) (rest word : List ℕ) (r : Result ℕ E) → word ≡ first ∷ rest → first ≢ 43 → first ≢ 48
+    → ParsesUnsigned 64 10 word r → IsNumber word (result_ok r)
 parsed first rest word r is plus zeros h = which r (parse_plain own 64 word r h (λ e. plus (sym head ∙ e))) where
   head : get_or word 0 0 ≡ first
   head = ap (λ (xs : List ℕ). get_or xs 0 0) is
@@ -61,7 +63,9 @@ parsed first rest word r is plus zeros h = which r (parse_plain own 64 word r h 
   single : get_or word 0 0 ≡ 48 → length word ≡ 1
   single e = absurd (zeros (sym head ∙ e))
 
-  which : {E : Type 0} (r : Result ℕ E) → OkIff r (AllDigits 10 word × (0 < length word) × (digits_value 10 word < 2 ^ 64)) (digits_value 10 word) → IsNumber word (result_ok r)
+  which : {E : Type 0} (r : Result ℕ E)
+      → OkIff r (AllDigits 10 word × (0 < length word) × (digits_value 10 word < 2 ^ 64)) (digits_value 10 word)
+      → IsNumber word (result_ok r)
   which (Ok x) k = (subst (λ (m : ℕ). m < 2 ^ 64) (sym k.1) k.0.2, sym (ap decimal k.1 ∙ decimal-digits_value own word k.0.0 k.0.1 single k.0.2))
   which (Err e) k = λ n small same. k (
     subst (AllDigits 10) (sym same) (digits_decimal own n small),
@@ -108,33 +112,40 @@ pub minus_unread : (first : ℕ) (rest word : List ℕ) → word ≡ first ∷ r
 minus_unread first rest word given sign none (pos n) fits e = no_sign 45 rest n (omega arith) (omega (arith, few_pos n fits)) (sym (begins given sign) ∙ e)
 minus_unread first rest word given sign none (negsuc n) fits e = none (suc n) (omega (arith, few_negsuc n fits)) (tail (sym (begins given sign) ∙ e))
 
-pub minus_read : (first : ℕ) (rest word : List ℕ) (size : ℕ) (o : Option ℤ) → word ≡ first ∷ rest → first ≡ 45 → size < 2 ^ 64 → rest ≡ decimal size → IsNegative size o → IsImmediate word o
+pub minus_read : (first : ℕ) (rest word : List ℕ) (size : ℕ) (o : Option ℤ) → word ≡ first ∷ rest → first ≡ 45 → size < 2 ^ 64
+    → rest ≡ decimal size → IsNegative size o → IsImmediate word o
 minus_read first rest word size None given sign small same h = none where
   none : (z : ℤ) → FitsSigned w32 z → word ≢ signed_decimal z
   none (pos n) fits e = no_sign 45 rest n (omega arith) (omega (arith, few_pos n fits)) (sym (begins given sign) ∙ e)
-  none (negsuc n) fits e = h n (few_negsuc n fits) (decimal_injective size (suc n) small (omega (arith, few_negsuc n fits)) (sym same ∙ tail (sym (begins given sign) ∙ e)))
+  none (negsuc n) fits e =
+      h n (few_negsuc n fits) (decimal_injective size (suc n) small (omega (arith, few_negsuc n fits)) (sym same ∙ tail (sym (begins given sign) ∙ e)))
 minus_read first rest word size (Some z) given sign small same h =
     (h.0, begins given sign ∙ (ap (λ (xs : List ℕ). 45 ∷ xs) (same ∙ ap decimal h.1.1) ∙ ap signed_decimal (sym h.1.2)))
 
-pub plain_read : (first : ℕ) (rest word : List ℕ) (size : ℕ) (o : Option ℤ) → word ≡ first ∷ rest → first ≢ 45 → size < 2 ^ 64 → word ≡ decimal size → IsPositive size o → IsImmediate word o
+pub plain_read : (first : ℕ) (rest word : List ℕ) (size : ℕ) (o : Option ℤ) → word ≡ first ∷ rest → first ≢ 45 → size < 2 ^ 64
+    → word ≡ decimal size → IsPositive size o → IsImmediate word o
 plain_read first rest word size None is sign small same h = none where
   none : (z : ℤ) → FitsSigned w32 z → word ≢ signed_decimal z
   none (pos n) fits e = omega (arith, h, few_pos n fits, decimal_injective size n small (omega (arith, few_pos n fits)) (sym same ∙ e))
   none (negsuc n) fits e = sign (head (sym is ∙ e))
 plain_read first rest word size (Some z) is sign small same h = (h.0, same ∙ ap signed_decimal (sym h.1))
 
-pub offset_minus_read : (first : ℕ) (rest word : List ℕ) (size : ℕ) (o : Option ℤ) → word ≡ first ∷ rest → first ≡ 45 → size < 2 ^ 64 → rest ≡ decimal size → IsNegative size o → IsFarOffset word o
+pub offset_minus_read : (first : ℕ) (rest word : List ℕ) (size : ℕ) (o : Option ℤ) → word ≡ first ∷ rest → first ≡ 45
+    → size < 2 ^ 64 → rest ≡ decimal size → IsNegative size o → IsFarOffset word o
 offset_minus_read first rest word size None given sign small same h = none where
   none : (z : ℤ) → FitsSigned w32 z → word ≢ offset_text z
   none (pos n) fits e = omega (arith, head (sym (begins given sign) ∙ e))
-  none (negsuc n) fits e = h n (few_negsuc n fits) (decimal_injective size (suc n) small (omega (arith, few_negsuc n fits)) (sym same ∙ tail (sym (begins given sign) ∙ e)))
+  none (negsuc n) fits e =
+      h n (few_negsuc n fits) (decimal_injective size (suc n) small (omega (arith, few_negsuc n fits)) (sym same ∙ tail (sym (begins given sign) ∙ e)))
 offset_minus_read first rest word size (Some z) given sign small same h =
     (h.0, begins given sign ∙ (ap (λ (xs : List ℕ). 45 ∷ xs) (same ∙ ap decimal h.1.1) ∙ ap offset_text (sym h.1.2)))
 
-pub offset_plus_read : (first : ℕ) (rest word : List ℕ) (size : ℕ) (o : Option ℤ) → word ≡ first ∷ rest → first ≡ 43 → size < 2 ^ 64 → rest ≡ decimal size → IsPositive size o → IsFarOffset word o
+pub offset_plus_read : (first : ℕ) (rest word : List ℕ) (size : ℕ) (o : Option ℤ) → word ≡ first ∷ rest → first ≡ 43 → size < 2 ^ 64
+    → rest ≡ decimal size → IsPositive size o → IsFarOffset word o
 offset_plus_read first rest word size None given sign small same h = none where
   none : (z : ℤ) → FitsSigned w32 z → word ≢ offset_text z
-  none (pos n) fits e = omega (arith, h, few_pos n fits, decimal_injective size n small (omega (arith, few_pos n fits)) (sym same ∙ tail (sym (begins given sign) ∙ e)))
+  none (pos n) fits e =
+      omega (arith, h, few_pos n fits, decimal_injective size n small (omega (arith, few_pos n fits)) (sym same ∙ tail (sym (begins given sign) ∙ e)))
   none (negsuc n) fits e = omega (arith, head (sym (begins given sign) ∙ e))
 offset_plus_read first rest word size (Some z) given sign small same h =
     (h.0, begins given sign ∙ (ap (λ (xs : List ℕ). 43 ∷ xs) same ∙ ap offset_text (sym h.1)))
@@ -146,7 +157,9 @@ offset_injective (pos m) (negsuc n) a b e = absurd (omega (arith, head e))
 offset_injective (negsuc m) (pos n) a b e = absurd (omega (arith, head e))
 
 -- an offset of 16 bits
-pub narrowed : {E : Type 0} (word : List ℕ) (far far' : ℤ) (r : Result ℤ E) → FitsSigned w32 far → far' ≡ far → word ≡ offset_text far → OkIff r (FitsSigned w16 far') far'
+pub narrowed : {E : Type 0} (word : List ℕ) (far far' : ℤ) (r : Result ℤ E) → FitsSigned w32 far → far' ≡ far
+    → word ≡ offset_text far → OkIff r (FitsSigned w16 far') far'
     → MatchOption (result_ok r) ((z : ℤ) → FitsSigned w16 z → word ≢ offset_text z) (λ z. FitsSigned w16 z × (word ≡ offset_text z))
 narrowed word far far' (Ok x) wide same is h = (subst (FitsSigned w16) (sym h.1) h.0, is ∙ ap offset_text (sym (h.1 ∙ same)))
-narrowed word far far' (Err e) wide same is h = λ z fits e'. h (subst (FitsSigned w16) (offset_injective z far (small16 z fits) (small32 far wide) (sym e' ∙ is) ∙ sym same) fits)
+narrowed word far far' (Err e) wide same is h =
+    λ z fits e'. h (subst (FitsSigned w16) (offset_injective z far (small16 z fits) (small32 far wide) (sym e' ∙ is) ∙ sym same) fits)

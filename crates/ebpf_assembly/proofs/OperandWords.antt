@@ -65,7 +65,8 @@ inside word inner r z is e =
 pub place_found : (word inner : List ℕ) (r : Reg) (z : ℤ) → word ≡ 91 ∷ (inner ++ 93 ∷ []) → inner ≡ register_text r ++ offset_text z → word ≡ place_text r z
 place_found word inner r z is e = is ∙ (ap (λ (xs : List ℕ). 91 ∷ (xs ++ 93 ∷ [])) e ∙ sym (bracketed r z))
 
-pub place_read : (word inner : List ℕ) (o : Option (Reg × ℤ)) → word ≡ 91 ∷ (inner ++ 93 ∷ []) → IsPlaceReadAt inner 2 None → IsPlaceReadAt inner 3 o → IsPlaceRead word o
+pub place_read : (word inner : List ℕ) (o : Option (Reg × ℤ)) → word ≡ 91 ∷ (inner ++ 93 ∷ []) → IsPlaceReadAt inner 2 None
+    → IsPlaceReadAt inner 3 o → IsPlaceRead word o
 place_read word inner (Some p) is two three = (three.0, place_found word inner p.0 p.1 is three.1)
 place_read word inner None is two three = λ r z fits e. which r z fits (inside word inner r z is e) (name_len r) where
   which : (r : Reg) (z : ℤ) → FitsSigned w16 z → inner ≡ register_text r ++ offset_text z → (length (register_text r) ≡ 2) ⊎ (length (register_text r) ≡ 3) → ⊥

@@ -104,7 +104,8 @@ of_source (Register r) is = of_register r
 of_source (Imm z) is = of_signed z (small32 z is)
 
 pub of_place : (r : Reg) (z : ℤ) → FitsSigned w16 z → IsPlain (place_text r z)
-of_place r z fits = joined (register_text r) (offset_text z ++ codes "]") (of_register r) (joined (offset_text z) (codes "]") (of_offset z (small16 z fits)) refl)
+of_place r z fits =
+    joined (register_text r) (offset_text z ++ codes "]") (of_register r) (joined (offset_text z) (codes "]") (of_offset z (small16 z fits)) refl)
 
 of_width : (w : Width) → IsPlain (width_name w)
 of_width W32 = refl

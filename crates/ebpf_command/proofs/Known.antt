@@ -25,7 +25,8 @@ Appends-more (Some old) (Some mid) (Some new) xs ys h k = k ∙ (ap (λ (zs : Li
 pub read_front : (a b : Option (List ℕ)) (xs : List ℕ) → Consumes a b xs → length xs ≡ 1048577 → IfSome a (λ input. xs ≡ read_of input)
 read_front None b xs h full = tt
 read_front (Some old) None xs h full = absurd h
-read_front (Some old) (Some new) xs h full = sym (ap (λ (zs : List ℕ). take 1048577 zs) h ∙ (ap (λ (n : ℕ). take n (xs ++ new)) (sym full) ∙ take-append_seam xs new))
+read_front (Some old) (Some new) xs h full =
+    sym (ap (λ (zs : List ℕ). take 1048577 zs) h ∙ (ap (λ (n : ℕ). take n (xs ++ new)) (sym full) ∙ take-append_seam xs new))
 
 -- a list that is no longer than a number is its own front
 pub front_of_short : (n : ℕ) (xs : List ℕ) → length xs ≤ n → take n xs ≡ xs
@@ -49,18 +50,23 @@ fits_more : (place n : ℕ) (text : List ℕ) → place ≤ length text → n �
 fits_more place n text fits more = grind (arith, common_steps)
 
 -- a front of a text was appended, and then some of its rest
-pub Appends-front : (a b c : Option (List ℕ)) (place n : ℕ) (text : List ℕ) → place ≤ length text → n ≤ length (take (length text - place) (drop place text)) → Appends a b (take place text) → Appends b c (take n (take (length text - place) (drop place text))) → Appends a c (take (place + n) text) × (place + n ≤ length text)
+pub Appends-front : (a b c : Option (List ℕ)) (place n : ℕ) (text : List ℕ) → place ≤ length text
+    → n ≤ length (take (length text - place) (drop place text)) → Appends a b (take place text)
+    → Appends b c (take n (take (length text - place) (drop place text)))
+    → Appends a c (take (place + n) text) × (place + n ≤ length text)
 Appends-front a b c place n text fits more h k =
     (subst (λ (zs : List ℕ). Appends a c zs) (sym (take_more place n text)) (Appends-more a b c _ _ h k), fits_more place n text fits more)
 
 -- bytes were consumed, and some more, which stand at the front of a buffer
-pub Consumes-chunk : (a b c : Option (List ℕ)) (xs buf rest new : List ℕ) (n : ℕ) → n ≤ length buf → Consumes a b xs → Consumes b c (take n buf) → new ≡ xs ++ take n (buf ++ rest) → Consumes a c new × (length new ≡ length xs + n)
+pub Consumes-chunk : (a b c : Option (List ℕ)) (xs buf rest new : List ℕ) (n : ℕ) → n ≤ length buf → Consumes a b xs
+    → Consumes b c (take n buf) → new ≡ xs ++ take n (buf ++ rest) → Consumes a c new × (length new ≡ length xs + n)
 Consumes-chunk a b c xs buf rest new n fits h k e =
     let same : new ≡ xs ++ take n buf = e ∙ ap (λ (zs : List ℕ). xs ++ zs) (take-append-le n buf rest fits) in
     (subst (λ (zs : List ℕ). Consumes a c zs) (sym same) (Consumes-more a b c _ _ h k), rw same (grind (arith, common_steps)))
 
 -- the last read gave nothing: all was read
-pub read_whole : (a b c : Option (List ℕ)) (xs buf : List ℕ) (n : ℕ) → n ≡ 0 → Consumes a b xs → Consumes b c (take n buf) → IsAtEnd c → length xs ≤ 1048577 → IfSome a (λ input. xs ≡ read_of input)
+pub read_whole : (a b c : Option (List ℕ)) (xs buf : List ℕ) (n : ℕ) → n ≡ 0 → Consumes a b xs → Consumes b c (take n buf)
+    → IsAtEnd c → length xs ≤ 1048577 → IfSome a (λ input. xs ≡ read_of input)
 read_whole a b c xs buf n nothing h k end few =
     let same : xs ++ take n buf ≡ xs = rw nothing (grind (arith, common_steps)) in
     read_all a c xs (subst (λ (zs : List ℕ). Consumes a c zs) same (Consumes-more a b c _ _ h k)) end few

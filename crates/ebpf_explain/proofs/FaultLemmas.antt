@@ -15,7 +15,8 @@ told r before new i s code which decl rows is h = subst (λ (c : VerifyCode). On
 -- the same of a text that was told of what is equal to what the code is about
 pub told_as : {T E : Type 0} (r : Result T E) (before new text : List ℕ) (i : Insn) (s : StateView) (code which : VerifyCode) (decl : Decl) (rows : List KindRow)
     → code ≡ which → text ≡ fault i s which decl rows → OnOk r (new ≡ before ++ text) → OnOk r (new ≡ before ++ fault i s code decl rows)
-told_as r before new text i s code which decl rows is same h = told r before new i s code which decl rows is (subst (λ (t : List ℕ). OnOk r (new ≡ before ++ t)) same h)
+told_as r before new text i s code which decl rows is same h =
+    told r before new i s code which decl rows is (subst (λ (t : List ℕ). OnOk r (new ≡ before ++ t)) same h)
 
 -- the same of a text that was pushed
 pub told_at_once : {T E : Type 0} (r : Result T E) (before new : List ℕ) (i : Insn) (s : StateView) (code which : VerifyCode) (decl : Decl) (rows : List KindRow)

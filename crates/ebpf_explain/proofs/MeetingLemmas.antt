@@ -10,7 +10,8 @@ pushed_fourth (Ok r) before one two three new a b c d f g h k =
     ∙ (ap (λ (xs : List ℕ). xs ++ (b ++ (c ++ d))) f ∙ append_assoc before a (b ++ (c ++ d)))))))
 
 -- what was written behind two texts, where it is told otherwise
-pub behind_two : {A E : Type 0} (result : Result A E) (before one two new a b c d : List ℕ) → one ≡ before ++ a → two ≡ one ++ b → c ≡ d → OnOk result (new ≡ two ++ c) → OnOk result (new ≡ before ++ (a ++ (b ++ d)))
+pub behind_two : {A E : Type 0} (result : Result A E) (before one two new a b c d : List ℕ) → one ≡ before ++ a → two ≡ one ++ b
+    → c ≡ d → OnOk result (new ≡ two ++ c) → OnOk result (new ≡ before ++ (a ++ (b ++ d)))
 behind_two (Err e) before one two new a b c d f g h k = tt
 behind_two (Ok r) before one two new a b c d f g h k =
     k ∙ (ap (λ (xs : List ℕ). two ++ xs) h ∙ (ap (λ (xs : List ℕ). xs ++ d) g ∙ (append_assoc one b d ∙ (ap (λ (xs : List ℕ). xs ++ (b ++ d)) f ∙ append_assoc before a (b ++ d)))))

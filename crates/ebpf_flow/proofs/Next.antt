@@ -32,11 +32,13 @@ followed (insn.Wide dst value ∷ is) zero i at lt =
     let e : 0 + slots_in i ≡ 2 = rw same refl in
     rw e (first_is_insn is (omega (arith, e)))
 followed (insn.Wide dst value ∷ is) (suc zero) i at lt = absurd (cc)
-followed (insn.Wide dst value ∷ is) (suc (suc k)) i at lt = behind (Some (insn.Wide dst value)) (None ∷ flat_map placed is) (suc k) i (behind None (flat_map placed is) k i (followed is k i)) at lt
+followed (insn.Wide dst value ∷ is) (suc (suc k)) i at lt =
+    behind (Some (insn.Wide dst value)) (None ∷ flat_map placed is) (suc k) i (behind None (flat_map placed is) k i (followed is k i)) at lt
 followed (j ∷ is) zero i at lt = at_first j i (flat_map placed is) refl (first_is_insn is) at lt
 followed (j ∷ is) (suc k) i at lt = behind (Some j) (flat_map placed is) k i (followed is k i) at lt
 
-pub next_is_insn : (p : List (Option Insn)) (k : ℕ) (i : Insn) → IsWellFormed p → insn_at p k ≡ Some i → k + slots_in i < length p → is_none (insn_at p (k + slots_in i)) ≡ false
+pub next_is_insn : (p : List (Option Insn)) (k : ℕ) (i : Insn) → IsWellFormed p → insn_at p k ≡ Some i → k + slots_in i < length p
+    → is_none (insn_at p (k + slots_in i)) ≡ false
 next_is_insn p k i formed = subst (λ (q : List (Option Insn)). IsFollowed q k i) (sym formed.placed) (followed (instructions p) k i)
 
 pub slot_zero_is_insn : (p : List (Option Insn)) → IsWellFormed p → is_none (insn_at p 0) ≡ false

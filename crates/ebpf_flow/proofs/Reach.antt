@@ -14,10 +14,12 @@ pub reached_by-none : (p : List (Option Insn)) (k : ℕ) → reached_by p 0 k �
 unfolding reached_by
 reached_by-none p k = refl
 
-pub reached_by-more : (p : List (Option Insn)) (m k : ℕ) (old : Bool) → old ≡ reached_by p m k → ((reached_by p m m && has_edge_to (edges_at p m) k) || old) ≡ reached_by p (m + 1) k
+pub reached_by-more : (p : List (Option Insn)) (m k : ℕ) (old : Bool) → old ≡ reached_by p m k
+    → ((reached_by p m m && has_edge_to (edges_at p m) k) || old) ≡ reached_by p (m + 1) k
 unfolding reached_by
 reached_by-more p m k old e = rw (add-one, e) refl
 
 -- the lowest slot that is refused decides
-pub fault_here : (p : List (Option Insn)) (slot : ℕ) (fault : FlowFault) → slot < length p → lowest (flow_fault_at p) slot ≡ None → ((code : FlowCode) × (fault ≡ Bad slot code) × (flow_fault_at p slot ≡ Some code)) → IsFlowFault p fault
+pub fault_here : (p : List (Option Insn)) (slot : ℕ) (fault : FlowFault) → slot < length p → lowest (flow_fault_at p) slot ≡ None
+    → ((code : FlowCode) × (fault ≡ Bad slot code) × (flow_fault_at p slot ≡ Some code)) → IsFlowFault p fault
 fault_here p slot fault inside before h = rw h.1 (lowest_at (flow_fault_at p) slot (length p) h.0 before h.2 inside)

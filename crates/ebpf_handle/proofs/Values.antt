@@ -38,7 +38,8 @@ pointer_good null_ptr = (tt, record { fits = lit< tt })
 abbrev pub word : Ptr → Val
 word p = vstruct (vcons (ptr_val p) vnil)
 
-tested : {M : Type 1} {𝓤 : Ura M} (𝓛 : Logic 𝓤) (R : RattleType) (p : Ptr) (y : R.Denot) → ent 𝓤 (sem 𝓛 (heap_box R p y)) (guard 𝓤 (Testable p) (sem 𝓛 (heap_box R p y)))
+tested : {M : Type 1} {𝓤 : Ura M} (𝓛 : Logic 𝓤) (R : RattleType) (p : Ptr) (y : R.Denot)
+    → ent 𝓤 (sem 𝓛 (heap_box R p y)) (guard 𝓤 (Testable p) (sem 𝓛 (heap_box R p y)))
 tested {𝓤 = 𝓤} 𝓛 R p y = let B : SProp 𝓤 = sem 𝓛 (heap_box R p y) in let τ = bare (lone R.mir) in
     fact_use 𝓤 (Testable p) (via 𝓤 _ (snd∗ 𝓤 (sem 𝓛 (points_to R p y)) (sem 𝓛 (ghosts.dealloc_token heap τ p))) (dealloc_token-Testable 𝓛 heap τ p)) (guard_i 𝓤 (Testable p) B)
 
@@ -51,7 +52,8 @@ module _ (R : RattleType) where
   word_good null_ptr = (tt, (record { fits = lit< tt }, tt))
 
   module _ {M : Type 1} {𝓤 : Ura M} {𝓛 : Logic 𝓤} {K : Type 0} {Γ : List (Item 𝓤)} {G : Goal 𝓤 𝓛.H} where
-    pub held_out : K → (d : Held.Denot) (vs : List Val) → (vs ≡ word d.at ∷ [] → Seq K 𝓛 (‵ (held R d.at d.value) ∷ Γ) G) → Seq K 𝓛 (‵ (Held.own_val d vs) ∷ Γ) G
+    pub held_out : K → (d : Held.Denot) (vs : List Val) → (vs ≡ word d.at ∷ [] → Seq K 𝓛 (‵ (held R d.at d.value) ∷ Γ) G)
+        → Seq K 𝓛 (‵ (Held.own_val d vs) ∷ Γ) G
     held_out t d vs k = fsplit t $ fpick t (λ vss. fsplit t $ feq_l t (λ ev. fsplit t $ feq_l t (λ ep. drop t $
         k (subst (λ (ps : List Val). vs ≡ vstruct (of_list (ps ++ [])) ∷ []) ep ev))))
 
@@ -64,5 +66,6 @@ module _ (R : RattleType) where
         → ((b o : ℕ) (y : R.Denot) → p ≡ block_ptr b o → x ≡ Some y → Testable (block_ptr b o) → Seq K 𝓛 (‵ (heap_box R (block_ptr b o) y) ∷ Γ) G)
         → Seq K 𝓛 (‵ (held R p x) ∷ Γ) G
     cases t p None none one = feq_l t (λ e. none e refl)
-    cases t p (Some y) none one = in_a_block t p (λ q. heap_box R q y) (fst∗ 𝓤 (never 𝓤) (sem 𝓛 (ghosts.dealloc_token heap (bare (lone R.mir)) null_ptr))) (λ b o e.
+    cases t p (Some y) none one =
+        in_a_block t p (λ q. heap_box R q y) (fst∗ 𝓤 (never 𝓤) (sem 𝓛 (ghosts.dealloc_token heap (bare (lone R.mir)) null_ptr))) (λ b o e.
         use1 𝓛 (given (Testable (block_ptr b o)) (‵ (heap_box R (block_ptr b o) y))) (tested 𝓛 R (block_ptr b o) y) $ learn t (λ may. one b o y e refl may))

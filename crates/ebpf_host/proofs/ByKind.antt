@@ -37,10 +37,13 @@ of_each P s cells records blocks none kind = either P cells (either P records (e
 
 module _ (old new : Stocks) (kind : ℕ) (stay : OthersStay old new kind) where
   -- an object stays held, where one of this kind does
-  pub still : (other : Object) → Holds old other → (kind_of other ≡ kind → IsHeld (stock_of old kind) (slot_of other) → IsHeld (stock_of new kind) (slot_of other)) → Holds new other
+  pub still : (other : Object) → Holds old other
+      → (kind_of other ≡ kind → IsHeld (stock_of old kind) (slot_of other) → IsHeld (stock_of new kind) (slot_of other))
+      → Holds new other
   still other held here = by (cases_eq (kind_of other) kind) where
     by : (kind_of other ≡ kind) ⊎ (kind_of other ≢ kind) → Holds new other
-    by (inl same) = subst (λ (k : ℕ). IsHeld (stock_of new k) (slot_of other)) (sym same) (here same (subst (λ (k : ℕ). IsHeld (stock_of old k) (slot_of other)) same held))
+    by (inl same) =
+        subst (λ (k : ℕ). IsHeld (stock_of new k) (slot_of other)) (sym same) (here same (subst (λ (k : ℕ). IsHeld (stock_of old k) (slot_of other)) same held))
     by (inr apart) = subst (λ (s : StockView). IsHeld s (slot_of other)) (sym (stay (kind_of other) apart)) held
 
   -- what stands on other shelves does so still
@@ -48,14 +51,17 @@ module _ (old new : Stocks) (kind : ℕ) (stay : OthersStay old new kind) where
   shelves_stay what other apart stands = stands ∙ ap (λ (s : StockView). option_map (renumbered other) s.shelf) (sym (stay other apart))
 
   -- and on this one, where the shelf is as it was
-  pub all_shelves_stay : (stock_of new kind).shelf ≡ (stock_of old kind).shelf → (other : ℕ) (what : Option Shelved) → what ≡ standing_on old other → what ≡ standing_on new other
+  pub all_shelves_stay : (stock_of new kind).shelf ≡ (stock_of old kind).shelf → (other : ℕ) (what : Option Shelved)
+      → what ≡ standing_on old other → what ≡ standing_on new other
   all_shelves_stay same other what stands = by (cases_eq other kind) where
     by : (other ≡ kind) ⊎ (other ≢ kind) → what ≡ standing_on new other
-    by (inl here) = subst (λ (k : ℕ). what ≡ standing_on old k → what ≡ standing_on new k) (sym here) (λ e. e ∙ ap (option_map (renumbered kind)) (sym same)) stands
+    by (inl here) =
+        subst (λ (k : ℕ). what ≡ standing_on old k → what ≡ standing_on new k) (sym here) (λ e. e ∙ ap (option_map (renumbered kind)) (sym same)) stands
     by (inr apart) = shelves_stay what other apart stands
 
   -- how many are held
-  counted_by : (given got : ℕ) → held_of new kind + given ≡ held_of old kind + got → (k : ℕ) → held_of new k + (if k == kind then given else 0) ≡ held_of old k + (if k == kind then got else 0)
+  counted_by : (given got : ℕ) → held_of new kind + given ≡ held_of old kind + got → (k : ℕ)
+      → held_of new k + (if k == kind then given else 0) ≡ held_of old k + (if k == kind then got else 0)
   counted_by given got counts k = by (cases_eq k kind) where
     by : (k ≡ kind) ⊎ (k ≢ kind) → held_of new k + (if k == kind then given else 0) ≡ held_of old k + (if k == kind then got else 0)
     by (inl same) = let new_is = ap (held_of new) same in let old_is = ap (held_of old) same in grind (arith, nat_tests, same, new_is, old_is, counts)
@@ -105,7 +111,8 @@ module _ (old new : Stocks) (kind : ℕ) (stay : OthersStay old new kind) where
   abbrev AreHeld : Option Object → Type 0
   AreHeld o = IfSome o (λ x. Holds old x × (kind_of x ≡ kind))
 
-  renumbered_is : (o : Option Object) → AreOfKind o → option_map (renumbered kind) (option_map as_shelved o) ≡ option_map (λ x. shelved_at (number_of x) (bytes_of x)) o
+  renumbered_is : (o : Option Object) → AreOfKind o
+      → option_map (renumbered kind) (option_map as_shelved o) ≡ option_map (λ x. shelved_at (number_of x) (bytes_of x)) o
   renumbered_is None of_kind = refl
   renumbered_is (Some x) of_kind = ap (λ (k : ℕ). Some (shelved_at (number_in k (slot_of x)) (bytes_of x))) (sym of_kind)
 
@@ -132,7 +139,8 @@ module _ (old new : Stocks) (kind : ℕ) (stay : OthersStay old new kind) where
     got_apart (Some h) of_kind ex = λ other held same.
         let kinds = same_kind (kind_of other) (kind_of h) (slot_of other) (slot_of h) (few_kinds other) (few_kinds h) same in
         let slots = same_slot (kind_of other) (kind_of h) (slot_of other) (slot_of h) (few_kinds other) (few_kinds h) same in
-        let was : IsHeld (stock_of old kind) (slot_of h) = subst (λ (k : ℕ). IsHeld (stock_of old k) (slot_of h)) (kinds ∙ of_kind) (subst (IsHeld (stock_of old (kind_of other))) slots held) in
+        let was : IsHeld (stock_of old kind) (slot_of h) =
+        subst (λ (k : ℕ). IsHeld (stock_of old k) (slot_of h)) (kinds ∙ of_kind) (subst (IsHeld (stock_of old (kind_of other))) slots held) in
         subst (λ (s : Option Shelved). IfSome s (λ o. o.slot ≢ slot_of h)) (sym ex.got_is) was.off refl
 
     pub got_held : (got : Option Object) → AreOfKind got → AreHeld given → Got got → IfSome got (λ h. Holds new h × (kind_of h ≡ kind))
@@ -163,12 +171,14 @@ module _ (old new : Stocks) (kind : ℕ) (stay : OthersStay old new kind) where
           subst (λ (s : Option Shelved). IfSome s (λ o. o.slot ≢ slot_of g)) stands now.off refl
 
     -- all else that is held stays so
-    pub exchanged_others : (got : Option Object) → AreHeld given → Got got → (other : Object) → Holds old other → IfSome given (λ g. number_of other ≢ number_of g) → Holds new other
+    pub exchanged_others : (got : Option Object) → AreHeld given → Got got → (other : Object) → Holds old other
+        → IfSome given (λ g. number_of other ≢ number_of g) → Holds new other
     exchanged_others got giving ex other held apart = still other held (λ same was. record {
       out = subst (λ (p : Pages). IsOut p (slot_of other)) (sym ex.pages) was.out;
       off = subst (λ (s : Option Shelved). IfSome s (λ o. o.slot ≢ slot_of other)) (sym ex.given_is) (off same given giving apart);
     }) where
-      off : kind_of other ≡ kind → (o : Option Object) → AreHeld o → IfSome o (λ g. number_of other ≢ number_of g) → IfSome (option_map as_shelved o) (λ s. s.slot ≢ slot_of other)
+      off : kind_of other ≡ kind → (o : Option Object) → AreHeld o → IfSome o (λ g. number_of other ≢ number_of g)
+          → IfSome (option_map as_shelved o) (λ s. s.slot ≢ slot_of other)
       off same None giving apart = tt
       off same (Some g) giving apart = λ slots. apart ((λ i. number_in ((same ∙ sym giving.1) i) (sym slots i)))
 
@@ -195,4 +205,5 @@ module _ (old new : Stocks) (kind : ℕ) (stay : OthersStay old new kind) where
           let gave = one_is given same in
           let had = one_is got same in
           omega (arith, new_is, old_is, pages, one_now, one_was, few_now, few_was, gave, had)
-      by (inr apart) = let stays = ap held_count (stay k apart) in let gave = none_is given apart in let had = none_is got apart in omega (arith, stays, gave, had)
+      by (inr apart) =
+          let stays = ap held_count (stay k apart) in let gave = none_is given apart in let had = none_is got apart in omega (arith, stays, gave, had)

@@ -16,7 +16,8 @@ use Rattle.ebpf_machine.proofs.WholeRuns.Told.{IsUnderWay}
 use Rattle.ebpf_host.specs.Reports.{IsCutOff, IsReportWithin}
 
 module _ {S H : Type 0} (o : Store S H) (first now after : S) (subject : Subject) (context : List ℕ) (limit : ℕ) (r t : RunState H) (report : Report) where
-  cut_off : t.exit ≡ None → IsUnderWay o first now subject context t → report.executed ≡ t.executed → report.output ≡ t.output → IsGivenUp (seen_in o now t) report → IsCutOff subject context report
+  cut_off : t.exit ≡ None → IsUnderWay o first now subject context t → report.executed ≡ t.executed → report.output ≡ t.output
+      → IsGivenUp (seen_in o now t) report → IsCutOff subject context report
   cut_off going was executed output up = record {
     run = seen_in o now t;
     alone =
@@ -28,7 +29,8 @@ module _ {S H : Type 0} (o : Store S H) (first now after : S) (subject : Subject
     peak = (λ i. (alone_after (executed i) (sym was.subject_is i) (sym was.context_is i) (replies_in report)).peak) ∙ up.peak_is;
   }
 
-  pub within : r ≡ first_state_of subject context → IsUnderWay o first now subject context t → AreTurnsWithin o limit r t first now → IsEnded o t report now after → IsReportWithin subject context limit report
+  pub within : r ≡ first_state_of subject context → IsUnderWay o first now subject context t → AreTurnsWithin o limit r t first now
+      → IsEnded o t report now after → IsReportWithin subject context limit report
   within start was turns ended = record {
     exited = exited t.exit refl;
     cut_off = cut t.exit refl turns.all ended.given_up;
@@ -51,7 +53,8 @@ module _ {S H : Type 0} (o : Store S H) (first now after : S) (subject : Subject
       exited (Some n) e = subst (λ (y : Option ℕ). IfSome y (λ exit. IsReportOf subject context report)) (sym (ended.exit ∙ e))
           (report_with _ _ _ _ report was.subject_is was.context_is (report_of o now after t n report e was.sound was.alone was.few ended))
 
-      cut : (x : Option ℕ) → t.exit ≡ x → IfNone t.exit (turns.number ≡ limit) → IfNone t.exit (IsGivenUp (seen_in o now t) report) → IfNone report.exit ((report.executed ≡ limit) × IsCutOff subject context report)
+      cut : (x : Option ℕ) → t.exit ≡ x → IfNone t.exit (turns.number ≡ limit) → IfNone t.exit (IsGivenUp (seen_in o now t) report)
+          → IfNone report.exit ((report.executed ≡ limit) × IsCutOff subject context report)
       cut (Some n) e all up = subst (λ (y : Option ℕ). IfNone y ((report.executed ≡ limit) × IsCutOff subject context report)) (sym (ended.exit ∙ e)) tt
       cut None e all up = subst (λ (y : Option ℕ). IfNone y ((report.executed ≡ limit) × IsCutOff subject context report)) (sym (ended.exit ∙ e)) (
         (let here : turns.number ≡ limit = subst (λ (y : Option ℕ). IfNone y (turns.number ≡ limit)) e all in omega (arith, executed, counted, here)),

@@ -28,7 +28,9 @@ use Rattle.ebpf_host.specs.Stocks.{bytes_on, renumbered, shelf_bytes, standing_o
 -- ---- one instruction
 
 -- what is said of all that may stand on a shelf is said of what an effect leaves there
-done_told : {N X Y : Type 0} (told : X → Y) (given_is : Option N → X) (as_told : Option N → Y) → ((given : Option N) → told (given_is given) ≡ as_told given) → (e : Effect N) (shelf : ℕ) (what : X) → told (shelf_done given_is e shelf what) ≡ shelf_done as_told e shelf (told what)
+done_told : {N X Y : Type 0} (told : X → Y) (given_is : Option N → X) (as_told : Option N → Y)
+    → ((given : Option N) → told (given_is given) ≡ as_told given) → (e : Effect N) (shelf : ℕ) (what : X)
+    → told (shelf_done given_is e shelf what) ≡ shelf_done as_told e shelf (told what)
 done_told told given_is as_told same (Ends n) shelf what = refl
 done_told told given_is as_told same (Traps trap) shelf what = refl
 done_told told given_is as_told same (Goes Nothing to after) shelf what = refl
@@ -40,15 +42,19 @@ done_told told given_is as_told same (Goes (Exchange k given) to after) shelf wh
   by true = same given
   by false = refl
 
-given_told : {S H : Type 0} (o : Store S H) (s : S) (r : RunState H) (given : Option ℕ) → bytes_on (shelved_from (shelved_as o s) r.held given) ≡ bytes_given (seen_in o s r) given
+given_told : {S H : Type 0} (o : Store S H) (s : S) (r : RunState H) (given : Option ℕ)
+    → bytes_on (shelved_from (shelved_as o s) r.held given) ≡ bytes_given (seen_in o s r) given
 given_told o s r None = refl
 given_told {S} {H} o s r (Some call) = of (find (λ h. h.call == call) r.held) ∙ ap (option_map (λ (x : ObjectView). x.bytes)) (sym (find-map (λ (x : ObjectView). x.call == call) (object_seen (o.bytes_of s)) r.held)) where
-  of : (found : Option (Holding H)) → bytes_on (option_map (λ h. shelved_as o s h.object) found) ≡ option_map (λ x. x.bytes) (option_map (object_seen (o.bytes_of s)) found)
+  of : (found : Option (Holding H))
+      → bytes_on (option_map (λ h. shelved_as o s h.object) found) ≡ option_map (λ x. x.bytes) (option_map (object_seen (o.bytes_of s)) found)
   of None = refl
   of (Some h) = refl
 
 -- an instruction of the run alone more
-left_next : (n : ℕ) (s : Subject) (context : List ℕ) (replies : Replies) (shelf : ℕ) (bytes : Option (List ℕ)) (v : RunView) → view_in (alone_after n s context replies).world 0 ≡ Some v → left_after (suc n) s context replies shelf bytes ≡ shelf_done (bytes_given v) (effect_of_view v) shelf (left_after n s context replies shelf bytes)
+left_next : (n : ℕ) (s : Subject) (context : List ℕ) (replies : Replies) (shelf : ℕ) (bytes : Option (List ℕ)) (v : RunView)
+    → view_in (alone_after n s context replies).world 0 ≡ Some v
+    → left_after (suc n) s context replies shelf bytes ≡ shelf_done (bytes_given v) (effect_of_view v) shelf (left_after n s context replies shelf bytes)
 unfolding left_after
 left_next n s context replies shelf bytes v seen = ap (λ (o : Option RunView). left_by o shelf (left_after n s context replies shelf bytes)) seen
 
@@ -62,7 +68,8 @@ more_again : (replies one more : Replies) → more_than (more_than replies one) 
 more_again replies one more = λ i. replies_from (append_assoc replies.answers one.answers more.answers i) (append_assoc replies.taken one.taken more.taken i)
 
 -- an instruction adds to them
-replies_more : (v : RunView) (result : CallResult) → IsSound v → AreSized v → v.status ≡ Going → (more : Replies) × (replies_of (stepped result v) ≡ more_than (replies_of v) more)
+replies_more : (v : RunView) (result : CallResult) → IsSound v → AreSized v → v.status ≡ Going
+    → (more : Replies) × (replies_of (stepped result v) ≡ more_than (replies_of v) more)
 replies_more v result sound sized going = by (asks_of v (next_of v sound sized going)) where
   by : Asks v → (more : Replies) × (replies_of (stepped result v) ≡ more_than (replies_of v) more)
   by (ForNothing unasked) = (replies_from [] [], replies_kept v result going unasked ∙ sym (none_more (replies_of v)))
@@ -80,7 +87,8 @@ module _ {S H : Type 0} (o : Store S H) (first : S) (subject : Subject) (context
     bytes_are : (more : Replies) → bytes_on what ≡ left_after number subject context (more_than (replies_of (seen_in o now r)) more) shelf (bytes_on stood)
 
   -- one more
-  left_turn : (number : ℕ) (old new : S) (r t : RunState H) → HaveSizes o old → o.kinds ≡ kinds_of subject.rows → IsUnderWay o first old subject context r → IsTurn o r t old new → IsLeftSoFar number old r → IsLeftSoFar (suc number) new t
+  left_turn : (number : ℕ) (old new : S) (r t : RunState H) → HaveSizes o old → o.kinds ≡ kinds_of subject.rows
+      → IsUnderWay o first old subject context r → IsTurn o r t old new → IsLeftSoFar number old r → IsLeftSoFar (suc number) new t
   left_turn number old new r t sizes kinds was turn before = record {
     what = standing_after o old r.held (effect_of_view v) shelf before.what;
     stands = s.3 shelf before.what before.stands;
@@ -101,12 +109,14 @@ module _ {S H : Type 0} (o : Store S H) (first : S) (subject : Subject) (context
       told = replies_more v (result_of s.0) was.sound (sized_out o old r sizes known was.out) (ap status_of turn.going)
 
       replies : (more : Replies) → more_than (replies_of (seen_in o new t)) more ≡ more_than (replies_of v) (more_than told.0 more)
-      replies more = ap (λ (u : RunView). more_than (replies_of u) more) s.2.state ∙ ap (λ (x : Replies). more_than x more) told.1 ∙ more_again (replies_of v) told.0 more
+      replies more =
+          ap (λ (u : RunView). more_than (replies_of u) more) s.2.state ∙ ap (λ (x : Replies). more_than x more) told.1 ∙ more_again (replies_of v) told.0 more
 
       seen : (more : Replies) → view_in (alone_after number subject context (more_than (replies_of v) more)).world 0 ≡ Some v
       seen more = (λ i. view_in (alone_after (sym before.executed i) (sym was.subject_is i) (sym was.context_is i) (more_than (replies_of v) more)).world 0) ∙ alone_more v more was.sound was.alone
 
-      bytes : (more : Replies) → bytes_on (standing_after o old r.held (effect_of_view v) shelf before.what) ≡ left_after (suc number) subject context (more_than (replies_of (seen_in o new t)) more) shelf (bytes_on stood)
+      bytes : (more : Replies)
+          → bytes_on (standing_after o old r.held (effect_of_view v) shelf before.what) ≡ left_after (suc number) subject context (more_than (replies_of (seen_in o new t)) more) shelf (bytes_on stood)
       bytes more =
           let rest = more_than told.0 more in
           done_told bytes_on (shelved_from (shelved_as o old) r.held) (bytes_given v) (given_told o old r) (effect_of_view v) shelf before.what
@@ -114,7 +124,9 @@ module _ {S H : Type 0} (o : Store S H) (first : S) (subject : Subject) (context
           ∙ sym (left_next number subject context (more_than (replies_of v) rest) shelf (bytes_on stood) v (seen rest))
           ∙ ap (λ (x : Replies). left_after (suc number) subject context x shelf (bytes_on stood)) (sym (replies more))
 
-  left_turns : (number : ℕ) (now : S) (r t : RunState H) → ((s : S) → HaveSizes o s) → o.kinds ≡ kinds_of subject.rows → IsUnderWay o first first subject context r → r.executed ≡ 0 → o.stand first shelf stood → AreTurns o number r t first now → IsLeftSoFar number now t
+  left_turns : (number : ℕ) (now : S) (r t : RunState H) → ((s : S) → HaveSizes o s) → o.kinds ≡ kinds_of subject.rows
+      → IsUnderWay o first first subject context r → r.executed ≡ 0 → o.stand first shelf stood → AreTurns o number r t first now
+      → IsLeftSoFar number now t
   left_turns zero now r t sizes kinds start none stands turns = rw (turns.0, turns.1) (record { what = stood; stands = stands; executed = none; bytes_are = λ more. sym (left_none subject context (more_than (replies_of (seen_in o first r)) more) shelf (bytes_on stood)) })
   left_turns (suc number) now r t sizes kinds start none stands turns =
       left_turn number turns.store now turns.run t (sizes turns.store) kinds
@@ -124,8 +136,10 @@ module _ {S H : Type 0} (o : Store S H) (first : S) (subject : Subject) (context
 -- ---- a run as a whole
 
 -- what is left after the turns stands there once all that the run held is back
-pub leaves : {S H : Type 0} (o : Store S H) (first before now : S) (subject : Subject) (context : List ℕ) (number : ℕ) (r t : RunState H) (report : Report) → ((s : S) → HaveSizes o s) → o.kinds ≡ kinds_of subject.rows → IsUnderWay o first first subject context r → r.executed ≡ 0
-    → AreTurns o number r t first before → ShelvesStay o before now → report.executed ≡ t.executed → replies_in report ≡ replies_of (seen_in o before t) → IsLeft o first now subject context report
+pub leaves : {S H : Type 0} (o : Store S H) (first before now : S) (subject : Subject) (context : List ℕ) (number : ℕ) (r t : RunState H) (report : Report)
+    → ((s : S) → HaveSizes o s) → o.kinds ≡ kinds_of subject.rows → IsUnderWay o first first subject context r → r.executed ≡ 0
+    → AreTurns o number r t first before → ShelvesStay o before now → report.executed ≡ t.executed
+    → replies_in report ≡ replies_of (seen_in o before t) → IsLeft o first now subject context report
 leaves o first before now subject context number r t report sizes kinds start none turns stay executed replies shelf what stood =
     let left = left_turns o first subject context shelf what number before r t sizes kinds start none stood turns in (
       left.what,
@@ -145,7 +159,9 @@ same_bytes s shelf = of (stock_of s shelf).shelf where
   of (Some x) = refl
 
 -- so what a store of these shelves has there is what the machine has
-pub on_machine : (old new : Stocks) (s : Subject) (context : List ℕ) (r : Report) → ((shelf : ℕ) (what : Option Shelved) → what ≡ standing_on old shelf → (now : Option Shelved) × (now ≡ standing_on new shelf) × (bytes_on now ≡ left_in s context r shelf (bytes_on what))) → AreLeft old new s context r
+pub on_machine : (old new : Stocks) (s : Subject) (context : List ℕ) (r : Report)
+    → ((shelf : ℕ) (what : Option Shelved) → what ≡ standing_on old shelf → (now : Option Shelved) × (now ≡ standing_on new shelf) × (bytes_on now ≡ left_in s context r shelf (bytes_on what)))
+    → AreLeft old new s context r
 on_machine old new s context r left shelf =
     let is = left shelf (standing_on old shelf) refl in
     sym (ap bytes_on is.1 ∙ same_bytes new shelf) ∙ is.2 ∙ ap (left_in s context r shelf) (same_bytes old shelf)

@@ -16,7 +16,8 @@ off_shelf s slot standing free = by s.shelf standing where
   by None out = tt
   by (Some o) out = λ same. free (subst (IsOut s.pages) same out)
 
-pub takes_as : (old new : StockView) (slot : ℕ) → IfSome old.shelf (λ o. IsOut old.pages o.slot) → new.shelf ≡ old.shelf → TakesOut old.pages new.pages slot → out_count new.pages ≡ out_count old.pages + 1 → Takes old new slot
+pub takes_as : (old new : StockView) (slot : ℕ) → IfSome old.shelf (λ o. IsOut old.pages o.slot) → new.shelf ≡ old.shelf
+    → TakesOut old.pages new.pages slot → out_count new.pages ≡ out_count old.pages + 1 → Takes old new slot
 takes_as old new slot standing same taken counts = record {
   held = record { out = taken.out; off = subst (λ (s : Option Shelved). IfSome s (λ o. o.slot ≢ slot)) (sym same) (off_shelf old slot standing taken.was_in) };
   fresh = λ held. taken.was_in held.out;
@@ -28,22 +29,27 @@ takes_as old new slot standing same taken counts = record {
   shelf = same;
 }
 
-pub gives_as : (old new : StockView) (slot : ℕ) → new.shelf ≡ old.shelf → IsHeld old slot → Moves old.pages new.pages slot Home → out_count new.pages + 1 ≡ out_count old.pages → Gives old new slot
+pub gives_as : (old new : StockView) (slot : ℕ) → new.shelf ≡ old.shelf → IsHeld old slot → Moves old.pages new.pages slot Home
+    → out_count new.pages + 1 ≡ out_count old.pages → Gives old new slot
 gives_as old new slot same was moves counts = record {
   before = λ x held.
       let apart : x ≢ slot = λ at. (let home = moves.moved in let out = subst (IsOut new.pages) at held.out in cc (home, out)) in
       (record { out = sym (moves.others x apart) ∙ held.out; off = subst (λ (s : Option Shelved). IfSome s (λ o. o.slot ≢ x)) same held.off }, apart);
-  others = λ x held apart. record { out = moves.others x apart ∙ held.out; off = subst (λ (s : Option Shelved). IfSome s (λ o. o.slot ≢ x)) (sym same) held.off };
+  others =
+      λ x held apart. record { out = moves.others x apart ∙ held.out; off = subst (λ (s : Option Shelved). IfSome s (λ o. o.slot ≢ x)) (sym same) held.off };
   counted = let one = ap (λ (s : Option Shelved). one_if s) same in let few = one_at_most old.shelf in omega (arith, counts, one, few);
   shelf = same;
 }
 
 -- what stands on a shelf stays out when another slot is taken, and when a page is reaped
-pub stands_taken : {X : Type 0} (slot_of : X → ℕ) (shelf : Option X) (old new : Pages) (slot : ℕ) → TakesOut old new slot → IfSome shelf (λ o. IsOut old (slot_of o)) → IfSome shelf (λ o. IsOut new (slot_of o))
+pub stands_taken : {X : Type 0} (slot_of : X → ℕ) (shelf : Option X) (old new : Pages) (slot : ℕ) → TakesOut old new slot
+    → IfSome shelf (λ o. IsOut old (slot_of o)) → IfSome shelf (λ o. IsOut new (slot_of o))
 stands_taken slot_of None old new slot taken standing = tt
 stands_taken slot_of (Some o) old new slot taken standing = (taken.others (slot_of o) (λ same. taken.was_in (subst (IsOut old) same standing))).1 standing
 
-pub stands_reaped : {X : Type 0} (slot_of : X → ℕ) (shelf : Option X) (old new : Pages) (page : ℕ) → RemovesPage old new page → ((slot : ℕ) → slot / 256 ≡ page → IsOut old slot → ⊥) → IfSome shelf (λ o. IsOut old (slot_of o)) → IfSome shelf (λ o. IsOut new (slot_of o))
+pub stands_reaped : {X : Type 0} (slot_of : X → ℕ) (shelf : Option X) (old new : Pages) (page : ℕ) → RemovesPage old new page
+    → ((slot : ℕ) → slot / 256 ≡ page → IsOut old slot → ⊥) → IfSome shelf (λ o. IsOut old (slot_of o))
+    → IfSome shelf (λ o. IsOut new (slot_of o))
 stands_reaped slot_of None old new page removed idle standing = tt
 stands_reaped slot_of (Some o) old new page removed idle standing = removed.others (slot_of o) (λ same. idle (slot_of o) same standing) ∙ standing
 

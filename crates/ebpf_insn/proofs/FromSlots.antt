@@ -80,14 +80,17 @@ record IsSourceOf (x : Source) (operand : Operand) (s : Slot) : Type 0 where
   pub register : source_register x ≡ s.src
   pub imm : source_imm x ≡ s.imm
 
-source_is : (operand : Operand) (s : Slot) (src : Reg) → FitsSlot s → number_of src ≡ s.src → (takes_register operand || eqb s.src 0) ≡ true → (not (takes_register operand) || eqb s.imm 0) ≡ true → IsSourceOf (source_at operand s src) operand s
+source_is : (operand : Operand) (s : Slot) (src : Reg) → FitsSlot s → number_of src ≡ s.src
+    → (takes_register operand || eqb s.src 0) ≡ true → (not (takes_register operand) || eqb s.imm 0) ≡ true
+    → IsSourceOf (source_at operand s src) operand s
 source_is Immediate s src fits from unused-src unused-imm = record { fits = imm_fits s fits; kind = refl; register = sym (zero_field s.src unused-src); imm = imm_again s fits }
 source_is Register s src fits from unused-src unused-imm = record { fits = tt; kind = refl; register = from; imm = sym (zero_field s.imm unused-imm) }
 
 -- ---- arithmetic
 
 -- the slot of an instruction that takes up one
-one : (f : Form) (dst src offset imm : ℕ) (s : Slot) → opcode_of f ≡ s.opcode → dst ≡ s.dst → src ≡ s.src → offset ≡ s.offset → imm ≡ s.imm → slot_with f dst src offset imm ∷ [] ≡ s ∷ []
+one : (f : Form) (dst src offset imm : ℕ) (s : Slot) → opcode_of f ≡ s.opcode → dst ≡ s.dst → src ≡ s.src → offset ≡ s.offset
+    → imm ≡ s.imm → slot_with f dst src offset imm ∷ [] ≡ s ∷ []
 one f dst src offset imm s opcode to from by number = ap (λ (t : Slot). t ∷ []) (same_slot (slot_with f dst src offset imm) s opcode to from by number)
 
 record IsSignedBy (o : AluOp) (s : Slot) : Type 0 where
@@ -99,7 +102,8 @@ plain : (o : AluOp) (s : Slot) → signed_by s.offset o ≡ o → sign_offset o 
 plain o s same zero-sign unused = record { code = ap alu_code same; sign = ap sign_offset same ∙ zero-sign ∙ sym (zero_field s.offset unused) }
 
 -- a division or a remainder
-divided : (o signed : AluOp) (s : Slot) (b : Bool) → eqb s.offset 0 ≡ b → signed_by s.offset o ≡ (if b then o else signed) → alu_code signed ≡ alu_code o → sign_offset o ≡ 0 → sign_offset signed ≡ 1 → nat_le s.offset 1 ≡ true → IsSignedBy o s
+divided : (o signed : AluOp) (s : Slot) (b : Bool) → eqb s.offset 0 ≡ b → signed_by s.offset o ≡ (if b then o else signed)
+    → alu_code signed ≡ alu_code o → sign_offset o ≡ 0 → sign_offset signed ≡ 1 → nat_le s.offset 1 ≡ true → IsSignedBy o s
 divided o signed s true here same code zero-sign one-sign le = record { code = ap alu_code same; sign = ap sign_offset same ∙ zero-sign ∙ sym (eqb-true s.offset 0 here) }
 divided o signed s false here same code zero-sign one-sign le =
     let at : s.offset ≡ 1 = grind (arith, nat_tests) in
@@ -109,7 +113,8 @@ abbrev IsMove : AluOp → Operand → Type 0
 IsMove op.Mov Register = Unit {0}
 IsMove _ operand = ⊥
 
-signed_is : (o : AluOp) (width : Width) (operand : Operand) (s : Slot) → unsigned_of o ≡ o → (IsMove o operand → ⊥) → (offset_chooses o operand || eqb s.offset 0) ≡ true → has_defined_fields (form.Alu width o operand) s ≡ true → IsSignedBy o s
+signed_is : (o : AluOp) (width : Width) (operand : Operand) (s : Slot) → unsigned_of o ≡ o → (IsMove o operand → ⊥)
+    → (offset_chooses o operand || eqb s.offset 0) ≡ true → has_defined_fields (form.Alu width o operand) s ≡ true → IsSignedBy o s
 signed_is op.Add width operand s plain-op other unused defined = plain op.Add s refl refl unused
 signed_is op.Sub width operand s plain-op other unused defined = plain op.Sub s refl refl unused
 signed_is op.Mul width operand s plain-op other unused defined = plain op.Mul s refl refl unused
@@ -138,17 +143,20 @@ pub record IsFine (f : Form) (s : Slot) (second : Option Slot) (dst src : Reg) :
   pub blank : has_bad_second f second ≡ false
   pub defined : has_defined_fields f s ≡ true
 
-operated : (width : Width) (o : AluOp) (operand : Operand) (s : Slot) (second : Option Slot) (dst src : Reg) → IsFine (form.Alu width o operand) s second dst src → (IsMove o operand → ⊥)
+operated : (width : Width) (o : AluOp) (operand : Operand) (s : Slot) (second : Option Slot) (dst src : Reg)
+    → IsFine (form.Alu width o operand) s second dst src → (IsMove o operand → ⊥)
     → IsEncodedBy (insn.Alu width (signed_by s.offset o) dst (source_at operand s src)) s second
 operated width o operand s second dst src fine other =
     let zero = are_zero (form.Alu width o operand) s fine.unused in
     let from = source_is operand s src fine.fits fine.from zero.src zero.imm in
     let sign = signed_is o width operand s (is_form s.opcode (form.Alu width o operand) fine.here) other zero.offset fine.defined in
-    let opcode : alu_class width + 8 * operand_bit (operand_of (source_at operand s src)) + 16 * alu_code (signed_by s.offset o) ≡ s.opcode = rw (from.kind, sign.code) (opcode_is s.opcode (form.Alu width o operand) fine.here) in
+    let opcode : alu_class width + 8 * operand_bit (operand_of (source_at operand s src)) + 16 * alu_code (signed_by s.offset o) ≡ s.opcode =
+    rw (from.kind, sign.code) (opcode_is s.opcode (form.Alu width o operand) fine.here) in
     (from.fits, ap (λ (t : Slot). t ∷ []) (same_slot (slot_with (form.Alu width (signed_by s.offset o) (operand_of (source_at operand s src))) (number_of dst) (source_register (source_at operand s src)) (sign_offset (signed_by s.offset o)) (source_imm (source_at operand s src))) s opcode fine.to from.register sign.sign from.imm))
 
 -- a move between registers
-moved : (width : Width) (s : Slot) (second : Option Slot) (dst src : Reg) (b : Bool) → IsFine (form.Alu width op.Mov Register) s second dst src → eqb s.offset 0 ≡ b
+moved : (width : Width) (s : Slot) (second : Option Slot) (dst src : Reg) (b : Bool)
+    → IsFine (form.Alu width op.Mov Register) s second dst src → eqb s.offset 0 ≡ b
     → IsEncodedBy (if b then insn.Alu width op.Mov dst (source.Register src) else insn.Sext width s.offset dst src) s second
 moved width s second dst src true fine here =
     let zero = are_zero (form.Alu width op.Mov Register) s fine.unused in
@@ -158,7 +166,8 @@ moved width s second dst src false fine here =
     let defined : is_move_of width s.offset ≡ true = rw here at fine.defined in
     (defined, one (form.Alu width op.Mov Register) _ _ _ _ s (opcode_is s.opcode (form.Alu width op.Mov Register) fine.here) fine.to fine.from refl (sym (zero_field s.imm zero.imm)))
 
-alu_encoded : (width : Width) (o : AluOp) (operand : Operand) (s : Slot) (second : Option Slot) (dst src : Reg) → IsFine (form.Alu width o operand) s second dst src → IsEncodedBy (alu_at width o operand s dst src) s second
+alu_encoded : (width : Width) (o : AluOp) (operand : Operand) (s : Slot) (second : Option Slot) (dst src : Reg)
+    → IsFine (form.Alu width o operand) s second dst src → IsEncodedBy (alu_at width o operand s dst src) s second
 alu_encoded width op.Mov Register s second dst src fine = moved width s second dst src (eqb s.offset 0) fine refl
 alu_encoded width op.Mov Immediate s second dst src fine = operated width op.Mov Immediate s second dst src fine (λ e. e)
 alu_encoded width op.Add operand s second dst src fine = operated width op.Add operand s second dst src fine (λ e. e)
@@ -177,7 +186,8 @@ alu_encoded width op.Arsh operand s second dst src fine = operated width op.Arsh
 
 -- ---- every form
 
-wide_encoded : (s : Slot) (second : Option Slot) (dst src : Reg) → IsFine form.Wide s second dst src → IsEncodedBy (insn_at_slot form.Wide s second dst src) s second
+wide_encoded : (s : Slot) (second : Option Slot) (dst src : Reg) → IsFine form.Wide s second dst src
+    → IsEncodedBy (insn_at_slot form.Wide s second dst src) s second
 wide_encoded s None dst src fine = absurd (let lacks = fine.whole in cc)
 wide_encoded s (Some t) dst src fine =
     let zero = are_zero form.Wide s fine.unused in
@@ -187,7 +197,8 @@ wide_encoded s (Some t) dst src fine =
     let high : t.imm < 2 ^ 32 = fine.next in
     let lower : (2 ^ 32 * t.imm + s.imm) % 2 ^ 32 ≡ s.imm = omega arith in
     let upper : (2 ^ 32 * t.imm + s.imm) / 2 ^ 32 ≡ t.imm = omega arith in
-    let first : slot_with form.Wide (number_of dst) 0 0 ((2 ^ 32 * t.imm + s.imm) % 2 ^ 32) ≡ s = same_slot _ s (opcode_is s.opcode form.Wide fine.here) fine.to (sym (zero_field s.src zero.src)) (sym (zero_field s.offset zero.offset)) lower in
+    let first : slot_with form.Wide (number_of dst) 0 0 ((2 ^ 32 * t.imm + s.imm) % 2 ^ 32) ≡ s =
+    same_slot _ s (opcode_is s.opcode form.Wide fine.here) fine.to (sym (zero_field s.src zero.src)) (sym (zero_field s.offset zero.offset)) lower in
     let next : second_half ((2 ^ 32 * t.imm + s.imm) / 2 ^ 32) ≡ t = same_slot _ t (sym (eqb-true t.opcode 0 fields.0)) (sym (eqb-true t.dst 0 fields.1)) (sym (eqb-true t.src 0 fields.2)) (sym (eqb-true t.offset 0 fields.3)) upper in
     (omega arith, ap (λ (a : Slot). a ∷ second_half ((2 ^ 32 * t.imm + s.imm) / 2 ^ 32) ∷ []) first ∙ ap (λ (b : Slot). s ∷ b ∷ []) next)
 
@@ -206,7 +217,8 @@ encoded (form.Load size signed) s second dst src fine =
 encoded (form.Store size operand) s second dst src fine =
     let zero = are_zero (form.Store size operand) s fine.unused in
     let from = source_is operand s src fine.fits fine.from zero.src zero.imm in
-    let opcode : 0x60 + store_class (operand_of (source_at operand s src)) + 8 * size_code size ≡ s.opcode = rw from.kind (opcode_is s.opcode (form.Store size operand) fine.here) in
+    let opcode : 0x60 + store_class (operand_of (source_at operand s src)) + 8 * size_code size ≡ s.opcode =
+    rw from.kind (opcode_is s.opcode (form.Store size operand) fine.here) in
     ((from.fits, offset_fits s fine.fits), one (form.Store size (operand_of (source_at operand s src))) _ _ _ _ s opcode fine.to from.register (offset_again s fine.fits) from.imm)
 encoded form.Jump s second dst src fine =
     let zero = are_zero form.Jump s fine.unused in
@@ -217,7 +229,8 @@ encoded form.JumpFar s second dst src fine =
 encoded (form.Branch width condition operand) s second dst src fine =
     let zero = are_zero (form.Branch width condition operand) s fine.unused in
     let from = source_is operand s src fine.fits fine.from zero.src zero.imm in
-    let opcode : jump_class width + 8 * operand_bit (operand_of (source_at operand s src)) + 16 * condition_code condition ≡ s.opcode = rw from.kind (opcode_is s.opcode (form.Branch width condition operand) fine.here) in
+    let opcode : jump_class width + 8 * operand_bit (operand_of (source_at operand s src)) + 16 * condition_code condition ≡ s.opcode =
+    rw from.kind (opcode_is s.opcode (form.Branch width condition operand) fine.here) in
     ((from.fits, offset_fits s fine.fits), one (form.Branch width condition (operand_of (source_at operand s src))) _ _ _ _ s opcode fine.to from.register (offset_again s fine.fits) from.imm)
 encoded form.Call s second dst src fine =
     let zero = are_zero form.Call s fine.unused in

@@ -50,7 +50,8 @@ length-encoding = by_wide (λ i. length (encoding i) ≡ 8 * slots_in i) (λ dst
 pub first_at : (i : Insn) (rest : List ℕ) → IsDefined i → slot_at (encoding i ++ rest) ≡ first_slot i
 first_at i rest h = slot_at-bytes_of_slot (first_slot i) (flat_map bytes_of_slot (later_slots i) ++ rest) (first_fits i h)
 
-wide_second : (dst : Reg) (value : ℕ) (rest : List ℕ) → value < 2 ^ 64 → second_at (encoding (insn.Wide dst value) ++ rest) ≡ Some (second_half (value / 2 ^ 32))
+wide_second : (dst : Reg) (value : ℕ) (rest : List ℕ) → value < 2 ^ 64
+    → second_at (encoding (insn.Wide dst value) ++ rest) ≡ Some (second_half (value / 2 ^ 32))
 wide_second dst value rest lt =
     let size : length (encoding (insn.Wide dst value) ++ rest) ≡ 16 + length rest = length-append (encoding (insn.Wide dst value)) rest in
     let long : nat_le 16 (length (encoding (insn.Wide dst value) ++ rest)) ≡ true = rw size (grind (arith, nat_tests)) in
@@ -68,7 +69,8 @@ behind : (s : Slot) (rest : List ℕ) (n : ℕ) → drop (8 + n) (bytes_of_slot 
 behind s rest n = sym (drop-drop n 8 (bytes_of_slot s ++ rest))
 
 -- a slot further on, behind one that isn't the first of a wide instruction
-shifted : (s : Slot) (rest : List ℕ) (k : ℕ) → (k ≡ 0 → eqb s.opcode (opcode_of Wide) ≡ false) → place_fault (bytes_of_slot s ++ rest) (suc k) ≡ place_fault rest k
+shifted : (s : Slot) (rest : List ℕ) (k : ℕ) → (k ≡ 0 → eqb s.opcode (opcode_of Wide) ≡ false)
+    → place_fault (bytes_of_slot s ++ rest) (suc k) ≡ place_fault rest k
 shifted s rest zero other = rw (other refl) refl
 shifted s rest (suc k) other =
     let next : 8 * suc k ≡ 8 + 8 * k = omega arith in

@@ -15,7 +15,8 @@ slice_get-push xs x n e =
     slice_get-get_or (xs ++ x ∷ []) n x longer ∙ ap Some (get_or_push xs x x n e)
 
 -- what each place has, after one more
-pub each_push : {X : Type 0} (f : ℕ → X) (xs : List X) (x : X) (n : ℕ) → length xs ≡ n → x ≡ f n → ((k : ℕ) → k < n → slice_get xs k ≡ Some (f k)) → (k : ℕ) → k < n + 1 → slice_get (xs ++ x ∷ []) k ≡ Some (f k)
+pub each_push : {X : Type 0} (f : ℕ → X) (xs : List X) (x : X) (n : ℕ) → length xs ≡ n → x ≡ f n
+    → ((k : ℕ) → k < n → slice_get xs k ≡ Some (f k)) → (k : ℕ) → k < n + 1 → slice_get (xs ++ x ∷ []) k ≡ Some (f k)
 each_push f xs x n e here before = below_more _ _
     (λ k lt. let inside : k < length xs = omega arith in slice_get-append_left xs (x ∷ []) k x inside ∙ before k lt)
     (slice_get-push xs x n e ∙ ap Some here)

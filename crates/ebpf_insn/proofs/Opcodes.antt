@@ -112,7 +112,8 @@ unfolding form_of
 opcode_is n f e = code_is opcode_of n forms f e
 
 -- what a test says of each it says of the one that is found
-passes : {A : Type 0} (test : A → Bool) (code : A → ℕ) (n : ℕ) (items : List A) (a : A) → list_all test items ≡ true → with_code code n items ≡ Some a → test a ≡ true
+passes : {A : Type 0} (test : A → Bool) (code : A → ℕ) (n : ℕ) (items : List A) (a : A) → list_all test items ≡ true
+    → with_code code n items ≡ Some a → test a ≡ true
 passes test code n [] a all e = absurd (none-some a e)
 passes test code n (b ∷ rest) a all e =
     let parts = and_parts (test b) (list_all test rest) all in
@@ -186,10 +187,12 @@ pub store_none : (n : ℕ) (operand : Operand) → n < 256 → n % 8 ≡ store_c
 store_none n Immediate lt class mode = no_form n lt (rw (class, ne_eqb (n / 32) 3 mode) refl)
 store_none n Register lt class mode = no_form n lt (rw (class, ne_eqb (n / 32) 3 mode) refl)
 
-pub alu_none : (n : ℕ) (width : Width) → n < 256 → n % 8 ≡ alu_class width → is_among n (0x84 ∷ 0x87 ∷ 0xd4 ∷ 0xdc ∷ 0xd7 ∷ []) ≡ false → alu_op_of (n / 16) ≡ None → form_of n ≡ None
+pub alu_none : (n : ℕ) (width : Width) → n < 256 → n % 8 ≡ alu_class width
+    → is_among n (0x84 ∷ 0x87 ∷ 0xd4 ∷ 0xdc ∷ 0xd7 ∷ []) ≡ false → alu_op_of (n / 16) ≡ None → form_of n ≡ None
 alu_none n W32 lt class other none = no_form n lt (rw (class, other, none) refl)
 alu_none n W64 lt class other none = no_form n lt (rw (class, other, none) refl)
 
-pub jump_none : (n : ℕ) (width : Width) → n < 256 → n % 8 ≡ jump_class width → is_among n (0x05 ∷ 0x06 ∷ 0x85 ∷ 0x95 ∷ []) ≡ false → condition_of (n / 16) ≡ None → form_of n ≡ None
+pub jump_none : (n : ℕ) (width : Width) → n < 256 → n % 8 ≡ jump_class width → is_among n (0x05 ∷ 0x06 ∷ 0x85 ∷ 0x95 ∷ []) ≡ false
+    → condition_of (n / 16) ≡ None → form_of n ≡ None
 jump_none n W32 lt class other none = no_form n lt (rw (class, other, none) refl)
 jump_none n W64 lt class other none = no_form n lt (rw (class, other, none) refl)

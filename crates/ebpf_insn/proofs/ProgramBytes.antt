@@ -90,10 +90,13 @@ second_opcode i rest two = by_wide (λ j. is_two (slots_in j) ≡ true → (slot
     (λ j alone e. absurd (let no : is_two (slots_in j) ≡ false = rw alone.placed refl in cc)) i two
 
 -- the bytes from a slot on, where an instruction begins there
-begins : (bytes : List ℕ) (slot : ℕ) (i : Insn) → encoding i ≡ take (8 * slots_in i) (drop (8 * slot) bytes) → drop (8 * slot) bytes ≡ encoding i ++ drop (8 * slots_in i) (drop (8 * slot) bytes)
-begins bytes slot i here = sym (take-append-drop (8 * slots_in i) (drop (8 * slot) bytes)) ∙ ap (λ (e : List ℕ). e ++ drop (8 * slots_in i) (drop (8 * slot) bytes)) (sym here)
+begins : (bytes : List ℕ) (slot : ℕ) (i : Insn) → encoding i ≡ take (8 * slots_in i) (drop (8 * slot) bytes)
+    → drop (8 * slot) bytes ≡ encoding i ++ drop (8 * slots_in i) (drop (8 * slot) bytes)
+begins bytes slot i here =
+    sym (take-append-drop (8 * slots_in i) (drop (8 * slot) bytes)) ∙ ap (λ (e : List ℕ). e ++ drop (8 * slots_in i) (drop (8 * slot) bytes)) (sym here)
 
-laid_more : (p : List (Option Insn)) (i : Insn) (half : List (Option Insn)) → p ≡ flat_map placed (instructions p) → Some i ∷ half ≡ placed i → instructions (p ++ Some i ∷ []) ≡ instructions p ++ i ∷ []
+laid_more : (p : List (Option Insn)) (i : Insn) (half : List (Option Insn)) → p ≡ flat_map placed (instructions p)
+    → Some i ∷ half ≡ placed i → instructions (p ++ Some i ∷ []) ≡ instructions p ++ i ∷ []
     → (p ++ Some i ∷ []) ++ half ≡ flat_map placed (instructions (p ++ Some i ∷ []))
 laid_more p i half laid here parts =
     append_assoc p (Some i ∷ []) half ∙ ap (λ (q : List (Option Insn)). p ++ q) here ∙ ap (λ (q : List (Option Insn)). q ++ placed i) laid
@@ -101,7 +104,9 @@ laid_more p i half laid here parts =
     ∙ sym (flat_map-append placed (instructions p) (i ∷ [])) ∙ sym (ap (flat_map placed) parts)
 
 -- an instruction more
-pub read_more : (bytes : List ℕ) (slot : ℕ) (p : List (Option Insn)) (i : Insn) → IsReadSoFar bytes slot p false → IsDefined i → encoding i ≡ take (8 * slots_in i) (drop (8 * slot) bytes) → IsReadSoFar bytes (slot + 1) (p ++ Some i ∷ []) (is_two (slots_in i))
+pub read_more : (bytes : List ℕ) (slot : ℕ) (p : List (Option Insn)) (i : Insn) → IsReadSoFar bytes slot p false → IsDefined i
+    → encoding i ≡ take (8 * slots_in i) (drop (8 * slot) bytes)
+    → IsReadSoFar bytes (slot + 1) (p ++ Some i ∷ []) (is_two (slots_in i))
 read_more bytes slot p i read defined here =
     let parts : instructions (p ++ Some i ∷ []) ≡ instructions p ++ i ∷ [] = instructions-append p (Some i ∷ []) in
     let size : length (pending (is_two (slots_in i))) + 1 ≡ slots_in i = add-one _ ∙ ap length (placed_is i) in
@@ -127,17 +132,22 @@ read_more bytes slot p i read defined here =
 
 -- ---- the fault at a place
 
-two_slots : (bytes : List ℕ) (dst : Reg) (value : ℕ) (b : Bool) → nat_le 16 (length bytes) ≡ b → IsBytes bytes → 8 ≤ length bytes → slots_of (insn.Wide dst value) ≡ take 2 (slot_at bytes ∷ listed (if b then Some (slot_at (drop 8 bytes)) else None)) → encoding (insn.Wide dst value) ≡ take 16 bytes
+two_slots : (bytes : List ℕ) (dst : Reg) (value : ℕ) (b : Bool) → nat_le 16 (length bytes) ≡ b → IsBytes bytes → 8 ≤ length bytes
+    → slots_of (insn.Wide dst value) ≡ take 2 (slot_at bytes ∷ listed (if b then Some (slot_at (drop 8 bytes)) else None))
+    → encoding (insn.Wide dst value) ≡ take 16 bytes
 two_slots bytes dst value true here fits long e =
     let room : 16 ≤ length bytes = grind (arith, nat_tests) in
     let next-fits : IsBytes (drop 8 bytes) = λ k. rw get_or-drop (fits (8 + k)) in
-    let next : bytes_of_slot (slot_at (drop 8 bytes)) ≡ take 8 (drop 8 bytes) = bytes_of_slot-slot_at (drop 8 bytes) next-fits (omega (arith, length-drop 8 bytes)) in
+    let next : bytes_of_slot (slot_at (drop 8 bytes)) ≡ take 8 (drop 8 bytes) =
+    bytes_of_slot-slot_at (drop 8 bytes) next-fits (omega (arith, length-drop 8 bytes)) in
     ap (flat_map bytes_of_slot) e ∙ ap (λ (b : List ℕ). bytes_of_slot (slot_at bytes) ++ b) (append-nil (bytes_of_slot (slot_at (drop 8 bytes))) ∙ next) ∙ ap (λ (b : List ℕ). b ++ take 8 (drop 8 bytes)) (bytes_of_slot-slot_at bytes fits long) ∙ sym (take-add 8 8 bytes)
 two_slots bytes dst value false here fits long e = absurd (let count : 2 ≡ 1 = ap length e in omega arith)
 
 -- the bytes of the slots that were read
-bytes_of_slots : (bytes : List ℕ) (i : Insn) → IsBytes bytes → 8 ≤ length bytes → slots_of i ≡ take (slots_in i) (slot_at bytes ∷ listed (second_at bytes)) → encoding i ≡ take (8 * slots_in i) bytes
-bytes_of_slots bytes i fits long = by_wide (λ j. slots_of j ≡ take (slots_in j) (slot_at bytes ∷ listed (second_at bytes)) → encoding j ≡ take (8 * slots_in j) bytes)
+bytes_of_slots : (bytes : List ℕ) (i : Insn) → IsBytes bytes → 8 ≤ length bytes
+    → slots_of i ≡ take (slots_in i) (slot_at bytes ∷ listed (second_at bytes)) → encoding i ≡ take (8 * slots_in i) bytes
+bytes_of_slots bytes i fits long =
+    by_wide (λ j. slots_of j ≡ take (slots_in j) (slot_at bytes ∷ listed (second_at bytes)) → encoding j ≡ take (8 * slots_in j) bytes)
     (λ dst value e. two_slots bytes dst value (nat_le 16 (length bytes)) refl fits long e)
     (λ j alone e.
     let one : slots_in j ≡ 1 = ap length alone.placed in
@@ -156,7 +166,9 @@ pub fault_at_is : (bytes : List ℕ) (slot : ℕ) (o : Option DecodeCode) → (s
 fault_at_is bytes slot o inside fault = rw (ne_eqb slot 4096 inside) fault
 
 -- the fault of an instruction's place is that of its slots
-pub place_fault_is : (bytes : List ℕ) (slot : ℕ) (s : Slot) (second : Option Slot) (o : Option DecodeCode) → is_second_half bytes slot ≡ false → s ≡ slot_at (drop (8 * slot) bytes) → second ≡ second_at (drop (8 * slot) bytes) → slot_fault s second ≡ o → place_fault bytes slot ≡ o
+pub place_fault_is : (bytes : List ℕ) (slot : ℕ) (s : Slot) (second : Option Slot) (o : Option DecodeCode)
+    → is_second_half bytes slot ≡ false → s ≡ slot_at (drop (8 * slot) bytes) → second ≡ second_at (drop (8 * slot) bytes)
+    → slot_fault s second ≡ o → place_fault bytes slot ≡ o
 place_fault_is bytes slot s second o first read next fault =
     rw first (ap (λ (a : Slot). slot_fault a (second_at (drop (8 * slot) bytes))) (sym read) ∙ ap (slot_fault s) (sym next) ∙ fault)
 
@@ -173,21 +185,27 @@ half_fault bytes slot half = rw half refl
 pub is_even : (n : ℕ) → n ≢ 0 → n % 8 ≡ 0 → is_uneven n ≡ false
 is_even n some whole = rw (ne_eqb n 0 some, eq-eqb (n % 8) 0 whole) refl
 
-pub fault_from_lowest : (bytes : List ℕ) (o : Option (ℕ × DecodeCode)) → is_uneven (length bytes) ≡ false → lowest (fault_at bytes) (length bytes / 8) ≡ o → decode_fault bytes ≡ o
+pub fault_from_lowest : (bytes : List ℕ) (o : Option (ℕ × DecodeCode)) → is_uneven (length bytes) ≡ false
+    → lowest (fault_at bytes) (length bytes / 8) ≡ o → decode_fault bytes ≡ o
 fault_from_lowest bytes o even found = rw even found
 
-pub refused_at : (bytes : List ℕ) (slot : ℕ) (code : DecodeCode) → is_uneven (length bytes) ≡ false → lowest (fault_at bytes) slot ≡ None → slot < length bytes / 8 → fault_at bytes slot ≡ Some code → decode_fault bytes ≡ Some (slot, code)
-refused_at bytes slot code even before inside here = fault_from_lowest bytes (Some (slot, code)) even (lowest_at (fault_at bytes) slot (length bytes / 8) code before here inside)
+pub refused_at : (bytes : List ℕ) (slot : ℕ) (code : DecodeCode) → is_uneven (length bytes) ≡ false
+    → lowest (fault_at bytes) slot ≡ None → slot < length bytes / 8 → fault_at bytes slot ≡ Some code
+    → decode_fault bytes ≡ Some (slot, code)
+refused_at bytes slot code even before inside here =
+    fault_from_lowest bytes (Some (slot, code)) even (lowest_at (fault_at bytes) slot (length bytes / 8) code before here inside)
 
 -- at the end no second half is to come
-pub none_pending : (bytes : List ℕ) (slot : ℕ) (p : List (Option Insn)) (half : Bool) → IsReadSoFar bytes slot p half → length bytes ≡ 8 * slot → IsReadSoFar bytes slot p false
+pub none_pending : (bytes : List ℕ) (slot : ℕ) (p : List (Option Insn)) (half : Bool) → IsReadSoFar bytes slot p half
+    → length bytes ≡ 8 * slot → IsReadSoFar bytes slot p false
 none_pending bytes slot p false read whole = read
 none_pending bytes slot p true read whole = let room : 8 * (slot + 1) ≤ length bytes = read.room in absurd (omega arith)
 
 pub is_well_formed : (bytes : List ℕ) (slot : ℕ) (p : List (Option Insn)) → IsReadSoFar bytes slot p false → 0 < slot → slot ≤ 4096 → IsWellFormed p
 is_well_formed bytes slot p read some few = record { some = omega (arith, read.count); few = omega (arith, read.count); defined = read.defined; placed = sym (append-nil p) ∙ read.laid }
 
-pub is_program : (bytes : List ℕ) (slot : ℕ) (p : List (Option Insn)) → IsReadSoFar bytes slot p false → 0 < slot → slot ≤ 4096 → length bytes ≡ 8 * slot → IsProgram bytes p
+pub is_program : (bytes : List ℕ) (slot : ℕ) (p : List (Option Insn)) → IsReadSoFar bytes slot p false → 0 < slot → slot ≤ 4096
+    → length bytes ≡ 8 * slot → IsProgram bytes p
 is_program bytes slot p read some few whole =
     let same : slot + 0 ≡ slot = omega arith in
     record {
@@ -222,8 +240,10 @@ same_instructions (i ∷ is) [] h k e = absurd (some_bytes i (flat_map encoding 
 same_instructions (i ∷ is) (j ∷ js) h k e =
     let bytes : encoding i ++ flat_map encoding is ≡ encoding j ++ flat_map encoding js = sym (flat_map-cons encoding i is) ∙ e ∙ flat_map-cons encoding j js in
     let first : i ≡ j = same_first i j (flat_map encoding is) (flat_map encoding js) h.0 k.0 bytes in
-    let here : encoding i ++ flat_map encoding is ≡ encoding i ++ flat_map encoding js = bytes ∙ ap (λ (x : Insn). encoding x ++ flat_map encoding js) (sym first) in
-    let rest : flat_map encoding is ≡ flat_map encoding js = sym (rest_of (encoding i) (flat_map encoding is)) ∙ ap (drop (length (encoding i))) here ∙ rest_of (encoding i) (flat_map encoding js) in
+    let here : encoding i ++ flat_map encoding is ≡ encoding i ++ flat_map encoding js =
+    bytes ∙ ap (λ (x : Insn). encoding x ++ flat_map encoding js) (sym first) in
+    let rest : flat_map encoding is ≡ flat_map encoding js =
+    sym (rest_of (encoding i) (flat_map encoding is)) ∙ ap (drop (length (encoding i))) here ∙ rest_of (encoding i) (flat_map encoding js) in
     rw (first, same_instructions is js h.1 k.1 rest) refl
 
 pub same_program : (bytes : List ℕ) (p q : List (Option Insn)) → IsProgram bytes p → IsProgram bytes q → p ≡ q
@@ -238,14 +258,17 @@ back_again p q formed h = same_program (program_bytes p) q p h (record { formed 
 length-encodings : (is : List Insn) → length (flat_map encoding is) ≡ 8 * length (flat_map placed is)
 length-encodings [] = refl
 length-encodings (i ∷ is) =
-    let bytes : length (flat_map encoding (i ∷ is)) ≡ length (encoding i) + length (flat_map encoding is) = ap length (flat_map-cons encoding i is) ∙ length-append (encoding i) (flat_map encoding is) in
-    let slots : length (flat_map placed (i ∷ is)) ≡ slots_in i + length (flat_map placed is) = ap length (flat_map-cons placed i is) ∙ length-append (placed i) (flat_map placed is) in
+    let bytes : length (flat_map encoding (i ∷ is)) ≡ length (encoding i) + length (flat_map encoding is) =
+    ap length (flat_map-cons encoding i is) ∙ length-append (encoding i) (flat_map encoding is) in
+    let slots : length (flat_map placed (i ∷ is)) ≡ slots_in i + length (flat_map placed is) =
+    ap length (flat_map-cons placed i is) ∙ length-append (placed i) (flat_map placed is) in
     omega (arith, bytes, slots, length-encoding i, length-encodings is)
 
 fine_at : (is : List Insn) (k : ℕ) → AllDefined is → k < length (flat_map placed is) → place_fault (flat_map encoding is) k ≡ None
 fine_at [] k h lt = absurd (omega arith)
 fine_at (i ∷ is) k h lt =
-    let slots : length (flat_map placed (i ∷ is)) ≡ slots_in i + length (flat_map placed is) = ap length (flat_map-cons placed i is) ∙ length-append (placed i) (flat_map placed is) in
+    let slots : length (flat_map placed (i ∷ is)) ≡ slots_in i + length (flat_map placed is) =
+    ap length (flat_map-cons placed i is) ∙ length-append (placed i) (flat_map placed is) in
     ap (λ (b : List ℕ). place_fault b k) (flat_map-cons encoding i is)
     ∙ elim (cases_lt k (slots_in i)) [
       | inl below ↦ places_within i (flat_map encoding is) k h.0 below

@@ -26,7 +26,8 @@ Follows q place executed to there v now new =
 patched_placed : (place : ℕ → ℕ) (call at : ℕ) (bytes : List ℕ) (o : ObjectView) → AreApart place
     → patched_at (place call) at bytes (object_placed place o) ≡ object_placed place (patched_at call at bytes o)
 patched_placed place call at bytes o apart = rw (same_names place o.call call apart) (by (o.call == call)) where
-  by : (t : Bool) → cond t (record (object_placed place o) { bytes = patched o.bytes at bytes }) (object_placed place o) ≡ object_placed place (cond t (record o { bytes = patched o.bytes at bytes }) o)
+  by : (t : Bool)
+      → cond t (record (object_placed place o) { bytes = patched o.bytes at bytes }) (object_placed place o) ≡ object_placed place (cond t (record o { bytes = patched o.bytes at bytes }) o)
   by true = refl
   by false = refl
 
@@ -42,7 +43,8 @@ freed_placed place call (o ∷ objects) apart = rw (same_names place o.call call
   rest : List ObjectView
   rest = filter (λ (x : ObjectView). not (x.call == call)) objects
 
-  by : (t : Bool) → cond t (object_placed place o ∷ map (object_placed place) rest) (map (object_placed place) rest) ≡ map (object_placed place) (cond t (o ∷ rest) rest)
+  by : (t : Bool)
+      → cond t (object_placed place o ∷ map (object_placed place) rest) (map (object_placed place) rest) ≡ map (object_placed place) (cond t (o ∷ rest) rest)
   by true = refl
   by false = refl
 
@@ -52,7 +54,8 @@ left_placed place None objects apart = refl
 left_placed place (Some call) objects apart = freed_placed place call objects apart
 
 -- one more object
-pushed_placed : (place : ℕ → ℕ) (objects : List ObjectView) (o : ObjectView) → map (object_placed place) objects ++ object_placed place o ∷ [] ≡ map (object_placed place) (objects ++ o ∷ [])
+pushed_placed : (place : ℕ → ℕ) (objects : List ObjectView) (o : ObjectView)
+    → map (object_placed place) objects ++ object_placed place o ∷ [] ≡ map (object_placed place) (objects ++ o ∷ [])
 pushed_placed place [] o = refl
 pushed_placed place (x ∷ objects) o = ap (λ (os : List ObjectView). object_placed place x ∷ os) (pushed_placed place objects o)
 
@@ -73,9 +76,12 @@ replied_placed q place executed result value to there frame objects new taken v 
 
 answer_follows : (q : List (Option Insn)) (place : ℕ → ℕ) (executed : ℕ) (result : CallResult) (to there : ℕ) (frame : Frame ℕ) (kind : ℕ) (v : RunView)
     → Follows q place (executed + 1) to there v (answered result to frame kind v) (answered result there (frame_renamed place frame) kind (laid_view q place executed v))
-answer_follows q place executed Null to there frame kind v = inl (refl, refl, replied_placed q place executed Null (Number 0) to there frame v.objects (map (object_placed place) v.objects) v.taken v refl)
-answer_follows q place executed Empty to there frame kind v = inl (refl, refl, replied_placed q place executed Null (Number 0) to there frame v.objects (map (object_placed place) v.objects) v.taken v refl)
-answer_follows q place executed (Shelved bytes) to there frame kind v = inl (refl, refl, replied_placed q place executed Null (Number 0) to there frame v.objects (map (object_placed place) v.objects) v.taken v refl)
+answer_follows q place executed Null to there frame kind v =
+    inl (refl, refl, replied_placed q place executed Null (Number 0) to there frame v.objects (map (object_placed place) v.objects) v.taken v refl)
+answer_follows q place executed Empty to there frame kind v =
+    inl (refl, refl, replied_placed q place executed Null (Number 0) to there frame v.objects (map (object_placed place) v.objects) v.taken v refl)
+answer_follows q place executed (Shelved bytes) to there frame kind v =
+    inl (refl, refl, replied_placed q place executed Null (Number 0) to there frame v.objects (map (object_placed place) v.objects) v.taken v refl)
 answer_follows q place executed Granted to there frame kind v = rw (length-map v.objects (object_placed place)) (by (nat_le v.subject.decl.held (length v.objects))) where
   granted : RunView
   granted = told_on Granted (Pointer (Object v.pc) (pos 0)) to frame (v.objects ++ new_object v kind ∷ []) v.taken v
@@ -96,7 +102,8 @@ emptied : (q : List (Option Insn)) (place : ℕ → ℕ) (executed to there : �
 emptied q place executed to there frame given v apart =
     replied_placed q place executed Empty (Number 0) to there frame (without_given given v.objects) (without_given (option_map place given) (map (object_placed place) v.objects)) v.taken v (left_placed place given v.objects apart)
 
-exchange_follows : (q : List (Option Insn)) (place : ℕ → ℕ) (executed : ℕ) (result : CallResult) (to there : ℕ) (frame : Frame ℕ) (shelf : ℕ) (given : Option ℕ) (v : RunView) → AreApart place
+exchange_follows : (q : List (Option Insn)) (place : ℕ → ℕ) (executed : ℕ) (result : CallResult) (to there : ℕ) (frame : Frame ℕ) (shelf : ℕ) (given : Option ℕ) (v : RunView)
+    → AreApart place
     → Follows q place (executed + 1) to there v (exchanged result to frame shelf given v) (exchanged result there (frame_renamed place frame) shelf (option_map place given) (laid_view q place executed v))
 exchange_follows q place executed Empty to there frame shelf given v apart = inl (refl, refl, emptied q place executed to there frame given v apart)
 exchange_follows q place executed Null to there frame shelf given v apart = inl (refl, refl, emptied q place executed to there frame given v apart)
@@ -124,7 +131,8 @@ exchange_follows q place executed (Shelved bytes) to there frame shelf given v a
             (map (object_placed place) left ++ shelved_object laid shelf bytes ∷ []) (v.taken ++ bytes) v (pushed_placed place left (shelved_object v shelf bytes)),
       )
 
-pub act_follows : (q : List (Option Insn)) (place : ℕ → ℕ) (executed : ℕ) (act : Act ℕ) (result : CallResult) (to there : ℕ) (frame : Frame ℕ) (v : RunView) → AreApart place
+pub act_follows : (q : List (Option Insn)) (place : ℕ → ℕ) (executed : ℕ) (act : Act ℕ) (result : CallResult) (to there : ℕ) (frame : Frame ℕ) (v : RunView)
+    → AreApart place
     → Follows q place (executed + 1) to there v (acted act result to frame v) (acted (act_told (placed place) act) result there (frame_renamed place frame) (laid_view q place executed v))
 act_follows q place executed Nothing result to there frame v apart = inl (refl, refl, refl)
 act_follows q place executed (Write call at bytes) result to there frame v apart = inl (

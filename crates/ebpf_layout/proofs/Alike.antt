@@ -33,7 +33,8 @@ cells_placed : (place : ℕ → ℕ) (n : ℕ) → map (cell_renamed place) (rep
 cells_placed place zero = refl
 cells_placed place (suc n) = ap (λ (cells : List (Cell ℕ)). Unset ∷ cells) (cells_placed place n)
 
-first_placed : (p q : List (Option Insn)) (place : ℕ → ℕ) (decl : Decl) (rows : List KindRow) (context : List ℕ) → place 0 ≡ 0 → run_of q decl rows context ≡ laid_view q place 0 (run_of p decl rows context)
+first_placed : (p q : List (Option Insn)) (place : ℕ → ℕ) (decl : Decl) (rows : List KindRow) (context : List ℕ) → place 0 ≡ 0
+    → run_of q decl rows context ≡ laid_view q place 0 (run_of p decl rows context)
 first_placed p q place decl rows context first =
     let cells : replicate 512 Unset ≡ map (cell_renamed place) (replicate 512 Unset) = sym (cells_placed place 512) in
     ap (λ (k : ℕ). record (run_of q decl rows context) { pc = k }) (sym first)
@@ -58,7 +59,8 @@ over_or_going (Exited n) = inl (λ w result e. ap (λ (s : Status). stepped_from
 over_or_going (Trapped trap) = inl (λ w result e. ap (λ (s : Status). stepped_from s result w) e)
 
 -- one instruction of the old program, and so many more of the new
-next_by : (p q : List (Option Insn)) (place : ℕ → ℕ) (told : ℕ → CallResult) (old new now : RunView) (n steps executed : ℕ) → suc n ≤ steps → steps ≤ 2 * suc n → run_on (suc n) told old ≡ now
+next_by : (p q : List (Option Insn)) (place : ℕ → ℕ) (told : ℕ → CallResult) (old new now : RunView) (n steps executed : ℕ)
+    → suc n ≤ steps → steps ≤ 2 * suc n → run_on (suc n) told old ≡ now
     → run_on steps told new ≡ laid_view q place executed now → now.subject.program ≡ p → IsReached p now.pc → IsPaired p q place told old new (suc n)
 next_by p q place told old new now n steps executed least most is same program reached = record {
   steps = steps;
@@ -70,13 +72,15 @@ next_by p q place told old new now n steps executed least most is same program r
   reached = subst (λ (t : RunView). IsReached p t.pc) (sym is) reached;
 }
 
-paired_next : (p q : List (Option Insn)) (laid : IsLaidOut p q) (told : ℕ → CallResult) (old new : RunView) (n : ℕ) → IsPaired p q laid.place told old new n → IsPaired p q laid.place told old new (suc n)
+paired_next : (p q : List (Option Insn)) (laid : IsLaidOut p q) (told : ℕ → CallResult) (old new : RunView) (n : ℕ)
+    → IsPaired p q laid.place told old new n → IsPaired p q laid.place told old new (suc n)
 paired_next p q laid told old new n h =
     let v = run_on n told old in
     let w = laid_view q laid.place h.executed v in
     let result = told (length v.replies) in
     let here : run_on (suc n) told old ≡ stepped result v = run_more n told old in
-    let there : run_on (suc h.steps) told new ≡ stepped result w = run_more h.steps told new ∙ ap (λ (t : RunView). stepped (told (length t.replies)) t) h.same in
+    let there : run_on (suc h.steps) told new ≡ stepped result w =
+    run_more h.steps told new ∙ ap (λ (t : RunView). stepped (told (length t.replies)) t) h.same in
     let least = h.least in
     let most = h.most in
     elim (over_or_going v.status) [
@@ -85,7 +89,8 @@ paired_next p q laid told old new n h =
           let other = told (length (stepped result w).replies) in
           let s = step_kept p q laid v h.executed result other h.program h.reached going in
           let program : (stepped result v).subject.program ≡ p = ap (λ (t : Subject). t.program) (one_on v result going).subject ∙ h.program in
-          let further : run_on (suc (suc h.steps)) told new ≡ stepped other (stepped result w) = run_more (suc h.steps) told new ∙ ap (λ (t : RunView). stepped (told (length t.replies)) t) there in
+          let further : run_on (suc (suc h.steps)) told new ≡ stepped other (stepped result w) =
+          run_more (suc h.steps) told new ∙ ap (λ (t : RunView). stepped (told (length t.replies)) t) there in
           elim s.kept [
             | inl one ↦ next_by p q laid.place told old new (stepped result v) n (suc h.steps) (h.executed + 1) (omega arith) (omega arith) here (there ∙ one) program s.reached
             | inr two ↦ next_by p q laid.place told old new (stepped result v) n (suc (suc h.steps)) (h.executed + 1 + 1) (omega arith) (omega arith) here (further ∙ two) program s.reached
@@ -107,7 +112,8 @@ paired p q laid decl rows context told zero =
       program = subst (λ (t : RunView). t.subject.program ≡ p) (sym none) refl;
       reached = subst (λ (t : RunView). IsReached p t.pc) (sym none) (path_none p 0);
     }
-paired p q laid decl rows context told (suc n) = paired_next p q laid told (run_of p decl rows context) (run_of q decl rows context) n (paired p q laid decl rows context told n)
+paired p q laid decl rows context told (suc n) =
+    paired_next p q laid told (run_of p decl rows context) (run_of q decl rows context) n (paired p q laid decl rows context told n)
 
 -- ---- what comes of the runs
 
@@ -116,7 +122,8 @@ contents_placed place [] = refl
 contents_placed place (o ∷ objects) = ap (λ (rest : List Found). content o ∷ rest) (contents_placed place objects)
 
 as_far : (q : List (Option Insn)) (place : ℕ → ℕ) (executed : ℕ) (v w : RunView) → w ≡ laid_view q place executed v → IsAsFar v w
-as_far q place executed v w same = subst (IsAsFar v) (sym same) (record { status = refl; output = refl; replies = refl; taken = refl; objects = contents_placed place v.objects })
+as_far q place executed v w same =
+    subst (IsAsFar v) (sym same) (record { status = refl; output = refl; replies = refl; taken = refl; objects = contents_placed place v.objects })
 
 pub run_alike : (p q : List (Option Insn)) → IsLaidOut p q → RunAlike p q
 run_alike p q laid decl rows context told n =

@@ -25,10 +25,12 @@ reverse-push code i = reverse-append code (reverse (placed i)) ∙ ap (λ (x : L
 pub count_fits : (code : List (Option Insn)) (count : ℕ) → IsCode code count → count ≤ 8192
 count_fits code count h = omega (arith, h.few, h.counted, instructions-length (reverse code), length-reverse code)
 
-pub code_more : (code : List (Option Insn)) (count : ℕ) (i : Insn) → IsCode code count → IsDefined i → length code + slots_in i ≤ 8192 → IsCode (code ++ reverse (placed i)) (count + 1)
+pub code_more : (code : List (Option Insn)) (count : ℕ) (i : Insn) → IsCode code count → IsDefined i
+    → length code + slots_in i ≤ 8192 → IsCode (code ++ reverse (placed i)) (count + 1)
 code_more code count i h defined few =
     let back = reverse-push code i in
-    let parts : instructions (reverse (code ++ reverse (placed i))) ≡ i ∷ instructions (reverse code) = ap instructions back ∙ instructions-placed i (reverse code) in
+    let parts : instructions (reverse (code ++ reverse (placed i))) ≡ i ∷ instructions (reverse code) =
+    ap instructions back ∙ instructions-placed i (reverse code) in
     let len : length (reverse (placed i)) ≡ slots_in i = length-reverse (placed i) in
     record {
       few = omega (arith, length-append code (reverse (placed i)));

@@ -79,7 +79,8 @@ forward q k to h edge = forward_at q k to (insn_at q k) h refl edge
 
 -- ---- and all that stands in it is reached
 
-next_reached : (p q : List (Option Insn)) (from to : ℕ) → (l : IsLaidOut p q) → JumpsForward q → IsReached p from → is_reached q (l.place from) ≡ true → IsEdge p from to → is_reached q (l.place to) ≡ true
+next_reached : (p q : List (Option Insn)) (from to : ℕ) → (l : IsLaidOut p q) → JumpsForward q → IsReached p from
+    → is_reached q (l.place from) ≡ true → IsEdge p from to → is_reached q (l.place to) ≡ true
 next_reached p q from to l h reached here edge = elim (edge_cases p from to edge) [
   | inl falls_to ↦
       let f = l.falls from to reached falls_to in
@@ -96,7 +97,8 @@ next_reached p q from to l h reached here edge = elim (edge_cases p from to edge
       reached_next q (l.place from) (l.place to) here step (forward q (l.place from) (l.place to) h step)
 ]
 
-led_reached : (p q : List (Option Insn)) (from : ℕ) (steps : List ℕ) (to : ℕ) → (l : IsLaidOut p q) → JumpsForward q → IsReached p from → is_reached q (l.place from) ≡ true → LeadBy p from steps to
+led_reached : (p q : List (Option Insn)) (from : ℕ) (steps : List ℕ) (to : ℕ) → (l : IsLaidOut p q) → JumpsForward q
+    → IsReached p from → is_reached q (l.place from) ≡ true → LeadBy p from steps to
     → is_reached q (l.place to) ≡ true
 led_reached p q from [] to l h reached here same = subst (λ (k : ℕ). is_reached q (l.place k) ≡ true) same here
 led_reached p q from (next ∷ rest) to l h reached here lead =
@@ -134,7 +136,8 @@ sound_jump q k i h s = elim s.jumps [
       subst (λ (t : Option ℕ). jump_fault q k (displacement_of i) t ≡ None) (sym to.1) (no_jump_fault q k to.0 (displacement_of i) (forward q k to.0 h edge) to.2)
 ]
 
-no_fall_fault : (q : List (Option Insn)) (k : ℕ) (i : Insn) → (falls i && leb (length q) (k + slots_in i)) ≡ false → is_reached q k ≡ true → fall_fault q k i ≡ None
+no_fall_fault : (q : List (Option Insn)) (k : ℕ) (i : Insn) → (falls i && leb (length q) (k + slots_in i)) ≡ false
+    → is_reached q k ≡ true → fall_fault q k i ≡ None
 no_fall_fault q k i inside reached = rw (inside, reached) refl
 
 sound_falls : (q : List (Option Insn)) (k : ℕ) (i : Insn) (b : Bool) → falls i ≡ b → IsSound q k i → (b && leb (length q) (k + slots_in i)) ≡ false
@@ -180,7 +183,8 @@ place_there p q slot l w reached =
     let m = l.same slot i.0 reached i.1 in
     there_if q (l.place slot) (moved i.0 m.0) m.1
 
-kept_jumps : (p q : List (Option Insn)) (slot : ℕ) (i : Insn) (z : ℤ) → (l : IsLaidOut p q) → IsWhole p → IsReached p slot → insn_at p slot ≡ Some i → insn_at q (l.place slot) ≡ Some (moved i z)
+kept_jumps : (p q : List (Option Insn)) (slot : ℕ) (i : Insn) (z : ℤ) → (l : IsLaidOut p q) → IsWhole p → IsReached p slot
+    → insn_at p slot ≡ Some i → insn_at q (l.place slot) ≡ Some (moved i z)
     → Jumps q (l.place slot) (moved i z)
 kept_jumps p q slot i z l w reached at here =
     let fine : faults.edge_fault p slot (Some i) ≡ None = subst (λ (o : Option Insn). faults.edge_fault p slot o ≡ None) at (w.fine slot reached) in
@@ -194,11 +198,13 @@ kept_jumps p q slot i z l w reached at here =
           inr (l.place to.0, subst (λ (o : Option Insn). (edges_of o (l.place slot)).jump ≡ Some (l.place to.0)) here lands, place_there p q to.0 l w on)
     ]
 
-kept_falls : (p q : List (Option Insn)) (slot : ℕ) (i : Insn) (z : ℤ) (t : ℕ) → (l : IsLaidOut p q) → IsWhole p → IsReached p slot → insn_at p slot ≡ Some i → insn_at q (l.place slot) ≡ Some (moved i z)
+kept_falls : (p q : List (Option Insn)) (slot : ℕ) (i : Insn) (z : ℤ) (t : ℕ) → (l : IsLaidOut p q) → IsWhole p → IsReached p slot
+    → insn_at p slot ≡ Some i → insn_at q (l.place slot) ≡ Some (moved i z)
     → fall_of (moved i z) (l.place slot) ≡ Some t → is_none (insn_at q t) ≡ false
 kept_falls p q slot i z t l w reached at here falls_to =
     let to = slot + slots_in i in
-    let old : (edges_at p slot).fall ≡ Some (slot + slots_in i) = subst (λ (o : Option Insn). (edges_of o slot).fall ≡ Some (slot + slots_in i)) (sym at) (fall_back i z (l.place slot) t slot falls_to) in
+    let old : (edges_at p slot).fall ≡ Some (slot + slots_in i) =
+    subst (λ (o : Option Insn). (edges_of o slot).fall ≡ Some (slot + slots_in i)) (sym at) (fall_back i z (l.place slot) t slot falls_to) in
     let f = l.falls slot (slot + slots_in i) reached old in
     let next : fall_of (moved i z) (l.place slot) ≡ Some f.0 = subst (λ (o : Option Insn). (edges_of o (l.place slot)).fall ≡ Some f.0) here f.1 in
     let one : f.0 ≡ t = same_Some f.0 t (sym next ∙ falls_to) in
@@ -208,7 +214,8 @@ kept_falls p q slot i z t l w reached at here falls_to =
       | inr jump ↦ subst (λ (k : ℕ). is_none (insn_at q k) ≡ false) one (there_if q f.0 (insn.Jump jump.0) jump.1)
     ]
 
-kept_sound : (p q : List (Option Insn)) (slot : ℕ) → (l : IsLaidOut p q) → IsWhole p → JumpsForward q → IsReached p slot → (i : Insn) × IsSound q (l.place slot) i
+kept_sound : (p q : List (Option Insn)) (slot : ℕ) → (l : IsLaidOut p q) → IsWhole p → JumpsForward q → IsReached p slot
+    → (i : Insn) × IsSound q (l.place slot) i
 kept_sound p q slot l w h reached =
     let i = ordered_insn p slot (insn_at p slot) refl (w.there slot reached) in
     let m = l.same slot i.0 reached i.1 in (
@@ -221,7 +228,8 @@ kept_sound p q slot l w h reached =
       },
     )
 
-added_sound : (p q : List (Option Insn)) (k slot to : ℕ) → (l : IsLaidOut p q) → IsWhole p → JumpsForward q → IsReached p slot → (edges_at p slot).fall ≡ Some to → (edges_at q (l.place slot)).fall ≡ Some k
+added_sound : (p q : List (Option Insn)) (k slot to : ℕ) → (l : IsLaidOut p q) → IsWhole p → JumpsForward q → IsReached p slot
+    → (edges_at p slot).fall ≡ Some to → (edges_at q (l.place slot)).fall ≡ Some k
     → (j : IsJumpTo q k (l.place to)) → IsSound q k (insn.Jump j.0)
 added_sound p q k slot to l w h reached falls_to here j =
     let on = path_more p 0 slot to reached (fall_is_edge p slot to falls_to) in
@@ -243,14 +251,16 @@ fine_at p q k (Some i) l w h at = elim (l.only k i at) [
 ]
 
 -- what is reached is an instruction
-reached_there : (p : List (Option Insn)) → IsWellFormed p → ((k : ℕ) → IsReached p k → faults.edge_fault_at p k ≡ None) → (from : ℕ) (steps : List ℕ) (to : ℕ) → IsReached p from
+reached_there : (p : List (Option Insn)) → IsWellFormed p → ((k : ℕ) → IsReached p k → faults.edge_fault_at p k ≡ None)
+    → (from : ℕ) (steps : List ℕ) (to : ℕ) → IsReached p from
     → is_none (insn_at p from) ≡ false → LeadBy p from steps to → is_none (insn_at p to) ≡ false
 reached_there p formed fine from [] to reached there same = subst (λ (k : ℕ). is_none (insn_at p k) ≡ false) same there
 reached_there p formed fine from (next ∷ rest) to reached there lead =
     let i = ordered_insn p from (insn_at p from) refl there in
     reached_there p formed fine next rest to (path_more p 0 from next reached lead.0) (edge_there p from next i.0 formed i.1 (fine from reached) lead.0) lead.1
 
-pub flow_is_fine : (p q : List (Option Insn)) → IsLaidOut p q → IsWellFormed p → ((k : ℕ) → IsReached p k → faults.edge_fault_at p k ≡ None) → JumpsForward q → flow_fault q ≡ None
+pub flow_is_fine : (p q : List (Option Insn)) → IsLaidOut p q → IsWellFormed p
+    → ((k : ℕ) → IsReached p k → faults.edge_fault_at p k ≡ None) → JumpsForward q → flow_fault q ≡ None
 flow_is_fine p q l formed fine h =
     let w : IsWhole p = record {
       formed = formed;

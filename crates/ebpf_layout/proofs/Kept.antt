@@ -87,4 +87,5 @@ module _ (p : List (Option Insn)) (formed : IsWellFormed p) (fine : flow_fault p
 pub take_next : (p : List (Option Insn)) (k : ℕ) → k < length p → take (k + 1) p ≡ take k p ++ insn_at p k ∷ []
 take_next [] k lt = absurd (omega arith)
 take_next (x ∷ xs) zero lt = refl
-take_next (x ∷ xs) (suc k) lt = let n : suc k + 1 ≡ suc (k + 1) = omega arith in ap (λ (m : ℕ). take m (x ∷ xs)) n ∙ ap (λ (l : List (Option Insn)). x ∷ l) (take_next xs k (omega arith))
+take_next (x ∷ xs) (suc k) lt =
+    let n : suc k + 1 ≡ suc (k + 1) = omega arith in ap (λ (m : ℕ). take m (x ∷ xs)) n ∙ ap (λ (l : List (Option Insn)). x ∷ l) (take_next xs k (omega arith))

@@ -16,7 +16,8 @@ get_last [] y = refl
 get_last (z ∷ xs) y = get_last xs y
 
 -- an element is an old one or the one that was pushed
-pub get_pushed : {X : Type 0} (xs : List X) (y : X) (k : ℕ) (x : X) → slice_get (xs ++ y ∷ []) k ≡ Some x → (slice_get xs k ≡ Some x) ⊎ ((k ≡ length xs) × (x ≡ y))
+pub get_pushed : {X : Type 0} (xs : List X) (y : X) (k : ℕ) (x : X) → slice_get (xs ++ y ∷ []) k ≡ Some x
+    → (slice_get xs k ≡ Some x) ⊎ ((k ≡ length xs) × (x ≡ y))
 get_pushed [] y zero x e = inr (refl, sym (same_Some y x e))
 get_pushed [] y (suc k) x e = absurd (none-some x e)
 get_pushed (z ∷ xs) y zero x e = inl e

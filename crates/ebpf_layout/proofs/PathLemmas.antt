@@ -49,8 +49,10 @@ jump_edge q k i to at e = subst (λ (o : Option Insn). (edges_of o k).jump ≡ S
 pub fall_edge : (q : List (Option Insn)) (k : ℕ) (i : Insn) (to : ℕ) → insn_at q k ≡ Some i → fall_of i k ≡ Some to → (edges_at q k).fall ≡ Some to
 fall_edge q k i to at e = subst (λ (o : Option Insn). (edges_of o k).fall ≡ Some to) (sym at) e
 
-pub jump_of_edge : (p : List (Option Insn)) (slot : ℕ) (i : Insn) (to : ℕ) → insn_at p slot ≡ Some i → (edges_at p slot).jump ≡ Some to → jump_of i slot ≡ Some to
+pub jump_of_edge : (p : List (Option Insn)) (slot : ℕ) (i : Insn) (to : ℕ) → insn_at p slot ≡ Some i
+    → (edges_at p slot).jump ≡ Some to → jump_of i slot ≡ Some to
 jump_of_edge p slot i to at e = subst (λ (o : Option Insn). (edges_of o slot).jump ≡ Some to) at e
 
-pub fall_of_edge : (p : List (Option Insn)) (slot : ℕ) (i : Insn) (to : ℕ) → insn_at p slot ≡ Some i → (edges_at p slot).fall ≡ Some to → fall_of i slot ≡ Some to
+pub fall_of_edge : (p : List (Option Insn)) (slot : ℕ) (i : Insn) (to : ℕ) → insn_at p slot ≡ Some i
+    → (edges_at p slot).fall ≡ Some to → fall_of i slot ≡ Some to
 fall_of_edge p slot i to at e = subst (λ (o : Option Insn). (edges_of o slot).fall ≡ Some to) at e

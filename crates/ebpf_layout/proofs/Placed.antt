@@ -45,10 +45,12 @@ is_done-in (Open k) e = absurd (cc)
 is_done-in (Done n) e = tt
 
 -- what is in an order isn't left to be placed
-not_left : (marks : List Mark) (path order : List ℕ) (slot n : ℕ) → AreMarked marks path order → is_done (mark_at marks slot) ≡ false → slice_get order n ≡ Some slot → ⊥
+not_left : (marks : List Mark) (path order : List ℕ) (slot n : ℕ) → AreMarked marks path order
+    → is_done (mark_at marks slot) ≡ false → slice_get order n ≡ Some slot → ⊥
 not_left marks path order slot n h left e = false≢true (sym left ∙ ap is_done (h.order_mark slot n e))
 
-done_in : (marks : List Mark) (path order : List ℕ) (slot n : ℕ) → AreMarked marks path order → slice_get order n ≡ Some slot → is_done (mark_at marks slot) ≡ true
+done_in : (marks : List Mark) (path order : List ℕ) (slot n : ℕ) → AreMarked marks path order → slice_get order n ≡ Some slot
+    → is_done (mark_at marks slot) ≡ true
 done_in marks path order slot n h e = ap is_done (h.order_mark slot n e)
 
 placed_in : (marks : List Mark) (edge : Option ℕ) → is_placed marks edge ≡ true → IfSome edge (λ to. IsDone (mark_at marks to))
@@ -74,7 +76,8 @@ may_go p found marks slot e =
       fall = free.1;
     }
 
-is_left-from : (found marks : List Mark) (slot : ℕ) → is_done (mark_at found slot) ≡ true → is_done (mark_at marks slot) ≡ false → is_left found marks slot ≡ true
+is_left-from : (found marks : List Mark) (slot : ℕ) → is_done (mark_at found slot) ≡ true → is_done (mark_at marks slot) ≡ false
+    → is_left found marks slot ≡ true
 is_left-from found marks slot there left = and_from (is_done (mark_at found slot)) (not (is_done (mark_at marks slot))) there (ap not left)
 
 ready_from : (p : List (Option Insn)) (found marks : List Mark) (slot : ℕ) → MayGo p found marks slot → is_ready p found marks slot ≡ true
@@ -83,7 +86,8 @@ ready_from p found marks slot m =
     (and_from (is_placed marks (standing p (edges_at p slot).jump)) (is_placed marks (standing p (edges_at p slot).fall)) m.jump m.fall)
 
 -- what isn't left isn't when a slot more is placed
-pub left_none : (found marks : List Mark) (slot n k : ℕ) → slot < length marks → is_left found marks k ≡ false → is_left found (slice_set marks slot (Done n)) k ≡ false
+pub left_none : (found marks : List Mark) (slot n k : ℕ) → slot < length marks → is_left found marks k ≡ false
+    → is_left found (slice_set marks slot (Done n)) k ≡ false
 left_none found marks slot n k lt gone = elim (cases_eq k slot) [
   | inl same ↦
       let here : mark_at (slice_set marks slot (Done n)) k ≡ Done n = rw same (get_or-set_same marks slot (Done n) New lt) in
@@ -138,7 +142,8 @@ standing_at p to (Some i) at there = ap (λ (o : Option Insn). if_there o to) at
 abbrev IsOpen : List (Option Insn) → List Mark → Option ℕ → Type 0
 IsOpen p marks edge = (to : ℕ) × (edge ≡ Some to) × (is_none (insn_at p to) ≡ false) × (is_done (mark_at marks to) ≡ false)
 
-open_there : (p : List (Option Insn)) (marks : List Mark) (to : ℕ) (o : Option Insn) → insn_at p to ≡ o → is_placed marks (if_there o to) ≡ false → IsOpen p marks (Some to)
+open_there : (p : List (Option Insn)) (marks : List Mark) (to : ℕ) (o : Option Insn) → insn_at p to ≡ o
+    → is_placed marks (if_there o to) ≡ false → IsOpen p marks (Some to)
 open_there p marks to None at e = absurd (false≢true (sym e))
 open_there p marks to (Some i) at e = (to, refl, ap is_none at, e)
 
@@ -148,7 +153,8 @@ open_edge p marks (Some to) e = open_there p marks to (insn_at p to) refl e
 
 module _ (p : List (Option Insn)) (search : List Mark) (old : List ℕ) (marks : List Mark) (order : List ℕ) (o : IsOrder p search old) (h : IsPlacing p marks order) where
   -- what falls to something placed and may not go jumps to something that isn't placed
-  unready : (n to from : ℕ) → slice_get order n ≡ Some to → (edges_at p from).fall ≡ Some to → is_done (mark_at marks from) ≡ false → IsReached p from → is_ready p search marks from ≡ false
+  unready : (n to from : ℕ) → slice_get order n ≡ Some to → (edges_at p from).fall ≡ Some to → is_done (mark_at marks from) ≡ false
+      → IsReached p from → is_ready p search marks from ≡ false
       → IsOpen p marks (edges_at p from).jump
   unready n to from e falls left reached wrong =
       let there : is_done (mark_at search from) ≡ true = elim (reached_in p search old from o reached) [
@@ -177,7 +183,8 @@ module _ (p : List (Option Insn)) (search : List Mark) (old : List ℕ) (marks :
   ]
 
   -- the first of the search's order that isn't placed may go
-  ready_below : (n : ℕ) → n ≤ length old → ((m s : ℕ) → m < n → slice_get old m ≡ Some s → is_done (mark_at marks s) ≡ true) ⊎ ((k : ℕ) × (k < length p) × (is_ready p search marks k ≡ true))
+  ready_below : (n : ℕ) → n ≤ length old
+      → ((m s : ℕ) → m < n → slice_get old m ≡ Some s → is_done (mark_at marks s) ≡ true) ⊎ ((k : ℕ) × (k < length p) × (is_ready p search marks k ≡ true))
   ready_below zero le = inl (λ m s lt e. absurd (omega arith))
   ready_below (suc n) le = elim (ready_below n (omega arith)) [
     | inr some ↦ inr some
@@ -213,7 +220,8 @@ module _ (p : List (Option Insn)) (search : List Mark) (old : List ℕ) (marks :
   ]
 
 -- one that was found is reached, and is an instruction
-was_found : (p : List (Option Insn)) (search : List Mark) (old : List ℕ) (slot : ℕ) → IsOrder p search old → is_done (mark_at search slot) ≡ true → IsReached p slot × (is_none (insn_at p slot) ≡ false)
+was_found : (p : List (Option Insn)) (search : List Mark) (old : List ℕ) (slot : ℕ) → IsOrder p search old
+    → is_done (mark_at search slot) ≡ true → IsReached p slot × (is_none (insn_at p slot) ≡ false)
 was_found p search old slot o there =
     let number = done_number (mark_at search slot) there in
     let at = o.ordered number.0 slot (o.marked.order_slot slot number.0 number.1) in
@@ -269,10 +277,12 @@ module _ (p : List (Option Insn)) (search : List Mark) (old : List ℕ) (marks :
 
   other : (from : ℕ) → is_done (mark_at (slice_set marks slot (Done (length order))) from) ≡ false → (from ≢ slot) × (is_done (mark_at marks from) ≡ false)
   other from e =
-      let ne : from ≢ slot = λ same. false≢true (sym e ∙ (rw same (ap is_done (get_or-set_same marks slot (Done (length order)) New (omega (arith, slot_inside, h.all)))))) in
+      let ne : from ≢ slot =
+      λ same. false≢true (sym e ∙ (rw same (ap is_done (get_or-set_same marks slot (Done (length order)) New (omega (arith, slot_inside, h.all)))))) in
       (ne, ap is_done (sym (get_or-set_other marks slot from (Done (length order)) New ne)) ∙ e)
 
-  waits_now : (n to from : ℕ) → slice_get order n ≡ Some to → n + 1 ≡ length order → (edges_at p from).fall ≡ Some to → from ≢ slot → is_done (mark_at marks from) ≡ false → IsReached p from
+  waits_now : (n to from : ℕ) → slice_get order n ≡ Some to → n + 1 ≡ length order → (edges_at p from).fall ≡ Some to → from ≢ slot
+      → is_done (mark_at marks from) ≡ false → IsReached p from
       → Waits p (order ++ slot ∷ []) n from
   waits_now n to from e last falls ne before reached = elim (cases_Bool (is_ready p search marks from)) [
     | inl ready ↦
@@ -312,7 +322,8 @@ module _ (p : List (Option Insn)) (search : List Mark) (old : List ℕ) (marks :
       | inl old ↦ let k = h.ordered n s old in (k.0, k.1, behind_more p order n s slot k.2)
       | inr here ↦ rw (here.0, here.1) (at_slot.0, at_slot.1, behind_more p order (length order) slot slot behind)
     ];
-    size = slots_of-push p order slot ∙ ap (λ (n : ℕ). n + size_of (insn_at p slot)) h.size ∙ sym (size_done p marks slot (length order) h.all slot_inside left);
+    size =
+        slots_of-push p order slot ∙ ap (λ (n : ℕ). n + size_of (insn_at p slot)) h.size ∙ sym (size_done p marks slot (length order) h.all slot_inside left);
     neighbours = neighbours_more;
     waits = waits_next;
   }
@@ -337,7 +348,8 @@ none_placed p marks fresh formed = record {
 pub zero_left : (n : ℕ) (marks : List Mark) → marks ≡ replicate n New → is_done (mark_at marks 0) ≡ false
 zero_left n marks fresh = ap is_done (new_at n marks 0 fresh)
 
-pub order_inside : (p : List (Option Insn)) (marks : List Mark) (order : List ℕ) (n slot : ℕ) → IsPlacing p marks order → slice_get order n ≡ Some slot → slot < length p
+pub order_inside : (p : List (Option Insn)) (marks : List Mark) (order : List ℕ) (n slot : ℕ) → IsPlacing p marks order
+    → slice_get order n ≡ Some slot → slot < length p
 order_inside p marks order n slot h e = there_inside p slot (h.ordered n slot e).1
 
 -- a limit that is raised
@@ -346,7 +358,8 @@ some_below None a b le h = tt
 some_below (Some k) a b le h = omega arith
 
 -- an order is whole once slot 0 is placed
-pub all_placed : (p : List (Option Insn)) (marks : List Mark) (order : List ℕ) (slot : ℕ) → slot ≡ 0 → IsPlacing p marks (order ++ slot ∷ []) → IsOrder p marks (order ++ slot ∷ [])
+pub all_placed : (p : List (Option Insn)) (marks : List Mark) (order : List ℕ) (slot : ℕ) → slot ≡ 0
+    → IsPlacing p marks (order ++ slot ∷ []) → IsOrder p marks (order ++ slot ∷ [])
 all_placed p marks order slot first h =
     let long : length (order ++ slot ∷ []) ≡ length order + 1 = length_push order slot in
     record {
@@ -395,12 +408,15 @@ falls_at p from to i formed at falls_to =
           inr (omega arith, subst (λ (q : List (Option Insn)). insn_at q (from + 1) ≡ None) (sym formed.placed) (second_half (instructions p) from i there two))
     ]
 
-falls_into : (p : List (Option Insn)) (from to : ℕ) (o : Option Insn) → IsWellFormed p → insn_at p from ≡ o → (edges_at p from).fall ≡ Some to → FallsInto p from to
+falls_into : (p : List (Option Insn)) (from to : ℕ) (o : Option Insn) → IsWellFormed p → insn_at p from ≡ o
+    → (edges_at p from).fall ≡ Some to → FallsInto p from to
 falls_into p from to None formed at falls_to = absurd (falls_from p from to None at falls_to refl)
 falls_into p from to (Some i) formed at falls_to = falls_at p from to i formed at (subst (λ (x : Option Insn). (edges_of x from).fall ≡ Some to) at falls_to)
 
-pub before_one : (p : List (Option Insn)) (from to before : ℕ) → IsWellFormed p → (edges_at p from).fall ≡ Some to → before + 1 ≡ to → is_none (insn_at p before) ≡ false → before ≡ from
+pub before_one : (p : List (Option Insn)) (from to before : ℕ) → IsWellFormed p → (edges_at p from).fall ≡ Some to → before + 1 ≡ to
+    → is_none (insn_at p before) ≡ false → before ≡ from
 before_one p from to before formed falls_to at there = elim (falls_into p from to (insn_at p from) formed refl falls_to) [
   | inl one ↦ omega (arith, one.0)
-  | inr two ↦ let same : before ≡ from + 1 = omega (arith, two.0) in absurd (false≢true (sym there ∙ ap (λ (k : ℕ). is_none (insn_at p k)) same ∙ ap is_none two.1))
+  | inr two ↦ let same : before ≡ from + 1 =
+      omega (arith, two.0) in absurd (false≢true (sym there ∙ ap (λ (k : ℕ). is_none (insn_at p k)) same ∙ ap is_none two.1))
 ]

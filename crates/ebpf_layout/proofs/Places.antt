@@ -43,7 +43,8 @@ some_some : (o : Option (Option Insn)) (i : Insn) → flattened o ≡ Some i →
 some_some None i e = absurd (none-some i e)
 some_some (Some o) i e = ap Some e
 
-pub code_back : (code : List (Option Insn)) (k : ℕ) (i : Insn) → insn_at (reverse code) k ≡ Some i → (j : ℕ) × (k + j + 1 ≡ length code) × (slice_get code j ≡ Some (Some i))
+pub code_back : (code : List (Option Insn)) (k : ℕ) (i : Insn) → insn_at (reverse code) k ≡ Some i
+    → (j : ℕ) × (k + j + 1 ≡ length code) × (slice_get code j ≡ Some (Some i))
 code_back code k i e = get_back code k (Some i) (some_some (slice_get (reverse code) k) i e)
 
 -- ---- all that is reached was written
@@ -62,7 +63,8 @@ led_fine p marks order h fine from (next ∷ rest) to n at lead =
     let m = behind_fine p marks order n from next h fine at lead.0 in
     led_fine p marks order h fine next rest to m.0 m.2 lead.1
 
-pub all_in : (p : List (Option Insn)) (marks : List Mark) (order : List ℕ) (slot : ℕ) → IsOrder p marks order → ((k : ℕ) → IsReached p k → edge_fault_at p k ≡ None) → IsReached p slot → IsIn order slot
+pub all_in : (p : List (Option Insn)) (marks : List Mark) (order : List ℕ) (slot : ℕ) → IsOrder p marks order
+    → ((k : ℕ) → IsReached p k → edge_fault_at p k ≡ None) → IsReached p slot → IsIn order slot
 all_in p marks order slot h fine reached =
     let zero = last_in p marks order h in
     led_fine p marks order h fine 0 reached.steps slot zero.0 zero.1 reached.lead
@@ -75,7 +77,8 @@ place_of _ places code slot = length code + slot
 abbrev pub place_in : List Mark → List ℕ → List (Option Insn) → ℕ → ℕ
 place_in marks places code slot = place_of (mark_at marks slot) places code slot
 
-pub place_is : (p : List (Option Insn)) (marks : List Mark) (order places : List ℕ) (code : List (Option Insn)) (count slot at : ℕ) → IsDone p marks order places code count
+pub place_is : (p : List (Option Insn)) (marks : List Mark) (order places : List ℕ) (code : List (Option Insn)) (count slot at : ℕ)
+    → IsDone p marks order places code count
     → StandsAt order places slot at → place_in marks places code slot + at + 1 ≡ length code
 place_is p marks order places code count slot at d s =
     let done = d.ordered.marked.order_mark slot s.number s.ordered in
@@ -93,7 +96,8 @@ pub record Stands (p : List (Option Insn)) (marks : List Mark) (order places : L
   pub owned : insn_at p slot ≡ Some insn
   pub written : IsWritten order places code insn slot at
 
-pub stands_in : (p : List (Option Insn)) (marks : List Mark) (order places : List ℕ) (code : List (Option Insn)) (count slot : ℕ) → IsDone p marks order places code count
+pub stands_in : (p : List (Option Insn)) (marks : List Mark) (order places : List ℕ) (code : List (Option Insn)) (count slot : ℕ)
+    → IsDone p marks order places code count
     → IsIn order slot → Stands p marks order places code slot
 stands_in p marks order places code count slot d n =
     let within : n.0 < length places = omega (arith, d.all, slice_get_within order n.0 slot n.1) in
@@ -109,9 +113,11 @@ stands_in p marks order places code count slot d n =
       written = d.writing.written.each slot at.0 i.0 stands i.1;
     }
 
-pub stands_if_reached : (p : List (Option Insn)) (marks : List Mark) (order places : List ℕ) (code : List (Option Insn)) (count slot : ℕ) → IsDone p marks order places code count
+pub stands_if_reached : (p : List (Option Insn)) (marks : List Mark) (order places : List ℕ) (code : List (Option Insn)) (count slot : ℕ)
+    → IsDone p marks order places code count
     → IsReached p slot → Stands p marks order places code slot
-stands_if_reached p marks order places code count slot d reached = stands_in p marks order places code count slot d (all_in p marks order slot d.ordered d.fine reached)
+stands_if_reached p marks order places code count slot d reached =
+    stands_in p marks order places code count slot d (all_in p marks order slot d.ordered d.fine reached)
 
 -- ---- edges of the new program
 
@@ -136,7 +142,8 @@ fall_some _ slot to k e = refl
 pub fall_moved : (i : Insn) (z : ℤ) (slot to k : ℕ) → fall_of i slot ≡ Some to → fall_of (moved i z) k ≡ Some (k + slots_in i)
 fall_moved i z slot to k e = rw (falls-moved i z, slots_in-moved i z) (fall_some i slot to k e)
 
-jump_to : (p : List (Option Insn)) (marks : List Mark) (order places : List ℕ) (code : List (Option Insn)) (count slot at k : ℕ) → IsDone p marks order places code count
+jump_to : (p : List (Option Insn)) (marks : List Mark) (order places : List ℕ) (code : List (Option Insn)) (count slot at k : ℕ)
+    → IsDone p marks order places code count
     → JumpsTo order places code at slot → k + at + 1 ≡ length code → IsJumpTo (reverse code) k (place_in marks places code slot)
 jump_to p marks order places code count slot at k d j sum =
     let to = place_is p marks order places code count slot j.to d j.there in
@@ -144,8 +151,10 @@ jump_to p marks order places code count slot at k d j sum =
     let far : k + 1 + j.way ≡ place_in marks places code slot = omega (arith, j.way_is) in
     (pos j.way, here, jump_edge (reverse code) k (insn.Jump (pos j.way)) (place_in marks places code slot) here (ap Some far))
 
-laid_jump : (p : List (Option Insn)) (marks : List Mark) (order places : List ℕ) (code : List (Option Insn)) (count slot to : ℕ) → IsDone p marks order places code count
-    → Stands p marks order places code slot → (edges_at p slot).jump ≡ Some to → (edges_at (reverse code) (place_in marks places code slot)).jump ≡ Some (place_in marks places code to)
+laid_jump : (p : List (Option Insn)) (marks : List Mark) (order places : List ℕ) (code : List (Option Insn)) (count slot to : ℕ)
+    → IsDone p marks order places code count
+    → Stands p marks order places code slot → (edges_at p slot).jump ≡ Some to
+    → (edges_at (reverse code) (place_in marks places code slot)).jump ≡ Some (place_in marks places code to)
 laid_jump p marks order places code count slot to d s e =
     let k = place_in marks places code slot in
     let jumps = jump_of_edge p slot s.insn to s.owned e in
@@ -155,8 +164,10 @@ laid_jump p marks order places code count slot to d s e =
     let far : k + 1 + s.written.way ≡ place_in marks places code to = omega (arith, j.2, s.place) in
     jump_edge (reverse code) k (moved s.insn (pos s.written.way)) (place_in marks places code to) here (jump_moved s.insn slot to k s.written.way jumps ∙ ap Some far)
 
-laid_fall : (p : List (Option Insn)) (marks : List Mark) (order places : List ℕ) (code : List (Option Insn)) (count slot to : ℕ) → IsDone p marks order places code count
-    → Stands p marks order places code slot → (edges_at p slot).fall ≡ Some to → FallsTo (reverse code) (place_in marks places code slot) (place_in marks places code to)
+laid_fall : (p : List (Option Insn)) (marks : List Mark) (order places : List ℕ) (code : List (Option Insn)) (count slot to : ℕ)
+    → IsDone p marks order places code count
+    → Stands p marks order places code slot → (edges_at p slot).fall ≡ Some to
+    → FallsTo (reverse code) (place_in marks places code slot) (place_in marks places code to)
 laid_fall p marks order places code count slot to d s e =
     let k = place_in marks places code slot in
     let falls_to = fall_of_edge p slot s.insn to s.owned e in
@@ -173,7 +184,8 @@ laid_fall p marks order places code count slot to d s e =
 
 -- ---- the layout
 
-laid_first : (p : List (Option Insn)) (marks : List Mark) (order places : List ℕ) (code : List (Option Insn)) (count : ℕ) → IsDone p marks order places code count → place_in marks places code 0 ≡ 0
+laid_first : (p : List (Option Insn)) (marks : List Mark) (order places : List ℕ) (code : List (Option Insn)) (count : ℕ)
+    → IsDone p marks order places code count → place_in marks places code 0 ≡ 0
 laid_first p marks order places code count d =
     let n = last_number p marks order d.ordered in
     let within : n.0 < length places = omega (arith, d.all, n.1) in
@@ -184,7 +196,8 @@ laid_first p marks order places code count d =
     let end : at.0 + 1 ≡ length code = d.writing.written.last n.0 long at.0 at.1 in
     omega arith
 
-laid_apart : (p : List (Option Insn)) (marks : List Mark) (order places : List ℕ) (code : List (Option Insn)) (count a b : ℕ) → IsDone p marks order places code count
+laid_apart : (p : List (Option Insn)) (marks : List Mark) (order places : List ℕ) (code : List (Option Insn)) (count a b : ℕ)
+    → IsDone p marks order places code count
     → Stands p marks order places code a → Stands p marks order places code b → place_in marks places code a ≡ place_in marks places code b → a ≡ b
 laid_apart p marks order places code count a b d x y same =
     let at : x.at ≡ y.at = omega (arith, x.place, y.place) in
@@ -197,13 +210,15 @@ laid_apart p marks order places code count a b d x y same =
     ]
 
 -- a slot that was done stands somewhere, and any other has a place behind the code
-place_cases : (p : List (Option Insn)) (marks : List Mark) (order places : List ℕ) (code : List (Option Insn)) (count slot : ℕ) → IsDone p marks order places code count
+place_cases : (p : List (Option Insn)) (marks : List Mark) (order places : List ℕ) (code : List (Option Insn)) (count slot : ℕ)
+    → IsDone p marks order places code count
     → (mark : Mark) → mark_at marks slot ≡ mark → Stands p marks order places code slot ⊎ (place_in marks places code slot ≡ length code + slot)
 place_cases p marks order places code count slot d New e = inr (rw e refl)
 place_cases p marks order places code count slot d (Open n) e = inr (rw e refl)
 place_cases p marks order places code count slot d (Done n) e = inl (stands_in p marks order places code count slot d (n, d.ordered.marked.order_slot slot n e))
 
-all_apart : (p : List (Option Insn)) (marks : List Mark) (order places : List ℕ) (code : List (Option Insn)) (count a b : ℕ) → IsDone p marks order places code count
+all_apart : (p : List (Option Insn)) (marks : List Mark) (order places : List ℕ) (code : List (Option Insn)) (count a b : ℕ)
+    → IsDone p marks order places code count
     → place_in marks places code a ≡ place_in marks places code b → a ≡ b
 all_apart p marks order places code count a b d same =
     elim (place_cases p marks order places code count a d (mark_at marks a) refl) [
@@ -218,14 +233,16 @@ all_apart p marks order places code count a b d same =
     ]
 
 -- what the branch before a jump that was added leads to stands between that jump and where it leads
-laid_between : (p : List (Option Insn)) (marks : List Mark) (order places : List ℕ) (code : List (Option Insn)) (count k at : ℕ) → IsDone p marks order places code count → k + at + 1 ≡ length code
+laid_between : (p : List (Option Insn)) (marks : List Mark) (order places : List ℕ) (code : List (Option Insn)) (count k at : ℕ)
+    → IsDone p marks order places code count → k + at + 1 ≡ length code
     → (a : IsAddedAt p order places code at) → JumpsBetween p (place_in marks places code) a.slot k (place_in marks places code a.to)
 laid_between p marks order places code count k at d sum a =
     let over = place_is p marks order places code count a.over a.spot d a.between in
     let to = place_is p marks order places code count a.to a.jumps.to d a.jumps.there in
     (a.over, jump_edge p a.slot a.insn a.over a.owned a.leaps, omega (arith, a.below), omega (arith, a.above))
 
-laid_only : (p : List (Option Insn)) (marks : List Mark) (order places : List ℕ) (code : List (Option Insn)) (count k : ℕ) (i : Insn) → IsDone p marks order places code count
+laid_only : (p : List (Option Insn)) (marks : List Mark) (order places : List ℕ) (code : List (Option Insn)) (count k : ℕ) (i : Insn)
+    → IsDone p marks order places code count
     → insn_at (reverse code) k ≡ Some i → IsKept p (place_in marks places code) k ⊎ IsAdded p (reverse code) (place_in marks places code) k
 laid_only p marks order places code count k i d e =
     let j = code_back code k i e in
@@ -252,7 +269,8 @@ laid_only p marks order places code count k i d e =
           )
     ]
 
-pub is_laid_out : (p : List (Option Insn)) (marks : List Mark) (order places : List ℕ) (code : List (Option Insn)) (count : ℕ) → IsDone p marks order places code count → IsLaidOut p (reverse code)
+pub is_laid_out : (p : List (Option Insn)) (marks : List Mark) (order places : List ℕ) (code : List (Option Insn)) (count : ℕ)
+    → IsDone p marks order places code count → IsLaidOut p (reverse code)
 is_laid_out p marks order places code count d = record {
   place = place_in marks places code;
   first = laid_first p marks order places code count d;
@@ -269,7 +287,8 @@ is_laid_out p marks order places code count d = record {
 }
 
 -- each instruction of the code jumps forward or not at all
-pub jumps_forward : (p : List (Option Insn)) (marks : List Mark) (order places : List ℕ) (code : List (Option Insn)) (count k : ℕ) (i : Insn) → IsDone p marks order places code count
+pub jumps_forward : (p : List (Option Insn)) (marks : List Mark) (order places : List ℕ) (code : List (Option Insn)) (count k : ℕ) (i : Insn)
+    → IsDone p marks order places code count
     → insn_at (reverse code) k ≡ Some i → (j : Insn) × (way : ℕ) × (i ≡ moved j (pos way))
 jumps_forward p marks order places code count k i d e =
     let j = code_back code k i e in
@@ -282,7 +301,8 @@ jumps_forward p marks order places code count k i d e =
     ]
 
 -- something is written, since slot 0 is reached
-pub some_code : (p : List (Option Insn)) (marks : List Mark) (order places : List ℕ) (code : List (Option Insn)) (count : ℕ) → IsDone p marks order places code count → 0 < length code
+pub some_code : (p : List (Option Insn)) (marks : List Mark) (order places : List ℕ) (code : List (Option Insn)) (count : ℕ)
+    → IsDone p marks order places code count → 0 < length code
 some_code p marks order places code count d =
     let n = last_number p marks order d.ordered in
     let within : n.0 < length places = omega (arith, d.all, n.1) in

@@ -35,7 +35,8 @@ ended p from [] to none same = subst (λ (x : ℕ). insn_at p x ≡ None) same n
 ended p from (next ∷ rest) to none lead = absurd (no_edge p from next none lead.0)
 
 -- slot 0 is the last of the order
-pub last_number : (p : List (Option Insn)) (marks : List Mark) (order : List ℕ) → IsOrder p marks order → (n : ℕ) × (n + 1 ≡ length order) × (slice_get order n ≡ Some 0)
+pub last_number : (p : List (Option Insn)) (marks : List Mark) (order : List ℕ) → IsOrder p marks order
+    → (n : ℕ) × (n + 1 ≡ length order) × (slice_get order n ≡ Some 0)
 last_number p marks order h =
     let some : 0 < length order = omega (arith, h.some) in
     let last : length order - 1 + 1 ≡ length order = omega arith in
@@ -45,7 +46,8 @@ pub last_in : (p : List (Option Insn)) (marks : List Mark) (order : List ℕ) �
 last_in p marks order h = let n = last_number p marks order h in (n.0, n.2)
 
 -- from what is in the order one comes only to what is in it too, or to no instruction
-led_on : (p : List (Option Insn)) (marks : List Mark) (order : List ℕ) → IsOrder p marks order → (from : ℕ) (steps : List ℕ) (to n : ℕ) → slice_get order n ≡ Some from
+led_on : (p : List (Option Insn)) (marks : List Mark) (order : List ℕ) → IsOrder p marks order
+    → (from : ℕ) (steps : List ℕ) (to n : ℕ) → slice_get order n ≡ Some from
     → LeadBy p from steps to → (insn_at p to ≡ None) ⊎ IsIn order to
 led_on p marks order h from [] to n at same = inr (n, subst (λ (x : ℕ). slice_get order n ≡ Some x) same at)
 led_on p marks order h from (next ∷ rest) to n at lead = elim ((h.ordered n from at).2 next lead.0) [
@@ -54,12 +56,14 @@ led_on p marks order h from (next ∷ rest) to n at lead = elim ((h.ordered n fr
 ]
 
 -- what is reached is in the order, if an instruction is there
-pub reached_in : (p : List (Option Insn)) (marks : List Mark) (order : List ℕ) (slot : ℕ) → IsOrder p marks order → IsReached p slot → (insn_at p slot ≡ None) ⊎ IsIn order slot
+pub reached_in : (p : List (Option Insn)) (marks : List Mark) (order : List ℕ) (slot : ℕ) → IsOrder p marks order → IsReached p slot
+    → (insn_at p slot ≡ None) ⊎ IsIn order slot
 reached_in p marks order slot h reached =
     let zero = last_in p marks order h in
     led_on p marks order h 0 reached.steps slot zero.0 zero.1 reached.lead
 
-pub done_reached : (p : List (Option Insn)) (marks : List Mark) (order : List ℕ) (slot : ℕ) → IsOrder p marks order → IsDone (mark_at marks slot) → IsReached p slot
+pub done_reached : (p : List (Option Insn)) (marks : List Mark) (order : List ℕ) (slot : ℕ) → IsOrder p marks order
+    → IsDone (mark_at marks slot) → IsReached p slot
 done_reached p marks order slot h done =
     let number = done_number (mark_at marks slot) done in
     (h.ordered number.0 slot (h.marked.order_slot slot number.0 number.1)).0
@@ -73,13 +77,15 @@ in_done p marks order slot h in_order = subst IsDone (sym (h.marked.order_mark s
 abbrev pub AreFine : List (Option Insn) → List Mark → ℕ → Type 0
 AreFine p marks n = (k : ℕ) → k < n → IsDone (mark_at marks k) → edge_fault_at p k ≡ None
 
-reached_fine : (p : List (Option Insn)) (marks : List Mark) (order : List ℕ) (n k : ℕ) → IsOrder p marks order → AreFine p marks n → k < n → IsReached p k → edge_fault_at p k ≡ None
+reached_fine : (p : List (Option Insn)) (marks : List Mark) (order : List ℕ) (n k : ℕ) → IsOrder p marks order → AreFine p marks n
+    → k < n → IsReached p k → edge_fault_at p k ≡ None
 reached_fine p marks order n k h fine lt reached = elim (reached_in p marks order k h reached) [
   | inl none ↦ ap (edge_fault p k) none
   | inr placed ↦ fine k lt (in_done p marks order k h placed)
 ]
 
-pub lowest_fault : (p : List (Option Insn)) (marks : List Mark) (order : List ℕ) (slot : ℕ) (code : FlowCode) → IsOrder p marks order → AreFine p marks slot → IsDone (mark_at marks slot)
+pub lowest_fault : (p : List (Option Insn)) (marks : List Mark) (order : List ℕ) (slot : ℕ) (code : FlowCode)
+    → IsOrder p marks order → AreFine p marks slot → IsDone (mark_at marks slot)
     → edge_fault_at p slot ≡ Some code → IsLowestFault p slot code
 lowest_fault p marks order slot code h fine done here = record {
   reached = done_reached p marks order slot h done;
@@ -87,7 +93,8 @@ lowest_fault p marks order slot code h fine done here = record {
   before = λ k lt reached. reached_fine p marks order slot k h fine lt reached;
 }
 
-pub all_fine : (p : List (Option Insn)) (marks : List Mark) (order : List ℕ) (slot : ℕ) → IsOrder p marks order → AreFine p marks (length p) → IsReached p slot → edge_fault_at p slot ≡ None
+pub all_fine : (p : List (Option Insn)) (marks : List Mark) (order : List ℕ) (slot : ℕ) → IsOrder p marks order
+    → AreFine p marks (length p) → IsReached p slot → edge_fault_at p slot ≡ None
 all_fine p marks order slot h fine reached = elim (reached_in p marks order slot h reached) [
   | inl none ↦ ap (edge_fault p slot) none
   | inr placed ↦
@@ -103,7 +110,8 @@ pub none_of : {C : Type 0} (a b : Option C) → or_else a b ≡ None → (a ≡ 
 none_of None b e = (refl, e)
 none_of (Some x) b e = absurd (none-some x (sym e))
 
-fall_there : (p : List (Option Insn)) (slot to : ℕ) (i : Insn) → IsWellFormed p → insn_at p slot ≡ Some i → fall_fault p slot i ≡ None → fall_of i slot ≡ Some to → is_none (insn_at p to) ≡ false
+fall_there : (p : List (Option Insn)) (slot to : ℕ) (i : Insn) → IsWellFormed p → insn_at p slot ≡ Some i
+    → fall_fault p slot i ≡ None → fall_of i slot ≡ Some to → is_none (insn_at p to) ≡ false
 fall_there p slot to i formed at fine falls_to =
     let parts = cond_some (falls i) (slot + slots_in i) to falls_to in
     let test = none_first (falls i && leb (length p) (slot + slots_in i)) FallsOffEnd None fine in
@@ -119,7 +127,8 @@ jump_there p slot to (Some z) fine jumps =
     let outside = none_first (leb (length p) to) JumpOutside _ at in
     (none_first (is_none (insn_at p to)) JumpIntoWide _ outside.1).0
 
-pub edge_there : (p : List (Option Insn)) (slot to : ℕ) (i : Insn) → IsWellFormed p → insn_at p slot ≡ Some i → edge_fault_at p slot ≡ None → IsEdge p slot to → is_none (insn_at p to) ≡ false
+pub edge_there : (p : List (Option Insn)) (slot to : ℕ) (i : Insn) → IsWellFormed p → insn_at p slot ≡ Some i
+    → edge_fault_at p slot ≡ None → IsEdge p slot to → is_none (insn_at p to) ≡ false
 edge_there p slot to i formed at fine edge =
     let here : edge_fault p slot (Some i) ≡ None = subst (λ (o : Option Insn). edge_fault p slot o ≡ None) at fine in
     let parts = none_of (jump_fault p slot (displacement_of i)) (fall_fault p slot i) here in
@@ -134,7 +143,8 @@ ordered_insn p slot None at there = absurd (false≢true (sym there))
 ordered_insn p slot (Some i) at there = (i, at)
 
 -- where nothing reached has a fault, all that is led to comes earlier in the order
-pub behind_fine : (p : List (Option Insn)) (marks : List Mark) (order : List ℕ) (n slot to : ℕ) → IsOrder p marks order → ((k : ℕ) → IsReached p k → edge_fault_at p k ≡ None)
+pub behind_fine : (p : List (Option Insn)) (marks : List Mark) (order : List ℕ) (n slot to : ℕ) → IsOrder p marks order
+    → ((k : ℕ) → IsReached p k → edge_fault_at p k ≡ None)
     → slice_get order n ≡ Some slot → IsEdge p slot to → (m : ℕ) × (m < n) × (slice_get order m ≡ Some to)
 behind_fine p marks order n slot to h fine at edge =
     let o = h.ordered n slot at in

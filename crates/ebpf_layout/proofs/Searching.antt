@@ -34,7 +34,8 @@ pub slots_of-push : (p : List (Option Insn)) (order : List ℕ) (slot : ℕ) →
 slots_of-push p [] slot = omega arith
 slots_of-push p (x ∷ order) slot = omega (arith, slots_of-push p order slot)
 
-size_open : (p : List (Option Insn)) (marks : List Mark) (to k : ℕ) → length marks ≡ length p → mark_at marks to ≡ New → done_slots p (slice_set marks to (Open k)) ≡ done_slots p marks
+size_open : (p : List (Option Insn)) (marks : List Mark) (to k : ℕ) → length marks ≡ length p → mark_at marks to ≡ New
+    → done_slots p (slice_set marks to (Open k)) ≡ done_slots p marks
 size_open [] marks to k all new = refl
 size_open (o ∷ p) [] to k all new = refl
 size_open (o ∷ p) (x ∷ marks) zero k all new = rw new refl
@@ -128,10 +129,12 @@ marked_open marks path order to h lt new = record {
     | inl here ↦ absurd (open_done (length path) n here.1)
     | inr other ↦ h.order_slot slot n other.1
   ];
-  order_mark = λ slot n e. let m = h.order_mark slot n e in unset marks to slot (Open (length path)) (Done n) (apart marks slot to (Done n) New m new (new_done n)) m;
+  order_mark =
+      λ slot n e. let m = h.order_mark slot n e in unset marks to slot (Open (length path)) (Done n) (apart marks slot to (Done n) New m new (new_done n)) m;
 }
 
-marked_close : (marks : List Mark) (path order : List ℕ) (at slot : ℕ) → AreMarked marks path order → slot < length marks → at + 1 ≡ length path → slice_get path at ≡ Some slot
+marked_close : (marks : List Mark) (path order : List ℕ) (at slot : ℕ) → AreMarked marks path order → slot < length marks
+    → at + 1 ≡ length path → slice_get path at ≡ Some slot
     → AreMarked (slice_set marks slot (Done (length order))) (take at path) (order ++ slot ∷ [])
 marked_close marks path order at slot h lt long top = record {
   path_slot = λ s k e. elim (set_cases marks slot (Done (length order)) New s (Open k) lt e) [
@@ -245,7 +248,8 @@ done_number New h = absurd h
 done_number (Open k) h = absurd h
 done_number (Done n) h = (n, refl)
 
-behind_edge : (p : List (Option Insn)) (marks : List Mark) (path order : List ℕ) (edge : Option ℕ) (to : ℕ) (o : Option Insn) → insn_at p to ≡ o → AreMarked marks path order
+behind_edge : (p : List (Option Insn)) (marks : List Mark) (path order : List ℕ) (edge : Option ℕ) (to : ℕ) (o : Option Insn)
+    → insn_at p to ≡ o → AreMarked marks path order
     → LeadsToDone p marks edge → edge ≡ Some to → (o ≡ None) ⊎ ((m : ℕ) × (m < length order) × (slice_get order m ≡ Some to))
 behind_edge p marks path order edge to None at h done e = inl refl
 behind_edge p marks path order edge to (Some i) at h done e =
@@ -269,7 +273,8 @@ behind_number p order n from to behind edge there = elim (behind to edge) [
   | inr m ↦ m
 ]
 
-pub is_behind : (p : List (Option Insn)) (marks : List Mark) (path order : List ℕ) (slot : ℕ) → AreMarked marks path order → LeadsToDone p marks (edges_at p slot).jump
+pub is_behind : (p : List (Option Insn)) (marks : List Mark) (path order : List ℕ) (slot : ℕ) → AreMarked marks path order
+    → LeadsToDone p marks (edges_at p slot).jump
     → LeadsToDone p marks (edges_at p slot).fall → IsBehind p order (length order) slot
 is_behind p marks path order slot h jump fall to edge = elim (edge_cases p slot to edge) [
   | inl falls ↦ behind_edge p marks path order (edges_at p slot).fall to (insn_at p to) refl h fall falls
@@ -317,7 +322,8 @@ there_inside p k there = insn_inside p k (insn_at p k) refl there
 pub top_long : (path : List ℕ) (slot : ℕ) → slice_get path (length path - 1) ≡ Some slot → length path - 1 + 1 ≡ length path
 top_long path slot top = omega (arith, slice_get_within path (length path - 1) slot top)
 
-pub top_inside : (p : List (Option Insn)) (marks : List Mark) (path order : List ℕ) (slot : ℕ) → IsSearch p marks path order → slice_get path (length path - 1) ≡ Some slot → slot < length p
+pub top_inside : (p : List (Option Insn)) (marks : List Mark) (path order : List ℕ) (slot : ℕ) → IsSearch p marks path order
+    → slice_get path (length path - 1) ≡ Some slot → slot < length p
 top_inside p marks path order slot h top = there_inside p slot (h.there (length path - 1) slot top)
 
 pub some_at : {X : Type 0} (o : Option X) (x : X) (P : X → Type 0) → o ≡ Some x → IfSome o P → P x
@@ -342,7 +348,8 @@ jump_leads p slot = standing_leads p slot (edges_at p slot).jump (jump_is_edge p
 pub fall_leads : (p : List (Option Insn)) (slot : ℕ) → LeadsThere p slot (standing p (edges_at p slot).fall)
 fall_leads p slot = standing_leads p slot (edges_at p slot).fall (fall_is_edge p slot)
 
-pub edge_inside : (p : List (Option Insn)) (marks : List Mark) (slot : ℕ) (edge : Option ℕ) → length marks ≡ length p → LeadsThere p slot edge → IfSome edge (λ to. to < length marks)
+pub edge_inside : (p : List (Option Insn)) (marks : List Mark) (slot : ℕ) (edge : Option ℕ) → length marks ≡ length p
+    → LeadsThere p slot edge → IfSome edge (λ to. to < length marks)
 edge_inside p marks slot None all h = tt
 edge_inside p marks slot (Some to) all h = omega (arith, there_inside p to h.1)
 
@@ -356,10 +363,12 @@ left_at-some New left = omega arith
 left_at-some (Open k) left = omega arith
 left_at-some (Done n) left = absurd (cc)
 
-pub smaller_done : (marks : List Mark) (slot n : ℕ) → slot < length marks → is_done (mark_at marks slot) ≡ false → left (slice_set marks slot (Done n)) < left marks
+pub smaller_done : (marks : List Mark) (slot n : ℕ) → slot < length marks → is_done (mark_at marks slot) ≡ false
+    → left (slice_set marks slot (Done n)) < left marks
 smaller_done marks slot n lt before = omega (arith, left-set marks slot (Done n) lt, left_at-some (mark_at marks slot) before)
 
-pub follow_refused : (p : List (Option Insn)) (marks : List Mark) (path order : List ℕ) (slot : ℕ) (edge : Option ℕ) (fault : LayoutFault) → IsSearch p marks path order
+pub follow_refused : (p : List (Option Insn)) (marks : List Mark) (path order : List ℕ) (slot : ℕ) (edge : Option ℕ) (fault : LayoutFault)
+    → IsSearch p marks path order
     → slice_get path (length path - 1) ≡ Some slot → LeadsThere p slot edge
     → ((to : ℕ) × (k : ℕ) × (edge ≡ Some to) × (mark_at marks to ≡ Open k) × (fault ≡ Loop slot to)) → IsLayoutFault p fault
 follow_refused p marks path order slot edge fault h top leads c =
@@ -418,7 +427,8 @@ search_begins p marks fresh formed there =
       there = λ k slot e. subst (λ (x : ℕ). is_none (insn_at p x) ≡ false) (zero_at k slot e) there;
     }
 
-pub search_ends : (p : List (Option Insn)) (marks : List Mark) (path order : List ℕ) → IsSearch p marks path order → slice_get path (length path - 1) ≡ None → IsSearch p marks [] order
+pub search_ends : (p : List (Option Insn)) (marks : List Mark) (path order : List ℕ) → IsSearch p marks path order
+    → slice_get path (length path - 1) ≡ None → IsSearch p marks [] order
 search_ends p marks [] order h none = h
 search_ends p marks (slot ∷ path) order h none =
     let top = found (slot ∷ path) (length path) (omega arith) in

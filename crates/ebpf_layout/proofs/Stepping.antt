@@ -28,7 +28,8 @@ use Rattle.ebpf_layout.proofs.Displaced.{Alike, Ended, Trapped, Fell, Jumped, Bo
 
 -- ---- an instruction that jumps leads somewhere
 
-jump_led : (p : List (Option Insn)) (slot : ℕ) (d : ℤ) (i : Insn) → displacement_of i ≡ Some d → edge_fault p slot (Some i) ≡ None → (to : ℕ) × (jump_of i slot ≡ Some to)
+jump_led : (p : List (Option Insn)) (slot : ℕ) (d : ℤ) (i : Insn) → displacement_of i ≡ Some d → edge_fault p slot (Some i) ≡ None
+    → (to : ℕ) × (jump_of i slot ≡ Some to)
 jump_led p slot d i jumps fine = by (jump_of i slot) refl where
   parts : (jump_fault p slot (displacement_of i) ≡ None) × (fall_fault p slot i ≡ None)
   parts = none_of (jump_fault p slot (displacement_of i)) (fall_fault p slot i) fine
@@ -42,7 +43,8 @@ jump_led p slot d i jumps fine = by (jump_of i slot) refl where
   by None e = absurd (none-some JumpOutside (sym (outside e)))
   by (Some to) e = (to, e)
 
-both_jump : (p q : List (Option Insn)) (laid : IsLaidOut p q) (slot : ℕ) (i : Insn) (z : ℤ) → IsReached p slot → insn_at p slot ≡ Some i → insn_at q (laid.place slot) ≡ Some (moved i z)
+both_jump : (p q : List (Option Insn)) (laid : IsLaidOut p q) (slot : ℕ) (i : Insn) (z : ℤ) → IsReached p slot
+    → insn_at p slot ≡ Some i → insn_at q (laid.place slot) ≡ Some (moved i z)
     → BothJump i slot (moved i z) (laid.place slot)
 both_jump p q laid slot i z reached at there d jumps =
     let fine : edge_fault p slot (Some i) ≡ None = subst (λ (o : Option Insn). edge_fault p slot o ≡ None) at (laid.led slot reached) in
@@ -97,7 +99,8 @@ Keeps q place executed w result other now =
     (stepped result w ≡ laid_view q place (executed + 1) now) ⊎ (stepped other (stepped result w) ≡ laid_view q place (executed + 1 + 1) now)
 
 -- a run in the new program is at an added jump
-jumps_on : (q : List (Option Insn)) (place : ℕ → ℕ) (executed next to : ℕ) (now : RunView) (other : CallResult) → now.status ≡ Going → IsJumpTo q next (place to) → now.pc ≡ to
+jumps_on : (q : List (Option Insn)) (place : ℕ → ℕ) (executed next to : ℕ) (now : RunView) (other : CallResult) → now.status ≡ Going
+    → IsJumpTo q next (place to) → now.pc ≡ to
     → stepped other (record (laid_view q place executed now) { pc = next }) ≡ laid_view q place (executed + 1) now
 jumps_on q place executed next to now other going jump same =
     let w : RunView = record (laid_view q place executed now) { pc = next } in
@@ -107,7 +110,8 @@ jumps_on q place executed next to now other going jump same =
     stepped_going w other going ∙ ap (λ (e : Effect ℕ). done_by e other w) goes ∙ ap (λ (k : ℕ). record (laid_view q place (executed + 1) now) { pc = place k }) (sym same)
 
 -- what follows of an act that goes on at a slot of the new program, if that is the place or a jump there
-followed : (q : List (Option Insn)) (place : ℕ → ℕ) (executed to next : ℕ) (v now new w : RunView) (result other : CallResult) → v.status ≡ Going → stepped result w ≡ new → Follows q place (executed + 1) to next v now new
+followed : (q : List (Option Insn)) (place : ℕ → ℕ) (executed to next : ℕ) (v now new w : RunView) (result other : CallResult)
+    → v.status ≡ Going → stepped result w ≡ new → Follows q place (executed + 1) to next v now new
     → (next ≡ place to) ⊎ IsJumpTo q next (place to) → Keeps q place executed w result other now
 followed q place executed to next v now new w result other going here (inl f) (inl same) =
     inl (here ∙ f.2 ∙ ap (λ (k : ℕ). record (laid_view q place (executed + 1) now) { pc = k }) (same ∙ ap place (sym f.0)))
@@ -116,7 +120,8 @@ followed q place executed to next v now new w result other going here (inl f) (i
 followed q place executed to next v now new w result other going here (inr f) way = inl (here ∙ f.1)
 
 -- and where the run is then
-arrived_at : (p q : List (Option Insn)) (place : ℕ → ℕ) (executed to next : ℕ) (v now new : RunView) → IsReached p v.pc → IsReached p to → Follows q place executed to next v now new → IsReached p now.pc
+arrived_at : (p q : List (Option Insn)) (place : ℕ → ℕ) (executed to next : ℕ) (v now new : RunView) → IsReached p v.pc
+    → IsReached p to → Follows q place executed to next v now new → IsReached p now.pc
 arrived_at p q place executed to next v now new reached led (inl f) = subst (IsReached p) (sym f.0) led
 arrived_at p q place executed to next v now new reached led (inr f) = subst (IsReached p) (sym f.0) reached
 
@@ -125,14 +130,17 @@ pub record IsStep (p q : List (Option Insn)) (place : ℕ → ℕ) (executed : �
   pub kept : Keeps q place executed (laid_view q place executed v) result other (stepped result v)
 
 -- an act that goes on along an edge
-goes_along : (p q : List (Option Insn)) (laid : IsLaidOut p q) (v : RunView) (executed : ℕ) (act : Act ℕ) (frame : Frame ℕ) (to next : ℕ) (result other : CallResult) → v.status ≡ Going → IsReached p v.pc → IsReached p to
-    → effect_of_view v ≡ Goes act to frame → effect_of_view (laid_view q laid.place executed v) ≡ Goes (act_told (placed laid.place) act) next (frame_renamed laid.place frame)
+goes_along : (p q : List (Option Insn)) (laid : IsLaidOut p q) (v : RunView) (executed : ℕ) (act : Act ℕ) (frame : Frame ℕ) (to next : ℕ) (result other : CallResult)
+    → v.status ≡ Going → IsReached p v.pc → IsReached p to
+    → effect_of_view v ≡ Goes act to frame
+    → effect_of_view (laid_view q laid.place executed v) ≡ Goes (act_told (placed laid.place) act) next (frame_renamed laid.place frame)
     → (next ≡ laid.place to) ⊎ IsJumpTo q next (laid.place to) → IsStep p q laid.place executed v result other
 goes_along p q laid v executed act frame to next result other going reached led old new way =
     let w = laid_view q laid.place executed v in
     let now = acted act result to frame v in
     let here : stepped result v ≡ now = stepped_going v result going ∙ ap (λ (e : Effect ℕ). done_by e result v) old in
-    let there : stepped result w ≡ acted (act_told (placed laid.place) act) result next (frame_renamed laid.place frame) w = stepped_going w result going ∙ ap (λ (e : Effect ℕ). done_by e result w) new in
+    let there : stepped result w ≡ acted (act_told (placed laid.place) act) result next (frame_renamed laid.place frame) w =
+    stepped_going w result going ∙ ap (λ (e : Effect ℕ). done_by e result w) new in
     let f = act_follows q laid.place executed act result to next frame v laid.apart in
     record {
       reached = subst (λ (t : RunView). IsReached p t.pc) (sym here) (arrived_at p q laid.place (executed + 1) to next v now _ reached led f);
@@ -140,8 +148,10 @@ goes_along p q laid v executed act frame to next result other going reached led 
     }
 
 -- an instruction that ends the run, or traps
-stops : (p q : List (Option Insn)) (place : ℕ → ℕ) (v : RunView) (executed : ℕ) (e : Effect ℕ) (now : RunView → RunView) (result other : CallResult) → v.status ≡ Going → IsReached p v.pc
-    → effect_of_view v ≡ e → effect_of_view (laid_view q place executed v) ≡ e → ((w : RunView) → done_by e result w ≡ now w) → ((w : RunView) → (now w).pc ≡ w.pc)
+stops : (p q : List (Option Insn)) (place : ℕ → ℕ) (v : RunView) (executed : ℕ) (e : Effect ℕ) (now : RunView → RunView) (result other : CallResult)
+    → v.status ≡ Going → IsReached p v.pc
+    → effect_of_view v ≡ e → effect_of_view (laid_view q place executed v) ≡ e → ((w : RunView) → done_by e result w ≡ now w)
+    → ((w : RunView) → (now w).pc ≡ w.pc)
     → now (laid_view q place executed v) ≡ laid_view q place (executed + 1) (now v) → IsStep p q place executed v result other
 stops p q place v executed e now result other going reached old new done stays same =
     let w = laid_view q place executed v in
@@ -153,8 +163,10 @@ stops p q place v executed e now result other going reached old new done stays s
     }
 
 -- by what the instruction does in both programs
-by_effect : (p q : List (Option Insn)) (laid : IsLaidOut p q) (v : RunView) (executed : ℕ) (i : Insn) (z : ℤ) (e f : Effect ℕ) (result other : CallResult) → v.status ≡ Going → IsReached p v.pc → insn_at p v.pc ≡ Some i
-    → insn_at q (laid.place v.pc) ≡ Some (moved i z) → effect_of_view v ≡ e → effect_of_view (laid_view q laid.place executed v) ≡ f → Alike i v.pc (moved i z) (laid.place v.pc) (effect_told (placed laid.place) e) f
+by_effect : (p q : List (Option Insn)) (laid : IsLaidOut p q) (v : RunView) (executed : ℕ) (i : Insn) (z : ℤ) (e f : Effect ℕ) (result other : CallResult)
+    → v.status ≡ Going → IsReached p v.pc → insn_at p v.pc ≡ Some i
+    → insn_at q (laid.place v.pc) ≡ Some (moved i z) → effect_of_view v ≡ e → effect_of_view (laid_view q laid.place executed v) ≡ f
+    → Alike i v.pc (moved i z) (laid.place v.pc) (effect_told (placed laid.place) e) f
     → IsStep p q laid.place executed v result other
 by_effect p q laid v executed i z e f result other going reached at there old new (Ended n told is) =
     stops p q laid.place v executed (Ends n) (ended n) result other going reached (old ∙ was_ended laid.place e n told) (new ∙ is) (λ w. refl) (λ w. refl) refl
@@ -179,16 +191,19 @@ by_effect p q laid v executed i z e f result other going reached at there old ne
     goes_along p q laid v executed g.acts g.left to next result other going reached (path_more p 0 v.pc to reached (jump_is_edge p v.pc to edge))
     (old ∙ g.was) (new ∙ is ∙ goes) (inl same)
 
-pub step_kept : (p q : List (Option Insn)) (laid : IsLaidOut p q) (v : RunView) (executed : ℕ) (result other : CallResult) → v.subject.program ≡ p → IsReached p v.pc → v.status ≡ Going → IsStep p q laid.place executed v result other
+pub step_kept : (p q : List (Option Insn)) (laid : IsLaidOut p q) (v : RunView) (executed : ℕ) (result other : CallResult)
+    → v.subject.program ≡ p → IsReached p v.pc → v.status ≡ Going → IsStep p q laid.place executed v result other
 step_kept p q laid v executed result other same reached going =
     let w = laid_view q laid.place executed v in
     let i = ordered_insn p v.pc (insn_at p v.pc) refl (laid.there v.pc reached) in
     let m = laid.same v.pc i.0 reached i.1 in
     let a = environment_of_view v in
     let b = environment_of_view w in
-    let old : effect_of_view v ≡ effect i.0 v.pc a v.frame = ap (λ (p : List (Option Insn)). effect_at (insn_at p v.pc) v.pc a v.frame) same ∙ ap (λ (o : Option Insn). effect_at o v.pc a v.frame) i.1 in
+    let old : effect_of_view v ≡ effect i.0 v.pc a v.frame =
+    ap (λ (p : List (Option Insn)). effect_at (insn_at p v.pc) v.pc a v.frame) same ∙ ap (λ (o : Option Insn). effect_at o v.pc a v.frame) i.1 in
     let new : effect_of_view w ≡ effect (moved i.0 m.0) w.pc b w.frame = ap (λ (o : Option Insn). effect_at o w.pc b w.frame) m.1 in
-    let told : effect i.0 v.pc b w.frame ≡ effect_told (placed laid.place) (effect i.0 v.pc a v.frame) = effect_at-told (placed laid.place) (Some i.0) v.pc a b v.frame (met q laid.place executed v laid.apart) in
+    let told : effect i.0 v.pc b w.frame ≡ effect_told (placed laid.place) (effect i.0 v.pc a v.frame) =
+    effect_at-told (placed laid.place) (Some i.0) v.pc a b v.frame (met q laid.place executed v laid.apart) in
     let alike = displaced i.0 m.0 v.pc w.pc b w.frame (both_jump p q laid v.pc i.0 m.0 reached i.1 m.1) in
     by_effect p q laid v executed i.0 m.0 (effect i.0 v.pc a v.frame) (effect (moved i.0 m.0) w.pc b w.frame) result other going reached i.1 m.1 old new
     (subst (λ (e : Effect ℕ). Alike i.0 v.pc (moved i.0 m.0) w.pc e (effect (moved i.0 m.0) w.pc b w.frame)) told alike)

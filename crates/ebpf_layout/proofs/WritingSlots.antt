@@ -59,7 +59,8 @@ slots_of-more : (p : List (Option Insn)) (order : List ℕ) (n slot : ℕ) (i : 
     → slots_of p (take (n + 1) order) ≡ slots_of p (take n order) + slots_in i
 slots_of-more p order n slot i here owned =
     let within = slice_get_within order n slot here in
-    let next : take (n + 1) order ≡ take n order ++ slot ∷ [] = take_more order n 0 within ∙ ap (λ (x : ℕ). take n order ++ x ∷ []) (get_or_from_slice_get order n slot 0 here) in
+    let next : take (n + 1) order ≡ take n order ++ slot ∷ [] =
+    take_more order n 0 within ∙ ap (λ (x : ℕ). take n order ++ x ∷ []) (get_or_from_slice_get order n slot 0 here) in
     ap (slots_of p) next ∙ slots_of-push p (take n order) slot ∙ ap (λ (o : Option Insn). slots_of p (take n order) + size_of o) owned
 
 one_at_least : (i : Insn) → 0 < slots_in i
@@ -75,7 +76,8 @@ slot_fits p marks order places code count slot i n =
     omega (arith, n.writing.short, n.ordered.formed.few)
 
 pub slot_written : (p : List (Option Insn)) (marks : List Mark) (order places : List ℕ) (code : List (Option Insn)) (count slot : ℕ) (i : Insn) (new : List (Option Insn)) (newer place : ℕ)
-    → IsNext p marks order places code count slot i → IsCode new newer → Writes marks places code i (fall_of i slot) (jump_of i slot) new → place + 1 ≡ length new
+    → IsNext p marks order places code count slot i → IsCode new newer
+    → Writes marks places code i (fall_of i slot) (jump_of i slot) new → place + 1 ≡ length new
     → IsWriting p order (places ++ place ∷ []) new newer
 slot_written p marks order places code count slot i new newer place n coded w last =
     let len = new_length marks places code i (fall_of i slot) (jump_of i slot) new w in

@@ -38,7 +38,8 @@ one_slot _ slot to e = refl
 
 -- ---- places
 
-pub number_read : (marks : List Mark) (places : List ℕ) (slot place : ℕ) (mark : Mark) (number : ℕ) → HasPlace marks places slot place → mark ≡ get_or marks slot mark → mark ≡ Done number
+pub number_read : (marks : List Mark) (places : List ℕ) (slot place : ℕ) (mark : Mark) (number : ℕ)
+    → HasPlace marks places slot place → mark ≡ get_or marks slot mark → mark ≡ Done number
     → number < length places
 number_read marks places slot place mark number h read done =
     let inside = done_inside marks slot h.number h.done in
@@ -46,7 +47,8 @@ number_read marks places slot place mark number h read done =
     let same : number ≡ h.number = done_same number h.number (sym done ∙ here ∙ h.done) in
     rw same (slice_get_within places h.number place h.placed)
 
-pub place_read : (marks : List Mark) (places : List ℕ) (slot place : ℕ) (mark : Mark) (number value : ℕ) → HasPlace marks places slot place → mark ≡ get_or marks slot mark
+pub place_read : (marks : List Mark) (places : List ℕ) (slot place : ℕ) (mark : Mark) (number value : ℕ)
+    → HasPlace marks places slot place → mark ≡ get_or marks slot mark
     → mark ≡ Done number → value ≡ get_or places number value → value ≡ place
 place_read marks places slot place mark number value h read done found =
     let inside = done_inside marks slot h.number h.done in
@@ -65,7 +67,8 @@ stands_more order places place slot at h = record {
   placed = get_kept places (place ∷ []) h.number at h.placed;
 }
 
-jumps_more : (order places : List ℕ) (place : ℕ) (code new : List (Option Insn)) (at slot : ℕ) → Keeps code new → JumpsTo order places code at slot → JumpsTo order (places ++ place ∷ []) new at slot
+jumps_more : (order places : List ℕ) (place : ℕ) (code new : List (Option Insn)) (at slot : ℕ) → Keeps code new
+    → JumpsTo order places code at slot → JumpsTo order (places ++ place ∷ []) new at slot
 jumps_more order places place code new at slot keeps h = record {
   to = h.to;
   there = stands_more order places place slot h.to h.there;
@@ -74,7 +77,8 @@ jumps_more order places place code new at slot keeps h = record {
   way_is = h.way_is;
 }
 
-falls_more : (order places : List ℕ) (place : ℕ) (code new : List (Option Insn)) (i : Insn) (at slot : ℕ) → Keeps code new → FallsRight order places code i at slot
+falls_more : (order places : List ℕ) (place : ℕ) (code new : List (Option Insn)) (i : Insn) (at slot : ℕ) → Keeps code new
+    → FallsRight order places code i at slot
     → FallsRight order (places ++ place ∷ []) new i at slot
 falls_more order places place code new i at slot keeps h = (
   h.0,
@@ -85,7 +89,8 @@ falls_more order places place code new i at slot keeps h = (
   ],
 )
 
-is_written_more : (order places : List ℕ) (place : ℕ) (code new : List (Option Insn)) (i : Insn) (slot at : ℕ) → Keeps code new → IsWritten order places code i slot at
+is_written_more : (order places : List ℕ) (place : ℕ) (code new : List (Option Insn)) (i : Insn) (slot at : ℕ) → Keeps code new
+    → IsWritten order places code i slot at
     → IsWritten order (places ++ place ∷ []) new i slot at
 is_written_more order places place code new i slot at keeps h = record {
   way = h.way;
@@ -94,7 +99,8 @@ is_written_more order places place code new i slot at keeps h = record {
   fall = λ to e. falls_more order places place code new i at to keeps (h.fall to e);
 }
 
-added_more : (p : List (Option Insn)) (order places : List ℕ) (place : ℕ) (code new : List (Option Insn)) (at : ℕ) → Keeps code new → IsAddedAt p order places code at
+added_more : (p : List (Option Insn)) (order places : List ℕ) (place : ℕ) (code new : List (Option Insn)) (at : ℕ) → Keeps code new
+    → IsAddedAt p order places code at
     → IsAddedAt p order (places ++ place ∷ []) new at
 unfolding jumps_more
 added_more p order places place code new at keeps h = record {
@@ -115,7 +121,8 @@ added_more p order places place code new at keeps h = record {
   below = h.below;
 }
 
-has_stands : (p : List (Option Insn)) (marks : List Mark) (order places : List ℕ) (slot place : ℕ) → IsOrder p marks order → HasPlace marks places slot place → StandsAt order places slot place
+has_stands : (p : List (Option Insn)) (marks : List Mark) (order places : List ℕ) (slot place : ℕ) → IsOrder p marks order
+    → HasPlace marks places slot place → StandsAt order places slot place
 has_stands p marks order places slot place h has = record {
   number = has.number;
   ordered = h.marked.order_slot slot has.number has.done;
@@ -139,7 +146,8 @@ pub record HasJump (marks : List Mark) (places : List ℕ) (code : List (Option 
   pub there : IsWayTo marks places code to way
   pub behind_is : behind ≡ code ++ Some (insn.Jump (pos way)) ∷ []
 
-leads_cases : (marks : List Mark) (places : List ℕ) (code : List (Option Insn)) (fall : Option ℕ) (behind : List (Option Insn)) → LeadsOn marks places code fall behind
+leads_cases : (marks : List Mark) (places : List ℕ) (code : List (Option Insn)) (fall : Option ℕ) (behind : List (Option Insn))
+    → LeadsOn marks places code fall behind
     → (behind ≡ code) ⊎ HasJump marks places code fall behind
 leads_cases marks places code None behind h = inl h
 leads_cases marks places code (Some to) behind h = elim (cases_Bool (eqb h.0 0)) [
@@ -159,7 +167,8 @@ half_old behind (insn.Wide dst value) k j e = elim (get_pushed behind None k (So
 half_old behind _ k j e = subst (λ (xs : List (Option Insn)). slice_get xs k ≡ Some (Some j)) (append-nil behind) e
 
 -- what stands in the new code behind what was written last was there before, or is the jump that was added
-old_or_jump : (marks : List Mark) (places : List ℕ) (code : List (Option Insn)) (fall : Option ℕ) (behind : List (Option Insn)) (k : ℕ) (j : Insn) → LeadsOn marks places code fall behind
+old_or_jump : (marks : List Mark) (places : List ℕ) (code : List (Option Insn)) (fall : Option ℕ) (behind : List (Option Insn)) (k : ℕ) (j : Insn)
+    → LeadsOn marks places code fall behind
     → slice_get behind k ≡ Some (Some j) → (slice_get code k ≡ Some (Some j)) ⊎ ((k ≡ length code) × HasJump marks places code fall behind)
 old_or_jump marks places code fall behind k j h e = elim (leads_cases marks places code fall behind h) [
   | inl same ↦ inl (rw same at e)
@@ -169,17 +178,20 @@ old_or_jump marks places code fall behind k j h e = elim (leads_cases marks plac
   ]
 ]
 
-keeps_behind : (marks : List Mark) (places : List ℕ) (code : List (Option Insn)) (fall : Option ℕ) (behind : List (Option Insn)) → LeadsOn marks places code fall behind → Keeps code behind
+keeps_behind : (marks : List Mark) (places : List ℕ) (code : List (Option Insn)) (fall : Option ℕ) (behind : List (Option Insn))
+    → LeadsOn marks places code fall behind → Keeps code behind
 keeps_behind marks places code fall behind h k o e = elim (leads_cases marks places code fall behind h) [
   | inl same ↦ rw same e
   | inr jump ↦ rw jump.behind_is (get_kept code (Some (insn.Jump (pos jump.way)) ∷ []) k o e)
 ]
 
-pub length-behind : (marks : List Mark) (places : List ℕ) (code : List (Option Insn)) (fall : Option ℕ) (behind : List (Option Insn)) → LeadsOn marks places code fall behind
+pub length-behind : (marks : List Mark) (places : List ℕ) (code : List (Option Insn)) (fall : Option ℕ) (behind : List (Option Insn))
+    → LeadsOn marks places code fall behind
     → (length code ≤ length behind) × (length behind ≤ length code + 1)
 length-behind marks places code fall behind h = elim (leads_cases marks places code fall behind h) [
   | inl same ↦ let e : length behind ≡ length code = ap length same in (omega arith, omega arith)
-  | inr jump ↦ let e : length behind ≡ length code + 1 = ap length jump.behind_is ∙ length_push code (Some (insn.Jump (pos jump.way))) in (omega arith, omega arith)
+  | inr jump ↦ let e : length behind ≡ length code + 1 =
+      ap length jump.behind_is ∙ length_push code (Some (insn.Jump (pos jump.way))) in (omega arith, omega arith)
 ]
 
 -- ---- what holds of an instruction that was written
@@ -196,32 +208,39 @@ pub record IsNew (p : List (Option Insn)) (marks : List Mark) (order places : Li
 new_stands : (order places : List ℕ) (slot place : ℕ) → slice_get order (length places) ≡ Some slot → StandsAt order (places ++ place ∷ []) slot place
 new_stands order places slot place here = record { number = length places; ordered = here; placed = get_last places place }
 
-pub moved_size : (marks : List Mark) (places : List ℕ) (code : List (Option Insn)) (i : Insn) (jump : Option ℕ) (new : Insn) → IsMovedTo marks places code i jump new → slots_in new ≡ slots_in i
+pub moved_size : (marks : List Mark) (places : List ℕ) (code : List (Option Insn)) (i : Insn) (jump : Option ℕ) (new : Insn)
+    → IsMovedTo marks places code i jump new → slots_in new ≡ slots_in i
 moved_size marks places code i None new h = ap slots_in h.0
 moved_size marks places code i (Some to) new h = ap slots_in h.2 ∙ slots_in-moved i (pos h.0)
 
-pub new_length : (marks : List Mark) (places : List ℕ) (code : List (Option Insn)) (i : Insn) (fall jump : Option ℕ) (new : List (Option Insn)) → (w : Writes marks places code i fall jump new)
+pub new_length : (marks : List Mark) (places : List ℕ) (code : List (Option Insn)) (i : Insn) (fall jump : Option ℕ) (new : List (Option Insn))
+    → (w : Writes marks places code i fall jump new)
     → length new ≡ length w.behind + slots_in i
 new_length marks places code i fall jump new w =
     omega (arith, ap length w.written, length_push (w.behind ++ half_of w.moved) (Some w.moved), length-append w.behind (half_of w.moved), length-half w.moved, moved_size marks places w.behind i jump w.moved w.moved_is)
 
-new_place : (marks : List Mark) (places : List ℕ) (code : List (Option Insn)) (i : Insn) (fall jump : Option ℕ) (new : List (Option Insn)) (place : ℕ) → (w : Writes marks places code i fall jump new)
+new_place : (marks : List Mark) (places : List ℕ) (code : List (Option Insn)) (i : Insn) (fall jump : Option ℕ) (new : List (Option Insn)) (place : ℕ)
+    → (w : Writes marks places code i fall jump new)
     → place + 1 ≡ length new → place ≡ length (w.behind ++ half_of w.moved)
 new_place marks places code i fall jump new place w last =
     omega (arith, ap length w.written, length_push (w.behind ++ half_of w.moved) (Some w.moved))
 
-keeps_new : (marks : List Mark) (places : List ℕ) (code : List (Option Insn)) (i : Insn) (fall jump : Option ℕ) (new : List (Option Insn)) → (w : Writes marks places code i fall jump new) → Keeps w.behind new
+keeps_new : (marks : List Mark) (places : List ℕ) (code : List (Option Insn)) (i : Insn) (fall jump : Option ℕ) (new : List (Option Insn))
+    → (w : Writes marks places code i fall jump new) → Keeps w.behind new
 keeps_new marks places code i fall jump new w k o e =
     rw w.written (get_kept (w.behind ++ half_of w.moved) (Some w.moved ∷ []) k o (get_kept w.behind (half_of w.moved) k o e))
 
-keeps_all : (marks : List Mark) (places : List ℕ) (code : List (Option Insn)) (i : Insn) (fall jump : Option ℕ) (new : List (Option Insn)) → (w : Writes marks places code i fall jump new) → Keeps code new
-keeps_all marks places code i fall jump new w k o e = keeps_new marks places code i fall jump new w k o (keeps_behind marks places code fall w.behind w.leads_on k o e)
+keeps_all : (marks : List Mark) (places : List ℕ) (code : List (Option Insn)) (i : Insn) (fall jump : Option ℕ) (new : List (Option Insn))
+    → (w : Writes marks places code i fall jump new) → Keeps code new
+keeps_all marks places code i fall jump new w k o e =
+    keeps_new marks places code i fall jump new w k o (keeps_behind marks places code fall w.behind w.leads_on k o e)
 
 -- what an instruction jumps to
 abbrev JumpsBy : List ℕ → List ℕ → Insn → ℕ → ℕ → ℕ → Type 0
 JumpsBy order places i slot place way = (to : ℕ) → jump_of i slot ≡ Some to → (t : ℕ) × StandsAt order places to t × (t + way + 1 ≡ place)
 
-new_jump : (p : List (Option Insn)) (marks : List Mark) (order places : List ℕ) (behind : List (Option Insn)) (i : Insn) (slot place : ℕ) (jump : Option ℕ) (new : Insn) → IsOrder p marks order
+new_jump : (p : List (Option Insn)) (marks : List Mark) (order places : List ℕ) (behind : List (Option Insn)) (i : Insn) (slot place : ℕ) (jump : Option ℕ) (new : Insn)
+    → IsOrder p marks order
     → jump ≡ jump_of i slot → place + 1 ≡ length behind + slots_in i → IsMovedTo marks places behind i jump new
     → (way : ℕ) × (new ≡ moved i (pos way)) × JumpsBy order (places ++ place ∷ []) i slot place way
 new_jump p marks order places behind i slot place None new h e last is =
@@ -237,8 +256,10 @@ new_jump p marks order places behind i slot place (Some to) new h e last is =
           (t.place, subst (λ (y : ℕ). StandsAt order (places ++ place ∷ []) y t.place) same (stands_more order places place to t.place (has_stands p marks order places to t.place h t.has)), omega arith),
     )
 
-new_fall : (p : List (Option Insn)) (marks : List Mark) (order places : List ℕ) (code behind new : List (Option Insn)) (i : Insn) (slot place to : ℕ) (fall : Option ℕ) → IsOrder p marks order
-    → fall ≡ Some to → place + 1 ≡ length behind + slots_in i → Keeps behind new → LeadsOn marks places code fall behind → FallsRight order (places ++ place ∷ []) new i place to
+new_fall : (p : List (Option Insn)) (marks : List Mark) (order places : List ℕ) (code behind new : List (Option Insn)) (i : Insn) (slot place to : ℕ) (fall : Option ℕ)
+    → IsOrder p marks order
+    → fall ≡ Some to → place + 1 ≡ length behind + slots_in i → Keeps behind new → LeadsOn marks places code fall behind
+    → FallsRight order (places ++ place ∷ []) new i place to
 new_fall p marks order places code behind new i slot place to None h e last keeps leads = absurd (none-some to e)
 new_fall p marks order places code behind new i slot place to (Some x) h e last keeps leads =
     let same : x ≡ to = same_Some x to e in
@@ -334,14 +355,16 @@ leaps_over p marks order places code slot i new place n old j =
 
 only_more : (p : List (Option Insn)) (marks : List Mark) (order places : List ℕ) (code : List (Option Insn)) (slot : ℕ) (i : Insn) (new : List (Option Insn)) (place : ℕ)
     → IsNew p marks order places code slot i new place → AreWritten p order places code
-    → (at : ℕ) (j : Insn) → slice_get new at ≡ Some (Some j) → ((s : ℕ) × StandsAt order (places ++ place ∷ []) s at) ⊎ IsAddedAt p order (places ++ place ∷ []) new at
+    → (at : ℕ) (j : Insn) → slice_get new at ≡ Some (Some j)
+    → ((s : ℕ) × StandsAt order (places ++ place ∷ []) s at) ⊎ IsAddedAt p order (places ++ place ∷ []) new at
 only_more p marks order places code slot i new place n old at j there =
     let w = n.writes in
     let spot = new_place marks places code i (fall_of i slot) (jump_of i slot) new place w n.last in
     let len = new_length marks places code i (fall_of i slot) (jump_of i slot) new w in
     let in_new = subst (λ (xs : List (Option Insn)). slice_get xs at ≡ Some (Some j)) w.written there in
     elim (get_pushed (w.behind ++ half_of w.moved) (Some w.moved) at (Some j) in_new) [
-      | inr here ↦ let e : place ≡ at = spot ∙ sym here.0 in inl (slot, subst (λ (x : ℕ). StandsAt order (places ++ place ∷ []) slot x) e (new_stands order places slot place n.here))
+      | inr here ↦ let e : place ≡ at =
+          spot ∙ sym here.0 in inl (slot, subst (λ (x : ℕ). StandsAt order (places ++ place ∷ []) slot x) e (new_stands order places slot place n.here))
       | inl lower ↦ elim (old_or_jump marks places code (fall_of i slot) w.behind at j w.leads_on (half_old w.behind w.moved at j lower)) [
         | inl before ↦ elim (old.only at j before) [
           | inl stands ↦ inl (stands.0, stands_more order places place stands.0 at stands.1)

@@ -28,12 +28,6 @@ is_fetched Empty = false
 is_fetched Null = false
 is_fetched Granted = false
 
-abbrev pub is_empty : Reply → Bool
-is_empty Empty = true
-is_empty Shelf = false
-is_empty Null = false
-is_empty Granted = false
-
 -- how many of the answers to calls of new are objects, and how many are null
 abbrev pub granted : List Reply → ℕ
 granted replies = count_by is_granted replies
@@ -41,12 +35,9 @@ granted replies = count_by is_granted replies
 abbrev pub refused : List Reply → ℕ
 refused replies = count_by is_null replies
 
--- how many of the answers to calls of swap are objects, and how many say that nothing stood on the shelf
+-- how many of the answers to calls of swap are objects
 abbrev pub fetched : List Reply → ℕ
 fetched replies = count_by is_fetched replies
-
-abbrev pub missed : List Reply → ℕ
-missed replies = count_by is_empty replies
 
 -- ---- the report
 

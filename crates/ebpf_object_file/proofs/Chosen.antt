@@ -80,16 +80,21 @@ named_refused file name f number r are short first h =
     err_more r (λ e. IsFunctionFault f number e) (λ e. IsNamedFault file name e) (λ e there. inr (short, inr (f, are, inr (number, first, there)))) h
 
 -- the only function, and why it is none
-pub no_functions : (file : List ℕ) (f : Functions) → AreFunctions file f → NoneBelow (function_from f.header.sections f.symbols.now 0) (length f.symbols.now / 24)
+pub no_functions : (file : List ℕ) (f : Functions) → AreFunctions file f
+    → NoneBelow (function_from f.header.sections f.symbols.now 0) (length f.symbols.now / 24)
     → NoneBelow (function_in file f.symbols.now) (length f.symbols.now / 24)
 no_functions file f are none = none_in file f.symbols.now f.header.sections (length f.symbols.now / 24) (count_of file f are) none
 
-pub is_only : (file : List ℕ) (f : Functions) (first : ℕ) → AreFunctions file f → IsFirst (function_from f.header.sections f.symbols.now 0) (length f.symbols.now / 24) first
-    → NoneBelow (function_from f.header.sections f.symbols.now (first + 1)) (length f.symbols.now / 24) → IsOnly (function_in file f.symbols.now) (length f.symbols.now / 24) first
+pub is_only : (file : List ℕ) (f : Functions) (first : ℕ) → AreFunctions file f
+    → IsFirst (function_from f.header.sections f.symbols.now 0) (length f.symbols.now / 24) first
+    → NoneBelow (function_from f.header.sections f.symbols.now (first + 1)) (length f.symbols.now / 24)
+    → IsOnly (function_in file f.symbols.now) (length f.symbols.now / 24) first
 is_only file f first are is none = only_in file f.symbols.now f.header.sections (length f.symbols.now / 24) first (count_of file f are) is none
 
-pub are_two : (file : List ℕ) (f : Functions) (first second : ℕ) → AreFunctions file f → IsFirst (function_from f.header.sections f.symbols.now 0) (length f.symbols.now / 24) first
-    → IsFirst (function_from f.header.sections f.symbols.now (first + 1)) (length f.symbols.now / 24) second → AreTwo (function_in file f.symbols.now) (length f.symbols.now / 24)
+pub are_two : (file : List ℕ) (f : Functions) (first second : ℕ) → AreFunctions file f
+    → IsFirst (function_from f.header.sections f.symbols.now 0) (length f.symbols.now / 24) first
+    → IsFirst (function_from f.header.sections f.symbols.now (first + 1)) (length f.symbols.now / 24) second
+    → AreTwo (function_in file f.symbols.now) (length f.symbols.now / 24)
 are_two file f first second are one two = two_in file f.symbols.now f.header.sections (length f.symbols.now / 24) first second (count_of file f are) one two
 
 pub only_found : (file : List ℕ) (f : Functions) (number : ℕ) (r : Result Function ObjectFault) → AreFunctions file f

@@ -23,7 +23,8 @@ one_counted sections n count symbols s test is tested is_true counted =
     let function : is_function sections (symbol_of symbols n) ≡ true = ap (is_function sections) (sym is) ∙ sym tested ∙ is_true in
     rw (add-one, add-one, function) (rw counted (omega arith))
 
-pub one_named : (sections n count : ℕ) (symbols strings name : List ℕ) (s : Symbol) (test : Bool) → s ≡ symbol_of symbols n → test ≡ is_function sections s → test ≡ true
+pub one_named : (sections n count : ℕ) (symbols strings name : List ℕ) (s : Symbol) (test : Bool) → s ≡ symbol_of symbols n
+    → test ≡ is_function sections s → test ≡ true
     → count ≡ functions_below sections symbols n → name ≡ text_at strings s.name name_limit
     → names_below sections symbols strings n ++ name_after count name ≡ names_below sections symbols strings (n + 1)
 unfolding names_below
@@ -52,7 +53,8 @@ no_names : (sections : ℕ) (symbols strings : List ℕ) (n : ℕ) → functions
 unfolding functions_below names_below
 no_names sections symbols strings zero none = refl
 no_names sections symbols strings (suc n) none = by_test (is_function sections (symbol_of symbols n)) refl (no_names sections symbols strings n) where
-  by_test : (test : Bool) → is_function sections (symbol_of symbols n) ≡ test → (functions_below sections symbols n ≡ 0 → names_below sections symbols strings n ≡ [])
+  by_test : (test : Bool) → is_function sections (symbol_of symbols n) ≡ test
+      → (functions_below sections symbols n ≡ 0 → names_below sections symbols strings n ≡ [])
       → names_below sections symbols strings (suc n) ≡ []
   by_test true e before = let more : functions_below sections symbols n + 1 ≡ 0 = rw e at none in absurd (omega (arith, more))
   by_test false e before =

@@ -57,9 +57,11 @@ none_reaching file p i bytes only same none r h =
     ]
 
 -- the first that reaches it
-pub is_reached_first : (file : List ℕ) (p : Place) (i k : ℕ) (bytes : List ℕ) (r : Relocation) → NoneBelow (wanted_in file (AddendsFor p.section)) (sections_in file)
+pub is_reached_first : (file : List ℕ) (p : Place) (i k : ℕ) (bytes : List ℕ) (r : Relocation)
+    → NoneBelow (wanted_in file (AddendsFor p.section)) (sections_in file)
     → IsOnly (wanted_in file (RelocationsFor p.section)) (sections_in file) i
-    → bytes ≡ bytes_of file i → IsFirst (λ k. reaches p.from p.size (relocation_of bytes k)) (length bytes / 16) k → r ≡ relocation_of bytes k → IsReachedFirst file p r
+    → bytes ≡ bytes_of file i → IsFirst (λ k. reaches p.from p.size (relocation_of bytes k)) (length bytes / 16) k
+    → r ≡ relocation_of bytes k → IsReachedFirst file p r
 is_reached_first file p i k bytes r none only same first is = record {
   no_addends = none;
   table = i;

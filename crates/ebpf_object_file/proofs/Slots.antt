@@ -88,7 +88,8 @@ latest_same test other size records n (Some l) agree h = record {
 }
 
 -- at the first slot the line holds that begins there
-first_holds : (size : ℕ) (records : List ℕ) (from n : ℕ) (best : Option Line) → Latest (is_at from 0) size records n best → Holds size records from (from + 8 * 0) n best
+first_holds : (size : ℕ) (records : List ℕ) (from n : ℕ) (best : Option Line) → Latest (is_at from 0) size records n best
+    → Holds size records from (from + 8 * 0) n best
 first_holds size records from n best h =
     latest_same (is_at from 0) (is_between from (from + 8 * 0)) size records n best
     (λ k lt. same_tests _ _
@@ -113,7 +114,8 @@ kept size records from n m best none h =
     ])) h
 
 -- where one begins, it holds
-begun : (size : ℕ) (records : List ℕ) (from n m : ℕ) (l : Line) → IsLatest (is_at from (m + 1)) size records n l → Holds size records from (from + 8 * (m + 1)) n (Some l)
+begun : (size : ℕ) (records : List ℕ) (from n m : ℕ) (l : Line) → IsLatest (is_at from (m + 1)) size records n l
+    → Holds size records from (from + 8 * (m + 1)) n (Some l)
 begun size records from n m l h =
     let p = at_is from (m + 1) l h.here in
     let a : from ≤ l.offset = p.0 in
@@ -146,7 +148,8 @@ pub record AreCarried (size : ℕ) (records : List ℕ) (from slot : ℕ) (lines
   pub above : (k : ℕ) → k < length lines → slot ≤ k → Latest (is_at from k) size records (length records / size) (slice_index_or lines k None)
 
 pub carried_first : (size : ℕ) (records : List ℕ) (from : ℕ) (lines : List (Option Line))
-    → ((k : ℕ) → k < length lines → Latest (is_at from k) size records (length records / size) (slice_index_or lines k None)) → AreCarried size records from 1 lines
+    → ((k : ℕ) → k < length lines → Latest (is_at from k) size records (length records / size) (slice_index_or lines k None))
+    → AreCarried size records from 1 lines
 carried_first size records from lines each = record {
   below = λ k lt low. let e : k ≡ 0 = omega (arith, low) in
       subst (λ (x : ℕ). Holds size records from (from + 8 * x) (length records / size) (slice_index_or lines x None)) (sym e)

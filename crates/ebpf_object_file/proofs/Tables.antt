@@ -47,7 +47,8 @@ lines_more file b x name section btf ext (Some l) tables whole e f g h = record 
   lines = subst_three (λ p q r. AreLines p q r l.strings.now l.records.now l.size) _ _ _ _ _ _ e f g h;
 }
 
-pub lines_found : (file b x name : List ℕ) (section btf ext : ℕ) (r : Result (Option Lines) FileFault) → HasTables file section btf ext → has_whole_name file section ≡ true
+pub lines_found : (file b x name : List ℕ) (section btf ext : ℕ) (r : Result (Option Lines) FileFault)
+    → HasTables file section btf ext → has_whole_name file section ≡ true
     → b ≡ bytes_of file btf → x ≡ bytes_of file ext → name ≡ section_name file section
     → IfOk r (λ o. MatchOption o (HasNoLines b x name) (λ l. AreLines b x name l.strings.now l.records.now l.size))
     → IfOk r (λ o. MatchOption o (HasNoLinesOf file section) (λ l. AreLinesOf file section l))
@@ -55,7 +56,8 @@ lines_found file b x name section btf ext r tables whole e f g h =
     IfOk-weaker r (λ o. MatchOption o (HasNoLines b x name) (λ l. AreLines b x name l.strings.now l.records.now l.size))
     (λ o. MatchOption o (HasNoLinesOf file section) (λ l. AreLinesOf file section l)) (λ o p. lines_more file b x name section btf ext o tables whole e f g p) h
 
-pub lines_refused : (file b x name : List ℕ) (section btf ext : ℕ) (r : Result (Option Lines) FileFault) → HasTables file section btf ext → has_whole_name file section ≡ true
+pub lines_refused : (file b x name : List ℕ) (section btf ext : ℕ) (r : Result (Option Lines) FileFault)
+    → HasTables file section btf ext → has_whole_name file section ≡ true
     → b ≡ bytes_of file btf → x ≡ bytes_of file ext → name ≡ section_name file section
     → IfErr r (λ e. IsLinesFault b x name e) → IfErr r (λ e. IsLinesOfFault file section e)
 lines_refused file b x name section btf ext r tables whole e f g h =
@@ -86,7 +88,8 @@ room_of btf ext strings table rest size r = subst (λ (x : List ℕ). 4 ≤ leng
 wide_of : (btf ext strings table rest : List ℕ) (size : ℕ) → AreRead btf ext strings table rest size → 16 ≤ field 4 (table_of ext) 0
 wide_of btf ext strings table rest size r = subst (λ (n : ℕ). 16 ≤ n) (r.size_is ∙ ap (λ (x : List ℕ). field 4 x 0) r.table_is.1) r.wide
 
-pub has_no_lines : (btf ext name strings table rest : List ℕ) (size : ℕ) → AreRead btf ext strings table rest size → HasNoPart size strings name rest → HasNoLines btf ext name
+pub has_no_lines : (btf ext name strings table rest : List ℕ) (size : ℕ) → AreRead btf ext strings table rest size
+    → HasNoPart size strings name rest → HasNoLines btf ext name
 has_no_lines btf ext name strings table rest size r none = (
   r.strings_are.0,
   r.table_is.0,

@@ -25,7 +25,8 @@ whole_here bytes end lt before here =
 pub whole_all : (bytes : List ℕ) (end : ℕ) → length bytes ≡ end → ((k : ℕ) → k < end → not (slice_index bytes k == 0) ≡ true)
     → bytes ≡ whole_text bytes
 whole_all bytes end same before =
-    let n : prefix_len (λ b. not (b == 0)) bytes ≡ end = prefix_len_is (λ b. not (b == 0)) bytes end 0 (omega (arith, same)) before (λ lt. absurd (omega (arith, same, lt))) in
+    let n : prefix_len (λ b. not (b == 0)) bytes ≡ end =
+    prefix_len_is (λ b. not (b == 0)) bytes end 0 (omega (arith, same)) before (λ lt. absurd (omega (arith, same, lt))) in
     rw n (sym (take_all end bytes (omega (arith, same))))
 
 -- the first byte that is no blank is here
@@ -68,5 +69,6 @@ pub test_from_text : (strings name rest : List ℕ) (at : ℕ) → drop at strin
 test_from_text strings name rest at e =
     let begins = (starts_is Decides-eqb (drop at strings) name _ refl).1 (0 ∷ rest) e in
     let longer : nat_lt (length name) (length (drop at strings)) ≡ true = lt_test _ _ (rw e (omega (arith, length-append name (0 ∷ rest)))) in
-    let here : (slice_index (drop at strings) (length name) == 0) ≡ true = eq_test _ _ (ap (λ (x : List ℕ). slice_index x (length name)) e ∙ at_seam name rest 0) in
+    let here : (slice_index (drop at strings) (length name) == 0) ≡ true =
+    eq_test _ _ (ap (λ (x : List ℕ). slice_index x (length name)) e ∙ at_seam name rest 0) in
     and_from _ _ (and_from _ _ begins longer) here

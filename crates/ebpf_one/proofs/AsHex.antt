@@ -71,7 +71,9 @@ lay_out_alike hex bytes response is h =
     (subst (λ (xs : List ℕ). LaysOutGiven (input_fault Raw bytes) xs response) (same_bytes hex bytes is) h)
 
 -- so what is written of raw bytes is the response to each hex text of them
-pub writes_as_hex : (Responds : Form → Responding) → AreAlike Responds → (form : Form) (input old new : Option (List ℕ)) (result : Result Done EngineFault) → Writes (Responds form) input old new result → WritesAsHex Responds form input old new result
+pub writes_as_hex : (Responds : Form → Responding) → AreAlike Responds
+    → (form : Form) (input old new : Option (List ℕ)) (result : Result Done EngineFault)
+    → Writes (Responds form) input old new result → WritesAsHex Responds form input old new result
 writes_as_hex Responds alike form input old new result h hex bytes raw given is =
     of_bytes result (subst (λ (i : Option (List ℕ)). Writes (Responds Raw) i old new result) given (subst (λ (f : Form). Writes (Responds f) input old new result) raw h))
   where

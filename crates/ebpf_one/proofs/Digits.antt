@@ -19,17 +19,21 @@ all_kept : (text : List ℕ) → AllPass is_hex_digit text → filter (λ c. not
 all_kept [] all = refl
 all_kept (c ∷ text) all = rw (no_blank c (All-head IsDigit c text all), all_kept text (All-tail IsDigit c text all)) refl
 
-same_text : (text bytes : List ℕ) (r : Result (List ℕ) FromHexError) → decode_of text ≡ r → bytes_or_none r ≡ Some bytes → filter (λ c. not (is_blank c)) text ≡ text
+same_text : (text bytes : List ℕ) (r : Result (List ℕ) FromHexError) → decode_of text ≡ r → bytes_or_none r ≡ Some bytes
+    → filter (λ c. not (is_blank c)) text ≡ text
 same_text text bytes (Ok read) e some = all_kept text (decode_of-ok text read e).1
 same_text text bytes (Err why) e some = absurd cc
 
 -- the bytes of a text that is decoded are those of each text with the same digits
-pub decoded_whole : {V : Type 0} (items : V → List ℕ) (o : Option V) (text input : List ℕ) → is_some o ≡ true → option_map items o ≡ hex_bytes text → filter (λ c. not (is_blank c)) text ≡ filter (λ c. not (is_blank c)) input → option_map items o ≡ program_bytes input
+pub decoded_whole : {V : Type 0} (items : V → List ℕ) (o : Option V) (text input : List ℕ) → is_some o ≡ true
+    → option_map items o ≡ hex_bytes text → filter (λ c. not (is_blank c)) text ≡ filter (λ c. not (is_blank c)) input
+    → option_map items o ≡ program_bytes input
 decoded_whole items None text input some e same = absurd cc
 decoded_whole items (Some v) text input some e same = e ∙ ap hex_bytes (sym (same_text text (items v) (decode_of text) refl (sym e)) ∙ same)
 
 -- the bytes of a text that can be decoded, or else none
-pub items_or_none : {V : Type 0} (items : V → List ℕ) (o : Option V) (none : V) (read : Option (List ℕ)) → option_map items o ≡ read → items none ≡ [] → items (unwrap_or o none) ≡ unwrap_or read []
+pub items_or_none : {V : Type 0} (items : V → List ℕ) (o : Option V) (none : V) (read : Option (List ℕ)) → option_map items o ≡ read
+    → items none ≡ [] → items (unwrap_or o none) ≡ unwrap_or read []
 items_or_none items None none read e empty = empty ∙ ap (λ (r : Option (List ℕ)). unwrap_or r []) e
 items_or_none items (Some v) none read e empty = ap (λ (r : Option (List ℕ)). unwrap_or r []) e
 

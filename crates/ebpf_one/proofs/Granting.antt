@@ -10,7 +10,8 @@ use Rattle.ebpf_one.specs.declared.store.Entry.{Entry}
 use Rattle.ebpf_one.specs.Going.{Granting, GoesBy, granting}
 
 -- a call of new that was granted a slot
-pub granted_goes : {H : Type 0} (nulls short nulls' short' : Bool) (table table' : List Entry) (entry : Entry) (object : H) → table' ≡ table ++ entry ∷ [] → (nulls' ≡ nulls) × (short' ≡ short)
+pub granted_goes : {H : Type 0} (nulls short nulls' short' : Bool) (table table' : List Entry) (entry : Entry) (object : H)
+    → table' ≡ table ++ entry ∷ [] → (nulls' ≡ nulls) × (short' ≡ short)
     → GoesBy (granting nulls short table) (reply.Granted ∷ []) (granting nulls' short' table')
 granted_goes nulls short nulls' short' table table' entry object is stays = record {
   nulls = stays.0;
@@ -27,7 +28,8 @@ refused_goes nulls short table refuses = record {
 }
 
 -- one for which there was no memory
-pub short_goes : (nulls nulls' short : Bool) (table table' : List Entry) → nulls' ≡ nulls → table' ≡ table → GoesBy (granting nulls short table) (reply.Null ∷ []) (granting nulls' true table')
+pub short_goes : (nulls nulls' short : Bool) (table table' : List Entry) → nulls' ≡ nulls → table' ≡ table
+    → GoesBy (granting nulls short table) (reply.Null ∷ []) (granting nulls' true table')
 short_goes nulls nulls' short table table' stays same = record {
   nulls = stays;
   slots = let long = ap (λ (t : List Entry). length t) same in omega (arith, long);
@@ -35,7 +37,8 @@ short_goes nulls nulls' short table table' stays same = record {
 }
 
 -- an entry that is written again
-pub given_goes : (nulls short : Bool) (table : List Entry) (slot : ℕ) (entry : Entry) → GoesBy (granting nulls short table) [] (granting nulls short (slice_set table slot entry))
+pub given_goes : (nulls short : Bool) (table : List Entry) (slot : ℕ) (entry : Entry)
+    → GoesBy (granting nulls short table) [] (granting nulls short (slice_set table slot entry))
 given_goes nulls short table slot entry = record {
   nulls = refl;
   slots = let long = length-set table slot entry in omega (arith, long);
@@ -43,7 +46,8 @@ given_goes nulls short table slot entry = record {
 }
 
 -- a call of swap
-pub swapped_goes : {H : Type 0} (nulls short nulls' short' : Bool) (table table' : List Entry) (got : Option H) → length table' ≡ length table → (nulls' ≡ nulls) × (short' ≡ short)
+pub swapped_goes : {H : Type 0} (nulls short nulls' short' : Bool) (table table' : List Entry) (got : Option H)
+    → length table' ≡ length table → (nulls' ≡ nulls) × (short' ≡ short)
     → GoesBy (granting nulls short table) (reply_to_swap got ∷ []) (granting nulls' short' table')
 swapped_goes nulls short nulls' short' table table' None slots stays = record { nulls = stays.0; slots = omega (arith, slots); ample = λ grants fine. (sym stays.1 ∙ fine, refl) }
 swapped_goes nulls short nulls' short' table table' (Some h) slots stays = record { nulls = stays.0; slots = omega (arith, slots); ample = λ grants fine. (sym stays.1 ∙ fine, refl) }
@@ -67,5 +71,6 @@ fine_before nulls a b told went fine =
     (record { so = so; fine = λ grants. (ample grants).0 }, λ grants. (ample grants).1)
 
 -- it is so in the end where memory did not run out
-pub fine_last : (nulls : Bool) (first last : Granting) (told : List Reply) → first.nulls ≡ nulls → GoesBy first told last → last.short ≡ false → IsFine nulls last
+pub fine_last : (nulls : Bool) (first last : Granting) (told : List Reply) → first.nulls ≡ nulls → GoesBy first told last
+    → last.short ≡ false → IsFine nulls last
 fine_last nulls first last told is went fine = record { so = went.nulls ∙ is; fine = λ grants. fine }

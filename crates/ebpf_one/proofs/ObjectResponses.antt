@@ -29,7 +29,8 @@ object_cuts P cuts name file response long (inr k) =
     let short = k.1.0 in let read = read_long file long in absurd (omega (arith, short, read))
 
 -- the response to the slots that are taken
-pub of_taken : (P : Responding) (name : List ℕ) (file bytes : List ℕ) (response : Response) → IsTaken name file bytes → P bytes response → RespondsObject P name file response
+pub of_taken : (P : Responding) (name : List ℕ) (file bytes : List ℕ) (response : Response) → IsTaken name file bytes
+    → P bytes response → RespondsObject P name file response
 of_taken P name file bytes response is h = inl (bytes, is, h)
 
 -- or why none are

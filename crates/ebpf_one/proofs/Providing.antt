@@ -23,7 +23,8 @@ use Rattle.ebpf_one.specs.Solo.{provided}
 -- with what is on the shelf
 pub record AnswersSo {S H : Type 0} (o : Store S H) (nulls : Bool) (next : ℕ) (s : S) : Type 0 where
   pub grants : (kind at slot : ℕ) → o.can_grant s kind at slot → (nulls ≡ false) × (slot ≡ next)
-  pub fetches : (shelf slot : ℕ) (bytes : List ℕ) (what : Option Shelved) → o.can_fetch s shelf slot bytes → o.stand s shelf what → what ≡ Some (record { slot = slot; bytes = bytes })
+  pub fetches : (shelf slot : ℕ) (bytes : List ℕ) (what : Option Shelved) → o.can_fetch s shelf slot bytes → o.stand s shelf what
+      → what ≡ Some (record { slot = slot; bytes = bytes })
   pub misses : (shelf : ℕ) (what : Option Shelved) → o.can_miss s shelf → o.stand s shelf what → what ≡ None
 
 -- the world of one run shows the run over its store: what it holds, what stands on shelves, and that each slot of a ledger was granted
@@ -53,7 +54,9 @@ module _ {S H : Type 0} (o : Store S H) (nulls : Bool) (s : S) (r : RunState H) 
   v = seen_in o s r
 
   -- nothing joins
-  as_it_is : (answer : Answer) → IsShown o s r a → answer ≡ answer_for served → served_in a.world (asking_in v) (answer_for served) ≡ served → answer_fault a.world (asking_in v) answer ≡ None → IsProvided o s r served (record { world = a.world; answer = answer })
+  as_it_is : (answer : Answer) → IsShown o s r a → answer ≡ answer_for served
+      → served_in a.world (asking_in v) (answer_for served) ≡ served → answer_fault a.world (asking_in v) answer ≡ None
+      → IsProvided o s r served (record { world = a.world; answer = answer })
   as_it_is answer shown is serves fine = record {
     owned = shown.owned;
     view = shown.view;
@@ -75,7 +78,8 @@ module _ {S H : Type 0} (o : Store S H) (nulls : Bool) (s : S) (r : RunState H) 
         fresh = false_from_ne_true (is_in_ledger a.world (granted r.replies)) (λ there. absurd (omega (arith, shown.below (granted r.replies) there)));
       }
 
-  slot_joins : (kind : ℕ) → IsShown o s r a → AsksNew v kind → asking_in v ≡ OfKind kind → served ≡ Granted (granted r.replies) → IsProvided o s r served (record { world = with_slot_joined kind (granted r.replies) a.world; answer = Slot (granted r.replies) })
+  slot_joins : (kind : ℕ) → IsShown o s r a → AsksNew v kind → asking_in v ≡ OfKind kind → served ≡ Granted (granted r.replies)
+      → IsProvided o s r served (record { world = with_slot_joined kind (granted r.replies) a.world; answer = Slot (granted r.replies) })
   slot_joins kind shown new asked is =
       let w = a.world in
       let slot = granted r.replies in
@@ -101,7 +105,9 @@ module _ {S H : Type 0} (o : Store S H) (nulls : Bool) (s : S) (r : RunState H) 
   abbrev IsProvidedFor : Asking → Type 0
   IsProvidedFor asked = IsProvided o s r served (provided asked nulls (granted r.replies) a.world)
 
-  for_object : AnswersSo o nulls (granted r.replies) s → IsShown o s r a → (kind : ℕ) → AsksNew v kind → asking_in v ≡ OfKind kind → (x : Served) → served ≡ x → MayAnswer (offers_of o s) r.pc (OfKind kind) x → (nulls ≡ false → refused (told_by served) ≡ 0) → IsProvidedFor (OfKind kind)
+  for_object : AnswersSo o nulls (granted r.replies) s → IsShown o s r a → (kind : ℕ) → AsksNew v kind → asking_in v ≡ OfKind kind
+      → (x : Served) → served ≡ x → MayAnswer (offers_of o s) r.pc (OfKind kind) x → (nulls ≡ false → refused (told_by served) ≡ 0)
+      → IsProvidedFor (OfKind kind)
   for_object so shown kind new asked Idle is may ample = absurd may
   for_object so shown kind new asked Empty is may ample = absurd may
   for_object so shown kind new asked (Fetched slot bytes) is may ample = absurd may
@@ -110,12 +116,14 @@ module _ {S H : Type 0} (o : Store S H) (nulls : Bool) (s : S) (r : RunState H) 
       subst (λ (b : Bool). IsProvided o s r served (if b then record { world = a.world; answer = Null } else record { world = with_slot_joined kind (granted r.replies) a.world; answer = Slot (granted r.replies) })) (sym as_next.0)
       (slot_joins kind shown new asked (is ∙ ap Granted as_next.1))
   for_object so shown kind new asked Refused is may ample = by nulls refl where
-    by : (b : Bool) → nulls ≡ b → IsProvided o s r served (if b then record { world = a.world; answer = Null } else record { world = with_slot_joined kind (granted r.replies) a.world; answer = Slot (granted r.replies) })
+    by : (b : Bool) → nulls ≡ b
+        → IsProvided o s r served (if b then record { world = a.world; answer = Null } else record { world = with_slot_joined kind (granted r.replies) a.world; answer = Slot (granted r.replies) })
     by true e = as_it_is Null shown (ap answer_for (sym is)) (rw (asked, is) refl) (rw asked refl)
     by false e = let none = ample e in let one = ap (λ (x : Served). refused (told_by x)) is in absurd (omega (arith, none, one))
 
   -- what stands on the shelf is what the store tells
-  for_shelf : AnswersSo o nulls (granted r.replies) s → IsShown o s r a → (shelf : ℕ) → asking_in v ≡ AtShelf shelf → (x : Served) → served ≡ x → MayAnswer (offers_of o s) r.pc (AtShelf shelf) x → IsProvidedFor (AtShelf shelf)
+  for_shelf : AnswersSo o nulls (granted r.replies) s → IsShown o s r a → (shelf : ℕ) → asking_in v ≡ AtShelf shelf → (x : Served)
+      → served ≡ x → MayAnswer (offers_of o s) r.pc (AtShelf shelf) x → IsProvidedFor (AtShelf shelf)
   for_shelf so shown shelf asked x is may = as_it_is Absent shown (absent x is may) (rw asked (stands_so x is may)) (rw asked refl) where
     absent : (x : Served) → served ≡ x → MayAnswer (offers_of o s) r.pc (AtShelf shelf) x → Absent ≡ answer_for served
     absent Idle is may = absurd may
@@ -137,7 +145,8 @@ module _ {S H : Type 0} (o : Store S H) (nulls : Bool) (s : S) (r : RunState H) 
     stands_so Refused is may = absurd may
     stands_so (Granted slot) is may = absurd may
     stands_so Empty is may = as_shelved (standing a.world shelf) ∙ ap from_shelved (so.misses shelf _ may (shown.shelves shelf)) ∙ sym is
-    stands_so (Fetched slot bytes) is may = as_shelved (standing a.world shelf) ∙ ap from_shelved (so.fetches shelf slot bytes _ may (shown.shelves shelf)) ∙ sym is
+    stands_so (Fetched slot bytes) is may =
+        as_shelved (standing a.world shelf) ∙ ap from_shelved (so.fetches shelf slot bytes _ may (shown.shelves shelf)) ∙ sym is
 
   for_nothing : IsShown o s r a → asking_in v ≡ Unasked → served ≡ Idle → IsProvidedFor Unasked
   for_nothing shown unasked is = as_it_is Absent shown (ap answer_for (sym is)) (rw (unasked, is) refl) (rw unasked refl)
@@ -147,7 +156,8 @@ module _ {S H : Type 0} (o : Store S H) (nulls : Bool) (s : S) (r : RunState H) 
       let x = shown_run a.world 0 v shown.view in
       asks_of v (next_of v sound (subst AreSized x.2 (sized_in a.world 0 x.0 shown.owned x.1)) going)
 
-  pub provides : AnswersSo o nulls (granted r.replies) s → IsShown o s r a → IsSound v → v.status ≡ Going → MayServe o s v served → (nulls ≡ false → refused (told_by served) ≡ 0) → IsProvidedFor (asking_in v)
+  pub provides : AnswersSo o nulls (granted r.replies) s → IsShown o s r a → IsSound v → v.status ≡ Going → MayServe o s v served
+      → (nulls ≡ false → refused (told_by served) ≡ 0) → IsProvidedFor (asking_in v)
   provides so shown sound going may ample = by (asks_so shown sound going) where
     told : (asked : Asking) → asking_in v ≡ asked → MayAnswer (offers_of o s) r.pc asked served
     told asked e = subst (λ (k : Asking). MayAnswer (offers_of o s) r.pc k served) e may

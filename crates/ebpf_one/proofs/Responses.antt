@@ -31,10 +31,14 @@ abbrev RespondsBy : Type 1
 RespondsBy = Option FaultCode → List ℕ → Response → Type 0
 
 -- where the response to an input that is too long is S1, whatever its bytes, it is the response to its beginning
-cuts_at : (fault : List ℕ → Option FaultCode) (Responds : RespondsBy) → ((input : List ℕ) → 1048576 < length input → fault input ≡ Some InputTooLong) → ((a b : List ℕ) (response : Response) → Responds (Some InputTooLong) a response → Responds (Some InputTooLong) b response) → CutsLong (λ input response. Responds (fault input) input response)
+cuts_at : (fault : List ℕ → Option FaultCode) (Responds : RespondsBy)
+    → ((input : List ℕ) → 1048576 < length input → fault input ≡ Some InputTooLong)
+    → ((a b : List ℕ) (response : Response) → Responds (Some InputTooLong) a response → Responds (Some InputTooLong) b response)
+    → CutsLong (λ input response. Responds (fault input) input response)
 cuts_at fault Responds is_long same input response long h =
     let cut : length (read_of input) ≡ 1048577 = length-take-le 1048577 input (omega (arith, long)) in
-    let of_beginning : Responds (Some InputTooLong) (read_of input) response = subst (λ (f : Option FaultCode). Responds f (read_of input) response) (is_long (read_of input) (omega (arith, cut))) h in
+    let of_beginning : Responds (Some InputTooLong) (read_of input) response =
+    subst (λ (f : Option FaultCode). Responds f (read_of input) response) (is_long (read_of input) (omega (arith, cut))) h in
     subst (λ (f : Option FaultCode). Responds f input response) (sym (is_long input (omega (arith, long)))) (same (read_of input) input response of_beginning)
 
 -- so `one` responds to an input that is too long as to its beginning
@@ -47,12 +51,16 @@ pub list_cuts : (form : Form) → CutsLong (RespondsList form)
 list_cuts form = cuts_at (input_fault form) (λ f input response. RespondsGiven f (bytes_in form input) response) (input_fault_long form) (λ a b response h. h)
 
 -- the bytes of a request are judged to be this, to which this is the response
-pub response_of_judged : (a : Asked) (seen : List ℕ) (decl : Decl) (rows : List KindRow) (was judged : Judged) (nulls : Bool) (response : Response) → seen ≡ a.bytes → AreGiven a decl rows → IsJudged seen decl rows was → was ≡ judged → RespondsJudged judged a.context nulls response → RespondsBytes a nulls response
+pub response_of_judged : (a : Asked) (seen : List ℕ) (decl : Decl) (rows : List KindRow) (was judged : Judged) (nulls : Bool) (response : Response)
+    → seen ≡ a.bytes → AreGiven a decl rows → IsJudged seen decl rows was → was ≡ judged
+    → RespondsJudged judged a.context nulls response → RespondsBytes a nulls response
 response_of_judged a seen decl rows was judged nulls response same given is e h =
     (decl, rows, judged, given, subst (λ (j : Judged). IsJudged a.bytes decl rows j) e (subst (λ (bytes : List ℕ). IsJudged bytes decl rows was) same is), h)
 
 -- the response to the bytes that an input asks for is the response to the input
-pub Responds-asked : (form : Form) (input context : List ℕ) (held : ℕ) (nulls : Bool) (a : Asked) (response : Response) → fault_of form input context held ≡ None → a ≡ asked_for form input context held → RespondsBytes a nulls response → Responds form context held nulls input response
+pub Responds-asked : (form : Form) (input context : List ℕ) (held : ℕ) (nulls : Bool) (a : Asked) (response : Response)
+    → fault_of form input context held ≡ None → a ≡ asked_for form input context held → RespondsBytes a nulls response
+    → Responds form context held nulls input response
 Responds-asked form input context held nulls a response fine same h =
     let P : Option FaultCode → Type 0 = λ f. RespondsAsked f (asked_for form input context held) nulls response in
     subst P (sym fine) (subst (λ (x : Asked). RespondsBytes x nulls response) same h)
@@ -63,12 +71,15 @@ explain_cuts form context held =
     cuts_at (λ input. fault_of form input context held) (λ f input response. ExplainsAsked f form input context held response) (λ input long. fault_of_long form input context held long) (λ a b response h. h)
 
 -- what the bytes of a request are explained to be
-pub explained_bytes : (a : Asked) (seen : List ℕ) (decl : Decl) (rows : List KindRow) (response : Response) → seen ≡ a.bytes → AreGiven a decl rows → ExplainsDecoded (decode_fault seen) seen decl rows response → ExplainsBytes a response
+pub explained_bytes : (a : Asked) (seen : List ℕ) (decl : Decl) (rows : List KindRow) (response : Response) → seen ≡ a.bytes
+    → AreGiven a decl rows → ExplainsDecoded (decode_fault seen) seen decl rows response → ExplainsBytes a response
 explained_bytes a seen decl rows response same given h =
     (decl, rows, given, subst (λ (bytes : List ℕ). ExplainsDecoded (decode_fault bytes) bytes decl rows response) same h)
 
 -- what the bytes that an input asks for are explained to be is what the input is
-pub Explains-asked : (form : Form) (input context : List ℕ) (held : ℕ) (a : Asked) (response : Response) → fault_of form input context held ≡ None → a ≡ asked_for form input context held → ExplainsBytes a response → ExplainsTo form context held input response
+pub Explains-asked : (form : Form) (input context : List ℕ) (held : ℕ) (a : Asked) (response : Response)
+    → fault_of form input context held ≡ None → a ≡ asked_for form input context held → ExplainsBytes a response
+    → ExplainsTo form context held input response
 Explains-asked form input context held a response fine same h =
     let P : Option FaultCode → Type 0 = λ f. ExplainsAsked f form input context held response in
     subst P (sym fine) (subst (λ (x : Asked). ExplainsBytes x response) same h)

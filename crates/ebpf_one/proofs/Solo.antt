@@ -57,11 +57,13 @@ module _ {S H : Type 0} (o : Store S H) (s new : S) (r t : RunState H) (a : Alon
       subst (λ (k : Served). FitsShelf v (result_of k)) p.serves (served_fits_shelf f.world v (answer_for served) p.owned kinds)
 
   -- the world after it holds as many objects at most as the run alone did
-  peak_is : (after : World) → IsShown o s r a → view_in after 0 ≡ Some (seen_in o new t) → max a.peak (holds_of after 0) ≡ (alone_after t.executed t.subject t.context (replies_of (seen_in o new t))).peak
+  peak_is : (after : World) → IsShown o s r a → view_in after 0 ≡ Some (seen_in o new t)
+      → max a.peak (holds_of after 0) ≡ (alone_after t.executed t.subject t.context (replies_of (seen_in o new t))).peak
   peak_is after was view =
       let x = shown_run after 0 (seen_in o new t) view in
       let state : seen_in o new t ≡ stepped (result_of served) v = turn.step.2.state in
-      let held : holds_of after 0 ≡ length (seen_in o new t).objects = sym (length-map (held_by after 0) (object_in after)) ∙ ap (λ (u : RunView). length u.objects) x.2 in
+      let held : holds_of after 0 ≡ length (seen_in o new t).objects =
+      sym (length-map (held_by after 0) (object_in after)) ∙ ap (λ (u : RunView). length u.objects) x.2 in
       ap (λ (n : ℕ). max n (holds_of after 0)) was.peak
       ∙ ap (max (alone_after v.executed v.subject v.context (replies_of v)).peak) (held ∙ ap (λ (u : RunView). length u.objects) state)
       ∙ sym (peak_stepped v (result_of served) sound alone goes fits)
@@ -91,7 +93,8 @@ no_slots : (rows : List KindRow) (slot : ℕ) → list_any (is_in slot) (map (λ
 no_slots [] slot = refl
 no_slots (row ∷ rows) slot = no_slots rows slot
 
-shows_first : {S H : Type 0} (o : Store S H) (s : S) (subject : Subject) (context : List ℕ) → ((shelf : ℕ) → o.stand s shelf None) → IsShown o s (first_state_of subject context) (alone_first subject context)
+shows_first : {S H : Type 0} (o : Store S H) (s : S) (subject : Subject) (context : List ℕ) → ((shelf : ℕ) → o.stand s shelf None)
+    → IsShown o s (first_state_of subject context) (alone_first subject context)
 unfolding alone_after
 shows_first o s subject context bare = record {
   owned = owned_first subject context;
@@ -103,8 +106,10 @@ shows_first o s subject context bare = record {
 }
 
 -- and it is where the run alone begins
-pub starts_alone : {H : Type 0} (bytes : H → List ℕ) (subject : Subject) (context : List ℕ) (r : RunState H) → r ≡ first_state_of subject context → IsAlone (seen bytes r)
-starts_alone {H} bytes subject context r first = subst (λ (x : RunState H). IsAlone (seen bytes x)) (sym first) (ap (λ (a : Alone). view_in a.world 0) (after_none subject context (replies_from [] [])))
+pub starts_alone : {H : Type 0} (bytes : H → List ℕ) (subject : Subject) (context : List ℕ) (r : RunState H)
+    → r ≡ first_state_of subject context → IsAlone (seen bytes r)
+starts_alone {H} bytes subject context r first =
+    subst (λ (x : RunState H). IsAlone (seen bytes x)) (sym first) (ap (λ (a : Alone). view_in a.world 0) (after_none subject context (replies_from [] [])))
 
 -- ---- instruction after instruction
 
@@ -120,7 +125,8 @@ pub record IsBegun {S H : Type 0} (o : Store S H) (IsFine : S → Type 0) (nulls
   pub starts : IsUnderWay o first first subject context r
 
 module _ {S H : Type 0} (o : Store S H) (IsFine : S → Type 0) (nulls : Bool) (first : S) (subject : Subject) (context : List ℕ) (r : RunState H) (begun : IsBegun o IsFine nulls first subject context r) where
-  one_more : (s new : S) (between t : RunState H) (a : Alone) → IsUnderWay o first s subject context between → IsShown o s between a → (turn : IsTurn o between t s new) → IsFine new → IsShown o new t (solo_next nulls a)
+  one_more : (s new : S) (between t : RunState H) (a : Alone) → IsUnderWay o first s subject context between → IsShown o s between a
+      → (turn : IsTurn o between t s new) → IsFine new → IsShown o new t (solo_next nulls a)
   one_more s new between t a was shown turn fine = by (shown_run a.world 0 v shown.view) where
     v : RunView
     v = seen_in o s between
@@ -142,23 +148,27 @@ module _ {S H : Type 0} (o : Store S H) (IsFine : S → Type 0) (nulls : Bool) (
     by (x, there, seen) =
         let asked : asking_of a.world x ≡ asking_in v = asking_seen a.world 0 x shown.owned there ∙ ap asking_in seen in
         let slot : next_slot x ≡ granted between.replies = ap (λ (u : RunView). granted u.replies) seen in
-        let same : provided (asking_in v) nulls (granted between.replies) a.world ≡ provided (asking_of a.world x) nulls (next_slot x) a.world = λ i. provided (sym asked i) nulls (sym slot i) a.world in
+        let same : provided (asking_in v) nulls (granted between.replies) a.world ≡ provided (asking_of a.world x) nulls (next_slot x) a.world =
+        λ i. provided (sym asked i) nulls (sym slot i) a.world in
         let after = shows_next o s new between t a turn (provided (asking_of a.world x) nulls (next_slot x) a.world) (subst (IsProvided o s between turn.step.0) same given) was.sound was.alone shown more in
         subst (λ (running : Option Running). IsShown o new t (solo_by running nulls a)) (sym there) after
 
-  pub shows_after : (number : ℕ) (new : S) (t : RunState H) → AreTurns o number r t first new → IsFine new → IsShown o new t (solo_after number subject context nulls)
+  pub shows_after : (number : ℕ) (new : S) (t : RunState H) → AreTurns o number r t first new → IsFine new
+      → IsShown o new t (solo_after number subject context nulls)
   unfolding solo_after
   shows_after zero new t turns fine =
       let from_first = shows_first o first subject context begun.bare in
       subst (λ (x : RunState H). IsShown o new x (alone_first subject context)) (sym (turns.0 ∙ begun.is)) (subst (λ (x : S). IsShown o x (first_state_of subject context) (alone_first subject context)) (sym turns.1) from_first)
   shows_after (suc number) new t turns fine =
-      let before = shows_after number turns.store turns.run turns.before (begun.ample turns.store new (told_by turns.last.step.0) turns.last.step.2.store.goes fine).0 in
+      let before =
+      shows_after number turns.store turns.run turns.before (begun.ample turns.store new (told_by turns.last.step.0) turns.last.step.2.store.goes fine).0 in
       let was = under_way o first first turns.store subject context number r turns.run begun.sizes begun.kinds begun.starts turns.before in
       one_more turns.store new turns.run t (solo_after number subject context nulls) was before turns.last fine
 
 -- ---- once it has exited
 
-ended_by : (nulls : Bool) (slot : ℕ) (w : World) (x : Running) (n : ℕ) (asked : Asking) → slice_get w.runs 0 ≡ Some x → x.status ≡ Exited n → exec (provided asked nulls slot w).world 0 (provided asked nulls slot w).answer ≡ Err RunEnded
+ended_by : (nulls : Bool) (slot : ℕ) (w : World) (x : Running) (n : ℕ) (asked : Asking) → slice_get w.runs 0 ≡ Some x
+    → x.status ≡ Exited n → exec (provided asked nulls slot w).world 0 (provided asked nulls slot w).answer ≡ Err RunEnded
 ended_by nulls slot w x n Unasked there ended = rw (there, ended) refl
 ended_by nulls slot w x n OfNoKind there ended = rw (there, ended) refl
 ended_by nulls slot w x n (AtShelf shelf) there ended = rw (there, ended) refl
@@ -170,7 +180,8 @@ ended_stays nulls a x n there ended =
     ap (λ (running : Option Running). solo_by running nulls a) there
     ∙ ap (λ (result : Result World Illegal). advanced result a) (ended_by nulls (next_slot x) a.world x n (asking_of a.world x) there ended)
 
-stays_after : (more number : ℕ) (subject : Subject) (context : List ℕ) (nulls : Bool) (x : Running) (n : ℕ) → slice_get (solo_after number subject context nulls).world.runs 0 ≡ Some x → x.status ≡ Exited n
+stays_after : (more number : ℕ) (subject : Subject) (context : List ℕ) (nulls : Bool) (x : Running) (n : ℕ)
+    → slice_get (solo_after number subject context nulls).world.runs 0 ≡ Some x → x.status ≡ Exited n
     → solo_after (more + number) subject context nulls ≡ solo_after number subject context nulls
 unfolding solo_after
 stays_after zero number subject context nulls x n there ended = let e : 0 + number ≡ number = omega arith in rw e refl
@@ -182,16 +193,21 @@ stays_after (suc more) number subject context nulls x n there ended =
 -- ---- the report
 
 -- the most objects that it held are those that the run alone did
-reported_peak : {S H : Type 0} (o : Store S H) (s after : S) (t : RunState H) (n : ℕ) (report : Report) → t.exit ≡ Some n → IsEnded o t report s after → IsSound (seen_in o s t) → IsAlone (seen_in o s t) → report.peak ≡ (alone_after t.executed t.subject t.context (replies_from t.replies t.taken)).peak
+reported_peak : {S H : Type 0} (o : Store S H) (s after : S) (t : RunState H) (n : ℕ) (report : Report) → t.exit ≡ Some n
+    → IsEnded o t report s after → IsSound (seen_in o s t) → IsAlone (seen_in o s t)
+    → report.peak ≡ (alone_after t.executed t.subject t.context (replies_from t.replies t.taken)).peak
 reported_peak o s after t n report exited is sound alone =
     let v = seen_in o s t in
     let replies : replies_in report ≡ replies_of v = λ i. replies_from (is.answers i) (is.taken i) in
-    let told : outcome_alone t.subject t.context (replies_in report) ≡ outcome_in_report n report = subst (λ (e : Option ℕ). IfSome e (λ m. outcome_alone t.subject t.context (replies_in report) ≡ outcome_in_report m report)) exited is.alone in
+    let told : outcome_alone t.subject t.context (replies_in report) ≡ outcome_in_report n report =
+    subst (λ (e : Option ℕ). IfSome e (λ m. outcome_alone t.subject t.context (replies_in report) ≡ outcome_in_report m report)) exited is.alone in
     let ends = outcome_exited v n sound alone (ap status_of exited) (replies_from [] []) in
     ap (λ (out : Outcome). out.peak) (sym told ∙ ap (outcome_alone t.subject t.context) (replies ∙ sym (none_more (replies_of v))) ∙ ends)
 
 -- so the report of a run that exited is that of the run in a world of its own
-reports_exit : {S H : Type 0} (o : Store S H) (IsFine : S → Type 0) (nulls : Bool) (first new after : S) (subject : Subject) (context : List ℕ) (r t : RunState H) (number n : ℕ) (report : Report) → IsBegun o IsFine nulls first subject context r → AreTurns o number r t first new → t.executed ≡ number → number ≤ length (instructions subject.program)
+reports_exit : {S H : Type 0} (o : Store S H) (IsFine : S → Type 0) (nulls : Bool) (first new after : S) (subject : Subject) (context : List ℕ) (r t : RunState H) (number n : ℕ) (report : Report)
+    → IsBegun o IsFine nulls first subject context r → AreTurns o number r t first new → t.executed ≡ number
+    → number ≤ length (instructions subject.program)
     → IsFine new → t.exit ≡ Some n → IsEnded o t report new after → IsReportWith subject context nulls report
 reports_exit o IsFine nulls first new after subject context r t number n report begun turns counted few fine exited is = by (shown_run a.world 0 v shown.view) where
   was : IsUnderWay o first new subject context t
@@ -206,7 +222,8 @@ reports_exit o IsFine nulls first new after subject context r t number n report 
   shown : IsShown o new t a
   shown = shows_after o IsFine nulls first subject context r begun number new t turns fine
 
-  outcome : (x : Running) → slice_get a.world.runs 0 ≡ Some x → view_of a.world 0 x ≡ v → outcome_of a ≡ record { status = Exited n; output = report.output; executed = report.executed; peak = report.peak }
+  outcome : (x : Running) → slice_get a.world.runs 0 ≡ Some x → view_of a.world 0 x ≡ v
+      → outcome_of a ≡ record { status = Exited n; output = report.output; executed = report.executed; peak = report.peak }
   outcome x there seen =
       let status : x.status ≡ Exited n = ap (λ (u : RunView). u.status) seen ∙ ap status_of exited in
       let output : x.frame.output ≡ report.output = ap (λ (u : RunView). u.frame.output) seen ∙ sym is.output in
@@ -226,7 +243,9 @@ reports_exit o IsFine nulls first new after subject context r t number n report 
       }
 
 -- as no program has so many instructions as the run may do, it exits
-pub report_solo : {S H : Type 0} (o : Store S H) (IsFine : S → Type 0) (limit : ℕ) (first new after : S) (r t : RunState H) → AreTurnsWithin o limit r t first new → 4096 < limit → t.executed ≤ length (instructions t.subject.program) → (nulls : Bool) (subject : Subject) (context : List ℕ) → IsBegun o IsFine nulls first subject context r
+pub report_solo : {S H : Type 0} (o : Store S H) (IsFine : S → Type 0) (limit : ℕ) (first new after : S) (r t : RunState H)
+    → AreTurnsWithin o limit r t first new → 4096 < limit → t.executed ≤ length (instructions t.subject.program)
+    → (nulls : Bool) (subject : Subject) (context : List ℕ) → IsBegun o IsFine nulls first subject context r
     → IsFine new → (report : Report) → IsEnded o t report new after → IsReportWith subject context nulls report
 report_solo o IsFine limit first new after r t within many bounded nulls subject context begun fine report is =
     let was = under_way o first first new subject context within.number r t begun.sizes begun.kinds begun.starts within.turns in

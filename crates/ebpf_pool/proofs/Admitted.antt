@@ -72,8 +72,10 @@ admitted host workers jobs e =
     let team = unless _ Workers _ pages.1 in
     let list = unless _ Jobs _ team.1 in
     let both = none_of (without_program host.programs.items jobs) (without_context host.programs.items jobs) list.1 in
-    let programs = none_passes (λ job. not (has_program host.programs.items job)) jobs (past_all (λ job. not (has_program host.programs.items job)) jobs both.0) in
-    let contexts = none_passes (λ job. not (has_context host.programs.items job)) jobs (past_all (λ job. not (has_context host.programs.items job)) jobs both.1) in
+    let programs =
+    none_passes (λ job. not (has_program host.programs.items job)) jobs (past_all (λ job. not (has_program host.programs.items job)) jobs both.0) in
+    let contexts =
+    none_passes (λ job. not (has_context host.programs.items job)) jobs (past_all (λ job. not (has_context host.programs.items job)) jobs both.1) in
     let team_is = team.0 in
     let list_is = list.0 in record {
       some = some_of workers team_is;

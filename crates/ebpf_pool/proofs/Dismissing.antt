@@ -98,7 +98,8 @@ module _ {L : Type 0} where
     }
 
   -- none was taken apart yet
-  pub none_apart : (all : List (Worker L)) (p : Parts L) → All IsBack all → HaveNone (length all) p → AreApart all all p (record { clashes = 0; strays = 0; ending = Unstarted })
+  pub none_apart : (all : List (Worker L)) (p : Parts L) → All IsBack all → HaveNone (length all) p
+      → AreApart all all p (record { clashes = 0; strays = 0; ending = Unstarted })
   none_apart all p back none = record {
     done = [];
     split = sym (append-nil all);

@@ -18,7 +18,8 @@ more_length None word held = omega arith
 more_length (Some s) word held = omega arith
 
 -- another slot that was held is held by what is left
-pub held_less : (given : Option ℕ) (x : ℕ) (held : List (ℕ × ℕ)) → IfSome given (λ s. Holds s held) → Holds x held → IfSome given (λ s. x ≢ s) → Holds x (less given held)
+pub held_less : (given : Option ℕ) (x : ℕ) (held : List (ℕ × ℕ)) → IfSome given (λ s. Holds s held) → Holds x held
+    → IfSome given (λ s. x ≢ s) → Holds x (less given held)
 held_less None x held has now apart = now
 held_less (Some s) x held has now apart = held_after s s x held (without s held) refl refl has now apart
 
@@ -33,11 +34,13 @@ held_got slot word held =
     omega (arith, c, o)
 
 -- what was not held before
-pub not_held : (given : Option ℕ) (slot : ℕ) (held : List (ℕ × ℕ)) → IfSome given (λ s. Holds s held) → (given ≢ Some slot) → (Holds slot (less given held) → ⊥) → Holds slot held → ⊥
+pub not_held : (given : Option ℕ) (slot : ℕ) (held : List (ℕ × ℕ)) → IfSome given (λ s. Holds s held) → (given ≢ Some slot)
+    → (Holds slot (less given held) → ⊥) → Holds slot held → ⊥
 not_held None slot held has apart none now = none now
 not_held (Some s) slot held has apart none now = none (held_after s s slot held (without s held) refl refl has now (λ e. apart (ap (λ k. Some k) (sym e))))
 
-pub passed : (given got : Option ℕ) (word : ℕ) (held held' : List (ℕ × ℕ)) → IfSome given (λ s. Holds s held) → held' ≡ more got word (less given held) → IfSome got (λ s. Holds s held → ⊥)
+pub passed : (given got : Option ℕ) (word : ℕ) (held held' : List (ℕ × ℕ)) → IfSome given (λ s. Holds s held)
+    → held' ≡ more got word (less given held) → IfSome got (λ s. Holds s held → ⊥)
     → HasPassed given got word held held'
 passed given got word held held' has are fresh = record {
   are = are;
@@ -73,9 +76,11 @@ module _ {X : Type 0} (slot : X → ℕ) (given : Option X) (left : Option ℕ) 
   slot_has = subst (λ l. IfSome l (λ s. Holds s held)) (sym is) (by_slot given (λ s. Holds s held) has)
 
   -- an object in this slot was got
-  pub passed_some : (s s' word word' : ℕ) (base held' : List (ℕ × ℕ)) → base ≡ less left held → s' ≡ s → word' ≡ word → held' ≡ (s', word') ∷ base → (Holds s' base → ⊥) → left ≢ Some s'
+  pub passed_some : (s s' word word' : ℕ) (base held' : List (ℕ × ℕ)) → base ≡ less left held → s' ≡ s → word' ≡ word
+      → held' ≡ (s', word') ∷ base → (Holds s' base → ⊥) → left ≢ Some s'
       → HasPassed (option_map slot given) (Some s) word held held'
   passed_some s s' word word' base held' base_is s_is word_is are none apart =
-      let all : held' ≡ more (Some s) word (less left held) = are ∙ ap (λ l. (s', word') ∷ l) base_is ∙ ap (λ k. (k, word') ∷ less left held) s_is ∙ ap (λ w. (s, w) ∷ less left held) word_is in
+      let all : held' ≡ more (Some s) word (less left held) =
+      are ∙ ap (λ l. (s', word') ∷ l) base_is ∙ ap (λ k. (k, word') ∷ less left held) s_is ∙ ap (λ w. (s, w) ∷ less left held) word_is in
       let fresh : Holds s' held → ⊥ = not_held left s' held slot_has apart (λ now. none (subst (Holds s') (sym base_is) now)) in
       subst (λ l. HasPassed l (Some s) word held held') is (passed left (Some s) word held held' slot_has all (λ now. fresh (subst (λ k. Holds k held) (sym s_is) now)))

@@ -38,7 +38,8 @@ pub length-without : (slot : ℕ) (es : List (ℕ × ℕ)) → Holds slot es →
 length-without slot [] has = absurd (omega arith)
 length-without slot (e ∷ es) has = go (λ has. length-without slot es has) (e.0 == slot) refl
   where
-    go : (Holds slot es → length (without slot es) + 1 ≡ length es) → (b : Bool) → (e.0 == slot) ≡ b → length (if b then es else e ∷ without slot es) + 1 ≡ length (e ∷ es)
+    go : (Holds slot es → length (without slot es) + 1 ≡ length es) → (b : Bool) → (e.0 == slot) ≡ b
+        → length (if b then es else e ∷ without slot es) + 1 ≡ length (e ∷ es)
     go again true is = omega arith
     go again false is =
         let k = count_of-cons slot e es in

@@ -28,10 +28,12 @@ use Rattle.ebpf_pool.proofs.Shares.{sum_same, one_if}
 
 -- ---- numbers of jobs
 
-pub answered_inside : (programs : List Subject) (jobs : List Job) (lists : List (List Numbered)) → All (All (Answers programs jobs)) lists → All (All (λ n. n.job < length jobs)) lists
+pub answered_inside : (programs : List Subject) (jobs : List Job) (lists : List (List Numbered))
+    → All (All (Answers programs jobs)) lists → All (All (λ n. n.job < length jobs)) lists
 answered_inside programs jobs lists good i d l j e m = slice_get_within jobs _ _ (good i d l j e m).job_is
 
-pub answered_exits : (programs : List Subject) (jobs : List Job) (lists : List (List Numbered)) → All (All (Answers programs jobs)) lists → All (All (λ n. HasExit n.report)) lists
+pub answered_exits : (programs : List Subject) (jobs : List Job) (lists : List (List Numbered))
+    → All (All (Answers programs jobs)) lists → All (All (λ n. HasExit n.report)) lists
 answered_exits programs jobs lists good i d l j e m = ap is_some (good i d l j e m).report.exited
 
 rest_of : {X : Type 0} (P : X → Type 0) (x : X) (xs : List X) → All P (x ∷ xs) → All P xs
@@ -140,7 +142,8 @@ module _ {L : Type 0} (programs : List Subject) (jobs : List Job) (o : OwnersVie
             let one : filled_at (Some r) ≡ 1 = ap (λ (b : Bool). if b then 1 else 0) (full j r at) in
             absurd (omega (arith, count, one, blank_filled blank j none))
         by (inr (l, there, in_it)) =
-            let a = all_of (Answers programs jobs) l (record { job = j; report = r }) (all_of (All (Answers programs jobs)) (reports_of p) l s.good there) in_it in
+            let a =
+            all_of (Answers programs jobs) l (record { job = j; report = r }) (all_of (All (Answers programs jobs)) (reports_of p) l s.good there) in_it in
             let same : Some a.job ≡ Some job = sym a.job_is ∙ job_is in
             let job_same : a.job ≡ job = cc in
             subst (λ (k : Job). IsReportFor programs k r) job_same (record { subject = a.subject; subject_is = a.subject_is; report = a.report })
@@ -153,7 +156,8 @@ module _ {L : Type 0} (programs : List Subject) (jobs : List Job) (o : OwnersVie
       all_done lists = sum_same (weight_of (λ r. 1)) (λ ns. length ns) lists (λ i d l. ones (slice_index_or lists i d))
 
       pub outcome : (after : List SeatView) (shelves : List ShelfTotals) (ts : List Totals) → AreClosed o p.hands p.seats.items after shelves ts
-          → (out : Outcome) → out.reports ≡ places → out.totals ≡ ts → out.clashes ≡ done.clashes → out.shelves ≡ shelves → out.strays ≡ done.strays → out.jobs_done.items ≡ map (λ l. vec_len l) p.answered.items
+          → (out : Outcome) → out.reports ≡ places → out.totals ≡ ts → out.clashes ≡ done.clashes → out.shelves ≡ shelves
+          → out.strays ≡ done.strays → out.jobs_done.items ≡ map (λ l. vec_len l) p.answered.items
           → IsOutcome programs jobs seats after out
       outcome after shelves ts closed out reports_are totals_are clashes_are shelves_are strays_are jobs_are = record {
         reports = subst (AreReportsFor programs jobs) (sym reports_are) (record { all = len; each = report_for });

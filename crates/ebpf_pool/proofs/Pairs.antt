@@ -29,7 +29,8 @@ module _ {X : Type 0} (P : X → Type 0) (count done : ℕ) (xs ys : List X) (x 
   last_is = all_last P ys x (subst (All P) is all)
 
 -- one more behind what is made of each
-pub pushed : {X Y : Type 0} (f : X → Y) (done : List X) (w : X) (y : Y) (xs ys : List Y) → xs ≡ map f done → ys ≡ xs ++ y ∷ [] → f w ≡ y → ys ≡ map f (done ++ w ∷ [])
+pub pushed : {X Y : Type 0} (f : X → Y) (done : List X) (w : X) (y : Y) (xs ys : List Y) → xs ≡ map f done → ys ≡ xs ++ y ∷ []
+    → f w ≡ y → ys ≡ map f (done ++ w ∷ [])
 pushed f done w y xs ys are is same = is ∙ ap (λ l. l ++ y ∷ []) are ∙ ap (λ v. map f done ++ v ∷ []) (sym same) ∙ sym (map_push f done w)
 
 alike_more : {X : Type 0} (one x : X) (count : ℕ) (xs ys : List X) → AreAlike count one xs → ys ≡ xs ++ x ∷ [] → x ≡ one → AreAlike (count + 1) one ys
@@ -38,7 +39,8 @@ alike_more one x count xs ys are is same = record {
   unused = subst (All (λ y. y ≡ one)) (sym is) (All-push (λ y. y ≡ one) xs x are.unused same);
 }
 
-alike_rest : {X : Type 0} (one x : X) (count done : ℕ) (xs ys : List X) → done < count → AreAlike (count - done) one xs → xs ≡ ys ++ x ∷ [] → AreAlike (count - (done + 1)) one ys
+alike_rest : {X : Type 0} (one x : X) (count done : ℕ) (xs ys : List X) → done < count → AreAlike (count - done) one xs
+    → xs ≡ ys ++ x ∷ [] → AreAlike (count - (done + 1)) one ys
 alike_rest one x count done xs ys some are is = record {
   all = rest_len (λ y. y ≡ one) count done xs ys x is some are.all are.unused;
   unused = rest_all (λ y. y ≡ one) count done xs ys x is some are.all are.unused;
@@ -47,7 +49,8 @@ alike_rest one x count done xs ys some are is = record {
 -- ---- of one kind
 
 module _ {K L : Type 0} where
-  pub one_unused : (count : ℕ) (f f' : FreePairs K L) (p : HandPair K L) → AreUnused count f → IsOneMore f f' p → p.hand ≡ fresh → p.shelf_hand ≡ new_hand → AreUnused (count + 1) f'
+  pub one_unused : (count : ℕ) (f f' : FreePairs K L) (p : HandPair K L) → AreUnused count f → IsOneMore f f' p → p.hand ≡ fresh
+      → p.shelf_hand ≡ new_hand → AreUnused (count + 1) f'
   one_unused count f f' p are more hand shelf_hand = record {
     hands = alike_more fresh p.hand count f.hands.items f'.hands.items are.hands more.hands hand;
     shelf_hands = alike_more new_hand p.shelf_hand count f.shelf_hands.items f'.shelf_hands.items are.shelf_hands more.shelf_hands shelf_hand;
@@ -72,7 +75,8 @@ module _ {K L : Type 0} where
     shelf_hands = at_most count _ _ room.shelf_hands (sym more.shelf_capacity);
   }
 
-  rest_unused : (count done : ℕ) (f f' : FreePairs K L) (p : HandPair K L) → done < count → AreUnused (count - done) f' → IsOneMore f f' p → AreUnused (count - (done + 1)) f
+  rest_unused : (count done : ℕ) (f f' : FreePairs K L) (p : HandPair K L) → done < count → AreUnused (count - done) f'
+      → IsOneMore f f' p → AreUnused (count - (done + 1)) f
   rest_unused count done f f' p some are more = record {
     hands = alike_rest fresh p.hand count done f'.hands.items f.hands.items some are.hands more.hands;
     shelf_hands = alike_rest new_hand p.shelf_hand count done f'.shelf_hands.items f.shelf_hands.items some are.shelf_hands more.shelf_hands;
@@ -84,7 +88,8 @@ module _ {K L : Type 0} where
       let shelf_hand : p.shelf_hand ≡ new_hand = last_is (λ h. h ≡ new_hand) count done f'.shelf_hands.items f.shelf_hands.items p.shelf_hand more.shelf_hands some are.shelf_hands.all are.shelf_hands.unused in
       ap (λ h. record { hand = h; shelf_hand = p.shelf_hand }) hand ∙ ap (λ s. record { hand = fresh; shelf_hand = s }) shelf_hand
 
-  made_more : {W : Type 0} (g : W → HandPair K L) (done : List W) (w : W) (f f' : FreePairs K L) (p : HandPair K L) → AreMadeOf g done f → IsOneMore f f' p → g w ≡ p → AreMadeOf g (done ++ w ∷ []) f'
+  made_more : {W : Type 0} (g : W → HandPair K L) (done : List W) (w : W) (f f' : FreePairs K L) (p : HandPair K L)
+      → AreMadeOf g done f → IsOneMore f f' p → g w ≡ p → AreMadeOf g (done ++ w ∷ []) f'
   made_more g done w f f' p are more same = record {
     hands = pushed (λ v. (g v).hand) done w _ _ _ are.hands more.hands (ap (λ (q : HandPair K L). q.hand) same);
     shelf_hands = pushed (λ v. (g v).shelf_hand) done w _ _ _ are.shelf_hands more.shelf_hands (ap (λ (q : HandPair K L). q.shelf_hand) same);
@@ -107,14 +112,16 @@ module _ {L : Type 0} where
     blocks = room_before count _ _ _ room.blocks more.blocks;
   }
 
-  pub rest_all_unused : (count done : ℕ) (f f' : FreeHands L) (h : Hands L) → done < count → AllAreUnused (count - done) f' → AreOneMore f f' h → AllAreUnused (count - (done + 1)) f
+  pub rest_all_unused : (count done : ℕ) (f f' : FreeHands L) (h : Hands L) → done < count → AllAreUnused (count - done) f'
+      → AreOneMore f f' h → AllAreUnused (count - (done + 1)) f
   rest_all_unused count done f f' h some are more = record {
     cells = rest_unused count done _ _ _ some are.cells more.cells;
     records = rest_unused count done _ _ _ some are.records more.records;
     blocks = rest_unused count done _ _ _ some are.blocks more.blocks;
   }
 
-  pub last_all_unused : (count done : ℕ) (f f' : FreeHands L) (h : Hands L) → done < count → AllAreUnused (count - done) f' → AreOneMore f f' h → h ≡ unused_hands
+  pub last_all_unused : (count done : ℕ) (f f' : FreeHands L) (h : Hands L) → done < count → AllAreUnused (count - done) f'
+      → AreOneMore f f' h → h ≡ unused_hands
   last_all_unused count done f f' h some are more =
       let cells = last_unused count done _ _ _ some are.cells more.cells in
       let records = last_unused count done _ _ _ some are.records more.records in
@@ -123,7 +130,8 @@ module _ {L : Type 0} where
       ∙ ap (λ r. record { cells = unused_pair; records = r; blocks = h.blocks }) records
       ∙ ap (λ b. record { cells = unused_pair; records = unused_pair; blocks = b }) blocks
 
-  pub all_made_more : {W : Type 0} (g : W → Hands L) (done : List W) (w : W) (f f' : FreeHands L) (h : Hands L) → AllAreMadeOf g done f → AreOneMore f f' h → g w ≡ h → AllAreMadeOf g (done ++ w ∷ []) f'
+  pub all_made_more : {W : Type 0} (g : W → Hands L) (done : List W) (w : W) (f f' : FreeHands L) (h : Hands L)
+      → AllAreMadeOf g done f → AreOneMore f f' h → g w ≡ h → AllAreMadeOf g (done ++ w ∷ []) f'
   all_made_more g done w f f' h are more same = record {
     cells = made_more (λ v. (g v).cells) done w _ _ _ are.cells more.cells (ap (λ (k : Hands L). k.cells) same);
     records = made_more (λ v. (g v).records) done w _ _ _ are.records more.records (ap (λ (k : Hands L). k.records) same);

@@ -24,22 +24,29 @@ even_none None = tt
 even_none (Some x) = tt
 
 -- the store went by the reply to a call of swap
-pub swapped_goes : {L : Type 0} (before after : Tools L) (got : Option Object) → HasAnswered before after 0 0 (one_if got) → GoesBy before (reply_to_swap got ∷ []) after
+pub swapped_goes : {L : Type 0} (before after : Tools L) (got : Option Object) → HasAnswered before after 0 0 (one_if got)
+    → GoesBy before (reply_to_swap got ∷ []) after
 swapped_goes before after None went = went
 swapped_goes before after (Some h) went = went
 
 -- what was got is held
-pub is_held : (given : Option ℕ) (got : Option Object) (kind word : ℕ) (held held' : List (ℕ × ℕ)) → HasPassed given (slots got) word held held' → IfSome got (λ h. kind_of h ≡ kind) → IfSome got (λ h. Holds (slot_of h) held' × (kind_of h ≡ kind))
+pub is_held : (given : Option ℕ) (got : Option Object) (kind word : ℕ) (held held' : List (ℕ × ℕ))
+    → HasPassed given (slots got) word held held' → IfSome got (λ h. kind_of h ≡ kind)
+    → IfSome got (λ h. Holds (slot_of h) held' × (kind_of h ≡ kind))
 is_held given None kind word held held' p k = tt
 is_held given (Some h) kind word held held' p k = (subst (Holds (slot_of h)) (sym p.are) (held_got (slot_of h) word (less given held)), k)
 
 -- in another slot than all that was held
-pub is_apart : (given : Option ℕ) (got : Option Object) (word : ℕ) (held held' : List (ℕ × ℕ)) → HasPassed given (slots got) word held held' → IfSome got (λ h. (other : Object) → Holds (slot_of other) held → slot_of other ≢ slot_of h)
+pub is_apart : (given : Option ℕ) (got : Option Object) (word : ℕ) (held held' : List (ℕ × ℕ))
+    → HasPassed given (slots got) word held held'
+    → IfSome got (λ h. (other : Object) → Holds (slot_of other) held → slot_of other ≢ slot_of h)
 is_apart given None word held held' p = tt
 is_apart given (Some h) word held held' p = λ other now same. p.fresh (subst (λ s. Holds s held) same now)
 
 -- what was given is held no more
-pub is_gone : (given : Option Object) (got : Option ℕ) (word : ℕ) (held held' : List (ℕ × ℕ)) → IfSome given (λ g. Holds (slot_of g) held) → Once held → HasPassed (slots given) got word held held' → IfSome given (λ g. Holds (slot_of g) held' → ⊥)
+pub is_gone : (given : Option Object) (got : Option ℕ) (word : ℕ) (held held' : List (ℕ × ℕ))
+    → IfSome given (λ g. Holds (slot_of g) held) → Once held → HasPassed (slots given) got word held held'
+    → IfSome given (λ g. Holds (slot_of g) held' → ⊥)
 is_gone None got word held held' has once p = tt
 is_gone (Some g) got word held held' has once p = gone (slot_of g) word got held held' has once p
 
@@ -48,7 +55,8 @@ by_slots None P h = tt
 by_slots (Some g) P h = h
 
 -- and all else is
-pub is_still_held : (given : Option Object) (got : Option ℕ) (word : ℕ) (other : Object) (held held' : List (ℕ × ℕ)) → IfSome given (λ g. Holds (slot_of g) held) → HasPassed (slots given) got word held held'
+pub is_still_held : (given : Option Object) (got : Option ℕ) (word : ℕ) (other : Object) (held held' : List (ℕ × ℕ))
+    → IfSome given (λ g. Holds (slot_of g) held) → HasPassed (slots given) got word held held'
     → Holds (slot_of other) held → IfSome given (λ g. slot_of other ≢ slot_of g) → Holds (slot_of other) held'
 is_still_held given got word other held held' has p now apart =
     let left = held_less (slots given) (slot_of other) held (by_slots given (λ s. Holds s held) has) now (by_slots given (λ s. slot_of other ≢ s) apart) in
@@ -63,7 +71,8 @@ one_slot None = refl
 one_slot (Some g) = refl
 
 -- how many are held once it was given up
-pub length_less : (given : Option Object) (K : Object → Type 0) (held held' : List (ℕ × ℕ)) → IfSome given (λ g. Holds (slot_of g) held × K g) → held' ≡ less (slots given) held
+pub length_less : (given : Option Object) (K : Object → Type 0) (held held' : List (ℕ × ℕ))
+    → IfSome given (λ g. Holds (slot_of g) held × K g) → held' ≡ less (slots given) held
     → length held' + one_if given ≡ length held
 length_less given K held held' has are =
     let l = less_length (slots given) held (by_slots given (λ s. Holds s held) (first_of given (λ g. Holds (slot_of g) held) K has)) in

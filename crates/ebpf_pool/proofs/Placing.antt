@@ -82,11 +82,14 @@ module _ (old places : List Report) (all left rest : List Numbered) (n : Numbere
   none : is_some there_was.exit ≡ false
   none = no_exit there_was (ap filled_at (sym was) ∙ omega (arith, h.once n.job, times_last n.job left rest n is, one_same n.job))
 
-  from : (x : ℕ) (r : Report) → slice_get (slice_set places n.job n.report) x ≡ Some r → HasExit r → (slice_get old x ≡ Some r) ⊎ Contains all (record { job = x; report = r })
+  from : (x : ℕ) (r : Report) → slice_get (slice_set places n.job n.report) x ≡ Some r → HasExit r
+      → (slice_get old x ≡ Some r) ⊎ Contains all (record { job = x; report = r })
   from x r e exit = by (get_set_cases places n.job x there_was n.report r was e) where
-    by : ((x ≡ n.job) × (n.report ≡ r)) ⊎ ((x ≢ n.job) × (slice_get places x ≡ Some r)) → (slice_get old x ≡ Some r) ⊎ Contains all (record { job = x; report = r })
+    by : ((x ≡ n.job) × (n.report ≡ r)) ⊎ ((x ≢ n.job) × (slice_get places x ≡ Some r))
+        → (slice_get old x ≡ Some r) ⊎ Contains all (record { job = x; report = r })
     by (inl (at, same)) =
-        let it : n ≡ record { job = x; report = r } = ap (λ (j : ℕ). record { job = j; report = n.report }) (sym at) ∙ ap (λ (q : Report). record { job = x; report = q }) same in
+        let it : n ≡ record { job = x; report = r } =
+        ap (λ (j : ℕ). record { job = j; report = n.report }) (sym at) ∙ ap (λ (q : Report). record { job = x; report = q }) same in
         inr (subst (Contains all) it (h.within n in_left))
     by (inr (other, there)) = h.from x r there exit
 

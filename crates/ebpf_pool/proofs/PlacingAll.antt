@@ -47,6 +47,7 @@ module _ (old places : List Report) (all left rest : List (List Numbered)) (one 
     from = λ x r there exit. by x r exit (from x r there exit);
     within = λ l there. h.within l (subst (λ (m : Lists). Contains m l) (sym is) (Contains-append_left rest (one ∷ []) l there));
   } where
-    by : (x : ℕ) (r : Report) → HasExit r → (slice_get places x ≡ Some r) ⊎ Contains one (record { job = x; report = r }) → (slice_get old x ≡ Some r) ⊎ IsIn (record { job = x; report = r }) all
+    by : (x : ℕ) (r : Report) → HasExit r → (slice_get places x ≡ Some r) ⊎ Contains one (record { job = x; report = r })
+        → (slice_get old x ≡ Some r) ⊎ IsIn (record { job = x; report = r }) all
     by x r exit (inl before) = h.from x r before exit
     by x r exit (inr there) = inr (one, h.within one in_left, there)

@@ -33,7 +33,8 @@ fresh_worker o t w k is hands idle ticket answered = record {
 }
 
 -- the last goes behind those that were taken before
-pub taken_back : {X Y : Type 0} (f : X → Y) (made : List X) (new : X) (left rest : List Y) (y : Y) (all : List Y) → left ≡ rest ++ y ∷ [] → f new ≡ y → map f made ++ reverse left ≡ all → map f (made ++ new ∷ []) ++ reverse rest ≡ all
+pub taken_back : {X Y : Type 0} (f : X → Y) (made : List X) (new : X) (left rest : List Y) (y : Y) (all : List Y)
+    → left ≡ rest ++ y ∷ [] → f new ≡ y → map f made ++ reverse left ≡ all → map f (made ++ new ∷ []) ++ reverse rest ≡ all
 taken_back f made new left rest y all is same before =
     let turned : reverse left ≡ y ∷ reverse rest = ap reverse is ∙ reverse-append rest (y ∷ []) in
     let pushed = ap (λ l. l ++ reverse rest) (map_push f made new ∙ ap (λ v. map f made ++ v ∷ []) same) in

@@ -141,13 +141,16 @@ module _ {L : Type 0} (programs : List Subject) (jobs : List Job) (o : OwnersVie
     shares = all_by_index IsShare olds news len (λ i d l. is_share (slice_index_or olds i d) (slice_index_or news i d) (fresh i d l) (done_each i d l))
 
     all_noted : sum_by noted_in news ≡ sum_by noted_in olds + sum_by allocs_in news
-    all_noted = sum_grown noted_in allocs_in olds news len (λ i d l. noted_grew (slice_index_or olds i d) (slice_index_or news i d) (fresh i d l) (done_each i d l))
+    all_noted =
+        sum_grown noted_in allocs_in olds news len (λ i d l. noted_grew (slice_index_or olds i d) (slice_index_or news i d) (fresh i d l) (done_each i d l))
 
     all_fetches : sum_by fetches_in news ≡ sum_by fetches_in olds + sum_by gets_in news
-    all_fetches = sum_grown fetches_in gets_in olds news len (λ i d l. fetches_grew (slice_index_or olds i d) (slice_index_or news i d) (fresh i d l) (done_each i d l))
+    all_fetches =
+        sum_grown fetches_in gets_in olds news len (λ i d l. fetches_grew (slice_index_or olds i d) (slice_index_or news i d) (fresh i d l) (done_each i d l))
 
     all_lost : sum_by lost_in news ≡ sum_by lost_in olds + sum_by clashes_in news
-    all_lost = sum_grown lost_in clashes_in olds news len (λ i d l. lost_grew (slice_index_or olds i d) (slice_index_or news i d) (fresh i d l) (done_each i d l))
+    all_lost =
+        sum_grown lost_in clashes_in olds news len (λ i d l. lost_grew (slice_index_or olds i d) (slice_index_or news i d) (fresh i d l) (done_each i d l))
 
     module _ (seats : List SeatView) (p : Parts L) (done : Done) (seats_are : map seat_in olds ≡ reverse seats)
         (dismissed : AreDismissed news p done) where

@@ -59,7 +59,8 @@ module _ {X : Type 0} where
       omega (arith, sum_by-cons f n ns, sum_by-cons f o os, sum_by-cons g n ns, h 0 n (omega arith), rest)
 
   -- what holds of each, by its index
-  pub all_by_index : (P : X → Type 0) (olds news : List X) → length news ≡ length olds → ((i : ℕ) (d : X) → i < length olds → P (slice_index_or news i d)) → All P news
+  pub all_by_index : (P : X → Type 0) (olds news : List X) → length news ≡ length olds
+      → ((i : ℕ) (d : X) → i < length olds → P (slice_index_or news i d)) → All P news
   all_by_index P olds news len h i d l = h i d (omega (arith, l, len))
 
 -- ---- parts of workers, which lie the last one first

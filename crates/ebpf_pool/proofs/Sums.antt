@@ -7,12 +7,14 @@ use Rattle.ebpf_pool.specs.declared.jobs.Numbered.{Numbered}
 use Rattle.ebpf_machine.specs.Whole.{granted, refused, fetched}
 use Rattle.ebpf_pool.specs.Going.{GoesBy, HasAnsweredAll}
 
-more : (f : Numbered → ℕ) (start old new : ℕ) (before after : List Numbered) (n : Numbered) → after ≡ before ++ n ∷ [] → old ≡ start + sum_by f before → new ≡ old + f n → new ≡ start + sum_by f after
+more : (f : Numbered → ℕ) (start old new : ℕ) (before after : List Numbered) (n : Numbered) → after ≡ before ++ n ∷ []
+    → old ≡ start + sum_by f before → new ≡ old + f n → new ≡ start + sum_by f after
 more f start old new before after n is was now =
     let sum = ap (sum_by f) is ∙ sum_by-append f before (n ∷ []) in
     omega (arith, sum, was, now)
 
-pub answered_more : {L : Type 0} (first old new : Tools L) (before after : List Numbered) (n : Numbered) → after ≡ before ++ n ∷ [] → HasAnsweredAll first before old → GoesBy old n.report.answers new → HasAnsweredAll first after new
+pub answered_more : {L : Type 0} (first old new : Tools L) (before after : List Numbered) (n : Numbered) → after ≡ before ++ n ∷ []
+    → HasAnsweredAll first before old → GoesBy old n.report.answers new → HasAnsweredAll first after new
 answered_more first old new before after n is was now = record {
   table = now.table ∙ was.table;
   notes = now.notes ∙ was.notes;
@@ -24,7 +26,8 @@ answered_more first old new before after n is was now = record {
 }
 
 -- none
-pub answered_same : {L : Type 0} (first old new : Tools L) (before after : List Numbered) → after ≡ before → HasAnsweredAll first before old → GoesBy old [] new → HasAnsweredAll first after new
+pub answered_same : {L : Type 0} (first old new : Tools L) (before after : List Numbered) → after ≡ before
+    → HasAnsweredAll first before old → GoesBy old [] new → HasAnsweredAll first after new
 answered_same first old new before after is was now = subst (λ (ns : List Numbered). HasAnsweredAll first ns new) (sym is) (record {
   table = now.table ∙ was.table;
   notes = now.notes ∙ was.notes;

@@ -36,7 +36,8 @@ module _ {X : Type 0} (P : X → Type 0) where
   pub any_turned : (xs : List X) → Any P xs → Any P (reverse xs)
   any_turned [] (k, x, below, at, p) = absurd (omega (arith, below))
   any_turned (y ∷ xs) (zero, x, below, at, p) = subst (Any P) (sym (turned_cons y xs)) (Any-push P (reverse xs) y (subst P (sym at) p))
-  any_turned (y ∷ xs) (suc k, x, below, at, p) = subst (Any P) (sym (turned_cons y xs)) (any_before (reverse xs) y (any_turned xs (k, x, omega (arith, below), at, p)))
+  any_turned (y ∷ xs) (suc k, x, below, at, p) =
+      subst (Any P) (sym (turned_cons y xs)) (any_before (reverse xs) y (any_turned xs (k, x, omega (arith, below), at, p)))
 
 -- what holds of one, where of each another thing comes of it
 pub any_also : {X : Type 0} (P Q : X → Type 0) (xs : List X) → All (λ x. P x → Q x) xs → Any P xs → Any Q xs

@@ -2,20 +2,10 @@
 use Rattle.std.specs.Prelude.{◌≡◌, ℕ, ◌+◌, ◌==◌, if◌then◌else◌}
 use Rattle.ebpf_pool.specs.declared.stocks.Stocks.{Stocks}
 use Rattle.ebpf_pool.specs.declared.hands.Hands.{Hands}
-use Rattle.ebpf_pool.specs.Counts.{all_allocs, all_frees, all_nulls, all_puts, all_gets, grants_of, nulls_of, gets_of, outs_of}
+use Rattle.ebpf_pool.specs.Counts.{all_allocs, all_frees, all_nulls, all_puts, all_gets, outs_of}
 
 abbrev pub hands_of : {L : Type 0} → Stocks L → Hands L
 hands_of s = record { cells = s.cells.pair; records = s.records.pair; blocks = s.blocks.pair }
-
--- what a store of these stocks granted and refused, what it got off its shelves, and what is out of it
-abbrev pub grants_by : {L : Type 0} → Stocks L → (clashes : ℕ) → ℕ
-grants_by s clashes = grants_of (hands_of s) clashes
-
-abbrev pub nulls_by : {L : Type 0} → Stocks L → (clashes : ℕ) → ℕ
-nulls_by s clashes = nulls_of (hands_of s) clashes
-
-abbrev pub gets_by : {L : Type 0} → Stocks L → (strays : ℕ) → ℕ
-gets_by s strays = gets_of (hands_of s) strays
 
 -- the count, where k is the kind
 abbrev pub where_kind : (kind k count : ℕ) → ℕ

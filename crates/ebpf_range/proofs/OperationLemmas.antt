@@ -76,7 +76,8 @@ operation-below op.And w a b h k = lt_of_le_of_lt (and_le_l a b) h
 operation-below op.Lsh w a b h k = mod-lt (a * factor_at w b) (some_numbers w)
 operation-below op.Rsh w a b h k = lt_of_le_of_lt (div-le_self a (factor_at w b)) h
 operation-below op.Rem w a b h k = cond_both (eqb b 0) a (a % b) (λ n. n < modulus w) (λ e. h) (λ e. lt_of_le_of_lt (mod-le a b) h)
-operation-below op.SRem w a b h k = cond_both (eqb b 0) a (unsigned_at w (int_rem (signed_at w a) (signed_at w b))) (λ n. n < modulus w) (λ e. h) (λ e. signed_remainder-below w a b h)
+operation-below op.SRem w a b h k =
+    cond_both (eqb b 0) a (unsigned_at w (int_rem (signed_at w a) (signed_at w b))) (λ n. n < modulus w) (λ e. h) (λ e. signed_remainder-below w a b h)
 operation-below op.Xor w a b h k = xor-below w a b h k
 operation-below op.Mov w a b h k = k
 operation-below op.Arsh w a b h k = signed_shift-below w a (b % bits_of w) h

@@ -96,10 +96,12 @@ is_kept W32 a b x p f h = let left = ltb-true a.hi (2 ^ 32) (and_parts (nat_lt a
 is_kept W64 a b x p f h = let small : x < 2 ^ 64 = omega arith in mod-eq_of_lt small
 
 fits-exchange : (w : Width) (a b : Range) → fits w a b ≡ true → fits w b a ≡ true
-fits-exchange W32 a b f = let both = and_parts (nat_lt a.hi (2 ^ 32)) (nat_lt b.hi (2 ^ 32)) f in and_from (nat_lt b.hi (2 ^ 32)) (nat_lt a.hi (2 ^ 32)) both.1 both.0
+fits-exchange W32 a b f =
+    let both = and_parts (nat_lt a.hi (2 ^ 32)) (nat_lt b.hi (2 ^ 32)) f in and_from (nat_lt b.hi (2 ^ 32)) (nat_lt a.hi (2 ^ 32)) both.1 both.0
 fits-exchange W64 a b f = refl
 
-compared : (c : Cond) (w : Width) (a b : Range) (x y : ℕ) → a.hi < 2 ^ 64 → b.hi < 2 ^ 64 → fits w a b ≡ true → IsWithin x a → IsWithin y b → is_met c w x y ≡ comparison c w x y
+compared : (c : Cond) (w : Width) (a b : Range) (x y : ℕ) → a.hi < 2 ^ 64 → b.hi < 2 ^ 64 → fits w a b ≡ true → IsWithin x a
+    → IsWithin y b → is_met c w x y ≡ comparison c w x y
 compared c w a b x y p q f h k = ap₂ (comparison c w) (is_kept w a b x p f h) (is_kept w b a y q (fits-exchange w a b f) k)
 
 -- without the sign signed numbers are compared as unsigned ones
@@ -120,7 +122,8 @@ signed-keeps w a b x y unsigned test met h k plain =
     (λ t. let low = low_numbers w a b x y t h k in plain low.0 low.1)
     (λ t. unless-keeps test a b x y met h k)
 
-pub after-keeps : (c : Cond) (w : Width) (a b : Range) (x y : ℕ) → is_met c w x y ≡ true → comparison c w x y ≡ true → IsWithin x a → IsWithin y b → Keeps x y (after c w a b)
+pub after-keeps : (c : Cond) (w : Width) (a b : Range) (x y : ℕ) → is_met c w x y ≡ true → comparison c w x y ≡ true → IsWithin x a
+    → IsWithin y b → Keeps x y (after c w a b)
 after-keeps on.Eq w a b x y m e h k = eq-keeps a b x y (eqb-true x y e) h k
 after-keeps on.Ne w a b x y m e h k = ne-keeps a b x y (λ f. true≢false (sym (eq-eqb x y f) ∙ not-true (eqb x y) e)) h k
 after-keeps on.Gt w a b x y m e h k = gt-keeps a b x y (ltb-true y x e) h k
@@ -128,8 +131,10 @@ after-keeps on.Ge w a b x y m e h k = ge-keeps a b x y (leb-true y x e) h k
 after-keeps on.Lt w a b x y m e h k = exchange-keeps (after_gt b a) x y (gt-keeps b a y x (ltb-true x y e) k h)
 after-keeps on.Le w a b x y m e h k = exchange-keeps (after_ge b a) x y (ge-keeps b a y x (leb-true x y e) k h)
 after-keeps on.Set w a b x y m e h k = unless-keeps (is_met on.Set w) a b x y m h k
-after-keeps on.SGt w a b x y m e h k = signed-keeps w a b x y (after_gt a b) (is_met on.SGt w) m h k (λ p q. gt-keeps a b x y (ltb-true y x (sym (ap₂ int_lt q p) ∙ e)) h k)
-after-keeps on.SGe w a b x y m e h k = signed-keeps w a b x y (after_ge a b) (is_met on.SGe w) m h k (λ p q. ge-keeps a b x y (leb-true y x (sym (ap₂ int_le q p) ∙ e)) h k)
+after-keeps on.SGt w a b x y m e h k =
+    signed-keeps w a b x y (after_gt a b) (is_met on.SGt w) m h k (λ p q. gt-keeps a b x y (ltb-true y x (sym (ap₂ int_lt q p) ∙ e)) h k)
+after-keeps on.SGe w a b x y m e h k =
+    signed-keeps w a b x y (after_ge a b) (is_met on.SGe w) m h k (λ p q. ge-keeps a b x y (leb-true y x (sym (ap₂ int_le q p) ∙ e)) h k)
 after-keeps on.SLt w a b x y m e h k = signed-keeps w a b x y (exchange (after_gt b a)) (is_met on.SLt w) m h k (λ p q. exchange-keeps (after_gt b a) x y (gt-keeps b a y x (ltb-true x y (sym (ap₂ int_lt p q) ∙ e)) k h))
 after-keeps on.SLe w a b x y m e h k = signed-keeps w a b x y (exchange (after_ge b a)) (is_met on.SLe w) m h k (λ p q. exchange-keeps (after_ge b a) x y (ge-keeps b a y x (leb-true x y (sym (ap₂ int_le p q) ∙ e)) k h))
 
@@ -160,7 +165,8 @@ opposite_met w a b x y c d p q f h k turn e =
     let met : is_met d w x y ≡ true = turn (kept_at w x) (kept_at w y) e in
     after-keeps d w a b x y met (sym (compared d w a b x y p q f h k) ∙ met) h k
 
-pub after_not-keeps : (c : Cond) (w : Width) (a b : Range) (x y : ℕ) → a.hi < 2 ^ 64 → b.hi < 2 ^ 64 → fits w a b ≡ true → is_met c w x y ≡ false → IsWithin x a → IsWithin y b → Keeps x y (after_not c w a b)
+pub after_not-keeps : (c : Cond) (w : Width) (a b : Range) (x y : ℕ) → a.hi < 2 ^ 64 → b.hi < 2 ^ 64 → fits w a b ≡ true
+    → is_met c w x y ≡ false → IsWithin x a → IsWithin y b → Keeps x y (after_not c w a b)
 after_not-keeps on.Eq w a b x y p q f e h k = opposite_met w a b x y on.Eq on.Ne p q f h k (λ m n t. ap not t) e
 after_not-keeps on.Ne w a b x y p q f e h k = opposite_met w a b x y on.Ne on.Eq p q f h k (λ m n t. not-false (eqb m n) t) e
 after_not-keeps on.Gt w a b x y p q f e h k = opposite_met w a b x y on.Gt on.Le p q f h k (λ m n t. not_under n m t) e
@@ -173,7 +179,8 @@ after_not-keeps on.SGe w a b x y p q f e h k = opposite_met w a b x y on.SGe on.
 after_not-keeps on.SLt w a b x y p q f e h k = opposite_met w a b x y on.SLt on.SGe p q f h k (λ m n t. not_less (signed_at w m) (signed_at w n) t) e
 after_not-keeps on.SLe w a b x y p q f e h k = opposite_met w a b x y on.SLe on.SGt p q f h k (λ m n t. not_most (signed_at w m) (signed_at w n) t) e
 
-pub refinement-keeps : (c : Cond) (w : Width) (a b : Range) (taken : Bool) (x y : ℕ) → a.hi < 2 ^ 64 → b.hi < 2 ^ 64 → IsWithin x a → IsWithin y b → is_met c w x y ≡ taken → Keeps x y (refinement c w a b taken)
+pub refinement-keeps : (c : Cond) (w : Width) (a b : Range) (taken : Bool) (x y : ℕ) → a.hi < 2 ^ 64 → b.hi < 2 ^ 64 → IsWithin x a
+    → IsWithin y b → is_met c w x y ≡ taken → Keeps x y (refinement c w a b taken)
 refinement-keeps c w a b taken x y p q h k e =
     cond_both (not (fits w a b)) (Some (a, b)) (cond taken (after c w a b) (after_not c w a b)) (Keeps x y)
     (λ t. (h, k))
@@ -188,7 +195,8 @@ refinement-keeps c w a b taken x y p q h k e =
 without-ordered : (a : Range) (n : ℕ) → a.lo ≤ a.hi → (a.lo ≡ a.hi → a.lo ≡ n → ⊥) → (without n a).lo ≤ (without n a).hi
 without-ordered a n o other = by (eqb a.lo n) (eqb a.hi n) refl refl
   where
-    by : (s t : Bool) → eqb a.lo n ≡ s → eqb a.hi n ≡ t → (cond s (span (a.lo + 1) a.hi) (cond t (span a.lo (a.hi - 1)) a)).lo ≤ (cond s (span (a.lo + 1) a.hi) (cond t (span a.lo (a.hi - 1)) a)).hi
+    by : (s t : Bool) → eqb a.lo n ≡ s → eqb a.hi n ≡ t
+        → (cond s (span (a.lo + 1) a.hi) (cond t (span a.lo (a.hi - 1)) a)).lo ≤ (cond s (span (a.lo + 1) a.hi) (cond t (span a.lo (a.hi - 1)) a)).hi
     by true t e f = ⊎_elim (λ (l : a.lo < a.hi). omega arith) (λ (l : a.hi ≤ a.lo). absurd (other (omega arith) (eqb-true a.lo n e))) (cases_lt a.lo a.hi)
     by false true e f = ⊎_elim (λ (l : a.lo < a.hi). omega arith) (λ (l : a.hi ≤ a.lo). absurd (other (omega arith) (let high = eqb-true a.hi n f in omega arith))) (cases_lt a.lo a.hi)
     by false false e f = o
@@ -226,8 +234,10 @@ exchange-ordered (Some p) h = (h.1, h.0)
 unless-ordered : (holds : Bool) (a b : Range) → a.lo ≤ a.hi → b.lo ≤ b.hi → AreOrdered (unless_false holds a b)
 unless-ordered holds a b o p = cond_both (is_constant a && is_constant b && not holds) None (Some (a, b)) AreOrdered (λ t. tt) (λ t. (o, p))
 
-signed-ordered : (w : Width) (a b : Range) (unsigned : Option (Range × Range)) (holds : Bool) → a.lo ≤ a.hi → b.lo ≤ b.hi → AreOrdered unsigned → AreOrdered (cond (have_no_sign w a b) unsigned (unless_false holds a b))
-signed-ordered w a b unsigned holds o p h = cond_both (have_no_sign w a b) unsigned (unless_false holds a b) AreOrdered (λ t. h) (λ t. unless-ordered holds a b o p)
+signed-ordered : (w : Width) (a b : Range) (unsigned : Option (Range × Range)) (holds : Bool) → a.lo ≤ a.hi → b.lo ≤ b.hi
+    → AreOrdered unsigned → AreOrdered (cond (have_no_sign w a b) unsigned (unless_false holds a b))
+signed-ordered w a b unsigned holds o p h =
+    cond_both (have_no_sign w a b) unsigned (unless_false holds a b) AreOrdered (λ t. h) (λ t. unless-ordered holds a b o p)
 
 after-ordered : (c : Cond) (w : Width) (a b : Range) → a.lo ≤ a.hi → b.lo ≤ b.hi → AreOrdered (after c w a b)
 after-ordered on.Eq w a b o p = eq-ordered a b o p
@@ -239,8 +249,10 @@ after-ordered on.Le w a b o p = exchange-ordered (after_ge b a) (ge-ordered b a 
 after-ordered on.Set w a b o p = unless-ordered (is_met on.Set w a.lo b.lo) a b o p
 after-ordered on.SGt w a b o p = signed-ordered w a b (after_gt a b) (is_met on.SGt w a.lo b.lo) o p (gt-ordered a b o p)
 after-ordered on.SGe w a b o p = signed-ordered w a b (after_ge a b) (is_met on.SGe w a.lo b.lo) o p (ge-ordered a b o p)
-after-ordered on.SLt w a b o p = signed-ordered w a b (exchange (after_gt b a)) (is_met on.SLt w a.lo b.lo) o p (exchange-ordered (after_gt b a) (gt-ordered b a p o))
-after-ordered on.SLe w a b o p = signed-ordered w a b (exchange (after_ge b a)) (is_met on.SLe w a.lo b.lo) o p (exchange-ordered (after_ge b a) (ge-ordered b a p o))
+after-ordered on.SLt w a b o p =
+    signed-ordered w a b (exchange (after_gt b a)) (is_met on.SLt w a.lo b.lo) o p (exchange-ordered (after_gt b a) (gt-ordered b a p o))
+after-ordered on.SLe w a b o p =
+    signed-ordered w a b (exchange (after_ge b a)) (is_met on.SLe w a.lo b.lo) o p (exchange-ordered (after_ge b a) (ge-ordered b a p o))
 
 after_not-ordered : (c : Cond) (w : Width) (a b : Range) → a.lo ≤ a.hi → b.lo ≤ b.hi → AreOrdered (after_not c w a b)
 after_not-ordered on.Eq w a b o p = after-ordered on.Ne w a b o p
@@ -301,8 +313,10 @@ exchange-below m (Some p) h = (h.1, h.0)
 unless-below : (m : ℕ) (holds : Bool) (a b : Range) → a.hi < m → b.hi < m → AreBelow m (unless_false holds a b)
 unless-below m holds a b o p = cond_both (is_constant a && is_constant b && not holds) None (Some (a, b)) (AreBelow m) (λ t. tt) (λ t. (o, p))
 
-signed-below : (m : ℕ) (w : Width) (a b : Range) (unsigned : Option (Range × Range)) (holds : Bool) → a.hi < m → b.hi < m → AreBelow m unsigned → AreBelow m (cond (have_no_sign w a b) unsigned (unless_false holds a b))
-signed-below m w a b unsigned holds o p h = cond_both (have_no_sign w a b) unsigned (unless_false holds a b) (AreBelow m) (λ t. h) (λ t. unless-below m holds a b o p)
+signed-below : (m : ℕ) (w : Width) (a b : Range) (unsigned : Option (Range × Range)) (holds : Bool) → a.hi < m → b.hi < m
+    → AreBelow m unsigned → AreBelow m (cond (have_no_sign w a b) unsigned (unless_false holds a b))
+signed-below m w a b unsigned holds o p h =
+    cond_both (have_no_sign w a b) unsigned (unless_false holds a b) (AreBelow m) (λ t. h) (λ t. unless-below m holds a b o p)
 
 after-below : (m : ℕ) (c : Cond) (w : Width) (a b : Range) → a.hi < m → b.hi < m → AreBelow m (after c w a b)
 after-below m on.Eq w a b o p = eq-below m a b o p
@@ -314,8 +328,10 @@ after-below m on.Le w a b o p = exchange-below m (after_ge b a) (ge-below m b a 
 after-below m on.Set w a b o p = unless-below m (is_met on.Set w a.lo b.lo) a b o p
 after-below m on.SGt w a b o p = signed-below m w a b (after_gt a b) (is_met on.SGt w a.lo b.lo) o p (gt-below m a b o p)
 after-below m on.SGe w a b o p = signed-below m w a b (after_ge a b) (is_met on.SGe w a.lo b.lo) o p (ge-below m a b o p)
-after-below m on.SLt w a b o p = signed-below m w a b (exchange (after_gt b a)) (is_met on.SLt w a.lo b.lo) o p (exchange-below m (after_gt b a) (gt-below m b a p o))
-after-below m on.SLe w a b o p = signed-below m w a b (exchange (after_ge b a)) (is_met on.SLe w a.lo b.lo) o p (exchange-below m (after_ge b a) (ge-below m b a p o))
+after-below m on.SLt w a b o p =
+    signed-below m w a b (exchange (after_gt b a)) (is_met on.SLt w a.lo b.lo) o p (exchange-below m (after_gt b a) (gt-below m b a p o))
+after-below m on.SLe w a b o p =
+    signed-below m w a b (exchange (after_ge b a)) (is_met on.SLe w a.lo b.lo) o p (exchange-below m (after_ge b a) (ge-below m b a p o))
 
 after_not-below : (m : ℕ) (c : Cond) (w : Width) (a b : Range) → a.hi < m → b.hi < m → AreBelow m (after_not c w a b)
 after_not-below m on.Eq w a b o p = after-below m on.Ne w a b o p

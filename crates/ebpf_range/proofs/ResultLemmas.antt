@@ -41,18 +41,21 @@ low_at-below W64 a f = f
 the_number : (w : Width) (a : Range) (x : ℕ) → a.hi < modulus w → a.lo ≡ a.hi → IsWithin x a → x ≡ kept_at w a.lo
 the_number w a x p e h = let below : a.lo < modulus w = omega arith in let same = mod-eq_of_lt below in omega (arith, same)
 
-constant-sound : (o : AluOp) (w : Width) (a b : Range) (x y : ℕ) → a.hi < modulus w → b.hi < modulus w → a.lo ≡ a.hi → b.lo ≡ b.hi → IsWithin x a → IsWithin y b → IsWithin (operation o w x y) (constant (result_at o w a.lo b.lo))
+constant-sound : (o : AluOp) (w : Width) (a b : Range) (x y : ℕ) → a.hi < modulus w → b.hi < modulus w → a.lo ≡ a.hi → b.lo ≡ b.hi
+    → IsWithin x a → IsWithin y b → IsWithin (operation o w x y) (constant (result_at o w a.lo b.lo))
 constant-sound o w a b x y p q e f h k =
     let same : operation o w x y ≡ result_at o w a.lo b.lo = ap₂ (operation o w) (the_number w a x p e h) (the_number w b y q f k) in
     (le_of_eq (sym same), le_of_eq same)
 
-row_or_constant-sound : (o : AluOp) (w : Width) (a b : Range) (x y : ℕ) → a.hi < modulus w → b.hi < modulus w → IsWithin x a → IsWithin y b → IsWithin (operation o w x y) (row_or_constant o w a b)
+row_or_constant-sound : (o : AluOp) (w : Width) (a b : Range) (x y : ℕ) → a.hi < modulus w → b.hi < modulus w → IsWithin x a
+    → IsWithin y b → IsWithin (operation o w x y) (row_or_constant o w a b)
 row_or_constant-sound o w a b x y p q h k =
     cond_both (is_constant a && is_constant b) (constant (result_at o w a.lo b.lo)) (row o w a b) (IsWithin (operation o w x y))
     (λ e. let both = and_parts (is_constant a) (is_constant b) e in constant-sound o w a b x y p q (eqb-true a.lo a.hi both.0) (eqb-true b.lo b.hi both.1) h k)
     (λ e. row-sound o w a b x y p q h k)
 
-pub result-sound : (o : AluOp) (w : Width) (a b : Range) (x y : ℕ) → a.hi < 2 ^ 64 → b.hi < 2 ^ 64 → IsWithin x a → IsWithin y b → IsWithin (result_at o w x y) (result_range o w a b)
+pub result-sound : (o : AluOp) (w : Width) (a b : Range) (x y : ℕ) → a.hi < 2 ^ 64 → b.hi < 2 ^ 64 → IsWithin x a → IsWithin y b
+    → IsWithin (result_at o w x y) (result_range o w a b)
 result-sound o w a b x y p q h k =
     row_or_constant-sound o w (low_at w a) (low_at w b) (kept_at w x) (kept_at w y) (low_at-below w a p) (low_at-below w b q) (low_at-sound w a x p h) (low_at-sound w b y q k)
 

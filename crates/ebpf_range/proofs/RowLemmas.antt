@@ -34,11 +34,15 @@ sum-sound m a b x y some lx ly h k =
     (λ f. all_wrap m x y (a.lo + b.lo) (a.hi + b.hi) (leb-true m (a.lo + b.lo) f) lx ly (omega arith) (omega arith))
     (λ f. within_all m ((x + y) % m) (mod-lt (x + y) some)))
 
-no_difference_wraps : (m x y al ah bl bh : ℕ) → bh ≤ al → al ≤ x → x ≤ ah → bl ≤ y → y ≤ bh → x < m → y < m → (al - bh ≤ (x + (m - y)) % m) × ((x + (m - y)) % m ≤ ah - bl)
-no_difference_wraps m x y al ah bl bh apart l h l' h' lx ly = let wraps = mod-wraps (x + (m - y)) m (omega arith) (omega arith) in (omega (arith, wraps), omega (arith, wraps))
+no_difference_wraps : (m x y al ah bl bh : ℕ) → bh ≤ al → al ≤ x → x ≤ ah → bl ≤ y → y ≤ bh → x < m → y < m
+    → (al - bh ≤ (x + (m - y)) % m) × ((x + (m - y)) % m ≤ ah - bl)
+no_difference_wraps m x y al ah bl bh apart l h l' h' lx ly =
+    let wraps = mod-wraps (x + (m - y)) m (omega arith) (omega arith) in (omega (arith, wraps), omega (arith, wraps))
 
-each_difference_wraps : (m x y al ah bl bh : ℕ) → ah < bl → al ≤ x → x ≤ ah → bl ≤ y → y ≤ bh → y < m → (al + m - bh ≤ (x + (m - y)) % m) × ((x + (m - y)) % m ≤ ah + m - bl)
-each_difference_wraps m x y al ah bl bh apart l h l' h' ly = let small : x + (m - y) < m = omega arith in let same = mod-eq_of_lt small in (omega (arith, same), omega (arith, same))
+each_difference_wraps : (m x y al ah bl bh : ℕ) → ah < bl → al ≤ x → x ≤ ah → bl ≤ y → y ≤ bh → y < m
+    → (al + m - bh ≤ (x + (m - y)) % m) × ((x + (m - y)) % m ≤ ah + m - bl)
+each_difference_wraps m x y al ah bl bh apart l h l' h' ly =
+    let small : x + (m - y) < m = omega arith in let same = mod-eq_of_lt small in (omega (arith, same), omega (arith, same))
 
 difference-sound : (m : ℕ) (a b : Range) (x y : ℕ) → 0 < m → x < m → y < m → IsWithin x a → IsWithin y b → IsWithin ((x + (m - y)) % m) (difference_of m a b)
 difference-sound m a b x y some lx ly h k =
@@ -89,7 +93,8 @@ remainder-sound w a b x y h k = by (eqb y 0) refl
 -- ---- bits
 
 -- how many bits the numbers of both ranges have
-pub bits_of_both : (a b : Range) → a.hi < 2 ^ 64 → b.hi < 2 ^ 64 → (n : ℕ) × (64 - leading_zeros w64 (max a.hi b.hi) ≡ n) × (max a.hi b.hi < 2 ^ n) × (2 ^ n ≤ 2 * max a.hi b.hi + 1)
+pub bits_of_both : (a b : Range) → a.hi < 2 ^ 64 → b.hi < 2 ^ 64
+    → (n : ℕ) × (64 - leading_zeros w64 (max a.hi b.hi) ≡ n) × (max a.hi b.hi < 2 ^ n) × (2 ^ n ≤ 2 * max a.hi b.hi + 1)
 bits_of_both a b h k = let length = leading_length 64 (max a.hi b.hi) (omega arith) in (length.0, omega (arith, length.1), length.2, length.3)
 
 pub up-reached : (a b : Range) → a.hi < 2 ^ 64 → b.hi < 2 ^ 64 → (n : ℕ) × (up a b + 1 ≡ 2 ^ n) × (a.hi < 2 ^ n) × (b.hi < 2 ^ n)
@@ -152,7 +157,8 @@ right_shift-sound w a b x y h k =
 no_sign : (w : Width) (x y : ℕ) → x < modulus w / 2 → operation op.Arsh w x y ≡ x / factor_at w y
 no_sign w x y h = ap (λ z. unsigned_at w (int_shr z (y % bits_of w))) (signed_at-low w x h) ∙ unsigned_at-pos w (x / factor_at w y)
 
-signed_shift-sound : (w : Width) (a b : Range) (x y : ℕ) → x < modulus w → y < modulus w → IsWithin x a → IsWithin y b → IsWithin (operation op.Arsh w x y) (signed_shift_of w a b)
+signed_shift-sound : (w : Width) (a b : Range) (x y : ℕ) → x < modulus w → y < modulus w → IsWithin x a → IsWithin y b
+    → IsWithin (operation op.Arsh w x y) (signed_shift_of w a b)
 signed_shift-sound w a b x y lx ly h k =
     cond_both (is_constant b && nat_lt a.hi (modulus w / 2)) (right_shift_of w a b) (all_below (modulus w)) (IsWithin (operation op.Arsh w x y))
     (λ e. let low = ltb-true a.hi (modulus w / 2) (and_parts (is_constant b) (nat_lt a.hi (modulus w / 2)) e).1 in
@@ -166,7 +172,8 @@ pub small : (w : Width) (n : ℕ) → n < modulus w → n < 2 ^ 64
 small W32 n h = omega arith
 small W64 n h = h
 
-pub row-sound : (o : AluOp) (w : Width) (a b : Range) (x y : ℕ) → a.hi < modulus w → b.hi < modulus w → IsWithin x a → IsWithin y b → IsWithin (operation o w x y) (row o w a b)
+pub row-sound : (o : AluOp) (w : Width) (a b : Range) (x y : ℕ) → a.hi < modulus w → b.hi < modulus w → IsWithin x a → IsWithin y b
+    → IsWithin (operation o w x y) (row o w a b)
 row-sound op.Add w a b x y p q h k = sum-sound (modulus w) a b x y (some_numbers w) (omega arith) (omega arith) h k
 row-sound op.Sub w a b x y p q h k = difference-sound (modulus w) a b x y (some_numbers w) (omega arith) (omega arith) h k
 row-sound op.Mul w a b x y p q h k = product-sound (modulus w) a b x y (some_numbers w) h k

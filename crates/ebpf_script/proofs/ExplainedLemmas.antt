@@ -52,12 +52,14 @@ one_more asked name bytes decl rows old new judged none is text accepted refused
 
 -- ---- a verdict more
 
-pub explained_next : {asked : Bool} (programs left : List Named) (old new : Verdicts) (e : Explained asked) → AreExplainedBefore asked programs (e.verdict.program ∷ left) old
+pub explained_next : {asked : Bool} (programs left : List Named) (old new : Verdicts) (e : Explained asked)
+    → AreExplainedBefore asked programs (e.verdict.program ∷ left) old
     → string_bytes new.text ≡ string_bytes old.text ++ (judged_line e.verdict.program.name e.verdict.judged ++ e.why)
     → new.accepted.items ≡ old.accepted.items ++ accepted_in e.verdict.judged → new.refused ≡ (old.refused || is_refused e.verdict.judged)
     → AreExplainedBefore asked programs left new
 explained_next {asked} programs left old new e h text accepted refused =
-    let more : verdicts_of (h.explained ++ e ∷ []) ≡ verdicts_of h.explained ++ e.verdict ∷ [] = map-append (λ (x : Explained asked). x.verdict) h.explained (e ∷ []) in
+    let more : verdicts_of (h.explained ++ e ∷ []) ≡ verdicts_of h.explained ++ e.verdict ∷ [] =
+    map-append (λ (x : Explained asked). x.verdict) h.explained (e ∷ []) in
     record {
       explained = h.explained ++ e ∷ [];
       on = ap (λ (vs : List Verdict). map (λ (v : Verdict). v.program) vs ++ left) more

@@ -26,23 +26,28 @@ lines_here d n parsed line lines inside same =
 
 -- it has no fault
 pub lines_fine : (d : Dialect) (n : ℕ) (parsed next : ParsedScript) (line : List ℕ) (lines : List (List ℕ)) → n < length lines → line ≡ get_or lines n line
-    → line_fault d parsed line ≡ None → next ≡ with_line parsed (shape_of d (words line)) → parsed_lines d (n + 1 + 1) next (drop (n + 1) lines) ≡ parsed_lines d (n + 1) parsed (drop n lines)
+    → line_fault d parsed line ≡ None → next ≡ with_line parsed (shape_of d (words line))
+    → parsed_lines d (n + 1 + 1) next (drop (n + 1) lines) ≡ parsed_lines d (n + 1) parsed (drop n lines)
 lines_fine d n parsed next line lines inside same fine parses =
     sym (lines_here d n parsed line lines inside same ∙ (ap (λ (f : Option FaultCode). unless_fault (n + 1) f (parsed_lines d (n + 1 + 1) (with_line parsed (shape_of d (words line))) (drop (n + 1) lines))) fine
     ∙ ap (λ (s : ParsedScript). parsed_lines d (n + 1 + 1) s (drop (n + 1) lines)) (sym parses)))
 
 -- it has one
-pub lines_faulty : (d : Dialect) (n : ℕ) (parsed : ParsedScript) (line : List ℕ) (lines : List (List ℕ)) (code : FaultCode) → n < length lines → line ≡ get_or lines n line
+pub lines_faulty : (d : Dialect) (n : ℕ) (parsed : ParsedScript) (line : List ℕ) (lines : List (List ℕ)) (code : FaultCode)
+    → n < length lines → line ≡ get_or lines n line
     → line_fault d parsed line ≡ Some code → parsed_lines d (n + 1) parsed (drop n lines) ≡ Err (n + 1, code)
 lines_faulty d n parsed line lines code inside same fault =
     lines_here d n parsed line lines inside same ∙ ap (λ (f : Option FaultCode). unless_fault (n + 1) f (parsed_lines d (n + 1 + 1) (with_line parsed (shape_of d (words line))) (drop (n + 1) lines))) fault
 
 -- there are no more
-pub lines_end : (d : Dialect) (n : ℕ) (parsed : ParsedScript) (lines : List (List ℕ)) → length lines ≤ n → parsed_lines d (n + 1) parsed (drop n lines) ≡ Ok parsed
+pub lines_end : (d : Dialect) (n : ℕ) (parsed : ParsedScript) (lines : List (List ℕ)) → length lines ≤ n
+    → parsed_lines d (n + 1) parsed (drop n lines) ≡ Ok parsed
 lines_end d n parsed lines all = at_drop_all (parsed_lines d (n + 1) parsed) lines n all
 
 -- where a line stops, and its fault is the script's, the script stops there
-pub stops_at : (read : Result ParsedScript (ℕ × FaultCode)) (fault : Option FaultCode) (stop : Stop) (number : ℕ) → IsStop fault stop → ((code : FaultCode) → fault ≡ Some code → read ≡ Err (number, code)) → IsScriptStop read (stop_at stop number)
+pub stops_at : (read : Result ParsedScript (ℕ × FaultCode)) (fault : Option FaultCode) (stop : Stop) (number : ℕ)
+    → IsStop fault stop → ((code : FaultCode) → fault ≡ Some code → read ≡ Err (number, code))
+    → IsScriptStop read (stop_at stop number)
 stops_at read fault stops.NoMemory number stop here = tt
 stops_at read fault (stops.Fault code) number stop here = here code stop
 
@@ -51,7 +56,8 @@ pub lines_few : (text : List ℕ) → length text ≤ 1048576 → length (script
 lines_few text fits = omega (arith, fits, length-slice_split (λ (c : ℕ). c == 10) text, count_by-le-length (λ (c : ℕ). c == 10) text)
 
 -- a text that is not too long is parsed to what its lines are parsed to
-pub parsed_text-lines : (dialect : Dialect) (text : List ℕ) → length text ≤ 1048576 → parsed_text dialect text ≡ parsed_lines dialect 1 empty_script (script_lines text)
+pub parsed_text-lines : (dialect : Dialect) (text : List ℕ) → length text ≤ 1048576
+    → parsed_text dialect text ≡ parsed_lines dialect 1 empty_script (script_lines text)
 unfolding parsed_text
 parsed_text-lines dialect text fits =
     let short : nat_lt 1048576 (length text) ≡ false = grind (arith, nat_tests) in

@@ -29,14 +29,17 @@ pub number_to-large : (most : ℕ) (word : List ℕ) → most < value_of word �
 unfolding number_to
 number_to-large most word h = grind (arith, nat_tests)
 
-pub number_to-fits : (most value : ℕ) (word : List ℕ) → 0 < length word → all_ascii_digits word ≡ true → value_of word ≡ value → value ≤ most → number_to most word ≡ Some value
+pub number_to-fits : (most value : ℕ) (word : List ℕ) → 0 < length word → all_ascii_digits word ≡ true → value_of word ≡ value
+    → value ≤ most → number_to most word ≡ Some value
 unfolding number_to
 number_to-fits most value word some digits same fits = grind (arith, nat_tests)
 
 -- one digit on
-pub value_here : (word : List ℕ) (i value : ℕ) → i < length word → fold more value (drop i word) ≡ value_of word → fold more (more value (get_or word i 0)) (drop (i + 1) word) ≡ value_of word
+pub value_here : (word : List ℕ) (i value : ℕ) → i < length word → fold more value (drop i word) ≡ value_of word
+    → fold more (more value (get_or word i 0)) (drop (i + 1) word) ≡ value_of word
 value_here word i value inside h = sym (at_drop_more (fold more value) word i 0 inside) ∙ h
 
 -- a byte here that is no digit
-pub not_digits_here : (word : List ℕ) (i : ℕ) → i < length word → is_ascii_digit (get_or word i 0) ≡ false → all_ascii_digits (drop i word) ≡ all_ascii_digits word → all_ascii_digits word ≡ false
+pub not_digits_here : (word : List ℕ) (i : ℕ) → i < length word → is_ascii_digit (get_or word i 0) ≡ false
+    → all_ascii_digits (drop i word) ≡ all_ascii_digits word → all_ascii_digits word ≡ false
 not_digits_here word i inside other h = sym h ∙ (at_drop_more all_ascii_digits word i 0 inside ∙ and_left _ _ other)

@@ -23,9 +23,12 @@ nowhere fault xs h =
     rw past refl
 
 -- what a declared length says of a job
-admitted : (programs : List Subject) (job : Job) → slice_get (map (λ s. s.decl.context) programs) job.program ≡ Some (length job.context) → (not (has_program programs job) ≡ false) × (not (has_context programs job) ≡ false)
+admitted : (programs : List Subject) (job : Job)
+    → slice_get (map (λ s. s.decl.context) programs) job.program ≡ Some (length job.context)
+    → (not (has_program programs job) ≡ false) × (not (has_context programs job) ≡ false)
 admitted programs job h = by (slice_get programs job.program) refl (sym (slice_get-map (λ (s : Subject). s.decl.context) programs job.program) ∙ h) where
-  by : (o : Option Subject) → slice_get programs job.program ≡ o → option_map (λ s. s.decl.context) o ≡ Some (length job.context) → (not (has_program programs job) ≡ false) × (not (has_context programs job) ≡ false)
+  by : (o : Option Subject) → slice_get programs job.program ≡ o → option_map (λ s. s.decl.context) o ≡ Some (length job.context)
+      → (not (has_program programs job) ≡ false) × (not (has_context programs job) ≡ false)
   by None is same = absurd cc
   by (Some s) is same =
       let inside = slice_get_within programs job.program s is in
@@ -41,8 +44,10 @@ none_due host workers jobs some fits any enough few declared =
     let pages : (host.pages == 0 || nat_lt 256 host.pages) ≡ false = grind (arith, nat_tests) in
     let seats : (workers == 0 || nat_lt 64 workers) ≡ false = grind (arith, nat_tests) in
     let short : nat_lt 1048576 (length jobs) ≡ false = grind (arith, nat_tests) in
-    let programs : position (λ job. not (has_program host.programs.items job)) jobs ≡ None = nowhere _ jobs (λ k d lt. (admitted host.programs.items (get_or jobs k d) (declared k d lt)).0) in
-    let contexts : position (λ job. not (has_context host.programs.items job)) jobs ≡ None = nowhere _ jobs (λ k d lt. (admitted host.programs.items (get_or jobs k d) (declared k d lt)).1) in
+    let programs : position (λ job. not (has_program host.programs.items job)) jobs ≡ None =
+    nowhere _ jobs (λ k d lt. (admitted host.programs.items (get_or jobs k d) (declared k d lt)).0) in
+    let contexts : position (λ job. not (has_context host.programs.items job)) jobs ≡ None =
+    nowhere _ jobs (λ k d lt. (admitted host.programs.items (get_or jobs k d) (declared k d lt)).1) in
     rw (pages, seats, short, programs, contexts) refl
 
 -- the pages that a script says, or else 256

@@ -63,15 +63,18 @@ slice_get_left (z ∷ xs) ys (suc k) x h = slice_get_left xs ys k x h
 declared_more : (programs : List Named) (p : Named) (jobs : List Job) → AreDeclared programs jobs → AreDeclared (programs ++ p ∷ []) jobs
 declared_more programs p jobs h = λ k d lt. rw (map-append (λ (q : Named). q.context) programs (p ∷ [])) (slice_get_left (map (λ (q : Named). q.context) programs) (p.context ∷ []) _ _ (h k d lt))
 
-inside_some : {X : Type 0} (f : X → ℕ) (xs : List X) (k : ℕ) → k < length xs → option_map f (slice_get xs k) ≡ Some (unwrap_or (option_map f (slice_get xs k)) 0)
+inside_some : {X : Type 0} (f : X → ℕ) (xs : List X) (k : ℕ) → k < length xs
+    → option_map f (slice_get xs k) ≡ Some (unwrap_or (option_map f (slice_get xs k)) 0)
 inside_some f [] k lt = absurd (omega (arith, lt))
 inside_some f (x ∷ xs) zero lt = refl
 inside_some f (x ∷ xs) (suc k) lt = inside_some f xs k (omega (arith, lt))
 
 -- the first that passes stands at its place
-found_here : {X : Type 0} (p : X → Bool) (f : X → ℕ) (xs : List X) (len : ℕ) → is_none (position p xs) ≡ false → len ≡ unwrap_or (option_map f (find p xs)) 0 → slice_get (map f xs) (unwrap_or (position p xs) 0) ≡ Some len
+found_here : {X : Type 0} (p : X → Bool) (f : X → ℕ) (xs : List X) (len : ℕ) → is_none (position p xs) ≡ false
+    → len ≡ unwrap_or (option_map f (find p xs)) 0 → slice_get (map f xs) (unwrap_or (position p xs) 0) ≡ Some len
 found_here p f xs len is same = by (nat_lt (position_or_len p xs) (length xs)) refl is where
-  by : (b : Bool) → nat_lt (position_or_len p xs) (length xs) ≡ b → is_none (cond b (Some (position_or_len p xs)) None) ≡ false → slice_get (map f xs) (unwrap_or (cond b (Some (position_or_len p xs)) None) 0) ≡ Some len
+  by : (b : Bool) → nat_lt (position_or_len p xs) (length xs) ≡ b → is_none (cond b (Some (position_or_len p xs)) None) ≡ false
+      → slice_get (map f xs) (unwrap_or (cond b (Some (position_or_len p xs)) None) 0) ≡ Some len
   by false e is = absurd cc
   by true e is =
       let inside : position_or_len p xs < length xs = grind (arith, nat_tests) in
@@ -83,7 +86,8 @@ declared_here : (programs : List Named) (name : List ℕ) (len : ℕ) → is_non
 unfolding number_of declared_by
 declared_here programs name len is same = found_here (λ (p : Named). bytes_eq name p.name) (λ (p : Named). p.context) programs len is same
 
-job_tests : (a b c d : Bool) (x y z w : FaultCode) → cond a (Some x) (cond b (Some y) (cond c (Some z) (cond d (Some w) None))) ≡ None → (c ≡ false) × (d ≡ false)
+job_tests : (a b c d : Bool) (x y z w : FaultCode)
+    → cond a (Some x) (cond b (Some y) (cond c (Some z) (cond d (Some w) None))) ≡ None → (c ≡ false) × (d ≡ false)
 job_tests true b c d x y z w h = absurd cc
 job_tests false true c d x y z w h = absurd cc
 job_tests false false true d x y z w h = absurd cc
@@ -95,13 +99,15 @@ same_number a b h = grind (arith, nat_tests)
 
 -- ---- a line more
 
-job_next : (parsed : ParsedScript) (name hex : List ℕ) → shape_fault parsed (JobLine name hex) ≡ None → AreDeclared parsed.programs parsed.jobs → AreDeclared parsed.programs (with_line parsed (JobLine name hex)).jobs
+job_next : (parsed : ParsedScript) (name hex : List ℕ) → shape_fault parsed (JobLine name hex) ≡ None
+    → AreDeclared parsed.programs parsed.jobs → AreDeclared parsed.programs (with_line parsed (JobLine name hex)).jobs
 job_next parsed name hex fine h =
     let tests = job_tests (is_none (hex_or_dash hex)) (not (is_name name)) (is_none (number_of parsed.programs name)) (not (is_as_declared parsed.programs name (unwrap_or (hex_or_dash hex) []))) BadHex BadName UndefinedName WrongContextLength fine in
     All-push (λ (job : Job). slice_get (map (λ (p : Named). p.context) parsed.programs) job.program ≡ Some (length job.context)) parsed.jobs _ h
     (declared_here parsed.programs name _ tests.0 (same_number _ _ tests.1))
 
-ready_next : (lines : ℕ) (parsed : ParsedScript) (shape : Shape) → shape_fault parsed shape ≡ None → IsReady lines parsed → IsReady (lines + 1) (with_line parsed shape)
+ready_next : (lines : ℕ) (parsed : ParsedScript) (shape : Shape) → shape_fault parsed shape ≡ None → IsReady lines parsed
+    → IsReady (lines + 1) (with_line parsed shape)
 ready_next lines parsed Passed fine h = record { pages = h.pages; declared = h.declared; few = omega (arith, h.few) }
 ready_next lines parsed Unknown fine h = record { pages = h.pages; declared = h.declared; few = omega (arith, h.few) }
 ready_next lines parsed (ProgramLine name context held hex) fine h = record { pages = h.pages; declared = declared_more _ _ _ h.declared; few = omega (arith, h.few, length_push) }
@@ -116,14 +122,17 @@ ready_next lines parsed PassLine fine h = record { pages = h.pages; declared = h
 
 -- ---- all lines
 
-shape_fine : (dialect : Dialect) (parsed : ParsedScript) (line : List ℕ) → line_fault dialect parsed line ≡ None → shape_fault parsed (shape_of dialect (words line)) ≡ None
+shape_fine : (dialect : Dialect) (parsed : ParsedScript) (line : List ℕ) → line_fault dialect parsed line ≡ None
+    → shape_fault parsed (shape_of dialect (words line)) ≡ None
 unfolding line_fault
 shape_fine dialect parsed line h = by (is_text line) h where
-  by : (b : Bool) → cond b (shape_fault parsed (shape_of dialect (words line))) (Some UnprintableByte) ≡ None → shape_fault parsed (shape_of dialect (words line)) ≡ None
+  by : (b : Bool) → cond b (shape_fault parsed (shape_of dialect (words line))) (Some UnprintableByte) ≡ None
+      → shape_fault parsed (shape_of dialect (words line)) ≡ None
   by true h = h
   by false h = absurd cc
 
-lines_ready : (dialect : Dialect) (before number : ℕ) (parsed out : ParsedScript) (lines : List (List ℕ)) → IsReady before parsed → parsed_lines dialect number parsed lines ≡ Ok out → IsReady (before + length lines) out
+lines_ready : (dialect : Dialect) (before number : ℕ) (parsed out : ParsedScript) (lines : List (List ℕ)) → IsReady before parsed
+    → parsed_lines dialect number parsed lines ≡ Ok out → IsReady (before + length lines) out
 lines_ready dialect before number parsed out [] h is =
     let same : parsed ≡ out = cc in
     ready_more before _ out (omega arith) (subst (IsReady before) same h)
@@ -134,8 +143,10 @@ lines_ready dialect before number parsed out (line ∷ lines) h is =
     next = with_line parsed (shape_of dialect (words line))
 
     by : (fault : Option FaultCode) → line_fault dialect parsed line ≡ fault → unless_fault number fault (parsed_lines dialect (number + 1) next lines) ≡ Ok out
-        → (IsReady (before + 1) next → parsed_lines dialect (number + 1) next lines ≡ Ok out → IsReady (before + 1 + length lines) out) → IsReady (before + length (line ∷ lines)) out
-    by None fine is behind = ready_more (before + 1 + length lines) _ out (omega arith) (behind (ready_next before parsed _ (shape_fine dialect parsed line fine) h) is)
+        → (IsReady (before + 1) next → parsed_lines dialect (number + 1) next lines ≡ Ok out → IsReady (before + 1 + length lines) out)
+        → IsReady (before + length (line ∷ lines)) out
+    by None fine is behind =
+        ready_more (before + 1 + length lines) _ out (omega arith) (behind (ready_next before parsed _ (shape_fine dialect parsed line fine) h) is)
     by (Some code) fault is behind = absurd cc
 
 -- a job's program has a line of its own
@@ -147,7 +158,8 @@ few_jobs programs (job ∷ jobs) h few =
 pub text_runnable : (dialect : Dialect) (text : List ℕ) (parsed : ParsedScript) → parsed_text dialect text ≡ Ok parsed → IsRunnable parsed
 unfolding parsed_text
 text_runnable dialect text parsed h = by (nat_lt 1048576 (length text)) refl h where
-  by : (b : Bool) → nat_lt 1048576 (length text) ≡ b → cond b (Err (0, InputTooLong)) (parsed_lines dialect 1 empty_script (script_lines text)) ≡ Ok parsed → IsRunnable parsed
+  by : (b : Bool) → nat_lt 1048576 (length text) ≡ b
+      → cond b (Err (0, InputTooLong)) (parsed_lines dialect 1 empty_script (script_lines text)) ≡ Ok parsed → IsRunnable parsed
   by true long is = absurd cc
   by false short is =
       let fits : length text ≤ 1048576 = grind (arith, nat_tests) in

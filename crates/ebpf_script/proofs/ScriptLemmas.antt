@@ -25,34 +25,43 @@ position-map : {X Y : Type 0} (p : Y → Bool) (f : X → Y) (xs : List X) → p
 position-map p f xs = rw (prefix_len-map (λ y. not (p y)) f xs, length-mapped f xs) refl
 
 -- the number of a name is the index of its key
-pub number_of-entries : (es : List (String Global × ProgramText)) (name : List ℕ) → number_of (map named es) name ≡ position (λ k. bytes_eq name (string_bytes k)) (keys_of es)
+pub number_of-entries : (es : List (String Global × ProgramText)) (name : List ℕ)
+    → number_of (map named es) name ≡ position (λ k. bytes_eq name (string_bytes k)) (keys_of es)
 unfolding number_of
 number_of-entries es name = position-map (λ p. bytes_eq name p.name) named es ∙ sym (position-map (λ k. bytes_eq name (string_bytes k)) (λ e. e.0) es)
 
 -- a name has a number where its key is there
-is_defined-entries : (es : List (String Global × ProgramText)) (name : List ℕ) → is_some (number_of (map named es) name) ≡ is_some (lookup (λ k. bytes_eq name (string_bytes k)) es)
+is_defined-entries : (es : List (String Global × ProgramText)) (name : List ℕ)
+    → is_some (number_of (map named es) name) ≡ is_some (lookup (λ k. bytes_eq name (string_bytes k)) es)
 is_defined-entries es name = ap is_some (number_of-entries es name) ∙ some_index (λ k. bytes_eq name (string_bytes k)) es
 
 -- what the map's test for a name says of the name
-pub is_defined-test : (es : List (String Global × ProgramText)) (asked name : List ℕ) (test : Bool) → asked ≡ name → test ≡ is_some (lookup (λ k. bytes_eq asked (string_bytes k)) es) → is_some (number_of (map named es) name) ≡ test
-is_defined-test es asked name test same found = sym (found ∙ (ap (λ (q : List ℕ). is_some (lookup (λ k. bytes_eq q (string_bytes k)) es)) same ∙ sym (is_defined-entries es name)))
+pub is_defined-test : (es : List (String Global × ProgramText)) (asked name : List ℕ) (test : Bool) → asked ≡ name
+    → test ≡ is_some (lookup (λ k. bytes_eq asked (string_bytes k)) es) → is_some (number_of (map named es) name) ≡ test
+is_defined-test es asked name test same found =
+    sym (found ∙ (ap (λ (q : List ℕ). is_some (lookup (λ k. bytes_eq q (string_bytes k)) es)) same ∙ sym (is_defined-entries es name)))
 
 -- what the map's index of a name says of the name
-pub number_of-index : (es : List (String Global × ProgramText)) (asked name : List ℕ) (index : Option ℕ) → asked ≡ name → index ≡ position (λ k. bytes_eq asked (string_bytes k)) (keys_of es) → number_of (map named es) name ≡ index
-number_of-index es asked name index same found = sym (found ∙ (ap (λ (q : List ℕ). position (λ k. bytes_eq q (string_bytes k)) (keys_of es)) same ∙ sym (number_of-entries es name)))
+pub number_of-index : (es : List (String Global × ProgramText)) (asked name : List ℕ) (index : Option ℕ) → asked ≡ name
+    → index ≡ position (λ k. bytes_eq asked (string_bytes k)) (keys_of es) → number_of (map named es) name ≡ index
+number_of-index es asked name index same found =
+    sym (found ∙ (ap (λ (q : List ℕ). position (λ k. bytes_eq q (string_bytes k)) (keys_of es)) same ∙ sym (number_of-entries es name)))
 
-found_or : {X Y Z : Type 0} (f : X → Z) (g : Y → Z) (b : Bool) (x : X) (y : Y) (u : Option X) (v : Option Y) → f x ≡ g y → option_map f u ≡ option_map g v → option_map f (cond b (Some x) u) ≡ option_map g (cond b (Some y) v)
+found_or : {X Y Z : Type 0} (f : X → Z) (g : Y → Z) (b : Bool) (x : X) (y : Y) (u : Option X) (v : Option Y) → f x ≡ g y
+    → option_map f u ≡ option_map g v → option_map f (cond b (Some x) u) ≡ option_map g (cond b (Some y) v)
 found_or f g true x y u v same rest = ap Some same
 found_or f g false x y u v same rest = rest
 
 -- the length that a name declares is that of its key's program
-declared_by-entries : (es : List (String Global × ProgramText)) (name : List ℕ) → declared_by (map named es) name ≡ option_map (λ (t : ProgramText). t.decl.context) (lookup (λ k. bytes_eq name (string_bytes k)) es)
+declared_by-entries : (es : List (String Global × ProgramText)) (name : List ℕ)
+    → declared_by (map named es) name ≡ option_map (λ (t : ProgramText). t.decl.context) (lookup (λ k. bytes_eq name (string_bytes k)) es)
 unfolding declared_by
 declared_by-entries [] name = refl
 declared_by-entries (e ∷ es) name = found_or (λ (p : Named). p.context) (λ (t : ProgramText). t.decl.context) (bytes_eq name (string_bytes e.0)) (named e) e.1 _ _ refl (declared_by-entries es name)
 
 -- what the map's program of a name says of the name
-pub declared_by-found : (es : List (String Global × ProgramText)) (asked name : List ℕ) (text : ProgramText) → asked ≡ name → Some text ≡ lookup (λ k. bytes_eq asked (string_bytes k)) es → declared_by (map named es) name ≡ Some text.decl.context
+pub declared_by-found : (es : List (String Global × ProgramText)) (asked name : List ℕ) (text : ProgramText) → asked ≡ name
+    → Some text ≡ lookup (λ k. bytes_eq asked (string_bytes k)) es → declared_by (map named es) name ≡ Some text.decl.context
 declared_by-found es asked name text same found =
     declared_by-entries es name ∙ (ap (λ (q : List ℕ). option_map (λ (t : ProgramText). t.decl.context) (lookup (λ k. bytes_eq q (string_bytes k)) es)) (sym same) ∙ ap (option_map (λ (t : ProgramText). t.decl.context)) (sym found))
 
@@ -61,7 +70,10 @@ none_where None h = refl
 none_where (Some x) h = cc
 
 -- a name that is not there goes last
-pub entries-more : {S : Type 0} (m : IndexMap (String Global) ProgramText S) (key : String Global) (text : ProgramText) (asked : List ℕ) (new : List (String Global × ProgramText)) → string_bytes key ≡ asked → false ≡ is_some (lookup (λ k. bytes_eq asked (string_bytes k)) m.entries) → new ≡ insert_entry string_eq m.entries key text → map named new ≡ map named m.entries ++ named (key, text) ∷ []
+pub entries-more : {S : Type 0} (m : IndexMap (String Global) ProgramText S) (key : String Global) (text : ProgramText) (asked : List ℕ) (new : List (String Global × ProgramText))
+    → string_bytes key ≡ asked → false ≡ is_some (lookup (λ k. bytes_eq asked (string_bytes k)) m.entries)
+    → new ≡ insert_entry string_eq m.entries key text → map named new ≡ map named m.entries ++ named (key, text) ∷ []
 entries-more m key text asked new same absent put =
-    let none : get string_eq m key ≡ None = none_where _ (ap (λ (q : List ℕ). is_some (lookup (λ k. bytes_eq q (string_bytes k)) m.entries)) same ∙ sym absent) in
+    let none : get string_eq m key ≡ None =
+    none_where _ (ap (λ (q : List ℕ). is_some (lookup (λ k. bytes_eq q (string_bytes k)) m.entries)) same ∙ sym absent) in
     ap (λ (es : List (String Global × ProgramText)). map named es) (put ∙ insert_entry-new string_eq m key text none) ∙ map-append named m.entries ((key, text) ∷ [])

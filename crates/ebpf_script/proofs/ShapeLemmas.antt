@@ -11,7 +11,8 @@ use Rattle.ebpf_script.specs.ReadScripts.{Adds}
 use Rattle.ebpf_script.specs.Shapes.{Shape, StartLine, ExecLine, AnsweredLine, GrowLine, ReapLine, ArenaLine, JobLine, event_shape, job_shape}
 
 -- what a line of one shape adds, and why it is refused, is that of a line of the same shape
-pub shaped_ok : {T E : Type 0} (r : Result T E) (shape which : Shape) (old new : Script) → shape ≡ which → OnOk r (Adds which old new) → OnOk r (Adds shape old new)
+pub shaped_ok : {T E : Type 0} (r : Result T E) (shape which : Shape) (old new : Script) → shape ≡ which
+    → OnOk r (Adds which old new) → OnOk r (Adds shape old new)
 shaped_ok r shape which old new same h = subst (λ (s : Shape). OnOk r (Adds s old new)) (sym same) h
 
 pub shaped_refused : {T : Type 0} (r : Result T Stop) (shape which : Shape) (parsed : ParsedScript) → shape ≡ which
@@ -35,41 +36,51 @@ two_words f (x ∷ y ∷ []) d e least below = refl
 two_words f (x ∷ y ∷ z ∷ xs) d e least below = absurd (omega arith)
 
 -- the lines of events
-pub exec_line : (first : List ℕ) (rest : List (List ℕ)) (a : List ℕ) → rest ≡ a ∷ [] → bytes_eq first (codes "exec") ≡ true → event_shape first rest ≡ ExecLine a
+pub exec_line : (first : List ℕ) (rest : List (List ℕ)) (a : List ℕ) → rest ≡ a ∷ [] → bytes_eq first (codes "exec") ≡ true
+    → event_shape first rest ≡ ExecLine a
 exec_line first rest a is exec = rw (is, exec) refl
 
-pub start_line : (first : List ℕ) (rest : List (List ℕ)) (a b : List ℕ) → rest ≡ a ∷ b ∷ [] → bytes_eq first (codes "start") ≡ true → event_shape first rest ≡ StartLine a b
+pub start_line : (first : List ℕ) (rest : List (List ℕ)) (a b : List ℕ) → rest ≡ a ∷ b ∷ [] → bytes_eq first (codes "start") ≡ true
+    → event_shape first rest ≡ StartLine a b
 start_line first rest a b is start = rw (is, start) refl
 
-pub answered_line : (first : List ℕ) (rest : List (List ℕ)) (a b : List ℕ) → rest ≡ a ∷ b ∷ [] → bytes_eq first (codes "start") ≡ false → bytes_eq first (codes "exec") ≡ true
+pub answered_line : (first : List ℕ) (rest : List (List ℕ)) (a b : List ℕ) → rest ≡ a ∷ b ∷ []
+    → bytes_eq first (codes "start") ≡ false → bytes_eq first (codes "exec") ≡ true
     → event_shape first rest ≡ AnsweredLine a b
 answered_line first rest a b is start exec = rw (is, start, exec) refl
 
-pub grow_line : (first : List ℕ) (rest : List (List ℕ)) (a b : List ℕ) → rest ≡ a ∷ b ∷ [] → bytes_eq first (codes "start") ≡ false → bytes_eq first (codes "exec") ≡ false
+pub grow_line : (first : List ℕ) (rest : List (List ℕ)) (a b : List ℕ) → rest ≡ a ∷ b ∷ [] → bytes_eq first (codes "start") ≡ false
+    → bytes_eq first (codes "exec") ≡ false
     → bytes_eq first (codes "grow") ≡ true → event_shape first rest ≡ GrowLine a b
 grow_line first rest a b is start exec grow = rw (is, start, exec, grow) refl
 
-pub reap_line : (first : List ℕ) (rest : List (List ℕ)) (a b : List ℕ) → rest ≡ a ∷ b ∷ [] → bytes_eq first (codes "start") ≡ false → bytes_eq first (codes "exec") ≡ false
+pub reap_line : (first : List ℕ) (rest : List (List ℕ)) (a b : List ℕ) → rest ≡ a ∷ b ∷ [] → bytes_eq first (codes "start") ≡ false
+    → bytes_eq first (codes "exec") ≡ false
     → bytes_eq first (codes "grow") ≡ false → bytes_eq first (codes "reap") ≡ true → event_shape first rest ≡ ReapLine a b
 reap_line first rest a b is start exec grow reap = rw (is, start, exec, grow, reap) refl
 
 -- and those that are none of them
-pub no_event : {X : Type 0} (parsed : ParsedScript) (first : List ℕ) (f : X → List ℕ) (xs : List X) → 2 ≤ length xs → length xs < 3 → bytes_eq first (codes "start") ≡ false
-    → bytes_eq first (codes "exec") ≡ false → bytes_eq first (codes "grow") ≡ false → bytes_eq first (codes "reap") ≡ false → shape_fault parsed (event_shape first (map f xs)) ≡ Some UnknownLine
+pub no_event : {X : Type 0} (parsed : ParsedScript) (first : List ℕ) (f : X → List ℕ) (xs : List X) → 2 ≤ length xs → length xs < 3
+    → bytes_eq first (codes "start") ≡ false
+    → bytes_eq first (codes "exec") ≡ false → bytes_eq first (codes "grow") ≡ false → bytes_eq first (codes "reap") ≡ false
+    → shape_fault parsed (event_shape first (map f xs)) ≡ Some UnknownLine
 no_event parsed first f [] least below start exec grow reap = absurd (omega arith)
 no_event parsed first f (x ∷ []) least below start exec grow reap = absurd (omega arith)
 no_event parsed first f (x ∷ y ∷ []) least below start exec grow reap = rw (start, exec, grow, reap) refl
 no_event parsed first f (x ∷ y ∷ z ∷ xs) least below start exec grow reap = absurd (omega arith)
 
-pub no_long_event : {X : Type 0} (parsed : ParsedScript) (first : List ℕ) (f : X → List ℕ) (xs : List X) → 3 ≤ length xs → shape_fault parsed (event_shape first (map f xs)) ≡ Some UnknownLine
+pub no_long_event : {X : Type 0} (parsed : ParsedScript) (first : List ℕ) (f : X → List ℕ) (xs : List X) → 3 ≤ length xs
+    → shape_fault parsed (event_shape first (map f xs)) ≡ Some UnknownLine
 no_long_event parsed first f [] least = absurd (omega arith)
 no_long_event parsed first f (x ∷ []) least = absurd (omega arith)
 no_long_event parsed first f (x ∷ y ∷ []) least = absurd (omega arith)
 no_long_event parsed first f (x ∷ y ∷ z ∷ xs) least = refl
 
 -- the lines of jobs
-pub arena_line : (first : List ℕ) (rest : List (List ℕ)) (a : List ℕ) → rest ≡ a ∷ [] → bytes_eq first (codes "arena") ≡ true → job_shape first rest ≡ ArenaLine a
+pub arena_line : (first : List ℕ) (rest : List (List ℕ)) (a : List ℕ) → rest ≡ a ∷ [] → bytes_eq first (codes "arena") ≡ true
+    → job_shape first rest ≡ ArenaLine a
 arena_line first rest a is arena = rw (is, arena) refl
 
-pub job_line : (first : List ℕ) (rest : List (List ℕ)) (a b : List ℕ) → rest ≡ a ∷ b ∷ [] → bytes_eq first (codes "run") ≡ true → job_shape first rest ≡ JobLine a b
+pub job_line : (first : List ℕ) (rest : List (List ℕ)) (a b : List ℕ) → rest ≡ a ∷ b ∷ [] → bytes_eq first (codes "run") ≡ true
+    → job_shape first rest ≡ JobLine a b
 job_line first rest a b is run = rw (is, run) refl

@@ -21,7 +21,8 @@ use Rattle.ebpf_script.specs.VerdictsKept.{AreKept}
 
 -- ---- the programs that are accepted were verified with the known kinds
 
-known_in : (bytes : List ℕ) (decl : Decl) (rows : List KindRow) (judged : Judged) → AreKinds rows → IsJudged bytes decl rows judged → AreKnown (accepted_in judged)
+known_in : (bytes : List ℕ) (decl : Decl) (rows : List KindRow) (judged : Judged) → AreKinds rows → IsJudged bytes decl rows judged
+    → AreKnown (accepted_in judged)
 known_in bytes decl rows (Refused code slot) kinds is k d lt = absurd (omega arith)
 known_in bytes decl rows (Accepted t) kinds is zero d lt = ap kinds_of (accepted_rows bytes decl rows (Accepted t) t is refl) ∙ kinds_known rows kinds
 known_in bytes decl rows (Accepted t) kinds is (suc k) d lt = absurd (omega (arith, lt))
@@ -35,13 +36,15 @@ known_kept programs kept h = subst AreKnown (sym h.accepted) (known_of h.verdict
 
 -- ---- where none is refused, the programs that are accepted are all, in their order
 
-contexts_in : (bytes : List ℕ) (decl : Decl) (rows : List KindRow) (context : ℕ) (judged : Judged) → decl.context ≡ context → IsJudged bytes decl rows judged → is_refused judged ≡ false
+contexts_in : (bytes : List ℕ) (decl : Decl) (rows : List KindRow) (context : ℕ) (judged : Judged) → decl.context ≡ context
+    → IsJudged bytes decl rows judged → is_refused judged ≡ false
     → map (λ s. s.decl.context) (accepted_in judged) ≡ context ∷ []
 contexts_in bytes decl rows context (Refused code slot) same is none = absurd cc
 contexts_in bytes decl rows context (Accepted t) same is none =
     ap (λ (n : ℕ). n ∷ []) (ap (λ (d : Decl). d.context) (accepted_decl bytes decl rows (Accepted t) t is refl) ∙ same)
 
-contexts_of : (verdicts : List Verdict) → is_any_refused verdicts ≡ false → map (λ s. s.decl.context) (accepted_of verdicts) ≡ map (λ p. p.context) (map (λ v. v.program) verdicts)
+contexts_of : (verdicts : List Verdict) → is_any_refused verdicts ≡ false
+    → map (λ s. s.decl.context) (accepted_of verdicts) ≡ map (λ p. p.context) (map (λ v. v.program) verdicts)
 contexts_of [] none = refl
 contexts_of (v ∷ verdicts) none =
     map-append (λ (s : Subject). s.decl.context) (accepted_in v.judged) (accepted_of verdicts)
@@ -57,6 +60,7 @@ contexts_of (v ∷ verdicts) none =
     right false b h = h
 
 -- they declare what the script says
-pub contexts_kept : (programs : List Named) (kept : Verdicts) → AreKept programs kept → kept.refused ≡ false → map (λ s. s.decl.context) kept.accepted.items ≡ map (λ p. p.context) programs
+pub contexts_kept : (programs : List Named) (kept : Verdicts) → AreKept programs kept → kept.refused ≡ false
+    → map (λ s. s.decl.context) kept.accepted.items ≡ map (λ p. p.context) programs
 contexts_kept programs kept h none =
     ap (λ (ss : List Subject). map (λ (s : Subject). s.decl.context) ss) h.accepted ∙ (contexts_of h.verdicts (sym h.refused ∙ none) ∙ ap (λ (ps : List Named). map (λ (p : Named). p.context) ps) h.on)

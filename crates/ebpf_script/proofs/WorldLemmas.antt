@@ -10,7 +10,8 @@ no_runs before w = sym (nothing before) where
   nothing : (xs : List ℕ) → xs ++ [] ≡ xs
   nothing xs = grind (arith, common_steps)
 
-pub one_run : (before text new : List ℕ) (run : ℕ) (w : World) → text ≡ before ++ runs_below run w → new ≡ text ++ run_lines w run → new ≡ before ++ runs_below (run + 1) w
+pub one_run : (before text new : List ℕ) (run : ℕ) (w : World) → text ≡ before ++ runs_below run w → new ≡ text ++ run_lines w run
+    → new ≡ before ++ runs_below (run + 1) w
 unfolding runs_below
 one_run before text new run w h k =
     rw add-one (k ∙ (ap (λ (xs : List ℕ). xs ++ run_lines w run) h ∙ append_assoc before (runs_below run w) (run_lines w run)))

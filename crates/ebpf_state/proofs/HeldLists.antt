@@ -49,12 +49,14 @@ below_kept true n x held lt below = lt
 below_kept false n x held lt below = below
 
 -- what is below the first of an ascending list is below the first of those that a test keeps
-filter_below : (p : Held → Bool) (n : ℕ) (held : List Held) → IsBelowFirst n (calls_of held) → IsAscending (calls_of held) → IsBelowFirst n (calls_of (filter p held))
+filter_below : (p : Held → Bool) (n : ℕ) (held : List Held) → IsBelowFirst n (calls_of held) → IsAscending (calls_of held)
+    → IsBelowFirst n (calls_of (filter p held))
 filter_below p n [] below h = tt
 filter_below p n (x ∷ held) below h =
     below_kept (p x) n x (filter p held) below (filter_below p n held (lower_first n x.call (calls_of held) below (first_below x.call (calls_of held) h)) (tail_ascends x.call (calls_of held) h))
 
-ascending_kept : (keeps : Bool) (x : Held) (held : List Held) → IsBelowFirst x.call (calls_of held) → IsAscending (calls_of held) → IsAscending (kept_calls keeps x held)
+ascending_kept : (keeps : Bool) (x : Held) (held : List Held) → IsBelowFirst x.call (calls_of held) → IsAscending (calls_of held)
+    → IsAscending (kept_calls keeps x held)
 ascending_kept true x held below h = ascending-cons x.call (calls_of held) below h
 ascending_kept false x held below h = h
 

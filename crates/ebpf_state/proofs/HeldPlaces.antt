@@ -53,7 +53,8 @@ first_above : (x : Held) (held : List Held) → IsAscending (calls_of (x ∷ hel
 first_above x held h = all_above x.call held (first_below x.call (calls_of held) h) (tail_ascends x.call (calls_of held) h)
 
 -- written over the one of its call
-held_with-set : (new : Held) (held : List Held) (i : ℕ) → IsAscending (calls_of held) → i < length held → (get_or held i new).call ≡ new.call → set held i new ≡ held_with new held
+held_with-set : (new : Held) (held : List Held) (i : ℕ) → IsAscending (calls_of held) → i < length held
+    → (get_or held i new).call ≡ new.call → set held i new ≡ held_with new held
 held_with-set new [] i h lt e = absurd (omega (arith, lt))
 held_with-set new (x ∷ held) zero h lt e =
     sym (with-same new x held e ∙ with-before new held (λ k d inside. omega (arith, e, first_above x held h k d inside)))
@@ -63,7 +64,8 @@ held_with-set new (x ∷ held) (suc i) h lt e =
     ap (λ (l : List Held). x ∷ l) (held_with-set new held i (tail_ascends x.call (calls_of held) h) inside e) ∙ sym (with-behind new x held below)
 
 -- put between those of earlier and those of later calls
-held_with-insert : (new : Held) (held : List Held) (i : ℕ) → AllWithin (λ h. h.call < new.call) held 0 i → AllWithin (λ h. new.call < h.call) held i (length held) → insert held i new ≡ held_with new held
+held_with-insert : (new : Held) (held : List Held) (i : ℕ) → AllWithin (λ h. h.call < new.call) held 0 i
+    → AllWithin (λ h. new.call < h.call) held i (length held) → insert held i new ≡ held_with new held
 held_with-insert new held zero earlier later = sym (with-before new held (λ k d inside. later k d (omega arith) inside))
 held_with-insert new [] (suc i) earlier later = refl
 held_with-insert new (x ∷ held) (suc i) earlier later =
@@ -76,7 +78,8 @@ below-append : (n m : ℕ) (ks ns : List ℕ) → n < m → IsBelowFirst n ks �
 below-append n m [] ns lt below = lt
 below-append n m (k ∷ ks) ns lt below = below
 
-ascending-append : (m : ℕ) (held : List Held) (ns : List ℕ) → All (λ h. h.call < m) held → IsAscending (calls_of held) → IsAscending (m ∷ ns) → IsAscending (calls_of held ++ (m ∷ ns))
+ascending-append : (m : ℕ) (held : List Held) (ns : List ℕ) → All (λ h. h.call < m) held → IsAscending (calls_of held)
+    → IsAscending (m ∷ ns) → IsAscending (calls_of held ++ (m ∷ ns))
 ascending-append m [] ns lower h last = last
 ascending-append m (x ∷ held) ns lower h last =
     ascending-cons x.call (calls_of held ++ (m ∷ ns))
@@ -92,7 +95,8 @@ ascending-held_with new held h =
     let earlier = filter (λ (x : Held). nat_lt x.call new.call) held in
     let later = filter (λ (x : Held). nat_lt new.call x.call) held in
     let last = ascending-cons new.call (calls_of later) (first_passes new.call later (filter_passes (λ (x : Held). nat_lt new.call x.call) held)) (ascending-filter (λ (x : Held). nat_lt new.call x.call) held h) in
-    let lower : All (λ (x : Held). x.call < new.call) earlier = λ k d lt. ltb-true (get_or earlier k d).call new.call (filter_passes (λ (x : Held). nat_lt x.call new.call) held k d lt) in
+    let lower : All (λ (x : Held). x.call < new.call) earlier =
+    λ k d lt. ltb-true (get_or earlier k d).call new.call (filter_passes (λ (x : Held). nat_lt x.call new.call) held k d lt) in
     subst IsAscending (sym (map-append (λ (x : Held). x.call) earlier (new ∷ later))) (ascending-append new.call earlier (calls_of later) lower (ascending-filter (λ (x : Held). nat_lt x.call new.call) held h) last)
 
 -- ---- what a search finds
@@ -106,7 +110,8 @@ calls_rise (x ∷ held) h (suc i) (suc j) d lt inside = calls_rise held (tail_as
 -- the comparisons with a call rise along the list, as a binary search asks
 comparisons_rise : (held : List Held) (call : ℕ) → IsAscending (calls_of held) → IsNonDecreasingBy (λ h. ordering_index (nat_cmp h.call call)) held
 comparisons_rise held call h i j d le inside =
-    let rise : (get_or held i d).call ≤ (get_or held j d).call = grind (arith, calls_rise held h i j d, λ (same : i ≡ j). ap (λ (k : ℕ). (get_or held k d).call) same) in
+    let rise : (get_or held i d).call ≤ (get_or held j d).call =
+    grind (arith, calls_rise held h i j d, λ (same : i ≡ j). ap (λ (k : ℕ). (get_or held k d).call) same) in
     grind (arith, nat_tests)
 
 -- the new one is written over the one that a search found, or else put in the gap
@@ -114,7 +119,9 @@ abbrev pub placed : Held → List Held → Result ℕ ℕ → List Held
 placed new held (Ok i) = set held i new
 placed new held (Err i) = insert held i new
 
-pub held_with-placed : (new : Held) (held : List Held) (found : Result ℕ ℕ) → IsAscending (calls_of held) → IsSearchInRange found (length held) → IsBinarySearchResult (λ h. nat_cmp h.call new.call) held found → placed new held found ≡ held_with new held
+pub held_with-placed : (new : Held) (held : List Held) (found : Result ℕ ℕ) → IsAscending (calls_of held)
+    → IsSearchInRange found (length held) → IsBinarySearchResult (λ h. nat_cmp h.call new.call) held found
+    → placed new held found ≡ held_with new held
 held_with-placed new held (Ok i) h inside same =
     held_with-set new held i h inside (ranked (get_or held i new).call new.call Equal (sym (same new)))
 held_with-placed new held (Err i) h inside gap =

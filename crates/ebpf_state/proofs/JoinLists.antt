@@ -10,7 +10,8 @@ joined_list-length join [] t e = refl
 joined_list-length join (a ∷ s) [] e = absurd (omega arith)
 joined_list-length join (a ∷ s) (b ∷ t) e = omega (arith, joined_list-length join s t (omega arith))
 
-pub joined_list-index : {X : Type 0} (join : X → X → X) (d : X) (s t : List X) (k : ℕ) → length s ≡ length t → k < length s → get_or (joined_list join s t) k d ≡ join (get_or s k d) (get_or t k d)
+pub joined_list-index : {X : Type 0} (join : X → X → X) (d : X) (s t : List X) (k : ℕ) → length s ≡ length t → k < length s
+    → get_or (joined_list join s t) k d ≡ join (get_or s k d) (get_or t k d)
 joined_list-index join d [] t k e lt = absurd (omega arith)
 joined_list-index join d (a ∷ s) [] k e lt = absurd (omega arith)
 joined_list-index join d (a ∷ s) (b ∷ t) zero e lt = refl
@@ -24,10 +25,13 @@ pub record IsJoining {X : Type 0} (join : X → X → X) (P : X → Type 0) (d :
   pub done : (k : ℕ) → k < i → get_or joined k d ≡ join (get_or left k d) (get_or right k d)
   pub rest : (k : ℕ) → i ≤ k → get_or joined k d ≡ get_or left k d
 
-pub joining_none : {X : Type 0} (join : X → X → X) (P : X → Type 0) (d : X) (left right : List X) → length left ≡ length right → All P left → IsJoining join P d left right left 0
+pub joining_none : {X : Type 0} (join : X → X → X) (P : X → Type 0) (d : X) (left right : List X) → length left ≡ length right
+    → All P left → IsJoining join P d left right left 0
 joining_none join P d left right e proper = record { whole = refl; same = e; proper = proper; done = λ k lt. absurd (omega arith); rest = λ k le. refl }
 
-pub joining_more : {X : Type 0} (join : X → X → X) (P : X → Type 0) (d : X) (left right joined : List X) (i : ℕ) (x : X) → i < length left → IsJoining join P d left right joined i → x ≡ join (get_or joined i d) (get_or right i d) → P x → IsJoining join P d left right (set joined i x) (i + 1)
+pub joining_more : {X : Type 0} (join : X → X → X) (P : X → Type 0) (d : X) (left right joined : List X) (i : ℕ) (x : X)
+    → i < length left → IsJoining join P d left right joined i → x ≡ join (get_or joined i d) (get_or right i d) → P x
+    → IsJoining join P d left right (set joined i x) (i + 1)
 joining_more join P d left right joined i x lt h e p =
     let inside : i < length joined = omega (arith, h.whole) in
     record {
@@ -40,7 +44,8 @@ joining_more join P d left right joined i x lt h e p =
       rest = λ k le. let other : k ≢ i = omega arith in get_or-set_other joined i k x d other ∙ h.rest k (omega arith);
     }
 
-pub joining_all : {X : Type 0} (join : X → X → X) (P : X → Type 0) (d : X) (left right joined : List X) (i : ℕ) → length left ≡ i → IsJoining join P d left right joined i → joined ≡ joined_list join left right
+pub joining_all : {X : Type 0} (join : X → X → X) (P : X → Type 0) (d : X) (left right joined : List X) (i : ℕ) → length left ≡ i
+    → IsJoining join P d left right joined i → joined ≡ joined_list join left right
 joining_all join P d left right joined i e h =
     let long = joined_list-length join left right h.same in
     ext_get_or d joined (joined_list join left right) (omega (arith, h.whole)) (λ k lt. h.done k (omega (arith, h.whole)) ∙ sym (joined_list-index join d left right k h.same (omega (arith, h.whole))))
@@ -58,8 +63,10 @@ IsChanging f P d old changed i = IsJoining (λ x y. f x) P d old old changed i
 pub changing_none : {X : Type 0} (f : X → X) (P : X → Type 0) (d : X) (old : List X) → All P old → IsChanging f P d old old 0
 changing_none f P d old proper = joining_none (λ x y. f x) P d old old refl proper
 
-pub changing_more : {X : Type 0} (f : X → X) (P : X → Type 0) (d : X) (old changed : List X) (i : ℕ) (x : X) → i < length changed → IsChanging f P d old changed i → x ≡ f (get_or changed i d) → P x → IsChanging f P d old (set changed i x) (i + 1)
+pub changing_more : {X : Type 0} (f : X → X) (P : X → Type 0) (d : X) (old changed : List X) (i : ℕ) (x : X) → i < length changed
+    → IsChanging f P d old changed i → x ≡ f (get_or changed i d) → P x → IsChanging f P d old (set changed i x) (i + 1)
 changing_more f P d old changed i x lt h e p = joining_more (λ x y. f x) P d old old changed i x (omega (arith, lt, h.whole)) h e p
 
-pub changing_all : {X : Type 0} (f : X → X) (P : X → Type 0) (d : X) (old changed : List X) (i : ℕ) → length changed ≡ i → IsChanging f P d old changed i → changed ≡ map f old
+pub changing_all : {X : Type 0} (f : X → X) (P : X → Type 0) (d : X) (old changed : List X) (i : ℕ) → length changed ≡ i
+    → IsChanging f P d old changed i → changed ≡ map f old
 changing_all f P d old changed i e h = joining_all (λ x y. f x) P d old old changed i (omega (arith, e, h.whole)) h ∙ joined_alone f old

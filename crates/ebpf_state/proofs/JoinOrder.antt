@@ -84,10 +84,12 @@ kept_twice false false x y e = refl
 
 value_exchanges : (a b c : Abs) → joined_value (joined_value a b) c ≡ joined_value (joined_value a c) b
 value_exchanges (Num a) (Num b) (Num c) = ap Num (hull_exchanges a b c)
-value_exchanges (Stk a) (Stk b) (Stk c) = joined_kept (int_eq a b) (Stk a) (Stk c) ∙ kept_twice (int_eq a b) (int_eq a c) (Stk a) (Stk a) refl ∙ sym (joined_kept (int_eq a c) (Stk a) (Stk b))
+value_exchanges (Stk a) (Stk b) (Stk c) =
+    joined_kept (int_eq a b) (Stk a) (Stk c) ∙ kept_twice (int_eq a b) (int_eq a c) (Stk a) (Stk a) refl ∙ sym (joined_kept (int_eq a c) (Stk a) (Stk b))
 value_exchanges (Ctx a l) (Ctx b m) (Ctx c n) = rw (min_exchanges a b c, max_exchanges l m n) refl
 value_exchanges (Ob r a l) (Ob q b m) (Ob s c n) = joined_kept (eqb r q) (Ob r (int_min a b) (int_max l m)) (Ob s c n) ∙ kept_twice (eqb r q) (eqb r s) (Ob r (int_min (int_min a b) c) (int_max (int_max l m) n)) (Ob r (int_min (int_min a c) b) (int_max (int_max l n) m)) (rw (min_exchanges a b c, max_exchanges l m n) refl) ∙ sym (joined_kept (eqb r s) (Ob r (int_min a c) (int_max l n)) (Ob q b m))
-value_exchanges (May r) (May q) (May s) = joined_kept (eqb r q) (May r) (May s) ∙ kept_twice (eqb r q) (eqb r s) (May r) (May r) refl ∙ sym (joined_kept (eqb r s) (May r) (May q))
+value_exchanges (May r) (May q) (May s) =
+    joined_kept (eqb r q) (May r) (May s) ∙ kept_twice (eqb r q) (eqb r s) (May r) (May r) refl ∙ sym (joined_kept (eqb r s) (May r) (May q))
 value_exchanges _ _ _ = search rules
 
 abbrev is_number : Abs → Bool
@@ -179,7 +181,8 @@ list_commutes join h [] (y ∷ ys) = refl
 list_commutes join h (x ∷ xs) [] = refl
 list_commutes join h (x ∷ xs) (y ∷ ys) = rw (h x y, list_commutes join h xs ys) refl
 
-list_exchanges : {X : Type 0} (join : X → X → X) → ((x y z : X) → join (join x y) z ≡ join (join x z) y) → (xs ys zs : List X) → joined_list join (joined_list join xs ys) zs ≡ joined_list join (joined_list join xs zs) ys
+list_exchanges : {X : Type 0} (join : X → X → X) → ((x y z : X) → join (join x y) z ≡ join (join x z) y) → (xs ys zs : List X)
+    → joined_list join (joined_list join xs ys) zs ≡ joined_list join (joined_list join xs zs) ys
 list_exchanges join h [] ys zs = refl
 list_exchanges join h (x ∷ xs) [] [] = refl
 list_exchanges join h (x ∷ xs) [] (z ∷ zs) = refl
@@ -197,7 +200,8 @@ same_held-equal : (a b : List Held) → is_same_held a b ≡ true → a ≡ b
 same_held-equal [] [] e = refl
 same_held-equal [] (b ∷ bs) e = absurd (cc)
 same_held-equal (a ∷ as') [] e = absurd (cc)
-same_held-equal (a ∷ as') (b ∷ bs) e = let both = and_parts (is_same_reference a b) (is_same_held as' bs) e in rw (same_reference-equal a b both.0, same_held-equal as' bs both.1) refl
+same_held-equal (a ∷ as') (b ∷ bs) e =
+    let both = and_parts (is_same_reference a b) (is_same_held as' bs) e in rw (same_reference-equal a b both.0, same_held-equal as' bs both.1) refl
 
 same_held-self : (a : List Held) → is_same_held a a ≡ true
 same_held-self [] = refl
@@ -220,10 +224,12 @@ pub state_commutes : (a b : StateView) → joined_state a b ≡ joined_state b a
 state_commutes a b = kept_alike (is_same_held a.held b.held) (is_same_held b.held a.held) (Some (joined_facts a b)) (Some (joined_facts b a)) None (same_held_commutes a.held b.held) (λ e. ap Some (facts_commute a b e))
 
 facts_exchange : (a b c : StateView) → joined_facts (joined_facts a b) c ≡ joined_facts (joined_facts a c) b
-facts_exchange a b c = rw (list_exchanges joined_value value_exchanges a.registers b.registers c.registers, list_exchanges joined_word word_exchanges a.words b.words c.words) refl
+facts_exchange a b c =
+    rw (list_exchanges joined_value value_exchanges a.registers b.registers c.registers, list_exchanges joined_word word_exchanges a.words b.words c.words) refl
 
 -- the join holds the first state's references: so two tests on those decide, in either order
-then_twice : (s t : Bool) (a b c : StateView) → s ≡ is_same_held a.held b.held → t ≡ is_same_held a.held c.held → then_joined (cond s (Some (joined_facts a b)) None) c ≡ then_joined (cond t (Some (joined_facts a c)) None) b
+then_twice : (s t : Bool) (a b c : StateView) → s ≡ is_same_held a.held b.held → t ≡ is_same_held a.held c.held
+    → then_joined (cond s (Some (joined_facts a b)) None) c ≡ then_joined (cond t (Some (joined_facts a c)) None) b
 then_twice true true a b c es et = rw (sym es, sym et, facts_exchange a b c) refl
 then_twice true false a b c es et = rw (sym et) refl
 then_twice false true a b c es et = rw (sym es) refl

@@ -19,7 +19,8 @@ pub length-all_words : (words : List Word) → length words ≤ 64 → length (a
 length-all_words words few = length-append (replicate (64 - length words) (Bytes 0)) words ∙ omega (arith, length-replicate (64 - length words) (Bytes 0), few)
 
 -- the join of two stacks, from the join of the last words of one
-pub joined_below : (n : ℕ) (left right : List Word) → n ≤ length right → replicate n (Bytes 0) ++ joined_list joined_word left (drop n right) ≡ joined_list joined_word (replicate n (Bytes 0) ++ left) right
+pub joined_below : (n : ℕ) (left right : List Word) → n ≤ length right
+    → replicate n (Bytes 0) ++ joined_list joined_word left (drop n right) ≡ joined_list joined_word (replicate n (Bytes 0) ++ left) right
 joined_below zero left right le = refl
 joined_below (suc n) left [] le = absurd (omega arith)
 joined_below (suc n) left (r ∷ rs) le =
@@ -32,7 +33,8 @@ nothing_joined (Spill Unset) = refl
 nothing_joined (Spill _) = refl
 
 -- the same, from the last words of the other
-joined_above : (n : ℕ) (left right : List Word) → n ≤ length left → replicate n (Bytes 0) ++ joined_list joined_word (drop n left) right ≡ joined_list joined_word left (replicate n (Bytes 0) ++ right)
+joined_above : (n : ℕ) (left right : List Word) → n ≤ length left
+    → replicate n (Bytes 0) ++ joined_list joined_word (drop n left) right ≡ joined_list joined_word left (replicate n (Bytes 0) ++ right)
 joined_above zero left right le = refl
 joined_above (suc n) [] right le = absurd (omega arith)
 joined_above (suc n) (l ∷ ls) right le =
@@ -63,7 +65,10 @@ dropped (suc m) (suc n) words = rw (low, high) (dropped m n words)
     high = omega arith
 
 -- the join of two stacks, from that of the words that both keep
-pub all_words-joined : (left right joined : List Word) (below beyond : ℕ) → length left ≤ 64 → length right ≤ 64 → below ≡ length left - length right → beyond ≡ length right - length left → length joined ≡ length left → joined ≡ replicate below (Bytes 0) ++ joined_list joined_word (drop below left) (drop beyond right) → all_words joined ≡ joined_list joined_word (all_words left) (all_words right)
+pub all_words-joined : (left right joined : List Word) (below beyond : ℕ) → length left ≤ 64 → length right ≤ 64
+    → below ≡ length left - length right → beyond ≡ length right - length left → length joined ≡ length left
+    → joined ≡ replicate below (Bytes 0) ++ joined_list joined_word (drop below left) (drop beyond right)
+    → all_words joined ≡ joined_list joined_word (all_words left) (all_words right)
 all_words-joined left right joined below beyond few_left few_right is_below is_beyond same e =
     let all : length (all_words right) ≡ 64 = length-all_words right few_right in
     let fits : 64 - length left ≤ length (all_words right) = omega (arith, all) in
@@ -92,7 +97,8 @@ all_words-map f words same =
 -- more of the words that nothing is known of are kept
 pub all_words-kept : (words : List Word) (j : ℕ) → j + length words ≤ 64 → all_words (replicate j (Bytes 0) ++ words) ≡ all_words words
 all_words-kept words j le =
-    let long : length (replicate j (Bytes 0) ++ words) ≡ j + length words = length-append (replicate j (Bytes 0)) words ∙ ap (λ (n : ℕ). n + length words) (length-replicate j (Bytes 0)) in
+    let long : length (replicate j (Bytes 0) ++ words) ≡ j + length words =
+    length-append (replicate j (Bytes 0)) words ∙ ap (λ (n : ℕ). n + length words) (length-replicate j (Bytes 0)) in
     let count : (64 - (j + length words)) + j ≡ 64 - length words = omega (arith, le) in
     ap (λ (n : ℕ). replicate (64 - n) (Bytes 0) ++ (replicate j (Bytes 0) ++ words)) long
     ∙ (sym (append_assoc (replicate (64 - (j + length words)) (Bytes 0)) (replicate j (Bytes 0)) words)
@@ -100,7 +106,8 @@ all_words-kept words j le =
     ∙ ap (λ (n : ℕ). replicate n (Bytes 0) ++ words) count))
 
 -- a word among those that are kept is written
-pub all_words-set : (words : List Word) (w : ℕ) (v : Word) → 64 - length words ≤ w → all_words (set words (w - (64 - length words)) v) ≡ set (all_words words) w v
+pub all_words-set : (words : List Word) (w : ℕ) (v : Word) → 64 - length words ≤ w
+    → all_words (set words (w - (64 - length words)) v) ≡ set (all_words words) w v
 all_words-set words w v le =
     ap (λ (n : ℕ). replicate (64 - n) (Bytes 0) ++ set words (w - (64 - length words)) v) (length-set words (w - (64 - length words)) v)
     ∙ sym (set-append_right (replicate (64 - length words) (Bytes 0)) words (64 - length words) w v (length-replicate (64 - length words) (Bytes 0)) le)

@@ -16,7 +16,8 @@ is_read p slot = sym (unwrap_or-slice_get p slot None) ∙ same (slice_get p slo
   same (Some o) = refl
 
 -- the line of this slot, and those of the later ones
-lines_here : (slot : ℕ) (p : List (Option Insn)) → slot < length p → lines_from slot (drop slot p) ≡ line_at slot (insn_at p slot) ++ lines_from (slot + 1) (drop (slot + 1) p)
+lines_here : (slot : ℕ) (p : List (Option Insn)) → slot < length p
+    → lines_from slot (drop slot p) ≡ line_at slot (insn_at p slot) ++ lines_from (slot + 1) (drop (slot + 1) p)
 unfolding lines_from
 lines_here slot p inside =
     at_drop_more (lines_from slot) p slot None inside
@@ -31,7 +32,8 @@ slot_more before text slot p inside written h =
     ∙ (ap (λ (x : List ℕ). before ++ x) (sym (lines_here slot p inside)) ∙ h))
 
 -- no slot is left
-pub all_lines : (text : List ℕ) (slot : ℕ) (p : List (Option Insn)) → length p ≤ slot → text ++ lines_from slot (drop slot p) ≡ listing_of p → text ≡ listing_of p
+pub all_lines : (text : List ℕ) (slot : ℕ) (p : List (Option Insn)) → length p ≤ slot
+    → text ++ lines_from slot (drop slot p) ≡ listing_of p → text ≡ listing_of p
 unfolding lines_from
 all_lines text slot p past h = sym (nothing text) ∙ (ap (λ (x : List ℕ). text ++ x) (sym (at_drop_all (lines_from slot) p slot past)) ∙ h) where
   nothing : (xs : List ℕ) → xs ++ [] ≡ xs

@@ -100,17 +100,20 @@ joined_word_bounded slot (Bytes m) (Spill (Num b)) h k = tt
 joined_word_bounded slot (Spill a) (Spill b) h k = spill_bounded slot (joined_value a b) (joined_bounded slot a b h k)
 joined_word_bounded slot _ _ h k = tt
 
-joined_all : {X : Type 0} (join : X → X → X) (P : X → Type 0) (s t : List X) → ((a b : X) → P a → P b → P (join a b)) → All P s → All P t → All P (joined_list join s t)
+joined_all : {X : Type 0} (join : X → X → X) (P : X → Type 0) (s t : List X) → ((a b : X) → P a → P b → P (join a b)) → All P s
+    → All P t → All P (joined_list join s t)
 joined_all join P [] t keeps h k = λ i d lt. absurd (omega (arith, lt))
 joined_all join P (a ∷ s) [] keeps h k = λ i d lt. absurd (omega (arith, lt))
 joined_all join P (a ∷ s) (b ∷ t) keeps h k =
     All-cons P (join a b) (joined_list join s t) (keeps a b (h 0 a (omega arith)) (k 0 b (omega arith)))
     (joined_all join P s t keeps (All-tail P a s h) (All-tail P b t k))
 
-pub joined_registers_bounded : (slot : ℕ) (s t : List Abs) → All (IsBoundedValue slot) s → All (IsBoundedValue slot) t → All (IsBoundedValue slot) (joined_list joined_value s t)
+pub joined_registers_bounded : (slot : ℕ) (s t : List Abs) → All (IsBoundedValue slot) s → All (IsBoundedValue slot) t
+    → All (IsBoundedValue slot) (joined_list joined_value s t)
 joined_registers_bounded slot s t h k = joined_all joined_value (IsBoundedValue slot) s t (joined_bounded slot) h k
 
-pub joined_words_bounded : (slot : ℕ) (s t : List Word) → All (IsBoundedWord slot) s → All (IsBoundedWord slot) t → All (IsBoundedWord slot) (joined_list joined_word s t)
+pub joined_words_bounded : (slot : ℕ) (s t : List Word) → All (IsBoundedWord slot) s → All (IsBoundedWord slot) t
+    → All (IsBoundedWord slot) (joined_list joined_word s t)
 joined_words_bounded slot s t h k = joined_all joined_word (IsBoundedWord slot) s t (joined_word_bounded slot) h k
 
 -- ---- answers that were compared with null
@@ -121,7 +124,8 @@ answer_bounded slot call false = tt
 
 settled_bounded : (slot call : ℕ) (null : Bool) (a : Abs) → IsBoundedValue slot a → IsBoundedValue slot (settled_value call null a)
 settled_bounded slot call null (Num a) h = h
-settled_bounded slot call null (May r) h = cond_both (r == call) (answer_known call null) (May r) (IsBoundedValue slot) (λ e. answer_bounded slot call null) (λ e. h)
+settled_bounded slot call null (May r) h =
+    cond_both (r == call) (answer_known call null) (May r) (IsBoundedValue slot) (λ e. answer_bounded slot call null) (λ e. h)
 settled_bounded slot call null _ h = tt
 
 settled_word_bounded : (slot call : ℕ) (null : Bool) (w : Word) → IsBoundedWord slot w → IsBoundedWord slot (settled_word call null w)
@@ -151,9 +155,11 @@ forgotten_word_bounded slot call (Bytes mask) h = tt
 pub forgotten-full : (slot call : ℕ) (s : StateView) → IsFull slot s → IsFull slot (forgotten call s)
 forgotten-full slot call s h = record {
   whole = length-map s.registers (forgotten_value call) ∙ h.whole;
-  bounded = All-map (IsBoundedValue slot) (forgotten_value call) s.registers (λ k d lt. forgotten_bounded slot call (get_or s.registers k d) (h.bounded k d lt));
+  bounded =
+      All-map (IsBoundedValue slot) (forgotten_value call) s.registers (λ k d lt. forgotten_bounded slot call (get_or s.registers k d) (h.bounded k d lt));
   deep = length-map s.words (forgotten_word call) ∙ h.deep;
-  bounded_words = All-map (IsBoundedWord slot) (forgotten_word call) s.words (λ k d lt. forgotten_word_bounded slot call (get_or s.words k d) (h.bounded_words k d lt));
+  bounded_words =
+      All-map (IsBoundedWord slot) (forgotten_word call) s.words (λ k d lt. forgotten_word_bounded slot call (get_or s.words k d) (h.bounded_words k d lt));
 }
 
 -- ---- stores
@@ -180,7 +186,8 @@ written_bounded slot place bytes w words h =
     set_all (IsBoundedWord slot) words w (written (covered place bytes w) (word_of words w))
     (cond_both (covered place bytes w == 0) (word_of words w) (overwritten (covered place bytes w) (word_of words w)) (IsBoundedWord slot) (λ e. word_bounded slot words w h) (λ e. overwritten_bounded slot (covered place bytes w) (word_of words w))) h
 
-stored_words_bounded : (slot place bytes : ℕ) (value : Abs) (words : List Word) → IsBoundedValue slot value → All (IsBoundedWord slot) words → All (IsBoundedWord slot) (stored_words place bytes value words)
+stored_words_bounded : (slot place bytes : ℕ) (value : Abs) (words : List Word) → IsBoundedValue slot value
+    → All (IsBoundedWord slot) words → All (IsBoundedWord slot) (stored_words place bytes value words)
 stored_words_bounded slot place bytes value words b h =
     cond_both (is_whole_word place bytes) (set words (place / 8) (spill_or_nothing value)) (written_at place bytes (place / 8 + 1) (written_at place bytes (place / 8) words)) (All (IsBoundedWord slot))
     (λ e. set_all (IsBoundedWord slot) words (place / 8) (spill_or_nothing value) (spill_bounded slot value b) h)
@@ -197,7 +204,8 @@ abbrev pub IsFullStore : ℕ → Result StateView StackFault → Type 0
 IsFullStore slot (Ok s) = IsFull slot s
 IsFullStore slot (Err fault) = Unit {0}
 
-pub stored-full : (slot : ℕ) (s : StateView) (size : Size) (offset : ℤ) (value : Abs) → IsFull slot s → IsBoundedValue slot value → IsFullStore slot (stored s size offset value)
+pub stored-full : (slot : ℕ) (s : StateView) (size : Size) (offset : ℤ) (value : Abs) → IsFull slot s → IsBoundedValue slot value
+    → IsFullStore slot (stored s size offset value)
 stored-full slot s size offset value h b = at (place_of offset (bytes_in size)) where
   done : (place : ℕ) → IsFull slot (record s { words = stored_words place (bytes_in size) value s.words })
   done place = record { whole = h.whole; bounded = h.bounded; deep = stored_words_length place (bytes_in size) value s.words ∙ h.deep; bounded_words = stored_words_bounded slot place (bytes_in size) value s.words b h.bounded_words }
@@ -223,7 +231,8 @@ number_bounded : (slot : ℕ) (fault : Option StackFault) (size : Size) (signed 
 number_bounded slot None size signed = loaded_range_bounded size signed
 number_bounded slot (Some fault) size signed = tt
 
-loaded_word_bounded : (slot : ℕ) (w : Word) (fault : Option StackFault) (size : Size) (signed : Bool) → IsBoundedWord slot w → IsBoundedLoad slot (loaded_word w fault (bytes_in size) signed)
+loaded_word_bounded : (slot : ℕ) (w : Word) (fault : Option StackFault) (size : Size) (signed : Bool) → IsBoundedWord slot w
+    → IsBoundedLoad slot (loaded_word w fault (bytes_in size) signed)
 loaded_word_bounded slot (Spill a) fault size signed h = h
 loaded_word_bounded slot (Bytes mask) fault size signed h = number_bounded slot fault size signed
 

@@ -39,7 +39,8 @@ along_none : (s : Option StateView) (from : ℕ) → along s false from ≡ []
 along_none None from = refl
 along_none (Some s) from = refl
 
-pub sent_nowhere : (i : Option Insn) (p : List (Option Insn)) (slot to : ℕ) (here : EntryState) (before : List Comer) → leads_to (edges_at p slot).fall to ≡ false → leads_to (edges_at p slot).jump to ≡ false
+pub sent_nowhere : (i : Option Insn) (p : List (Option Insn)) (slot to : ℕ) (here : EntryState) (before : List Comer)
+    → leads_to (edges_at p slot).fall to ≡ false → leads_to (edges_at p slot).jump to ≡ false
     → before ≡ before ++ sent_by i (edges_at p slot) slot to here
 sent_nowhere i p slot to here before f j = sym (append-nil before) ∙ ap (λ (cs : List Comer). before ++ cs) (sym (none_sent i here)) where
   none_sent : (i : Option Insn) (here : EntryState) → sent_by i (edges_at p slot) slot to here ≡ []
@@ -106,7 +107,8 @@ looked_at_by_trace s t h = from_verdict (verdict s) refl t.entries.items h.entri
   of_length : (n : ℕ) (es : List EntryState) → es ≡ entries_below s.program n → length es ≡ n
   of_length n es e = ap length e ∙ length-below s.program n
 
-  from_verdict : (v : Option (ℕ × VerifyCode)) → verdict s ≡ v → (es : List EntryState) → es ≡ entries_below s.program (looked_at v (length s.program)) → AreLookedAt s es
+  from_verdict : (v : Option (ℕ × VerifyCode)) → verdict s ≡ v → (es : List EntryState)
+      → es ≡ entries_below s.program (looked_at v (length s.program)) → AreLookedAt s es
   from_verdict None is es e =
       let len = of_length (length s.program) es e in record {
         all = e ∙ ap (entries_below s.program) (sym len);
@@ -122,11 +124,13 @@ looked_at_by_trace s t h = from_verdict (verdict s) refl t.entries.items h.entri
         fine = λ slot lt. none_below (refusal_at s) at low.before slot (omega (arith, len));
       }
 
-pub entry_looked_at : (s : Subject) (entries : List EntryState) (slot : ℕ) (d : EntryState) → AreLookedAt s entries → slot < length entries → get_or entries slot d ≡ entry_of s.program slot
+pub entry_looked_at : (s : Subject) (entries : List EntryState) (slot : ℕ) (d : EntryState) → AreLookedAt s entries
+    → slot < length entries → get_or entries slot d ≡ entry_of s.program slot
 entry_looked_at s entries slot d h lt = ap (λ (es : List EntryState). get_or es slot d) h.all ∙ entry_below s.program (length entries) slot d lt
 
 -- a slot before another that was looked at is not refused
-pub refusal_below : (s : Subject) (entries : List EntryState) (slot to : ℕ) (i : Insn) (known : StateView) → AreLookedAt s entries → slot < to → to < length entries
+pub refusal_below : (s : Subject) (entries : List EntryState) (slot to : ℕ) (i : Insn) (known : StateView) → AreLookedAt s entries
+    → slot < to → to < length entries
     → insn_at s.program slot ≡ Some i → Known known ≡ entry_of s.program slot → refusal s.decl s.rows i known ≡ None
 refusal_below s entries slot to i known h below inside at here =
     let fine : refusal_in s.decl s.rows (insn_at s.program slot) (entry_of s.program slot) ≡ None = h.fine slot (omega arith) in
@@ -135,14 +139,17 @@ refusal_below s entries slot to i known h below inside at here =
 -- ---- one after another
 
 -- behind what was there, what came by the jump and then what came by the fall
-pub added_both : {A E : Type 0} (result : Result A E) (before one two jumped fallen x y : List Comer) → one ≡ before ++ jumped → OnOk result (two ≡ one ++ fallen) → jumped ≡ x → fallen ≡ y
+pub added_both : {A E : Type 0} (result : Result A E) (before one two jumped fallen x y : List Comer) → one ≡ before ++ jumped
+    → OnOk result (two ≡ one ++ fallen) → jumped ≡ x → fallen ≡ y
     → OnOk result (two ≡ before ++ (x ++ y))
 added_both (Err e) before one two jumped fallen x y a b j f = tt
 added_both (Ok r) before one two jumped fallen x y a b j f = b ∙ (rw (a, j, f) (append_assoc before x y))
 
 -- what an instruction sends to two slots to which nothing came
-came_at : (i : Insn) (e : Edges) (from k : ℕ) (s copy : StateView) (old new : List EntryState) (here : EntryState) → copy ≡ s → old ≡ Unreached ∷ Unreached ∷ [] → length new ≡ length old
-    → ChangesEach old new (λ t. with_sent (Some i) e from t (Known copy)) → k < 2 → get_or (Unreached ∷ Unreached ∷ []) k Unreached ≡ Unreached → here ≡ get_or new k here
+came_at : (i : Insn) (e : Edges) (from k : ℕ) (s copy : StateView) (old new : List EntryState) (here : EntryState) → copy ≡ s
+    → old ≡ Unreached ∷ Unreached ∷ [] → length new ≡ length old
+    → ChangesEach old new (λ t. with_sent (Some i) e from t (Known copy)) → k < 2
+    → get_or (Unreached ∷ Unreached ∷ []) k Unreached ≡ Unreached → here ≡ get_or new k here
     → here ≡ with_edge (after_fall from i s) (leads_to e.fall k) (with_edge (after_jump i s) (leads_to e.jump k) Unreached)
 came_at i e from k s copy old new here is two len sent small nothing at =
     let two_long : length old ≡ 2 = ap length two in
@@ -151,13 +158,15 @@ came_at i e from k s copy old new here is two len sent small nothing at =
     ∙ (ap (λ (es : List EntryState). with_sent (Some i) e from k (Known s) (get_or es k Unreached)) two
     ∙ ap (with_sent (Some i) e from k (Known s)) nothing))))
 
-pub came_to_first : (i : Insn) (e : Edges) (from : ℕ) (s copy : StateView) (old new : List EntryState) (here : EntryState) → copy ≡ s → old ≡ Unreached ∷ Unreached ∷ [] → length new ≡ length old
+pub came_to_first : (i : Insn) (e : Edges) (from : ℕ) (s copy : StateView) (old new : List EntryState) (here : EntryState)
+    → copy ≡ s → old ≡ Unreached ∷ Unreached ∷ [] → length new ≡ length old
     → ChangesEach old new (λ t. with_sent (Some i) e from t (Known copy)) → here ≡ get_or new 0 here
     → here ≡ with_edge (after_fall from i s) (leads_to e.fall 0) (with_edge (after_jump i s) (leads_to e.jump 0) Unreached)
 came_to_first i e from s copy old new here is two len sent at = came_at i e from 0 s copy old new here is two len sent (omega arith) refl at
 
 -- the first of them is taken out before
-pub came_to_second : (i : Insn) (e : Edges) (from : ℕ) (s copy : StateView) (old new : List EntryState) (here gone : EntryState) → copy ≡ s → old ≡ Unreached ∷ Unreached ∷ [] → length new ≡ length old
+pub came_to_second : (i : Insn) (e : Edges) (from : ℕ) (s copy : StateView) (old new : List EntryState) (here gone : EntryState)
+    → copy ≡ s → old ≡ Unreached ∷ Unreached ∷ [] → length new ≡ length old
     → ChangesEach old new (λ t. with_sent (Some i) e from t (Known copy)) → here ≡ get_or (set new 0 gone) 1 here
     → here ≡ with_edge (after_fall from i s) (leads_to e.fall 1) (with_edge (after_jump i s) (leads_to e.jump 1) Unreached)
 came_to_second i e from s copy old new here gone is two len sent at =

@@ -10,8 +10,12 @@ use Rattle.ebpf_verify.specs.CallCount.{is_counted}
 there : (p : List (Option Insn)) (slot : ℕ) → slot < length p → insn_at p slot ≡ get_or p slot None
 there p slot lt = ap flattened (slice_get-get_or p slot None lt)
 
-pub counted_call : (counted : Counted) (p : List (Option Insn)) (slot : ℕ) → slot < length p → is_counted counted (insn_at p slot) ≡ true → count_by (is_counted counted) (take (slot + 1) p) ≡ count_by (is_counted counted) (take slot p) + 1
+pub counted_call : (counted : Counted) (p : List (Option Insn)) (slot : ℕ) → slot < length p
+    → is_counted counted (insn_at p slot) ≡ true
+    → count_by (is_counted counted) (take (slot + 1) p) ≡ count_by (is_counted counted) (take slot p) + 1
 counted_call counted p slot lt is = count_by_more_yes (is_counted counted) p slot None lt (ap (is_counted counted) (sym (there p slot lt)) ∙ is)
 
-pub counted_other : (counted : Counted) (p : List (Option Insn)) (slot : ℕ) → slot < length p → is_counted counted (insn_at p slot) ≡ false → count_by (is_counted counted) (take (slot + 1) p) ≡ count_by (is_counted counted) (take slot p)
+pub counted_other : (counted : Counted) (p : List (Option Insn)) (slot : ℕ) → slot < length p
+    → is_counted counted (insn_at p slot) ≡ false
+    → count_by (is_counted counted) (take (slot + 1) p) ≡ count_by (is_counted counted) (take slot p)
 counted_other counted p slot lt is = count_by_more_no (is_counted counted) p slot None lt (ap (is_counted counted) (sym (there p slot lt)) ∙ is)

@@ -26,8 +26,10 @@ target_there p k z (Some to) e =
     behind : (to : ℕ) → nat_le to k ≡ false → k < to
     behind to e = grind (arith, nat_tests)
 
-pub jump_leads : (p : List (Option Insn)) (k : ℕ) (i : Insn) (z : ℤ) → flow_fault p ≡ None → insn_at p k ≡ Some i → displacement_of i ≡ Some z → (to : ℕ) × (jump_of i k ≡ Some to) × (k < to)
+pub jump_leads : (p : List (Option Insn)) (k : ℕ) (i : Insn) (z : ℤ) → flow_fault p ≡ None → insn_at p k ≡ Some i
+    → displacement_of i ≡ Some z → (to : ℕ) × (jump_of i k ≡ Some to) × (k < to)
 jump_leads p k i z fine at by =
-    let here : insn_fault p k (Some i) ≡ None = subst (λ (o : Option Insn). insn_fault p k o ≡ None) at (none_below (flow_fault_at p) (length p) fine k (insn_at_within p k i at)) in
+    let here : insn_fault p k (Some i) ≡ None =
+    subst (λ (o : Option Insn). insn_fault p k o ≡ None) at (none_below (flow_fault_at p) (length p) fine k (insn_at_within p k i at)) in
     let jumps = first_none (jump_fault p k (displacement_of i) (jump_of i k)) (fall_fault p k i) here in
     target_there p k z (jump_of i k) (subst (λ (o : Option ℤ). jump_fault p k o (jump_of i k) ≡ None) by jumps)

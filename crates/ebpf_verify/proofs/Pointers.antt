@@ -19,7 +19,8 @@ low_half lo n hi t l h = (grind (arith, ints, nat_tests), grind (arith, ints, na
 high_half : (lo n hi : ℕ) → nat_le (2 ^ 63) lo ≡ true → lo ≤ n → n ≤ hi → (signed_of lo ≤ℤ signed_of n) × (signed_of n ≤ℤ signed_of hi)
 high_half lo n hi t l h = (grind (arith, ints, nat_tests), grind (arith, ints, nat_tests))
 
-in_one_half : (lo n hi : ℕ) → (nat_lt hi (2 ^ 63) ≡ true) ⊎ (nat_le (2 ^ 63) lo ≡ true) → lo ≤ n → n ≤ hi → (signed_of lo ≤ℤ signed_of n) × (signed_of n ≤ℤ signed_of hi)
+in_one_half : (lo n hi : ℕ) → (nat_lt hi (2 ^ 63) ≡ true) ⊎ (nat_le (2 ^ 63) lo ≡ true) → lo ≤ n → n ≤ hi
+    → (signed_of lo ≤ℤ signed_of n) × (signed_of n ≤ℤ signed_of hi)
 in_one_half lo n hi (inl t) l h = low_half lo n hi t l h
 in_one_half lo n hi (inr t) l h = high_half lo n hi t l h
 

@@ -59,11 +59,13 @@ pub operand_bounded : (slot : ℕ) (s : StateView) (width : Width) (src : Source
 operand_bounded slot s width (Register r) fits h = register_bounded slot s r h
 operand_bounded slot s width (Imm z) fits h = constant_bounded (immediate width z) (immediate-below width z fits)
 
-one_end_bounded : (slot : ℕ) (o : Option ℤ) (pointer : ℤ → Abs) → ((k : ℤ) → IsBoundedValue slot (pointer k)) → IsBoundedValue slot (unwrap_or (with_end o pointer) Unset)
+one_end_bounded : (slot : ℕ) (o : Option ℤ) (pointer : ℤ → Abs) → ((k : ℤ) → IsBoundedValue slot (pointer k))
+    → IsBoundedValue slot (unwrap_or (with_end o pointer) Unset)
 one_end_bounded slot None pointer h = tt
 one_end_bounded slot (Some k) pointer h = h k
 
-two_ends_bounded : (slot : ℕ) (o u : Option ℤ) (pointer : ℤ → ℤ → Abs) → ((a b : ℤ) → IsBoundedValue slot (pointer a b)) → IsBoundedValue slot (unwrap_or (with_ends o u pointer) Unset)
+two_ends_bounded : (slot : ℕ) (o u : Option ℤ) (pointer : ℤ → ℤ → Abs) → ((a b : ℤ) → IsBoundedValue slot (pointer a b))
+    → IsBoundedValue slot (unwrap_or (with_ends o u pointer) Unset)
 two_ends_bounded slot None u pointer h = tt
 two_ends_bounded slot (Some a) None pointer h = tt
 two_ends_bounded slot (Some a) (Some b) pointer h = h a b
@@ -85,15 +87,18 @@ difference_bounded slot (Num a) (Num b) h k = result-bounded op.Sub W64 a b h k
 difference_bounded slot p (Num b) h k = moved_bounded slot p (opposite_ends (signed_ends b))
 difference_bounded slot _ _ h k = tt
 
-unary_bounded : (slot : ℕ) (row : Range → Range) (v : Abs) → ((a : Range) → IsBounded a → IsBounded (row a)) → IsBoundedValue slot v → IsBoundedValue slot (unary_value row v)
+unary_bounded : (slot : ℕ) (row : Range → Range) (v : Abs) → ((a : Range) → IsBounded a → IsBounded (row a)) → IsBoundedValue slot v
+    → IsBoundedValue slot (unary_value row v)
 unary_bounded slot row (Num a) keeps h = keeps a h
 unary_bounded slot row _ keeps h = tt
 
-binary_bounded : (slot : ℕ) (o : AluOp) (width : Width) (a b : Abs) → IsBoundedValue slot a → IsBoundedValue slot b → IsBoundedValue slot (binary_value o width a b)
+binary_bounded : (slot : ℕ) (o : AluOp) (width : Width) (a b : Abs) → IsBoundedValue slot a → IsBoundedValue slot b
+    → IsBoundedValue slot (binary_value o width a b)
 binary_bounded slot o width (Num a) (Num b) h k = result-bounded o width a b h k
 binary_bounded slot o width _ _ h k = tt
 
-result_bounded : (slot : ℕ) (width : Width) (o : AluOp) (a b : Abs) → IsBoundedValue slot a → IsBoundedValue slot b → IsBoundedValue slot (result_of width o a b)
+result_bounded : (slot : ℕ) (width : Width) (o : AluOp) (a b : Abs) → IsBoundedValue slot a → IsBoundedValue slot b
+    → IsBoundedValue slot (result_of width o a b)
 result_bounded slot W64 op.Mov a b h k = k
 result_bounded slot W32 op.Mov a b h k = unary_bounded slot low b low-bounded k
 result_bounded slot W64 op.Add a b h k = sum_bounded slot a b h k
@@ -109,19 +114,25 @@ with_operand-full : (slot : ℕ) (s : StateView) (src : Source) (a : Range) → 
 with_operand-full slot s (Register r) a h b = with_register-full slot s r (Num a) h b
 with_operand-full slot s (Imm z) a h b = h
 
-with_operands-full : (slot : ℕ) (left : Reg) (right : Source) (known : Option (Range × Range)) (s : StateView) → IsFull slot s → AreBounded known → IsFullState slot (with_operands left right known s)
+with_operands-full : (slot : ℕ) (left : Reg) (right : Source) (known : Option (Range × Range)) (s : StateView) → IsFull slot s
+    → AreBounded known → IsFullState slot (with_operands left right known s)
 with_operands-full slot left right None s h both = tt
-with_operands-full slot left right (Some p) s h both = with_operand-full slot (with_register s left (Num p.0)) right p.1 (with_register-full slot s left (Num p.0) h both.0) both.1
+with_operands-full slot left right (Some p) s h both =
+    with_operand-full slot (with_register s left (Num p.0)) right p.1 (with_register-full slot s left (Num p.0) h both.0) both.1
 
-both_bounded : (known : Option (Range × Range)) → IfSome known (λ p. (p.0.lo ≤ p.0.hi) × (p.1.lo ≤ p.1.hi)) → IfSome known (λ p. (p.0.hi < 2 ^ 64) × (p.1.hi < 2 ^ 64)) → AreBounded known
+both_bounded : (known : Option (Range × Range)) → IfSome known (λ p. (p.0.lo ≤ p.0.hi) × (p.1.lo ≤ p.1.hi))
+    → IfSome known (λ p. (p.0.hi < 2 ^ 64) × (p.1.hi < 2 ^ 64)) → AreBounded known
 both_bounded None h k = tt
 both_bounded (Some p) h k = ((h.0, k.0), (h.1, k.1))
 
-refined_bounded : (slot : ℕ) (c : Cond) (width : Width) (a b : Abs) (taken : Bool) → IsBoundedValue slot a → IsBoundedValue slot b → AreBounded (refined_values c width a b taken)
-refined_bounded slot c width (Num a) (Num b) taken h k = both_bounded (refinement c width a b taken) (refinement-ordered c width a b taken h.0 k.0) (refinement-below (2 ^ 64) c width a b taken h.1 k.1)
+refined_bounded : (slot : ℕ) (c : Cond) (width : Width) (a b : Abs) (taken : Bool) → IsBoundedValue slot a → IsBoundedValue slot b
+    → AreBounded (refined_values c width a b taken)
+refined_bounded slot c width (Num a) (Num b) taken h k =
+    both_bounded (refinement c width a b taken) (refinement-ordered c width a b taken h.0 k.0) (refinement-below (2 ^ 64) c width a b taken h.1 k.1)
 refined_bounded slot c width _ _ taken h k = tt
 
-comparison-full : (slot : ℕ) (test : Option ℕ) (c : Cond) (width : Width) (left : Reg) (right : Source) (taken : Bool) (s : StateView) → IsSource right → IsFull slot s → IsFullState slot (after_comparison test c width left right taken s)
+comparison-full : (slot : ℕ) (test : Option ℕ) (c : Cond) (width : Width) (left : Reg) (right : Source) (taken : Bool) (s : StateView)
+    → IsSource right → IsFull slot s → IsFullState slot (after_comparison test c width left right taken s)
 comparison-full slot (Some call) c width left right taken s fits h = settled-full slot call (is_null_where c taken) s h
 comparison-full slot None c width left right taken s fits h =
     with_operands-full slot left right (refined_values c width (register_of s left) (operand s width right) taken) s h
@@ -133,7 +144,8 @@ load_or_unset : (slot : ℕ) (r : Result Abs StackFault) → IsBoundedLoad slot 
 load_or_unset slot (Ok a) h = h
 load_or_unset slot (Err fault) h = tt
 
-load_bounded : (slot : ℕ) (size : Size) (signed : Bool) (offset : ℤ) (base : Abs) (s : StateView) → IsFull slot s → IsBoundedValue slot (loaded_value size signed offset base s)
+load_bounded : (slot : ℕ) (size : Size) (signed : Bool) (offset : ℤ) (base : Abs) (s : StateView) → IsFull slot s
+    → IsBoundedValue slot (loaded_value size signed offset base s)
 load_bounded slot size signed offset (Stk k) s h = load_or_unset slot (loaded s size signed (k +ℤ offset)) (loaded-bounded slot s size signed (k +ℤ offset) h)
 load_bounded slot size signed offset (Ctx a b) s h = context_bounded slot size signed
 load_bounded slot size signed offset (Ob call a b) s h = context_bounded slot size signed
@@ -143,7 +155,8 @@ store_or_none : (slot : ℕ) (r : Result StateView StackFault) → IsFullStore s
 store_or_none slot (Ok s) h = h
 store_or_none slot (Err fault) h = tt
 
-store_full : (slot : ℕ) (size : Size) (offset : ℤ) (base value : Abs) (s : StateView) → IsFull slot s → IsBoundedValue slot value → IsFullState slot (after_store size offset base value s)
+store_full : (slot : ℕ) (size : Size) (offset : ℤ) (base value : Abs) (s : StateView) → IsFull slot s → IsBoundedValue slot value
+    → IsFullState slot (after_store size offset base value s)
 store_full slot size offset (Stk k) value s h b = store_or_none slot (stored s size (k +ℤ offset) value) (stored-full slot s size (k +ℤ offset) value h b)
 store_full slot size offset (Ob call low high) value s h b = h
 store_full slot size offset _ value s h b = tt
@@ -156,7 +169,8 @@ operation-full slot (insn.Sext width bits dst src) s defined h = with_register-f
 operation-full slot (insn.Neg width dst) s defined h = with_register-full slot s dst (unary_value (negation_range width) (register_of s dst)) h (unary_bounded slot (negation_range width) (register_of s dst) (negation-bounded width) (register_bounded slot s dst h))
 operation-full slot (insn.Swap order bits dst) s defined h = with_register-full slot s dst (unary_value (swap_range order bits) (register_of s dst)) h (unary_bounded slot (swap_range order bits) (register_of s dst) (swap-bounded order bits) (register_bounded slot s dst h))
 operation-full slot (insn.Wide dst value) s defined h = with_register-full slot s dst (Num (constant value)) h (constant_bounded value defined)
-operation-full slot (insn.Load size signed dst base offset) s defined h = with_register-full slot s dst (loaded_value size signed offset (register_of s base) s) h (load_bounded slot size signed offset (register_of s base) s h)
+operation-full slot (insn.Load size signed dst base offset) s defined h =
+    with_register-full slot s dst (loaded_value size signed offset (register_of s base) s) h (load_bounded slot size signed offset (register_of s base) s h)
 operation-full slot _ s defined h = tt
 
 -- ---- calls
@@ -204,7 +218,8 @@ call_full slot None s h = tt
 call_full slot (Some New) s h = new_full slot (register_of s R1) s h
 call_full slot (Some Swap) s h = swap_full slot (register_of s R1) (register_of s R2) s h
 call_full slot (Some Free) s h = state_weaker slot (after_free (register_of s R1) s) (free_full slot (register_of s R1) s h)
-call_full slot (Some Emit) s h = full_weaker slot (suc slot) (with_result (Num (constant 0)) s) (omega arith) (with_result-full slot (Num (constant 0)) s h zero_bounded)
+call_full slot (Some Emit) s h =
+    full_weaker slot (suc slot) (with_result (Num (constant 0)) s) (omega arith) (with_result-full slot (Num (constant 0)) s h zero_bounded)
 
 -- ---- what a slot sends is for a higher one
 

@@ -17,7 +17,8 @@ unfolding entries_below
 entries_below-zero p = refl
 
 -- with the entry of one more slot
-pub entries_below-more : (p : List (Option Insn)) (slot : ℕ) (seen : List EntryState) (here : EntryState) → here ≡ arrived p slot slot → seen ≡ entries_below p slot → seen ++ here ∷ [] ≡ entries_below p (slot + 1)
+pub entries_below-more : (p : List (Option Insn)) (slot : ℕ) (seen : List EntryState) (here : EntryState)
+    → here ≡ arrived p slot slot → seen ≡ entries_below p slot → seen ++ here ∷ [] ≡ entries_below p (slot + 1)
 unfolding entries_below
 entries_below-more p slot seen here e f =
     ap (λ (es : List EntryState). es ++ here ∷ []) f
@@ -25,7 +26,9 @@ entries_below-more p slot seen here e f =
     ∙ ap (entries_below p) (sym (add-one slot))
 
 -- the refused slot is the last one that is kept
-pub refused_trace : (s : Subject) (t : Trace) (slot at : ℕ) (code : VerifyCode) (refusal : Option VerifyCode) (fault : VerifyFault) → fault ≡ Refused at code → IsSlotFault slot refusal fault → IsVerifyFault s fault → t.refusal ≡ Some (at, code) → t.entries.items ≡ entries_below s.program (slot + 1) → IsTrace s t
+pub refused_trace : (s : Subject) (t : Trace) (slot at : ℕ) (code : VerifyCode) (refusal : Option VerifyCode) (fault : VerifyFault)
+    → fault ≡ Refused at code → IsSlotFault slot refusal fault → IsVerifyFault s fault → t.refusal ≡ Some (at, code)
+    → t.entries.items ≡ entries_below s.program (slot + 1) → IsTrace s t
 refused_trace s t slot at code refusal fault is here verdict_is told kept =
     let same = (subst (IsSlotFault slot refusal) is here).0 in
     let found = subst (IsVerifyFault s) is verdict_is in record {

@@ -45,14 +45,16 @@ use Rattle.ebpf_world.proofs.Placing.{object_kept}
 -- ---- what a legal answer lends: nothing, or the object of its slot, of the kind that is wanted
 
 pub data IsLoan (places : Places) (answer : Answer) (wants : Option ℕ) : Type 0 where
-  Nothing : ((slot : ℕ) → answer ≢ Slot slot) → lent_by answer places ≡ None → ((run at q : ℕ) → place_lent answer run at places q ≡ place_at places q) → IsLoan places answer wants
+  Nothing : ((slot : ℕ) → answer ≢ Slot slot) → lent_by answer places ≡ None
+      → ((run at q : ℕ) → place_lent answer run at places q ≡ place_at places q) → IsLoan places answer wants
   Loan : (slot : ℕ) (o : Object) → answer ≡ Slot slot → place_at places slot ≡ Some (Home o) → wants ≡ Some o.kind → IsLoan places answer wants
 
 pub loan : (places : Places) (answer : Answer) (wants : Option ℕ) → code_by places answer wants ≡ None → IsLoan places answer wants
 loan places Absent wants fine = Nothing (λ slot e. absurd (cc)) refl (λ run at q. refl)
 loan places Null wants fine = Nothing (λ slot e. absurd (cc)) refl (λ run at q. refl)
 loan places (Slot slot) wants fine = by_place (place_at places slot) wants refl fine where
-  by_kind : (o : Object) (kind : ℕ) (t : Bool) → (o.kind == kind) ≡ t → place_at places slot ≡ Some (Home o) → cond t None (Some SlotOfAnotherKind) ≡ None → IsLoan places (Slot slot) (Some kind)
+  by_kind : (o : Object) (kind : ℕ) (t : Bool) → (o.kind == kind) ≡ t → place_at places slot ≡ Some (Home o)
+      → cond t None (Some SlotOfAnotherKind) ≡ None → IsLoan places (Slot slot) (Some kind)
   by_kind o kind true is at fine = Loan slot o refl at (ap Some (sym (eqb-true o.kind kind is)))
   by_kind o kind false is at fine = absurd (cc)
 
@@ -63,7 +65,8 @@ loan places (Slot slot) wants fine = by_place (place_at places slot) wants refl 
   by_place (Some (Home o)) None at fine = absurd (cc)
   by_place (Some (Home o)) (Some kind) at fine = by_kind o kind (o.kind == kind) refl at fine
 
-lent_loan : (places : Places) (answer : Answer) (slot : ℕ) (o : Object) → answer ≡ Slot slot → place_at places slot ≡ Some (Home o) → lent_by answer places ≡ Some o
+lent_loan : (places : Places) (answer : Answer) (slot : ℕ) (o : Object) → answer ≡ Slot slot → place_at places slot ≡ Some (Home o)
+    → lent_by answer places ≡ Some o
 lent_loan places answer slot o is at = ap (λ (a : Answer). lent_by a places) is ∙ ap object_home at
 
 -- ---- what a run holds is kept as held by it
@@ -71,11 +74,13 @@ lent_loan places answer slot o is at = ap (λ (a : Answer). lent_by a places) is
 pub held_named : (r : RunState Object) (h : Holding Object) → Contains r.held h → Contains (slots_of r) (name_of h.object.slot h.call)
 held_named r h among = Contains-mapped (λ (x : Holding Object). name_of x.object.slot x.call) r.held h among
 
-pub held_placed : (kept : WorldState) (k : ℕ) (r : RunState Object) (h : Holding Object) → ArePlaced kept → slice_get kept.runs k ≡ Some r → Contains r.held h → place_at kept.places h.object.slot ≡ Some (Held k h.call)
+pub held_placed : (kept : WorldState) (k : ℕ) (r : RunState Object) (h : Holding Object) → ArePlaced kept
+    → slice_get kept.runs k ≡ Some r → Contains r.held h → place_at kept.places h.object.slot ≡ Some (Held k h.call)
 held_placed kept k r h placed at among = placed.held k r at (name_of h.object.slot h.call) (held_named r h among)
 
 -- what stands on a shelf is in another slot than what is kept elsewhere
-off_shelves : (kept : WorldState) (slot : ℕ) → ArePlaced kept → ((shelf : ℕ) → place_at kept.places slot ≢ Some (Shelved shelf)) → (shelf other : ℕ) → slot_on kept.shelves shelf ≡ Some other → slot ≢ other
+off_shelves : (kept : WorldState) (slot : ℕ) → ArePlaced kept → ((shelf : ℕ) → place_at kept.places slot ≢ Some (Shelved shelf))
+    → (shelf other : ℕ) → slot_on kept.shelves shelf ≡ Some other → slot ≢ other
 off_shelves kept slot placed off shelf other stands same = off shelf (ap (place_at kept.places) same ∙ placed.shelved shelf other stands)
 
 away_from : (o : Option Object) (slot : ℕ) → ((other : ℕ) → option_map (λ (p : Object). p.slot) o ≡ Some other → slot ≢ other) → IsAway o slot
@@ -83,22 +88,27 @@ away_from None slot off = tt
 away_from (Some p) slot off = off p.slot refl
 
 -- an object of a run is off all shelves
-held_off : (kept : WorldState) (k : ℕ) (r : RunState Object) (h : Holding Object) → ArePlaced kept → slice_get kept.runs k ≡ Some r → Contains r.held h → (shelf : ℕ) → place_at kept.places h.object.slot ≢ Some (Shelved shelf)
+held_off : (kept : WorldState) (k : ℕ) (r : RunState Object) (h : Holding Object) → ArePlaced kept → slice_get kept.runs k ≡ Some r
+    → Contains r.held h → (shelf : ℕ) → place_at kept.places h.object.slot ≢ Some (Shelved shelf)
 held_off kept k r h placed at among shelf e = let held = held_placed kept k r h placed at among in absurd (cc)
 
 -- so it can be lent what is at home
-pub can_lend : (kept : WorldState) (k : ℕ) (answer : Answer) (r : RunState Object) → ArePlaced kept → IsTended r → slice_get kept.runs k ≡ Some r → code_by kept.places answer (wanted (asking_in (run_seen r))) ≡ None → CanLend (lent_by answer kept.places) kept.shelves r
+pub can_lend : (kept : WorldState) (k : ℕ) (answer : Answer) (r : RunState Object) → ArePlaced kept → IsTended r
+    → slice_get kept.runs k ≡ Some r → code_by kept.places answer (wanted (asking_in (run_seen r))) ≡ None
+    → CanLend (lent_by answer kept.places) kept.shelves r
 can_lend kept k answer r placed tended at fine = by (loan kept.places answer (wanted (asking_in (run_seen r))) fine) where
   off : (h : Holding Object) → Contains r.held h → (shelf : ℕ) → IsAway (on_shelf kept.shelves shelf) h.object.slot
   off h among shelf = away_from (on_shelf kept.shelves shelf) h.object.slot (off_shelves kept h.object.slot placed (held_off kept k r h placed at among) shelf)
 
-  out : (lent : Option Object) → ((h : Holding Object) → Contains r.held h → IsAway lent h.object.slot) → AreOutBy (IsOut lent kept.shelves) (λ o. o.kind) (λ o. o.slot) r.held
+  out : (lent : Option Object) → ((h : Holding Object) → Contains r.held h → IsAway lent h.object.slot)
+      → AreOutBy (IsOut lent kept.shelves) (λ o. o.kind) (λ o. o.slot) r.held
   out lent away = record {
     out = All-by_contains (λ h. IsOut lent kept.shelves h.object × (h.object.kind ≡ h.kind)) r.held (λ h among. still h among (All-contains (λ x. IsOut None [] x.object × (x.object.kind ≡ x.kind)) r.held h tended.out.out among));
     apart = tended.out.apart;
   }
     where
-      still : (h : Holding Object) → Contains r.held h → IsOut None [] h.object × (h.object.kind ≡ h.kind) → IsOut lent kept.shelves h.object × (h.object.kind ≡ h.kind)
+      still : (h : Holding Object) → Contains r.held h → IsOut None [] h.object × (h.object.kind ≡ h.kind)
+          → IsOut lent kept.shelves h.object × (h.object.kind ≡ h.kind)
       still h among was = (record { sized = was.0.sized; away = away h among; off = off h among }, was.1)
 
   by : IsLoan kept.places answer (wanted (asking_in (run_seen r))) → CanLend (lent_by answer kept.places) kept.shelves r
@@ -128,7 +138,8 @@ can_lend kept k answer r placed tended at fine = by (loan kept.places answer (wa
 -- ---- an object of a run, in the world that is shown
 
 -- it is in the ledger of its kind
-object_its : (w : World) (kept : WorldState) (k : ℕ) (r : RunState Object) (h : Holding Object) → Shows w kept → slice_get kept.runs k ≡ Some r → Contains r.held h → is_in h.object.slot (ledger_of w h.kind) ≡ true
+object_its : (w : World) (kept : WorldState) (k : ℕ) (r : RunState Object) (h : Holding Object) → Shows w kept
+    → slice_get kept.runs k ≡ Some r → Contains r.held h → is_in h.object.slot (ledger_of w h.kind) ≡ true
 object_its w kept k r h shows at among =
     let one = object_kept w kept k r h shows at among in
     let kind : kind_in w h.object.slot ≡ h.kind = ap (λ (v : ObjectView). v.kind) one.1 in
@@ -146,7 +157,8 @@ counts_seen kind (h ∷ held) =
 
 none_freed : (freed : Option Object) → ((kind : ℕ) → one_away freed kind ≡ 1) → freed ≡ None
 none_freed None all = refl
-none_freed (Some o) all = let here = eq-eqb o.kind o.kind refl in let none : one_away (Some o) o.kind ≡ 0 = rw here refl in let one = all o.kind in absurd (omega (arith, none, one))
+none_freed (Some o) all =
+    let here = eq-eqb o.kind o.kind refl in let none : one_away (Some o) o.kind ≡ 0 = rw here refl in let one = all o.kind in absurd (omega (arith, none, one))
 
 some_freed : (freed : Option Object) (kind : ℕ) → one_away freed kind ≡ 0 → (o : Object) × (freed ≡ Some o) × (o.kind ≡ kind)
 some_freed None kind none = absurd (omega (arith, none))
@@ -183,11 +195,19 @@ pub record PassesShelf (kept : WorldState) (r t : RunState Object) (after : List
 
 -- nothing passes; a run is lent an object; it frees one, which is at home then; or it exchanges what stands on a shelf
 pub data IsExchange (kept : WorldState) (k : ℕ) (answer : Answer) (r t : RunState Object) (freed : Option Object) (after : List (Option Object)) : Type 0 where
-  Stays : LeavesShelves kept r after → freed ≡ None → ((run at q : ℕ) → place_lent answer run at kept.places q ≡ place_at kept.places q) → slots_of t ≡ slots_of r → IsExchange kept k answer r t freed after
-  Lends : LeavesShelves kept r after → (slot : ℕ) (o : Object) → freed ≡ None → answer ≡ Slot slot → place_at kept.places slot ≡ Some (Home o) → slots_of t ≡ slots_of r ++ name_of slot r.pc ∷ [] → IsExchange kept k answer r t freed after
-  Frees : LeavesShelves kept r after → (o : Object) (call : ℕ) → freed ≡ Some o → ((run at q : ℕ) → place_lent answer run at kept.places q ≡ place_at kept.places q) → Contains (slots_of r) (name_of o.slot call) → IsAtHome kept o.slot o
+  Stays : LeavesShelves kept r after → freed ≡ None
+      → ((run at q : ℕ) → place_lent answer run at kept.places q ≡ place_at kept.places q) → slots_of t ≡ slots_of r
+      → IsExchange kept k answer r t freed after
+  Lends : LeavesShelves kept r after → (slot : ℕ) (o : Object) → freed ≡ None → answer ≡ Slot slot
+      → place_at kept.places slot ≡ Some (Home o) → slots_of t ≡ slots_of r ++ name_of slot r.pc ∷ []
+      → IsExchange kept k answer r t freed after
+  Frees : LeavesShelves kept r after → (o : Object) (call : ℕ) → freed ≡ Some o
+      → ((run at q : ℕ) → place_lent answer run at kept.places q ≡ place_at kept.places q)
+      → Contains (slots_of r) (name_of o.slot call) → IsAtHome kept o.slot o
       → slots_of t ≡ filter (λ n. not (n.call == call)) (slots_of r) → IsExchange kept k answer r t freed after
-  Swaps : (shelf : ℕ) (given : Option Name) → freed ≡ None → ((run at q : ℕ) → place_lent answer run at kept.places q ≡ place_at kept.places q) → PassesShelf kept r t after shelf given → IsExchange kept k answer r t freed after
+  Swaps : (shelf : ℕ) (given : Option Name) → freed ≡ None
+      → ((run at q : ℕ) → place_lent answer run at kept.places q ≡ place_at kept.places q) → PassesShelf kept r t after shelf given
+      → IsExchange kept k answer r t freed after
 
 slots_many : (r : RunState Object) → length (slots_of r) ≡ length (run_seen r).objects
 slots_many r = length-map r.held _ ∙ sym (length-map r.held _)
@@ -200,7 +220,8 @@ left_many r call =
     ∙ sym (ap (λ (os : List ObjectView). length os) (filter-map (λ (o : ObjectView). not (o.call == call)) (object_seen (λ (o : Object). o.bytes.items)) r.held))
 
 -- what becomes of the objects of the run
-outcome : (w : World) (kept : WorldState) (k : ℕ) (answer : Answer) (r t : RunState Object) (freed : Option Object) → Shows w kept → (i : IsInstruction kept k answer r t freed) → IsOutcome (run_seen r) (run_seen t) i.step.served (slots_of r) (slots_of t)
+outcome : (w : World) (kept : WorldState) (k : ℕ) (answer : Answer) (r t : RunState Object) (freed : Option Object) → Shows w kept
+    → (i : IsInstruction kept k answer r t freed) → IsOutcome (run_seen r) (run_seen t) i.step.served (slots_of r) (slots_of t)
 outcome w kept k answer r t freed shows i =
     let v = run_seen r in
     let after = executed_after w kept k answer r t freed shows i in
@@ -223,10 +244,12 @@ bare_slot shelves shelf = by (on_shelf shelves shelf) where
   by None = refl
   by (Some p) = refl
 
-same_bare : (one other : List (Option Object)) (shelf : ℕ) → slot_on one shelf ≡ slot_on other shelf → is_bare (on_shelf one shelf) ≡ is_bare (on_shelf other shelf)
+same_bare : (one other : List (Option Object)) (shelf : ℕ) → slot_on one shelf ≡ slot_on other shelf
+    → is_bare (on_shelf one shelf) ≡ is_bare (on_shelf other shelf)
 same_bare one other shelf same = bare_slot one shelf ∙ ap (λ (o : Option ℕ). cond (is_some o) 0 1) same ∙ sym (bare_slot other shelf)
 
-quiet_leaves : (kept : WorldState) (k : ℕ) (answer : Answer) (r t : RunState Object) (freed : Option Object) (i : IsInstruction kept k answer r t freed) → IsQuiet (run_seen r) → LeavesShelves kept r i.after
+quiet_leaves : (kept : WorldState) (k : ℕ) (answer : Answer) (r t : RunState Object) (freed : Option Object) (i : IsInstruction kept k answer r t freed)
+    → IsQuiet (run_seen r) → LeavesShelves kept r i.after
 quiet_leaves kept k answer r t freed i quiet = record {
   unreached = quiet.unreached;
   same = λ shelf.
@@ -240,15 +263,19 @@ counted_all : (kept : WorldState) (k : ℕ) (answer : Answer) (r t : RunState Ob
     → one_away freed kind + is_bare (on_shelf i.after kind) + of_kind kind (run_seen r).objects ≡ one_away (lent_by answer kept.places) kind + is_bare (on_shelf kept.shelves kind) + of_kind kind (run_seen t).objects
 counted_all kept k answer r t freed i kind = omega (arith, i.step.of_kind kind, counts_seen kind r.held, counts_seen kind t.held)
 
-counted : (kept : WorldState) (k : ℕ) (answer : Answer) (r t : RunState Object) (freed : Option Object) (i : IsInstruction kept k answer r t freed) → LeavesShelves kept r i.after → (kind : ℕ)
+counted : (kept : WorldState) (k : ℕ) (answer : Answer) (r t : RunState Object) (freed : Option Object) (i : IsInstruction kept k answer r t freed)
+    → LeavesShelves kept r i.after → (kind : ℕ)
     → one_away freed kind + of_kind kind (run_seen r).objects ≡ one_away (lent_by answer kept.places) kind + of_kind kind (run_seen t).objects
-counted kept k answer r t freed i leaves kind = omega (arith, counted_all kept k answer r t freed i kind, same_bare i.after kept.shelves kind (leaves.same kind))
+counted kept k answer r t freed i leaves kind =
+    omega (arith, counted_all kept k answer r t freed i kind, same_bare i.after kept.shelves kind (leaves.same kind))
 
 lent_none : (kept : WorldState) (answer : Answer) (kind : ℕ) → lent_by answer kept.places ≡ None → one_away (lent_by answer kept.places) kind ≡ 1
 lent_none kept answer kind none = ap (λ (l : Option Object). one_away l kind) none
 
 -- the object that is freed is the run's
-freed_its : (kept : WorldState) (k : ℕ) (answer : Answer) (r t : RunState Object) (freed : Option Object) (o : Object) (h : Holding Object) → (i : IsInstruction kept k answer r t freed) → LeavesShelves kept r i.after → freed ≡ Some o → Contains r.held h → slots_of t ≡ filter (λ n. not (n.call == h.call)) (slots_of r) → o.slot ≡ h.object.slot
+freed_its : (kept : WorldState) (k : ℕ) (answer : Answer) (r t : RunState Object) (freed : Option Object) (o : Object) (h : Holding Object)
+    → (i : IsInstruction kept k answer r t freed) → LeavesShelves kept r i.after → freed ≡ Some o → Contains r.held h
+    → slots_of t ≡ filter (λ n. not (n.call == h.call)) (slots_of r) → o.slot ≡ h.object.slot
 freed_its kept k answer r t freed o h i leaves is among slots = by (cases_eq o.slot h.object.slot) where
   others : (x : Holding Object) → Contains t.held x → x.object.slot ≢ h.object.slot
   others x there same =
@@ -270,7 +297,9 @@ freed_its kept k answer r t freed o h i leaves is among slots = by (cases_eq o.s
       let there : IsOut freed i.after h.object = subst (λ (f : Option Object). IsOut f i.after h.object) (sym is) (record { sized = out.0.sized; away = λ e. ne (sym e); off = λ shelf. away_from (on_shelf i.after shelf) h.object.slot (λ other stands. off_shelves kept h.object.slot i.tended.placed (held_off kept k r h i.tended.placed i.at among) shelf other (sym (leaves.same shelf) ∙ stands)) }) in
       absurd (i.step.gone h among (All-by_contains (λ x. x.object.slot ≢ h.object.slot) t.held others) there)
 
-frees : (w : World) (kept : WorldState) (k : ℕ) (answer : Answer) (r t : RunState Object) (freed : Option Object) → Shows w kept → (i : IsInstruction kept k answer r t freed) → LeavesShelves kept r i.after → lent_by answer kept.places ≡ None → ((run at q : ℕ) → place_lent answer run at kept.places q ≡ place_at kept.places q)
+frees : (w : World) (kept : WorldState) (k : ℕ) (answer : Answer) (r t : RunState Object) (freed : Option Object) → Shows w kept
+    → (i : IsInstruction kept k answer r t freed) → LeavesShelves kept r i.after → lent_by answer kept.places ≡ None
+    → ((run at q : ℕ) → place_lent answer run at kept.places q ≡ place_at kept.places q)
     → IsFreed (run_seen r) (run_seen t) (slots_of r) (slots_of t) → IsExchange kept k answer r t freed i.after
 frees w kept k answer r t freed shows i leaves none stays f =
     let one = Contains-unmapped (object_seen (λ o. o.bytes.items)) r.held f.object f.there in
@@ -280,7 +309,8 @@ frees w kept k answer r t freed shows i leaves none stays f =
     let counts = counted kept k answer r t freed i leaves f.object.kind in
     let back = some_freed freed f.object.kind (omega (arith, counts, lent_none kept answer f.object.kind none, f.fewer)) in
     let o = back.0 in
-    let slots : slots_of t ≡ filter (λ n. not (n.call == h.call)) (slots_of r) = f.slots_are ∙ ap (λ (c : ℕ). filter (λ (n : Name). not (n.call == c)) (slots_of r)) (sym call) in
+    let slots : slots_of t ≡ filter (λ n. not (n.call == h.call)) (slots_of r) =
+    f.slots_are ∙ ap (λ (c : ℕ). filter (λ (n : Name). not (n.call == c)) (slots_of r)) (sym call) in
     let slot = freed_its kept k answer r t freed o h i leaves back.1 one.1 slots in
     let its = object_its w kept k r h shows i.at one.1 in
     let new : IsNewObject o = subst (λ (x : Option Object). IfSome x IsNewObject) back.1 i.step.image in
@@ -292,10 +322,13 @@ frees w kept k answer r t freed shows i leaves none stays f =
     } in
     Frees leaves o h.call back.1 stays (subst (λ (s : ℕ). Contains (slots_of r) (name_of s h.call)) (sym slot) (held_named r h one.1)) here slots
   where
-    ledger_kept : (w : World) (kept : WorldState) (slot kind : ℕ) → Shows w kept → is_in slot (ledger_of w kind) ≡ true → is_in slot (slice_index_or kept.ledgers kind []) ≡ true
+    ledger_kept : (w : World) (kept : WorldState) (slot kind : ℕ) → Shows w kept → is_in slot (ledger_of w kind) ≡ true
+        → is_in slot (slice_index_or kept.ledgers kind []) ≡ true
     ledger_kept w kept slot kind shows its = ap (λ (ls : List (List ℕ)). is_in slot (slice_index_or ls kind [])) (sym shows.ledgers) ∙ its
 
-lends : (kept : WorldState) (k : ℕ) (answer : Answer) (r t : RunState Object) (freed : Option Object) (slot : ℕ) (o : Object) → (i : IsInstruction kept k answer r t freed) → LeavesShelves kept r i.after → answer ≡ Slot slot → place_at kept.places slot ≡ Some (Home o) → wanted (asking_in (run_seen r)) ≡ Some o.kind
+lends : (kept : WorldState) (k : ℕ) (answer : Answer) (r t : RunState Object) (freed : Option Object) (slot : ℕ) (o : Object)
+    → (i : IsInstruction kept k answer r t freed) → LeavesShelves kept r i.after → answer ≡ Slot slot
+    → place_at kept.places slot ≡ Some (Home o) → wanted (asking_in (run_seen r)) ≡ Some o.kind
     → IsGranted (run_seen r) (run_seen t) i.step.served (slots_of r) (slots_of t) → IsExchange kept k answer r t freed i.after
 lends kept k answer r t freed slot o i leaves is home wants g =
     let new : g.new ≡ o.kind = number_same (sym (ap wanted g.asked) ∙ wants) in
@@ -317,15 +350,18 @@ lends kept k answer r t freed slot o i leaves is home wants g =
         let equal = ap (λ (c : ℕ). kind == c) new in
         by (kind == o.kind) counts was (more ∙ ap (λ (b : Bool). of_kind kind (run_seen r).objects + cond b 1 0) equal)
       where
-        by : (t' : Bool) → one_away freed kind + of_kind kind (run_seen r).objects ≡ one_away (lent_by answer kept.places) kind + of_kind kind (run_seen t).objects
-            → one_away (lent_by answer kept.places) kind ≡ cond t' 0 1 → of_kind kind (run_seen t).objects ≡ of_kind kind (run_seen r).objects + cond t' 1 0 → one_away freed kind ≡ 1
+        by : (t' : Bool)
+            → one_away freed kind + of_kind kind (run_seen r).objects ≡ one_away (lent_by answer kept.places) kind + of_kind kind (run_seen t).objects
+            → one_away (lent_by answer kept.places) kind ≡ cond t' 0 1
+            → of_kind kind (run_seen t).objects ≡ of_kind kind (run_seen r).objects + cond t' 1 0 → one_away freed kind ≡ 1
         by true counts was more = omega (arith, counts, was, more)
         by false counts was more = omega (arith, counts, was, more)
 
 -- ---- a call of swap
 
 calls_ascend : (r : RunState Object) → IsTended r → r.exit ≡ None → IsAscending (calls_kept r.held)
-calls_ascend r tended going = subst IsAscending (seen_calls (λ (o : Object). o.bytes.items) r.held) (going_of (run_seen r) tended.sound (going_seen r going)).ascending
+calls_ascend r tended going =
+    subst IsAscending (seen_calls (λ (o : Object). o.bytes.items) r.held) (going_of (run_seen r) tended.sound (going_seen r going)).ascending
 
 -- what it gives is the run's
 record IsGivenOf (r : RunState Object) (shelf : ℕ) (given : Option ℕ) : Type 0 where
@@ -333,9 +369,12 @@ record IsGivenOf (r : RunState Object) (shelf : ℕ) (given : Option ℕ) : Type
   call : call_of name ≡ given
   own : IfSome name (λ n. Contains (slots_of r) n)
   stands : option_map (λ (x : world.Shelved). x.slot) (shelved_from as_shelved r.held given) ≡ slot_of name
-  kinds : (kind : ℕ) → of_kind kind (without_given given (run_seen r).objects) + cond (kind == shelf) (cond (is_some name) 1 0) 0 ≡ of_kind kind (run_seen r).objects
+  kinds : (kind : ℕ)
+      → of_kind kind (without_given given (run_seen r).objects) + cond (kind == shelf) (cond (is_some name) 1 0) 0 ≡ of_kind kind (run_seen r).objects
 
-given_of : (r : RunState Object) (shelf : ℕ) (given : Option ℕ) → IsTended r → r.exit ≡ None → IfSome given (λ call. (o : ObjectView) × Contains (run_seen r).objects o × (o.call ≡ call) × (o.kind ≡ shelf)) → IsGivenOf r shelf given
+given_of : (r : RunState Object) (shelf : ℕ) (given : Option ℕ) → IsTended r → r.exit ≡ None
+    → IfSome given (λ call. (o : ObjectView) × Contains (run_seen r).objects o × (o.call ≡ call) × (o.kind ≡ shelf))
+    → IsGivenOf r shelf given
 given_of r shelf None tended going there = record { name = None; call = refl; own = tt; stands = refl; kinds = λ kind. nothing_more kind shelf (of_kind kind (run_seen r).objects) } where
   nothing_more : (kind shelf n : ℕ) → n + cond (kind == shelf) 0 0 ≡ n
   nothing_more kind shelf n = by (kind == shelf) where
@@ -380,7 +419,8 @@ given_of r shelf (Some call) tended going (o, among, is_call, is_kind) = record 
     left = removed_is r.held one.1.0 call h up one.1.1 (ap (λ (x : Holding Object). x.call) get_or_found ∙ called)
 
     -- a call has one object
-    found : (f : Option (Holding Object)) → IsFound (λ (x : Holding Object). x.call == call) r.held f → option_map (λ (x : world.Shelved). x.slot) (option_map (λ (x : Holding Object). as_shelved x.object) f) ≡ Some h.object.slot
+    found : (f : Option (Holding Object)) → IsFound (λ (x : Holding Object). x.call == call) r.held f
+        → option_map (λ (x : world.Shelved). x.slot) (option_map (λ (x : Holding Object). as_shelved x.object) f) ≡ Some h.object.slot
     found None none = let away = none h one.1 in let here = eq-eqb h.call call called in absurd (cc)
     found (Some x) it =
         let there : get_or r.held it.0.0 h ≡ x = get_or_default r.held it.0.0 h x it.0.1 ∙ it.0.2 in
@@ -389,7 +429,9 @@ given_of r shelf (Some call) tended going (o, among, is_call, is_kind) = record 
         ap (λ (y : Holding Object). Some y.object.slot) same
 
 -- and what stood there is what it gets
-got_of : (lent : Option Object) (shelves : List (Option Object)) (at shelf : ℕ) (served : Served) → MayAnswer (offers lent shelves) at (AtShelf shelf) served → (slots_fetched at served ≡ got_by (slot_on shelves shelf) at) × (whole.fetched (told_by served) + is_bare (on_shelf shelves shelf) ≡ 1)
+got_of : (lent : Option Object) (shelves : List (Option Object)) (at shelf : ℕ) (served : Served)
+    → MayAnswer (offers lent shelves) at (AtShelf shelf) served
+    → (slots_fetched at served ≡ got_by (slot_on shelves shelf) at) × (whole.fetched (told_by served) + is_bare (on_shelf shelves shelf) ≡ 1)
 got_of lent shelves at shelf (step.Fetched slot bytes) may =
     let is : slot_on shelves shelf ≡ Some slot = slot_standing shelves shelf ∙ ap (option_map (λ (x : world.Shelved). x.slot)) may in
     (sym (ap (λ (o : Option ℕ). got_by o at) is), omega (arith, bare_slot shelves shelf ∙ ap (λ (o : Option ℕ). cond {A = ℕ} (is_some o) 0 1) is))
@@ -400,7 +442,8 @@ got_of lent shelves at shelf step.Idle may = absurd may
 got_of lent shelves at shelf step.Refused may = absurd may
 got_of lent shelves at shelf (step.Granted slot) may = absurd may
 
-swaps : (kept : WorldState) (k : ℕ) (answer : Answer) (r t : RunState Object) (freed : Option Object) (i : IsInstruction kept k answer r t freed) → lent_by answer kept.places ≡ None → ((run at q : ℕ) → place_lent answer run at kept.places q ≡ place_at kept.places q)
+swaps : (kept : WorldState) (k : ℕ) (answer : Answer) (r t : RunState Object) (freed : Option Object) (i : IsInstruction kept k answer r t freed)
+    → lent_by answer kept.places ≡ None → ((run at q : ℕ) → place_lent answer run at kept.places q ≡ place_at kept.places q)
     → IsSwapped (run_seen r) (run_seen t) i.step.served (slots_of r) (slots_of t) → IsExchange kept k answer r t freed i.after
 swaps kept k answer r t freed i none stays s = Swaps s.shelf its.name (none_freed freed (λ kind. one kind (kind == s.shelf) refl)) stays (record {
   reached_is = ap reached s.asked;
@@ -416,7 +459,8 @@ swaps kept k answer r t freed i none stays s = Swaps s.shelf its.name (none_free
     got : (slots_fetched r.pc i.step.served ≡ got_by (slot_on kept.shelves s.shelf) r.pc) × (whole.fetched (told_by i.step.served) + is_bare (on_shelf kept.shelves s.shelf) ≡ 1)
     got = got_of (lent_by answer kept.places) kept.shelves r.pc s.shelf i.step.served (subst (λ (a : Asking). MayAnswer (offers (lent_by answer kept.places) kept.shelves) r.pc a i.step.served) s.asked i.step.may)
 
-    leaves : (shelf : ℕ) → slot_on i.after shelf ≡ option_map (λ (x : world.Shelved). x.slot) (if shelf == s.shelf then shelved_from as_shelved r.held s.given else standing_on kept.shelves shelf)
+    leaves : (shelf : ℕ)
+        → slot_on i.after shelf ≡ option_map (λ (x : world.Shelved). x.slot) (if shelf == s.shelf then shelved_from as_shelved r.held s.given else standing_on kept.shelves shelf)
     leaves shelf = slot_standing i.after shelf ∙ ap (option_map (λ (x : world.Shelved). x.slot)) (i.step.shelves shelf ∙ s.leaves (shelved_from as_shelved r.held) shelf (standing_on kept.shelves shelf))
 
     there : slot_on i.after s.shelf ≡ slot_of its.name
@@ -427,7 +471,8 @@ swaps kept k answer r t freed i none stays s = Swaps s.shelf its.name (none_free
 
     given_bare : is_bare (on_shelf i.after s.shelf) + cond (is_some its.name) 1 0 ≡ 1
     given_bare = by its.name (bare_slot i.after s.shelf ∙ ap (λ (o : Option ℕ). cond (is_some o) 0 1) there) where
-      by : (n : Option Name) → is_bare (on_shelf i.after s.shelf) ≡ cond (is_some (slot_of n)) 0 1 → is_bare (on_shelf i.after s.shelf) + cond (is_some n) 1 0 ≡ 1
+      by : (n : Option Name) → is_bare (on_shelf i.after s.shelf) ≡ cond (is_some (slot_of n)) 0 1
+          → is_bare (on_shelf i.after s.shelf) + cond (is_some n) 1 0 ≡ 1
       by None e = omega (arith, e)
       by (Some n) e = omega (arith, e)
 
@@ -435,18 +480,23 @@ swaps kept k answer r t freed i none stays s = Swaps s.shelf its.name (none_free
     one kind true is =
         let same : kind ≡ s.shelf = eqb-true kind s.shelf is in
         let counts = counted_all kept k answer r t freed i kind in
-        let more = s.kinds kind ∙ ap (λ (b : Bool). of_kind kind (without_given s.given (run_seen r).objects) + cond b (whole.fetched (told_by i.step.served)) 0) is in
-        let less = sym (ap (λ (b : Bool). of_kind kind (without_given s.given (run_seen r).objects) + cond b (cond (is_some its.name) 1 0) 0) is) ∙ its.kinds kind in
+        let more =
+        s.kinds kind ∙ ap (λ (b : Bool). of_kind kind (without_given s.given (run_seen r).objects) + cond b (whole.fetched (told_by i.step.served)) 0) is in
+        let less =
+        sym (ap (λ (b : Bool). of_kind kind (without_given s.given (run_seen r).objects) + cond b (cond (is_some its.name) 1 0) 0) is) ∙ its.kinds kind in
         let now = ap (λ (n : ℕ). is_bare (on_shelf i.after n)) same in
         let was = ap (λ (n : ℕ). is_bare (on_shelf kept.shelves n)) same in
         omega (arith, counts, more, less, now, was, given_bare, got.1, lent_none kept answer kind none)
     one kind false is =
         let counts = counted_all kept k answer r t freed i kind in
-        let more = s.kinds kind ∙ ap (λ (b : Bool). of_kind kind (without_given s.given (run_seen r).objects) + cond b (whole.fetched (told_by i.step.served)) 0) is in
-        let less = sym (ap (λ (b : Bool). of_kind kind (without_given s.given (run_seen r).objects) + cond b (cond (is_some its.name) 1 0) 0) is) ∙ its.kinds kind in
+        let more =
+        s.kinds kind ∙ ap (λ (b : Bool). of_kind kind (without_given s.given (run_seen r).objects) + cond b (whole.fetched (told_by i.step.served)) 0) is in
+        let less =
+        sym (ap (λ (b : Bool). of_kind kind (without_given s.given (run_seen r).objects) + cond b (cond (is_some its.name) 1 0) 0) is) ∙ its.kinds kind in
         omega (arith, counts, more, less, same_bare i.after kept.shelves kind (elsewhere kind is), lent_none kept answer kind none)
 
-pub exchange : (w : World) (kept : WorldState) (k : ℕ) (answer : Answer) (r t : RunState Object) (freed : Option Object) → Shows w kept → (i : IsInstruction kept k answer r t freed) → IsExchange kept k answer r t freed i.after
+pub exchange : (w : World) (kept : WorldState) (k : ℕ) (answer : Answer) (r t : RunState Object) (freed : Option Object)
+    → Shows w kept → (i : IsInstruction kept k answer r t freed) → IsExchange kept k answer r t freed i.after
 exchange w kept k answer r t freed shows i = by (loan kept.places answer (wanted (asking_in (run_seen r))) i.fine) (outcome w kept k answer r t freed shows i) where
   leaves : IsQuiet (run_seen r) → LeavesShelves kept r i.after
   leaves quiet = quiet_leaves kept k answer r t freed i quiet
@@ -464,7 +514,8 @@ exchange w kept k answer r t freed shows i = by (loan kept.places answer (wanted
     by_served step.Empty e = absurd (cc)
     by_served (step.Fetched other bytes) e = absurd (cc)
 
-  by : IsLoan kept.places answer (wanted (asking_in (run_seen r))) → IsOutcome (run_seen r) (run_seen t) i.step.served (slots_of r) (slots_of t) → IsExchange kept k answer r t freed i.after
+  by : IsLoan kept.places answer (wanted (asking_in (run_seen r)))
+      → IsOutcome (run_seen r) (run_seen t) i.step.served (slots_of r) (slots_of t) → IsExchange kept k answer r t freed i.after
   by (Nothing unanswered none stays) (Kept quiet o) = Stays (leaves quiet) (none_freed freed (λ kind. omega (arith, counted kept k answer r t freed i (leaves quiet) kind, lent_none kept answer kind none, o.kinds kind))) stays o.slots_are
   by (Nothing unanswered none stays) (Granted quiet g) = absurd (not_slot answer unanswered g.slot (slot_answered g.slot g.answered)) where
     not_slot : (a : Answer) → ((slot : ℕ) → a ≢ Slot slot) → (slot : ℕ) → answer_of a ≢ world.Slot slot

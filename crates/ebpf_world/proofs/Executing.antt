@@ -42,8 +42,10 @@ sized_tended r h = All-map IsLong (object_seen (λ o. o.bytes.items)) r.held (λ
   IsLong : ObjectView → Type 0
   IsLong o = length o.bytes ≡ length (image_at (kinds_of r.subject.rows) o.kind)
 
-  long : (x : Holding Object) → IsOut None [] x.object × (x.object.kind ≡ x.kind) → length x.object.bytes.items ≡ length (image_at (kinds_of r.subject.rows) x.kind)
-  long x (out, kind) = out.sized.size ∙ ap (λ (k : ℕ). length (image_at known_kinds k)) kind ∙ ap (λ (ks : List Kind). length (image_at ks x.kind)) (sym h.kinds)
+  long : (x : Holding Object) → IsOut None [] x.object × (x.object.kind ≡ x.kind)
+      → length x.object.bytes.items ≡ length (image_at (kinds_of r.subject.rows) x.kind)
+  long x (out, kind) =
+      out.sized.size ∙ ap (λ (k : ℕ). length (image_at known_kinds k)) kind ∙ ap (λ (ks : List Kind). length (image_at ks x.kind)) (sym h.kinds)
 
 -- ---- the answer that the store gives is the event's
 
@@ -66,7 +68,8 @@ module _ (places : Places) (shelves : List (Option Object)) (at : ℕ) where
   abbrev May : Answer → Asking → Served → Type 0
   May answer asked given = MayAnswer (offers (lent_by answer places) shelves) at asked given
 
-  answer_wanted : (answer : Answer) (kind : ℕ) (given : Served) → AreTheirs places → code_by places answer (Some kind) ≡ None → May answer (OfKind kind) given → answer_for given ≡ answer_of answer
+  answer_wanted : (answer : Answer) (kind : ℕ) (given : Served) → AreTheirs places → code_by places answer (Some kind) ≡ None
+      → May answer (OfKind kind) given → answer_for given ≡ answer_of answer
   answer_wanted Absent kind given theirs fine may = absurd (cc)
   answer_wanted Null kind Idle theirs fine may = absurd may
   answer_wanted Null kind Refused theirs fine may = refl
@@ -74,7 +77,9 @@ module _ (places : Places) (shelves : List (Option Object)) (at : ℕ) where
   answer_wanted Null kind (Fetched other bytes) theirs fine may = absurd may
   answer_wanted Null kind (Granted slot) theirs fine may = absurd may
   answer_wanted (Slot slot) kind given theirs fine may = by_place (place_at places slot) refl fine may where
-    of_kind : (o : Object) (given : Served) (t : Bool) → (o.kind == kind) ≡ t → place_at places slot ≡ Some (Home o) → cond t None (Some SlotOfAnotherKind) ≡ None → MayAnswer (offers (Some o) shelves) at (OfKind kind) given → answer_for given ≡ world.Slot slot
+    of_kind : (o : Object) (given : Served) (t : Bool) → (o.kind == kind) ≡ t → place_at places slot ≡ Some (Home o)
+        → cond t None (Some SlotOfAnotherKind) ≡ None → MayAnswer (offers (Some o) shelves) at (OfKind kind) given
+        → answer_for given ≡ world.Slot slot
     of_kind o given false is there fine may = absurd (cc)
     of_kind o Idle true is there fine may = absurd may
     of_kind o Refused true is there fine may = absurd (cc)
@@ -82,14 +87,16 @@ module _ (places : Places) (shelves : List (Option Object)) (at : ℕ) where
     of_kind o (Fetched other bytes) true is there fine may = absurd may
     of_kind o (Granted s) true is there fine may = ap world.Slot (sym may.1 ∙ theirs slot o there)
 
-    by_place : (p : Option Place) → place_at places slot ≡ p → slot_code p (Some kind) ≡ None → MayAnswer (offers (object_home p) shelves) at (OfKind kind) given → answer_for given ≡ world.Slot slot
+    by_place : (p : Option Place) → place_at places slot ≡ p → slot_code p (Some kind) ≡ None
+        → MayAnswer (offers (object_home p) shelves) at (OfKind kind) given → answer_for given ≡ world.Slot slot
     by_place None there fine may = absurd (cc)
     by_place (Some (Held run place)) there fine may = absurd (cc)
     by_place (Some (place.Shelved shelf)) there fine may = absurd (cc)
     by_place (Some (Home o)) there fine may = of_kind o given (o.kind == kind) refl there fine may
 
   -- the event that it makes is the event
-  answer_given : (answer : Answer) (asked : Asking) (given : Served) → AreTheirs places → code_by places answer (wanted asked) ≡ None → May answer asked given → answer_for given ≡ answer_of answer
+  answer_given : (answer : Answer) (asked : Asking) (given : Served) → AreTheirs places
+      → code_by places answer (wanted asked) ≡ None → May answer asked given → answer_for given ≡ answer_of answer
   answer_given answer Unasked given theirs fine may = ap answer_for may ∙ sym (ap answer_of (absent_answer places answer fine))
   answer_given answer OfNoKind given theirs fine may = absurd may
   answer_given answer (OfKind kind) given theirs fine may = answer_wanted answer kind given theirs fine may
@@ -100,7 +107,9 @@ module _ (places : Places) (shelves : List (Option Object)) (at : ℕ) where
   answer_given answer (AtShelf shelf) (Granted slot) theirs fine may = absurd may
 
 -- what the shelf of a world serves is what the store may answer
-shelf_serves : (w : World) (lent : Option Object) (shelves : List (Option Object)) (at shelf : ℕ) (given : Served) → shelved_in w shelf ≡ standing_on shelves shelf → MayAnswer (offers lent shelves) at (AtShelf shelf) given → served_from w (standing w shelf) ≡ given
+shelf_serves : (w : World) (lent : Option Object) (shelves : List (Option Object)) (at shelf : ℕ) (given : Served)
+    → shelved_in w shelf ≡ standing_on shelves shelf → MayAnswer (offers lent shelves) at (AtShelf shelf) given
+    → served_from w (standing w shelf) ≡ given
 shelf_serves w lent shelves at shelf given shows may = by given (standing w shelf) refl may where
   by : (given : Served) (o : Option Owner) → standing w shelf ≡ o → MayAnswer (offers lent shelves) at (AtShelf shelf) given → served_from w o ≡ given
   by Empty None is may = refl
@@ -131,14 +140,18 @@ pub record IsInstruction (kept : WorldState) (k : ℕ) (answer : Answer) (r t : 
 pub going_seen : (r : RunState Object) → r.exit ≡ None → (run_seen r).status ≡ Going
 going_seen r going = ap status_of going
 
-pub answered : (kept : WorldState) (k : ℕ) (answer : Answer) (r t : RunState Object) (freed : Option Object) (i : IsInstruction kept k answer r t freed) → answer_for i.step.served ≡ answer_of answer
+pub answered : (kept : WorldState) (k : ℕ) (answer : Answer) (r t : RunState Object) (freed : Option Object) (i : IsInstruction kept k answer r t freed)
+    → answer_for i.step.served ≡ answer_of answer
 answered kept k answer r t freed i = answer_given kept.places kept.shelves r.pc answer (asking_in (run_seen r)) i.step.served theirs i.fine i.step.may where
   theirs : AreTheirs kept.places
   theirs slot o at = (subst (IsPlaced kept slot) at (i.tended.placed.each slot)).same
 
 -- so it is, by what the tests and the step told
-abbrev pub instruction : (kept : WorldState) (k : ℕ) (answer : Answer) (r t : RunState Object) (lent freed : Option Object) (wants : Option ℕ) (fault : Option ApplyCode) → IsTendedWorld kept → slice_get kept.runs k ≡ Some r → r.exit ≡ None
-    → fault ≡ code_by kept.places answer wants → fault ≡ None → wants ≡ wanted (asking_in (run_seen r)) → lent ≡ lent_by answer kept.places → (shelves after : List (Option Object)) → shelves ≡ kept.shelves → IfNone r.exit (IsStepped lent freed shelves after r t) → IsInstruction kept k answer r t freed
+abbrev pub instruction : (kept : WorldState) (k : ℕ) (answer : Answer) (r t : RunState Object) (lent freed : Option Object) (wants : Option ℕ) (fault : Option ApplyCode)
+    → IsTendedWorld kept → slice_get kept.runs k ≡ Some r → r.exit ≡ None
+    → fault ≡ code_by kept.places answer wants → fault ≡ None → wants ≡ wanted (asking_in (run_seen r))
+    → lent ≡ lent_by answer kept.places → (shelves after : List (Option Object)) → shelves ≡ kept.shelves
+    → IfNone r.exit (IsStepped lent freed shelves after r t) → IsInstruction kept k answer r t freed
 instruction kept k answer r t lent freed wants fault tended at goes code none wanted_is lent_is shelves after shelves_are step = record {
   after = after;
   tended = tended;
@@ -162,9 +175,11 @@ pub record IsAt (w : World) (places : Places) (k : ℕ) (r : RunState Object) : 
   pub seen : view_of w k run ≡ run_seen r
   pub goes : run.status ≡ Going
   pub sound : IsSound (view_of w k run)
-  pub code : (answer : Answer) → option_map code_of (answer_fault w (asking_of w run) (answer_of answer)) ≡ code_by places answer (wanted (asking_in (run_seen r)))
+  pub code : (answer : Answer)
+      → option_map code_of (answer_fault w (asking_of w run) (answer_of answer)) ≡ code_by places answer (wanted (asking_in (run_seen r)))
 
-pub going_at : (w : World) (kept : WorldState) (k : ℕ) (r : RunState Object) → Shows w kept → ArePlaced kept → slice_get kept.runs k ≡ Some r → IsSound (run_seen r) → r.exit ≡ None → IsAt w kept.places k r
+pub going_at : (w : World) (kept : WorldState) (k : ℕ) (r : RunState Object) → Shows w kept → ArePlaced kept
+    → slice_get kept.runs k ≡ Some r → IsSound (run_seen r) → r.exit ≡ None → IsAt w kept.places k r
 going_at w kept k r h placed at sound going =
     let run = run_shown w kept k r h at in
     let goes : run.0.status ≡ Going = ap (λ (v : RunView). v.status) run.2 ∙ going_seen r going in
@@ -179,24 +194,29 @@ going_at w kept k r h placed at sound going =
     }
 
 -- there is no such run
-pub executed_none : (w : World) (kept : WorldState) (k : ℕ) (answer : world.Answer) → Shows w kept → slice_get kept.runs k ≡ None → exec w k answer ≡ Err NoSuchRun
+pub executed_none : (w : World) (kept : WorldState) (k : ℕ) (answer : world.Answer) → Shows w kept → slice_get kept.runs k ≡ None
+    → exec w k answer ≡ Err NoSuchRun
 executed_none w kept k answer h at = rw (none_shown w kept k h at) refl
 
 -- the run has ended
-pub executed_ended : (w : World) (kept : WorldState) (k n : ℕ) (answer : world.Answer) (r : RunState Object) → Shows w kept → slice_get kept.runs k ≡ Some r → r.exit ≡ Some n → exec w k answer ≡ Err RunEnded
+pub executed_ended : (w : World) (kept : WorldState) (k n : ℕ) (answer : world.Answer) (r : RunState Object) → Shows w kept
+    → slice_get kept.runs k ≡ Some r → r.exit ≡ Some n → exec w k answer ≡ Err RunEnded
 executed_ended w kept k n answer r h at ended =
     let run = run_shown w kept k r h at in
     let exited : run.0.status ≡ Exited n = ap (λ (v : RunView). v.status) run.2 ∙ ap status_of ended in
     rw (run.1, exited) refl
 
 -- the answer is not one that the run may get
-pub executed_bad : (w : World) (kept : WorldState) (k : ℕ) (answer : Answer) (code : ApplyCode) (r : RunState Object) → Shows w kept → ArePlaced kept → slice_get kept.runs k ≡ Some r → IsSound (run_seen r) → r.exit ≡ None → code_by kept.places answer (wanted (asking_in (run_seen r))) ≡ Some code
+pub executed_bad : (w : World) (kept : WorldState) (k : ℕ) (answer : Answer) (code : ApplyCode) (r : RunState Object) → Shows w kept
+    → ArePlaced kept → slice_get kept.runs k ≡ Some r → IsSound (run_seen r) → r.exit ≡ None
+    → code_by kept.places answer (wanted (asking_in (run_seen r))) ≡ Some code
     → (why : Illegal) × (exec w k (answer_of answer) ≡ Err why) × (code ≡ code_of why)
 executed_bad w kept k answer code r h placed at sound going bad = by (answer_fault w (asking_of w here.run) (answer_of answer)) refl where
   here : IsAt w kept.places k r
   here = going_at w kept k r h placed at sound going
 
-  by : (o : Option Illegal) → answer_fault w (asking_of w here.run) (answer_of answer) ≡ o → (why : Illegal) × (exec w k (answer_of answer) ≡ Err why) × (code ≡ code_of why)
+  by : (o : Option Illegal) → answer_fault w (asking_of w here.run) (answer_of answer) ≡ o
+      → (why : Illegal) × (exec w k (answer_of answer) ≡ Err why) × (code ≡ code_of why)
   by None fault = let none = ap (option_map code_of) (sym fault) ∙ here.code answer ∙ bad in absurd (cc)
   by (Some why) fault = let same = ap (option_map code_of) (sym fault) ∙ here.code answer ∙ bad in (why, rw (here.there, here.goes, fault) refl, cc)
 
@@ -212,7 +232,8 @@ no_fault : (o : Option Illegal) → option_map code_of o ≡ None → o ≡ None
 no_fault None e = refl
 no_fault (Some why) e = absurd (cc)
 
-pub executed_after : (w : World) (kept : WorldState) (k : ℕ) (answer : Answer) (r t : RunState Object) (freed : Option Object) → Shows w kept → (i : IsInstruction kept k answer r t freed) → IsAfter w kept k answer r t i.step.served i.after
+pub executed_after : (w : World) (kept : WorldState) (k : ℕ) (answer : Answer) (r t : RunState Object) (freed : Option Object)
+    → Shows w kept → (i : IsInstruction kept k answer r t freed) → IsAfter w kept k answer r t i.step.served i.after
 executed_after w kept k answer r t freed h i = record { after = after; legal = next.1.legal; shows = shows; slots = slots } where
   here : IsAt w kept.places k r
   here = going_at w kept k r h i.tended.placed i.at i.run.sound i.going

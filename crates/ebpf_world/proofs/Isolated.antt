@@ -52,7 +52,8 @@ record IsKept (w : World) (events : List Event) : Type 0 where
 -- the answers of the events so far, and that of one more
 answers_more : (k : ℕ) (events : List Event) (e : Event) → answers_to k (events ++ e ∷ []) ≡ answers_to k events ++ answer_in k e
 answers_more k [] e = append-nil (answer_in k e)
-answers_more k (x ∷ events) e = ap (λ (rest : List Reply). answer_in k x ++ rest) (answers_more k events e) ∙ sym (append_assoc (answer_in k x) (answers_to k events) (answer_in k e))
+answers_more k (x ∷ events) e =
+    ap (λ (rest : List Reply). answer_in k x ++ rest) (answers_more k events e) ∙ sym (append_assoc (answer_in k x) (answers_to k events) (answer_in k e))
 
 answers_same : (k : ℕ) (events : List Event) (e : Event) → answer_in k e ≡ [] → answers_to k (events ++ e ∷ []) ≡ answers_to k events
 answers_same k events e none = answers_more k events e ∙ ap (λ (rest : List Reply). answers_to k events ++ rest) none ∙ append-nil (answers_to k events)
@@ -75,14 +76,16 @@ same_of o a b e f = cc
 sound_kept : (w : World) (events : List Event) → IsKept w events → AreSound w
 sound_kept w events h = λ k run at. (h.runs k run at).sound
 
-own_left : (w v : World) (events : List Event) (e : Event) (k : ℕ) (run : Running) → IsKept w events → IsEventOf w v (own_run w e) → own_run w e ≢ Some k → slice_get v.runs k ≡ Some run → IsOwn (view_of v k run) (answers_to k (events ++ e ∷ []))
+own_left : (w v : World) (events : List Event) (e : Event) (k : ℕ) (run : Running) → IsKept w events → IsEventOf w v (own_run w e)
+    → own_run w e ≢ Some k → slice_get v.runs k ≡ Some run → IsOwn (view_of v k run) (answers_to k (events ++ e ∷ []))
 own_left w v events e k run h next ne there =
     let seen : view_in v k ≡ Some (view_of v k run) = rw there refl in
     let before = shown_run w k (view_of v k run) (sym (next.left k ne).view ∙ seen) in
     subst (IsOwn (view_of v k run)) (sym (answers_same k events e (answer_other w k e ne))) (subst (λ (x : RunView). IsOwn x (answers_to k events)) before.2 (h.runs k before.0 before.1))
 
 -- there is no run then either where there was none
-none_left : (w v : World) (events : List Event) (e : Event) (k : ℕ) → IsKept w events → IsEventOf w v (own_run w e) → own_run w e ≢ Some k → slice_get v.runs k ≡ None → answers_to k (events ++ e ∷ []) ≡ []
+none_left : (w v : World) (events : List Event) (e : Event) (k : ℕ) → IsKept w events → IsEventOf w v (own_run w e)
+    → own_run w e ≢ Some k → slice_get v.runs k ≡ None → answers_to k (events ++ e ∷ []) ≡ []
 none_left w v events e k h next ne none =
     let unseen : view_in v k ≡ None = rw none refl in
     answers_same k events e (answer_other w k e ne) ∙ h.unanswered k (unshown (slice_get w.runs k) refl (sym (next.left k ne).view ∙ unseen))
@@ -93,14 +96,17 @@ none_left w v events e k h next ne none =
 
 -- ---- a run starts
 
-own_first : (w : World) (s : Subject) (context : List ℕ) (k : ℕ) → IsAccepted s → length context ≡ s.decl.context → IsOwned w → slice_get w.runs k ≡ None → IsOwn (view_of w k (first_run s context)) []
+own_first : (w : World) (s : Subject) (context : List ℕ) (k : ℕ) → IsAccepted s → length context ≡ s.decl.context → IsOwned w
+    → slice_get w.runs k ≡ None → IsOwn (view_of w k (first_run s context)) []
 own_first w s context k accepted long owned none =
     let v : RunView = run_seen (first_state_of s context) in
     let same : v ≡ view_of w k (first_run s context) = rw (unheld w k owned none) refl in
     subst (λ (u : RunView). IsOwn u []) same (record { sound = first_sound {H = Object} (λ o. o.bytes.items) s context accepted long; alone = first_alone s context; told = refl })
 
-started_own : (w : World) (events : List Event) (s : Subject) (context bytes : List ℕ) (program : ℕ) (run : Running) → IsAccepted s → length context ≡ s.decl.context → IsKept w events
-    → slice_get (started s context w).runs (length w.runs) ≡ Some run → IsOwn (view_of (started s context w) (length w.runs) run) (answers_to (length w.runs) (events ++ Start program bytes ∷ []))
+started_own : (w : World) (events : List Event) (s : Subject) (context bytes : List ℕ) (program : ℕ) (run : Running) → IsAccepted s
+    → length context ≡ s.decl.context → IsKept w events
+    → slice_get (started s context w).runs (length w.runs) ≡ Some run
+    → IsOwn (view_of (started s context w) (length w.runs) run) (answers_to (length w.runs) (events ++ Start program bytes ∷ []))
 started_own w events s context bytes program run accepted long h there =
     let k = length w.runs in
     let none : slice_get w.runs k ≡ None = slice_get_past w.runs k (omega arith) in
@@ -110,14 +116,19 @@ started_own w events s context bytes program run accepted long h there =
 
 -- ---- a run does an instruction
 
-own_next : (w : World) (v : RunView) (answers : List Reply) (answer : Answer) → IsOwn v answers → AreSized v → v.status ≡ Going → answer_fault w (asking_in v) (answer_of answer) ≡ None → FitsShelf v (result_of (served_in w (asking_in v) (answer_of answer))) → IsOwn (stepped (result_of (served_in w (asking_in v) (answer_of answer))) v) (answers ++ reply_by answer)
+own_next : (w : World) (v : RunView) (answers : List Reply) (answer : Answer) → IsOwn v answers → AreSized v → v.status ≡ Going
+    → answer_fault w (asking_in v) (answer_of answer) ≡ None
+    → FitsShelf v (result_of (served_in w (asking_in v) (answer_of answer)))
+    → IsOwn (stepped (result_of (served_in w (asking_in v) (answer_of answer))) v) (answers ++ reply_by answer)
 own_next w v answers answer own sized going fine fits = record {
   sound = sound_stepped v (result_of (served_in w (asking_in v) (answer_of answer))) own.sound sized going;
   alone = alone_stepped v (result_of (served_in w (asking_in v) (answer_of answer))) own.sound own.alone going fits;
   told = told_next w v answer own.sound sized going fine ∙ ap (λ (rs : List Reply). rs ++ reply_by answer) own.told;
 }
 
-stepped_own : (w v : World) (events : List Event) (number : ℕ) (answer : Answer) (run : Running) → IsKept w events → IsExec w number (answer_of answer) v → slice_get v.runs number ≡ Some run → IsOwn (view_of v number run) (answers_to number (events ++ Exec number answer ∷ []))
+stepped_own : (w v : World) (events : List Event) (number : ℕ) (answer : Answer) (run : Running) → IsKept w events
+    → IsExec w number (answer_of answer) v → slice_get v.runs number ≡ Some run
+    → IsOwn (view_of v number run) (answers_to number (events ++ Exec number answer ∷ []))
 stepped_own w v events number answer run h exec there =
     let u = view_of w number exec.r in
     let seen : view_in v number ≡ Some (view_of v number run) = rw there refl in
@@ -132,7 +143,9 @@ stepped_own w v events number answer run h exec there =
 -- ---- every event
 
 -- the run that the event is of
-own_event : (programs : List Subject) (e : Event) (w v : World) (events : List Event) (k : ℕ) (run : Running) → All IsAccepted programs → IsKept w events → happened programs e w ≡ Ok v → own_run w e ≡ Some k → slice_get v.runs k ≡ Some run → IsOwn (view_of v k run) (answers_to k (events ++ e ∷ []))
+own_event : (programs : List Subject) (e : Event) (w v : World) (events : List Event) (k : ℕ) (run : Running)
+    → All IsAccepted programs → IsKept w events → happened programs e w ≡ Ok v → own_run w e ≡ Some k
+    → slice_get v.runs k ≡ Some run → IsOwn (view_of v k run) (answers_to k (events ++ e ∷ []))
 own_event programs (Start program context) w v events k run all h is own there =
     let start = start_next programs program context w v is in
     let same : length w.runs ≡ k = cc in
@@ -148,11 +161,13 @@ own_event programs (Grow kind slot) w v events k run all h is own there = absurd
 own_event programs (Reap kind slot) w v events k run all h is own there = absurd (cc)
 
 -- it is there then
-own_there : (programs : List Subject) (e : Event) (w v : World) (events : List Event) (k : ℕ) → IsKept w events → happened programs e w ≡ Ok v → own_run w e ≡ Some k → slice_get v.runs k ≢ None
+own_there : (programs : List Subject) (e : Event) (w v : World) (events : List Event) (k : ℕ) → IsKept w events
+    → happened programs e w ≡ Ok v → own_run w e ≡ Some k → slice_get v.runs k ≢ None
 own_there programs (Start program context) w v events k h is own none =
     let start = start_next programs program context w v is in
     let same : length w.runs ≡ k = cc in
-    let last : slice_get (started start.subject context w).runs k ≡ Some (first_run start.subject context) = ap (slice_get (started start.subject context w).runs) (sym same) ∙ get_last w.runs (first_run start.subject context) in
+    let last : slice_get (started start.subject context w).runs k ≡ Some (first_run start.subject context) =
+    ap (slice_get (started start.subject context w).runs) (sym same) ∙ get_last w.runs (first_run start.subject context) in
     let there_now = ap (λ (u : World). slice_get u.runs k) start.is ∙ none in
     absurd (cc)
 own_there programs (Exec number answer) w v events k h is own none =
@@ -173,7 +188,8 @@ is_own (Some n) k = by (same_number n k) where
     some_same : Some n ≡ Some k → n ≡ k
     some_same e = cc
 
-kept_by : (programs : List Subject) (e : Event) (w v : World) (events : List Event) → All IsAccepted programs → AreKnown programs → IsKept w events → happened programs e w ≡ Ok v → IsKept v (events ++ e ∷ [])
+kept_by : (programs : List Subject) (e : Event) (w v : World) (events : List Event) → All IsAccepted programs → AreKnown programs
+    → IsKept w events → happened programs e w ≡ Ok v → IsKept v (events ++ e ∷ [])
 kept_by programs e w v events all known h is = record {
   owned = next.owned;
   kinds = next.kinds ∙ h.kinds;
@@ -184,7 +200,8 @@ kept_by programs e w v events all known h is = record {
     next : IsEventOf w v (own_run w e)
     next = event_next programs e w v known h.owned h.kinds (sound_kept w events h) is
 
-    at_run : (k : ℕ) (run : Running) → slice_get v.runs k ≡ Some run → (own_run w e ≡ Some k) ⊎ (own_run w e ≢ Some k) → IsOwn (view_of v k run) (answers_to k (events ++ e ∷ []))
+    at_run : (k : ℕ) (run : Running) → slice_get v.runs k ≡ Some run → (own_run w e ≡ Some k) ⊎ (own_run w e ≢ Some k)
+        → IsOwn (view_of v k run) (answers_to k (events ++ e ∷ []))
     at_run k run there (inl own) = own_event programs e w v events k run all h is own there
     at_run k run there (inr ne) = own_left w v events e k run h next ne there
 
@@ -200,7 +217,8 @@ first_owned = owned_empty known_kinds known_kinds refl
 first_kept : IsKept first_world []
 first_kept = record { owned = first_owned; kinds = refl; runs = λ k run at. absurd (cc); unanswered = λ k past. refl }
 
-world_after_kept : (programs : List Subject) (rest events : List Event) (index : ℕ) (w v : World) → All IsAccepted programs → AreKnown programs → IsKept w events → world_after_from programs rest index w ≡ Ok v → IsKept v (events ++ rest)
+world_after_kept : (programs : List Subject) (rest events : List Event) (index : ℕ) (w v : World) → All IsAccepted programs
+    → AreKnown programs → IsKept w events → world_after_from programs rest index w ≡ Ok v → IsKept v (events ++ rest)
 unfolding world_after_from
 world_after_kept programs [] events index w v all known h e =
     let same : w ≡ v = cc in
@@ -209,7 +227,10 @@ world_after_kept programs [] events index w v all known h e =
 world_after_kept programs (x ∷ rest) events index w v all known h e =
     subst (IsKept v) (append_assoc events (x ∷ []) rest) (next (happened programs x w) refl e (λ u k f. world_after_kept programs rest (events ++ x ∷ []) (index + 1) u v all known k f))
   where
-    next : (r : Result World Illegal) → happened programs x w ≡ r → and_then r index (world_after_from programs rest (index + 1)) ≡ Ok v → ((u : World) → IsKept u (events ++ x ∷ []) → world_after_from programs rest (index + 1) u ≡ Ok v → IsKept v ((events ++ x ∷ []) ++ rest)) → IsKept v ((events ++ x ∷ []) ++ rest)
+    next : (r : Result World Illegal) → happened programs x w ≡ r
+        → and_then r index (world_after_from programs rest (index + 1)) ≡ Ok v
+        → ((u : World) → IsKept u (events ++ x ∷ []) → world_after_from programs rest (index + 1) u ≡ Ok v → IsKept v ((events ++ x ∷ []) ++ rest))
+        → IsKept v ((events ++ x ∷ []) ++ rest)
     next (Err why) is e go = absurd (cc)
     next (Ok u) is e go = go u (kept_by programs x w u events all known h is) e
 
@@ -234,7 +255,8 @@ alone_of w k run answers own =
       status = sym (ap (λ (v : RunView). v.status) h.seen);
     }
 
-outcome_of_run : (w : World) (k : ℕ) (run : Running) (answers : List Reply) (n : ℕ) → IsOwn (view_of w k run) answers → run.status ≡ Exited n → IsOutcomeOf run n (outcome_alone run.subject run.context (replies_to run))
+outcome_of_run : (w : World) (k : ℕ) (run : Running) (answers : List Reply) (n : ℕ) → IsOwn (view_of w k run) answers
+    → run.status ≡ Exited n → IsOutcomeOf run n (outcome_alone run.subject run.context (replies_to run))
 outcome_of_run w k run answers n own ended =
     let is = ap (outcome_alone run.subject run.context) (sym (none_more (replies_to run))) ∙ outcome_exited (view_of w k run) n own.sound own.alone ended (replies_from [] []) in
     record { status = ap (λ (o : Outcome). o.status) is; output = ap (λ (o : Outcome). o.output) is; executed = ap (λ (o : Outcome). o.executed) is }
@@ -250,7 +272,8 @@ few_held v sound = by_status v.status refl where
   by_status (Exited n) e = let none = none_held v n sound e in omega (arith, none)
   by_status (Trapped trap) e = absurd (subst (λ (s : Status). IsWellStated s v) e sound.stated)
 
-isolated : (w : World) (events : List Event) (k : ℕ) (run : Running) → IsKept w events → slice_get w.runs k ≡ Some run → IsIsolated w k run (answers_to k events)
+isolated : (w : World) (events : List Event) (k : ℕ) (run : Running) → IsKept w events → slice_get w.runs k ≡ Some run
+    → IsIsolated w k run (answers_to k events)
 isolated w events k run h at =
     let own = h.runs k run at in
     let v = view_of w k run in
@@ -276,4 +299,5 @@ safe_kept w events h = record {
 
 -- the main theorem: every beginning of a list, where it is legal, leads to a safe world
 pub always_safe : (programs : List Subject) (events : List Event) → All IsAccepted programs → AreKnown programs → IsAlwaysSafe programs events
-always_safe programs events all known = λ n w e. safe_kept w (take n events) (world_after_kept programs (take n events) [] 0 first_world w all known first_kept e)
+always_safe programs events all known =
+    λ n w e. safe_kept w (take n events) (world_after_kept programs (take n events) [] 0 first_world w all known first_kept e)

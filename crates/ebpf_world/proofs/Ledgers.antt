@@ -67,7 +67,8 @@ ascending_joined slot (s ∷ slots) new up =
     let parts = or_parts (s == slot) (is_in slot slots) new in
     by (nat_lt s slot) refl parts.0 (ascending_joined slot slots parts.1 (tail_ascends s slots up))
   where
-    by : (t : Bool) → nat_lt s slot ≡ t → (s == slot) ≡ false → IsAscending (with_slot slot slots) → IsAscending (cond t (s ∷ with_slot slot slots) (slot ∷ s ∷ slots))
+    by : (t : Bool) → nat_lt s slot ≡ t → (s == slot) ≡ false → IsAscending (with_slot slot slots)
+        → IsAscending (cond t (s ∷ with_slot slot slots) (slot ∷ s ∷ slots))
     by true e ne rest = ascending-cons s (with_slot slot slots) (below_joined s slot slots (ltb-true s slot e) (first_below s slots up)) rest
     by false e ne rest = (grind (arith, nat_tests), up)
 
@@ -87,12 +88,14 @@ parted_joined slot (s ∷ slots) new =
     let parts = or_parts (s == slot) (is_in slot slots) new in
     by (nat_lt s slot) parts.0 (parted_joined slot slots parts.1)
   where
-    by : (t : Bool) → (s == slot) ≡ false → without_slot slot (with_slot slot slots) ≡ slots → without_slot slot (cond t (s ∷ with_slot slot slots) (slot ∷ s ∷ slots)) ≡ s ∷ slots
+    by : (t : Bool) → (s == slot) ≡ false → without_slot slot (with_slot slot slots) ≡ slots
+        → without_slot slot (cond t (s ∷ with_slot slot slots) (slot ∷ s ∷ slots)) ≡ s ∷ slots
     by true ne rest = rw ne (ap (λ (l : List ℕ). s ∷ l) rest)
     by false ne rest = rw (eq-eqb slot slot refl) (parted_none slot (s ∷ slots) new)
 
 differs : (slot : ℕ) (slots : List ℕ) → ((k : ℕ) → k < length slots → get_or slots k 0 ≢ slot) → is_in slot slots ≡ false
-differs slot slots ne = list_any_none (λ (s : ℕ). s == slot) slots (λ k d inside. rw (get_or_default slots k d 0 inside) (ne_eqb (get_or slots k 0) slot (ne k inside)))
+differs slot slots ne =
+    list_any_none (λ (s : ℕ). s == slot) slots (λ k d inside. rw (get_or_default slots k d 0 inside) (ne_eqb (get_or slots k 0) slot (ne k inside)))
 
 -- a slot that there is a gap for is not there
 pub absent : (slot : ℕ) (slots : List ℕ) (place : ℕ) → IsGap slot slots place → is_in slot slots ≡ false
@@ -102,7 +105,8 @@ absent slot slots place gap = differs slot slots (λ k inside e. elim (cases_lt 
 ])
 
 -- taken out where it is, it is there no more
-pub parted_at : (slot : ℕ) (slots : List ℕ) (place : ℕ) → IsAscending slots → place < length slots → get_or slots place 0 ≡ slot → remove slots place ≡ without_slot slot slots
+pub parted_at : (slot : ℕ) (slots : List ℕ) (place : ℕ) → IsAscending slots → place < length slots → get_or slots place 0 ≡ slot
+    → remove slots place ≡ without_slot slot slots
 parted_at slot [] place up inside is = absurd (omega (arith, inside))
 parted_at slot (s ∷ slots) zero up inside is =
     let none = differs slot slots (λ k within e. let above = all_above s slots up k 0 within in omega (arith, above, is, e)) in
@@ -120,7 +124,8 @@ IsPlace slot slots (Ok place) = (is_in slot slots ≡ true) × (remove slots pla
 IsPlace slot slots (Err place) = (is_in slot slots ≡ false) × (insert slots place slot ≡ with_slot slot slots)
 
 -- xs is the list that was searched
-pub place_found : (slot : ℕ) (slots xs : List ℕ) (found : Result ℕ ℕ) → IsAscending slots → xs ≡ slots → IsBinarySearchResult (λ s. nat_cmp s slot) xs found → IsPlace slot slots found
+pub place_found : (slot : ℕ) (slots xs : List ℕ) (found : Result ℕ ℕ) → IsAscending slots → xs ≡ slots
+    → IsBinarySearchResult (λ s. nat_cmp s slot) xs found → IsPlace slot slots found
 place_found slot slots xs found up same is = by found (rw same at is) where
   by : (r : Result ℕ ℕ) → IsBinarySearchResult (λ s. nat_cmp s slot) slots r → IsPlace slot slots r
   by (Ok place) searching =

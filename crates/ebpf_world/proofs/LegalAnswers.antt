@@ -37,7 +37,8 @@ asked_as None = Unasked
 asked_as (Some kind) = OfKind kind
 
 -- what stands on a shelf is no answer of an event
-same_fault : (w : World) (v : RunView) (answer : world.Answer) → Asks v → answer_fault w (asking_in v) answer ≡ answer_fault w (asked_as (wanted (asking_in v))) answer
+same_fault : (w : World) (v : RunView) (answer : world.Answer) → Asks v
+    → answer_fault w (asking_in v) answer ≡ answer_fault w (asked_as (wanted (asking_in v))) answer
 same_fault w v answer (ForNothing unasked) = ap (λ (a : Asking). answer_fault w a answer) (unasked ∙ ap (λ (a : Asking). asked_as (wanted a)) (sym unasked))
 same_fault w v answer (ForObject kind asked new) = ap (λ (a : Asking). answer_fault w a answer) (asked ∙ ap (λ (a : Asking). asked_as (wanted a)) (sym asked))
 same_fault w v answer (ForShelf shelf asked new) = ap (λ (a : Asking). answer_fault w a answer) asked ∙ unasked answer ∙ ap (λ (a : Asking). answer_fault w (asked_as (wanted a)) answer) (sym asked) where
@@ -46,7 +47,8 @@ same_fault w v answer (ForShelf shelf asked new) = ap (λ (a : Asking). answer_f
   unasked world.Null = refl
   unasked (world.Slot slot) = refl
 
-pub asks_as : (w : World) (v : RunView) (answer : world.Answer) → IsSound v → AreSized v → v.status ≡ Going → answer_fault w (asking_in v) answer ≡ answer_fault w (asked_as (wanted (asking_in v))) answer
+pub asks_as : (w : World) (v : RunView) (answer : world.Answer) → IsSound v → AreSized v → v.status ≡ Going
+    → answer_fault w (asking_in v) answer ≡ answer_fault w (asked_as (wanted (asking_in v))) answer
 asks_as w v answer sound sized going = same_fault w v answer (asks_of v (next_of v sound sized going))
 
 -- ---- why an answer is not legal
@@ -70,17 +72,20 @@ in_which w slot a b owned here = by (is_in slot (ledger_of w b)) refl where
     other : (a == b) ≡ true → ⊥
     other same = let too = ap (λ (k : ℕ). is_in slot (ledger_of w k)) (eqb-true a b same) in absurd (cc)
 
-slot_fault : (w : World) (slot : ℕ) (place : Option Place) (wants : Option ℕ) → IsOwned w → IsKeptIn w slot place → option_map code_of (answer_fault w (asked_as wants) (world.Slot slot)) ≡ slot_code place wants
+slot_fault : (w : World) (slot : ℕ) (place : Option Place) (wants : Option ℕ) → IsOwned w → IsKeptIn w slot place
+    → option_map code_of (answer_fault w (asked_as wants) (world.Slot slot)) ≡ slot_code place wants
 slot_fault w slot None wants owned kept = rw kept refl
 slot_fault w slot (Some (Held run at)) wants owned kept = rw kept refl
 slot_fault w slot (Some (Shelved shelf)) wants owned kept = rw kept refl
 slot_fault w slot (Some (Home o)) None owned kept = let home = kept.0 in rw home refl
 slot_fault w slot (Some (Home o)) (Some kind) owned kept = let home = kept.0 in let which = in_which w slot o.kind kind owned kept.1 in rw (home, which) (by (o.kind == kind)) where
-  by : (t : Bool) → option_map code_of (first_of ((false, SlotNotHome) ∷ (not t, SlotOfAnotherKind) ∷ (false, AnswerUnasked) ∷ (false, AnswerMissing) ∷ [])) ≡ cond t None (Some apply.SlotOfAnotherKind)
+  by : (t : Bool)
+      → option_map code_of (first_of ((false, SlotNotHome) ∷ (not t, SlotOfAnotherKind) ∷ (false, AnswerUnasked) ∷ (false, AnswerMissing) ∷ [])) ≡ cond t None (Some apply.SlotOfAnotherKind)
   by true = refl
   by false = refl
 
-code_is : (w : World) (places : Places) (answer : Answer) (wants : Option ℕ) → IsOwned w → AnswersFrom w places answer → option_map code_of (answer_fault w (asked_as wants) (answer_of answer)) ≡ code_by places answer wants
+code_is : (w : World) (places : Places) (answer : Answer) (wants : Option ℕ) → IsOwned w → AnswersFrom w places answer
+    → option_map code_of (answer_fault w (asked_as wants) (answer_of answer)) ≡ code_by places answer wants
 code_is w places Absent None owned from = refl
 code_is w places Absent (Some kind) owned from = refl
 code_is w places Null None owned from = refl
@@ -88,7 +93,8 @@ code_is w places Null (Some kind) owned from = refl
 code_is w places (Slot slot) wants owned from = slot_fault w slot (place_at places slot) wants owned from
 
 -- so it is, for a run of the world
-pub code_at : (w : World) (k : ℕ) (run : Running) (places : Places) (answer : Answer) → IsOwned w → AnswersFrom w places answer → slice_get w.runs k ≡ Some run → IsSound (view_of w k run) → run.status ≡ Going
+pub code_at : (w : World) (k : ℕ) (run : Running) (places : Places) (answer : Answer) → IsOwned w → AnswersFrom w places answer
+    → slice_get w.runs k ≡ Some run → IsSound (view_of w k run) → run.status ≡ Going
     → option_map code_of (answer_fault w (asking_of w run) (answer_of answer)) ≡ code_by places answer (wanted (asking_in (view_of w k run)))
 code_at w k run places answer owned from there sound going =
     let v = view_of w k run in
@@ -101,7 +107,9 @@ code_at w k run places answer owned from there sound going =
 -- there is an answer just where one is asked for
 asked_fits : (w : World) (asked : Asking) (answer : world.Answer) → answer_fault w asked answer ≡ None → is_asked asked ≡ is_answer answer
 asked_fits w asked answer fine = by (is_away w answer) (is_of_another_kind w asked answer) (is_asked asked) (is_answer answer) fine where
-  by : (a b asks answers : Bool) → first_of ((a, SlotNotHome) ∷ (b, SlotOfAnotherKind) ∷ (not asks && answers, AnswerUnasked) ∷ (asks && not answers, AnswerMissing) ∷ []) ≡ None → asks ≡ answers
+  by : (a b asks answers : Bool)
+      → first_of ((a, SlotNotHome) ∷ (b, SlotOfAnotherKind) ∷ (not asks && answers, AnswerUnasked) ∷ (asks && not answers, AnswerMissing) ∷ []) ≡ None
+      → asks ≡ answers
   by true b asks answers fine = absurd (cc)
   by false true asks answers fine = absurd (cc)
   by false false true true fine = refl
@@ -113,8 +121,10 @@ asked_fits w asked answer fine = by (is_away w answer) (is_of_another_kind w ask
 pub told_next : (w : World) (v : RunView) (answer : Answer) → IsSound v → AreSized v → v.status ≡ Going → answer_fault w (asking_in v) (answer_of answer) ≡ None
     → filter is_to_new (stepped (result_of (served_in w (asking_in v) (answer_of answer))) v).replies ≡ filter is_to_new v.replies ++ reply_by answer
 told_next w v answer sound sized going fine = by (asks_of v (next_of v sound sized going)) answer (asked_fits w (asking_in v) (answer_of answer) fine) where
-  more : (told : List Reply) (answers : Replies) (one : Reply) → filter is_to_new (one ∷ []) ≡ told → answers.answers ≡ v.replies ++ one ∷ [] → filter is_to_new answers.answers ≡ filter is_to_new v.replies ++ told
-  more told answers one is e = ap (filter is_to_new) e ∙ filter-append is_to_new v.replies (one ∷ []) ∙ ap (λ (rs : List Reply). filter is_to_new v.replies ++ rs) is
+  more : (told : List Reply) (answers : Replies) (one : Reply) → filter is_to_new (one ∷ []) ≡ told
+      → answers.answers ≡ v.replies ++ one ∷ [] → filter is_to_new answers.answers ≡ filter is_to_new v.replies ++ told
+  more told answers one is e =
+      ap (filter is_to_new) e ∙ filter-append is_to_new v.replies (one ∷ []) ∙ ap (λ (rs : List Reply). filter is_to_new v.replies ++ rs) is
 
   to_swap : (result : CallResult) → filter is_to_new (reply_in (heard_by_swap result) ∷ []) ≡ []
   to_swap view.Null = refl
@@ -122,8 +132,10 @@ told_next w v answer sound sized going fine = by (asks_of v (next_of v sound siz
   to_swap view.Empty = refl
   to_swap (view.Shelved bytes) = refl
 
-  by : Asks v → (given : Answer) → is_asked (asking_in v) ≡ is_answer (answer_of given) → filter is_to_new (stepped (result_of (served_in w (asking_in v) (answer_of given))) v).replies ≡ filter is_to_new v.replies ++ reply_by given
-  by (ForNothing unasked) Absent fits = ap (λ (rs : Replies). filter is_to_new rs.answers) (replies_kept v _ going unasked) ∙ sym (append-nil (filter is_to_new v.replies))
+  by : Asks v → (given : Answer) → is_asked (asking_in v) ≡ is_answer (answer_of given)
+      → filter is_to_new (stepped (result_of (served_in w (asking_in v) (answer_of given))) v).replies ≡ filter is_to_new v.replies ++ reply_by given
+  by (ForNothing unasked) Absent fits =
+      ap (λ (rs : Replies). filter is_to_new rs.answers) (replies_kept v _ going unasked) ∙ sym (append-nil (filter is_to_new v.replies))
   by (ForNothing unasked) Null fits = let bad = ap is_asked unasked in absurd (cc)
   by (ForNothing unasked) (Slot slot) fits = let bad = ap is_asked unasked in absurd (cc)
   by (ForObject kind asked new) Absent fits = let bad = ap is_asked asked in absurd (cc)

@@ -30,8 +30,11 @@ stepped_to kept k t now after = record kept { runs = slice_set kept.runs k t; pl
 -- ---- a slot that stays where it is
 
 -- what the run holds of it, it holds still
-pub moved : (kept : WorldState) (k q : ℕ) (r t : RunState Object) (now : Places) (after : List (Option Object)) (p : Option Place) → slice_get kept.runs k ≡ Some r → ((at : ℕ) → p ≡ Some (Held k at) → Contains (slots_of r) (name_of q at) → Contains (slots_of t) (name_of q at))
-    → ((shelf : ℕ) → p ≡ Some (Shelved shelf) → slot_on kept.shelves shelf ≡ Some q → slot_on after shelf ≡ Some q) → IsPlaced kept q p → IsPlaced (stepped_to kept k t now after) q p
+pub moved : (kept : WorldState) (k q : ℕ) (r t : RunState Object) (now : Places) (after : List (Option Object)) (p : Option Place)
+    → slice_get kept.runs k ≡ Some r
+    → ((at : ℕ) → p ≡ Some (Held k at) → Contains (slots_of r) (name_of q at) → Contains (slots_of t) (name_of q at))
+    → ((shelf : ℕ) → p ≡ Some (Shelved shelf) → slot_on kept.shelves shelf ≡ Some q → slot_on after shelf ≡ Some q)
+    → IsPlaced kept q p → IsPlaced (stepped_to kept k t now after) q p
 moved kept k q r t now after None there keeps stands placed = placed
 moved kept k q r t now after (Some (Shelved shelf)) there keeps stands placed = stands shelf refl placed
 moved kept k q r t now after (Some (Home o)) there keeps stands placed = record { same = placed.same; its = placed.its; known = placed.known; image = placed.image }
@@ -46,7 +49,8 @@ moved kept k q r t now after (Some (Held run at)) there keeps stands placed = by
   by (inr ne) = (placed.0, get_set_other kept.runs k run t ne ∙ placed.1, placed.2)
 
 -- a run of the world then is that one, or was there
-pub run_after : (kept : WorldState) (k run : ℕ) (r t x : RunState Object) → slice_get kept.runs k ≡ Some r → slice_get (slice_set kept.runs k t) run ≡ Some x → ((run ≡ k) × (t ≡ x)) ⊎ ((run ≢ k) × (slice_get kept.runs run ≡ Some x))
+pub run_after : (kept : WorldState) (k run : ℕ) (r t x : RunState Object) → slice_get kept.runs k ≡ Some r
+    → slice_get (slice_set kept.runs k t) run ≡ Some x → ((run ≡ k) × (t ≡ x)) ⊎ ((run ≢ k) × (slice_get kept.runs run ≡ Some x))
 run_after kept k run r t x there now = by (same_number run k) where
   by : (run ≡ k) ⊎ (run ≢ k) → ((run ≡ k) × (t ≡ x)) ⊎ ((run ≢ k) × (slice_get kept.runs run ≡ Some x))
   by (inl same) = let mine = sym (get_set_same kept.runs k r t there) ∙ ap (slice_get (slice_set kept.runs k t)) (sym same) ∙ now in inl (same, cc)
@@ -65,11 +69,15 @@ pub record IsMoved (kept : WorldState) (k : ℕ) (answer : Answer) (r : RunState
   pub now_are : (q : ℕ) → place_at now q ≡ place_exchanged (reached (asking_in (run_seen r))) (reached_slot kept.shelves r) (reached_slot after r) k r.pc back q
 
 -- where no shelf is reached
-plainly : (kept : WorldState) (k : ℕ) (answer : Answer) (r : RunState Object) (freed : Option Object) (after : List (Option Object)) (lent back now : Places) → IsMoved kept k answer r freed after lent back now → LeavesShelves kept r after → (q : ℕ) → place_at now q ≡ place_returned freed lent q
-plainly kept k answer r freed after lent back now m leaves q = m.now_are q ∙ ap (λ (o : Option ℕ). place_exchanged o (reached_slot kept.shelves r) (reached_slot after r) k r.pc back q) leaves.unreached ∙ m.back_are q
+plainly : (kept : WorldState) (k : ℕ) (answer : Answer) (r : RunState Object) (freed : Option Object) (after : List (Option Object)) (lent back now : Places)
+    → IsMoved kept k answer r freed after lent back now → LeavesShelves kept r after → (q : ℕ)
+    → place_at now q ≡ place_returned freed lent q
+plainly kept k answer r freed after lent back now m leaves q =
+    m.now_are q ∙ ap (λ (o : Option ℕ). place_exchanged o (reached_slot kept.shelves r) (reached_slot after r) k r.pc back q) leaves.unreached ∙ m.back_are q
 
 -- what stood on a shelf does so still
-still : (kept : WorldState) (r : RunState Object) (after : List (Option Object)) → LeavesShelves kept r after → (shelf q : ℕ) → slot_on kept.shelves shelf ≡ Some q → slot_on after shelf ≡ Some q
+still : (kept : WorldState) (r : RunState Object) (after : List (Option Object)) → LeavesShelves kept r after → (shelf q : ℕ)
+    → slot_on kept.shelves shelf ≡ Some q → slot_on after shelf ≡ Some q
 still kept r after leaves shelf q stands = leaves.same shelf ∙ stands
 
 pub here_or : (q slot : ℕ) (a b : Option Place) → q ≡ slot → cond (q == slot) a b ≡ a
@@ -78,8 +86,10 @@ here_or q slot a b e = let is = eq-eqb q slot e in rw is refl
 pub else_or : (q slot : ℕ) (a b : Option Place) → q ≢ slot → cond (q == slot) a b ≡ b
 else_or q slot a b ne = let is = ne_eqb q slot ne in rw is refl
 
-pub stays_placed : (kept : WorldState) (k : ℕ) (answer : Answer) (r t : RunState Object) (freed : Option Object) (after : List (Option Object)) (lent back now : Places) → IsInstruction kept k answer r t freed → IsMoved kept k answer r freed after lent back now → LeavesShelves kept r after
-    → freed ≡ None → ((run at q : ℕ) → place_lent answer run at kept.places q ≡ place_at kept.places q) → slots_of t ≡ slots_of r → ArePlaced (stepped_to kept k t now after)
+pub stays_placed : (kept : WorldState) (k : ℕ) (answer : Answer) (r t : RunState Object) (freed : Option Object) (after : List (Option Object)) (lent back now : Places)
+    → IsInstruction kept k answer r t freed → IsMoved kept k answer r freed after lent back now → LeavesShelves kept r after
+    → freed ≡ None → ((run at q : ℕ) → place_lent answer run at kept.places q ≡ place_at kept.places q) → slots_of t ≡ slots_of r
+    → ArePlaced (stepped_to kept k t now after)
 stays_placed kept k answer r t freed after lent back now i m leaves none stays slots = record {
   each = λ q. subst (IsPlaced (stepped_to kept k t now after) q) (sym (as_before q)) (moved kept k q r t now after (place_at kept.places q) i.at (λ at is among. subst (λ (ns : List Name). Contains ns (name_of q at)) (sym slots) among) (λ shelf is. still kept r after leaves shelf q) (i.tended.placed.each q));
   held = λ run x there n among. as_before n.slot ∙ by run x n among (run_after kept k run r t x i.at there);
@@ -87,16 +97,21 @@ stays_placed kept k answer r t freed after lent back now i m leaves none stays s
 }
   where
     as_before : (q : ℕ) → place_at now q ≡ place_at kept.places q
-    as_before q = plainly kept k answer r freed after lent back now m leaves q ∙ ap (λ (f : Option Object). place_returned f lent q) none ∙ m.lent_are q ∙ stays k r.pc q
+    as_before q =
+        plainly kept k answer r freed after lent back now m leaves q ∙ ap (λ (f : Option Object). place_returned f lent q) none ∙ m.lent_are q ∙ stays k r.pc q
 
-    by : (run : ℕ) (x : RunState Object) (n : Name) → Contains (slots_of x) n → ((run ≡ k) × (t ≡ x)) ⊎ ((run ≢ k) × (slice_get kept.runs run ≡ Some x)) → place_at kept.places n.slot ≡ Some (Held run n.call)
+    by : (run : ℕ) (x : RunState Object) (n : Name) → Contains (slots_of x) n
+        → ((run ≡ k) × (t ≡ x)) ⊎ ((run ≢ k) × (slice_get kept.runs run ≡ Some x))
+        → place_at kept.places n.slot ≡ Some (Held run n.call)
     by run x n among (inl (same, is)) =
         let mine = subst (λ (ns : List Name). Contains ns n) slots (subst (λ (y : RunState Object). Contains (slots_of y) n) (sym is) among) in
         i.tended.placed.held k r i.at n mine ∙ ap (λ (j : ℕ). Some (Held j n.call)) (sym same)
     by run x n among (inr (ne, there)) = i.tended.placed.held run x there n among
 
-pub lends_placed : (kept : WorldState) (k : ℕ) (answer : Answer) (r t : RunState Object) (freed : Option Object) (after : List (Option Object)) (lent back now : Places) (slot : ℕ) (o : Object) → IsInstruction kept k answer r t freed → IsMoved kept k answer r freed after lent back now → LeavesShelves kept r after
-    → freed ≡ None → answer ≡ Slot slot → place_at kept.places slot ≡ Some (Home o) → slots_of t ≡ slots_of r ++ name_of slot r.pc ∷ [] → ArePlaced (stepped_to kept k t now after)
+pub lends_placed : (kept : WorldState) (k : ℕ) (answer : Answer) (r t : RunState Object) (freed : Option Object) (after : List (Option Object)) (lent back now : Places) (slot : ℕ) (o : Object)
+    → IsInstruction kept k answer r t freed → IsMoved kept k answer r freed after lent back now → LeavesShelves kept r after
+    → freed ≡ None → answer ≡ Slot slot → place_at kept.places slot ≡ Some (Home o)
+    → slots_of t ≡ slots_of r ++ name_of slot r.pc ∷ [] → ArePlaced (stepped_to kept k t now after)
 lends_placed kept k answer r t freed after lent back now slot o i m leaves none is home slots = record {
   each = λ q. each q (cases_eq q slot);
   held = λ run x there n among. held run x n among (run_after kept k run r t x i.at there);
@@ -136,20 +151,26 @@ lends_placed kept k answer r t freed after lent back now slot o i m leaves none 
         only (zero, lt, e) = e
         only (suc j, lt, e) = absurd (omega (arith, lt))
 
-    held : (run : ℕ) (x : RunState Object) (n : Name) → Contains (slots_of x) n → ((run ≡ k) × (t ≡ x)) ⊎ ((run ≢ k) × (slice_get kept.runs run ≡ Some x)) → place_at now n.slot ≡ Some (Held run n.call)
+    held : (run : ℕ) (x : RunState Object) (n : Name) → Contains (slots_of x) n
+        → ((run ≡ k) × (t ≡ x)) ⊎ ((run ≢ k) × (slice_get kept.runs run ≡ Some x)) → place_at now n.slot ≡ Some (Held run n.call)
     held run x n among (inl (same, is_t)) =
         let there = subst (λ (ns : List Name). Contains ns n) slots (subst (λ (y : RunState Object). Contains (slots_of y) n) (sym is_t) among) in
         mine n (Contains-append_cases (slots_of r) (name_of slot r.pc ∷ []) n there) ∙ ap (λ (j : ℕ). Some (Held j n.call)) (sym same)
     held run x n among (inr (ne, there)) = elsewhere run n (i.tended.placed.held run x there n among)
 
 -- a call has one slot
-pub one_a_call : (w : World) (kept : WorldState) (k : ℕ) (r : RunState Object) (call q slot : ℕ) → Shows w kept → slice_get kept.runs k ≡ Some r → Contains (slots_of r) (name_of q call) → Contains (slots_of r) (name_of slot call) → q ≡ slot
+pub one_a_call : (w : World) (kept : WorldState) (k : ℕ) (r : RunState Object) (call q slot : ℕ) → Shows w kept
+    → slice_get kept.runs k ≡ Some r → Contains (slots_of r) (name_of q call) → Contains (slots_of r) (name_of slot call) → q ≡ slot
 one_a_call w kept k r call q slot shows at too among =
     let owns = λ (n : Name) (inside : Contains (slots_of r) n). held_owns w k n (subst (λ (ns : List Name). Contains ns n) (sym (shows.slots k r at)) inside) in
     ap (λ (p : Owner). p.slot) (shows.owned.holders.one_a_call (owner_of k (name_of q call)) (owner_of k (name_of slot call)) (owns (name_of q call) too) (owns (name_of slot call) among) refl)
 
-pub frees_placed : (w : World) (kept : WorldState) (k : ℕ) (answer : Answer) (r t : RunState Object) (freed : Option Object) (after : List (Option Object)) (lent back now : Places) (o : Object) (call : ℕ) → Shows w kept → IsInstruction kept k answer r t freed → IsMoved kept k answer r freed after lent back now → LeavesShelves kept r after
-    → freed ≡ Some o → ((run at q : ℕ) → place_lent answer run at kept.places q ≡ place_at kept.places q) → Contains (slots_of r) (name_of o.slot call) → IsAtHome kept o.slot o → slots_of t ≡ filter (λ n. not (n.call == call)) (slots_of r) → ArePlaced (stepped_to kept k t now after)
+pub frees_placed : (w : World) (kept : WorldState) (k : ℕ) (answer : Answer) (r t : RunState Object) (freed : Option Object) (after : List (Option Object)) (lent back now : Places) (o : Object) (call : ℕ)
+    → Shows w kept → IsInstruction kept k answer r t freed → IsMoved kept k answer r freed after lent back now
+    → LeavesShelves kept r after
+    → freed ≡ Some o → ((run at q : ℕ) → place_lent answer run at kept.places q ≡ place_at kept.places q)
+    → Contains (slots_of r) (name_of o.slot call) → IsAtHome kept o.slot o
+    → slots_of t ≡ filter (λ n. not (n.call == call)) (slots_of r) → ArePlaced (stepped_to kept k t now after)
 frees_placed w kept k answer r t freed after lent back now o call shows i m leaves is stays among home slots = record {
   each = λ q. each q (cases_eq q o.slot);
   held = λ run x there n inside. held run x n inside (run_after kept k run r t x i.at there);
@@ -188,12 +209,14 @@ frees_placed w kept k answer r t freed after lent back now o call shows i m leav
     same_place e = (cc, cc)
 
     -- what is held still is elsewhere
-    elsewhere : (run : ℕ) (n : Name) → place_at kept.places n.slot ≡ Some (Held run n.call) → ((run ≡ k) → n.call ≢ call) → place_at now n.slot ≡ Some (Held run n.call)
+    elsewhere : (run : ℕ) (n : Name) → place_at kept.places n.slot ≡ Some (Held run n.call) → ((run ≡ k) → n.call ≢ call)
+        → place_at now n.slot ≡ Some (Held run n.call)
     elsewhere run n was apart = now_is n.slot ∙ else_or n.slot o.slot _ _ (λ same. moved_off (same_place (sym was ∙ ap (place_at kept.places) same ∙ was_held))) ∙ was where
       moved_off : (run ≡ k) × (n.call ≡ call) → ⊥
       moved_off (same_run, same_call) = apart same_run same_call
 
-    held : (run : ℕ) (x : RunState Object) (n : Name) → Contains (slots_of x) n → ((run ≡ k) × (t ≡ x)) ⊎ ((run ≢ k) × (slice_get kept.runs run ≡ Some x)) → place_at now n.slot ≡ Some (Held run n.call)
+    held : (run : ℕ) (x : RunState Object) (n : Name) → Contains (slots_of x) n
+        → ((run ≡ k) × (t ≡ x)) ⊎ ((run ≢ k) × (slice_get kept.runs run ≡ Some x)) → place_at now n.slot ≡ Some (Held run n.call)
     held run x n inside (inl (same, is_t)) =
         let left = Contains-filter (λ (y : Name). not (y.call == call)) (slots_of r) n (subst (λ (ns : List Name). Contains ns n) slots (subst (λ (y : RunState Object). Contains (slots_of y) n) (sym is_t) inside)) in
         let was = i.tended.placed.held k r i.at n left.0 in

@@ -52,12 +52,14 @@ pub record IsStart (programs : List Subject) (program : ℕ) (context : List ℕ
   pub long : length context ≡ subject.decl.context
   pub is : started subject context w ≡ after
 
-pub start_next : (programs : List Subject) (program : ℕ) (context : List ℕ) (w after : World) → starting (slice_get programs program) context w ≡ Ok after → IsStart programs program context w after
+pub start_next : (programs : List Subject) (program : ℕ) (context : List ℕ) (w after : World)
+    → starting (slice_get programs program) context w ≡ Ok after → IsStart programs program context w after
 start_next programs program context w after e = by_program (slice_get programs program) refl e where
   by_program : (o : Option Subject) → slice_get programs program ≡ o → starting o context w ≡ Ok after → IsStart programs program context w after
   by_program None there e = absurd (cc)
   by_program (Some s) there e = fits (eqb (length context) s.decl.context) refl e where
-    fits : (t : Bool) → eqb (length context) s.decl.context ≡ t → cond t (Ok (started s context w)) (Err WrongContext) ≡ Ok after → IsStart programs program context w after
+    fits : (t : Bool) → eqb (length context) s.decl.context ≡ t → cond t (Ok (started s context w)) (Err WrongContext) ≡ Ok after
+        → IsStart programs program context w after
     fits true long e = record { subject = s; there = there; long = equal_lengths (length context) s.decl.context long; is = cc }
     fits false long e = absurd (cc)
 
@@ -78,7 +80,8 @@ pub record IsExec (w : World) (run : ℕ) (answer : world.Answer) (after : World
 
 pub exec_next : (w after : World) (run : ℕ) (answer : world.Answer) → IsOwned w → AreSound w → exec w run answer ≡ Ok after → IsExec w run answer after
 exec_next w after run answer owned sound e = by_run (slice_get w.runs run) refl e where
-  by_fault : (r : Running) → slice_get w.runs run ≡ Some r → r.status ≡ Going → (o : Option Illegal) → answer_fault w (asking_of w r) answer ≡ o → IsExec w run answer after
+  by_fault : (r : Running) → slice_get w.runs run ≡ Some r → r.status ≡ Going → (o : Option Illegal)
+      → answer_fault w (asking_of w r) answer ≡ o → IsExec w run answer after
   by_fault r there going (Some why) fault = let illegal : exec w run answer ≡ Err why = rw (there, going, fault) refl in absurd (cc)
   by_fault r there going None fine =
       let next = next_world w run r answer owned there (sound run r there) going fine in
@@ -97,7 +100,8 @@ exec_next w after run answer owned sound e = by_run (slice_get w.runs run) refl 
 -- ---- a slot joins a ledger, or leaves it
 
 -- the kind is one that there is
-known_or : (t u : Bool) (x : World) (why : Illegal) (after : World) → cond (not t) (Err NoSuchProgramOrKind) (cond u (Err why) (Ok x)) ≡ Ok after → (t ≡ true) × (u ≡ false) × (x ≡ after)
+known_or : (t u : Bool) (x : World) (why : Illegal) (after : World)
+    → cond (not t) (Err NoSuchProgramOrKind) (cond u (Err why) (Ok x)) ≡ Ok after → (t ≡ true) × (u ≡ false) × (x ≡ after)
 known_or false u x why after e = absurd (cc)
 known_or true true x why after e = absurd (cc)
 known_or true false x why after e = (refl, refl, cc)
@@ -107,7 +111,9 @@ grow_next w after kind slot e =
     let parts = known_or (nat_lt kind (length w.kinds)) (is_in_ledger w slot) (with_slot_joined kind slot w) SlotInLedger after e in
     (record { kind_is = ltb-true kind (length w.kinds) parts.0; fresh = parts.1 }, parts.2)
 
-reapable_or : (t u : Bool) (x : World) (after : World) → cond (not t) (Err NoSuchProgramOrKind) (cond u (Ok x) (Err SlotNotReapable)) ≡ Ok after → (t ≡ true) × (u ≡ true) × (x ≡ after)
+reapable_or : (t u : Bool) (x : World) (after : World)
+    → cond (not t) (Err NoSuchProgramOrKind) (cond u (Ok x) (Err SlotNotReapable)) ≡ Ok after
+    → (t ≡ true) × (u ≡ true) × (x ≡ after)
 reapable_or false u x after e = absurd (cc)
 reapable_or true true x after e = (refl, refl, cc)
 reapable_or true false x after e = absurd (cc)
@@ -129,7 +135,8 @@ all_left w after k runs owners same = record { view = by_run (slice_get w.runs k
 
 -- ---- every event
 
-pub event_next : (programs : List Subject) (e : Event) (w after : World) → AreKnown programs → IsOwned w → w.kinds ≡ known_kinds → AreSound w → happened programs e w ≡ Ok after → IsEventOf w after (own_run w e)
+pub event_next : (programs : List Subject) (e : Event) (w after : World) → AreKnown programs → IsOwned w → w.kinds ≡ known_kinds
+    → AreSound w → happened programs e w ≡ Ok after → IsEventOf w after (own_run w e)
 event_next programs (Start program context) w after known owned kinds sound is =
     let start = start_next programs program context w after is in
     let rows = at_number (λ (s : Subject). kinds_of s.rows ≡ known_kinds) programs program start.subject known start.there in

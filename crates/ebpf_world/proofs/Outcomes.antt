@@ -63,7 +63,8 @@ pub record IsSwapped (v u : RunView) (served : Served) (slots now : List Name) :
   pub shelf : ℕ
   pub given : Option ℕ
   pub asked : asking_in v ≡ AtShelf shelf
-  pub leaves : (given_is : Option ℕ → Option Shelved) (other : ℕ) (what : Option Shelved) → shelf_done given_is (effect_of_view v) other what ≡ (if other == shelf then given_is given else what)
+  pub leaves : (given_is : Option ℕ → Option Shelved) (other : ℕ) (what : Option Shelved)
+      → shelf_done given_is (effect_of_view v) other what ≡ (if other == shelf then given_is given else what)
   pub there : IfSome given (λ call. (o : ObjectView) × Contains v.objects o × (o.call ≡ call) × (o.kind ≡ shelf))
   pub slots_are : now ≡ slots_without given slots ++ slots_fetched v.pc served
   pub kinds : (kind : ℕ) → of_kind kind u.objects ≡ of_kind kind (without_given given v.objects) + (if kind == shelf then whole.fetched (told_by served) else 0)
@@ -111,22 +112,27 @@ room_for : (declared held : ℕ) → held < declared → nat_le declared held �
 room_for declared held lt = grind (arith, nat_tests)
 
 -- the object that is given back is one of the run's
-given_there : (objects : List ObjectView) (call : ℕ) (found : Found) → object_at objects call ≡ Ok found → (o : ObjectView) × Contains objects o × (o.call ≡ call)
+given_there : (objects : List ObjectView) (call : ℕ) (found : Found) → object_at objects call ≡ Ok found
+    → (o : ObjectView) × Contains objects o × (o.call ≡ call)
 given_there objects call found is = by (find (λ (o : ObjectView). o.call == call) objects) (find_is (λ (o : ObjectView). o.call == call) objects) is where
-  by : (f : Option ObjectView) → IsFound (λ (o : ObjectView). o.call == call) objects f → found_in f ≡ Ok found → (o : ObjectView) × Contains objects o × (o.call ≡ call)
+  by : (f : Option ObjectView) → IsFound (λ (o : ObjectView). o.call == call) objects f → found_in f ≡ Ok found
+      → (o : ObjectView) × Contains objects o × (o.call ≡ call)
   by None none is = absurd (cc)
   by (Some o) there is = (o, there.0, eqb-true o.call call there.1)
 
 -- and what is given for what stands on a shelf, of the shelf's kind
-given_of_kind : (objects : List ObjectView) (call shelf : ℕ) (found : Found) → object_at objects call ≡ Ok found → found.kind ≡ shelf → (o : ObjectView) × Contains objects o × (o.call ≡ call) × (o.kind ≡ shelf)
+given_of_kind : (objects : List ObjectView) (call shelf : ℕ) (found : Found) → object_at objects call ≡ Ok found
+    → found.kind ≡ shelf → (o : ObjectView) × Contains objects o × (o.call ≡ call) × (o.kind ≡ shelf)
 given_of_kind objects call shelf found is kind = by (find (λ (o : ObjectView). o.call == call) objects) (find_is (λ (o : ObjectView). o.call == call) objects) is where
-  by : (f : Option ObjectView) → IsFound (λ (o : ObjectView). o.call == call) objects f → found_in f ≡ Ok found → (o : ObjectView) × Contains objects o × (o.call ≡ call) × (o.kind ≡ shelf)
+  by : (f : Option ObjectView) → IsFound (λ (o : ObjectView). o.call == call) objects f → found_in f ≡ Ok found
+      → (o : ObjectView) × Contains objects o × (o.call ≡ call) × (o.kind ≡ shelf)
   by None none is = absurd (cc)
   by (Some o) there is = (o, there.0, eqb-true o.call call there.1, ap (λ (f : Found). f.kind) (same (record { kind = o.kind; bytes = o.bytes }) found (found_in (Some o)) refl is) ∙ kind) where
     same : (a b : Found) (the : Result Found Trap) → the ≡ Ok a → the ≡ Ok b → a ≡ b
     same a b the e f = cc
 
-freed : (v : RunView) (to : ℕ) (after : Frame ℕ) (call : ℕ) (served : Served) (slots : List Name) (o : ObjectView) → asking_in v ≡ Unasked → Contains v.objects o → o.call ≡ call
+freed : (v : RunView) (to : ℕ) (after : Frame ℕ) (call : ℕ) (served : Served) (slots : List Name) (o : ObjectView)
+    → asking_in v ≡ Unasked → Contains v.objects o → o.call ≡ call
     → IsFreed v (acted (Free call) (result_of served) to after v) slots (slots_acted (Free call) served v.subject.decl.held v.pc slots)
 freed v to after call served slots o unasked there same = record {
   unasked = unasked;
@@ -139,11 +145,13 @@ freed v to after call served slots o unasked there same = record {
     equal : (a : ℕ) → (a == a) ≡ true
     equal a = grind (arith, nat_tests)
 
-taken : (v : RunView) (to : ℕ) (after : Frame ℕ) (kind : ℕ) (served : Served) (slots : List Name) → asking_in v ≡ OfKind kind → length v.objects < v.subject.decl.held → length slots ≡ length v.objects → IsQuiet v
+taken : (v : RunView) (to : ℕ) (after : Frame ℕ) (kind : ℕ) (served : Served) (slots : List Name) → asking_in v ≡ OfKind kind
+    → length v.objects < v.subject.decl.held → length slots ≡ length v.objects → IsQuiet v
     → IsOutcome v (acted (Ask kind) (result_of served) to after v) served slots (slots_acted (Ask kind) served v.subject.decl.held v.pc slots)
 taken v to after kind step.Idle slots asked room many quiet = Kept quiet (record { unasked = λ slot e. absurd (cc); slots_are = refl; kinds = λ k. refl })
 taken v to after kind step.Empty slots asked room many quiet = Kept quiet (record { unasked = λ slot e. absurd (cc); slots_are = refl; kinds = λ k. refl })
-taken v to after kind (step.Fetched other bytes) slots asked room many quiet = Kept quiet (record { unasked = λ slot e. absurd (cc); slots_are = refl; kinds = λ k. refl })
+taken v to after kind (step.Fetched other bytes) slots asked room many quiet =
+    Kept quiet (record { unasked = λ slot e. absurd (cc); slots_are = refl; kinds = λ k. refl })
 taken v to after kind step.Refused slots asked room many quiet = Kept quiet (record { unasked = λ slot e. absurd (cc); slots_are = refl; kinds = λ k. refl })
 taken v to after kind (step.Granted slot) slots asked room many quiet =
     let few = room_for v.subject.decl.held (length v.objects) room in
@@ -169,19 +177,26 @@ nothing_more kind shelf n = by (kind == shelf) where
   by true = omega arith
   by false = omega arith
 
-swapped_got : (v : RunView) (to : ℕ) (after : Frame ℕ) (shelf : ℕ) (given : Option ℕ) (served : Served) (slots : List Name) → length (without_given given v.objects) < v.subject.decl.held → length (slots_without given slots) ≡ length (without_given given v.objects)
+swapped_got : (v : RunView) (to : ℕ) (after : Frame ℕ) (shelf : ℕ) (given : Option ℕ) (served : Served) (slots : List Name)
+    → length (without_given given v.objects) < v.subject.decl.held
+    → length (slots_without given slots) ≡ length (without_given given v.objects)
     → (slots_exchanged served v.subject.decl.held v.pc given slots ≡ slots_without given slots ++ slots_fetched v.pc served)
     × ((kind : ℕ) → of_kind kind (exchanged (result_of served) to after shelf given v).objects ≡ of_kind kind (without_given given v.objects) + cond (kind == shelf) (whole.fetched (told_by served)) 0)
 swapped_got v to after shelf given (step.Fetched slot bytes) slots room many =
     let few = room_for v.subject.decl.held (length (without_given given v.objects)) room in
     let few_slots = ap (nat_le v.subject.decl.held) many ∙ few in
     (rw few_slots refl, λ kind. rw few (kinds_added kind (without_given given v.objects) _))
-swapped_got v to after shelf given step.Empty slots room many = (sym (append-nil _), λ kind. nothing_more kind shelf (of_kind kind (without_given given v.objects)))
-swapped_got v to after shelf given step.Idle slots room many = (sym (append-nil _), λ kind. nothing_more kind shelf (of_kind kind (without_given given v.objects)))
-swapped_got v to after shelf given step.Refused slots room many = (sym (append-nil _), λ kind. nothing_more kind shelf (of_kind kind (without_given given v.objects)))
-swapped_got v to after shelf given (step.Granted slot) slots room many = (sym (append-nil _), λ kind. nothing_more kind shelf (of_kind kind (without_given given v.objects)))
+swapped_got v to after shelf given step.Empty slots room many =
+    (sym (append-nil _), λ kind. nothing_more kind shelf (of_kind kind (without_given given v.objects)))
+swapped_got v to after shelf given step.Idle slots room many =
+    (sym (append-nil _), λ kind. nothing_more kind shelf (of_kind kind (without_given given v.objects)))
+swapped_got v to after shelf given step.Refused slots room many =
+    (sym (append-nil _), λ kind. nothing_more kind shelf (of_kind kind (without_given given v.objects)))
+swapped_got v to after shelf given (step.Granted slot) slots room many =
+    (sym (append-nil _), λ kind. nothing_more kind shelf (of_kind kind (without_given given v.objects)))
 
-swapped : (v : RunView) (to : ℕ) (after : Frame ℕ) (shelf : ℕ) (given : Option ℕ) (served : Served) (slots : List Name) → GoesOn v (Exchange shelf given) to after → length (slots_without given slots) ≡ length (without_given given v.objects)
+swapped : (v : RunView) (to : ℕ) (after : Frame ℕ) (shelf : ℕ) (given : Option ℕ) (served : Served) (slots : List Name)
+    → GoesOn v (Exchange shelf given) to after → length (slots_without given slots) ≡ length (without_given given v.objects)
     → IsSwapped v (acted (Exchange shelf given) (result_of served) to after v) served slots (slots_acted (Exchange shelf given) served v.subject.decl.held v.pc slots)
 swapped v to after shelf given served slots g many =
     let there = there_goes (insn_at v.subject.program v.pc) v.pc (environment_of_view v) v.frame (Exchange shelf given) to after g.does in
@@ -196,24 +211,31 @@ swapped v to after shelf given served slots g many =
       kinds = got.1;
     }
   where
-    its : (given : Option ℕ) → IsGivenThere (environment_of_view v) shelf given → IfSome given (λ call. (o : ObjectView) × Contains v.objects o × (o.call ≡ call) × (o.kind ≡ shelf))
+    its : (given : Option ℕ) → IsGivenThere (environment_of_view v) shelf given
+        → IfSome given (λ call. (o : ObjectView) × Contains v.objects o × (o.call ≡ call) × (o.kind ≡ shelf))
     its None there = tt
     its (Some call) there = given_of_kind v.objects call shelf there.0 there.1 there.2
 
 -- no act but an exchange reaches a shelf
-quiet : (v : RunView) (act : Act ℕ) (to : ℕ) (after : Frame ℕ) → GoesOn v act to after → reached (asked_by act) ≡ None → ((given_is : Option ℕ → Option Shelved) (shelf : ℕ) (what : Option Shelved) → shelf_acted given_is act shelf what ≡ what) → IsQuiet v
+quiet : (v : RunView) (act : Act ℕ) (to : ℕ) (after : Frame ℕ) → GoesOn v act to after → reached (asked_by act) ≡ None
+    → ((given_is : Option ℕ → Option Shelved) (shelf : ℕ) (what : Option Shelved) → shelf_acted given_is act shelf what ≡ what)
+    → IsQuiet v
 quiet v act to after g unreached leaves = record {
   unreached = ap reached (asks_for v act to after g) ∙ unreached;
   leaves = λ given_is shelf what. ap (λ (e : Effect ℕ). shelf_done given_is e shelf what) g.does ∙ leaves given_is shelf what;
 }
 
-outcome_acted : (v : RunView) (act : Act ℕ) (to : ℕ) (after : Frame ℕ) (served : Served) (slots : List Name) → GoesOn v act to after → IsSound v → v.status ≡ Going → length slots ≡ length v.objects → ((call : ℕ) → length (slots_without (Some call) slots) ≡ length (without_given (Some call) v.objects))
+outcome_acted : (v : RunView) (act : Act ℕ) (to : ℕ) (after : Frame ℕ) (served : Served) (slots : List Name) → GoesOn v act to after
+    → IsSound v → v.status ≡ Going → length slots ≡ length v.objects
+    → ((call : ℕ) → length (slots_without (Some call) slots) ≡ length (without_given (Some call) v.objects))
     → IsOutcome v (acted act (result_of served) to after v) served slots (slots_acted act served v.subject.decl.held v.pc slots)
 outcome_acted v Nothing to after served slots g sound going many left = Kept (quiet v Nothing to after g refl (λ given_is shelf what. refl)) (record { unasked = λ slot e. asks_for v Nothing to after g; slots_are = refl; kinds = λ k. refl })
 outcome_acted v (Write call at bytes) to after served slots g sound going many left = Kept (quiet v (Write call at bytes) to after g refl (λ given_is shelf what. refl)) (record { unasked = λ slot e. asks_for v (Write call at bytes) to after g; slots_are = refl; kinds = λ k. kinds_patched k call at bytes v.objects })
 outcome_acted v (Exchange shelf None) to after served slots g sound going many left = Swapped (swapped v to after shelf None served slots g many)
-outcome_acted v (Exchange shelf (Some call)) to after served slots g sound going many left = Swapped (swapped v to after shelf (Some call) served slots g (left call))
-outcome_acted v (Ask kind) to after served slots g sound going many left = taken v to after kind served slots (asks_for v (Ask kind) to after g) g.room.1 many (quiet v (Ask kind) to after g refl (λ given_is shelf what. refl))
+outcome_acted v (Exchange shelf (Some call)) to after served slots g sound going many left =
+    Swapped (swapped v to after shelf (Some call) served slots g (left call))
+outcome_acted v (Ask kind) to after served slots g sound going many left =
+    taken v to after kind served slots (asks_for v (Ask kind) to after g) g.room.1 many (quiet v (Ask kind) to after g refl (λ given_is shelf what. refl))
 outcome_acted v (Free call) to after served slots g sound going many left =
     let there = there_goes (insn_at v.subject.program v.pc) v.pc (environment_of_view v) v.frame (Free call) to after g.does in
     let o = given_there v.objects call there.0 there.1 in
@@ -221,14 +243,17 @@ outcome_acted v (Free call) to after served slots g sound going many left =
 
 -- ---- each instruction
 
-pub outcome_of : (v : RunView) (served : Served) (slots : List Name) → IsSound v → AreSized v → v.status ≡ Going → length slots ≡ length v.objects → ((call : ℕ) → length (slots_without (Some call) slots) ≡ length (without_given (Some call) v.objects))
+pub outcome_of : (v : RunView) (served : Served) (slots : List Name) → IsSound v → AreSized v → v.status ≡ Going
+    → length slots ≡ length v.objects
+    → ((call : ℕ) → length (slots_without (Some call) slots) ≡ length (without_given (Some call) v.objects))
     → IsOutcome v (stepped (result_of served) v) served slots (slots_after (effect_of_view v) served v.subject.decl.held v.pc slots)
 outcome_of v served slots sound sized going many left = by (next_of v sound sized going) where
   IsOne : RunView → List Name → Type 0
   IsOne u now = IsOutcome v u served slots now
 
   by : IsNext v → IsOne (stepped (result_of served) v) (slots_after (effect_of_view v) served v.subject.decl.held v.pc slots)
-  by (inl (act, to, after, g)) = rw (stepped_goes v (result_of served) act to after going g, g.does) (outcome_acted v act to after served slots g sound going many left)
+  by (inl (act, to, after, g)) =
+      rw (stepped_goes v (result_of served) act to after going g, g.does) (outcome_acted v act to after served slots g sound going many left)
   by (inr (n, ends)) = rw (stepped_ends v (result_of served) n going ends, ends.does) (Kept (silent n ends) (record { unasked = λ slot e. asked_ends (insn_at v.subject.program v.pc) v.pc (environment_of_view v) v.frame n ends.does; slots_are = refl; kinds = λ k. refl }))
     where
       silent : (n : ℕ) → EndsRun v n → IsQuiet v

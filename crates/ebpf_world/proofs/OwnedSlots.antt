@@ -27,7 +27,8 @@ pub owns_held : (w : World) (run : ℕ) (n : Name) → Contains w.owners (owner_
 owns_held w run n among = Contains-mapped (λ (o : Owner). name_of o.slot (call_of o.holder)) (held_by w run) (owner_of run n) (Contains-kept (λ (o : Owner). is_run run o.holder) w.owners (owner_of run n) among (eq-eqb run run refl))
 
 -- a run that has a slot is one of the world
-pub owner_runs : (w : World) (o : Owner) → IsOwned w → is_by_run o.holder ≡ true → Contains w.owners o → (run at : ℕ) × (r : Running) × (slice_get w.runs run ≡ Some r) × (o ≡ owner_of run (name_of o.slot at))
+pub owner_runs : (w : World) (o : Owner) → IsOwned w → is_by_run o.holder ≡ true → Contains w.owners o
+    → (run at : ℕ) × (r : Running) × (slice_get w.runs run ≡ Some r) × (o ≡ owner_of run (name_of o.slot at))
 owner_runs w o owned run among = by o.holder refl where
   by : (h : Holder) → o.holder ≡ h → (run at : ℕ) × (r : Running) × (slice_get w.runs run ≡ Some r) × (o ≡ owner_of run (name_of o.slot at))
   by (Run run at) is =
@@ -48,7 +49,8 @@ unheld w k owned none = by_list (held_by w k) refl where
       absurd (cc)
 
 -- who is found to have a slot
-pub owner_found : (w : World) (run at slot : ℕ) → IsOwned w → Contains w.owners (owner_of run (name_of slot at)) → find (λ (o : Owner). o.slot == slot) w.owners ≡ Some (owner_of run (name_of slot at))
+pub owner_found : (w : World) (run at slot : ℕ) → IsOwned w → Contains w.owners (owner_of run (name_of slot at))
+    → find (λ (o : Owner). o.slot == slot) w.owners ≡ Some (owner_of run (name_of slot at))
 owner_found w run at slot owned among = by (find (λ (o : Owner). o.slot == slot) w.owners) (find_is (λ (o : Owner). o.slot == slot) w.owners) where
   by : (f : Option Owner) → IsFound (λ (o : Owner). o.slot == slot) w.owners f → f ≡ Some (owner_of run (name_of slot at))
   by None none = let away = none (owner_of run (name_of slot at)) among in let here = eq-eqb slot slot refl in absurd (cc)

@@ -45,7 +45,8 @@ not_both shelf run at e = cc
 
 -- ---- what a run has once a slot passed to it, and one from it
 
-kept_without : (given : Option Name) (names : List Name) (n : Name) → Contains names n → ((g : Name) → given ≡ Some g → n.call ≢ g.call) → Contains (slots_without (call_of given) names) n
+kept_without : (given : Option Name) (names : List Name) (n : Name) → Contains names n
+    → ((g : Name) → given ≡ Some g → n.call ≢ g.call) → Contains (slots_without (call_of given) names) n
 kept_without None names n among ne = among
 kept_without (Some g) names n among ne = Contains-kept (λ (m : Name). not (m.call == g.call)) names n among (ap not (ne_eqb n.call g.call (ne g refl)))
 
@@ -55,7 +56,8 @@ was_without (Some g) names n among = (Contains-filter (λ (m : Name). not (m.cal
 
 not_given : (given : Option Name) (names : List Name) (n g : Name) → given ≡ Some g → Contains (slots_without (call_of given) names) n → n.call ≢ g.call
 not_given given names n g is among same =
-    let left = Contains-filter (λ (m : Name). not (m.call == g.call)) names n (subst (λ (o : Option Name). Contains (slots_without (call_of o) names) n) is among) in
+    let left =
+    Contains-filter (λ (m : Name). not (m.call == g.call)) names n (subst (λ (o : Option Name). Contains (slots_without (call_of o) names) n) is among) in
     let equal = eq-eqb n.call g.call same in
     let unequal = not-true (n.call == g.call) left.1 in
     absurd (cc)
@@ -71,7 +73,8 @@ module _ (w : World) (kept : WorldState) (k : ℕ) (answer : Answer) (r t : RunS
   at_shelf : (shelves : List (Option Object)) → reached_slot shelves r ≡ slot_on shelves shelf
   at_shelf shelves = ap (option_and_then (slot_on shelves)) passes.reached_is
 
-  now_is : (q : ℕ) → place_at now q ≡ cond (is_slot (slot_of given) q) (Some (Shelved shelf)) (cond (is_slot (slot_on kept.shelves shelf) q) (Some (Held k r.pc)) (place_at kept.places q))
+  now_is : (q : ℕ)
+      → place_at now q ≡ cond (is_slot (slot_of given) q) (Some (Shelved shelf)) (cond (is_slot (slot_on kept.shelves shelf) q) (Some (Held k r.pc)) (place_at kept.places q))
   now_is q =
       m.now_are q
       ∙ (λ j. place_exchanged (passes.reached_is j) (at_shelf kept.shelves j) ((at_shelf after ∙ passes.stands) j) k r.pc back q)
@@ -113,7 +116,8 @@ module _ (w : World) (kept : WorldState) (k : ℕ) (answer : Answer) (r t : RunS
       apart e = let g = given_slot q e in not_both shelf k g.0.call (sym (stood_there q is) ∙ ap (place_at kept.places) (sym g.2) ∙ given_held g.0 g.1)
 
   -- one that is held is not what stood there, and is what is given only where it is held by its call
-  held_on : (run : ℕ) (n : Name) → place_at kept.places n.slot ≡ Some (Held run n.call) → ((g : Name) → given ≡ Some g → (run ≡ k) → n.call ≢ g.call) → place_at now n.slot ≡ Some (Held run n.call)
+  held_on : (run : ℕ) (n : Name) → place_at kept.places n.slot ≡ Some (Held run n.call)
+      → ((g : Name) → given ≡ Some g → (run ≡ k) → n.call ≢ g.call) → place_at now n.slot ≡ Some (Held run n.call)
   held_on run n was ne = elsewhere n.slot off not_stood ∙ was where
     off : slot_of given ≢ Some n.slot
     off e =
@@ -135,7 +139,9 @@ module _ (w : World) (kept : WorldState) (k : ℕ) (answer : Answer) (r t : RunS
       subst (λ (ns : List Name). Contains ns (name_of slot r.pc)) (sym (passes.slots_are ∙ ap (λ (o : Option ℕ). slots_without (call_of given) (slots_of r) ++ got_by o r.pc) is))
       (Contains-push (slots_without (call_of given) (slots_of r)) (name_of slot r.pc))
 
-  each : (q : ℕ) → (slot_of given ≡ Some q) ⊎ (slot_of given ≢ Some q) → (slot_on kept.shelves shelf ≡ Some q) ⊎ (slot_on kept.shelves shelf ≢ Some q) → IsPlaced (stepped_to kept k t now after) q (place_at now q)
+  each : (q : ℕ) → (slot_of given ≡ Some q) ⊎ (slot_of given ≢ Some q)
+      → (slot_on kept.shelves shelf ≡ Some q) ⊎ (slot_on kept.shelves shelf ≢ Some q)
+      → IsPlaced (stepped_to kept k t now after) q (place_at now q)
   each q (inl is) other = subst (IsPlaced (stepped_to kept k t now after) q) (sym (put_there q is)) (passes.stands ∙ is)
   each q (inr off) (inl is) = subst (IsPlaced (stepped_to kept k t now after) q) (sym (got_it q is)) (t, get_set_same kept.runs k r t i.at, newest q is)
   each q (inr off) (inr not_stood) = subst (IsPlaced (stepped_to kept k t now after) q) (sym (elsewhere q off not_stood)) (moved kept k q r t now after (place_at kept.places q) i.at keeps stands (i.tended.placed.each q)) where
@@ -146,14 +152,17 @@ module _ (w : World) (kept : WorldState) (k : ℕ) (answer : Answer) (r t : RunS
       where
         other : (g : Name) → given ≡ Some g → at ≢ g.call
         other g given_is same =
-            let own : Contains (slots_of r) (name_of g.slot g.call) = subst (λ (o : Option Name). IfSome o (λ n. Contains (slots_of r) n)) given_is passes.own in
+            let own : Contains (slots_of r) (name_of g.slot g.call) =
+            subst (λ (o : Option Name). IfSome o (λ n. Contains (slots_of r) n)) given_is passes.own in
             let slot = one_a_call w kept k r g.call q g.slot shows i.at (subst (λ (a : ℕ). Contains (slots_of r) (name_of q a)) same among) own in
             off (ap slot_of given_is ∙ ap Some (sym slot))
 
     stands : (other : ℕ) → place_at kept.places q ≡ Some (Shelved other) → slot_on kept.shelves other ≡ Some q → slot_on after other ≡ Some q
     stands other is there = passes.others other (λ same. not_stood (sym (ap (slot_on kept.shelves) same) ∙ there)) ∙ there
 
-  mine : (n : Name) → Contains (slots_without (call_of given) (slots_of r)) n ⊎ Contains (got_by (slot_on kept.shelves shelf) r.pc) n → place_at now n.slot ≡ Some (Held k n.call)
+  mine : (n : Name)
+      → Contains (slots_without (call_of given) (slots_of r)) n ⊎ Contains (got_by (slot_on kept.shelves shelf) r.pc) n
+      → place_at now n.slot ≡ Some (Held k n.call)
   mine n (inl old) = held_on k n (i.tended.placed.held k r i.at n (was_without given (slots_of r) n old)) (λ g is run. not_given given (slots_of r) n g is old)
   mine n (inr new) = by (slot_on kept.shelves shelf) refl new where
     by : (o : Option ℕ) → slot_on kept.shelves shelf ≡ o → Contains (got_by o r.pc) n → place_at now n.slot ≡ Some (Held k n.call)
@@ -161,7 +170,8 @@ module _ (w : World) (kept : WorldState) (k : ℕ) (answer : Answer) (r t : RunS
     by (Some slot) is (zero, lt, e) = ap (λ (x : Name). place_at now x.slot) (sym e) ∙ got_it slot is ∙ ap (λ (x : Name). Some (Held k x.call)) e
     by (Some slot) is (suc j, lt, e) = absurd (omega (arith, lt))
 
-  held_then : (run : ℕ) (x : RunState Object) (n : Name) → Contains (slots_of x) n → ((run ≡ k) × (t ≡ x)) ⊎ ((run ≢ k) × (slice_get kept.runs run ≡ Some x)) → place_at now n.slot ≡ Some (Held run n.call)
+  held_then : (run : ℕ) (x : RunState Object) (n : Name) → Contains (slots_of x) n
+      → ((run ≡ k) × (t ≡ x)) ⊎ ((run ≢ k) × (slice_get kept.runs run ≡ Some x)) → place_at now n.slot ≡ Some (Held run n.call)
   held_then run x n among (inl (same, is_t)) =
       let there = subst (λ (ns : List Name). Contains ns n) passes.slots_are (subst (λ (y : RunState Object). Contains (slots_of y) n) (sym is_t) among) in
       mine n (Contains-append_cases (slots_without (call_of given) (slots_of r)) (got_by (slot_on kept.shelves shelf) r.pc) n there) ∙ ap (λ (j : ℕ). Some (Held j n.call)) (sym same)
@@ -190,18 +200,22 @@ module _ (w : World) (kept : WorldState) (k : ℕ) (answer : Answer) (r t : RunS
 
 -- ---- every instruction
 
-pub placed_after : (w : World) (kept : WorldState) (k : ℕ) (answer : Answer) (r t : RunState Object) (freed : Option Object) (lent back now : Places) → Shows w kept → (i : IsInstruction kept k answer r t freed)
+pub placed_after : (w : World) (kept : WorldState) (k : ℕ) (answer : Answer) (r t : RunState Object) (freed : Option Object) (lent back now : Places)
+    → Shows w kept → (i : IsInstruction kept k answer r t freed)
     → IsMoved kept k answer r freed i.after lent back now → ArePlaced (stepped_to kept k t now i.after)
 placed_after w kept k answer r t freed lent back now shows i m = by (exchange w kept k answer r t freed shows i) where
   by : IsExchange kept k answer r t freed i.after → ArePlaced (stepped_to kept k t now i.after)
   by (Stays leaves none stays slots) = stays_placed kept k answer r t freed i.after lent back now i m leaves none stays slots
   by (Lends leaves slot o none is home slots) = lends_placed kept k answer r t freed i.after lent back now slot o i m leaves none is home slots
-  by (Frees leaves o call is stays among home slots) = frees_placed w kept k answer r t freed i.after lent back now o call shows i m leaves is stays among home slots
+  by (Frees leaves o call is stays among home slots) =
+      frees_placed w kept k answer r t freed i.after lent back now o call shows i m leaves is stays among home slots
   by (Swaps shelf given none stays passes) = swaps_placed w kept k answer r t freed i.after lent back now shelf given shows i m none stays passes
 
 -- the parts, as the code has them
-pub moved_by : (kept : WorldState) (k : ℕ) (answer : Answer) (r : RunState Object) (freed : Option Object) (after : List (Option Object)) (lent back now : Places) (shelf stood stands : Option ℕ) (at : ℕ) → at ≡ r.pc → shelf ≡ reached (asking_in (run_seen r))
-    → stood ≡ option_and_then (slot_on kept.shelves) shelf → stands ≡ option_and_then (slot_on after) shelf → ((q : ℕ) → place_at lent q ≡ place_lent answer k at kept.places q) → ((q : ℕ) → place_at back q ≡ place_returned freed lent q)
+pub moved_by : (kept : WorldState) (k : ℕ) (answer : Answer) (r : RunState Object) (freed : Option Object) (after : List (Option Object)) (lent back now : Places) (shelf stood stands : Option ℕ) (at : ℕ)
+    → at ≡ r.pc → shelf ≡ reached (asking_in (run_seen r))
+    → stood ≡ option_and_then (slot_on kept.shelves) shelf → stands ≡ option_and_then (slot_on after) shelf
+    → ((q : ℕ) → place_at lent q ≡ place_lent answer k at kept.places q) → ((q : ℕ) → place_at back q ≡ place_returned freed lent q)
     → ((q : ℕ) → place_at now q ≡ place_exchanged shelf stood stands k at back q) → IsMoved kept k answer r freed after lent back now
 moved_by kept k answer r freed after lent back now shelf stood stands at pc shelf_is stood_is stands_is lent_are back_are now_are = record {
   lent_are = λ q. lent_are q ∙ ap (λ (n : ℕ). place_lent answer k n kept.places q) pc;
@@ -210,7 +224,8 @@ moved_by kept k answer r freed after lent back now shelf stood stands at pc shel
 }
 
 -- what is freed was held
-pub freed_known : (w : World) (kept : WorldState) (k : ℕ) (answer : Answer) (r t : RunState Object) (freed : Option Object) (lent : Places) → Shows w kept → IsInstruction kept k answer r t freed
+pub freed_known : (w : World) (kept : WorldState) (k : ℕ) (answer : Answer) (r t : RunState Object) (freed : Option Object) (lent : Places)
+    → Shows w kept → IsInstruction kept k answer r t freed
     → ((q : ℕ) → place_at lent q ≡ place_lent answer k r.pc kept.places q) → IfSome freed (λ o. IsSome (place_at lent o.slot))
 freed_known w kept k answer r t freed lent shows i lent_are = by (exchange w kept k answer r t freed shows i) where
   IsKnown : Option Object → Type 0
@@ -219,7 +234,8 @@ freed_known w kept k answer r t freed lent shows i lent_are = by (exchange w kep
   by : IsExchange kept k answer r t freed i.after → IsKnown freed
   by (Stays leaves none stays slots) = subst IsKnown (sym none) tt
   by (Lends leaves slot o none is home slots) = subst IsKnown (sym none) tt
-  by (Frees leaves o call is stays among home slots) = subst IsKnown (sym is) (rw (lent_are o.slot ∙ stays k r.pc o.slot ∙ i.tended.placed.held k r i.at (name_of o.slot call) among) refl)
+  by (Frees leaves o call is stays among home slots) =
+      subst IsKnown (sym is) (rw (lent_are o.slot ∙ stays k r.pc o.slot ∙ i.tended.placed.held k r i.at (name_of o.slot call) among) refl)
   by (Swaps shelf given none stays passes) = subst IsKnown (sym none) tt
 
 -- and the slots that pass over a shelf have places
@@ -227,8 +243,11 @@ pub record AreThere (stood stands : Option ℕ) (back : Places) : Type 0 where
   pub stood_has : IfSome stood (λ s. IsSome (place_at back s))
   pub stands_has : IfSome stands (λ s. IsSome (place_at back s))
 
-pub shelves_known : (w : World) (kept : WorldState) (k : ℕ) (answer : Answer) (r t : RunState Object) (freed : Option Object) (lent back : Places) → Shows w kept → (i : IsInstruction kept k answer r t freed)
-    → ((q : ℕ) → place_at lent q ≡ place_lent answer k r.pc kept.places q) → ((q : ℕ) → place_at back q ≡ place_returned freed lent q) → AreThere (reached_slot kept.shelves r) (reached_slot i.after r) back
+pub shelves_known : (w : World) (kept : WorldState) (k : ℕ) (answer : Answer) (r t : RunState Object) (freed : Option Object) (lent back : Places)
+    → Shows w kept → (i : IsInstruction kept k answer r t freed)
+    → ((q : ℕ) → place_at lent q ≡ place_lent answer k r.pc kept.places q)
+    → ((q : ℕ) → place_at back q ≡ place_returned freed lent q)
+    → AreThere (reached_slot kept.shelves r) (reached_slot i.after r) back
 shelves_known w kept k answer r t freed lent back shows i lent_are back_are = by (exchange w kept k answer r t freed shows i) where
   HasPlace : Option ℕ → Type 0
   HasPlace o = IfSome o (λ s. IsSome (place_at back s))
@@ -260,9 +279,12 @@ shelves_known w kept k answer r t freed lent back shows i lent_are back_are = by
 
       own : (o : Option Name) → given ≡ o → HasPlace (slot_of o)
       own None is = tt
-      own (Some g) is = has g.slot (Held k g.call) (i.tended.placed.held k r i.at g (subst (λ (x : Option Name). IfSome x (λ n. Contains (slots_of r) n)) is passes.own))
+      own (Some g) is =
+          has g.slot (Held k g.call) (i.tended.placed.held k r i.at g (subst (λ (x : Option Name). IfSome x (λ n. Contains (slots_of r) n)) is passes.own))
 
 -- as the code has them
-pub known_by : (before : List (Option Object)) (r : RunState Object) (after : List (Option Object)) (back : Places) (shelf stood stands : Option ℕ) → shelf ≡ reached (asking_in (run_seen r)) → stood ≡ option_and_then (slot_on before) shelf → stands ≡ option_and_then (slot_on after) shelf
+pub known_by : (before : List (Option Object)) (r : RunState Object) (after : List (Option Object)) (back : Places) (shelf stood stands : Option ℕ)
+    → shelf ≡ reached (asking_in (run_seen r)) → stood ≡ option_and_then (slot_on before) shelf
+    → stands ≡ option_and_then (slot_on after) shelf
     → AreThere (reached_slot before r) (reached_slot after r) back → AreThere stood stands back
 known_by before r after back shelf stood stands shelf_is stood_is stands_is are = subst (λ (a : Option ℕ). AreThere a stands back) (sym (stood_is ∙ ap (option_and_then (slot_on before)) shelf_is)) (subst (λ (b : Option ℕ). AreThere (reached_slot before r) b back) (sym (stands_is ∙ ap (option_and_then (slot_on after)) shelf_is)) are)

@@ -25,7 +25,8 @@ use Rattle.ebpf_world.proofs.OwnedSlots.{held_owns, owns_held, owner_runs}
 use Rattle.ebpf_world.proofs.Runs.{run_shown}
 
 -- a run of the world is kept
-pub run_kept : (w : World) (kept : WorldState) (k : ℕ) (run : Running) → Shows w kept → slice_get w.runs k ≡ Some run → (r : RunState Object) × (slice_get kept.runs k ≡ Some r)
+pub run_kept : (w : World) (kept : WorldState) (k : ℕ) (run : Running) → Shows w kept → slice_get w.runs k ≡ Some run
+    → (r : RunState Object) × (slice_get kept.runs k ≡ Some r)
 run_kept w kept k run h there = by (slice_get kept.runs k) refl where
   by : (o : Option (RunState Object)) → slice_get kept.runs k ≡ o → (r : RunState Object) × (slice_get kept.runs k ≡ Some r)
   by (Some r) at = (r, at)
@@ -50,7 +51,8 @@ standing_own w o shelf owned among is = by (standing w shelf) (find_is (λ (p : 
 -- the slot of what stands on a shelf of the world stands there as it is kept
 pub shelf_slot : (w : World) (kept : WorldState) (shelf : ℕ) → Shows w kept → option_map (λ (o : Owner). o.slot) (standing w shelf) ≡ slot_on kept.shelves shelf
 shelf_slot w kept shelf h = by (standing w shelf) ∙ ap (option_map (λ (x : world.Shelved). x.slot)) (h.shelves shelf) ∙ on (on_shelf kept.shelves shelf) where
-  by : (o : Option Owner) → option_map (λ (x : Owner). x.slot) o ≡ option_map (λ (x : world.Shelved). x.slot) (option_map (λ (x : Owner). shelved_at w x.slot) o)
+  by : (o : Option Owner)
+      → option_map (λ (x : Owner). x.slot) o ≡ option_map (λ (x : world.Shelved). x.slot) (option_map (λ (x : Owner). shelved_at w x.slot) o)
   by None = refl
   by (Some o) = refl
 
@@ -88,18 +90,21 @@ owner_kept w kept o h placed among = by o.holder refl where
       let (run, at, r, there, is) = owner_runs w o h.owned (ap is_by_run e) among in
       let kept_run = run_kept w kept run r h there in
       let held = owns_held w run (name_of o.slot at) (subst (λ (p : Owner). Contains w.owners p) is among) in
-      let here : Contains (slots_of kept_run.0) (name_of o.slot at) = subst (λ (ns : List Name). Contains ns (name_of o.slot at)) (h.slots run kept_run.0 kept_run.1) held in
+      let here : Contains (slots_of kept_run.0) (name_of o.slot at) =
+      subst (λ (ns : List Name). Contains ns (name_of o.slot at)) (h.slots run kept_run.0 kept_run.1) held in
       inl (run, at, placed.held run kept_run.0 kept_run.1 (name_of o.slot at) here, is)
   by (Shelf shelf) e = inr (shelf, placed.shelved shelf o.slot (sym (shelf_slot w kept shelf h) ∙ ap (option_map (λ (p : Owner). p.slot)) (standing_own w o shelf h.owned among e)), e)
 
 -- and one that is kept as held is owned
-pub held_kept : (w : World) (kept : WorldState) (slot run at : ℕ) → Shows w kept → ArePlaced kept → place_at kept.places slot ≡ Some (Held run at) → Contains w.owners (owner_of run (name_of slot at))
+pub held_kept : (w : World) (kept : WorldState) (slot run at : ℕ) → Shows w kept → ArePlaced kept
+    → place_at kept.places slot ≡ Some (Held run at) → Contains w.owners (owner_of run (name_of slot at))
 held_kept w kept slot run at h placed is =
     let held = subst (IsPlaced kept slot) is (placed.each slot) in
     held_owns w run (name_of slot at) (subst (λ (ns : List Name). Contains ns (name_of slot at)) (sym (h.slots run held.0 held.1)) held.2)
 
 -- an object that a run holds is the one that the world has in its slot
-pub object_kept : (w : World) (kept : WorldState) (k : ℕ) (r : RunState Object) (h : Holding Object) → Shows w kept → slice_get kept.runs k ≡ Some r → Contains r.held h
+pub object_kept : (w : World) (kept : WorldState) (k : ℕ) (r : RunState Object) (h : Holding Object) → Shows w kept
+    → slice_get kept.runs k ≡ Some r → Contains r.held h
     → Contains w.owners (owner_of k (name_of h.object.slot h.call)) × (object_in w (owner_of k (name_of h.object.slot h.call)) ≡ object_seen (λ o. o.bytes.items) h)
 object_kept w kept k r h shows at among =
     let run = run_shown w kept k r shows at in
@@ -114,7 +119,9 @@ object_kept w kept k r h shows at among =
     (owns, ap (object_in w) (sym same) ∙ one.2)
 
 -- what is kept neither as held nor as standing on a shelf is not owned
-unowned_kept : (w : World) (kept : WorldState) (slot : ℕ) → Shows w kept → ArePlaced kept → ((run at : ℕ) → place_at kept.places slot ≢ Some (Held run at)) → ((shelf : ℕ) → place_at kept.places slot ≢ Some (Shelved shelf)) → is_owned w slot ≡ false
+unowned_kept : (w : World) (kept : WorldState) (slot : ℕ) → Shows w kept → ArePlaced kept
+    → ((run at : ℕ) → place_at kept.places slot ≢ Some (Held run at))
+    → ((shelf : ℕ) → place_at kept.places slot ≢ Some (Shelved shelf)) → is_owned w slot ≡ false
 unowned_kept w kept slot h placed free off = false_from_ne_true (is_owned w slot) somebodys where
   somebodys : is_owned w slot ≡ true → ⊥
   somebodys owns = by (owner_kept w kept one.0 h placed one.1) where
@@ -147,7 +154,8 @@ kept_in w kept slot h placed = by (place_at kept.places slot) refl (placed.each 
 
   -- an owned slot is not at home
   owned_away : (o : Owner) → Contains w.owners o → o.slot ≡ slot → is_home w slot ≡ false
-  owned_away o among same = not_home (is_in_ledger w slot) (is_owned w slot) (any_from (λ (p : Owner). p.slot == slot) w.owners o among (eq-eqb o.slot slot same))
+  owned_away o among same =
+      not_home (is_in_ledger w slot) (is_owned w slot) (any_from (λ (p : Owner). p.slot == slot) w.owners o among (eq-eqb o.slot slot same))
 
   by : (p : Option Place) → place_at kept.places slot ≡ p → IsPlaced kept slot p → IsKeptIn w slot p
   by None is away = let none : is_in_ledger w slot ≡ false = ap (list_any (is_in slot)) h.ledgers ∙ away in rw none refl

@@ -22,7 +22,8 @@ pub at_number : {X : Type 0} (P : X → Type 0) (xs : List X) (k : ℕ) (x : X) 
 at_number P xs k x all at = subst P (get_or_from_slice_get xs k x x at) (all k x (slice_get_within xs k x at))
 
 -- a run that is kept is that of a world that sees itself so
-pub run_shown : (w : World) (kept : WorldState) (k : ℕ) (r : RunState Object) → Shows w kept → slice_get kept.runs k ≡ Some r → (run : Running) × (slice_get w.runs k ≡ Some run) × (view_of w k run ≡ run_seen r)
+pub run_shown : (w : World) (kept : WorldState) (k : ℕ) (r : RunState Object) → Shows w kept → slice_get kept.runs k ≡ Some r
+    → (run : Running) × (slice_get w.runs k ≡ Some run) × (view_of w k run ≡ run_seen r)
 run_shown w kept k r h at = shown_run w k (run_seen r) (h.views k ∙ ap (option_map run_seen) at)
 
 -- where none is kept there is none
@@ -55,7 +56,8 @@ same_number a b = ⊎_elim (λ (e : (eqb a b ≡ true) × (a ≡ b)). inl e.1) (
 pub first_alone : (s : Subject) (context : List ℕ) → IsAlone (run_seen (first_state_of s context))
 first_alone s context = rw (after_none s context (replies_from [] [])) refl
 
-pub tended_first : (s : Subject) (context : List ℕ) (r : RunState Object) → r ≡ first_state_of s context → IsSound (run_seen r) → kinds_of s.rows ≡ known_kinds → IsTended r
+pub tended_first : (s : Subject) (context : List ℕ) (r : RunState Object) → r ≡ first_state_of s context → IsSound (run_seen r)
+    → kinds_of s.rows ≡ known_kinds → IsTended r
 tended_first s context r is sound kinds = record {
   sound = sound;
   alone = subst (λ (x : RunState Object). IsAlone (run_seen x)) (sym is) (first_alone s context);

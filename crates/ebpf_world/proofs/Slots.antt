@@ -64,7 +64,8 @@ answers-set p (x ∷ xs) zero (suc j) y d e = refl
 answers-set p (x ∷ xs) (suc k) zero y d e = refl
 answers-set p (x ∷ xs) (suc k) (suc j) y d e = answers-set p xs k j y d e
 
-placed_moved : (kept : WorldState) (kind slot : ℕ) (slots : List ℕ) (place : Option Place) (places : Places) → ArePlaced kept → IsMoved kept kind slot slots place places → ArePlaced (with_slots kept kind slots places)
+placed_moved : (kept : WorldState) (kind slot : ℕ) (slots : List ℕ) (place : Option Place) (places : Places) → ArePlaced kept
+    → IsMoved kept kind slot slots place places → ArePlaced (with_slots kept kind slots places)
 placed_moved kept kind slot slots place places placed moved = record { each = λ s. each s (cases_eq s slot); held = λ run r there n among. held run r there n among (cases_eq n.slot slot); shelved = λ shelf s stands. shelved shelf s stands (cases_eq s slot) } where
   after : WorldState
   after = with_slots kept kind slots places
@@ -85,7 +86,8 @@ placed_moved kept kind slot slots place places placed moved = record { each = λ
   each s (inl e) = subst (λ (k : ℕ). IsPlaced (with_slots kept kind slots places) k (place_at places k)) (sym e) (subst (IsPlaced (with_slots kept kind slots places) slot) (sym here) moved.fits)
   each s (inr ne) = subst (IsPlaced (with_slots kept kind slots places) s) (sym (there s ne)) (other s (place_at kept.places s) ne (placed.each s))
 
-  held : (run : ℕ) (r : RunState Object) → slice_get kept.runs run ≡ Some r → (n : Name) → Contains (slots_of r) n → (n.slot ≡ slot) ⊎ (n.slot ≢ slot) → place_at places n.slot ≡ Some (Held run n.call)
+  held : (run : ℕ) (r : RunState Object) → slice_get kept.runs run ≡ Some r → (n : Name) → Contains (slots_of r) n
+      → (n.slot ≡ slot) ⊎ (n.slot ≢ slot) → place_at places n.slot ≡ Some (Held run n.call)
   held run r at n among (inl e) = absurd (moved.unheld run n.call (ap (place_at kept.places) (sym e) ∙ placed.held run r at n among))
   held run r at n among (inr ne) = there n.slot ne ∙ placed.held run r at n among
 
@@ -112,7 +114,8 @@ reap_unknown w kept kind slot h le = let none = unknown w kept kind h le in rw n
 -- ---- a slot joins
 
 -- a slot that has a place is in a ledger already
-pub grow_there : (w : World) (kept : WorldState) (kind slot : ℕ) → Shows w kept → ArePlaced kept → kind < length known_kinds → is_some (place_at kept.places slot) ≡ true → growing kind slot w ≡ Err SlotInLedger
+pub grow_there : (w : World) (kept : WorldState) (kind slot : ℕ) → Shows w kept → ArePlaced kept → kind < length known_kinds
+    → is_some (place_at kept.places slot) ≡ true → growing kind slot w ≡ Err SlotInLedger
 grow_there w kept kind slot h placed lt some =
     let is_known = lt-ltb kind (length w.kinds) (known w kept kind h lt) in
     let there = by (place_at kept.places slot) refl some in
@@ -140,10 +143,12 @@ nowhere kept slot placed free = by (place_at kept.places slot) free (placed.each
   by None free is = is
   by (Some p) free is = absurd (cc)
 
-is_new : (w : World) (kept : WorldState) (kind slot : ℕ) → Shows w kept → ArePlaced kept → kind < length known_kinds → is_some (place_at kept.places slot) ≡ false → IsNew w kind slot
+is_new : (w : World) (kept : WorldState) (kind slot : ℕ) → Shows w kept → ArePlaced kept → kind < length known_kinds
+    → is_some (place_at kept.places slot) ≡ false → IsNew w kind slot
 is_new w kept kind slot h placed lt free = record { kind_is = known w kept kind h lt; fresh = ap (list_any (is_in slot)) h.ledgers ∙ nowhere kept slot placed free }
 
-joined_shows : (w : World) (kept : WorldState) (kind slot : ℕ) (places : Places) → Shows w kept → IsNew w kind slot → Shows (with_slot_joined kind slot w) (with_slots kept kind (with_slot slot (kept_of kept kind)) places)
+joined_shows : (w : World) (kept : WorldState) (kind slot : ℕ) (places : Places) → Shows w kept → IsNew w kind slot
+    → Shows (with_slot_joined kind slot w) (with_slots kept kind (with_slot slot (kept_of kept kind)) places)
 joined_shows w kept kind slot places h new = record {
   views = λ k. (λ i. option_map (λ r. view_joined w k kind slot r h.owned new i) (slice_get w.runs k)) ∙ h.views k;
   slots = h.slots;
@@ -155,14 +160,16 @@ joined_shows w kept kind slot places h new = record {
 }
 
 -- so the event is legal
-pub grow_legal : (w : World) (kept : WorldState) (kind slot : ℕ) → Shows w kept → ArePlaced kept → kind < length known_kinds → is_some (place_at kept.places slot) ≡ false → (after : World) × (growing kind slot w ≡ Ok after)
+pub grow_legal : (w : World) (kept : WorldState) (kind slot : ℕ) → Shows w kept → ArePlaced kept → kind < length known_kinds
+    → is_some (place_at kept.places slot) ≡ false → (after : World) × (growing kind slot w ≡ Ok after)
 grow_legal w kept kind slot h placed lt free =
     let new = is_new w kept kind slot h placed lt free in
     let is_known = lt-ltb kind (length w.kinds) new.kind_is in
     let fresh = new.fresh in
     (with_slot_joined kind slot w, rw (is_known, fresh) refl)
 
-pub grow_done : (w : World) (kept : WorldState) (kind slot : ℕ) (o : Object) (ledgers : List (List ℕ)) (places : Places) → Shows w kept → ArePlaced kept → IsGrown kept kind slot o ledgers places
+pub grow_done : (w : World) (kept : WorldState) (kind slot : ℕ) (o : Object) (ledgers : List (List ℕ)) (places : Places)
+    → Shows w kept → ArePlaced kept → IsGrown kept kind slot o ledgers places
     → (after : World) × (growing kind slot w ≡ Ok after) × Shows after (record kept { ledgers = ledgers; places = places })
 grow_done w kept kind slot o ledgers places h placed grown =
     let new = is_new w kept kind slot h placed grown.known grown.free in
@@ -170,7 +177,9 @@ grow_done w kept kind slot o ledgers places h placed grown =
     let fresh = new.fresh in
     (with_slot_joined kind slot w, rw (is_known, fresh) refl, subst (λ (ls : List (List ℕ)). Shows (with_slot_joined kind slot w) (record kept { ledgers = ls; places = places })) (sym grown.ledgers_are) (joined_shows w kept kind slot places h new))
 
-grown_moved : (w : World) (kept : WorldState) (kind slot : ℕ) (o : Object) (ledgers : List (List ℕ)) (places : Places) → Shows w kept → ArePlaced kept → IsGrown kept kind slot o ledgers places → IsMoved kept kind slot (with_slot slot (kept_of kept kind)) (Some (Home o)) places
+grown_moved : (w : World) (kept : WorldState) (kind slot : ℕ) (o : Object) (ledgers : List (List ℕ)) (places : Places)
+    → Shows w kept → ArePlaced kept → IsGrown kept kind slot o ledgers places
+    → IsMoved kept kind slot (with_slot slot (kept_of kept kind)) (Some (Home o)) places
 grown_moved w kept kind slot o ledgers places h placed grown = record {
   others = λ s ne. new_slots.others_in s slot (kept_of kept kind) ne;
   unheld = λ run at e. let free = grown.free in let some = ap is_some e in absurd (cc);
@@ -195,7 +204,8 @@ grown_moved w kept kind slot o ledgers places h placed grown = record {
         ∙ sym (ap (λ (ls : List (List ℕ)). is_in slot (slice_index_or (slice_set ls kind (with_slot slot (slice_index_or ls kind []))) kind [])) h.ledgers)
         ∙ there
 
-pub grow_tended : (kept : WorldState) (kind slot : ℕ) (o : Object) (ledgers : List (List ℕ)) (places : Places) → IsTendedWorld kept → IsGrown kept kind slot o ledgers places → IsTendedWorld (record kept { ledgers = ledgers; places = places })
+pub grow_tended : (kept : WorldState) (kind slot : ℕ) (o : Object) (ledgers : List (List ℕ)) (places : Places) → IsTendedWorld kept
+    → IsGrown kept kind slot o ledgers places → IsTendedWorld (record kept { ledgers = ledgers; places = places })
 grow_tended kept kind slot o ledgers places tended grown =
     let w = tended.shown.0 in
     let h = tended.shown.1 in
@@ -220,8 +230,10 @@ parted_again [] kind slot new = refl
 parted_again (slots ∷ ledgers) zero slot new = ap (λ (l : List ℕ). l ∷ ledgers) (parted_joined slot slots new)
 parted_again (slots ∷ ledgers) (suc kind) slot new = ap (λ (ls : List (List ℕ)). slots ∷ ls) (parted_again ledgers kind slot new)
 
-pub grow_undone : (kept : WorldState) (kind slot : ℕ) (with_it ledgers : List (List ℕ)) (places : Places) → ArePlaced kept → is_some (place_at kept.places slot) ≡ false → with_it ≡ slice_set kept.ledgers kind (with_slot slot (kept_of kept kind))
-    → ledgers ≡ slice_set with_it kind (without_slot slot (slice_index_or with_it kind [])) → places ≡ kept.places → record kept { ledgers = ledgers; places = places } ≡ kept
+pub grow_undone : (kept : WorldState) (kind slot : ℕ) (with_it ledgers : List (List ℕ)) (places : Places) → ArePlaced kept
+    → is_some (place_at kept.places slot) ≡ false → with_it ≡ slice_set kept.ledgers kind (with_slot slot (kept_of kept kind))
+    → ledgers ≡ slice_set with_it kind (without_slot slot (slice_index_or with_it kind [])) → places ≡ kept.places
+    → record kept { ledgers = ledgers; places = places } ≡ kept
 grow_undone kept kind slot with_it ledgers places placed free joins parts same = λ i. record kept { ledgers = again i; places = same i } where
   again : ledgers ≡ kept.ledgers
   again =
@@ -232,7 +244,8 @@ grow_undone kept kind slot with_it ledgers places placed free joins parts same =
 -- ---- a slot leaves
 
 -- a slot that isn't home in the ledger of this kind
-pub reap_away : (w : World) (kept : WorldState) (kind slot : ℕ) → Shows w kept → ArePlaced kept → kind < length known_kinds → is_home_of (place_at kept.places slot) kind ≡ false → reaping kind slot w ≡ Err SlotNotReapable
+pub reap_away : (w : World) (kept : WorldState) (kind slot : ℕ) → Shows w kept → ArePlaced kept → kind < length known_kinds
+    → is_home_of (place_at kept.places slot) kind ≡ false → reaping kind slot w ≡ Err SlotNotReapable
 reap_away w kept kind slot h placed lt away =
     let is_known = lt-ltb kind (length w.kinds) (known w kept kind h lt) in
     let not_there = by (place_at kept.places slot) (kept_in w kept slot h placed) away in
@@ -259,7 +272,8 @@ pub record IsReaped (kept : WorldState) (kind slot : ℕ) (ledgers : List (List 
   pub ledgers_are : ledgers ≡ slice_set kept.ledgers kind (without_slot slot (kept_of kept kind))
   pub places_are : (s : ℕ) → place_at places s ≡ (if s == slot then None else place_at kept.places s)
 
-is_reapable : (w : World) (kept : WorldState) (kind slot : ℕ) → Shows w kept → ArePlaced kept → is_home_of (place_at kept.places slot) kind ≡ true → IsReapable w kind slot
+is_reapable : (w : World) (kept : WorldState) (kind slot : ℕ) → Shows w kept → ArePlaced kept
+    → is_home_of (place_at kept.places slot) kind ≡ true → IsReapable w kind slot
 is_reapable w kept kind slot h placed home = by (place_at kept.places slot) (kept_in w kept slot h placed) home where
   by : (p : Option Place) → IsKeptIn w slot p → is_home_of p kind ≡ true → IsReapable w kind slot
   by None is home = absurd (cc)
@@ -267,7 +281,8 @@ is_reapable w kept kind slot h placed home = by (place_at kept.places slot) (kep
   by (Some (Shelved shelf)) is home = absurd (cc)
   by (Some (Home o)) is home = record { home = is.0; its = subst (λ (k : ℕ). is_in slot (ledger_of w k) ≡ true) (eqb-true o.kind kind home) is.1 }
 
-parted_shows : (w : World) (kept : WorldState) (kind slot : ℕ) (places : Places) → Shows w kept → IsReapable w kind slot → Shows (with_slot_left kind slot w) (with_slots kept kind (without_slot slot (kept_of kept kind)) places)
+parted_shows : (w : World) (kept : WorldState) (kind slot : ℕ) (places : Places) → Shows w kept → IsReapable w kind slot
+    → Shows (with_slot_left kind slot w) (with_slots kept kind (without_slot slot (kept_of kept kind)) places)
 parted_shows w kept kind slot places h reapable = record {
   views = λ k. (λ i. option_map (λ r. view_parted w k kind slot r h.owned reapable i) (slice_get w.runs k)) ∙ h.views k;
   slots = h.slots;
@@ -278,7 +293,8 @@ parted_shows w kept kind slot places h reapable = record {
   shelves = h.shelves;
 }
 
-pub reap_done : (w : World) (kept : WorldState) (kind slot : ℕ) (ledgers : List (List ℕ)) (places : Places) → Shows w kept → ArePlaced kept → IsReaped kept kind slot ledgers places
+pub reap_done : (w : World) (kept : WorldState) (kind slot : ℕ) (ledgers : List (List ℕ)) (places : Places) → Shows w kept
+    → ArePlaced kept → IsReaped kept kind slot ledgers places
     → (after : World) × (reaping kind slot w ≡ Ok after) × Shows after (record kept { ledgers = ledgers; places = places })
 reap_done w kept kind slot ledgers places h placed reaped =
     let reapable = is_reapable w kept kind slot h placed reaped.home in
@@ -286,7 +302,9 @@ reap_done w kept kind slot ledgers places h placed reaped =
     let its = and_from (is_home w slot) (is_in slot (ledger_of w kind)) reapable.home reapable.its in
     (with_slot_left kind slot w, rw (is_known, its) refl, subst (λ (ls : List (List ℕ)). Shows (with_slot_left kind slot w) (record kept { ledgers = ls; places = places })) (sym reaped.ledgers_are) (parted_shows w kept kind slot places h reapable))
 
-reaped_moved : (w : World) (kept : WorldState) (kind slot : ℕ) (ledgers : List (List ℕ)) (places : Places) → Shows w kept → ArePlaced kept → IsReaped kept kind slot ledgers places → IsMoved kept kind slot (without_slot slot (kept_of kept kind)) None places
+reaped_moved : (w : World) (kept : WorldState) (kind slot : ℕ) (ledgers : List (List ℕ)) (places : Places) → Shows w kept
+    → ArePlaced kept → IsReaped kept kind slot ledgers places
+    → IsMoved kept kind slot (without_slot slot (kept_of kept kind)) None places
 reaped_moved w kept kind slot ledgers places h placed reaped = record {
   others = λ s ne. parted_slots.others_in s slot (kept_of kept kind) ne;
   unheld = λ run at e. let home = sym (ap (λ (p : Option Place). is_home_of p kind) e) ∙ reaped.home in absurd (cc);
@@ -295,7 +313,8 @@ reaped_moved w kept kind slot ledgers places h placed reaped = record {
   fits = sym (ap (λ (ls : List (List ℕ)). list_any (is_in slot) (slice_set ls kind (without_slot slot (slice_index_or ls kind [])))) h.ledgers) ∙ parted_away w kind slot h.owned (is_reapable w kept kind slot h placed reaped.home);
 }
 
-pub reap_tended : (kept : WorldState) (kind slot : ℕ) (ledgers : List (List ℕ)) (places : Places) → IsTendedWorld kept → IsReaped kept kind slot ledgers places → IsTendedWorld (record kept { ledgers = ledgers; places = places })
+pub reap_tended : (kept : WorldState) (kind slot : ℕ) (ledgers : List (List ℕ)) (places : Places) → IsTendedWorld kept
+    → IsReaped kept kind slot ledgers places → IsTendedWorld (record kept { ledgers = ledgers; places = places })
 reap_tended kept kind slot ledgers places tended reaped =
     let w = tended.shown.0 in
     let h = tended.shown.1 in

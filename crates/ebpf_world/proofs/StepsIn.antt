@@ -25,7 +25,8 @@ use Rattle.ebpf_world.specs.Stepping.{IsNewObject, IsStepped}
 
 -- the store was lent the object over these shelves, and has what is freed, and what stands there then
 pub stepped_in : {S : Type 0} (s : Store S Object) (o : Option ℕ) (lent freed was here : Option Object) (before after stood stand : List (Option Object)) (r t : RunState Object) (old new : S)
-    → was ≡ lent → freed ≡ here → stood ≡ before → after ≡ stand → s.outs old ≡ out_of_kind was stood → s.outs new ≡ out_of_kind here stand → s.slot_of ≡ (λ x. x.slot)
+    → was ≡ lent → freed ≡ here → stood ≡ before → after ≡ stand → s.outs old ≡ out_of_kind was stood
+    → s.outs new ≡ out_of_kind here stand → s.slot_of ≡ (λ x. x.slot)
     → IfNone o ((served : Served) × MayAnswer (offers was stood) r.pc (asking_in (run_seen r)) served × IsStep s served (run_seen r) (run_seen t) r.held t.held old new
     × ((shelf : ℕ) (what : Option Shelved) → what ≡ standing_on stood shelf → shelf_done (shelved_from as_shelved r.held) (effect_of_view (run_seen r)) shelf what ≡ standing_on stand shelf))
     → ((h : Holding Object) → Contains r.held h → All (λ k. k.object.slot ≢ h.object.slot) t.held → IsOut here stand h.object → ⊥)
@@ -47,7 +48,8 @@ stepped_in s None lent freed was here before after stood stand r t old new l f b
   shelves = λ shelf. ap (λ (xs : List (Option Object)). standing_on xs shelf) a ∙ sym (follow shelf (standing_on before shelf) (ap (λ (xs : List (Option Object)). standing_on xs shelf) (sym b)));
 }
 
-pub new_object : (o : Option Object) → IfSome o (λ x. x.bytes.items ≡ image_at known_kinds x.kind) → IfSome o (λ x. x.kind < length known_kinds) → IfSome o IsNewObject
+pub new_object : (o : Option Object) → IfSome o (λ x. x.bytes.items ≡ image_at known_kinds x.kind)
+    → IfSome o (λ x. x.kind < length known_kinds) → IfSome o IsNewObject
 new_object None image known = tt
 new_object (Some o) image known = (image, known)
 

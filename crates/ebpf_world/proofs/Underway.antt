@@ -23,7 +23,8 @@ pub record IsUnderway (programs : List Subject) (events : List Event) (index : �
 next_event : (events : List Event) (index : ℕ) (d : Event) → index < length events → drop index events ≡ slice_index_or events index d ∷ drop (index + 1) events
 next_event events index d lt = drop_more events index d lt
 
-world_after_next : (programs : List Subject) (e : Event) (rest : List Event) (index : ℕ) (w : World) → world_after_from programs (e ∷ rest) index w ≡ and_then (happened programs e w) index (world_after_from programs rest (index + 1))
+world_after_next : (programs : List Subject) (e : Event) (rest : List Event) (index : ℕ) (w : World)
+    → world_after_from programs (e ∷ rest) index w ≡ and_then (happened programs e w) index (world_after_from programs rest (index + 1))
 unfolding world_after_from
 world_after_next programs e rest index w = refl
 
@@ -32,7 +33,9 @@ unfolding world_after_from
 world_after_last programs index w = refl
 
 -- an event takes place
-pub underway_next : (programs : List Subject) (events : List Event) (index : ℕ) (old new : WorldState) (e : Event) → index < length events → e ≡ slice_index_or events index e → IsUnderway programs events index old → IsDone e old new → new.programs ≡ old.programs → IsUnderway programs events (index + 1) new
+pub underway_next : (programs : List Subject) (events : List Event) (index : ℕ) (old new : WorldState) (e : Event)
+    → index < length events → e ≡ slice_index_or events index e → IsUnderway programs events index old → IsDone e old new
+    → new.programs ≡ old.programs → IsUnderway programs events (index + 1) new
 underway_next programs events index old new e lt at h done same =
     let after = done h.world h.shows in
     let goes : happened programs e h.world ≡ Ok after.0 = ap (λ (ps : List Subject). happened ps e h.world) (sym h.programs_stay) ∙ after.1 in
@@ -47,7 +50,9 @@ underway_next programs events index old new e lt at h done same =
     }
 
 -- an event is not legal
-pub underway_refused : (programs : List Subject) (events : List Event) (index : ℕ) (old : WorldState) (e : Event) (code : ApplyCode) → index < length events → e ≡ slice_index_or events index e → IsUnderway programs events index old → IsRefused e old (Bad code) → (why : Illegal) × (world_after programs events ≡ Err (index, why)) × (code ≡ code_of why)
+pub underway_refused : (programs : List Subject) (events : List Event) (index : ℕ) (old : WorldState) (e : Event) (code : ApplyCode)
+    → index < length events → e ≡ slice_index_or events index e → IsUnderway programs events index old → IsRefused e old (Bad code)
+    → (why : Illegal) × (world_after programs events ≡ Err (index, why)) × (code ≡ code_of why)
 underway_refused programs events index old e code lt at h refused =
     let why = refused h.world h.shows in
     let bad : happened programs e h.world ≡ Err why.0 = ap (λ (ps : List Subject). happened ps e h.world) (sym h.programs_stay) ∙ why.1 in
@@ -57,7 +62,8 @@ underway_refused programs events index old e code lt at h refused =
     (why.0, sym h.rest ∙ ap (λ (es : List Event). world_after_from programs es index h.world) left ∙ led, why.2)
 
 -- all events took place
-pub underway_last : (programs : List Subject) (events : List Event) (index : ℕ) (kept : WorldState) → length events ≤ index → IsUnderway programs events index kept → IsReplayed programs events kept
+pub underway_last : (programs : List Subject) (events : List Event) (index : ℕ) (kept : WorldState) → length events ≤ index
+    → IsUnderway programs events index kept → IsReplayed programs events kept
 underway_last programs events index kept done h =
     let none = drop_all index events done in
     (h.world, sym h.rest ∙ ap (λ (es : List Event). world_after_from programs es index h.world) none ∙ world_after_last programs index h.world, h.shows)

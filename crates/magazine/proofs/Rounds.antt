@@ -29,13 +29,17 @@ turned_rounds old turned (inl is) = rw is (IsPermutation-append_comm old.loaded 
 turned_rounds old turned (inr is) = rw is (IsPermutation-refl (rounds_of old))
 
 -- and one round left its loaded magazine then
-pub taken_rounds : (old turned : LayerView) (loaded rest previous : List ℕ) (slot : ℕ) → (turned ≡ exchanged old) ⊎ (turned ≡ old) → record { loaded = loaded; previous = previous } ≡ turned → loaded ≡ rest ++ slot ∷ [] → IsPermutation (rounds_of old) (slot ∷ (rest ++ previous))
+pub taken_rounds : (old turned : LayerView) (loaded rest previous : List ℕ) (slot : ℕ) → (turned ≡ exchanged old) ⊎ (turned ≡ old)
+    → record { loaded = loaded; previous = previous } ≡ turned → loaded ≡ rest ++ slot ∷ []
+    → IsPermutation (rounds_of old) (slot ∷ (rest ++ previous))
 taken_rounds old turned loaded rest previous slot from is popped =
     let whole : rounds_of turned ≡ (rest ++ slot ∷ []) ++ previous = sym (ap rounds_of is) ∙ ap (λ (rounds : List ℕ). rounds ++ previous) popped in
     IsPermutation-trans (rounds_of old) (rounds_of turned) _ (turned_rounds old turned from) (rw whole (one_more rest previous slot))
 
 -- or one came onto it
-pub given_rounds : (old turned : LayerView) (loaded more previous : List ℕ) (slot : ℕ) → (turned ≡ exchanged old) ⊎ (turned ≡ old) → record { loaded = loaded; previous = previous } ≡ turned → more ≡ loaded ++ slot ∷ [] → IsPermutation (slot ∷ rounds_of old) (more ++ previous)
+pub given_rounds : (old turned : LayerView) (loaded more previous : List ℕ) (slot : ℕ) → (turned ≡ exchanged old) ⊎ (turned ≡ old)
+    → record { loaded = loaded; previous = previous } ≡ turned → more ≡ loaded ++ slot ∷ []
+    → IsPermutation (slot ∷ rounds_of old) (more ++ previous)
 given_rounds old turned loaded more previous slot from is pushed =
     let whole : slot ∷ rounds_of turned ≡ slot ∷ (loaded ++ previous) = ap (λ (l : LayerView). slot ∷ rounds_of l) (sym is) in
     IsPermutation-trans (slot ∷ rounds_of old) (slot ∷ rounds_of turned) _ (IsPermutation-cons slot (rounds_of old) (rounds_of turned) (turned_rounds old turned from)) (rw (whole, pushed) (IsPermutation-sym _ _ (one_more loaded previous slot)))
@@ -46,17 +50,23 @@ concat_push [] m = append-nil m
 concat_push (l ∷ ls) m = ap (λ r. l ++ r) (concat_push ls m) ∙ sym (append_assoc l (concat ls) m)
 
 -- a depot's rounds, where a full magazine left its stack
-pub popped_rounds : (depot : DepotView) (old new : List (List ℕ)) (empties : ℕ) (m out : List ℕ) → record { rounds = concat old; empties = empties } ≡ depot → old ≡ new ++ m ∷ [] → out ≡ m → IsPermutation depot.rounds (out ++ concat new)
+pub popped_rounds : (depot : DepotView) (old new : List (List ℕ)) (empties : ℕ) (m out : List ℕ)
+    → record { rounds = concat old; empties = empties } ≡ depot → old ≡ new ++ m ∷ [] → out ≡ m
+    → IsPermutation depot.rounds (out ++ concat new)
 popped_rounds depot old new empties m out is popped same =
     let from : depot.rounds ≡ concat new ++ m = sym (ap (λ (d : DepotView). d.rounds) is) ∙ (ap concat popped ∙ concat_push new m) in
     rw (from, same) (IsPermutation-append_comm (concat new) m)
 
-pub drained_rounds : (depot : DepotView) (old new : List (List ℕ)) (empties : ℕ) (out : Option (List ℕ)) → record { rounds = concat old; empties = empties } ≡ depot → old ≡ new ++ option_to_list out → IfSome out (λ m. IsPermutation depot.rounds (m ++ concat new))
+pub drained_rounds : (depot : DepotView) (old new : List (List ℕ)) (empties : ℕ) (out : Option (List ℕ))
+    → record { rounds = concat old; empties = empties } ≡ depot → old ≡ new ++ option_to_list out
+    → IfSome out (λ m. IsPermutation depot.rounds (m ++ concat new))
 drained_rounds depot old new empties None is popped = tt
 drained_rounds depot old new empties (Some m) is popped = popped_rounds depot old new empties m m is popped refl
 
 -- where one came onto it
-pub pushed_rounds : (depot : DepotView) (old new : List (List ℕ)) (empties : ℕ) (m given : List ℕ) → record { rounds = concat old; empties = empties } ≡ depot → new ≡ old ++ m ∷ [] → m ≡ given → IsPermutation (given ++ depot.rounds) (concat new)
+pub pushed_rounds : (depot : DepotView) (old new : List (List ℕ)) (empties : ℕ) (m given : List ℕ)
+    → record { rounds = concat old; empties = empties } ≡ depot → new ≡ old ++ m ∷ [] → m ≡ given
+    → IsPermutation (given ++ depot.rounds) (concat new)
 pushed_rounds depot old new empties m given is pushed same =
     let to : concat new ≡ concat old ++ m = ap concat pushed ∙ concat_push old m in
     rw (to, ← ap (λ (d : DepotView). d.rounds) is, ← same) (IsPermutation-append_comm m (concat old))

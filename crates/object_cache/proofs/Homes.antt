@@ -26,7 +26,8 @@ sends_none pages slots none = record {
 }
 
 -- one list after another
-pub sends_both : (first between last : Pages) (xs ys all : List ℕ) → SendsHome first between xs → SendsHome between last ys → IsPermutation all (xs ++ ys) → SendsHome first last all
+pub sends_both : (first between last : Pages) (xs ys all : List ℕ) → SendsHome first between xs → SendsHome between last ys
+    → IsPermutation all (xs ++ ys) → SendsHome first last all
 sends_both first between last xs ys all one two moved = record { home = home; others = others } where
   from_xs : (x : ℕ) → Contains xs x → Contains all x
   from_xs x has = Contains-permutation (xs ++ ys) all x (IsPermutation-sym all (xs ++ ys) moved) (Contains-append_left xs ys x has)
@@ -56,5 +57,6 @@ sends_both first between last xs ys all one two moved = record { home = home; ot
       two.others x (λ has out. never (from_ys x has) (sym early ∙ out)) ∙ early
 
 -- the last of a list, and then the others
-pub sends_last : (first between last : Pages) (slot : ℕ) (rest all : List ℕ) → SendsHome first between (slot ∷ []) → SendsHome between last rest → all ≡ rest ++ slot ∷ [] → SendsHome first last all
+pub sends_last : (first between last : Pages) (slot : ℕ) (rest all : List ℕ) → SendsHome first between (slot ∷ [])
+    → SendsHome between last rest → all ≡ rest ++ slot ∷ [] → SendsHome first last all
 sends_last first between last slot rest all one two is = sends_both first between last (slot ∷ []) rest all one two (rw is (IsPermutation-to_front rest slot))

@@ -24,5 +24,7 @@ module _ {X : Type 0} where
   came_in x old new moved = Contains-permutation (x ∷ old) new x moved (0, omega arith, refl)
 
 -- a span that was taken and given again: the same spans are out as before
-pub went_back : (span : Pages) (before between after : Spans) → IsPermutation (span ∷ before.out) between.out → IsPermutation (span ∷ after.out) between.out → KeepsOut before after
-went_back span before between after came back weight = omega (arith, sum_by_pushed weight span before.out between.out came, sum_by_pushed weight span after.out between.out back)
+pub went_back : (span : Pages) (before between after : Spans) → IsPermutation (span ∷ before.out) between.out
+    → IsPermutation (span ∷ after.out) between.out → KeepsOut before after
+went_back span before between after came back weight =
+    omega (arith, sum_by_pushed weight span before.out between.out came, sum_by_pushed weight span after.out between.out back)

@@ -51,7 +51,8 @@ had_less (suc n) old new page removes has below = elim (cases_lt page n) [
 ]
 
 -- and no slot that is out goes with it
-out_stays : (old new : Pages) (page : ℕ) → RemovesPage old new page → ((slot : ℕ) → slot / 256 ≡ page → IsOut old slot → ⊥) → (slot : ℕ) → IsOut new slot ↔ IsOut old slot
+out_stays : (old new : Pages) (page : ℕ) → RemovesPage old new page → ((slot : ℕ) → slot / 256 ≡ page → IsOut old slot → ⊥)
+    → (slot : ℕ) → IsOut new slot ↔ IsOut old slot
 out_stays old new page removes idle slot = elim (cases_eq (slot / 256) page) [
   | inl here ↦
       let gone = removes.removed slot here in
@@ -62,7 +63,8 @@ out_stays old new page removes idle slot = elim (cases_eq (slot / 256) page) [
 ]
 
 -- and of a page that stays no slot changes
-place_stays : (old new : Pages) (page : ℕ) → RemovesPage old new page → (slot : ℕ) → Has new (slot / 256) → Has old (slot / 256) × (place_of new slot ≡ place_of old slot)
+place_stays : (old new : Pages) (page : ℕ) → RemovesPage old new page → (slot : ℕ) → Has new (slot / 256)
+    → Has old (slot / 256) × (place_of new slot ≡ place_of old slot)
 place_stays old new page removes slot has = elim (cases_eq (slot / 256) page) [
   | inl here ↦
       let gone = removes.removed (slot / 256 * 256) (omega arith) in

@@ -27,7 +27,8 @@ passed-one b e = grind (arith, nat_tests)
 -- where a seat passed the limit, so did a sheet
 some-passed : (seats : List TicketView) → Any (λ s. s.passed ≡ true) seats → 0 < sum_by (λ s. passes (sheet s)) seats
 some-passed [] (k, s, l, at, p) = absurd (omega arith)
-some-passed (s ∷ ss) (zero, t, l, at, p) = let c = sum_by-cons (λ s. passes (sheet s)) s ss in let e = passed-one s.passed (ap (λ (v : TicketView). v.passed) at ∙ p) in omega arith
+some-passed (s ∷ ss) (zero, t, l, at, p) =
+    let c = sum_by-cons (λ s. passes (sheet s)) s ss in let e = passed-one s.passed (ap (λ (v : TicketView). v.passed) at ∙ p) in omega arith
 some-passed (s ∷ ss) (suc k, t, l, at, p) = let c = sum_by-cons (λ s. passes (sheet s)) s ss in let r = some-passed ss (k, t, omega arith, at, p) in omega arith
 
 module _ (limit seats : ℕ) (st : State (Unit {0}) View) (id : ℕ) (r : Drawn limit seats st) (items : List TicketView) (at : get_elem? st.views id ≡ some (reverse (map sheet items))) (few : NeverWraps limit seats) where

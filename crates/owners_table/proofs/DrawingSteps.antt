@@ -21,7 +21,8 @@ single : (f : TicketSheet → ℕ) (t : TicketSheet) → sum_by f (t ∷ []) ≡
 single f t = omega arith
 
 -- f changes at one sheet, which is alone in its view
-alone : (f : TicketSheet → ℕ) (views : List View) (id : ℕ) (t u : TicketSheet) → get_elem? views id ≡ some (t ∷ []) → sum_by (sum_by f) (set views id (u ∷ [])) + f t ≡ sum_by (sum_by f) views + f u
+alone : (f : TicketSheet → ℕ) (views : List View) (id : ℕ) (t u : TicketSheet) → get_elem? views id ≡ some (t ∷ [])
+    → sum_by (sum_by f) (set views id (u ∷ [])) + f t ≡ sum_by (sum_by f) views + f u
 alone f views id t u at = let c = sum_by-change (sum_by f) views id (t ∷ []) (u ∷ []) at in let a = single f t in let b = single f u in omega arith
 
 known : (limit : ℕ) (t : TicketSheet) → faults limit t ≡ 0 → t.limit ≡ limit
@@ -44,7 +45,8 @@ fresh-passes : (t : TicketSheet) → t.passed ≡ false → passes t ≡ 0
 fresh-passes t e = ap one_if e
 
 after-passes : (limit n : ℕ) (t : TicketSheet) → t.passed ≡ false → t.limit ≡ limit → passes (after_draw n t) ≡ tardy limit n
-after-passes limit n t fresh e = ap (λ (l : ℕ). passes (record { limit = l; drawn = t.drawn ++ n ∷ []; passed = if nat_lt n l then t.passed else true })) e ∙ go (nat_lt n limit) fresh
+after-passes limit n t fresh e =
+    ap (λ (l : ℕ). passes (record { limit = l; drawn = t.drawn ++ n ∷ []; passed = if nat_lt n l then t.passed else true })) e ∙ go (nat_lt n limit) fresh
   where
     unless : Bool → ℕ
     unless b = if b then 0 else 1
@@ -87,13 +89,15 @@ sheets-pass (t ∷ ts) = let c = sum_by-cons passes t ts in let p = passes-one t
 -- no more sheets passed the limit than there are
 few_pass : (views : List View) (seats : ℕ) → sum_by length views ≡ seats → sum_by (sum_by passes) views ≤ seats
 few_pass [] seats e = omega arith
-few_pass (v ∷ vs) seats e = let c = sum_by-cons (sum_by passes) v vs in let d = sum_by-cons length v vs in let p = sheets-pass v in omega (arith, few_pass vs (sum_by length vs) refl)
+few_pass (v ∷ vs) seats e =
+    let c = sum_by-cons (sum_by passes) v vs in let d = sum_by-cons length v vs in let p = sheets-pass v in omega (arith, few_pass vs (sum_by length vs) refl)
 
 as_many : (views : List View) (id : ℕ) (t u : TicketSheet) → get_elem? views id ≡ some (t ∷ []) → sum_by length (set views id (u ∷ [])) ≡ sum_by length views
 as_many views id t u at = let c = sum_by-change (λ (v : View). length v) views id (t ∷ []) (u ∷ []) at in omega arith
 
 -- where a sheet has not, fewer have
-one_fresh : (views : List View) (seats id : ℕ) (t : TicketSheet) → sum_by length views ≡ seats → get_elem? views id ≡ some (t ∷ []) → t.passed ≡ false → sum_by (sum_by passes) views + 1 ≤ seats
+one_fresh : (views : List View) (seats id : ℕ) (t : TicketSheet) → sum_by length views ≡ seats → get_elem? views id ≡ some (t ∷ [])
+    → t.passed ≡ false → sum_by (sum_by passes) views + 1 ≤ seats
 one_fresh views seats id t e at fresh =
     let u : TicketSheet = record { limit = t.limit; drawn = t.drawn; passed = true } in
     let a = alone passes views id t u at in
@@ -107,12 +111,14 @@ draws limit seats homes id me t one fresh st r _ at _ =
     let n : ℕ = get_or st.words 0 0 in
     let u : TicketSheet = after_draw n t in
     let here : get_elem? st.views id ≡ some (t ∷ []) = at ∙ ap some one in
-    let sound : faults limit t ≡ 0 = let m = sum_by-member (sum_by (faults limit)) st.views id (t ∷ []) here in let s = single (faults limit) t in let k = r.sound in omega arith in
+    let sound : faults limit t ≡ 0 =
+    let m = sum_by-member (sum_by (faults limit)) st.views id (t ∷ []) here in let s = single (faults limit) t in let k = r.sound in omega arith in
     let late = after-passes limit n t fresh (known limit t sound) in
     let early = fresh-passes t fresh in
     let passing = alone passes st.views id t u here in
     let wide = r.wide in
-    let now : get_or (set st.words 0 ((n + 1) % 18446744073709551616)) 0 0 ≡ (n + 1) % 18446744073709551616 = get_or-set_same st.words 0 ((n + 1) % 18446744073709551616) 0 (omega arith) in
+    let now : get_or (set st.words 0 ((n + 1) % 18446744073709551616)) 0 0 ≡ (n + 1) % 18446744073709551616 =
+    get_or-set_same st.words 0 ((n + 1) % 18446744073709551616) 0 (omega arith) in
     let next : NeverWraps limit seats → get_or (set st.words 0 ((n + 1) % 18446744073709551616)) 0 0 ≡ n + 1 = λ few. let b = r.bound few in let f = one_fresh st.views seats id t r.sheets here fresh in omega arith in (
       u ∷ [],
       keeps,
@@ -151,7 +157,8 @@ draws-late n limit t e late = ap (λ (b : Bool). passed_after b t.passed) (test-
     test-late n m l = grind (arith, nat_tests)
 
 -- a step that moves sheets from seat to seat
-moved : (limit seats : ℕ) (st : Table) → Drawn limit seats st → (views : List View) → sum_by length views ≡ sum_by length st.views → ((f : TicketSheet → ℕ) → sum_by (sum_by f) views ≡ sum_by (sum_by f) st.views)
+moved : (limit seats : ℕ) (st : Table) → Drawn limit seats st → (views : List View) → sum_by length views ≡ sum_by length st.views
+    → ((f : TicketSheet → ℕ) → sum_by (sum_by f) views ≡ sum_by (sum_by f) st.views)
     → Drawn limit seats record { words = st.words; homes = st.homes; views = views }
 moved limit seats st r views as_many same = record {
   wide = r.wide;

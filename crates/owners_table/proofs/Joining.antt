@@ -19,7 +19,8 @@ all_last P [] x h = h zero x (omega arith)
 all_last P (y ∷ ys) x h = all_last P ys x (λ j e m. h (suc j) e (omega arith))
 
 -- the sheets of one more seat, the last of those that are left
-pub joins-last : {S T : Type 0} (sheet : S → T) (left seats : List S) (other : S) (all both v rest : List T) → seats ≡ left ++ other ∷ [] → both ≡ all ++ v → v ≡ sheet other ∷ []
+pub joins-last : {S T : Type 0} (sheet : S → T) (left seats : List S) (other : S) (all both v rest : List T)
+    → seats ≡ left ++ other ∷ [] → both ≡ all ++ v → v ≡ sheet other ∷ []
     → all ++ reverse (map sheet seats) ≡ rest → both ++ reverse (map sheet left) ≡ rest
 joins-last sheet left seats other all both v rest popped joined one before =
     ap (λ w. w ++ reverse (map sheet left)) joined

@@ -47,10 +47,12 @@ word-other : (slot : ℕ) (g : ℕ → ℕ) (k w : ℕ) → k ≢ slot → weigh
 word-other slot g k w e = let o = only-other slot g k w e in grind (arith, nat_tests)
 
 -- one word changes
-pub words-change : (h : ℕ → ℕ → ℕ) (k : ℕ) (ws : List ℕ) (i x : ℕ) → i < length ws → weigh_words h k (set ws i x) + weigh_word h (k + i) (get_or ws i 0) ≡ weigh_words h k ws + weigh_word h (k + i) x
+pub words-change : (h : ℕ → ℕ → ℕ) (k : ℕ) (ws : List ℕ) (i x : ℕ) → i < length ws
+    → weigh_words h k (set ws i x) + weigh_word h (k + i) (get_or ws i 0) ≡ weigh_words h k ws + weigh_word h (k + i) x
 words-change h k [] i x l = absurd (omega arith)
 words-change h k (w ∷ ws) zero x l = let e : k + 0 ≡ k = omega arith in rw e (omega arith)
-words-change h k (w ∷ ws) (suc i) x l = let e : suc k + i ≡ k + suc i = omega arith in let r = words-change h (suc k) ws i x (omega arith) in let r' = rw e at r in omega (arith, r')
+words-change h k (w ∷ ws) (suc i) x l =
+    let e : suc k + i ≡ k + suc i = omega arith in let r = words-change h (suc k) ws i x (omega arith) in let r' = rw e at r in omega (arith, r')
 
 pub shelf-none : (h : ℕ → ℕ → ℕ) (k w : ℕ) → 4096 ≤ w → weigh_shelf h k w ≡ 0
 shelf-none h k w l = grind (arith, nat_tests)
@@ -62,24 +64,29 @@ pub shelf-some : (h : ℕ → ℕ → ℕ) (k w : ℕ) → 0 < w → w < 4096 �
 shelf-some h k w p l = grind (arith, nat_tests)
 
 -- one word changes
-pub shelves-change : (h : ℕ → ℕ → ℕ) (k : ℕ) (ws : List ℕ) (i x : ℕ) → i < length ws → weigh_shelves h k (set ws i x) + weigh_shelf h (k + i) (get_or ws i 0) ≡ weigh_shelves h k ws + weigh_shelf h (k + i) x
+pub shelves-change : (h : ℕ → ℕ → ℕ) (k : ℕ) (ws : List ℕ) (i x : ℕ) → i < length ws
+    → weigh_shelves h k (set ws i x) + weigh_shelf h (k + i) (get_or ws i 0) ≡ weigh_shelves h k ws + weigh_shelf h (k + i) x
 shelves-change h k [] i x l = absurd (omega arith)
 shelves-change h k (w ∷ ws) zero x l = let e : k + 0 ≡ k = omega arith in rw e (omega arith)
-shelves-change h k (w ∷ ws) (suc i) x l = let e : suc k + i ≡ k + suc i = omega arith in let r = shelves-change h (suc k) ws i x (omega arith) in let r' = rw e at r in omega (arith, r')
+shelves-change h k (w ∷ ws) (suc i) x l =
+    let e : suc k + i ≡ k + suc i = omega arith in let r = shelves-change h (suc k) ws i x (omega arith) in let r' = rw e at r in omega (arith, r')
 
 words-past : (slot : ℕ) (g : ℕ → ℕ) (k : ℕ) (ws : List ℕ) → slot < k → weigh_words (only slot g) k ws ≡ 0
 words-past slot g k [] l = refl
 words-past slot g k (w ∷ ws) l = let e = word-other slot g k w (λ (e : k ≡ slot). omega arith) in omega (arith, words-past slot g (suc k) ws (omega arith))
 
 -- what the words weigh where one slot counts
-words-only : (slot : ℕ) (g : ℕ → ℕ) (k : ℕ) (ws : List ℕ) (i : ℕ) → slot ≡ k + i → i < length ws → weigh_words (only slot g) k ws ≡ weigh_word (only slot g) slot (get_or ws i 0)
+words-only : (slot : ℕ) (g : ℕ → ℕ) (k : ℕ) (ws : List ℕ) (i : ℕ) → slot ≡ k + i → i < length ws
+    → weigh_words (only slot g) k ws ≡ weigh_word (only slot g) slot (get_or ws i 0)
 words-only slot g k [] i e l = absurd (omega arith)
 words-only slot g k (w ∷ ws) zero e l = let e' : slot ≡ k = omega arith in let p = words-past slot g (suc k) ws (omega arith) in ap (λ (z : ℕ). z + weigh_words (only slot g) (suc k) ws) (ap (λ (j : ℕ). weigh_word (only slot g) j w) (sym e')) ∙ omega (arith, p)
-words-only slot g k (w ∷ ws) (suc i) e l = let t = word-other slot g k w (λ (x : k ≡ slot). omega arith) in omega (arith, words-only slot g (suc k) ws i (omega arith) (omega arith))
+words-only slot g k (w ∷ ws) (suc i) e l =
+    let t = word-other slot g k w (λ (x : k ≡ slot). omega arith) in omega (arith, words-only slot g (suc k) ws i (omega arith) (omega arith))
 
 -- the words weigh what the slot's word weighs, where it is a run's
 pub words-of_run : (slot : ℕ) (g : ℕ → ℕ) (ws : List ℕ) → slot < length ws → 4096 ≤ get_or ws slot 0 → weigh_words (only slot g) 0 ws ≡ g (get_or ws slot 0)
-words-of_run slot g ws l run = words-only slot g 0 ws slot (omega arith) l ∙ (word-some (only slot g) slot (get_or ws slot 0) run ∙ only-same slot g slot (get_or ws slot 0) refl)
+words-of_run slot g ws l run =
+    words-only slot g 0 ws slot (omega arith) l ∙ (word-some (only slot g) slot (get_or ws slot 0) run ∙ only-same slot g slot (get_or ws slot 0) refl)
 
 -- and nothing where it is no run's
 pub words-of_none : (slot : ℕ) (g : ℕ → ℕ) (ws : List ℕ) → slot < length ws → get_or ws slot 0 < 4096 → weigh_words (only slot g) 0 ws ≡ 0
@@ -88,7 +95,8 @@ words-of_none slot g ws l free = words-only slot g 0 ws slot (omega arith) l ∙
 -- past the last slot there is nothing
 pub words-outside : (slot : ℕ) (g : ℕ → ℕ) (k : ℕ) (ws : List ℕ) → k + length ws ≤ slot → weigh_words (only slot g) k ws ≡ 0
 words-outside slot g k [] l = refl
-words-outside slot g k (w ∷ ws) l = let t = word-other slot g k w (λ (x : k ≡ slot). omega arith) in omega (arith, words-outside slot g (suc k) ws (omega arith))
+words-outside slot g k (w ∷ ws) l =
+    let t = word-other slot g k w (λ (x : k ≡ slot). omega arith) in omega (arith, words-outside slot g (suc k) ws (omega arith))
 
 -- a slot has one word
 pub words-once : (slot : ℕ) (ws : List ℕ) → weigh_words (only slot once) 0 ws ≤ 1
@@ -120,7 +128,8 @@ pub word_at-same : (slot word : ℕ) (es : List (ℕ × ℕ)) → Holds slot es 
 word_at-same slot word [] has none = absurd (omega arith)
 word_at-same slot word (e ∷ es) has none = go (λ has none. word_at-same slot word es has none) (e.0 == slot) refl
   where
-    go : (Holds slot es → weigh (only slot (differs word)) es ≡ 0 → word_at slot es ≡ word) → (b : Bool) → (e.0 == slot) ≡ b → (if b then e.1 else word_at slot es) ≡ word
+    go : (Holds slot es → weigh (only slot (differs word)) es ≡ 0 → word_at slot es ≡ word) → (b : Bool) → (e.0 == slot) ≡ b
+        → (if b then e.1 else word_at slot es) ≡ word
     go again true is =
         let c = sum_by-cons (λ e. only slot (differs word) e.0 e.1) e es in
         let s = only-same slot (differs word) e.0 e.1 (test-true e.0 slot is) in
@@ -166,7 +175,8 @@ word_at-none slot es none =
     with_none slot (λ es. word_at slot es ≡ 0) refl (λ e es other h. ap (λ b. if b then e.1 else word_at slot es) other ∙ h) es none
 
 -- a slot of one entry
-pub entries-one : (slot word : ℕ) (es : List (ℕ × ℕ)) → weigh (only slot once) es ≡ 1 → weigh (only slot (differs word)) es ≡ 0 → entries_of slot es ≡ (slot, word) ∷ []
+pub entries-one : (slot word : ℕ) (es : List (ℕ × ℕ)) → weigh (only slot once) es ≡ 1 → weigh (only slot (differs word)) es ≡ 0
+    → entries_of slot es ≡ (slot, word) ∷ []
 entries-one slot word [] one none = absurd (omega arith)
 entries-one slot word (e ∷ es) one none = go (λ one none. entries-one slot word es one none) (e.0 == slot) refl
   where

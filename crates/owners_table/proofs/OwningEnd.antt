@@ -17,7 +17,8 @@ use Rattle.owners_table.proofs.OwningSteps.{View, listed}
 use Rattle.owners_table.proofs.OwningLaw.{entries-words}
 
 -- the last state, in which one seat has the sheets of these
-pub left-by : (o : OwnersView) (seats : List SeatView) (st : State (Unit {0}) View) (id : ℕ) → Owned o.slots o.seats st → get_elem? st.views id ≡ some (reverse (map sheet seats)) → IsLeft o seats st.words
+pub left-by : (o : OwnersView) (seats : List SeatView) (st : State (Unit {0}) View) (id : ℕ) → Owned o.slots o.seats st
+    → get_elem? st.views id ≡ some (reverse (map sheet seats)) → IsLeft o seats st.words
 left-by o seats st id r at = record {
   wide = r.wide;
   words = r.words;
@@ -79,8 +80,10 @@ module _ (o : OwnersView) (seats : List SeatView) (ws : List ℕ) (left : IsLeft
   owned slot has =
       let wide = left.wide in
       let a = left.some (only slot once) in
-      let within : slot < length ws = dite (dec_le (length ws) slot) (λ out. let z = words-outside slot once 0 ws (omega arith) in absurd (omega arith)) (λ inside. omega arith) in
-      let run : 4096 ≤ get_or ws slot 0 = dite (dec_le 4096 (get_or ws slot 0)) (λ run. run) (λ free. let z = words-of_none slot once ws within (omega arith) in absurd (omega arith)) in
+      let within : slot < length ws =
+      dite (dec_le (length ws) slot) (λ out. let z = words-outside slot once 0 ws (omega arith) in absurd (omega arith)) (λ inside. omega arith) in
+      let run : 4096 ≤ get_or ws slot 0 =
+      dite (dec_le 4096 (get_or ws slot 0)) (λ run. run) (λ free. let z = words-of_none slot once ws within (omega arith) in absurd (omega arith)) in
       let spare = left.spare in (
         dite (dec_le o.slots slot) (λ out. let e : slot ≡ o.slots = omega arith in let w = ap (λ k. get_or ws k 0) e in absurd (omega arith)) (λ inside. omega arith),
         run,

@@ -20,7 +20,8 @@ is_run : (w : ℕ) → 4096 ≤ w → nat_lt w 4096 ≡ false
 is_run w l = grind (arith, nat_tests)
 
 -- lists that weigh what the words weigh have one entry of a slot that a run owns, and none of another
-pub entries-words : (es : List (ℕ × ℕ)) (ws : List ℕ) → ((h : ℕ → ℕ → ℕ) → weigh h es ≡ weigh_words h 0 ws) → (slot : ℕ) → slot < length ws → entries_of slot es ≡ only_word (nat_lt (get_or ws slot 0) 4096) slot (get_or ws slot 0)
+pub entries-words : (es : List (ℕ × ℕ)) (ws : List ℕ) → ((h : ℕ → ℕ → ℕ) → weigh h es ≡ weigh_words h 0 ws) → (slot : ℕ)
+    → slot < length ws → entries_of slot es ≡ only_word (nat_lt (get_or ws slot 0) 4096) slot (get_or ws slot 0)
 entries-words es ws same slot within =
     let w : ℕ = get_or ws slot 0 in
     dite (dec_le 4096 w)
@@ -48,4 +49,5 @@ weigh-all_held h (v ∷ vs) =
     omega (arith, weigh-all_held h vs)
 
 pub one_owner : EachHasOneOwner
-one_owner slots seats st r slot inside = let wide = r.wide in entries-words (all_held st.views) st.words (λ h. weigh-all_held h st.views ∙ r.listed h) slot (omega arith)
+one_owner slots seats st r slot inside =
+    let wide = r.wide in entries-words (all_held st.views) st.words (λ h. weigh-all_held h st.views ∙ r.listed h) slot (omega arith)

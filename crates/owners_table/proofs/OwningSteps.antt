@@ -41,42 +41,46 @@ single : (f : OwnerSheet → ℕ) (t : OwnerSheet) → sum_by f (t ∷ []) ≡ f
 single f t = omega arith
 
 -- a step that changes one word and the view of one seat
-placed : (slots seats : ℕ) (st : Table) → Owned slots seats st → (id : ℕ) (v w : View) (slot x : ℕ) (carried : List (ℕ × Unit {0})) → get_elem? st.views id ≡ some v → slot < slots → IsSlotWord x → length w ≡ length v
+placed : (slots seats : ℕ) (st : Table) → Owned slots seats st → (id : ℕ) (v w : View) (slot x : ℕ) (carried : List (ℕ × Unit {0}))
+    → get_elem? st.views id ≡ some v → slot < slots → IsSlotWord x → length w ≡ length v
     → ((h : ℕ → ℕ → ℕ) → sum_by (listed h) w + weigh_word h slot (get_or st.words slot 0) ≡ sum_by (listed h) v + weigh_word h slot x)
     → ((h : ℕ → ℕ → ℕ) → sum_by (put h) w + weigh_shelf h slot (get_or st.words slot 0) + sum_by (taken h) v ≡ sum_by (put h) v + weigh_shelf h slot x + sum_by (taken h) w)
     → Owned slots seats (stepped st slot x id carried w keeps)
-placed slots seats st r id v w slot x carried at inside ok as_many moved passed = let wide = r.wide in let within : slot < length st.words = omega arith in record {
-  wide = length-set st.words slot x ∙ r.wide;
-  spare = get_or-set_other st.words slot slots x 0 (λ e. omega arith) ∙ r.spare;
-  words = λ k. dite (ℕ_discrete k slot)
-      (λ e. subst IsSlotWord (sym (ap (λ (j : ℕ). get_or (set st.words slot x) j 0) e ∙ get_or-set_same st.words slot x 0 within)) ok)
-      (λ ne. subst IsSlotWord (sym (get_or-set_other st.words slot k x 0 ne)) (r.words k));
-  sheets = let c = sum_by-change (λ (u : View). length u) st.views id v w at in let q = r.sheets in omega arith;
-  listed = λ h.
-      let c = sum_by-change (sum_by (listed h)) st.views id v w at in
-      let q = r.listed h in
-      let m = moved h in
-      let s = words-change h 0 st.words slot x within in
-      let z : 0 + slot ≡ slot = omega arith in
-      let s' = rw z at s in
-      omega arith;
-  shelved = λ h.
-      let c = sum_by-change (sum_by (put h)) st.views id v w at in
-      let d = sum_by-change (sum_by (taken h)) st.views id v w at in
-      let q = r.shelved h in
-      let m = passed h in
-      let s = shelves-change h 0 st.words slot x within in
-      let z : 0 + slot ≡ slot = omega arith in
-      let s' = rw z at s in
-      omega arith;
-}
+placed slots seats st r id v w slot x carried at inside ok as_many moved passed =
+    let wide = r.wide in let within : slot < length st.words = omega arith in record {
+      wide = length-set st.words slot x ∙ r.wide;
+      spare = get_or-set_other st.words slot slots x 0 (λ e. omega arith) ∙ r.spare;
+      words = λ k. dite (ℕ_discrete k slot)
+          (λ e. subst IsSlotWord (sym (ap (λ (j : ℕ). get_or (set st.words slot x) j 0) e ∙ get_or-set_same st.words slot x 0 within)) ok)
+          (λ ne. subst IsSlotWord (sym (get_or-set_other st.words slot k x 0 ne)) (r.words k));
+      sheets = let c = sum_by-change (λ (u : View). length u) st.views id v w at in let q = r.sheets in omega arith;
+      listed = λ h.
+          let c = sum_by-change (sum_by (listed h)) st.views id v w at in
+          let q = r.listed h in
+          let m = moved h in
+          let s = words-change h 0 st.words slot x within in
+          let z : 0 + slot ≡ slot = omega arith in
+          let s' = rw z at s in
+          omega arith;
+      shelved = λ h.
+          let c = sum_by-change (sum_by (put h)) st.views id v w at in
+          let d = sum_by-change (sum_by (taken h)) st.views id v w at in
+          let q = r.shelved h in
+          let m = passed h in
+          let s = shelves-change h 0 st.words slot x within in
+          let z : 0 + slot ≡ slot = omega arith in
+          let s' = rw z at s in
+          omega arith;
+    }
 
 -- what a seat holds weighs no more than the words
-below : (slots seats : ℕ) (st : Table) → Owned slots seats st → (h : ℕ → ℕ → ℕ) (id : ℕ) (v : View) → get_elem? st.views id ≡ some v → sum_by (listed h) v ≤ weigh_words h 0 st.words
+below : (slots seats : ℕ) (st : Table) → Owned slots seats st → (h : ℕ → ℕ → ℕ) (id : ℕ) (v : View) → get_elem? st.views id ≡ some v
+    → sum_by (listed h) v ≤ weigh_words h 0 st.words
 below slots seats st r h id v at = let a = sum_by-member (sum_by (listed h)) st.views id v at in let q = r.listed h in omega arith
 
 -- what the rule says of a slot that a seat holds: its word is a run's, and the one in the list
-mine : (slots seats : ℕ) (st : Table) → Owned slots seats st → (id : ℕ) (t : OwnerSheet) (slot : ℕ) → get_elem? st.views id ≡ some (t ∷ []) → slot < slots → Holds slot t.held
+mine : (slots seats : ℕ) (st : Table) → Owned slots seats st → (id : ℕ) (t : OwnerSheet) (slot : ℕ)
+    → get_elem? st.views id ≡ some (t ∷ []) → slot < slots → Holds slot t.held
     → (4096 ≤ get_or st.words slot 0) × (word_at slot t.held ≡ get_or st.words slot 0)
 mine slots seats st r id t slot at inside has =
     let wide = r.wide in
@@ -99,7 +103,9 @@ pub held-lost : (slot from word n : ℕ) (es : List (ℕ × ℕ)) → n ≢ from
 held-lost slot from word n es other = ap (λ (b : Bool). if b then (slot, word) ∷ es else es) (ne_eqb n from other)
 
 -- a compare-exchange from a word that is no run's to that of a mark, after which the seat's one sheet has the list that is due
-takes : (slots seats : ℕ) (st : Table) → Owned slots seats st → (id : ℕ) (t u : OwnerSheet) (slot from word : ℕ) (carried : List (ℕ × Unit {0})) → get_elem? st.views id ≡ some (t ∷ []) → slot < slots → from < 4096 → IsMarkWord word
+takes : (slots seats : ℕ) (st : Table) → Owned slots seats st
+    → (id : ℕ) (t u : OwnerSheet) (slot from word : ℕ) (carried : List (ℕ × Unit {0})) → get_elem? st.views id ≡ some (t ∷ [])
+    → slot < slots → from < 4096 → IsMarkWord word
     → u.held ≡ gained slot from word (get_or st.words slot 0) t.held
     → u.shelved ≡ t.shelved
     → (get_or st.words slot 0 ≡ from → (h : ℕ → ℕ → ℕ) → weigh h u.got ≡ weigh h t.got + weigh_shelf h slot from)
@@ -143,7 +149,9 @@ takes slots seats st r id t u slot from word carried here inside low run is stay
     omega arith))
 
 -- an exchange to a word that is no run's, after which the seat's one sheet lacks the slot that it held
-leaves : (slots seats : ℕ) (st : Table) → Owned slots seats st → (id : ℕ) (t u : OwnerSheet) (slot word : ℕ) (carried : List (ℕ × Unit {0})) → get_elem? st.views id ≡ some (t ∷ []) → slot < slots → word ≤ SHELVES → Holds slot t.held
+leaves : (slots seats : ℕ) (st : Table) → Owned slots seats st
+    → (id : ℕ) (t u : OwnerSheet) (slot word : ℕ) (carried : List (ℕ × Unit {0})) → get_elem? st.views id ≡ some (t ∷ [])
+    → slot < slots → word ≤ SHELVES → Holds slot t.held
     → u.held ≡ without slot t.held
     → u.got ≡ t.got
     → ((h : ℕ → ℕ → ℕ) → weigh h u.shelved ≡ weigh h t.shelved + weigh_shelf h slot word)
@@ -172,7 +180,8 @@ leaves slots seats st r id t u slot word carried here inside low has is stays ad
     omega arith)
 
 -- what a claim or a fetch finds where the seat's one sheet has the slot
-own : (slots seats : ℕ) (st : Table) → Owned slots seats st → (id : ℕ) (t : OwnerSheet) (slot : ℕ) → get_elem? st.views id ≡ some (t ∷ []) → slot < slots → IsOwn slot (get_or st.words slot 0) t.held
+own : (slots seats : ℕ) (st : Table) → Owned slots seats st → (id : ℕ) (t : OwnerSheet) (slot : ℕ)
+    → get_elem? st.views id ≡ some (t ∷ []) → slot < slots → IsOwn slot (get_or st.words slot 0) t.held
 own slots seats st r id t slot at inside has = let m = mine slots seats st r id t slot at inside has in (m.0, sym m.1)
 
 pub claims : (slots seats homes id : ℕ) (me : Me (Unit {0}) View) (slot word : ℕ) (t : OwnerSheet) → me.0 ≡ t ∷ [] → slot < slots → IsMarkWord word
@@ -190,7 +199,8 @@ claims slots seats homes id me slot word t one inside run st r _ at _ =
       ),
     )
 
-pub fetches : (slots seats homes id : ℕ) (me : Me (Unit {0}) View) (slot from word : ℕ) (t : OwnerSheet) → me.0 ≡ t ∷ [] → slot < slots → 0 < from → from ≤ SHELVES → IsMarkWord word
+pub fetches : (slots seats homes id : ℕ) (me : Me (Unit {0}) View) (slot from word : ℕ) (t : OwnerSheet) → me.0 ≡ t ∷ []
+    → slot < slots → 0 < from → from ≤ SHELVES → IsMarkWord word
     → Allows (Owned slots seats) homes id me slot (λ n. either (eqb n from) word n) (fetched (step homes slot from word none) me)
 fetches slots seats homes id me slot from word t one inside some_shelf low run st r _ at _ =
     let n : ℕ = get_or st.words slot 0 in (
@@ -215,7 +225,8 @@ releases slots seats homes id me slot t one inside has st r _ at _ = (
   (refl, λ u e. let same : t ≡ u = ap (first_or blank) (sym one ∙ e) in ap (λ (x : OwnerSheet). after_release slot x ∷ []) same),
 )
 
-pub shelves : (slots seats homes id : ℕ) (me : Me (Unit {0}) View) (slot word : ℕ) (t : OwnerSheet) → me.0 ≡ t ∷ [] → slot < slots → 0 < word → word ≤ SHELVES → Holds slot t.held
+pub shelves : (slots seats homes id : ℕ) (me : Me (Unit {0}) View) (slot word : ℕ) (t : OwnerSheet) → me.0 ≡ t ∷ [] → slot < slots
+    → 0 < word → word ≤ SHELVES → Holds slot t.held
     → Allows (Owned slots seats) homes id me slot (λ _. word) (was_shelved (step homes slot word 0 none) me)
 shelves slots seats homes id me slot word t one inside some_shelf low has st r _ at _ = (
   after_shelve slot word t ∷ [],
@@ -269,11 +280,13 @@ looks slots seats homes id me i st r _ at _ = (
 
 -- ---- what a seat's one sheet shows after a claim or a fetch
 
-pub counts-try : (v : View) (t : OwnerSheet) (p : Seat (Unit {0}) View) (old : SeatView) → v ≡ t ∷ [] → t.tries ≡ (sheet_of blank p).tries + 1 → seat_view p ≡ old
+pub counts-try : (v : View) (t : OwnerSheet) (p : Seat (Unit {0}) View) (old : SeatView) → v ≡ t ∷ []
+    → t.tries ≡ (sheet_of blank p).tries + 1 → seat_view p ≡ old
     → (first_or blank v).tries ≡ old.tries + 1
 counts-try v t p old e more seen = ap (λ (w : View). (first_or blank w).tries) e ∙ (more ∙ ap (λ (s : SeatView). s.tries + 1) seen)
 
-pub claim-rest : (slot word found : ℕ) (v : View) (p : Seat (Unit {0}) View) (old : SeatView) → v ≡ after_claim slot word found (sheet_of blank p) ∷ [] → seat_view p ≡ old
+pub claim-rest : (slot word found : ℕ) (v : View) (p : Seat (Unit {0}) View) (old : SeatView)
+    → v ≡ after_claim slot word found (sheet_of blank p) ∷ [] → seat_view p ≡ old
     → ((first_or blank v).fetches ≡ old.fetches) × ((first_or blank v).shelved ≡ old.shelved) × ((first_or blank v).got ≡ old.got)
 claim-rest slot word found v p old e seen = (
   ap (λ (w : View). (first_or blank w).fetches) e ∙ ap (λ (s : SeatView). s.fetches) seen,
@@ -281,7 +294,8 @@ claim-rest slot word found v p old e seen = (
   ap (λ (w : View). (first_or blank w).got) e ∙ ap (λ (s : SeatView). s.got) seen,
 )
 
-pub fetch-rest : (slot from word found : ℕ) (v : View) (p : Seat (Unit {0}) View) (old : SeatView) → v ≡ after_fetch slot from word found (sheet_of blank p) ∷ [] → seat_view p ≡ old
+pub fetch-rest : (slot from word found : ℕ) (v : View) (p : Seat (Unit {0}) View) (old : SeatView)
+    → v ≡ after_fetch slot from word found (sheet_of blank p) ∷ [] → seat_view p ≡ old
     → ((first_or blank v).notes ≡ old.notes) × ((first_or blank v).shelved ≡ old.shelved)
 fetch-rest slot from word found v p old e seen = (
   ap (λ (w : View). (first_or blank w).notes) e ∙ ap (λ (s : SeatView). s.notes) seen,

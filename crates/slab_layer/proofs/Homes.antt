@@ -23,7 +23,10 @@ pub record IsTaken (rest : List ℕ) (s page : ℕ) (places : List Place) : Type
   pub was_home : slice_get places (s % 256) ≡ Some Home
   pub stacked : HasSame rest (selected is_home (page * 256) (set places (s % 256) Out))
 
-taken_at : (slots rest : List ℕ) (s page i j : ℕ) (places : List Place) → slots ≡ rest ++ s ∷ [] → HasSame slots (selected is_home (page * 256) places) → i < length places → s ≡ page * 256 + i → i ≡ j → is_home (get_or places i Home) ≡ true → (slice_get places j ≡ Some Home) × HasSame rest (selected is_home (page * 256) (set places j Out))
+taken_at : (slots rest : List ℕ) (s page i j : ℕ) (places : List Place) → slots ≡ rest ++ s ∷ []
+    → HasSame slots (selected is_home (page * 256) places) → i < length places → s ≡ page * 256 + i → i ≡ j
+    → is_home (get_or places i Home) ≡ true
+    → (slice_get places j ≡ Some Home) × HasSame rest (selected is_home (page * 256) (set places j Out))
 taken_at slots rest s page i j places popped same within is at pass = subst P at (slice_get-get_or places i Home within ∙ ap (λ (p : Place). Some p) (home_from_test (get_or places i Home) pass), record { count = short; each = each })
   where
     P : ℕ → Type 0
@@ -45,7 +48,8 @@ taken_at slots rest s page i j places popped same within is at pass = subst P at
         let h : hit (is_home (get_or places i Home)) s x ≡ (if s == x then 1 else 0) = rw pass refl in
         omega arith
 
-pub taken : (slots rest : List ℕ) (s page : ℕ) (places : List Place) → slots ≡ rest ++ s ∷ [] → HasSame slots (selected is_home (page * 256) places) → length places ≤ 256 → IsTaken rest s page places
+pub taken : (slots rest : List ℕ) (s page : ℕ) (places : List Place) → slots ≡ rest ++ s ∷ []
+    → HasSame slots (selected is_home (page * 256) places) → length places ≤ 256 → IsTaken rest s page places
 taken slots rest s page places popped same few =
     let some : 0 < times s slots = rw popped (popped_here rest s) in
     let more = same.each s in
@@ -55,7 +59,9 @@ taken slots rest s page places popped same few =
     record { here = omega (arith, at.1, at.2); within = omega (arith, at.1); was_home = both.0; stacked = both.1 }
 
 -- what a slab's push leaves
-pub given : (slots : List ℕ) (s page : ℕ) (places : List Place) → HasSame slots (selected is_home (page * 256) places) → s / 256 ≡ page → slice_get places (s % 256) ≡ Some Out → HasSame (slots ++ s ∷ []) (selected is_home (page * 256) (set places (s % 256) Home)) × (length slots < length places)
+pub given : (slots : List ℕ) (s page : ℕ) (places : List Place) → HasSame slots (selected is_home (page * 256) places)
+    → s / 256 ≡ page → slice_get places (s % 256) ≡ Some Out
+    → HasSame (slots ++ s ∷ []) (selected is_home (page * 256) (set places (s % 256) Home)) × (length slots < length places)
 given slots s page places same at out = (record { count = longer; each = each }, room)
   where
     within : s % 256 < length places
@@ -92,12 +98,14 @@ given slots s page places same at out = (record { count = longer; each = each },
         omega arith
 
 -- one more object, home
-pub pushed : (slots : List ℕ) (from n : ℕ) (places : List Place) → HasSame slots (selected is_home from places) → n ≡ from + length places → HasSame (slots ++ n ∷ []) (selected is_home from (places ++ Home ∷ []))
+pub pushed : (slots : List ℕ) (from n : ℕ) (places : List Place) → HasSame slots (selected is_home from places)
+    → n ≡ from + length places → HasSame (slots ++ n ∷ []) (selected is_home from (places ++ Home ∷ []))
 pushed slots from n places same is =
     let e : selected is_home from (places ++ Home ∷ []) ≡ selected is_home from places ++ n ∷ [] = selected-push is_home places from n Home is in
     record {
       count = let g = same.count in let f = length_push slots n in let h = ap length e ∙ length_push (selected is_home from places) n in omega arith;
-      each = λ x. let g = same.each x in let f = popped_each slots n x in let h = ap (times x) e ∙ popped_each (selected is_home from places) n x in omega arith;
+      each =
+          λ x. let g = same.each x in let f = popped_each slots n x in let h = ap (times x) e ∙ popped_each (selected is_home from places) n x in omega arith;
     }
 
 -- the table has a home where the stack has an object
@@ -109,17 +117,20 @@ has_home-selected (Home ∷ ps) from = lt_suc (length (selected is_home (suc fro
     lt_suc n = grind (arith, nat_tests)
 has_home-selected (Out ∷ ps) from = has_home-selected ps (suc from)
 
-pub has_home-stacked : (slots : List ℕ) (from : ℕ) (places : List Place) → HasSame slots (selected is_home from places) → not (length slots == 0) ≡ has_home places
+pub has_home-stacked : (slots : List ℕ) (from : ℕ) (places : List Place) → HasSame slots (selected is_home from places)
+    → not (length slots == 0) ≡ has_home places
 has_home-stacked slots from places same = sym (has_home-selected places from ∙ tested (length (selected is_home from places)) (length slots) same.count)
   where
     tested : (m n : ℕ) → n ≡ m → nat_lt 0 m ≡ not (n == 0)
     tested m n e = grind (arith, nat_tests)
 
-pub has_home_by : (b : Bool) (n : ℕ) (slots : List ℕ) (from : ℕ) (places : List Place) → b ≡ (n == 0) → n ≡ length slots → HasSame slots (selected is_home from places) → not b ≡ has_home places
+pub has_home_by : (b : Bool) (n : ℕ) (slots : List ℕ) (from : ℕ) (places : List Place) → b ≡ (n == 0) → n ≡ length slots
+    → HasSame slots (selected is_home from places) → not b ≡ has_home places
 has_home_by b n slots from places is len same = ap not (is ∙ ap (λ m. m == 0) len) ∙ has_home-stacked slots from places same
 
 -- an empty stack belongs to a table with no home
-pub none_home : (n : ℕ) (slots : List ℕ) (from : ℕ) (places : List Place) → n ≡ 0 → n ≡ length slots → HasSame slots (selected is_home from places) → has_home places ≡ true → ⊥
+pub none_home : (n : ℕ) (slots : List ℕ) (from : ℕ) (places : List Place) → n ≡ 0 → n ≡ length slots
+    → HasSame slots (selected is_home from places) → has_home places ≡ true → ⊥
 none_home n slots from places empty len same some =
     let none : length (selected is_home from places) ≡ 0 = omega (arith, same.count) in
     false≢true (sym (ap (λ m. nat_lt 0 m) none) ∙ (sym (has_home-selected places from) ∙ some))
@@ -131,13 +142,16 @@ homes_outs (Home ∷ ps) from = omega (arith, homes_outs ps (suc from))
 homes_outs (Out ∷ ps) from = omega (arith, homes_outs ps (suc from))
 
 -- a slab is idle where its stack is as high as its table
-pub idle : (h p : ℕ) (slots : List ℕ) (from : ℕ) (places : List Place) → h ≡ length slots → p ≡ length places → HasSame slots (selected is_home from places) → (h ≡ p) ↔ (outs_in places ≡ 0)
+pub idle : (h p : ℕ) (slots : List ℕ) (from : ℕ) (places : List Place) → h ≡ length slots → p ≡ length places
+    → HasSame slots (selected is_home from places) → (h ≡ p) ↔ (outs_in places ≡ 0)
 idle h p slots from places hs ps same =
     let e = homes_outs places from in
     let f = same.count in
     ((λ x. omega arith), (λ x. omega arith))
 
-pub idle_by : (h p : ℕ) (slots : List ℕ) (from : ℕ) (places : List Place) → h ≡ length slots → p ≡ length places → (p == 0) ≡ false → HasSame slots (selected is_home from places) → (IsTrue (nat_eq h p) → (0 < length places) × (outs_in places ≡ 0)) × ((0 < length places) × (outs_in places ≡ 0) → IsTrue (nat_eq h p))
+pub idle_by : (h p : ℕ) (slots : List ℕ) (from : ℕ) (places : List Place) → h ≡ length slots → p ≡ length places → (p == 0) ≡ false
+    → HasSame slots (selected is_home from places)
+    → (IsTrue (nat_eq h p) → (0 < length places) × (outs_in places ≡ 0)) × ((0 < length places) × (outs_in places ≡ 0) → IsTrue (nat_eq h p))
 idle_by h p slots from places hs ps some same =
     let e = idle h p slots from places hs ps same in
     let there : 0 < p = grind (arith, nat_tests) in

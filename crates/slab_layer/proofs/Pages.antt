@@ -65,13 +65,16 @@ count-vacant : (pages : Pages) → ((p : ℕ) → get_or pages p [] ≡ []) → 
 count-vacant [] none = refl
 count-vacant (qs ∷ qss) none = let e = ap outs_in (none 0) in omega (arith, count-vacant qss (λ p. none (suc p)))
 
-pub vacant_more : {K : Type 0} {k : Ghosts K} (xs : List (Slab K k)) (x : Slab K k) → ((p : ℕ) → get_or (pages_in xs) p [] ≡ []) → places_of x ≡ [] → (p : ℕ) → get_or (pages_in (xs ++ x ∷ [])) p [] ≡ []
+pub vacant_more : {K : Type 0} {k : Ghosts K} (xs : List (Slab K k)) (x : Slab K k) → ((p : ℕ) → get_or (pages_in xs) p [] ≡ [])
+    → places_of x ≡ [] → (p : ℕ) → get_or (pages_in (xs ++ x ∷ [])) p [] ≡ []
 vacant_more [] x none is zero = is
 vacant_more [] x none is (suc p) = refl
 vacant_more (y ∷ ys) x none is zero = none 0
 vacant_more (y ∷ ys) x none is (suc p) = vacant_more ys x (λ q. none (suc q)) is p
 
-pub numbered_more : {K : Type 0} {k : Ghosts K} (xs : List (Slab K k)) (x : Slab K k) (n : ℕ) → length xs ≡ n → ((p : ℕ) → p < n → slice_index (map page_of xs) p ≡ p) → page_of x ≡ n → (p : ℕ) → p < n + 1 → slice_index (map page_of (xs ++ x ∷ [])) p ≡ p
+pub numbered_more : {K : Type 0} {k : Ghosts K} (xs : List (Slab K k)) (x : Slab K k) (n : ℕ) → length xs ≡ n
+    → ((p : ℕ) → p < n → slice_index (map page_of xs) p ≡ p) → page_of x ≡ n → (p : ℕ) → p < n + 1
+    → slice_index (map page_of (xs ++ x ∷ [])) p ≡ p
 numbered_more xs x n len each is p within =
     let push = ap (λ ns. slice_index ns p) (map_push page_of xs x) in
     let long = length-map xs page_of in
@@ -83,7 +86,9 @@ numbered_more xs x n len each is p within =
           push ∙ (ap (λ k. slice_index (map page_of xs ++ page_of x ∷ []) k) last ∙ (get_or-append_seam (map page_of xs) (page_of x) [] 0 ∙ (is ∙ here)))
     ]
 
-pub partial_filled : (olds pages : Pages) (numbers noted partial : List ℕ) (out : ℕ) → length olds ≡ 0 → IsPartialStack olds numbers partial out → length pages ≡ 256 → ((p : ℕ) → get_or pages p [] ≡ []) → ((p : ℕ) → p < 256 → slice_index noted p ≡ p) → IsPartialStack pages noted partial out
+pub partial_filled : (olds pages : Pages) (numbers noted partial : List ℕ) (out : ℕ) → length olds ≡ 0
+    → IsPartialStack olds numbers partial out → length pages ≡ 256 → ((p : ℕ) → get_or pages p [] ≡ [])
+    → ((p : ℕ) → p < 256 → slice_index noted p ≡ p) → IsPartialStack pages noted partial out
 partial_filled olds pages numbers noted partial out none stack all vacant numbered =
     let e : olds ≡ [] = nil_from_length olds none in
     let old : HasSame partial [] = subst (λ (ps : Pages). HasSame partial (selected has_home 0 ps)) e stack.stacked in
@@ -97,7 +102,8 @@ partial_filled olds pages numbers noted partial out none stack all vacant number
     }
 
 -- a number whose element passes is selected
-pub selected_times : {A : Type 0} (test : A → Bool) (xs : List A) (from i n : ℕ) (d : A) → n ≡ from + i → i < length xs → test (get_or xs i d) ≡ true → 0 < times n (selected test from xs)
+pub selected_times : {A : Type 0} (test : A → Bool) (xs : List A) (from i n : ℕ) (d : A) → n ≡ from + i → i < length xs
+    → test (get_or xs i d) ≡ true → 0 < times n (selected test from xs)
 selected_times test [] from i n d is within pass = absurd (omega arith)
 selected_times test (x ∷ xs) from zero n d is within pass = rw pass (counted (omega arith))
   where
@@ -138,7 +144,10 @@ pub record IsIdleAt {K : Type 0} {k : Ghosts K} (xs : List (Slab K k)) (at : ℕ
 
 module _ {K : Type 0} {k : Ghosts K} where
   -- a page is grown
-  pub partial_grown : (xs : List (Slab K k)) (at n out : ℕ) (old new : Slab K k) (partial : List ℕ) → IsSlabTable xs partial out → at < length xs → old ≡ get_or xs at old → get_or (pages_in xs) at [] ≡ [] → page_of new ≡ at → places_of new ≡ replicate n Home → 0 < n → n ≤ 256 → IsSlabTable (set xs at new) (partial ++ at ∷ []) out × (length partial < length xs)
+  pub partial_grown : (xs : List (Slab K k)) (at n out : ℕ) (old new : Slab K k) (partial : List ℕ) → IsSlabTable xs partial out
+      → at < length xs → old ≡ get_or xs at old → get_or (pages_in xs) at [] ≡ [] → page_of new ≡ at
+      → places_of new ≡ replicate n Home → 0 < n → n ≤ 256
+      → IsSlabTable (set xs at new) (partial ++ at ∷ []) out × (length partial < length xs)
   partial_grown xs at n out old new partial stack within read vacant noted is some few =
       let inside : at < length (pages_in xs) = omega (arith, length-map xs places_of) in
       let none : places_of old ≡ [] = sym (places_read xs at old within read) ∙ vacant in
@@ -146,17 +155,21 @@ module _ {K : Type 0} {k : Ghosts K} where
       let was : has_home (get_or (pages_in xs) at []) ≡ false = ap has_home vacant in
       let more = stack-more (pages_in xs) partial at (places_of new) stack.stacked inside now was in
       let short : length (places_of new) ≤ 256 = let e = ap length is ∙ length-replicate n Home in omega arith in
-      let count : out + outs_in (places_of old) ≡ out + outs_in (places_of new) = let e = ap outs_in none in let f = ap outs_in is ∙ outs_in-homes n in omega arith in
+      let count : out + outs_in (places_of old) ≡ out + outs_in (places_of new) =
+      let e = ap outs_in none in let f = ap outs_in is ∙ outs_in-homes n in omega arith in
       (partial_after xs at old new partial (partial ++ at ∷ []) out out stack within read (noted ∙ sym (number_is xs at out partial old stack within read)) short more.0 count, omega (arith, more.1, length-map xs places_of))
 
-  pub grown : (xs : List (Slab K k)) (olds : Pages) (at n : ℕ) (new : Slab K k) → at < length xs → ((k : ℕ) → get_or (pages_in xs) k [] ≡ get_or olds k []) → places_of new ≡ replicate n Home → n ≤ 256 → AddsPage olds (pages_in (set xs at new)) at n
+  pub grown : (xs : List (Slab K k)) (olds : Pages) (at n : ℕ) (new : Slab K k) → at < length xs
+      → ((k : ℕ) → get_or (pages_in xs) k [] ≡ get_or olds k []) → places_of new ≡ replicate n Home → n ≤ 256
+      → AddsPage olds (pages_in (set xs at new)) at n
   grown xs olds at n new within same is few =
       let inside : at < length (pages_in xs) = omega (arith, length-map xs places_of) in
       rw (map-set places_of xs at new, is) (added (pages_in xs) olds at n few inside same)
 
   -- a place in the table is a page's number
   pub low_place : (xs : List (Slab K k)) (at n out : ℕ) (partial : List ℕ) → IsSlabTable xs partial out → length xs ≡ n → at < n → at < 256
-  low_place xs at n out partial stack is within = elim stack.sized [ inl none ↦ absurd (omega (arith, length-map xs places_of)) | inr all ↦ omega (arith, length-map xs places_of) ]
+  low_place xs at n out partial stack is within =
+      elim stack.sized [ inl none ↦ absurd (omega (arith, length-map xs places_of)) | inr all ↦ omega (arith, length-map xs places_of) ]
 
   -- a page is reaped
   pub on_stack : (xs : List (Slab K k)) (at out : ℕ) (partial : List ℕ) → IsSlabTable xs partial out → IsIdleAt xs at → 0 < times at partial
@@ -166,7 +179,10 @@ module _ {K : Type 0} {k : Ghosts K} where
       let there = selected_times has_home (pages_in xs) 0 at at [] (omega arith) inside (idle_home (get_or (pages_in xs) at []) had idle) in
       omega (arith, stack.stacked.each at)
 
-  pub partial_reaped : (xs : List (Slab K k)) (at out : ℕ) (old new : Slab K k) (partial after : List ℕ) → IsSlabTable xs partial out → IsIdleAt xs at → old ≡ get_or xs at old → page_of new ≡ at → places_of new ≡ [] → length after + 1 ≡ length partial → ((x : ℕ) → times x after + (if at == x then 1 else 0) ≡ times x partial) → IsSlabTable (set xs at new) after out
+  pub partial_reaped : (xs : List (Slab K k)) (at out : ℕ) (old new : Slab K k) (partial after : List ℕ)
+      → IsSlabTable xs partial out → IsIdleAt xs at → old ≡ get_or xs at old → page_of new ≡ at → places_of new ≡ []
+      → length after + 1 ≡ length partial → ((x : ℕ) → times x after + (if at == x then 1 else 0) ≡ times x partial)
+      → IsSlabTable (set xs at new) after out
   partial_reaped xs at out old new partial after stack i read noted is count each =
       let record { within = within; had = had; idle = idle } = i in
       let inside : at < length (pages_in xs) = omega (arith, length-map xs places_of) in
@@ -183,24 +199,28 @@ module _ {K : Type 0} {k : Ghosts K} where
       rw (map-set places_of xs at new, is) (removed (pages_in xs) at inside)
 
   pub idle_page : (xs : List (Slab K k)) (at slot : ℕ) → IsIdleAt xs at → slot / 256 ≡ at → IsOut (pages_in xs) slot → ⊥
-  idle_page xs at slot i here out = no_out (get_or (pages_in xs) at []) (slot % 256) i.idle (sym (ap (λ k. slice_get (get_or (pages_in xs) k []) (slot % 256)) here) ∙ out)
+  idle_page xs at slot i here out =
+      no_out (get_or (pages_in xs) at []) (slot % 256) i.idle (sym (ap (λ k. slice_get (get_or (pages_in xs) k []) (slot % 256)) here) ∙ out)
 
   busy_at : (xs : List (Slab K k)) (k : ℕ) → All IsBusy xs → k < length xs → 0 < length (get_or (pages_in xs) k []) → 0 < outs_in (get_or (pages_in xs) k [])
   busy_at [] k busy within had = absurd (omega arith)
   busy_at (x ∷ xs) zero busy within had = All-head IsBusy x xs busy had
   busy_at (x ∷ xs) (suc k) busy within had = busy_at xs k (All-tail IsBusy x xs busy) (omega arith) had
 
-  busy_before : (xs : List (Slab K k)) (at k : ℕ) → AllWithin IsBusy xs 0 at → k < at → k < length xs → 0 < length (get_or (pages_in xs) k []) → 0 < outs_in (get_or (pages_in xs) k [])
+  busy_before : (xs : List (Slab K k)) (at k : ℕ) → AllWithin IsBusy xs 0 at → k < at → k < length xs
+      → 0 < length (get_or (pages_in xs) k []) → 0 < outs_in (get_or (pages_in xs) k [])
   busy_before [] at k busy before within had = absurd (omega arith)
   busy_before (x ∷ xs) zero k busy before within had = absurd (omega arith)
   busy_before (x ∷ xs) (suc at) zero busy before within had = busy 0 x (omega arith) (omega arith) had
-  busy_before (x ∷ xs) (suc at) (suc k) busy before within had = busy_before xs at k (λ j d low below. busy (suc j) d (omega arith) (omega arith)) (omega arith) (omega arith) had
+  busy_before (x ∷ xs) (suc at) (suc k) busy before within had =
+      busy_before xs at k (λ j d low below. busy (suc j) d (omega arith) (omega arith)) (omega arith) (omega arith) had
 
   had_within : (xs : List (Slab K k)) (page : ℕ) → Has (pages_in xs) page → page < length xs
   had_within xs page has = omega (arith, has_within (pages_in xs) page has, length-map xs places_of)
 
   -- a page with an object that is out has a slot that is out
-  out_slot : (xs : List (Slab K k)) (numbers partial : List ℕ) (out page : ℕ) → IsPartialStack (pages_in xs) numbers partial out → 0 < outs_in (get_or (pages_in xs) page []) → (slot : ℕ) × (slot / 256 ≡ page) × IsOut (pages_in xs) slot
+  out_slot : (xs : List (Slab K k)) (numbers partial : List ℕ) (out page : ℕ) → IsPartialStack (pages_in xs) numbers partial out
+      → 0 < outs_in (get_or (pages_in xs) page []) → (slot : ℕ) × (slot / 256 ≡ page) × IsOut (pages_in xs) slot
   out_slot xs numbers partial out page stack some = found (get_or (pages_in xs) page []) refl
     where
       found : (ps : List Place) → get_or (pages_in xs) page [] ≡ ps → (slot : ℕ) × (slot / 256 ≡ page) × IsOut (pages_in xs) slot
@@ -212,17 +232,23 @@ module _ {K : Type 0} {k : Ghosts K} where
           (page * 256 + at.0, here, ap (λ k. slice_get (get_or (pages_in xs) k []) ((page * 256 + at.0) % 256)) here ∙ (ap (λ qs. slice_get qs ((page * 256 + at.0) % 256)) is ∙ (ap (λ k. slice_get ps k) index ∙ at.2)))
 
   -- where no page is idle, each has a slot that is out
-  pub busy_page : (xs : List (Slab K k)) (numbers partial : List ℕ) (out page : ℕ) → IsPartialStack (pages_in xs) numbers partial out → All IsBusy xs → Has (pages_in xs) page → (slot : ℕ) × (slot / 256 ≡ page) × IsOut (pages_in xs) slot
+  pub busy_page : (xs : List (Slab K k)) (numbers partial : List ℕ) (out page : ℕ)
+      → IsPartialStack (pages_in xs) numbers partial out → All IsBusy xs → Has (pages_in xs) page
+      → (slot : ℕ) × (slot / 256 ≡ page) × IsOut (pages_in xs) slot
   busy_page xs numbers partial out page stack busy has =
       out_slot xs numbers partial out page stack (busy_at xs page busy (had_within xs page has) (from_has (pages_in xs) page has))
 
   -- where no page below one is idle, each of those has a slot that is out
-  pub busy_below : (xs : List (Slab K k)) (numbers partial : List ℕ) (out at page : ℕ) → IsPartialStack (pages_in xs) numbers partial out → AllWithin IsBusy xs 0 at → page < at → Has (pages_in xs) page → (slot : ℕ) × (slot / 256 ≡ page) × IsOut (pages_in xs) slot
+  pub busy_below : (xs : List (Slab K k)) (numbers partial : List ℕ) (out at page : ℕ)
+      → IsPartialStack (pages_in xs) numbers partial out → AllWithin IsBusy xs 0 at → page < at → Has (pages_in xs) page
+      → (slot : ℕ) × (slot / 256 ≡ page) × IsOut (pages_in xs) slot
   busy_below xs numbers partial out at page stack busy before has =
       out_slot xs numbers partial out page stack (busy_before xs at page busy before (had_within xs page has) (from_has (pages_in xs) page has))
 
 -- a table that was filled and one with other room have the places that they had
-pub grown_same : {K : Type 0} {k : Ghosts K} (xs ys zs : List (Slab K k)) → ((p : ℕ) → get_or (pages_in xs) p [] ≡ get_or (pages_in ys) p []) → ys ≡ zs → (p : ℕ) → get_or (pages_in xs) p [] ≡ get_or (pages_in zs) p []
+pub grown_same : {K : Type 0} {k : Ghosts K} (xs ys zs : List (Slab K k))
+    → ((p : ℕ) → get_or (pages_in xs) p [] ≡ get_or (pages_in ys) p []) → ys ≡ zs → (p : ℕ)
+    → get_or (pages_in xs) p [] ≡ get_or (pages_in zs) p []
 grown_same xs ys zs filled same p = filled p ∙ ap (λ ws. get_or (pages_in ws) p []) same
 
 -- room for all pages
@@ -231,7 +257,8 @@ room_for_all m len cap before (inl none) same fresh kept grew = fresh (omega ari
 room_for_all m len cap before (inr all) same fresh kept grew = omega arith
 
 -- a page is had where its slab has slots
-pub has_here : {K : Type 0} {k : Ghosts K} (xs : List (Slab K k)) (at : ℕ) (x : Slab K k) (b : Bool) → at < length xs → x ≡ get_or xs at x → IsTrue b ↔ (0 < length (places_of x)) → IsTrue b ↔ Has (pages_in xs) at
+pub has_here : {K : Type 0} {k : Ghosts K} (xs : List (Slab K k)) (at : ℕ) (x : Slab K k) (b : Bool) → at < length xs
+    → x ≡ get_or xs at x → IsTrue b ↔ (0 < length (places_of x)) → IsTrue b ↔ Has (pages_in xs) at
 has_here xs at x b within read is =
     let e : length (get_or (pages_in xs) at []) ≡ length (places_of x) = ap length (places_read xs at x within read) in
     ((λ t. has_from (pages_in xs) at (let some = is.0 t in omega arith)), (λ h. is.1 (let some = from_has (pages_in xs) at h in omega arith)))

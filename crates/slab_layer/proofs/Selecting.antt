@@ -27,7 +27,8 @@ length-cond false n ns = omega arith
 
 module _ {A : Type 0} (test : A → Bool) where
   -- after a change of one mark
-  pub times-selected-set : (xs : List A) (from i n x : ℕ) (a d : A) → n ≡ from + i → i < length xs → times x (selected test from (set xs i a)) + hit (test (get_or xs i d)) n x ≡ times x (selected test from xs) + hit (test a) n x
+  pub times-selected-set : (xs : List A) (from i n x : ℕ) (a d : A) → n ≡ from + i → i < length xs
+      → times x (selected test from (set xs i a)) + hit (test (get_or xs i d)) n x ≡ times x (selected test from xs) + hit (test a) n x
   times-selected-set [] from i n x a d is within = absurd (omega arith)
   times-selected-set (y ∷ ys) from zero n x a d is within =
       let same : n ≡ from = omega arith in
@@ -36,9 +37,11 @@ module _ {A : Type 0} (test : A → Bool) where
   times-selected-set (y ∷ ys) from (suc i) n x a d is within =
       omega (arith, times-selected-set ys (suc from) i n x a d (omega arith) (omega arith), times-cond (test y) from x (selected test (suc from) ys), times-cond (test y) from x (selected test (suc from) (set ys i a)))
 
-  pub length-selected-set : (xs : List A) (from i : ℕ) (a d : A) → i < length xs → length (selected test from (set xs i a)) + one (test (get_or xs i d)) ≡ length (selected test from xs) + one (test a)
+  pub length-selected-set : (xs : List A) (from i : ℕ) (a d : A) → i < length xs
+      → length (selected test from (set xs i a)) + one (test (get_or xs i d)) ≡ length (selected test from xs) + one (test a)
   length-selected-set [] from i a d within = absurd (omega arith)
-  length-selected-set (y ∷ ys) from zero a d within = omega (arith, length-cond (test a) from (selected test (suc from) ys), length-cond (test y) from (selected test (suc from) ys))
+  length-selected-set (y ∷ ys) from zero a d within =
+      omega (arith, length-cond (test a) from (selected test (suc from) ys), length-cond (test y) from (selected test (suc from) ys))
   length-selected-set (y ∷ ys) from (suc i) a d within = omega (arith, length-selected-set ys (suc from) i a d (omega arith), length-cond (test y) from (selected test (suc from) ys), length-cond (test y) from (selected test (suc from) (set ys i a)))
 
   pub length-selected-le : (xs : List A) (from : ℕ) → length (selected test from xs) ≤ length xs
@@ -49,7 +52,8 @@ module _ {A : Type 0} (test : A → Bool) where
       one_le true = omega arith
       one_le false = omega arith
 
-  pub selected-push : (xs : List A) (from n : ℕ) (a : A) → n ≡ from + length xs → selected test from (xs ++ a ∷ []) ≡ selected test from xs ++ cond (test a) (n ∷ []) []
+  pub selected-push : (xs : List A) (from n : ℕ) (a : A) → n ≡ from + length xs
+      → selected test from (xs ++ a ∷ []) ≡ selected test from xs ++ cond (test a) (n ∷ []) []
   selected-push [] from n a is = rw (let e : n ≡ from = omega arith in e) refl
   selected-push (y ∷ ys) from n a is = push_cond (test y) from (selected test (suc from) ys) _ _ (selected-push ys (suc from) n a (omega arith))
     where
@@ -64,7 +68,9 @@ module _ {A : Type 0} (test : A → Bool) where
   found_later : (y : A) (ys : List A) (from x : ℕ) → IsFound ys (suc from) x → IsFound (y ∷ ys) from x
   found_later y ys from x (i, within, is, pass) = (suc i, omega arith, omega arith, pass)
 
-  found_cases : (b : Bool) (y : A) (ys : List A) (from x : ℕ) → test y ≡ b → (0 < times x (selected test (suc from) ys) → IsFound ys (suc from) x) → 0 < hit b from x + times x (selected test (suc from) ys) → IsFound (y ∷ ys) from x
+  found_cases : (b : Bool) (y : A) (ys : List A) (from x : ℕ) → test y ≡ b
+      → (0 < times x (selected test (suc from) ys) → IsFound ys (suc from) x)
+      → 0 < hit b from x + times x (selected test (suc from) ys) → IsFound (y ∷ ys) from x
   found_cases true y ys from x e rest some = elim (cases_eq from x) [
     | inl same ↦ (0, omega arith, omega arith, λ d. e)
     | inr other ↦ found_later y ys from x (rest (grind (arith, nat_tests)))
@@ -73,13 +79,15 @@ module _ {A : Type 0} (test : A → Bool) where
 
   pub found : (xs : List A) (from x : ℕ) → 0 < times x (selected test from xs) → IsFound xs from x
   found [] from x some = absurd (omega arith)
-  found (y ∷ ys) from x some = found_cases (test y) y ys from x refl (found ys (suc from) x) (omega (arith, times-cond (test y) from x (selected test (suc from) ys)))
+  found (y ∷ ys) from x some =
+      found_cases (test y) y ys from x refl (found ys (suc from) x) (omega (arith, times-cond (test y) from x (selected test (suc from) ys)))
 
   -- an element that passes is selected
   pub selected_some : (xs : List A) (from i : ℕ) (d : A) → i < length xs → test (get_or xs i d) ≡ true → 0 < length (selected test from xs)
   selected_some [] from i d within pass = absurd (omega arith)
   selected_some (y ∷ ys) from zero d within pass = rw pass (omega arith)
-  selected_some (y ∷ ys) from (suc i) d within pass = omega (arith, selected_some ys (suc from) i d (omega arith) pass, length-cond (test y) from (selected test (suc from) ys))
+  selected_some (y ∷ ys) from (suc i) d within pass =
+      omega (arith, selected_some ys (suc from) i d (omega arith) pass, length-cond (test y) from (selected test (suc from) ys))
 
 -- a stack of the selected numbers, with its last one taken off
 pub popped_each : (rest : List ℕ) (last x : ℕ) → times x (rest ++ last ∷ []) ≡ times x rest + (if last == x then 1 else 0)

@@ -35,7 +35,8 @@ same_out old new page objects none adds x = elim (cases_eq (x / 256) page) [
   fresh at out (inr past) = let is = ap (place_of new) at ∙ adds.only (x % 256) past (omega arith) in cc (is, out)
 
 -- a slot that is taken out of slabs which grew by a page
-pub takes_grown : (old before between new : Pages) (page objects slot : ℕ) → before ≡ old → (Has before page → ⊥) → AddsPage before between page objects → IsHome between slot → Moves between new slot Out → TakesOut old new slot
+pub takes_grown : (old before between new : Pages) (page objects slot : ℕ) → before ≡ old → (Has before page → ⊥)
+    → AddsPage before between page objects → IsHome between slot → Moves between new slot Out → TakesOut old new slot
 takes_grown old before between new page objects slot is none adds was moves =
     let takes = takes_out between new slot was moves in
     let same = same_out before between page objects none adds in

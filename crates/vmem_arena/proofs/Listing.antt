@@ -55,7 +55,10 @@ in_class_other class other len least most apart = in_class_none other len (λ lo
 ])
 
 -- ---- one segment comes or goes
-relisted : (words news : List ℕ) (tags new : List Tag) (page was now place : ℕ) → IsListed words tags → place % 256 ≡ page → free_len tags page ≡ was → free_len new page ≡ now → bit_of news place ≡ in_class (place / 256) now → ((class : ℕ) → class ≢ place / 256 → in_class class was ≡ in_class class now) → ((i : ℕ) → i ≢ place → bit_of news i ≡ bit_of words i) → SameBut page tags new → IsListed news new
+relisted : (words news : List ℕ) (tags new : List Tag) (page was now place : ℕ) → IsListed words tags → place % 256 ≡ page
+    → free_len tags page ≡ was → free_len new page ≡ now → bit_of news place ≡ in_class (place / 256) now
+    → ((class : ℕ) → class ≢ place / 256 → in_class class was ≡ in_class class now)
+    → ((i : ℕ) → i ≢ place → bit_of news i ≡ bit_of words i) → SameBut page tags new → IsListed news new
 relisted words news tags new page was now place listed at old is here classes others same i = elim (cases_eq i place) [
   | inl this ↦ subst (λ k. bit_of news k ≡ in_class (k / 256) (free_len new (k % 256))) (sym this) (here ∙ sym (ap (in_class (place / 256)) (ap (free_len new) at ∙ is)))
   | inr other ↦ others i other ∙ listed i ∙ elim (cases_eq (i % 256) page) [
@@ -64,17 +67,22 @@ relisted words news tags new page was now place listed at old is here classes ot
   ]
 ]
 
-pub listed_more : (words news : List ℕ) (tags new : List Tag) (page len place : ℕ) → IsPlace page len place → bit_of news place ≡ 1 → ((i : ℕ) → i ≢ place → bit_of news i ≡ bit_of words i) → IsListed words tags → free_len tags page ≡ 0 → free_len new page ≡ len → SameBut page tags new → IsListed news new
+pub listed_more : (words news : List ℕ) (tags new : List Tag) (page len place : ℕ) → IsPlace page len place → bit_of news place ≡ 1
+    → ((i : ℕ) → i ≢ place → bit_of news i ≡ bit_of words i) → IsListed words tags → free_len tags page ≡ 0
+    → free_len new page ≡ len → SameBut page tags new → IsListed news new
 listed_more words news tags new page len place at here others listed old is same =
     relisted words news tags new page 0 len place listed at.page old is (here ∙ sym (in_class_one (place / 256) len at.least at.most)) (λ class apart. in_class_zero class ∙ sym (in_class_other (place / 256) class len at.least at.most apart)) others same
 
-pub listed_less : (words news : List ℕ) (tags new : List Tag) (page len place : ℕ) → IsPlace page len place → bit_of news place ≡ 0 → ((i : ℕ) → i ≢ place → bit_of news i ≡ bit_of words i) → IsListed words tags → free_len tags page ≡ len → free_len new page ≡ 0 → SameBut page tags new → IsListed news new
+pub listed_less : (words news : List ℕ) (tags new : List Tag) (page len place : ℕ) → IsPlace page len place → bit_of news place ≡ 0
+    → ((i : ℕ) → i ≢ place → bit_of news i ≡ bit_of words i) → IsListed words tags → free_len tags page ≡ len
+    → free_len new page ≡ 0 → SameBut page tags new → IsListed news new
 listed_less words news tags new page len place at here others listed old is same =
     relisted words news tags new page len 0 place listed at.page old is (here ∙ sym (in_class_zero (place / 256))) (λ class apart. in_class_other (place / 256) class len at.least at.most apart ∙ sym (in_class_zero class)) others same
 
 -- ---- what the classes say of a segment
 -- a place that is taken is that of a free segment of its class
-pub listed_at : (words : List ℕ) (tags : List Tag) (i : ℕ) → IsListed words tags → bit_of words i ≡ 1 → (2 ^ (i / 256) ≤ free_len tags (i % 256)) × (free_len tags (i % 256) < 2 ^ (i / 256 + 1))
+pub listed_at : (words : List ℕ) (tags : List Tag) (i : ℕ) → IsListed words tags → bit_of words i ≡ 1
+    → (2 ^ (i / 256) ≤ free_len tags (i % 256)) × (free_len tags (i % 256) < 2 ^ (i / 256 + 1))
 listed_at words tags i listed one = in_class_is (i / 256) (free_len tags (i % 256)) (sym (listed i) ∙ one)
 
 pub place_is : (words : List ℕ) (tags : List Tag) (i : ℕ) → IsListed words tags → bit_of words i ≡ 1 → IsPlace (i % 256) (free_len tags (i % 256)) i
@@ -88,7 +96,8 @@ pub record HasPlace (words : List ℕ) (page len : ℕ) : Type 0 where
   pub is : IsPlace page len place
   pub one : bit_of words place ≡ 1
 
-pub place_of : (words : List ℕ) (tags : List Tag) (page : ℕ) → IsListed words tags → page < 256 → 0 < free_len tags page → HasPlace words page (free_len tags page)
+pub place_of : (words : List ℕ) (tags : List Tag) (page : ℕ) → IsListed words tags → page < 256 → 0 < free_len tags page
+    → HasPlace words page (free_len tags page)
 place_of words tags page listed low some =
     let class = class_exists (free_len tags page) some in
     let i = 256 * class.0 + page in
@@ -103,12 +112,15 @@ place_of words tags page listed low some =
     }
 
 -- a segment of a class has as many pages as the request, where the class has
-pub fits_above : (words : List ℕ) (tags : List Tag) (n full i : ℕ) → IsListed words tags → bit_of words i ≡ 1 → n ≤ 2 ^ full → 256 * full ≤ i → n ≤ free_len tags (i % 256)
+pub fits_above : (words : List ℕ) (tags : List Tag) (n full i : ℕ) → IsListed words tags → bit_of words i ≡ 1 → n ≤ 2 ^ full
+    → 256 * full ≤ i → n ≤ free_len tags (i % 256)
 fits_above words tags n full i listed one enough above =
     omega (arith, (listed_at words tags i listed one).0, pow_le full (i / 256) (omega arith))
 
 -- where no segment of the request's class and those above fits, none does
-pub none_fits : (words : List ℕ) (tags : List Tag) (n class page : ℕ) → IsListed words tags → (0 < free_len tags page → page + free_len tags page ≤ 256) → 0 < n → 2 ^ class ≤ n → ((i : ℕ) → class * 256 ≤ i → bit_of words i ≡ 1 → free_len tags (i % 256) < n) → free_len tags page < n
+pub none_fits : (words : List ℕ) (tags : List Tag) (n class page : ℕ) → IsListed words tags
+    → (0 < free_len tags page → page + free_len tags page ≤ 256) → 0 < n → 2 ^ class ≤ n
+    → ((i : ℕ) → class * 256 ≤ i → bit_of words i ≡ 1 → free_len tags (i % 256) < n) → free_len tags page < n
 none_fits words tags n class page listed short some least none = elim (cases_lt (free_len tags page) n) [
   | inl less ↦ less
   | inr more ↦
@@ -121,7 +133,10 @@ none_fits words tags n class page listed short some least none = elim (cases_lt 
 ]
 
 -- a segment that is no longer than those of the highest class
-pub none_longer : (words : List ℕ) (tags : List Tag) (last longest page : ℕ) → IsListed words tags → (0 < free_len tags page → page + free_len tags page ≤ 256) → bit_of words last ≡ 1 → ((i : ℕ) → last < i → bit_of words i ≡ 0) → free_len tags (last % 256) ≤ longest → ((i : ℕ) → last / 256 * 256 ≤ i → bit_of words i ≡ 1 → free_len tags (i % 256) ≤ longest) → free_len tags page ≤ longest
+pub none_longer : (words : List ℕ) (tags : List Tag) (last longest page : ℕ) → IsListed words tags
+    → (0 < free_len tags page → page + free_len tags page ≤ 256) → bit_of words last ≡ 1 → ((i : ℕ) → last < i → bit_of words i ≡ 0)
+    → free_len tags (last % 256) ≤ longest
+    → ((i : ℕ) → last / 256 * 256 ≤ i → bit_of words i ≡ 1 → free_len tags (i % 256) ≤ longest) → free_len tags page ≤ longest
 none_longer words tags last longest page listed short one highest least most = elim (cases_lt longest (free_len tags page)) [
   | inr less ↦ less
   | inl more ↦
@@ -133,7 +148,8 @@ none_longer words tags last longest page listed short one highest least most = e
       ]
 ]
 
-pub none_listed : (words : List ℕ) (tags : List Tag) (page : ℕ) → IsListed words tags → (0 < free_len tags page → page + free_len tags page ≤ 256) → ((i : ℕ) → bit_of words i ≡ 0) → free_len tags page ≡ 0
+pub none_listed : (words : List ℕ) (tags : List Tag) (page : ℕ) → IsListed words tags
+    → (0 < free_len tags page → page + free_len tags page ≤ 256) → ((i : ℕ) → bit_of words i ≡ 0) → free_len tags page ≡ 0
 none_listed words tags page listed short none = elim (cases_lt 0 (free_len tags page)) [
   | inl some ↦ let within = short some in let at = place_of words tags page listed (omega arith) some in absurd (omega (arith, at.one, none at.place))
   | inr is ↦ omega arith

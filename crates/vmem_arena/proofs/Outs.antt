@@ -31,22 +31,27 @@ adds_past : (b : Bool) (p q : Pages) (xs ys : List Pages) → IsPermutation (p �
 adds_past true p q xs ys h = IsPermutation-trans _ _ _ (IsPermutation-middle (p ∷ []) q xs) (IsPermutation-cons q _ _ h)
 adds_past false p q xs ys h = h
 
-pub outs-taken : (ts : List Tag) (at page first n before : ℕ) → page < length ts → (tag_at ts page).is_out ≡ false → first ≡ at + page → IsPermutation (span first n ∷ outs at ts) (outs at (set ts page (out_tag n before)))
+pub outs-taken : (ts : List Tag) (at page first n before : ℕ) → page < length ts → (tag_at ts page).is_out ≡ false
+    → first ≡ at + page → IsPermutation (span first n ∷ outs at ts) (outs at (set ts page (out_tag n before)))
 outs-taken [] at page first n before within free e = absurd (omega arith)
 outs-taken (s ∷ ss) at zero first n before within free e =
     let P : ℕ → Type 0 = λ f. IsPermutation (span f n ∷ outs (suc at) ss) (span at n ∷ outs (suc at) ss) in
     let same : at ≡ first = omega arith in
     rw free (subst P same (IsPermutation-refl _))
-outs-taken (s ∷ ss) at (suc page) first n before within free e = adds_past s.is_out _ (span at s.len) _ _ (outs-taken ss (suc at) page first n before (omega arith) free (omega arith))
+outs-taken (s ∷ ss) at (suc page) first n before within free e =
+    adds_past s.is_out _ (span at s.len) _ _ (outs-taken ss (suc at) page first n before (omega arith) free (omega arith))
 
-pub outs-given : (ts : List Tag) (at page first n : ℕ) (t : Tag) → page < length ts → (tag_at ts page).is_out ≡ true → (tag_at ts page).len ≡ n → t.is_out ≡ false → first ≡ at + page → IsPermutation (span first n ∷ outs at (set ts page t)) (outs at ts)
+pub outs-given : (ts : List Tag) (at page first n : ℕ) (t : Tag) → page < length ts → (tag_at ts page).is_out ≡ true
+    → (tag_at ts page).len ≡ n → t.is_out ≡ false → first ≡ at + page
+    → IsPermutation (span first n ∷ outs at (set ts page t)) (outs at ts)
 outs-given [] at page first n t within out long free e = absurd (omega arith)
 outs-given (s ∷ ss) at zero first n t within out long free e =
     let P : ℕ → Type 0 = λ f. IsPermutation (span f n ∷ outs (suc at) ss) (span at s.len ∷ outs (suc at) ss) in
     let Q : ℕ → Type 0 = λ m. IsPermutation (span at m ∷ outs (suc at) ss) (span at s.len ∷ outs (suc at) ss) in
     let same : at ≡ first = omega arith in
     rw (out, free) (subst P same (subst Q long (IsPermutation-refl _)))
-outs-given (s ∷ ss) at (suc page) first n t within out long free e = adds_past s.is_out _ (span at s.len) _ _ (outs-given ss (suc at) page first n t (omega arith) out long free (omega arith))
+outs-given (s ∷ ss) at (suc page) first n t within out long free e =
+    adds_past s.is_out _ (span at s.len) _ _ (outs-given ss (suc at) page first n t (omega arith) out long free (omega arith))
 
 -- ---- a span of the list is one of the table
 contains_cases : (b : Bool) (p q : Pages) (ps : List Pages) → Contains (cond b (q ∷ ps) ps) p → ((b ≡ true) × (q ≡ p)) ⊎ Contains ps p
@@ -66,4 +71,5 @@ outs_of (t ∷ ts) at first len h = elim (contains_cases t.is_out (span first le
 ]
 
 pub outs_has : (ts : List Tag) (first len : ℕ) → IsOut ts first len → Contains (outs 0 ts) (span first len)
-outs_has ts first len is = Contains-permutation _ _ _ (outs-given ts 0 first first len inside is.within is.out is.long refl (omega arith)) (0, omega arith, refl)
+outs_has ts first len is =
+    Contains-permutation _ _ _ (outs-given ts 0 first first len inside is.within is.out is.long refl (omega arith)) (0, omega arith, refl)

@@ -53,7 +53,10 @@ has_lowest words filled at ok one fits =
     record { within = in_words words at some; bit = bit.0; taken = bit_of-at words at _ bit.0 ∙ bit.1 }
 
 -- no place is taken between the one that is asked from and the one that is found
-pub none_before : (words : List ℕ) (filled from at bit i : ℕ) → IsFilled words filled → ((k : ℕ) → from % 64 ≤ k → bit_at (slice_index words (from / 64)) k ≡ 0) → ((k : ℕ) → from / 64 + 1 ≤ k → k < at → bit_at filled k ≡ 0) → ((k : ℕ) → k < bit → bit_at (slice_index words at) k ≡ 0) → bit < 64 → from ≤ i → i < 64 * at + bit → bit_of words i ≡ 0
+pub none_before : (words : List ℕ) (filled from at bit i : ℕ) → IsFilled words filled
+    → ((k : ℕ) → from % 64 ≤ k → bit_at (slice_index words (from / 64)) k ≡ 0)
+    → ((k : ℕ) → from / 64 + 1 ≤ k → k < at → bit_at filled k ≡ 0) → ((k : ℕ) → k < bit → bit_at (slice_index words at) k ≡ 0)
+    → bit < 64 → from ≤ i → i < 64 * at + bit → bit_of words i ≡ 0
 none_before words filled from at bit i ok here between there within low high = elim (cases_eq (i / 64) (from / 64)) [
   | inl same ↦ ap (λ k. bit_at (slice_index words k) (i % 64)) same ∙ here (i % 64) (omega arith)
   | inr later ↦ elim (cases_eq (i / 64) at) [
@@ -63,14 +66,16 @@ none_before words filled from at bit i ok here between there within low high = e
 ]
 
 -- no place is taken above the highest bit of the last word that is not 0
-pub none_after : (words : List ℕ) (filled at bit i : ℕ) → IsFilled words filled → ((k : ℕ) → at < k → bit_at filled k ≡ 0) → slice_index words at < 2 * 2 ^ bit → bit < 64 → 64 * at + bit < i → bit_of words i ≡ 0
+pub none_after : (words : List ℕ) (filled at bit i : ℕ) → IsFilled words filled → ((k : ℕ) → at < k → bit_at filled k ≡ 0)
+    → slice_index words at < 2 * 2 ^ bit → bit < 64 → 64 * at + bit < i → bit_of words i ≡ 0
 none_after words filled at bit i ok above most within high = elim (cases_eq (i / 64) at) [
   | inl same ↦ ap (λ k. bit_at (slice_index words k) (i % 64)) same ∙ none_above (slice_index words at) bit (i % 64) most (omega arith)
   | inr other ↦ filled_none words filled i ok (above (i / 64) (omega arith))
 ]
 
 -- a word that has a bit cleared and is not 0 was not 0
-pub filled_still : (words : List ℕ) (filled at bit word : ℕ) → at < length words → IsFilled words filled → bit_at word bit ≡ 0 → ((k : ℕ) → k ≢ bit → bit_at word k ≡ bit_at (slice_index words at) k) → 0 < word → IsFilled (set words at word) filled
+pub filled_still : (words : List ℕ) (filled at bit word : ℕ) → at < length words → IsFilled words filled → bit_at word bit ≡ 0
+    → ((k : ℕ) → k ≢ bit → bit_at word k ≡ bit_at (slice_index words at) k) → 0 < word → IsFilled (set words at word) filled
 filled_still words filled at bit word within ok clear others some w = elim (cases_eq w at) [
   | inl here ↦ subst (λ k. ((bit_at filled k ≡ 1) × (0 < slice_index (set words at word) k)) ⊎ ((bit_at filled k ≡ 0) × (slice_index (set words at word) k ≡ 0))) (sym here) (elim (ok at) [
     | inl old ↦ inl (old.0, rw (get_or-set_same words at word 0 within) some)

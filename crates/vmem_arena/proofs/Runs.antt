@@ -37,7 +37,8 @@ covers_after (t ∷ ts) at (suc left) len page out h covers = elim (cover_cases 
 ]
 
 -- a page of a free segment is in no span that is out
-pub free_here : (ts : List Tag) (at i left len page : ℕ) (out : Bool) → IsTiled left len out ts → (tag_at ts i).is_out ≡ false → at + i ≤ page → page < at + i + (tag_at ts i).len → AnyCovers (outs at ts) page → ⊥
+pub free_here : (ts : List Tag) (at i left len page : ℕ) (out : Bool) → IsTiled left len out ts → (tag_at ts i).is_out ≡ false
+    → at + i ≤ page → page < at + i + (tag_at ts i).len → AnyCovers (outs at ts) page → ⊥
 free_here [] at i left len page out h free low high covers = covers
 free_here (t ∷ ts) at zero zero len page out h free low high covers = elim (cover_cases t.is_out (span at t.len) (outs (suc at) ts) page covers) [
   | inl here ↦ false≢true (sym free ∙ here.0)
@@ -57,10 +58,13 @@ free_here (t ∷ ts) at (suc i) (suc left) len page out h free low high covers =
 next_covered : (ts : List Tag) (at left len page : ℕ) → IsTiled left len false ts → left < length ts → page ≡ at + left → AnyCovers (outs at ts) page
 next_covered [] at left len page h within e = absurd (omega arith)
 next_covered (t ∷ ts) at zero len page h within e = cover_first t.is_out (span at t.len) (outs (suc at) ts) page (h.2 refl) (omega arith, omega (arith, h.1))
-next_covered (t ∷ ts) at (suc left) len page h within e = cover_later t.is_out (span at t.len) (outs (suc at) ts) page (next_covered ts (suc at) left len page h.1 (omega arith) (omega arith))
+next_covered (t ∷ ts) at (suc left) len page h within e =
+    cover_later t.is_out (span at t.len) (outs (suc at) ts) page (next_covered ts (suc at) left len page h.1 (omega arith) (omega arith))
 
 -- a run that begins in the first segment ends in it
-run_here : (b : Bool) (t : Tag) (ts : List Tag) (at first n most to : ℕ) → t.is_out ≡ b → IsTiled (t.len - 1) t.len b ts → 0 < t.len → at + suc (length ts) ≡ to → cond b 0 t.len ≤ most → at ≤ first → first < at + t.len → ((page : ℕ) → first ≤ page → page < first + n → (page < to) × (AnyCovers (outs at (t ∷ ts)) page → ⊥)) → n ≤ most
+run_here : (b : Bool) (t : Tag) (ts : List Tag) (at first n most to : ℕ) → t.is_out ≡ b → IsTiled (t.len - 1) t.len b ts → 0 < t.len
+    → at + suc (length ts) ≡ to → cond b 0 t.len ≤ most → at ≤ first → first < at + t.len
+    → ((page : ℕ) → first ≤ page → page < first + n → (page < to) × (AnyCovers (outs at (t ∷ ts)) page → ⊥)) → n ≤ most
 run_here true t ts at first n most to e h some end fits low high free = elim (cases_lt 0 n) [
   | inl more ↦ absurd ((free first (omega arith) (omega arith)).1 (cover_first t.is_out (span at t.len) (outs (suc at) ts) first e (omega arith, omega arith)))
   | inr none ↦ omega arith
@@ -74,7 +78,9 @@ run_here false t ts at first n most to e h some end fits low high free = elim (c
 ]
 
 -- a run of free pages is no longer than the longest free segment
-pub run_le : (ts : List Tag) (at left len first n most to : ℕ) (out : Bool) → IsTiled left len out ts → at + length ts ≡ to → ((i : ℕ) → free_len ts i ≤ most) → at + left ≤ first → ((page : ℕ) → first ≤ page → page < first + n → (page < to) × (AnyCovers (outs at ts) page → ⊥)) → n ≤ most
+pub run_le : (ts : List Tag) (at left len first n most to : ℕ) (out : Bool) → IsTiled left len out ts → at + length ts ≡ to
+    → ((i : ℕ) → free_len ts i ≤ most) → at + left ≤ first
+    → ((page : ℕ) → first ≤ page → page < first + n → (page < to) × (AnyCovers (outs at ts) page → ⊥)) → n ≤ most
 run_le [] at left len first n most to out h end fits low free = elim (cases_lt most n) [
   | inl more ↦ let inside = (free first (omega arith) (omega arith)).0 in absurd (omega arith)
   | inr fits ↦ fits

@@ -28,7 +28,8 @@ pub short : (ts : List Tag) (page : ℕ) → IsTable ts → length ts ≤ 256 �
 short ts page table few some = omega (arith, within_table ts page table some)
 
 -- its pages are free
-pub free_pages : (ts : List Tag) (first n page : ℕ) → IsTable ts → n ≤ free_len ts first → first ≤ page → page < first + n → (page < length ts) × (AnyCovers (outs 0 ts) page → ⊥)
+pub free_pages : (ts : List Tag) (first n page : ℕ) → IsTable ts → n ≤ free_len ts first → first ≤ page → page < first + n
+    → (page < length ts) × (AnyCovers (outs 0 ts) page → ⊥)
 free_pages ts first n page table fits low high =
     let is = free_is (tag_at ts first).is_out (tag_at ts first).len (omega arith) in
     let long = is.1 in
@@ -36,7 +37,8 @@ free_pages ts first n page table fits low high =
     (omega arith, free_here ts 0 first 0 0 page true table is.0 (omega arith) (omega arith))
 
 -- a run of free pages is no longer than every free segment
-pub no_run : (ts : List Tag) (first n most : ℕ) → IsTable ts → ((page : ℕ) → free_len ts page ≤ most) → ((page : ℕ) → first ≤ page → page < first + n → (page < length ts) × (AnyCovers (outs 0 ts) page → ⊥)) → n ≤ most
+pub no_run : (ts : List Tag) (first n most : ℕ) → IsTable ts → ((page : ℕ) → free_len ts page ≤ most)
+    → ((page : ℕ) → first ≤ page → page < first + n → (page < length ts) × (AnyCovers (outs 0 ts) page → ⊥)) → n ≤ most
 no_run ts first n most table fits free = run_le ts 0 0 0 first n most (length ts) true table (omega arith) fits (omega arith) free
 
 -- ---- the first table
@@ -75,7 +77,8 @@ rest_none (t ∷ ts) (suc left) len zero h le = ap free_of h.0
 rest_none (t ∷ ts) zero len (suc x) h le = absurd (omega arith)
 rest_none (t ∷ ts) (suc left) len (suc x) h le = rest_none ts left len x h.1 (omega arith)
 
-after_none : (ts : List Tag) (page x left len : ℕ) (out : Bool) → IsTiled left len out ts → (tag_at ts page).is_out ≡ false → page < x → x ≤ page + (tag_at ts page).len → free_len ts x ≡ 0
+after_none : (ts : List Tag) (page x left len : ℕ) (out : Bool) → IsTiled left len out ts → (tag_at ts page).is_out ≡ false
+    → page < x → x ≤ page + (tag_at ts page).len → free_len ts x ≡ 0
 after_none [] page x left len out h free low high = refl
 after_none (t ∷ ts) page zero left len out h free low high = absurd (omega arith)
 after_none (t ∷ ts) zero (suc x) zero len out h free low high =
@@ -115,7 +118,8 @@ taken_table ts page n (suc rest) table some e =
     let is = free_is (tag_at ts page).is_out (tag_at ts page).len (omega arith) in
     part_taken ts page (page + n) (page + n + suc rest) 0 0 n (suc rest) true table is.0 (omega (arith, is.1)) some (omega arith) refl refl
 
-pub taken_out : (ts : List Tag) (page n rest : ℕ) → IsTable ts → 0 < n → n + rest ≡ free_len ts page → IsPermutation (span page n ∷ outs 0 ts) (outs 0 (taken ts page n rest))
+pub taken_out : (ts : List Tag) (page n rest : ℕ) → IsTable ts → 0 < n → n + rest ≡ free_len ts page
+    → IsPermutation (span page n ∷ outs 0 ts) (outs 0 (taken ts page n rest))
 taken_out ts page n zero table some e =
     let is = free_is (tag_at ts page).is_out (tag_at ts page).len (omega arith) in
     let ends = within_table ts page table (omega arith) in
@@ -131,9 +135,11 @@ taken_out ts page n (suc rest) table some e =
 
 -- the free segments: first the one at the page goes, then what is left of it comes
 pub first_goes : (ts : List Tag) (page n : ℕ) → page < length ts → (free_len (with_span ts page n) page ≡ 0) × SameBut page ts (with_span ts page n)
-first_goes ts page n within = (free-set_same ts page (out_tag n (tag_at ts page).before) within, λ q other. free-set_other ts page q (out_tag n (tag_at ts page).before) other)
+first_goes ts page n within =
+    (free-set_same ts page (out_tag n (tag_at ts page).before) within, λ q other. free-set_other ts page q (out_tag n (tag_at ts page).before) other)
 
-pub rest_comes : (ts : List Tag) (page n rest : ℕ) → IsTable ts → 0 < n → n + rest ≡ free_len ts page → (free_len (with_span ts page n) (page + n) ≡ 0) × (free_len (taken ts page n rest) (page + n) ≡ rest) × SameBut (page + n) (with_span ts page n) (taken ts page n rest)
+pub rest_comes : (ts : List Tag) (page n rest : ℕ) → IsTable ts → 0 < n → n + rest ≡ free_len ts page
+    → (free_len (with_span ts page n) (page + n) ≡ 0) × (free_len (taken ts page n rest) (page + n) ≡ rest) × SameBut (page + n) (with_span ts page n) (taken ts page n rest)
 rest_comes ts page n rest table some e = (none, there rest e, same rest)
   where
     none : free_len (with_span ts page n) (page + n) ≡ 0
@@ -166,7 +172,8 @@ pub record IsBefore (ts : List Tag) (page before : ℕ) : Type 0 where
 no_less : (page : ℕ) → page - 0 ≡ page
 no_less page = omega arith
 
-low_by : (b : Bool) (ts : List Tag) (page q n : ℕ) → (tag_at ts q).is_out ≡ b → (tag_at ts q).len ≡ n → q + n ≡ page → 0 < n → free_len ts page ≡ 0 → IsLow ts page (cond b 0 n)
+low_by : (b : Bool) (ts : List Tag) (page q n : ℕ) → (tag_at ts q).is_out ≡ b → (tag_at ts q).len ≡ n → q + n ≡ page → 0 < n
+    → free_len ts page ≡ 0 → IsLow ts page (cond b 0 n)
 low_by true ts page q n out long e some none = record {
   back = omega arith;
   is = ap (free_len ts) (no_less page) ∙ none;
@@ -196,7 +203,8 @@ low_is ts page len table out some =
           let q = later.0 in
           let here : page - (tag_at ts page).before ≡ q = omega (arith, later.1) in
           let P : ℕ → Type 0 = λ n. IsLow ts page n in
-          let is : cond (tag_at ts q).is_out 0 (tag_at ts page).before ≡ free_len ts (page - (tag_at ts page).before) = ap (λ n. cond (tag_at ts q).is_out 0 n) (sym later.2) ∙ sym (ap (free_len ts) here) in
+          let is : cond (tag_at ts q).is_out 0 (tag_at ts page).before ≡ free_len ts (page - (tag_at ts page).before) =
+          ap (λ n. cond (tag_at ts q).is_out 0 n) (sym later.2) ∙ sym (ap (free_len ts) here) in
           record {
             back = omega (arith, later.1);
             low = subst P is (low_by (tag_at ts q).is_out ts page q (tag_at ts page).before refl later.2 later.1 later.3 none);
@@ -204,7 +212,8 @@ low_is ts page len table out some =
     ]
 
 -- the same of the numbers as they are read
-pub low_read : (ts : List Tag) (page len before low : ℕ) → IsTable ts → IsOut ts page len → 0 < len → before ≡ (tag_at ts page).before → low ≡ free_len ts (page - before) → (before ≤ page) × IsLow ts page low
+pub low_read : (ts : List Tag) (page len before low : ℕ) → IsTable ts → IsOut ts page len → 0 < len
+    → before ≡ (tag_at ts page).before → low ≡ free_len ts (page - before) → (before ≤ page) × IsLow ts page low
 low_read ts page len before low table out some read is =
     let below = low_is ts page len table out some in
     let P : ℕ → Type 0 = λ n. IsLow ts page n in
@@ -226,7 +235,8 @@ length-freed ts page low len high =
     let t = free_tag (low + len + high) (tag_at ts (page - low)).before in
     length-before (set (set us page inside) (page - low) t) (page - low + (low + len + high)) (low + len + high) ∙ length-set (set us page inside) (page - low) t ∙ length-set us page inside ∙ length-without ts (page + len) high
 
-pub freed_table : (ts : List Tag) (page low len high : ℕ) → IsTable ts → IsOut ts page len → 0 < len → IsLow ts page low → free_len ts (page + len) ≡ high → IsTable (freed ts page low len high)
+pub freed_table : (ts : List Tag) (page low len high : ℕ) → IsTable ts → IsOut ts page len → 0 < len → IsLow ts page low
+    → free_len ts (page + len) ≡ high → IsTable (freed ts page low len high)
 freed_table ts page zero len high table out some low free =
     let P : ℕ → Type 0 = λ at. IsTable (merged ts page at (page + len) high (at + (0 + len + high)) (0 + len + high)) in
     let Q : List Tag → Type 0 = λ us. IsTable (with_before us (page + (0 + len + high)) (0 + len + high)) in
@@ -238,14 +248,16 @@ freed_table ts page (suc low) len high table out some below free =
     let is = free_is (tag_at ts (page - suc low)).is_out (tag_at ts (page - suc low)).len (omega (arith, below.is)) in
     freed_joined ts (page - suc low) page (page + len) (page - suc low + (suc low + len + high)) 0 0 (suc low) len high (suc low + len + high) true table (omega arith) (is.1 ∙ below.is) is.0 (omega (arith, below.back)) some out.long out.out refl free (omega (arith, below.back)) refl
 
-pub freed_back : (ts : List Tag) (page low len high : ℕ) → IsTable ts → IsOut ts page len → 0 < len → IsLow ts page low → free_len ts (page + len) ≡ high → IsPermutation (span page len ∷ outs 0 (freed ts page low len high)) (outs 0 ts)
+pub freed_back : (ts : List Tag) (page low len high : ℕ) → IsTable ts → IsOut ts page len → 0 < len → IsLow ts page low
+    → free_len ts (page + len) ≡ high → IsPermutation (span page len ∷ outs 0 (freed ts page low len high)) (outs 0 ts)
 freed_back ts page low len high table out some below free =
     let us = without ts (page + len) high in
     let vs = set us page inside in
     let t = free_tag (low + len + high) (tag_at ts (page - low)).before in
     let here : tag_at us page ≡ tag_at ts page = tag-without ts (page + len) high page (omega arith) in
     let within : page < length us = omega (arith, out.within, length-without ts (page + len) high) in
-    let same = outs-before (set vs (page - low) t) 0 (page - low + (low + len + high)) (low + len + high) ∙ outs-free vs 0 (page - low) t (low_free low below) refl in
+    let same =
+    outs-before (set vs (page - low) t) 0 (page - low + (low + len + high)) (low + len + high) ∙ outs-free vs 0 (page - low) t (low_free low below) refl in
     let P : List Pages → Type 0 = λ ps. IsPermutation (span page len ∷ ps) (outs 0 ts) in
     let Q : List Pages → Type 0 = λ ps. IsPermutation (span page len ∷ outs 0 vs) ps in
     subst P (sym same) (subst Q (outs-without ts 0 (page + len) high free) (outs-given us 0 page page len inside within (ap (λ (s : Tag). s.is_out) here ∙ out.out) (ap (λ (s : Tag). s.len) here ∙ out.long) refl (omega arith)))
@@ -263,7 +275,9 @@ freed_back ts page low len high table out some below free =
 pub low_goes : (ts : List Tag) (at low : ℕ) → free_len ts at ≡ low → (free_len (without ts at low) at ≡ 0) × SameBut at ts (without ts at low)
 low_goes ts at low is = (free-without_here ts at low is, λ q other. free-without_other ts at low q other)
 
-pub whole_comes : (ts : List Tag) (page low len high : ℕ) → IsOut ts page len → 0 < len → IsLow ts page low → free_len ts (page + len) ≡ high → (free_len (without (without ts (page - low) low) (page + len) high) (page - low) ≡ 0) × (free_len (freed ts page low len high) (page - low) ≡ low + len + high) × SameBut (page - low) (without (without ts (page - low) low) (page + len) high) (freed ts page low len high)
+pub whole_comes : (ts : List Tag) (page low len high : ℕ) → IsOut ts page len → 0 < len → IsLow ts page low
+    → free_len ts (page + len) ≡ high
+    → (free_len (without (without ts (page - low) low) (page + len) high) (page - low) ≡ 0) × (free_len (freed ts page low len high) (page - low) ≡ low + len + high) × SameBut (page - low) (without (without ts (page - low) low) (page + len) high) (freed ts page low len high)
 whole_comes ts page low len high out some below free = (none, all, same)
   where
     none : free_len (without (without ts (page - low) low) (page + len) high) (page - low) ≡ 0

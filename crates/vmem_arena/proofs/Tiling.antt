@@ -20,7 +20,8 @@ pub no_pages : (t : Tag) → t ≡ inside → t.len ≡ 0
 no_pages t is = ap (λ (s : Tag). s.len) is
 
 -- a segment begins where none is under way, and ends with the table at the latest
-pub extent : (ts : List Tag) (page left len : ℕ) (out : Bool) → IsTiled left len out ts → 0 < (tag_at ts page).len → (left ≤ page) × (page + (tag_at ts page).len ≤ length ts)
+pub extent : (ts : List Tag) (page left len : ℕ) (out : Bool) → IsTiled left len out ts → 0 < (tag_at ts page).len
+    → (left ≤ page) × (page + (tag_at ts page).len ≤ length ts)
 extent [] page left len out h some = absurd (omega arith)
 extent (t ∷ ts) zero zero len out h some = (omega arith, omega (arith, fits ts (t.len - 1) t.len t.is_out h.3))
 extent (t ∷ ts) zero (suc left) len out h some = absurd (omega (arith, no_pages t h.0))
@@ -28,7 +29,8 @@ extent (t ∷ ts) (suc page) zero len out h some = let rest = extent ts page (t.
 extent (t ∷ ts) (suc page) (suc left) len out h some = let rest = extent ts page left len out h.1 some in (omega (arith, rest.0), omega (arith, rest.1))
 
 -- the segment before one is as long as the tag says
-pub before_is : (ts : List Tag) (page left len : ℕ) (out : Bool) → IsTiled left len out ts → 0 < (tag_at ts page).len → ((page ≡ left) × ((tag_at ts page).before ≡ len)) ⊎ ((q : ℕ) × (q + (tag_at ts page).before ≡ page) × ((tag_at ts q).len ≡ (tag_at ts page).before) × (0 < (tag_at ts page).before))
+pub before_is : (ts : List Tag) (page left len : ℕ) (out : Bool) → IsTiled left len out ts → 0 < (tag_at ts page).len
+    → ((page ≡ left) × ((tag_at ts page).before ≡ len)) ⊎ ((q : ℕ) × (q + (tag_at ts page).before ≡ page) × ((tag_at ts q).len ≡ (tag_at ts page).before) × (0 < (tag_at ts page).before))
 before_is [] page left len out h some = absurd (omega arith)
 before_is (t ∷ ts) zero zero len out h some = inl (refl, h.0)
 before_is (t ∷ ts) zero (suc left) len out h some = absurd (omega (arith, no_pages t h.0))
@@ -67,7 +69,8 @@ above_apart (t ∷ ts) zero len to h none = (refl, h.1, (λ _. out_from_none t.i
 above_apart (t ∷ ts) (suc left) len to h none = (h.0, above_apart ts left len to h.1 none)
 
 -- or is free too, and becomes a part of it
-above_joined : (ts : List Tag) (left len high to k : ℕ) → IsTiled left len true ts → free_len ts left ≡ suc high → k ≡ left + suc high → IsTiled k to false (with_before (set ts left inside) k to)
+above_joined : (ts : List Tag) (left len high to k : ℕ) → IsTiled left len true ts → free_len ts left ≡ suc high
+    → k ≡ left + suc high → IsTiled k to false (with_before (set ts left inside) k to)
 above_joined (t ∷ ts) zero len high to (suc k) h free e =
     let is = free_from_some t.is_out t.len high free in
     let P : ℕ → Type 0 = λ n. IsTiled n t.len t.is_out ts in
@@ -77,7 +80,8 @@ above_joined (t ∷ ts) zero len high to (suc k) h free e =
 above_joined (t ∷ ts) (suc left) len high to (suc k) h free e = (h.0, above_joined ts left len high to k h.1 free (omega arith))
 above_joined ts left len high to k h free e = absurd (omega arith)
 
-pub above : (ts : List Tag) (left len high to k : ℕ) → IsTiled left len true ts → free_len ts left ≡ high → k ≡ left + high → IsTiled k to false (with_before (without ts left high) k to)
+pub above : (ts : List Tag) (left len high to k : ℕ) → IsTiled left len true ts → free_len ts left ≡ high → k ≡ left + high
+    → IsTiled k to false (with_before (without ts left high) k to)
 above ts left len zero to k h free e =
     let P : ℕ → Type 0 = λ n. IsTiled n to false (with_before ts n to) in
     let same : left ≡ k = omega arith in
@@ -89,7 +93,8 @@ without-cons t ts page zero = refl
 without-cons t ts page (suc len) = refl
 
 -- ---- a span is taken
-pub all_taken : (ts : List Tag) (page left len n : ℕ) (out : Bool) → IsTiled left len out ts → (tag_at ts page).is_out ≡ false → (tag_at ts page).len ≡ n → 0 < n → IsTiled left len out (set ts page (out_tag n (tag_at ts page).before))
+pub all_taken : (ts : List Tag) (page left len n : ℕ) (out : Bool) → IsTiled left len out ts → (tag_at ts page).is_out ≡ false
+    → (tag_at ts page).len ≡ n → 0 < n → IsTiled left len out (set ts page (out_tag n (tag_at ts page).before))
 all_taken [] page left len n out h free long some = h
 all_taken (t ∷ ts) zero zero len n out h free long some =
     let P : Bool → Type 0 = λ b. IsTiled (t.len - 1) t.len b ts in
@@ -99,7 +104,8 @@ all_taken (t ∷ ts) zero (suc left) len n out h free long some = absurd (omega 
 all_taken (t ∷ ts) (suc page) zero len n out h free long some = (h.0, h.1, h.2, all_taken ts page (t.len - 1) t.len n t.is_out h.3 free long some)
 all_taken (t ∷ ts) (suc page) (suc left) len n out h free long some = (h.0, all_taken ts page left len n out h.1 free long some)
 
-rest_free : (ts : List Tag) (i left len n rest : ℕ) → IsTiled left len false ts → i + rest ≡ left → 0 < rest → IsTiled i n true (with_before (set ts i (free_tag rest n)) left rest)
+rest_free : (ts : List Tag) (i left len n rest : ℕ) → IsTiled left len false ts → i + rest ≡ left → 0 < rest
+    → IsTiled i n true (with_before (set ts i (free_tag rest n)) left rest)
 rest_free (t ∷ ts) zero (suc left) len n rest h e some =
     let P : ℕ → Type 0 = λ m. IsTiled m rest false (with_before ts left rest) in
     let same : left ≡ rest - 1 = omega arith in
@@ -108,7 +114,9 @@ rest_free (t ∷ ts) (suc i) (suc left) len n rest h e some = (h.0, rest_free ts
 rest_free [] i left len n rest h e some = absurd (omega (arith, h))
 rest_free ts i left len n rest h e some = absurd (omega arith)
 
-pub part_taken : (ts : List Tag) (page next end left len n rest : ℕ) (out : Bool) → IsTiled left len out ts → (tag_at ts page).is_out ≡ false → n + rest ≡ (tag_at ts page).len → 0 < n → 0 < rest → next ≡ page + n → end ≡ next + rest → IsTiled left len out (with_before (set (set ts page (out_tag n (tag_at ts page).before)) next (free_tag rest n)) end rest)
+pub part_taken : (ts : List Tag) (page next end left len n rest : ℕ) (out : Bool) → IsTiled left len out ts
+    → (tag_at ts page).is_out ≡ false → n + rest ≡ (tag_at ts page).len → 0 < n → 0 < rest → next ≡ page + n → end ≡ next + rest
+    → IsTiled left len out (with_before (set (set ts page (out_tag n (tag_at ts page).before)) next (free_tag rest n)) end rest)
 part_taken (t ∷ ts) zero (suc next) (suc end) zero len n rest out h free long some more e f =
     let P : Bool → Type 0 = λ b. IsTiled (t.len - 1) t.len b ts in
     let Q : ℕ → Type 0 = λ m. IsTiled m t.len false ts in
@@ -117,8 +125,10 @@ part_taken (t ∷ ts) zero (suc next) (suc end) zero len n rest out h free long 
     let next_is : next ≡ n - 1 = omega arith in
     (h.0, some, (λ _. refl), subst R next_is (rest_free ts next end t.len n rest (subst Q left_is (subst P free h.3)) (omega arith) more))
 part_taken (t ∷ ts) zero next end (suc left) len n rest out h free long some more e f = absurd (omega (arith, no_pages t h.0))
-part_taken (t ∷ ts) (suc page) (suc next) (suc end) zero len n rest out h free long some more e f = (h.0, h.1, h.2, part_taken ts page next end (t.len - 1) t.len n rest t.is_out h.3 free long some more (omega arith) (omega arith))
-part_taken (t ∷ ts) (suc page) (suc next) (suc end) (suc left) len n rest out h free long some more e f = (h.0, part_taken ts page next end left len n rest out h.1 free long some more (omega arith) (omega arith))
+part_taken (t ∷ ts) (suc page) (suc next) (suc end) zero len n rest out h free long some more e f =
+    (h.0, h.1, h.2, part_taken ts page next end (t.len - 1) t.len n rest t.is_out h.3 free long some more (omega arith) (omega arith))
+part_taken (t ∷ ts) (suc page) (suc next) (suc end) (suc left) len n rest out h free long some more e f =
+    (h.0, part_taken ts page next end left len n rest out h.1 free long some more (omega arith) (omega arith))
 part_taken ts page next end left len n rest out h free long some more e f = absurd (omega arith)
 
 -- ---- a span is given back
@@ -141,7 +151,10 @@ below_here ts out (inl first) = first.1
 below_here ts out (inr (q, low, reach, is)) = absurd (omega arith)
 
 -- it is a segment by itself, or one with the segment above it
-pub freed_apart : (ts : List Tag) (page end k left len n high whole : ℕ) (out : Bool) → IsTiled left len out ts → 0 < n → (tag_at ts page).len ≡ n → (tag_at ts page).is_out ≡ true → IsBelowOut ts page left out → end ≡ page + n → free_len ts end ≡ high → k ≡ end + high → whole ≡ n + high → IsTiled left len out (with_before (set (without ts end high) page (free_tag whole (tag_at ts page).before)) k whole)
+pub freed_apart : (ts : List Tag) (page end k left len n high whole : ℕ) (out : Bool) → IsTiled left len out ts → 0 < n
+    → (tag_at ts page).len ≡ n → (tag_at ts page).is_out ≡ true → IsBelowOut ts page left out → end ≡ page + n
+    → free_len ts end ≡ high → k ≡ end + high → whole ≡ n + high
+    → IsTiled left len out (with_before (set (without ts end high) page (free_tag whole (tag_at ts page).before)) k whole)
 freed_apart (t ∷ ts) zero (suc end) (suc k) zero len n high whole out h some long is below e free f w =
     let X : List Tag → Type 0 = λ us. IsTiled zero len out (with_before (set us zero (free_tag whole t.before)) (suc k) whole) in
     let P : Bool → Type 0 = λ b. IsTiled (t.len - 1) t.len b ts in
@@ -162,7 +175,9 @@ freed_apart (t ∷ ts) (suc page) (suc end) (suc k) (suc left) len n high whole 
 freed_apart ts page end k left len n high whole out h some long is below e free f w = absurd (omega arith)
 
 -- the rest of the segment below it, of which it becomes a part
-seam_closed : (ts : List Tag) (left end k len n high whole : ℕ) → IsTiled left len false ts → 0 < n → (tag_at ts left).len ≡ n → (tag_at ts left).is_out ≡ true → end ≡ left + n → free_len ts end ≡ high → k ≡ end + high → IsTiled k whole false (with_before (set (without ts end high) left inside) k whole)
+seam_closed : (ts : List Tag) (left end k len n high whole : ℕ) → IsTiled left len false ts → 0 < n → (tag_at ts left).len ≡ n
+    → (tag_at ts left).is_out ≡ true → end ≡ left + n → free_len ts end ≡ high → k ≡ end + high
+    → IsTiled k whole false (with_before (set (without ts end high) left inside) k whole)
 seam_closed (t ∷ ts) zero (suc end) (suc k) len n high whole h some long is e free f =
     let X : List Tag → Type 0 = λ us. IsTiled (suc k) whole false (with_before (set us zero inside) (suc k) whole) in
     let P : Bool → Type 0 = λ b. IsTiled (t.len - 1) t.len b ts in
@@ -174,7 +189,10 @@ seam_closed (t ∷ ts) (suc left) (suc end) (suc k) len n high whole h some long
     subst X (sym (without-cons t ts end high)) (h.0, seam_closed ts left end k len n high whole h.1 some long is (omega arith) free (omega arith))
 seam_closed ts left end k len n high whole h some long is e free f = absurd (omega arith)
 
-pub freed_joined : (ts : List Tag) (at page end k left len low n high whole : ℕ) (out : Bool) → IsTiled left len out ts → 0 < low → (tag_at ts at).len ≡ low → (tag_at ts at).is_out ≡ false → page ≡ at + low → 0 < n → (tag_at ts page).len ≡ n → (tag_at ts page).is_out ≡ true → end ≡ page + n → free_len ts end ≡ high → k ≡ end + high → whole ≡ low + n + high → IsTiled left len out (with_before (set (set (without ts end high) page inside) at (free_tag whole (tag_at ts at).before)) k whole)
+pub freed_joined : (ts : List Tag) (at page end k left len low n high whole : ℕ) (out : Bool) → IsTiled left len out ts → 0 < low
+    → (tag_at ts at).len ≡ low → (tag_at ts at).is_out ≡ false → page ≡ at + low → 0 < n → (tag_at ts page).len ≡ n
+    → (tag_at ts page).is_out ≡ true → end ≡ page + n → free_len ts end ≡ high → k ≡ end + high → whole ≡ low + n + high
+    → IsTiled left len out (with_before (set (set (without ts end high) page inside) at (free_tag whole (tag_at ts at).before)) k whole)
 freed_joined (t ∷ ts) zero (suc page) (suc end) (suc k) zero len low n high whole out h lows low_is low_free p some long is e free f w =
     let X : List Tag → Type 0 = λ us. IsTiled zero len out (with_before (set (set us (suc page) inside) zero (free_tag whole t.before)) (suc k) whole) in
     let P : Bool → Type 0 = λ b. IsTiled (t.len - 1) t.len b ts in
@@ -182,13 +200,17 @@ freed_joined (t ∷ ts) zero (suc page) (suc end) (suc k) zero len low n high wh
     let R : ℕ → Type 0 = λ m. IsTiled m whole false (with_before (set (without ts end high) page inside) k whole) in
     let page_is : t.len - 1 ≡ page = omega arith in
     let k_is : k ≡ whole - 1 = omega arith in
-    let rest = subst R k_is (seam_closed ts page end k t.len n high whole (subst Q page_is (subst P low_free h.3)) some long is (omega arith) free (omega arith)) in
+    let rest =
+    subst R k_is (seam_closed ts page end k t.len n high whole (subst Q page_is (subst P low_free h.3)) some long is (omega arith) free (omega arith)) in
     subst X (sym (without-cons t ts end high)) (h.0, omega arith, (λ g. absurd (false≢true (sym low_free ∙ h.2 g))), rest)
-freed_joined (t ∷ ts) zero page end k (suc left) len low n high whole out h lows low_is low_free p some long is e free f w = absurd (omega (arith, no_pages t h.0))
+freed_joined (t ∷ ts) zero page end k (suc left) len low n high whole out h lows low_is low_free p some long is e free f w =
+    absurd (omega (arith, no_pages t h.0))
 freed_joined (t ∷ ts) (suc at) (suc page) (suc end) (suc k) zero len low n high whole out h lows low_is low_free p some long is e free f w =
-    let X : List Tag → Type 0 = λ us. IsTiled zero len out (with_before (set (set us (suc page) inside) (suc at) (free_tag whole (tag_at ts at).before)) (suc k) whole) in
+    let X : List Tag → Type 0 =
+    λ us. IsTiled zero len out (with_before (set (set us (suc page) inside) (suc at) (free_tag whole (tag_at ts at).before)) (suc k) whole) in
     subst X (sym (without-cons t ts end high)) (h.0, h.1, h.2, freed_joined ts at page end k (t.len - 1) t.len low n high whole t.is_out h.3 lows low_is low_free (omega arith) some long is (omega arith) free (omega arith) w)
 freed_joined (t ∷ ts) (suc at) (suc page) (suc end) (suc k) (suc left) len low n high whole out h lows low_is low_free p some long is e free f w =
-    let X : List Tag → Type 0 = λ us. IsTiled (suc left) len out (with_before (set (set us (suc page) inside) (suc at) (free_tag whole (tag_at ts at).before)) (suc k) whole) in
+    let X : List Tag → Type 0 =
+    λ us. IsTiled (suc left) len out (with_before (set (set us (suc page) inside) (suc at) (free_tag whole (tag_at ts at).before)) (suc k) whole) in
     subst X (sym (without-cons t ts end high)) (h.0, freed_joined ts at page end k left len low n high whole out h.1 lows low_is low_free (omega arith) some long is (omega arith) free (omega arith) w)
 freed_joined ts at page end k left len low n high whole out h lows low_is low_free p some long is e free f w = absurd (omega arith)

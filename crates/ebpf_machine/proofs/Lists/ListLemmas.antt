@@ -24,7 +24,8 @@ get_set_other (y ∷ xs) (suc i) zero now ne = refl
 get_set_other (y ∷ xs) (suc i) (suc k) now ne = get_set_other xs i k now (λ e. ne (ap suc e))
 
 -- after a write an element is the one written, at its place, or another one
-pub get_set_cases : {X : Type 0} (xs : List X) (i k : ℕ) (old now x : X) → slice_get xs i ≡ Some old → slice_get (slice_set xs i now) k ≡ Some x → ((k ≡ i) × (now ≡ x)) ⊎ ((k ≢ i) × (slice_get xs k ≡ Some x))
+pub get_set_cases : {X : Type 0} (xs : List X) (i k : ℕ) (old now x : X) → slice_get xs i ≡ Some old
+    → slice_get (slice_set xs i now) k ≡ Some x → ((k ≡ i) × (now ≡ x)) ⊎ ((k ≢ i) × (slice_get xs k ≡ Some x))
 get_set_cases {X} xs i k old now x there at = by (cases_eq k i) where
   by : (k ≡ i) ⊎ (k ≢ i) → ((k ≡ i) × (now ≡ x)) ⊎ ((k ≢ i) × (slice_get xs k ≡ Some x))
   by (inl e) =
@@ -85,7 +86,8 @@ filter_same p q (x ∷ xs) h =
 pub filter-map : {X Y : Type 0} (p : Y → Bool) (f : X → Y) (xs : List X) → filter p (map f xs) ≡ map f (filter (λ x. p (f x)) xs)
 filter-map p f [] = refl
 filter-map p f (x ∷ xs) = by (p (f x)) (filter-map p f xs) where
-  by : (t : Bool) → filter p (map f xs) ≡ map f (filter (λ y. p (f y)) xs) → cond t (f x ∷ filter p (map f xs)) (filter p (map f xs)) ≡ map f (cond t (x ∷ filter (λ y. p (f y)) xs) (filter (λ y. p (f y)) xs))
+  by : (t : Bool) → filter p (map f xs) ≡ map f (filter (λ y. p (f y)) xs)
+      → cond t (f x ∷ filter p (map f xs)) (filter p (map f xs)) ≡ map f (cond t (x ∷ filter (λ y. p (f y)) xs) (filter (λ y. p (f y)) xs))
   by true h = ap (λ ys. f x ∷ ys) h
   by false h = h
 
@@ -93,7 +95,8 @@ filter-map p f (x ∷ xs) = by (p (f x)) (filter-map p f xs) where
 pub filter-filter : {X : Type 0} (p q : X → Bool) (xs : List X) → filter p (filter q xs) ≡ filter (λ x. q x && p x) xs
 filter-filter p q [] = refl
 filter-filter {X} p q (x ∷ xs) = by (q x) (filter-filter p q xs) where
-  by : (t : Bool) → filter p (filter q xs) ≡ filter (λ y. q y && p y) xs → filter p (cond t (x ∷ filter q xs) (filter q xs)) ≡ cond (t && p x) (x ∷ filter (λ y. q y && p y) xs) (filter (λ y. q y && p y) xs)
+  by : (t : Bool) → filter p (filter q xs) ≡ filter (λ y. q y && p y) xs
+      → filter p (cond t (x ∷ filter q xs) (filter q xs)) ≡ cond (t && p x) (x ∷ filter (λ y. q y && p y) xs) (filter (λ y. q y && p y) xs)
   by true h = ap (λ ys. cond (p x) (x ∷ ys) ys) h
   by false h = h
 
@@ -121,7 +124,8 @@ fewer_dropped {X} p q (y ∷ xs) x (zero, lt, e) counts drops =
     subst (λ (t : Bool). count_by p (cond t (y ∷ filter q xs) (filter q xs)) < count_by p (y ∷ xs)) (sym away) (omega (arith, one, few))
 fewer_dropped {X} p q (y ∷ xs) x (suc k, lt, e) counts drops = by (q y) (fewer_dropped p q xs x (k, omega (arith, lt), e) counts drops) where
   by : (t : Bool) → count_by p (filter q xs) < count_by p xs → count_by p (cond t (y ∷ filter q xs) (filter q xs)) < count_by p (y ∷ xs)
-  by true rest = let here = sum_by-cons (λ z. cond (p z) 1 0) y (filter q xs) in let before = sum_by-cons (λ z. cond (p z) 1 0) y xs in omega (arith, rest, here, before)
+  by true rest =
+      let here = sum_by-cons (λ z. cond (p z) 1 0) y (filter q xs) in let before = sum_by-cons (λ z. cond (p z) 1 0) y xs in omega (arith, rest, here, before)
   by false rest = omega (arith, rest, counted_less p y xs)
 
 counted : {X : Type 0} (p : X → Bool) (xs : List X) (k : ℕ) (x : X) → k < length xs → get_or xs k x ≡ x → p x ≡ true → 1 ≤ count_by p xs
@@ -136,18 +140,21 @@ counted_at p (x ∷ xs) zero d fails passes = omega (arith, counted_once p x xs 
 counted_at p (x ∷ xs) (suc k) d fails passes = omega (arith, counted_less p x xs, counted_at p xs k d fails passes)
 
 -- where at most one element passes, two that pass are one
-pub only_one : {X : Type 0} (p : X → Bool) (xs : List X) (i j : ℕ) (x y : X) → i < length xs → j < length xs → get_or xs i x ≡ x → get_or xs j y ≡ y → p x ≡ true → p y ≡ true → count_by p xs ≤ 1 → x ≡ y
+pub only_one : {X : Type 0} (p : X → Bool) (xs : List X) (i j : ℕ) (x y : X) → i < length xs → j < length xs → get_or xs i x ≡ x
+    → get_or xs j y ≡ y → p x ≡ true → p y ≡ true → count_by p xs ≤ 1 → x ≡ y
 only_one p [] i j x y li lj ei ej px py most = absurd (omega arith)
 only_one p (z ∷ xs) zero zero x y li lj ei ej px py most = sym ei ∙ ej
 only_one p (z ∷ xs) zero (suc j) x y li lj ei ej px py most = absurd (omega (arith, counted_once p z xs (ap p ei ∙ px), counted p xs j y (omega arith) ej py))
 only_one p (z ∷ xs) (suc i) zero x y li lj ei ej px py most = absurd (omega (arith, counted_once p z xs (ap p ej ∙ py), counted p xs i x (omega arith) ei px))
-only_one p (z ∷ xs) (suc i) (suc j) x y li lj ei ej px py most = only_one p xs i j x y (omega arith) (omega arith) ei ej px py (omega (arith, counted_less p z xs))
+only_one p (z ∷ xs) (suc i) (suc j) x y li lj ei ej px py most =
+    only_one p xs i j x y (omega arith) (omega arith) ei ej px py (omega (arith, counted_less p z xs))
 
 -- a filter that keeps all that passes a test
 pub list_any-filter : {X : Type 0} (p q : X → Bool) (xs : List X) → ((x : X) → p x ≡ true → q x ≡ true) → list_any p (filter q xs) ≡ list_any p xs
 list_any-filter p q [] h = refl
 list_any-filter {X} p q (x ∷ xs) h = by (p x) (q x) refl (h x) (list_any-filter p q xs h) where
-  by : (s t : Bool) → p x ≡ s → (s ≡ true → t ≡ true) → list_any p (filter q xs) ≡ list_any p xs → list_any p (cond t (x ∷ filter q xs) (filter q xs)) ≡ (s || list_any p xs)
+  by : (s t : Bool) → p x ≡ s → (s ≡ true → t ≡ true) → list_any p (filter q xs) ≡ list_any p xs
+      → list_any p (cond t (x ∷ filter q xs) (filter q xs)) ≡ (s || list_any p xs)
   by s true e passes rest = ap (λ (b : Bool). b || list_any p (filter q xs)) e ∙ ap (λ (b : Bool). s || b) rest
   by true false e passes rest = let no = passes refl in absurd (cc)
   by false false e passes rest = rest
@@ -178,7 +185,8 @@ any_from p xs x (k, lt, e) passes = list_any_at p xs k x lt (ap p e ∙ passes)
 pub any_one : {X : Type 0} (p : X → Bool) (xs : List X) → list_any p xs ≡ true → (x : X) × Contains xs x × (p x ≡ true)
 any_one p [] any = absurd (cc)
 any_one {X} p (x ∷ xs) any = by (p x) refl any (λ h. any_one p xs h) where
-  by : (t : Bool) → p x ≡ t → (t || list_any p xs) ≡ true → (list_any p xs ≡ true → (y : X) × Contains xs y × (p y ≡ true)) → (y : X) × Contains (x ∷ xs) y × (p y ≡ true)
+  by : (t : Bool) → p x ≡ t → (t || list_any p xs) ≡ true → (list_any p xs ≡ true → (y : X) × Contains xs y × (p y ≡ true))
+      → (y : X) × Contains (x ∷ xs) y × (p y ≡ true)
   by true e h later = (x, Contains-head x xs, e)
   by false e h later = let rest = later h in (rest.0, Contains-tail x rest.0 xs rest.1, rest.2)
 
@@ -207,6 +215,7 @@ find_is {X} p (x ∷ xs) = by (p x) (find p xs) refl (find_is p xs) where
 pub find-map : {X Y : Type 0} (p : Y → Bool) (f : X → Y) (xs : List X) → find p (map f xs) ≡ option_map f (find (λ x. p (f x)) xs)
 find-map p f [] = refl
 find-map {X} {Y} p f (x ∷ xs) = by (p (f x)) (find-map p f xs) where
-  by : (t : Bool) → find p (map f xs) ≡ option_map f (find (λ y. p (f y)) xs) → cond t (Some (f x)) (find p (map f xs)) ≡ option_map f (cond t (Some x) (find (λ y. p (f y)) xs))
+  by : (t : Bool) → find p (map f xs) ≡ option_map f (find (λ y. p (f y)) xs)
+      → cond t (Some (f x)) (find p (map f xs)) ≡ option_map f (cond t (Some x) (find (λ y. p (f y)) xs))
   by true rest = refl
   by false rest = rest

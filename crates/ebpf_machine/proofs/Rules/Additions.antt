@@ -29,7 +29,8 @@ use Rattle.ebpf_verify.proofs.Bounded.{IsBoundedValue}
 use Rattle.ebpf_machine.proofs.Rules.Operations.{none_first, neither, set_value, IsFitting, shifted, moved_fits, constant_reading}
 
 -- an operation on two numbers
-pub numbers_fit : (calls : List ℕ) (o : AluOp) (width : Width) (a b : Range) (m n : ℕ) → IsBounded a → IsBounded b → IsWithin m a → IsWithin n b → IsFitting calls (Num (result_range o width a b)) (computed width o (Number m) (Number n))
+pub numbers_fit : (calls : List ℕ) (o : AluOp) (width : Width) (a b : Range) (m n : ℕ) → IsBounded a → IsBounded b → IsWithin m a
+    → IsWithin n b → IsFitting calls (Num (result_range o width a b)) (computed width o (Number m) (Number n))
 numbers_fit calls o width a b m n bound_a bound_b h k = record {
   v = Number (result_at o width m n);
   is = refl;
@@ -71,14 +72,17 @@ pub record IsBetween (p : Abs) (z : ℤ) (ends : ℤ × ℤ) : Type 0 where
   pub high : z ≤ℤ ends.1
   pub exact : (k : ℤ) → p ≡ Stk k → z ≡ ends.0
 
-moved_by_number : (calls : List ℕ) (p : Abs) (v : Value ℕ) (z : ℤ) (ends : Option (ℤ × ℤ)) → is_pointer p ≡ true → IsOf calls p (Some v) → is_none (moved_by p ends) ≡ false → ((e : ℤ × ℤ) → ends ≡ Some e → IsBetween p z e) → IsFitting calls (unwrap_or (moved_by p ends) Unset) (shifted v z)
+moved_by_number : (calls : List ℕ) (p : Abs) (v : Value ℕ) (z : ℤ) (ends : Option (ℤ × ℤ)) → is_pointer p ≡ true
+    → IsOf calls p (Some v) → is_none (moved_by p ends) ≡ false → ((e : ℤ × ℤ) → ends ≡ Some e → IsBetween p z e)
+    → IsFitting calls (unwrap_or (moved_by p ends) Unset) (shifted v z)
 moved_by_number calls p v z None is_p h there between = let some = some_of (moved_by p None) there in absurd (no_ends p some.0 some.1)
 moved_by_number calls p v z (Some e) is_p h there between =
     let some = some_of (moved_by p (Some e)) there in
     let at = between e refl in
     rw some.1 (moved_fits calls p some.0 v z e is_p h at.low at.high at.exact some.1)
 
-by_sum : (p : Abs) (b : Range) (n : ℕ) → makes_stack_offset_vary p (Num b) ≡ false → IsWithin n b → (e : ℤ × ℤ) → signed_ends b ≡ Some e → IsBetween p (signed_of n) e
+by_sum : (p : Abs) (b : Range) (n : ℕ) → makes_stack_offset_vary p (Num b) ≡ false → IsWithin n b → (e : ℤ × ℤ)
+    → signed_ends b ≡ Some e → IsBetween p (signed_of n) e
 by_sum p b n clear w e is =
     let reading = signed_between b n e w is in
     record { low = reading.0; high = reading.1; exact = λ k same. (constant_reading b n e (subst (λ (q : Abs). makes_stack_offset_vary q (Num b) ≡ false) same clear) w is).0 }
@@ -91,7 +95,8 @@ opposite_of (Some f) e h = (f, refl, sym (ap (λ (o : Option (ℤ × ℤ)). (unw
 negated_between : (low z high : ℤ) → low ≤ℤ z → z ≤ℤ high → ((pos 0 -ℤ high) ≤ℤ (pos 0 -ℤ z)) × ((pos 0 -ℤ z) ≤ℤ (pos 0 -ℤ low))
 negated_between low z high l h = (omega (arith, ints, l, h), omega (arith, ints, l, h))
 
-by_difference : (p : Abs) (b : Range) (n : ℕ) → makes_stack_offset_vary p (Num b) ≡ false → IsWithin n b → (e : ℤ × ℤ) → opposite_ends (signed_ends b) ≡ Some e → IsBetween p (pos 0 -ℤ signed_of n) e
+by_difference : (p : Abs) (b : Range) (n : ℕ) → makes_stack_offset_vary p (Num b) ≡ false → IsWithin n b → (e : ℤ × ℤ)
+    → opposite_ends (signed_ends b) ≡ Some e → IsBetween p (pos 0 -ℤ signed_of n) e
 by_difference p b n clear w e is =
     let from = opposite_of (signed_ends b) e is in
     let reading = signed_between b n from.0 w from.1 in
@@ -107,7 +112,8 @@ minus : (k s : ℤ) → k -ℤ s ≡ k +ℤ (pos 0 -ℤ s)
 minus k s = omega (arith, ints)
 
 -- what moves a pointer is its signed reading, added or taken
-shifts : (base : Base ℕ) (k : ℤ) (n : ℕ) → (computed W64 op.Add (Pointer base k) (Number n) ≡ shifted (Pointer base k) (signed_of n)) × (computed W64 op.Add (Number n) (Pointer base k) ≡ shifted (Pointer base k) (signed_of n)) × (computed W64 op.Sub (Pointer base k) (Number n) ≡ shifted (Pointer base k) (pos 0 -ℤ signed_of n))
+shifts : (base : Base ℕ) (k : ℤ) (n : ℕ)
+    → (computed W64 op.Add (Pointer base k) (Number n) ≡ shifted (Pointer base k) (signed_of n)) × (computed W64 op.Add (Number n) (Pointer base k) ≡ shifted (Pointer base k) (signed_of n)) × (computed W64 op.Sub (Pointer base k) (Number n) ≡ shifted (Pointer base k) (pos 0 -ℤ signed_of n))
 shifts base k n = (refl, refl, ap (λ (z : ℤ). Ok (Pointer base z)) (minus k (signed_of n)))
 
 -- ---- sums
@@ -116,7 +122,8 @@ shifts base k n = (refl, refl, ap (λ (z : ℤ). Ok (Pointer base z)) (minus k (
 abbrev IsSummed : List ℕ → Abs → Abs → Option (Value ℕ) → Option (Value ℕ) → Type 0
 IsSummed calls left right x y = IsFitting calls (unwrap_or (sum_value left right) Unset) (binary W64 op.Add x y)
 
-known_with_number : (p : Abs) (b : Range) → is_pointer p ≡ true → (sum_value p (Num b) ≡ moved_by p (signed_ends b)) × (sum_value (Num b) p ≡ moved_by p (signed_ends b)) × (difference_value p (Num b) ≡ moved_by p (opposite_ends (signed_ends b)))
+known_with_number : (p : Abs) (b : Range) → is_pointer p ≡ true
+    → (sum_value p (Num b) ≡ moved_by p (signed_ends b)) × (sum_value (Num b) p ≡ moved_by p (signed_ends b)) × (difference_value p (Num b) ≡ moved_by p (opposite_ends (signed_ends b)))
 known_with_number Unset b e = absurd (cc)
 known_with_number (Num a) b e = absurd (cc)
 known_with_number (May c) b e = absurd (cc)
@@ -124,7 +131,9 @@ known_with_number (Stk k) b e = (refl, refl, refl)
 known_with_number (Ctx a c) b e = (refl, refl, refl)
 known_with_number (Ob c a d) b e = (refl, refl, refl)
 
-on_left : (calls : List ℕ) (p : Abs) (b : Range) (v w : Value ℕ) → is_pointer p ≡ true → makes_stack_offset_vary p (Num b) ≡ false → is_none (sum_value p (Num b)) ≡ false → IsOf calls p (Some v) → IsOf calls (Num b) (Some w) → IsSummed calls p (Num b) (Some v) (Some w)
+on_left : (calls : List ℕ) (p : Abs) (b : Range) (v w : Value ℕ) → is_pointer p ≡ true → makes_stack_offset_vary p (Num b) ≡ false
+    → is_none (sum_value p (Num b)) ≡ false → IsOf calls p (Some v) → IsOf calls (Num b) (Some w)
+    → IsSummed calls p (Num b) (Some v) (Some w)
 on_left calls p b v w is_p clear there h k =
     let n = a_number calls b w k in
     let at = a_pointer calls p v is_p h in
@@ -132,7 +141,9 @@ on_left calls p b v w is_p clear there h k =
     let sum = ap (λ (u : Value ℕ). computed W64 op.Add u (Number n.0)) at.2 ∙ ((shifts at.0 at.1 n.0).0 ∙ ap (λ (u : Value ℕ). shifted u (signed_of n.0)) (sym at.2)) in
     rw (n.1, known, sum) (moved_by_number calls p v (signed_of n.0) (signed_ends b) is_p h (subst (λ (o : Option Abs). is_none o ≡ false) known there) (by_sum p b n.0 clear n.2))
 
-on_right : (calls : List ℕ) (p : Abs) (b : Range) (v w : Value ℕ) → is_pointer p ≡ true → makes_stack_offset_vary p (Num b) ≡ false → is_none (sum_value (Num b) p) ≡ false → IsOf calls p (Some v) → IsOf calls (Num b) (Some w) → IsSummed calls (Num b) p (Some w) (Some v)
+on_right : (calls : List ℕ) (p : Abs) (b : Range) (v w : Value ℕ) → is_pointer p ≡ true → makes_stack_offset_vary p (Num b) ≡ false
+    → is_none (sum_value (Num b) p) ≡ false → IsOf calls p (Some v) → IsOf calls (Num b) (Some w)
+    → IsSummed calls (Num b) p (Some w) (Some v)
 on_right calls p b v w is_p clear there h k =
     let n = a_number calls b w k in
     let at = a_pointer calls p v is_p h in
@@ -140,14 +151,19 @@ on_right calls p b v w is_p clear there h k =
     let sum = ap (λ (u : Value ℕ). computed W64 op.Add (Number n.0) u) at.2 ∙ ((shifts at.0 at.1 n.0).1 ∙ ap (λ (u : Value ℕ). shifted u (signed_of n.0)) (sym at.2)) in
     rw (n.1, known, sum) (moved_by_number calls p v (signed_of n.0) (signed_ends b) is_p h (subst (λ (o : Option Abs). is_none o ≡ false) known there) (by_sum p b n.0 clear n.2))
 
-both_numbers : (calls : List ℕ) (o : AluOp) (a b : Range) (v w : Value ℕ) → IsBounded a → IsBounded b → IsOf calls (Num a) (Some v) → IsOf calls (Num b) (Some w) → IsFitting calls (Num (result_range o W64 a b)) (computed W64 o v w)
+both_numbers : (calls : List ℕ) (o : AluOp) (a b : Range) (v w : Value ℕ) → IsBounded a → IsBounded b → IsOf calls (Num a) (Some v)
+    → IsOf calls (Num b) (Some w) → IsFitting calls (Num (result_range o W64 a b)) (computed W64 o v w)
 both_numbers calls o a b v w bound_a bound_b h k =
     let m = a_number calls a v h in
     let n = a_number calls b w k in
     rw (m.1, n.1) (numbers_fit calls o W64 a b m.0 n.0 bound_a bound_b m.2 n.2)
 
 -- the cases of what is known of the two values
-summed : (calls : List ℕ) (slot : ℕ) (left right : Abs) (v w : Value ℕ) → IsBoundedValue slot left → IsBoundedValue slot right → (is_unset left || is_unset right) ≡ false → (is_may left || is_may right) ≡ false → (is_pointer left && is_pointer right) ≡ false → (makes_stack_offset_vary left right || makes_stack_offset_vary right left) ≡ false → is_none (sum_value left right) ≡ false → IsOf calls left (Some v) → IsOf calls right (Some w) → IsSummed calls left right (Some v) (Some w)
+summed : (calls : List ℕ) (slot : ℕ) (left right : Abs) (v w : Value ℕ) → IsBoundedValue slot left → IsBoundedValue slot right
+    → (is_unset left || is_unset right) ≡ false → (is_may left || is_may right) ≡ false
+    → (is_pointer left && is_pointer right) ≡ false
+    → (makes_stack_offset_vary left right || makes_stack_offset_vary right left) ≡ false → is_none (sum_value left right) ≡ false
+    → IsOf calls left (Some v) → IsOf calls right (Some w) → IsSummed calls left right (Some v) (Some w)
 summed calls slot (Num a) (Num b) v w x y u m p c t h k = both_numbers calls op.Add a b v w x y h k
 summed calls slot (Num a) (Stk j) v w x y u m p c t h k = on_right calls (Stk j) a w v refl (neither false (makes_stack_offset_vary (Stk j) (Num a)) c).1 t k h
 summed calls slot (Num a) (Ctx j l) v w x y u m p c t h k = on_right calls (Ctx j l) a w v refl refl t k h
@@ -158,7 +174,9 @@ summed calls slot (Ob r j l) (Num b) v w x y u m p c t h k = on_left calls (Ob r
 summed calls slot _ _ v w x y u m p c t h k = absurd (cc)
 
 -- a sum at 64 bits that is not refused
-pub sum_sound : (calls : List ℕ) (slot : ℕ) (left right : Abs) (x y : Option (Value ℕ)) (dst : Reg) → add64_refusal left right dst ≡ None → IsBoundedValue slot left → IsBoundedValue slot right → IsOf calls left x → IsOf calls right y → (is_frame_pointer dst ≡ false) × IsSummed calls left right x y
+pub sum_sound : (calls : List ℕ) (slot : ℕ) (left right : Abs) (x y : Option (Value ℕ)) (dst : Reg)
+    → add64_refusal left right dst ≡ None → IsBoundedValue slot left → IsBoundedValue slot right → IsOf calls left x
+    → IsOf calls right y → (is_frame_pointer dst ≡ false) × IsSummed calls left right x y
 sum_sound calls slot left right x y dst fine bound_left bound_right h k =
     let a = none_first (is_unset left || is_unset right) _ _ fine in
     let b = none_first (is_frame_pointer dst) _ _ a.1 in
@@ -176,7 +194,9 @@ sum_sound calls slot left right x y dst fine bound_left bound_right h k =
 abbrev IsDifference : List ℕ → Abs → Abs → Option (Value ℕ) → Option (Value ℕ) → Type 0
 IsDifference calls left right x y = IsFitting calls (unwrap_or (difference_value left right) Unset) (binary W64 op.Sub x y)
 
-moved_back : (calls : List ℕ) (p : Abs) (b : Range) (v w : Value ℕ) → is_pointer p ≡ true → makes_stack_offset_vary p (Num b) ≡ false → is_none (difference_value p (Num b)) ≡ false → IsOf calls p (Some v) → IsOf calls (Num b) (Some w) → IsDifference calls p (Num b) (Some v) (Some w)
+moved_back : (calls : List ℕ) (p : Abs) (b : Range) (v w : Value ℕ) → is_pointer p ≡ true
+    → makes_stack_offset_vary p (Num b) ≡ false → is_none (difference_value p (Num b)) ≡ false → IsOf calls p (Some v)
+    → IsOf calls (Num b) (Some w) → IsDifference calls p (Num b) (Some v) (Some w)
 moved_back calls p b v w is_p clear there h k =
     let n = a_number calls b w k in
     let at = a_pointer calls p v is_p h in
@@ -184,7 +204,10 @@ moved_back calls p b v w is_p clear there h k =
     let difference = ap (λ (u : Value ℕ). computed W64 op.Sub u (Number n.0)) at.2 ∙ ((shifts at.0 at.1 n.0).2 ∙ ap (λ (u : Value ℕ). shifted u (pos 0 -ℤ signed_of n.0)) (sym at.2)) in
     rw (n.1, known, difference) (moved_by_number calls p v (pos 0 -ℤ signed_of n.0) (opposite_ends (signed_ends b)) is_p h (subst (λ (o : Option Abs). is_none o ≡ false) known there) (by_difference p b n.0 clear n.2))
 
-taken_from : (calls : List ℕ) (slot : ℕ) (left right : Abs) (v w : Value ℕ) → IsBoundedValue slot left → IsBoundedValue slot right → (is_unset left || is_unset right) ≡ false → (is_may left || is_may right) ≡ false → is_pointer right ≡ false → makes_stack_offset_vary left right ≡ false → is_none (difference_value left right) ≡ false → IsOf calls left (Some v) → IsOf calls right (Some w) → IsDifference calls left right (Some v) (Some w)
+taken_from : (calls : List ℕ) (slot : ℕ) (left right : Abs) (v w : Value ℕ) → IsBoundedValue slot left → IsBoundedValue slot right
+    → (is_unset left || is_unset right) ≡ false → (is_may left || is_may right) ≡ false → is_pointer right ≡ false
+    → makes_stack_offset_vary left right ≡ false → is_none (difference_value left right) ≡ false → IsOf calls left (Some v)
+    → IsOf calls right (Some w) → IsDifference calls left right (Some v) (Some w)
 taken_from calls slot (Num a) (Num b) v w x y u m p c t h k = both_numbers calls op.Sub a b v w x y h k
 taken_from calls slot (Stk j) (Num b) v w x y u m p c t h k = moved_back calls (Stk j) b v w refl c t h k
 taken_from calls slot (Ctx j l) (Num b) v w x y u m p c t h k = moved_back calls (Ctx j l) b v w refl refl t h k
@@ -192,7 +215,9 @@ taken_from calls slot (Ob r j l) (Num b) v w x y u m p c t h k = moved_back call
 taken_from calls slot _ _ v w x y u m p c t h k = absurd (cc)
 
 -- a difference at 64 bits that is not refused
-pub difference_sound : (calls : List ℕ) (slot : ℕ) (left right : Abs) (x y : Option (Value ℕ)) (dst : Reg) → sub64_refusal left right dst ≡ None → IsBoundedValue slot left → IsBoundedValue slot right → IsOf calls left x → IsOf calls right y → (is_frame_pointer dst ≡ false) × IsDifference calls left right x y
+pub difference_sound : (calls : List ℕ) (slot : ℕ) (left right : Abs) (x y : Option (Value ℕ)) (dst : Reg)
+    → sub64_refusal left right dst ≡ None → IsBoundedValue slot left → IsBoundedValue slot right → IsOf calls left x
+    → IsOf calls right y → (is_frame_pointer dst ≡ false) × IsDifference calls left right x y
 difference_sound calls slot left right x y dst fine bound_left bound_right h k =
     let a = none_first (is_unset left || is_unset right) _ _ fine in
     let b = none_first (is_frame_pointer dst) _ _ a.1 in

@@ -38,9 +38,11 @@ alike_length : (objects others : List ObjectView) → AreAlike objects others �
 alike_length objects others same = sym (length-map objects named) ∙ ap (λ (ns : List (ℕ × ℕ)). length ns) same ∙ length-map others named
 
 -- each of them has one of its call and kind beside it
-alike_object : (objects others : List ObjectView) (o : ObjectView) → AreAlike objects others → Contains others o → (p : ObjectView) × Contains objects p × (p.call ≡ o.call) × (p.kind ≡ o.kind)
+alike_object : (objects others : List ObjectView) (o : ObjectView) → AreAlike objects others → Contains others o
+    → (p : ObjectView) × Contains objects p × (p.call ≡ o.call) × (p.kind ≡ o.kind)
 alike_object objects others o same among =
-    let it = Contains-unmapped named objects (named o) (subst (λ (ns : List (ℕ × ℕ)). Contains ns (named o)) (sym same) (Contains-mapped named others o among)) in
+    let it =
+    Contains-unmapped named objects (named o) (subst (λ (ns : List (ℕ × ℕ)). Contains ns (named o)) (sym same) (Contains-mapped named others o among)) in
     (it.0, it.1, ap (λ (n : ℕ × ℕ). n.0) it.2, ap (λ (n : ℕ × ℕ). n.1) it.2)
 
 of_alike : (s : StateView) (frame : Frame ℕ) (objects others : List ObjectView) → AreAlike objects others → AreOf s frame objects → AreOf s frame others
@@ -52,7 +54,8 @@ of_alike s frame objects others same h =
       held = λ o there. let it = alike_object objects others o same there in ap (λ (c : ℕ). kind_held c s) (sym it.2) ∙ (h.held it.0 it.1 ∙ ap Some it.3);
     }
 
-pub arrives_alike : (a : EntryState) (frame : Frame ℕ) (objects others : List ObjectView) → AreAlike objects others → Arrives a frame objects → Arrives a frame others
+pub arrives_alike : (a : EntryState) (frame : Frame ℕ) (objects others : List ObjectView) → AreAlike objects others
+    → Arrives a frame objects → Arrives a frame others
 arrives_alike Unreached frame objects others same h = h
 arrives_alike (Known s) frame objects others same h = of_alike s frame objects others same h
 arrives_alike Conflict frame objects others same h = h

@@ -56,11 +56,14 @@ record IsCall (v : RunView) (number : ℤ) (s : StateView) (helper : Helper) : T
   sends : after_fall v.pc (insn.Call number) s ≡ after_call v.pc (Some helper) s
 
 -- what an argument is known to be, and is
-argument_holds : (v : RunView) (number : ℤ) (s : StateView) (helper : Helper) (r : Reg) → IsCall v number s helper → IsOf (calls_of v.objects) (register_of s r) (read v.frame r)
+argument_holds : (v : RunView) (number : ℤ) (s : StateView) (helper : Helper) (r : Reg) → IsCall v number s helper
+    → IsOf (calls_of v.objects) (register_of s r) (read v.frame r)
 argument_holds v number s helper r h = register_holds v (insn.Call number) s r h.here
 
 -- what a call sends comes to the slot after it
-call_arrives : (v : RunView) (number : ℤ) (s after : StateView) (helper : Helper) (frame : Frame ℕ) (objects : List ObjectView) → IsCall v number s helper → after_call v.pc (Some helper) s ≡ Some after → AreOf after frame objects → Arrives (entry_of v.subject.program (v.pc + 1)) frame objects
+call_arrives : (v : RunView) (number : ℤ) (s after : StateView) (helper : Helper) (frame : Frame ℕ) (objects : List ObjectView)
+    → IsCall v number s helper → after_call v.pc (Some helper) s ≡ Some after → AreOf after frame objects
+    → Arrives (entry_of v.subject.program (v.pc + 1)) frame objects
 call_arrives v number s after helper frame objects h sends state =
     let here = h.here in
     fall_arrives v.subject.program v.pc (v.pc + 1) (insn.Call number) s after frame objects (defined_in v here.sound) here.at here.entered here.full (h.sends ∙ sends) refl (omega arith) state
@@ -79,7 +82,8 @@ record IsAsked (kinds : ℕ) (known : Abs) (x : Option (Value ℕ)) : Type 0 whe
   low : range.lo ≡ kind
   few : kind < kinds
 
-asked_kind : (held : List ℕ) (kinds : ℕ) (known : Abs) (x : Option (Value ℕ)) → is_unset known ≡ false → not (names_kind kinds known) ≡ false → IsOf held known x → IsAsked kinds known x
+asked_kind : (held : List ℕ) (kinds : ℕ) (known : Abs) (x : Option (Value ℕ)) → is_unset known ≡ false
+    → not (names_kind kinds known) ≡ false → IsOf held known x → IsAsked kinds known x
 asked_kind held kinds (Num a) (Some (Number n)) set names h =
     let parts = and_parts (a.lo == a.hi) (nat_lt a.lo kinds) (not-false (names_kind kinds (Num a)) names) in
     let one : a.lo ≡ n = only a.lo a.hi n (eqb-true a.lo a.hi parts.0) h.0.0 h.0.1 in
@@ -121,7 +125,8 @@ record IsAsking (v : RunView) (number : ℤ) (s : StateView) (helper : Helper) (
   room : length left < v.subject.decl.held
 
 -- the run is told that it gets none
-none_there : (v : RunView) (number : ℤ) (s : StateView) (helper : Helper) (t : StateView) (left : List ObjectView) (kind : ℕ) → IsAsking v number s helper t left kind → IsThere v (v.pc + 1) (with_zero v.frame) left
+none_there : (v : RunView) (number : ℤ) (s : StateView) (helper : Helper) (t : StateView) (left : List ObjectView) (kind : ℕ)
+    → IsAsking v number s helper t left kind → IsThere v (v.pc + 1) (with_zero v.frame) left
 none_there v number s helper t left kind h =
     let frame = frame_of v h.call.here.sound in
     let l = h.left_is in
@@ -136,7 +141,9 @@ none_there v number s helper t left kind h =
     }
 
 -- the run is told that it gets an object
-object_there : (v : RunView) (number : ℤ) (s : StateView) (helper : Helper) (t : StateView) (left : List ObjectView) (new : ObjectView) → new.call ≡ v.pc → IsAsking v number s helper t left new.kind → IsThere v (v.pc + 1) (with_value (without_arguments v.frame) R0 (Pointer (Object v.pc) (pos 0))) (left ++ new ∷ [])
+object_there : (v : RunView) (number : ℤ) (s : StateView) (helper : Helper) (t : StateView) (left : List ObjectView) (new : ObjectView)
+    → new.call ≡ v.pc → IsAsking v number s helper t left new.kind
+    → IsThere v (v.pc + 1) (with_value (without_arguments v.frame) R0 (Pointer (Object v.pc) (pos 0))) (left ++ new ∷ [])
 object_there v number s helper t left new is h =
     let frame = frame_of v h.call.here.sound in
     let l = h.left_is in
@@ -144,7 +151,8 @@ object_there v number s helper t left new is h =
     let result = Pointer (Object v.pc) (pos 0) in
     let room = h.room in
     let long = length_push left new in
-    let names : calls_of objects ≡ calls_of left ++ v.pc ∷ [] = map-append (λ (o : ObjectView). o.call) left (new ∷ []) ∙ ap (λ (n : ℕ). calls_of left ++ n ∷ []) is in
+    let names : calls_of objects ≡ calls_of left ++ v.pc ∷ [] =
+    map-append (λ (o : ObjectView). o.call) left (new ∷ []) ∙ ap (λ (n : ℕ). calls_of left ++ n ∷ []) is in
     let among : Contains (calls_of objects) v.pc = subst (λ (ns : List ℕ). Contains ns v.pc) (sym names) (Contains-push (calls_of left) v.pc) in
     let state = AreOf-result (holding v.pc new.kind t) v.frame objects (May v.pc) result l.full.whole frame.whole (granted_state v.pc t v.frame left new is l.full l.behind l.state) (refl, refl, among) in
     record {
@@ -166,10 +174,12 @@ has_room objects held declared few none = grind (arith, nat_tests)
 
 -- ---- new
 
-asks : (v : RunView) (to kind : ℕ) (x : Option (Value ℕ)) → x ≡ Some (Number kind) → kind < length v.subject.rows → effect_of_new to (environment_of_view v) v.frame x ≡ Goes (Ask kind) to (without_arguments v.frame)
+asks : (v : RunView) (to kind : ℕ) (x : Option (Value ℕ)) → x ≡ Some (Number kind) → kind < length v.subject.rows
+    → effect_of_new to (environment_of_view v) v.frame x ≡ Goes (Ask kind) to (without_arguments v.frame)
 asks v to kind x is few = rw (is, lt-ltb kind (length v.subject.rows) few) refl
 
-new_told : (v : RunView) (number : ℤ) (s : StateView) (kind : ℕ) → IsAsking v number s helper.New s v.objects kind → (result : CallResult) → IsSound (acted (Ask kind) result (v.pc + 1) (without_arguments v.frame) v)
+new_told : (v : RunView) (number : ℤ) (s : StateView) (kind : ℕ) → IsAsking v number s helper.New s v.objects kind
+    → (result : CallResult) → IsSound (acted (Ask kind) result (v.pc + 1) (without_arguments v.frame) v)
 new_told v number s kind h = by where
   null : IsSound (acted (Ask kind) Null (v.pc + 1) (without_arguments v.frame) v)
   null = there_sound v (insn.Call number) s (v.pc + 1) (with_zero v.frame) v.objects (v.replies ++ reply.Null ∷ []) v.taken h.call.here (inl refl) (none_there v number s helper.New s v.objects kind h)
@@ -215,7 +225,8 @@ record IsGiven (held : List ℕ) (known : Abs) (x : Option (Value ℕ)) : Type 0
   among : Contains held call
 
 -- a pointer to an object at its first byte
-at_first_byte : (held : List ℕ) (call : ℕ) (low high : ℤ) (x : Option (Value ℕ)) → int_eq low (pos 0) ≡ true → int_eq high (pos 0) ≡ true → IsOf held (Ob call low high) x → (x ≡ Some (Pointer (Object call) (pos 0))) × Contains held call
+at_first_byte : (held : List ℕ) (call : ℕ) (low high : ℤ) (x : Option (Value ℕ)) → int_eq low (pos 0) ≡ true
+    → int_eq high (pos 0) ≡ true → IsOf held (Ob call low high) x → (x ≡ Some (Pointer (Object call) (pos 0))) × Contains held call
 at_first_byte held call low high (Some (Pointer (Object at) w)) from to h = (ap (λ (n : ℕ). Some (Pointer (Object n) w)) h.0 ∙ ap (λ (z : ℤ). Some (Pointer (Object call) z)) (only low high w from to h.1 h.2), h.3) where
   only : (low high w : ℤ) → int_eq low (pos 0) ≡ true → int_eq high (pos 0) ≡ true → low ≤ℤ w → w ≤ℤ high → w ≡ pos 0
   only low high w a b l h = grind (arith, ints)
@@ -224,7 +235,8 @@ at_first_byte held call low high (Some (Number n)) from to h = absurd h
 at_first_byte held call low high (Some (Pointer Stack w)) from to h = absurd h
 at_first_byte held call low high (Some (Pointer Context w)) from to h = absurd h
 
-given_object : (held : List ℕ) (known : Abs) (x : Option (Value ℕ)) → is_unset known ≡ false → not (is_whole_object known) ≡ false → IsOf held known x → IsGiven held known x
+given_object : (held : List ℕ) (known : Abs) (x : Option (Value ℕ)) → is_unset known ≡ false → not (is_whole_object known) ≡ false
+    → IsOf held known x → IsGiven held known x
 given_object held (Ob call low high) x set whole h =
     let parts = and_parts (int_eq low (pos 0)) (int_eq high (pos 0)) (not-false (is_whole_object (Ob call low high)) whole) in
     let first = at_first_byte held call low high x parts.0 parts.1 h in
@@ -235,11 +247,14 @@ given_object held (Stk k) x set whole h = absurd (cc)
 given_object held (Ctx a b) x set whole h = absurd (cc)
 given_object held (May call) x set whole h = absurd (cc)
 
-gives_back : (v : RunView) (to call : ℕ) (x : Option (Value ℕ)) (found : Found) → x ≡ Some (Pointer (Object call) (pos 0)) → object_at v.objects call ≡ Ok found → effect_of_free to (environment_of_view v) v.frame x ≡ Goes (Free call) to (with_zero v.frame)
+gives_back : (v : RunView) (to call : ℕ) (x : Option (Value ℕ)) (found : Found) → x ≡ Some (Pointer (Object call) (pos 0))
+    → object_at v.objects call ≡ Ok found
+    → effect_of_free to (environment_of_view v) v.frame x ≡ Goes (Free call) to (with_zero v.frame)
 gives_back v to call x found is there = rw (is, there) refl
 
 -- what is known once an object is given away
-given_away : (v : RunView) (s : StateView) (call : ℕ) → IsGoing v → IsFull v.pc s → AreOf s v.frame v.objects → IsParted v (forgotten call s) (without call v.objects)
+given_away : (v : RunView) (s : StateView) (call : ℕ) → IsGoing v → IsFull v.pc s → AreOf s v.frame v.objects
+    → IsParted v (forgotten call s) (without call v.objects)
 given_away v s call was full state = record {
   full = forgotten-full v.pc call s full;
   state = forgotten_state v.pc call s v.frame v.objects full state;
@@ -247,7 +262,9 @@ given_away v s call was full state = record {
   ascending = subst IsAscending (sym (calls_without call v.objects)) (ascending_kept (λ (c : ℕ). not (c == call)) (calls_of v.objects) was.ascending);
 }
 
-freed_there : (v : RunView) (number : ℤ) (s : StateView) (call : ℕ) → IsCall v number s helper.Free → after_call v.pc (Some helper.Free) s ≡ Some (with_result (Num (constant 0)) (forgotten call s)) → IsThere v (v.pc + 1) (with_zero v.frame) (without call v.objects)
+freed_there : (v : RunView) (number : ℤ) (s : StateView) (call : ℕ) → IsCall v number s helper.Free
+    → after_call v.pc (Some helper.Free) s ≡ Some (with_result (Num (constant 0)) (forgotten call s))
+    → IsThere v (v.pc + 1) (with_zero v.frame) (without call v.objects)
 freed_there v number s call h sends =
     let here = h.here in
     let frame = frame_of v here.sound in
@@ -282,7 +299,8 @@ free_next v number s h =
 
 -- ---- emit
 
-emitted : (held : List ℕ) (known : Abs) (x : Option (Value ℕ)) → is_unset known ≡ false → not (is_number known) ≡ false → IsOf held known x → (n : ℕ) × (x ≡ Some (Number n))
+emitted : (held : List ℕ) (known : Abs) (x : Option (Value ℕ)) → is_unset known ≡ false → not (is_number known) ≡ false
+    → IsOf held known x → (n : ℕ) × (x ≡ Some (Number n))
 emitted held (Num a) (Some (Number n)) set number h = (n, refl)
 emitted held (Num a) None set number h = absurd h
 emitted held (Num a) (Some (Pointer base k)) set number h = absurd h
@@ -313,20 +331,28 @@ emit_next v number s h =
 -- what a call of swap gives to a shelf: nothing, or an object of the shelf's kind
 record GivesTo (v : RunView) (s : StateView) (shelf : ℕ) (known : Abs) (x : Option (Value ℕ)) : Type 0 where
   given : Option ℕ
-  does : (to : ℕ) (y : Option (Value ℕ)) → y ≡ Some (Number shelf) → shelf < length v.subject.rows → effect_of_swap to (environment_of_view v) v.frame y x ≡ Goes (Exchange shelf given) to (without_arguments v.frame)
+  does : (to : ℕ) (y : Option (Value ℕ)) → y ≡ Some (Number shelf) → shelf < length v.subject.rows
+      → effect_of_swap to (environment_of_view v) v.frame y x ≡ Goes (Exchange shelf given) to (without_arguments v.frame)
   left_is : IsParted v (calls.without_given known s) (without_given given v.objects)
 
-gives_nothing : (v : RunView) (to shelf : ℕ) (x y : Option (Value ℕ)) → x ≡ Some (Number 0) → y ≡ Some (Number shelf) → shelf < length v.subject.rows → effect_of_swap to (environment_of_view v) v.frame y x ≡ Goes (Exchange shelf None) to (without_arguments v.frame)
+gives_nothing : (v : RunView) (to shelf : ℕ) (x y : Option (Value ℕ)) → x ≡ Some (Number 0) → y ≡ Some (Number shelf)
+    → shelf < length v.subject.rows
+    → effect_of_swap to (environment_of_view v) v.frame y x ≡ Goes (Exchange shelf None) to (without_arguments v.frame)
 gives_nothing v to shelf x y is names few = rw (is, names, lt-ltb shelf (length v.subject.rows) few) refl
 
-gives_object : (v : RunView) (to shelf call : ℕ) (found : Found) (x y : Option (Value ℕ)) → x ≡ Some (Pointer (Object call) (pos 0)) → object_at v.objects call ≡ Ok found → found.kind ≡ shelf → y ≡ Some (Number shelf) → shelf < length v.subject.rows → effect_of_swap to (environment_of_view v) v.frame y x ≡ Goes (Exchange shelf (Some call)) to (without_arguments v.frame)
-gives_object v to shelf call found x y is there kind names few = rw (is, names, there, lt-ltb shelf (length v.subject.rows) few, eq-eqb found.kind shelf kind) refl
+gives_object : (v : RunView) (to shelf call : ℕ) (found : Found) (x y : Option (Value ℕ)) → x ≡ Some (Pointer (Object call) (pos 0))
+    → object_at v.objects call ≡ Ok found → found.kind ≡ shelf → y ≡ Some (Number shelf) → shelf < length v.subject.rows
+    → effect_of_swap to (environment_of_view v) v.frame y x ≡ Goes (Exchange shelf (Some call)) to (without_arguments v.frame)
+gives_object v to shelf call found x y is there kind names few =
+    rw (is, names, there, lt-ltb shelf (length v.subject.rows) few, eq-eqb found.kind shelf kind) refl
 
 -- an object that is of the kind of a shelf, as what is known says
 of_that_kind : (shelf kind : ℕ) (known : Option ℕ) → known ≡ Some kind → is_that shelf known ≡ true → kind ≡ shelf
 of_that_kind shelf kind known is fits = eqb-true kind shelf (sym (ap (is_that shelf) is) ∙ fits)
 
-gives_to : (v : RunView) (s : StateView) (shelf : ℕ) (known : Abs) (x : Option (Value ℕ)) → IsGoing v → AreSized v → IsFull v.pc s → AreOf s v.frame v.objects → is_unset known ≡ false → not (fits_shelf shelf s known) ≡ false → IsOf (calls_of v.objects) known x → GivesTo v s shelf known x
+gives_to : (v : RunView) (s : StateView) (shelf : ℕ) (known : Abs) (x : Option (Value ℕ)) → IsGoing v → AreSized v → IsFull v.pc s
+    → AreOf s v.frame v.objects → is_unset known ≡ false → not (fits_shelf shelf s known) ≡ false
+    → IsOf (calls_of v.objects) known x → GivesTo v s shelf known x
 gives_to v s shelf (Num a) (Some (Number n)) was sized full state set fits h =
     let parts = and_parts (a.lo == 0) (a.hi == 0) (not-false (fits_shelf shelf s (Num a)) fits) in
     let zero : n ≡ 0 = only a.lo a.hi n (eqb-true a.hi 0 parts.1) h.0.1 in
@@ -339,7 +365,8 @@ gives_to v s shelf (Num a) (Some (Number n)) was sized full state set fits h =
     only : (low high n : ℕ) → high ≡ 0 → n ≤ high → n ≡ 0
     only low high n e le = omega (arith, e, le)
 gives_to v s shelf (Ob call low high) x was sized full state set fits h =
-    let parts = and_parts (int_eq low (pos 0)) (int_eq high (pos 0) && is_that shelf (kind_held call s)) (not-false (fits_shelf shelf s (Ob call low high)) fits) in
+    let parts =
+    and_parts (int_eq low (pos 0)) (int_eq high (pos 0) && is_that shelf (kind_held call s)) (not-false (fits_shelf shelf s (Ob call low high)) fits) in
     let more = and_parts (int_eq high (pos 0)) (is_that shelf (kind_held call s)) parts.1 in
     let it = at_first_byte (calls_of v.objects) call low high x parts.0 more.0 h in
     let found = held_found v s call sized state.held it.1 in
@@ -355,7 +382,9 @@ gives_to v s shelf (Stk k) x was sized full state set fits h = absurd (cc)
 gives_to v s shelf (Ctx a b) x was sized full state set fits h = absurd (cc)
 gives_to v s shelf (May call) x was sized full state set fits h = absurd (cc)
 
-swap_told : (v : RunView) (number : ℤ) (s t : StateView) (shelf : ℕ) (given : Option ℕ) → IsAsking v number s helper.Swap t (without_given given v.objects) shelf → (result : CallResult) → IsSound (acted (Exchange shelf given) result (v.pc + 1) (without_arguments v.frame) v)
+swap_told : (v : RunView) (number : ℤ) (s t : StateView) (shelf : ℕ) (given : Option ℕ)
+    → IsAsking v number s helper.Swap t (without_given given v.objects) shelf → (result : CallResult)
+    → IsSound (acted (Exchange shelf given) result (v.pc + 1) (without_arguments v.frame) v)
 swap_told v number s t shelf given h = by where
   left : List ObjectView
   left = without_given given v.objects

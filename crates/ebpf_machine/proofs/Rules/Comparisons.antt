@@ -57,14 +57,18 @@ kept_pair : (x y : ℕ) (o : Option (Range × Range)) → Keeps x y o → (p : R
 kept_pair x y None h = absurd h
 kept_pair x y (Some p) h = (p, refl, h.0, h.1)
 
-refined_numbers : (calls : List ℕ) (condition : Cond) (width : Width) (left right : Abs) (src : Source) (x y : Option (Value ℕ)) (m n : ℕ) (a b : Range) → x ≡ Some (Number m) → left ≡ Num a → y ≡ Some (Number n) → right ≡ Num b → a.hi < 2 ^ 64 → b.hi < 2 ^ 64 → IsWithin m a × (m < 2 ^ 64) → IsWithin n b × (n < 2 ^ 64) → IsRefined calls condition width left right src x y
+refined_numbers : (calls : List ℕ) (condition : Cond) (width : Width) (left right : Abs) (src : Source) (x y : Option (Value ℕ)) (m n : ℕ) (a b : Range)
+    → x ≡ Some (Number m) → left ≡ Num a → y ≡ Some (Number n) → right ≡ Num b → a.hi < 2 ^ 64 → b.hi < 2 ^ 64
+    → IsWithin m a × (m < 2 ^ 64) → IsWithin n b × (n < 2 ^ 64) → IsRefined calls condition width left right src x y
 refined_numbers calls condition width left right src x y m n a b e f g i below_a below_b h k =
     let taken = is_met condition width m n in
     let kept = kept_pair m n (refinement condition width a b taken) (refinement-keeps condition width a b taken m n below_a below_b h.0 k.0 refl) in
     rw (e, f, g, i) (record { taken = taken; goes = refl; known = kept.0; refined = kept.1; of_left = (kept.2, h.1); of_right = (kept.3, k.1) })
 
 -- a comparison that is not refused is of two numbers
-pub comparison_sound : (calls : List ℕ) (slot : ℕ) (condition : Cond) (width : Width) (left right : Abs) (src : Source) (x y : Option (Value ℕ)) → comparison_refusal left right ≡ None → IsBoundedValue slot left → IsBoundedValue slot right → IsOf calls left x → IsOf calls right y → IsRefined calls condition width left right src x y
+pub comparison_sound : (calls : List ℕ) (slot : ℕ) (condition : Cond) (width : Width) (left right : Abs) (src : Source) (x y : Option (Value ℕ))
+    → comparison_refusal left right ≡ None → IsBoundedValue slot left → IsBoundedValue slot right → IsOf calls left x
+    → IsOf calls right y → IsRefined calls condition width left right src x y
 comparison_sound calls slot condition width left right src x y fine bound_left bound_right h k =
     let a = none_first (is_unset left || is_unset right) _ _ fine in
     let b = none_first (is_pointer left || is_may left || is_pointer right || is_may right) _ _ a.1 in
@@ -77,12 +81,15 @@ comparison_sound calls slot condition width left right src x y fine bound_left b
     refined_numbers calls condition width left right src x y v.0 w.0 v.1 w.1 v.2 v.3 w.2 w.3 (subst (IsBoundedValue slot) v.3 bound_left).1 (subst (IsBoundedValue slot) w.3 bound_right).1 (v.4, v.5) (w.4, w.5)
 
 -- a register of which something else is known, which speaks of its value too
-with_known : (s : StateView) (frame : Frame ℕ) (objects : List ObjectView) (r : Reg) (a : Abs) → length s.registers ≡ 11 → AreOf s frame objects → IsOf (calls_of objects) a (get_or frame.registers (number_of r) None) → AreOf (with_register s r a) frame objects
+with_known : (s : StateView) (frame : Frame ℕ) (objects : List ObjectView) (r : Reg) (a : Abs) → length s.registers ≡ 11
+    → AreOf s frame objects → IsOf (calls_of objects) a (get_or frame.registers (number_of r) None)
+    → AreOf (with_register s r a) frame objects
 with_known s frame objects r a whole h e = record { each = λ k lt. known_at k lt (cases_lt k (number_of r)); words = h.words; held = h.held } where
   other_at : (k : ℕ) → k < 11 → k ≢ number_of r → IsOf (calls_of objects) (get_or (set s.registers (number_of r) a) k Unset) (get_or frame.registers k None)
   other_at k lt other = rw (get_or-set_other s.registers (number_of r) k a Unset other) (h.each k lt)
 
-  known_at : (k : ℕ) → k < 11 → (k < number_of r) ⊎ (number_of r ≤ k) → IsOf (calls_of objects) (get_or (set s.registers (number_of r) a) k Unset) (get_or frame.registers k None)
+  known_at : (k : ℕ) → k < 11 → (k < number_of r) ⊎ (number_of r ≤ k)
+      → IsOf (calls_of objects) (get_or (set s.registers (number_of r) a) k Unset) (get_or frame.registers k None)
   known_at k lt (inl below) = other_at k lt (λ same. omega arith)
   known_at k lt (inr above) = elim (cases_lt (number_of r) k) [
     | inl more ↦ other_at k lt (λ same. omega arith)
@@ -93,7 +100,11 @@ with_known s frame objects r a whole h e = record { each = λ k lt. known_at k l
   ]
 
 -- what is known of both operands is written
-pub refined_state : (s : StateView) (frame : Frame ℕ) (objects : List ObjectView) (left : Reg) (right : Source) (known : Range × Range) (y : Option (Value ℕ)) → length s.registers ≡ 11 → AreOf s frame objects → IsOf (calls_of objects) (Num known.0) (get_or frame.registers (number_of left) None) → ((r : Reg) → right ≡ Register r → IsOf (calls_of objects) (Num known.1) (get_or frame.registers (number_of r) None)) → AreOf (with_operand (with_register s left (Num known.0)) right known.1) frame objects
+pub refined_state : (s : StateView) (frame : Frame ℕ) (objects : List ObjectView) (left : Reg) (right : Source) (known : Range × Range) (y : Option (Value ℕ))
+    → length s.registers ≡ 11 → AreOf s frame objects
+    → IsOf (calls_of objects) (Num known.0) (get_or frame.registers (number_of left) None)
+    → ((r : Reg) → right ≡ Register r → IsOf (calls_of objects) (Num known.1) (get_or frame.registers (number_of r) None))
+    → AreOf (with_operand (with_register s left (Num known.0)) right known.1) frame objects
 refined_state s frame objects left (Imm z) known y whole h of_left of_right = with_known s frame objects left (Num known.0) whole h of_left
 refined_state s frame objects left (Register r) known y whole h of_left of_right =
     with_known (with_register s left (Num known.0)) frame objects r (Num known.1) (length-set s.registers (number_of left) (Num known.0) ∙ whole) (with_known s frame objects left (Num known.0) whole h of_left) (of_right r refl)
@@ -117,7 +128,8 @@ may_of (Stk k) call e = absurd (cc)
 may_of (Ctx a b) call e = absurd (cc)
 may_of (Ob r a b) call e = absurd (cc)
 
-equality_of : (width : Width) (condition : Cond) (src : Source) → compares_with_null width condition src ≡ true → (width ≡ W64) × ((condition ≡ on.Eq) ⊎ (condition ≡ on.Ne)) × (src ≡ Imm (pos 0))
+equality_of : (width : Width) (condition : Cond) (src : Source) → compares_with_null width condition src ≡ true
+    → (width ≡ W64) × ((condition ≡ on.Eq) ⊎ (condition ≡ on.Ne)) × (src ≡ Imm (pos 0))
 equality_of W64 on.Eq (Imm (pos zero)) e = (refl, inl refl, refl)
 equality_of W64 on.Ne (Imm (pos zero)) e = (refl, inr refl, refl)
 equality_of _ _ _ e = absurd (cc)
@@ -134,7 +146,8 @@ no_object calls call apart = record { none = λ e. apart; held = λ e. absurd (c
 an_object : (calls : List ℕ) (call : ℕ) → Contains calls call → IsAnswered calls call false
 an_object calls call among = record { none = λ e there. absurd (cc); held = λ e. among }
 
-tested_by : (calls : List ℕ) (call : ℕ) (condition : Cond) (x : Option (Value ℕ)) → (condition ≡ on.Eq) ⊎ (condition ≡ on.Ne) → IsOf calls (May call) x → IsTested calls call condition W64 (Imm (pos 0)) x (Some (Number 0))
+tested_by : (calls : List ℕ) (call : ℕ) (condition : Cond) (x : Option (Value ℕ)) → (condition ≡ on.Eq) ⊎ (condition ≡ on.Ne)
+    → IsOf calls (May call) x → IsTested calls call condition W64 (Imm (pos 0)) x (Some (Number 0))
 tested_by calls call condition None which h = absurd h
 tested_by calls call condition (Some (Number n)) (inl eq) h = rw (eq, h.0) (record { taken = true; goes = refl; answered = no_object calls call h.1 })
 tested_by calls call condition (Some (Number n)) (inr ne) h = rw (ne, h.0) (record { taken = false; goes = refl; answered = no_object calls call h.1 })
@@ -143,7 +156,9 @@ tested_by calls call condition (Some (Pointer (Object at) w)) (inr ne) h = rw ne
 tested_by calls call condition (Some (Pointer Stack w)) which h = absurd h
 tested_by calls call condition (Some (Pointer Context w)) which h = absurd h
 
-pub null_test_sound : (calls : List ℕ) (call : ℕ) (condition : Cond) (width : Width) (left : Abs) (src : Source) (x y : Option (Value ℕ)) → null_test width condition left src ≡ Some call → (src ≡ Imm (pos 0) → width ≡ W64 → y ≡ Some (Number 0)) → IsOf calls left x → IsTested calls call condition width src x y
+pub null_test_sound : (calls : List ℕ) (call : ℕ) (condition : Cond) (width : Width) (left : Abs) (src : Source) (x y : Option (Value ℕ))
+    → null_test width condition left src ≡ Some call → (src ≡ Imm (pos 0) → width ≡ W64 → y ≡ Some (Number 0)) → IsOf calls left x
+    → IsTested calls call condition width src x y
 null_test_sound calls call condition width left src x y e of_zero h =
     let is = is_true (compares_with_null width condition src) (answering_call left) call e in
     let which = equality_of width condition src is.0 in
@@ -153,7 +168,8 @@ same_number : (a b : ℕ) → (a == b) ≡ true → a ≡ b
 same_number a b e = grind (arith, nat_tests)
 
 -- what is known of a value, once the answer is known
-may_settled : (calls : List ℕ) (call r : ℕ) (null : Bool) (v : Option (Value ℕ)) → r ≡ call → IsAnswered calls call null → IsOf calls (May r) v → IsOf calls (answer_known call null) v
+may_settled : (calls : List ℕ) (call r : ℕ) (null : Bool) (v : Option (Value ℕ)) → r ≡ call → IsAnswered calls call null
+    → IsOf calls (May r) v → IsOf calls (answer_known call null) v
 may_settled calls call r null None same answer h = absurd h
 may_settled calls call r null (Some (Pointer Stack w)) same answer h = absurd h
 may_settled calls call r null (Some (Pointer Context w)) same answer h = absurd h
@@ -162,7 +178,8 @@ may_settled calls call r false (Some (Number n)) same answer h = absurd (h.1 (su
 may_settled calls call r true (Some (Pointer (Object at) w)) same answer h = absurd (answer.none refl (subst (Contains calls) same h.2))
 may_settled calls call r false (Some (Pointer (Object at) w)) same answer h = (h.0 ∙ same, omega (arith, ints, h.1), omega (arith, ints, h.1), answer.held refl)
 
-settled_sound : (calls : List ℕ) (call : ℕ) (null : Bool) (a : Abs) (v : Option (Value ℕ)) → IsAnswered calls call null → IsOf calls a v → IsOf calls (settled_value call null a) v
+settled_sound : (calls : List ℕ) (call : ℕ) (null : Bool) (a : Abs) (v : Option (Value ℕ)) → IsAnswered calls call null
+    → IsOf calls a v → IsOf calls (settled_value call null a) v
 settled_sound calls call null (May r) v answer h = cond_both (r == call) (answer_known call null) (May r) (λ (a : Abs). IsOf calls a v) (λ e. may_settled calls call r null v (same_number r call e) answer h) (λ e. h)
 settled_sound calls call null Unset v answer h = tt
 settled_sound calls call null (Num a) v answer h = h
@@ -171,16 +188,19 @@ settled_sound calls call null (Ctx a b) v answer h = h
 settled_sound calls call null (Ob r a b) v answer h = h
 
 -- the references that are left, or tested, are those of the objects
-settled_references : (call : ℕ) (null : Bool) (s : StateView) (objects : List ObjectView) → IsAnswered (calls_of objects) call null → AreReferred s objects → AreReferred (settled call null s) objects
+settled_references : (call : ℕ) (null : Bool) (s : StateView) (objects : List ObjectView) → IsAnswered (calls_of objects) call null
+    → AreReferred s objects → AreReferred (settled call null s) objects
 settled_references call true s objects answer h o there =
     let among = Contains-mapped (λ (p : ObjectView). p.call) objects o there in
     kinds_without o.call call s.held (λ same. answer.none refl (subst (Contains (calls_of objects)) same among)) ∙ h o there
 settled_references call false s objects answer h o there = tested_kinds o.call call s.held ∙ h o there
 
-word_settled : (call : ℕ) (null : Bool) (words : List Word) (w : ℕ) → w < length words → word_of (map (settled_word call null) words) w ≡ settled_word call null (word_of words w)
+word_settled : (call : ℕ) (null : Bool) (words : List Word) (w : ℕ) → w < length words
+    → word_of (map (settled_word call null) words) w ≡ settled_word call null (word_of words w)
 word_settled call null words w lt = get_or-map (settled_word call null) words w (Bytes 0) (Bytes 0) lt
 
-pub settled_state : (slot : ℕ) (s : StateView) (frame : Frame ℕ) (objects : List ObjectView) (call : ℕ) (null : Bool) → IsFull slot s → IsAnswered (calls_of objects) call null → AreOf s frame objects → AreOf (settled call null s) frame objects
+pub settled_state : (slot : ℕ) (s : StateView) (frame : Frame ℕ) (objects : List ObjectView) (call : ℕ) (null : Bool)
+    → IsFull slot s → IsAnswered (calls_of objects) call null → AreOf s frame objects → AreOf (settled call null s) frame objects
 settled_state slot s frame objects call null full answer h = record {
   each = λ k lt. subst (λ (a : Abs). IsOf (calls_of objects) a (get_or frame.registers k None)) (sym (get_or-map (settled_value call null) s.registers k Unset Unset (omega (arith, full.whole, lt)))) (settled_sound (calls_of objects) call null (get_or s.registers k Unset) (get_or frame.registers k None) answer (h.each k lt));
   words = λ w lt. subst (λ (x : Word). IsOfCells (calls_of objects) x (λ j. cell_at frame.stack (8 * w + j))) (sym (word_settled call null s.words w (omega (arith, full.deep, lt)))) (settled_cells (calls_of objects) call null (word_of s.words w) (λ j. cell_at frame.stack (8 * w + j)) (λ a v. settled_sound (calls_of objects) call null a v answer) (h.words w lt));

@@ -63,23 +63,29 @@ stays_granted calls slot (Num a) h = tt
 stays_granted calls slot (Stk k) h = tt
 stays_granted calls slot (Ctx a b) h = tt
 
-cells_granted : (calls : List ℕ) (slot : ℕ) (word : Word) (cells : ℕ → Cell ℕ) → IsBoundedWord slot word → IsOfCells calls word cells → IsOfCells (calls ++ slot ∷ []) word cells
+cells_granted : (calls : List ℕ) (slot : ℕ) (word : Word) (cells : ℕ → Cell ℕ) → IsBoundedWord slot word
+    → IsOfCells calls word cells → IsOfCells (calls ++ slot ∷ []) word cells
 cells_granted calls slot (Spill a) cells b h = (h.0, of_others calls (calls ++ slot ∷ []) a (Some h.0) (stays_granted calls slot a b) h.1, h.2, h.3)
 cells_granted calls slot (Bytes mask) cells b h = h
 
 -- what is held of objects of earlier calls stays
-held_on : (slot kind : ℕ) (s : StateView) (objects : List ObjectView) → All (λ o. o.call < slot) objects → AreReferred s objects → AreReferred (holding slot kind s) objects
+held_on : (slot kind : ℕ) (s : StateView) (objects : List ObjectView) → All (λ o. o.call < slot) objects → AreReferred s objects
+    → AreReferred (holding slot kind s) objects
 held_on slot kind s objects behind h o there =
     earlier_kinds o.call (record { call = slot; kind = kind; tested = false }) s.held (All-contains (λ (p : ObjectView). p.call < slot) objects o behind there) ∙ h o there
 
 -- the run is told null
-pub null_state : (slot kind : ℕ) (s : StateView) (frame : Frame ℕ) (objects : List ObjectView) → All (λ o. o.call < slot) objects → AreOf s frame objects → AreOf (holding slot kind s) frame objects
+pub null_state : (slot kind : ℕ) (s : StateView) (frame : Frame ℕ) (objects : List ObjectView) → All (λ o. o.call < slot) objects
+    → AreOf s frame objects → AreOf (holding slot kind s) frame objects
 null_state slot kind s frame objects behind h = record { each = h.each; words = h.words; held = held_on slot kind s objects behind h.held }
 
 -- the run is granted an object
-pub granted_state : (slot : ℕ) (s : StateView) (frame : Frame ℕ) (objects : List ObjectView) (new : ObjectView) → new.call ≡ slot → IsFull slot s → All (λ o. o.call < slot) objects → AreOf s frame objects → AreOf (holding slot new.kind s) frame (objects ++ new ∷ [])
+pub granted_state : (slot : ℕ) (s : StateView) (frame : Frame ℕ) (objects : List ObjectView) (new : ObjectView) → new.call ≡ slot
+    → IsFull slot s → All (λ o. o.call < slot) objects → AreOf s frame objects
+    → AreOf (holding slot new.kind s) frame (objects ++ new ∷ [])
 granted_state slot s frame objects new is full behind h =
-    let calls : calls_of (objects ++ new ∷ []) ≡ calls_of objects ++ slot ∷ [] = map-append (λ (o : ObjectView). o.call) objects (new ∷ []) ∙ ap (λ (n : ℕ). calls_of objects ++ n ∷ []) is in
+    let calls : calls_of (objects ++ new ∷ []) ≡ calls_of objects ++ slot ∷ [] =
+    map-append (λ (o : ObjectView). o.call) objects (new ∷ []) ∙ ap (λ (n : ℕ). calls_of objects ++ n ∷ []) is in
     record {
       each = λ k lt. subst (λ (ns : List ℕ). IsOf ns (get_or s.registers k Unset) (get_or frame.registers k None)) (sym calls)
           (of_others (calls_of objects) (calls_of objects ++ slot ∷ []) (get_or s.registers k Unset) (get_or frame.registers k None) (stays_granted (calls_of objects) slot (get_or s.registers k Unset) (All-get_or (IsBoundedValue slot) s.registers k Unset (omega (arith, full.whole, lt)) full.bounded)) (h.each k lt));
@@ -118,7 +124,8 @@ was_held call other objects among =
 apart_from : (call other : ℕ) → (other == call) ≡ false → other ≢ call
 apart_from call other e same = let yes = eq-eqb other call same in absurd (cc)
 
-value_forgotten : (call : ℕ) (objects : List ObjectView) (a : Abs) (v : Option (Value ℕ)) → IsOf (calls_of objects) a v → IsOf (calls_of (without call objects)) (forgotten_value call a) v
+value_forgotten : (call : ℕ) (objects : List ObjectView) (a : Abs) (v : Option (Value ℕ)) → IsOf (calls_of objects) a v
+    → IsOf (calls_of (without call objects)) (forgotten_value call a) v
 value_forgotten call objects Unset v h = tt
 value_forgotten call objects (Num a) v h = h
 value_forgotten call objects (Stk k) v h = h
@@ -130,11 +137,14 @@ value_forgotten call objects (May r) v h =
     let others = calls_of (without call objects) in
     cond_both (r == call) Unset (May r) (λ (x : Abs). IsOf others x v) (λ e. tt) (λ e. of_others (calls_of objects) others (May r) v (still_held call r objects (apart_from call r e), was_held call r objects) h)
 
-cells_forgotten : (call : ℕ) (objects : List ObjectView) (word : Word) (cells : ℕ → Cell ℕ) → IsOfCells (calls_of objects) word cells → IsOfCells (calls_of (without call objects)) (forgotten_word call word) cells
-cells_forgotten call objects (Spill a) cells h = left_spilled (calls_of (without call objects)) (forgotten_value call a) h.0 cells (value_forgotten call objects a (Some h.0) h.1) h.2
+cells_forgotten : (call : ℕ) (objects : List ObjectView) (word : Word) (cells : ℕ → Cell ℕ)
+    → IsOfCells (calls_of objects) word cells → IsOfCells (calls_of (without call objects)) (forgotten_word call word) cells
+cells_forgotten call objects (Spill a) cells h =
+    left_spilled (calls_of (without call objects)) (forgotten_value call a) h.0 cells (value_forgotten call objects a (Some h.0) h.1) h.2
 cells_forgotten call objects (Bytes mask) cells h = h
 
-pub forgotten_state : (slot call : ℕ) (s : StateView) (frame : Frame ℕ) (objects : List ObjectView) → IsFull slot s → AreOf s frame objects → AreOf (forgotten call s) frame (without call objects)
+pub forgotten_state : (slot call : ℕ) (s : StateView) (frame : Frame ℕ) (objects : List ObjectView) → IsFull slot s
+    → AreOf s frame objects → AreOf (forgotten call s) frame (without call objects)
 forgotten_state slot call s frame objects full h = record {
   each = λ k lt. subst (λ (a : Abs). IsOf (calls_of (without call objects)) a (get_or frame.registers k None)) (sym (get_or-map (forgotten_value call) s.registers k Unset Unset (omega (arith, full.whole, lt)))) (value_forgotten call objects (get_or s.registers k Unset) (get_or frame.registers k None) (h.each k lt));
   words = λ w lt. subst (λ (x : Word). IsOfCells (calls_of (without call objects)) x (λ j. cell_at frame.stack (8 * w + j))) (sym (get_or-map (forgotten_word call) s.words w (Bytes 0) (Bytes 0) (omega (arith, full.deep, lt)))) (cells_forgotten call objects (word_of s.words w) (λ j. cell_at frame.stack (8 * w + j)) (h.words w lt));

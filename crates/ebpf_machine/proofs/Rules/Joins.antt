@@ -38,14 +38,16 @@ whole_weaker slot higher Conflict le h = tt
 abbrev joined_registers : StateView → StateView → StateView
 joined_registers s t = record { registers = joined_list joined_value s.registers t.registers; words = joined_list joined_word s.words t.words; held = s.held }
 
-left_side : (slot : ℕ) (s t : StateView) (frame : Frame ℕ) (objects : List ObjectView) → IsFull slot s → IsFull slot t → AreOf s frame objects → AreOf (joined_registers s t) frame objects
+left_side : (slot : ℕ) (s t : StateView) (frame : Frame ℕ) (objects : List ObjectView) → IsFull slot s → IsFull slot t
+    → AreOf s frame objects → AreOf (joined_registers s t) frame objects
 left_side slot s t frame objects v u h = record {
   each = λ k lt. subst (λ (a : Abs). IsOf (calls_of objects) a (get_or frame.registers k None)) (sym (joined_list-index joined_value Unset s.registers t.registers k (v.whole ∙ sym u.whole) (omega (arith, v.whole)))) (IsOf-joined_left (calls_of objects) (get_or s.registers k Unset) (get_or t.registers k Unset) (get_or frame.registers k None) (h.each k lt));
   words = λ w lt. subst (λ (x : Word). IsOfCells (calls_of objects) x (λ j. cell_at frame.stack (8 * w + j))) (sym (joined_list-index joined_word (Bytes 0) s.words t.words w (v.deep ∙ sym u.deep) (omega (arith, v.deep)))) (joined_cells_left (calls_of objects) (word_of s.words w) (word_of t.words w) (λ j. cell_at frame.stack (8 * w + j)) (h.words w lt));
   held = h.held;
 }
 
-right_side : (slot : ℕ) (s t : StateView) (frame : Frame ℕ) (objects : List ObjectView) → IsFull slot s → IsFull slot t → is_same_held s.held t.held ≡ true → AreOf t frame objects → AreOf (joined_registers s t) frame objects
+right_side : (slot : ℕ) (s t : StateView) (frame : Frame ℕ) (objects : List ObjectView) → IsFull slot s → IsFull slot t
+    → is_same_held s.held t.held ≡ true → AreOf t frame objects → AreOf (joined_registers s t) frame objects
 right_side slot s t frame objects v u same h = record {
   each = λ k lt. subst (λ (a : Abs). IsOf (calls_of objects) a (get_or frame.registers k None)) (sym (joined_list-index joined_value Unset s.registers t.registers k (v.whole ∙ sym u.whole) (omega (arith, v.whole)))) (IsOf-joined_right (calls_of objects) (get_or s.registers k Unset) (get_or t.registers k Unset) (get_or frame.registers k None) (h.each k lt));
   words = λ w lt. subst (λ (x : Word). IsOfCells (calls_of objects) x (λ j. cell_at frame.stack (8 * w + j))) (sym (joined_list-index joined_word (Bytes 0) s.words t.words w (v.deep ∙ sym u.deep) (omega (arith, v.deep)))) (joined_cells_right (calls_of objects) (word_of s.words w) (word_of t.words w) (λ j. cell_at frame.stack (8 * w + j)) (h.words w lt));
@@ -55,7 +57,8 @@ right_side slot s t frame objects v u same h = record {
 abbrev joined_by : Bool → StateView → StateView → EntryState
 joined_by same s t = known_or_conflict (cond same (Some (joined_registers s t)) None)
 
-by_test : (same : Bool) (s t : StateView) (frame : Frame ℕ) (objects : List ObjectView) → (same ≡ true → AreOf (joined_registers s t) frame objects) → Arrives (joined_by same s t) frame objects
+by_test : (same : Bool) (s t : StateView) (frame : Frame ℕ) (objects : List ObjectView)
+    → (same ≡ true → AreOf (joined_registers s t) frame objects) → Arrives (joined_by same s t) frame objects
 by_test true s t frame objects h = h refl
 by_test false s t frame objects h = tt
 
@@ -69,13 +72,17 @@ IsWhole-with_state slot (Known s) t v w = whole_by_test slot (is_same_held s.hel
 IsWhole-with_state slot Conflict t v w = tt
 
 -- what came before one more state still comes
-pub Arrives-with_state_old : (slot : ℕ) (a : EntryState) (t : StateView) (frame : Frame ℕ) (objects : List ObjectView) → IsWhole slot a → IsFull slot t → Arrives a frame objects → Arrives (with_state a t) frame objects
+pub Arrives-with_state_old : (slot : ℕ) (a : EntryState) (t : StateView) (frame : Frame ℕ) (objects : List ObjectView)
+    → IsWhole slot a → IsFull slot t → Arrives a frame objects → Arrives (with_state a t) frame objects
 Arrives-with_state_old slot Unreached t frame objects v w h = absurd h
-Arrives-with_state_old slot (Known s) t frame objects v w h = by_test (is_same_held s.held t.held) s t frame objects (λ same. left_side slot s t frame objects v w h)
+Arrives-with_state_old slot (Known s) t frame objects v w h =
+    by_test (is_same_held s.held t.held) s t frame objects (λ same. left_side slot s t frame objects v w h)
 Arrives-with_state_old slot Conflict t frame objects v w h = tt
 
 -- and so does what one more state speaks of
-pub Arrives-with_state_new : (slot : ℕ) (a : EntryState) (t : StateView) (frame : Frame ℕ) (objects : List ObjectView) → IsWhole slot a → IsFull slot t → AreOf t frame objects → Arrives (with_state a t) frame objects
+pub Arrives-with_state_new : (slot : ℕ) (a : EntryState) (t : StateView) (frame : Frame ℕ) (objects : List ObjectView)
+    → IsWhole slot a → IsFull slot t → AreOf t frame objects → Arrives (with_state a t) frame objects
 Arrives-with_state_new slot Unreached t frame objects v w h = h
-Arrives-with_state_new slot (Known s) t frame objects v w h = by_test (is_same_held s.held t.held) s t frame objects (λ same. right_side slot s t frame objects v w same h)
+Arrives-with_state_new slot (Known s) t frame objects v w h =
+    by_test (is_same_held s.held t.held) s t frame objects (λ same. right_side slot s t frame objects v w same h)
 Arrives-with_state_new slot Conflict t frame objects v w h = tt

@@ -54,13 +54,18 @@ load_tests base dst = first_of (
 
 -- ---- from the stack
 
-stack_loaded : (calls : List ℕ) (size : Size) (signed : Bool) (offset : ℤ) (s : StateView) (stack : List (Cell ℕ)) (load : Result Abs StackFault) → loaded s size signed offset ≡ load → refused_access load ≡ None → AreOfCells calls s.words stack → All FitsCell stack → IsFitting calls (value_or_unset load) (loaded_at ◌==◌ (place_of offset (bytes_in size)) (bytes_in size) signed stack)
+stack_loaded : (calls : List ℕ) (size : Size) (signed : Bool) (offset : ℤ) (s : StateView) (stack : List (Cell ℕ)) (load : Result Abs StackFault)
+    → loaded s size signed offset ≡ load → refused_access load ≡ None → AreOfCells calls s.words stack → All FitsCell stack
+    → IsFitting calls (value_or_unset load) (loaded_at ◌==◌ (place_of offset (bytes_in size)) (bytes_in size) signed stack)
 stack_loaded calls size signed offset s stack (Err fault) is fine words fit = absurd (cc)
 stack_loaded calls size signed offset s stack (Ok known) is fine words fit = stack_load_sound calls s stack size signed offset known words fit is
 
 -- ---- from an object
 
-object_loaded : (calls : List ℕ) (size : Size) (signed : Bool) (low high at offset : ℤ) (there : Result Found Trap) (found : Found) (declared : ℕ) → there ≡ Ok found → length found.bytes ≡ declared → low ≤ℤ at → at ≤ℤ high → is_in_bounds declared low high offset (bytes_in size) ≡ true → IsFitting calls (Num (loaded_range (bytes_in size) signed)) (read_object there (at +ℤ offset) (bytes_in size) signed)
+object_loaded : (calls : List ℕ) (size : Size) (signed : Bool) (low high at offset : ℤ) (there : Result Found Trap) (found : Found) (declared : ℕ)
+    → there ≡ Ok found → length found.bytes ≡ declared → low ≤ℤ at → at ≤ℤ high
+    → is_in_bounds declared low high offset (bytes_in size) ≡ true
+    → IsFitting calls (Num (loaded_range (bytes_in size) signed)) (read_object there (at +ℤ offset) (bytes_in size) signed)
 object_loaded calls size signed low high at offset there found declared is long below above inside =
     subst (λ (r : Result Found Trap). IsFitting calls (Num (loaded_range (bytes_in size) signed)) (read_object r (at +ℤ offset) (bytes_in size) signed)) (sym is)
     (read_sound calls ObjectBounds found.bytes declared size signed low high at offset long below above inside)
@@ -68,7 +73,9 @@ object_loaded calls size signed low high at offset there found declared is long 
 -- ---- the table
 
 -- the address of a load that is not refused is a pointer
-load_from : (v : RunView) (i : Insn) (s : StateView) (size : Size) (signed : Bool) (offset : ℤ) (base : Abs) (x : Option (Value ℕ)) → IsHere v i s → is_unset base ≡ false → is_number base ≡ false → is_may base ≡ false → reading_refusal v.subject.decl.context v.subject.rows size signed offset base s ≡ None → IsOf (calls_of v.objects) base x
+load_from : (v : RunView) (i : Insn) (s : StateView) (size : Size) (signed : Bool) (offset : ℤ) (base : Abs) (x : Option (Value ℕ))
+    → IsHere v i s → is_unset base ≡ false → is_number base ≡ false → is_may base ≡ false
+    → reading_refusal v.subject.decl.context v.subject.rows size signed offset base s ≡ None → IsOf (calls_of v.objects) base x
     → IsFitting (calls_of v.objects) (loaded_value size signed offset base s) (effect.loaded (environment_of_view v) v.frame.stack size signed offset x)
 load_from v i s size signed offset Unset x here known no_number no_may fine h = absurd (cc)
 load_from v i s size signed offset (Num a) x here known no_number no_may fine h = absurd (cc)
@@ -94,7 +101,8 @@ load_from v i s size signed offset (Ob call low high) (Some (Number n)) here kno
 load_from v i s size signed offset (Ob call low high) (Some (Pointer Stack w)) here known no_number no_may fine h = absurd h
 load_from v i s size signed offset (Ob call low high) (Some (Pointer Context w)) here known no_number no_may fine h = absurd h
 
-pub load_next : (v : RunView) (size : Size) (signed : Bool) (dst base : Reg) (offset : ℤ) (s : StateView) → IsHere v (insn.Load size signed dst base offset) s → IsNext v
+pub load_next : (v : RunView) (size : Size) (signed : Bool) (dst base : Reg) (offset : ℤ) (s : StateView)
+    → IsHere v (insn.Load size signed dst base offset) s → IsNext v
 load_next v size signed dst base offset s here =
     let i = insn.Load size signed dst base offset in
     let known = register_of s base in

@@ -81,7 +81,8 @@ abbrev pub Leads : Insn → ℕ → ℕ → Type 0
 Leads i from to = (fall_of i from ≡ Some to) ⊎ (jump_of i from ≡ Some to)
 
 -- an edge leads forward to an instruction
-pub leads_forward : (v : RunView) (i : Insn) (to : ℕ) → IsSound v → insn_at v.subject.program v.pc ≡ Some i → Leads i v.pc to → LeadsForward v.subject.program v.pc (Some to)
+pub leads_forward : (v : RunView) (i : Insn) (to : ℕ) → IsSound v → insn_at v.subject.program v.pc ≡ Some i → Leads i v.pc to
+    → LeadsForward v.subject.program v.pc (Some to)
 leads_forward v i to h at edge = along edge where
   leads : LeadsForward v.subject.program v.pc (edges_of (insn_at v.subject.program v.pc) v.pc).fall × LeadsForward v.subject.program v.pc (edges_of (insn_at v.subject.program v.pc) v.pc).jump
   leads = h.accepted.forward v.pc (insn_at_within v.subject.program v.pc i at)
@@ -99,13 +100,16 @@ pub record IsThere (v : RunView) (to : ℕ) (after : Frame ℕ) (objects : List 
   pub declared : length objects ≤ v.subject.decl.held
 
 -- a run that goes there, with its own objects
-pub stays_there : (v : RunView) (i : Insn) (s : StateView) (to : ℕ) (after : Frame ℕ) → IsHere v i s → v.pc < to → IsFrame after → Arrives (entry_of v.subject.program to) after v.objects → IsThere v to after v.objects
+pub stays_there : (v : RunView) (i : Insn) (s : StateView) (to : ℕ) (after : Frame ℕ) → IsHere v i s → v.pc < to → IsFrame after
+    → Arrives (entry_of v.subject.program to) after v.objects → IsThere v to after v.objects
 stays_there v i s to after here forward frame state =
     let was = going_of v here.sound here.going in
     record { frame = frame; state = state; behind = λ k d lt. let before = was.behind k d lt in omega (arith, before, forward); ascending = was.ascending; declared = was.declared }
 
 -- it is sound there
-pub there_sound : (v : RunView) (i : Insn) (s : StateView) (to : ℕ) (after : Frame ℕ) (objects : List ObjectView) (replies : List Reply) (taken : List ℕ) → IsHere v i s → Leads i v.pc to → IsThere v to after objects → IsSound (record v { pc = to; frame = after; objects = objects; replies = replies; taken = taken; executed = v.executed + 1 })
+pub there_sound : (v : RunView) (i : Insn) (s : StateView) (to : ℕ) (after : Frame ℕ) (objects : List ObjectView) (replies : List Reply) (taken : List ℕ)
+    → IsHere v i s → Leads i v.pc to → IsThere v to after objects
+    → IsSound (record v { pc = to; frame = after; objects = objects; replies = replies; taken = taken; executed = v.executed + 1 })
 there_sound v i s to after objects replies taken here edge there =
     let was = going_of v here.sound here.going in
     let leads = leads_forward v i to here.sound here.at edge in
@@ -130,12 +134,16 @@ there_sound v i s to after objects replies taken here edge there =
 -- ---- what goes on
 
 -- an instruction that goes on, where the run is sound after it
-pub goes_on : (v : RunView) (i : Insn) (s : StateView) (act : Act ℕ) (to : ℕ) (after : Frame ℕ) → IsHere v i s → effect i v.pc (environment_of_view v) v.frame ≡ Goes act to after → Leads i v.pc to → FitsFrame after → HasRoom v act → ((reply : CallResult) → IsSound (acted act reply to after v)) → IsNext v
+pub goes_on : (v : RunView) (i : Insn) (s : StateView) (act : Act ℕ) (to : ℕ) (after : Frame ℕ) → IsHere v i s
+    → effect i v.pc (environment_of_view v) v.frame ≡ Goes act to after → Leads i v.pc to → FitsFrame after → HasRoom v act
+    → ((reply : CallResult) → IsSound (acted act reply to after v)) → IsNext v
 goes_on v i s act to after here does edge fit room sound =
     inl (act, to, after, record { does = effect_here v i s here ∙ does; forward = (leads_forward v i to here.sound here.at edge).0; edge = (i, here.at, edge); fit = fit; room = room; sound = sound })
 
 -- one that asks for nothing
-pub goes_quietly : (v : RunView) (i : Insn) (s : StateView) (to : ℕ) (after : Frame ℕ) → IsHere v i s → effect i v.pc (environment_of_view v) v.frame ≡ Goes Nothing to after → Leads i v.pc to → IsFrame after → Arrives (entry_of v.subject.program to) after v.objects → IsNext v
+pub goes_quietly : (v : RunView) (i : Insn) (s : StateView) (to : ℕ) (after : Frame ℕ) → IsHere v i s
+    → effect i v.pc (environment_of_view v) v.frame ≡ Goes Nothing to after → Leads i v.pc to → IsFrame after
+    → Arrives (entry_of v.subject.program to) after v.objects → IsNext v
 goes_quietly v i s to after here does edge frame state =
     let forward = (leads_forward v i to here.sound here.at edge).0 in
     goes_on v i s Nothing to after here does edge frame.fit tt (λ reply. there_sound v i s to after v.objects v.replies v.taken here edge (stays_there v i s to after here forward frame state))

@@ -37,16 +37,19 @@ use Rattle.ebpf_machine.proofs.Rules.Operations.{IsFitting}
 use Rattle.ebpf_machine.proofs.Rules.Registers.{IsFrame, IsFrame-with, AreOf-with}
 use Rattle.ebpf_machine.proofs.Rules.Next.{IsHere, IsNext, defined_in, frame_of, goes_quietly}
 
-constant_holds : (calls : List ℕ) (width : Width) (z : ℤ) → FitsSigned w32 z → IsOf calls (Num (constant (immediate width z))) (Some (Number (immediate width z)))
+constant_holds : (calls : List ℕ) (width : Width) (z : ℤ) → FitsSigned w32 z
+    → IsOf calls (Num (constant (immediate width z))) (Some (Number (immediate width z)))
 constant_holds calls W32 z fits = ((omega arith, omega arith), omega (arith, ints))
 constant_holds calls W64 z fits = ((omega arith, omega arith), omega (arith, ints))
 
-pub operand_sound : (s : StateView) (frame : Frame ℕ) (objects : List ObjectView) (width : Width) (src : Source) → IsSource src → AreOf s frame objects → IsOf (calls_of objects) (operand s width src) (source_value frame width src)
+pub operand_sound : (s : StateView) (frame : Frame ℕ) (objects : List ObjectView) (width : Width) (src : Source) → IsSource src
+    → AreOf s frame objects → IsOf (calls_of objects) (operand s width src) (source_value frame width src)
 operand_sound s frame objects width (Register r) fits h = h.each (number_of r) (number_of-lt r)
 operand_sound s frame objects width (Imm z) fits h = constant_holds (calls_of objects) width z fits
 
 pub source_fits : (frame : Frame ℕ) (width : Width) (src : Source) → IsFrame frame → FitsRegister (source_value frame width src)
-source_fits frame width (Register r) h = let room = number_of-lt r in let whole = h.whole in All-get_or FitsRegister frame.registers (number_of r) None (omega arith) h.fit.registers
+source_fits frame width (Register r) h =
+    let room = number_of-lt r in let whole = h.whole in All-get_or FitsRegister frame.registers (number_of r) None (omega arith) h.fit.registers
 source_fits frame width (Imm z) h = tt
 
 -- what is known of a register, and its value
@@ -66,7 +69,8 @@ some_slots (insn.Wide dst value) = omega arith
 some_slots _ = omega arith
 
 -- an instruction whose result is one that its rule speaks of
-pub result_next : (v : RunView) (i : Insn) (s : StateView) (dst : Reg) (known : Abs) (result : Result (Value ℕ) Trap) → IsHere v i s → Writes v i s dst known result → is_frame_pointer dst ≡ false → IsFitting (calls_of v.objects) known result → IsNext v
+pub result_next : (v : RunView) (i : Insn) (s : StateView) (dst : Reg) (known : Abs) (result : Result (Value ℕ) Trap) → IsHere v i s
+    → Writes v i s dst known result → is_frame_pointer dst ≡ false → IsFitting (calls_of v.objects) known result → IsNext v
 result_next v i s dst known result here w low r =
     let frame = frame_of v here.sound in
     let some = some_slots i in

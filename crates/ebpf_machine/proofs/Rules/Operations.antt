@@ -40,7 +40,8 @@ set_value calls (Ob c a b) None e h = absurd h
 set_value calls (May c) None e h = absurd h
 
 -- a value that is a number
-pub number_value : (calls : List ℕ) (a : Abs) (x : Option (Value ℕ)) → is_unset a ≡ false → is_may a ≡ false → is_pointer a ≡ false → IsOf calls a x → (n : ℕ) × (r : Range) × (x ≡ Some (Number n)) × (a ≡ Num r) × IsWithin n r × (n < 2 ^ 64)
+pub number_value : (calls : List ℕ) (a : Abs) (x : Option (Value ℕ)) → is_unset a ≡ false → is_may a ≡ false → is_pointer a ≡ false
+    → IsOf calls a x → (n : ℕ) × (r : Range) × (x ≡ Some (Number n)) × (a ≡ Num r) × IsWithin n r × (n < 2 ^ 64)
 number_value calls Unset x e m p h = absurd (cc)
 number_value calls (May c) x e m p h = absurd (cc)
 number_value calls (Stk k) x e m p h = absurd (cc)
@@ -78,7 +79,9 @@ moved_between : (a b k low high s : ℤ) (e f : ℤ) → e ≡ a +ℤ low → f 
 moved_between a b k low high s e f p q ak kb ls sh = (omega (arith, ints, p, ak, ls), omega (arith, ints, q, kb, sh))
 
 -- a pointer that is moved by a number between two ends lands between the moved ends of its offset. The stack's are exact
-pub moved_fits : (calls : List ℕ) (p q : Abs) (v : Value ℕ) (z : ℤ) (ends : ℤ × ℤ) → is_pointer p ≡ true → IsOf calls p (Some v) → ends.0 ≤ℤ z → z ≤ℤ ends.1 → ((k : ℤ) → p ≡ Stk k → z ≡ ends.0) → moved_by p (Some ends) ≡ Some q → IsFitting calls q (shifted v z)
+pub moved_fits : (calls : List ℕ) (p q : Abs) (v : Value ℕ) (z : ℤ) (ends : ℤ × ℤ) → is_pointer p ≡ true → IsOf calls p (Some v)
+    → ends.0 ≤ℤ z → z ≤ℤ ends.1 → ((k : ℤ) → p ≡ Stk k → z ≡ ends.0) → moved_by p (Some ends) ≡ Some q
+    → IsFitting calls q (shifted v z)
 moved_fits calls Unset q v z ends is_p h low high exact m = absurd (cc)
 moved_fits calls (Num a) q v z ends is_p h low high exact m = absurd (cc)
 moved_fits calls (May c) q v z ends is_p h low high exact m = absurd (cc)
@@ -104,7 +107,8 @@ moved_fits calls (Ctx a d) q _ z ends is_p h low high exact m = absurd h
 moved_fits calls (Ob c a d) q _ z ends is_p h low high exact m = absurd h
 
 -- a number of a constant range, read as a signed one, is either end
-pub constant_reading : (b : Range) (n : ℕ) (ends : ℤ × ℤ) → not (eqb b.lo b.hi) ≡ false → IsWithin n b → signed_ends b ≡ Some ends → (signed_of n ≡ ends.0) × (signed_of n ≡ ends.1)
+pub constant_reading : (b : Range) (n : ℕ) (ends : ℤ × ℤ) → not (eqb b.lo b.hi) ≡ false → IsWithin n b → signed_ends b ≡ Some ends
+    → (signed_of n ≡ ends.0) × (signed_of n ≡ ends.1)
 constant_reading b n ends one h e =
     let same : b.lo ≡ b.hi = ends_meet b.lo b.hi one in
     let low : n ≡ b.lo = omega arith in

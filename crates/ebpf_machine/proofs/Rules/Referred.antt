@@ -63,15 +63,18 @@ tested_kinds other call (h ∷ held) =
     ∙ sym (kind_first other h held)
   where
     same : (r : Held) → ((tested_reference call r).call ≡ r.call) × ((tested_reference call r).kind ≡ r.kind)
-    same r = cond_both (r.call == call) (record r { tested = true }) r (λ (q : Held). (q.call ≡ r.call) × (q.kind ≡ r.kind)) (λ e. (refl, refl)) (λ e. (refl, refl))
+    same r =
+        cond_both (r.call == call) (record r { tested = true }) r (λ (q : Held). (q.call ≡ r.call) × (q.kind ≡ r.kind)) (λ e. (refl, refl)) (λ e. (refl, refl))
 
 -- ---- filters
 
 -- a filter that keeps each reference of a call
-pub kept_kinds : (call : ℕ) (p : Held → Bool) (held : List Held) → ((h : Held) → h.call ≡ call → p h ≡ true) → kind_among call (filter p held) ≡ kind_among call held
+pub kept_kinds : (call : ℕ) (p : Held → Bool) (held : List Held) → ((h : Held) → h.call ≡ call → p h ≡ true)
+    → kind_among call (filter p held) ≡ kind_among call held
 kept_kinds call p [] keeps = refl
 kept_kinds call p (h ∷ held) keeps = by (p h) (h.call == call) (kept_kinds call p held keeps) refl refl where
-  by : (t u : Bool) → kind_among call (filter p held) ≡ kind_among call held → p h ≡ t → (h.call == call) ≡ u → kind_among call (cond t (h ∷ filter p held) (filter p held)) ≡ kind_among call (h ∷ held)
+  by : (t u : Bool) → kind_among call (filter p held) ≡ kind_among call held → p h ≡ t → (h.call == call) ≡ u
+      → kind_among call (cond t (h ∷ filter p held) (filter p held)) ≡ kind_among call (h ∷ held)
   by true u rest e f = kind_first call h (filter p held) ∙ ap (λ (o : Option ℕ). kind_or (h.call == call) h o) rest ∙ sym (kind_first call h held)
   by false true rest e f = let kept = keeps h (eqb-true h.call call f) in absurd (cc)
   by false false rest e f = rest ∙ sym (ap (λ (t : Bool). kind_or t h (kind_among call held)) f) ∙ sym (kind_first call h held)
@@ -80,7 +83,8 @@ kept_kinds call p (h ∷ held) keeps = by (p h) (h.call == call) (kept_kinds cal
 pub dropped_kinds : (call : ℕ) (p : Held → Bool) (held : List Held) → ((h : Held) → h.call ≡ call → p h ≡ false) → kind_among call (filter p held) ≡ None
 dropped_kinds call p [] drops = refl
 dropped_kinds call p (h ∷ held) drops = by (p h) (h.call == call) (dropped_kinds call p held drops) refl refl where
-  by : (t u : Bool) → kind_among call (filter p held) ≡ None → p h ≡ t → (h.call == call) ≡ u → kind_among call (cond t (h ∷ filter p held) (filter p held)) ≡ None
+  by : (t u : Bool) → kind_among call (filter p held) ≡ None → p h ≡ t → (h.call == call) ≡ u
+      → kind_among call (cond t (h ∷ filter p held) (filter p held)) ≡ None
   by true true rest e f = let dropped = drops h (eqb-true h.call call f) in absurd (cc)
   by true false rest e f = kind_first call h (filter p held) ∙ ap (λ (t : Bool). kind_or t h (kind_among call (filter p held))) f ∙ rest
   by false u rest e f = rest
@@ -91,10 +95,13 @@ kinds_without other call held apart = kept_kinds other (λ h. not (h.call == cal
 
 -- ---- a call asks for an object
 
-kind_appended : (call : ℕ) (first : List Held) (new : Held) (last : List Held) → kind_among call (first ++ (new ∷ last)) ≡ option_or (kind_among call first) (kind_or (new.call == call) new (kind_among call last))
+kind_appended : (call : ℕ) (first : List Held) (new : Held) (last : List Held)
+    → kind_among call (first ++ (new ∷ last)) ≡ option_or (kind_among call first) (kind_or (new.call == call) new (kind_among call last))
 kind_appended call [] new last = kind_first call new last
 kind_appended call (h ∷ first) new last = by (h.call == call) (kind_appended call first new last) where
-  by : (t : Bool) → kind_among call (first ++ (new ∷ last)) ≡ option_or (kind_among call first) (kind_or (new.call == call) new (kind_among call last)) → option_map (λ (x : Held). x.kind) (cond t (Some h) (find (λ x. x.call == call) (first ++ (new ∷ last)))) ≡ option_or (option_map (λ (x : Held). x.kind) (cond t (Some h) (find (λ x. x.call == call) first))) (kind_or (new.call == call) new (kind_among call last))
+  by : (t : Bool)
+      → kind_among call (first ++ (new ∷ last)) ≡ option_or (kind_among call first) (kind_or (new.call == call) new (kind_among call last))
+      → option_map (λ (x : Held). x.kind) (cond t (Some h) (find (λ x. x.call == call) (first ++ (new ∷ last)))) ≡ option_or (option_map (λ (x : Held). x.kind) (cond t (Some h) (find (λ x. x.call == call) first))) (kind_or (new.call == call) new (kind_among call last))
   by true e = refl
   by false e = e
 
@@ -133,12 +140,16 @@ new_kind new held =
 without_fewer : (call kind : ℕ) (held : List Held) → kind_among call held ≡ Some kind → length (held_without call held) < length held
 without_fewer call kind [] e = absurd (cc)
 without_fewer call kind (h ∷ held) e = by (h.call == call) (sym (kind_first call h held) ∙ e) (λ there. without_fewer call kind held there) where
-  by : (t : Bool) → kind_or t h (kind_among call held) ≡ Some kind → (kind_among call held ≡ Some kind → length (held_without call held) < length held) → length (cond (not t) (h ∷ held_without call held) (held_without call held)) < length (h ∷ held)
-  by true e rest = let few = length-filter_both (λ (r : Held). not (r.call == call)) (λ (r : Held). not (not (r.call == call))) (λ r. refl) held in omega (arith, few)
+  by : (t : Bool) → kind_or t h (kind_among call held) ≡ Some kind
+      → (kind_among call held ≡ Some kind → length (held_without call held) < length held)
+      → length (cond (not t) (h ∷ held_without call held) (held_without call held)) < length (h ∷ held)
+  by true e rest =
+      let few = length-filter_both (λ (r : Held). not (r.call == call)) (λ (r : Held). not (not (r.call == call))) (λ r. refl) held in omega (arith, few)
   by false e rest = let less = rest e in omega (arith, less)
 
 -- objects of calls in order, of which each is held, are at most as many
-pub objects_few : (objects : List ObjectView) (held : List Held) → IsAscending (calls_of objects) → ((o : ObjectView) → Contains objects o → kind_among o.call held ≡ Some o.kind) → length objects ≤ length held
+pub objects_few : (objects : List ObjectView) (held : List Held) → IsAscending (calls_of objects)
+    → ((o : ObjectView) → Contains objects o → kind_among o.call held ≡ Some o.kind) → length objects ≤ length held
 objects_few [] held order h = omega arith
 objects_few (o ∷ objects) held order h =
     let here = h o (Contains-head o objects) in

@@ -56,16 +56,21 @@ IsFrame-with frame r x low fits h = record {
 }
 
 -- a write on both sides
-set_at : (s : StateView) (frame : Frame ℕ) (objects : List ObjectView) (n : ℕ) (a : Abs) (x : Option (Value ℕ)) (k : ℕ) → n < length s.registers → n < length frame.registers → k < 11 → AreOf s frame objects → IsOf (calls_of objects) a x → (k < n) ⊎ (n ≤ k) → IsOf (calls_of objects) (get_or (set s.registers n a) k Unset) (get_or (set frame.registers n x) k None)
+set_at : (s : StateView) (frame : Frame ℕ) (objects : List ObjectView) (n : ℕ) (a : Abs) (x : Option (Value ℕ)) (k : ℕ)
+    → n < length s.registers → n < length frame.registers → k < 11 → AreOf s frame objects → IsOf (calls_of objects) a x
+    → (k < n) ⊎ (n ≤ k) → IsOf (calls_of objects) (get_or (set s.registers n a) k Unset) (get_or (set frame.registers n x) k None)
 set_at s frame objects n a x k ls lr lt h e (inl below) =
     let other : k ≢ n = omega arith in
     rw (get_or-set_other s.registers n k a Unset other, get_or-set_other frame.registers n k x None other) (h.each k lt)
 set_at s frame objects n a x k ls lr lt h e (inr above) = elim (cases_lt n k) [
-  | inl below ↦ let other : k ≢ n = omega arith in rw (get_or-set_other s.registers n k a Unset other, get_or-set_other frame.registers n k x None other) (h.each k lt)
+  | inl below ↦ let other : k ≢ n =
+      omega arith in rw (get_or-set_other s.registers n k a Unset other, get_or-set_other frame.registers n k x None other) (h.each k lt)
   | inr not_below ↦ let same : k ≡ n = omega arith in rw (same, get_or-set_same s.registers n a Unset ls, get_or-set_same frame.registers n x None lr) e
 ]
 
-pub AreOf-with : (s : StateView) (frame : Frame ℕ) (objects : List ObjectView) (r : Reg) (a : Abs) (x : Option (Value ℕ)) → length s.registers ≡ 11 → length frame.registers ≡ 11 → AreOf s frame objects → IsOf (calls_of objects) a x → AreOf (with_register s r a) (with frame r x) objects
+pub AreOf-with : (s : StateView) (frame : Frame ℕ) (objects : List ObjectView) (r : Reg) (a : Abs) (x : Option (Value ℕ))
+    → length s.registers ≡ 11 → length frame.registers ≡ 11 → AreOf s frame objects → IsOf (calls_of objects) a x
+    → AreOf (with_register s r a) (with frame r x) objects
 AreOf-with s frame objects r a x ls lr h e =
     let room = number_of-lt r in
     record { each = λ k lt. set_at s frame objects (number_of r) a x k (omega arith) (omega arith) lt h e (cases_lt k (number_of r)); words = h.words; held = h.held }
@@ -86,19 +91,23 @@ record AreBoth (s : StateView) (frame : Frame ℕ) (objects : List ObjectView) :
   whole : length frame.registers ≡ 11
   state : AreOf s frame objects
 
-both_with : (s : StateView) (frame : Frame ℕ) (objects : List ObjectView) (r : Reg) (a : Abs) (x : Option (Value ℕ)) → IsOf (calls_of objects) a x → AreBoth s frame objects → AreBoth (with_register s r a) (with frame r x) objects
+both_with : (s : StateView) (frame : Frame ℕ) (objects : List ObjectView) (r : Reg) (a : Abs) (x : Option (Value ℕ))
+    → IsOf (calls_of objects) a x → AreBoth s frame objects → AreBoth (with_register s r a) (with frame r x) objects
 both_with s frame objects r a x e h = record {
   known = length-set s.registers (number_of r) a ∙ h.known;
   whole = length-set frame.registers (number_of r) x ∙ h.whole;
   state = AreOf-with s frame objects r a x h.known h.whole h.state e;
 }
 
-both_lost : (s : StateView) (frame : Frame ℕ) (objects : List ObjectView) → AreBoth s frame objects → AreBoth (known.without_arguments s) (without_arguments frame) objects
+both_lost : (s : StateView) (frame : Frame ℕ) (objects : List ObjectView) → AreBoth s frame objects
+    → AreBoth (known.without_arguments s) (without_arguments frame) objects
 both_lost s frame objects h = lost R5 _ _ (lost R4 _ _ (lost R3 _ _ (lost R2 _ _ (lost R1 s frame h)))) where
   lost : (r : Reg) (t : StateView) (f : Frame ℕ) → AreBoth t f objects → AreBoth (with_register t r Unset) (unset f r) objects
   lost r t f b = both_with t f objects r Unset None tt b
 
 -- what is known after a call speaks of the frame after it
-pub AreOf-result : (s : StateView) (frame : Frame ℕ) (objects : List ObjectView) (a : Abs) (v : Value ℕ) → length s.registers ≡ 11 → length frame.registers ≡ 11 → AreOf s frame objects → IsOf (calls_of objects) a (Some v) → AreOf (with_result a s) (with_value (without_arguments frame) R0 v) objects
+pub AreOf-result : (s : StateView) (frame : Frame ℕ) (objects : List ObjectView) (a : Abs) (v : Value ℕ) → length s.registers ≡ 11
+    → length frame.registers ≡ 11 → AreOf s frame objects → IsOf (calls_of objects) a (Some v)
+    → AreOf (with_result a s) (with_value (without_arguments frame) R0 v) objects
 AreOf-result s frame objects a v ls lr h e =
     (both_with (known.without_arguments s) (without_arguments frame) objects R0 a (Some v) e (both_lost s frame objects (record { known = ls; whole = lr; state = h }))).state

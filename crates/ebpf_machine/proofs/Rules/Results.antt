@@ -32,11 +32,15 @@ pub record IsRow (row : Range → Range) (f : ℕ → ℕ) : Type 0 where
   pub holds : (a : Range) (n : ℕ) → IsBounded a → IsWithin n a → IsWithin (f n) (row a)
   pub below : (n : ℕ) → f n < 2 ^ 64
 
-unary_of_number : (calls : List ℕ) (row : Range → Range) (f : ℕ → ℕ) (a : Abs) (x : Option (Value ℕ)) (n : ℕ) (r : Range) → IsRow row f → x ≡ Some (Number n) → a ≡ Num r → IsBounded r → IsWithin n r → IsFitting calls (unary_value row a) (unary f x)
-unary_of_number calls row f a x n r is value known bound h = rw (value, known) (record { v = Number (f n); is = refl; fits = tt; of = (is.holds r n bound h, is.below n) })
+unary_of_number : (calls : List ℕ) (row : Range → Range) (f : ℕ → ℕ) (a : Abs) (x : Option (Value ℕ)) (n : ℕ) (r : Range)
+    → IsRow row f → x ≡ Some (Number n) → a ≡ Num r → IsBounded r → IsWithin n r → IsFitting calls (unary_value row a) (unary f x)
+unary_of_number calls row f a x n r is value known bound h =
+    rw (value, known) (record { v = Number (f n); is = refl; fits = tt; of = (is.holds r n bound h, is.below n) })
 
 -- an operation on one number that is not refused
-pub unary_sound : (calls : List ℕ) (slot : ℕ) (row : Range → Range) (f : ℕ → ℕ) (a : Abs) (x : Option (Value ℕ)) (dst : Reg) → IsRow row f → unary_refusal a dst ≡ None → IsBoundedValue slot a → IsOf calls a x → (is_frame_pointer dst ≡ false) × IsFitting calls (unary_value row a) (unary f x)
+pub unary_sound : (calls : List ℕ) (slot : ℕ) (row : Range → Range) (f : ℕ → ℕ) (a : Abs) (x : Option (Value ℕ)) (dst : Reg)
+    → IsRow row f → unary_refusal a dst ≡ None → IsBoundedValue slot a → IsOf calls a x
+    → (is_frame_pointer dst ≡ false) × IsFitting calls (unary_value row a) (unary f x)
 unary_sound calls slot row f a x dst is fine bound h =
     let u = none_first (is_unset a) _ _ fine in
     let b = none_first (is_frame_pointer dst) _ _ u.1 in
@@ -45,11 +49,15 @@ unary_sound calls slot row f a x dst is fine bound h =
     let n = number_value calls a x u.0 m.0 p.0 h in
     (b.0, unary_of_number calls row f a x n.0 n.1 is n.2 n.3 (subst (IsBoundedValue slot) n.3 bound) n.4)
 
-binary_of_numbers : (calls : List ℕ) (o : AluOp) (width : Width) (left right : Abs) (x y : Option (Value ℕ)) (m n : ℕ) (a b : Range) → x ≡ Some (Number m) → left ≡ Num a → y ≡ Some (Number n) → right ≡ Num b → IsBounded a → IsBounded b → IsWithin m a → IsWithin n b → IsFitting calls (binary_value o width left right) (binary width o x y)
+binary_of_numbers : (calls : List ℕ) (o : AluOp) (width : Width) (left right : Abs) (x y : Option (Value ℕ)) (m n : ℕ) (a b : Range)
+    → x ≡ Some (Number m) → left ≡ Num a → y ≡ Some (Number n) → right ≡ Num b → IsBounded a → IsBounded b → IsWithin m a
+    → IsWithin n b → IsFitting calls (binary_value o width left right) (binary width o x y)
 binary_of_numbers calls o width left right x y m n a b e f g i bound_a bound_b h k = rw (e, f, g, i) (numbers_fit calls o width a b m n bound_a bound_b h k)
 
 -- an operation on two numbers that is not refused
-binary_sound : (calls : List ℕ) (slot : ℕ) (o : AluOp) (width : Width) (left right : Abs) (x y : Option (Value ℕ)) (dst : Reg) → binary_refusal left right dst ≡ None → IsBoundedValue slot left → IsBoundedValue slot right → IsOf calls left x → IsOf calls right y → (is_frame_pointer dst ≡ false) × IsFitting calls (binary_value o width left right) (binary width o x y)
+binary_sound : (calls : List ℕ) (slot : ℕ) (o : AluOp) (width : Width) (left right : Abs) (x y : Option (Value ℕ)) (dst : Reg)
+    → binary_refusal left right dst ≡ None → IsBoundedValue slot left → IsBoundedValue slot right → IsOf calls left x
+    → IsOf calls right y → (is_frame_pointer dst ≡ false) × IsFitting calls (binary_value o width left right) (binary width o x y)
 binary_sound calls slot o width left right x y dst fine bound_left bound_right h k =
     let a = none_first (is_unset left || is_unset right) _ _ fine in
     let b = none_first (is_frame_pointer dst) _ _ a.1 in
@@ -62,11 +70,13 @@ binary_sound calls slot o width left right x y dst fine bound_left bound_right h
     let w = number_value calls right y set.1 may.1 pointers.1 k in
     (b.0, binary_of_numbers calls o width left right x y v.0 w.0 v.1 w.1 v.2 v.3 w.2 w.3 (subst (IsBoundedValue slot) v.3 bound_left) (subst (IsBoundedValue slot) w.3 bound_right) v.4 w.4)
 
-copied_value : (calls : List ℕ) (right : Abs) (y : Option (Value ℕ)) (v : Value ℕ) → y ≡ Some v → FitsValue v → IsOf calls right (Some v) → IsFitting calls right (copied y)
+copied_value : (calls : List ℕ) (right : Abs) (y : Option (Value ℕ)) (v : Value ℕ) → y ≡ Some v → FitsValue v
+    → IsOf calls right (Some v) → IsFitting calls right (copied y)
 copied_value calls right y v e fits h = rw e (record { v = v; is = refl; fits = fits; of = h })
 
 -- a move at 64 bits
-copy_sound : (calls : List ℕ) (right : Abs) (y : Option (Value ℕ)) (dst : Reg) → mov64_refusal right dst ≡ None → IsOf calls right y → FitsRegister y → (is_frame_pointer dst ≡ false) × IsFitting calls right (copied y)
+copy_sound : (calls : List ℕ) (right : Abs) (y : Option (Value ℕ)) (dst : Reg) → mov64_refusal right dst ≡ None → IsOf calls right y
+    → FitsRegister y → (is_frame_pointer dst ≡ false) × IsFitting calls right (copied y)
 copy_sound calls right y dst fine k fits =
     let a = none_first (is_unset right) _ _ fine in
     let b = none_first (is_frame_pointer dst) _ _ a.1 in
@@ -94,9 +104,15 @@ pub record IsComputed (calls : List ℕ) (width : Width) (o : AluOp) (left right
   pub low : is_frame_pointer dst ≡ false
   pub result : IsFitting calls (result_of width o left right) (alu_value width o x y)
 
-pub alu_sound : (calls : List ℕ) (slot : ℕ) (width : Width) (o : AluOp) (left right : Abs) (x y : Option (Value ℕ)) (dst : Reg) → alu_refusal width o left right dst ≡ None → IsBoundedValue slot left → IsBoundedValue slot right → IsOf calls left x → IsOf calls right y → FitsRegister y → IsComputed calls width o left right x y dst
+pub alu_sound : (calls : List ℕ) (slot : ℕ) (width : Width) (o : AluOp) (left right : Abs) (x y : Option (Value ℕ)) (dst : Reg)
+    → alu_refusal width o left right dst ≡ None → IsBoundedValue slot left → IsBoundedValue slot right → IsOf calls left x
+    → IsOf calls right y → FitsRegister y → IsComputed calls width o left right x y dst
 alu_sound calls slot W64 op.Mov left right x y dst fine u t h k fits = let it = copy_sound calls right y dst fine k fits in record { low = it.0; result = it.1 }
-alu_sound calls slot W32 op.Mov left right x y dst fine u t h k fits = let it = unary_sound calls slot low (kept_at W32) right y dst low_row fine t k in record { low = it.0; result = it.1 }
-alu_sound calls slot W64 op.Add left right x y dst fine u t h k fits = let it = sum_sound calls slot left right x y dst fine u t h k in record { low = it.0; result = it.1 }
-alu_sound calls slot W64 op.Sub left right x y dst fine u t h k fits = let it = difference_sound calls slot left right x y dst fine u t h k in record { low = it.0; result = it.1 }
-alu_sound calls slot width o left right x y dst fine u t h k fits = let it = binary_sound calls slot o width left right x y dst fine u t h k in record { low = it.0; result = it.1 }
+alu_sound calls slot W32 op.Mov left right x y dst fine u t h k fits =
+    let it = unary_sound calls slot low (kept_at W32) right y dst low_row fine t k in record { low = it.0; result = it.1 }
+alu_sound calls slot W64 op.Add left right x y dst fine u t h k fits =
+    let it = sum_sound calls slot left right x y dst fine u t h k in record { low = it.0; result = it.1 }
+alu_sound calls slot W64 op.Sub left right x y dst fine u t h k fits =
+    let it = difference_sound calls slot left right x y dst fine u t h k in record { low = it.0; result = it.1 }
+alu_sound calls slot width o left right x y dst fine u t h k fits =
+    let it = binary_sound calls slot o width left right x y dst fine u t h k in record { low = it.0; result = it.1 }

@@ -23,7 +23,8 @@ same_word place bytes = refl
 pub same_frame_pointer : (r : Reg) → operations.is_frame_pointer r ≡ machine.is_frame_pointer r
 same_frame_pointer r = refl
 
-pub same_null_test : (width : Width) (condition : Cond) (right : Source) → branches.compares_with_null width condition right ≡ machine.compares_with_null width condition right
+pub same_null_test : (width : Width) (condition : Cond) (right : Source)
+    → branches.compares_with_null width condition right ≡ machine.compares_with_null width condition right
 same_null_test width condition right = refl
 
 pub same_helper : (number : ℤ) → calls.helper_of number ≡ machine.helper_of number

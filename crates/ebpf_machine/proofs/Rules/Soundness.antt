@@ -69,7 +69,9 @@ alu_next v width o dst src s here =
     result_next v i s dst (result_of width o left right) (alu_value width o (read v.frame dst) (source_value v.frame width src)) here (record { does = refl; falls = refl; sends = refl }) sound.low sound.result
 
 -- an operation on one number
-unary_next : (v : RunView) (i : Insn) (s : StateView) (dst src : Reg) (row : Range → Range) (f : ℕ → ℕ) → IsHere v i s → IsRow row f → refusal v.subject.decl v.subject.rows i s ≡ unary_refusal (register_of s src) dst → Writes v i s dst (unary_value row (register_of s src)) (unary f (read v.frame src)) → IsNext v
+unary_next : (v : RunView) (i : Insn) (s : StateView) (dst src : Reg) (row : Range → Range) (f : ℕ → ℕ) → IsHere v i s → IsRow row f
+    → refusal v.subject.decl v.subject.rows i s ≡ unary_refusal (register_of s src) dst
+    → Writes v i s dst (unary_value row (register_of s src)) (unary f (read v.frame src)) → IsNext v
 unary_next v i s dst src row f here is by w =
     let sound = unary_sound (calls_of v.objects) v.pc row f (register_of s src) (read v.frame src) dst is (sym by ∙ here.fine) (register_bounded v.pc s src here.full) (register_holds v i s src here) in
     result_next v i s dst (unary_value row (register_of s src)) (unary f (read v.frame src)) here w sound.0 sound.1
@@ -84,18 +86,24 @@ wide_next v dst value s here =
 -- ---- jumps and branches
 
 -- an instruction that leaves the frame as it is, and jumps
-jumps_next : (v : RunView) (i : Insn) (s after : StateView) (z : ℤ) → IsHere v i s → displacement_of i ≡ Some z → ((to : ℕ) → jump_of i v.pc ≡ Some to → effect i v.pc (environment_of_view v) v.frame ≡ Goes Nothing to v.frame) → after_jump i s ≡ Some after → AreOf after v.frame v.objects → IsNext v
+jumps_next : (v : RunView) (i : Insn) (s after : StateView) (z : ℤ) → IsHere v i s → displacement_of i ≡ Some z
+    → ((to : ℕ) → jump_of i v.pc ≡ Some to → effect i v.pc (environment_of_view v) v.frame ≡ Goes Nothing to v.frame)
+    → after_jump i s ≡ Some after → AreOf after v.frame v.objects → IsNext v
 jumps_next v i s after z here by does sends h =
     let to = jump_leads v.subject.program v.pc i z here.sound.accepted.flow here.at by in
     goes_quietly v i s to.0 v.frame here (does to.0 to.1) (inr to.1) (frame_of v here.sound)
     (jump_arrives v.subject.program v.pc to.0 i s after v.frame v.objects (defined_in v here.sound) here.at here.entered here.full sends to.1 to.2 h)
 
 -- a jump
-jump_next : (v : RunView) (i : Insn) (s : StateView) (z : ℤ) → IsHere v i s → displacement_of i ≡ Some z → effect i v.pc (environment_of_view v) v.frame ≡ effect_of_jump (jump_of i v.pc) v.frame → after_jump i s ≡ Some s → IsNext v
+jump_next : (v : RunView) (i : Insn) (s : StateView) (z : ℤ) → IsHere v i s → displacement_of i ≡ Some z
+    → effect i v.pc (environment_of_view v) v.frame ≡ effect_of_jump (jump_of i v.pc) v.frame → after_jump i s ≡ Some s → IsNext v
 jump_next v i s z here by does sends = jumps_next v i s s z here by (λ to at. does ∙ ap (λ (o : Option ℕ). effect_of_jump o v.frame) at) sends here.state
 
 -- a branch that goes one way, where what it sends there speaks of the run
-branch_leads : (v : RunView) (width : Width) (condition : Cond) (left : Reg) (right : Source) (offset : ℤ) (s after : StateView) (taken : Bool) → IsHere v (insn.Branch width condition left right offset) s → is_taken width condition right (read v.frame left) (source_value v.frame width right) ≡ Ok taken → after_branch condition width left right taken s ≡ Some after → AreOf after v.frame v.objects → IsNext v
+branch_leads : (v : RunView) (width : Width) (condition : Cond) (left : Reg) (right : Source) (offset : ℤ) (s after : StateView) (taken : Bool)
+    → IsHere v (insn.Branch width condition left right offset) s
+    → is_taken width condition right (read v.frame left) (source_value v.frame width right) ≡ Ok taken
+    → after_branch condition width left right taken s ≡ Some after → AreOf after v.frame v.objects → IsNext v
 branch_leads v width condition left right offset s after true here goes sends h =
     jumps_next v (insn.Branch width condition left right offset) s after offset here refl (λ to at. rw (goes, at) refl) sends h
 branch_leads v width condition left right offset s after false here goes sends h =
@@ -103,10 +111,13 @@ branch_leads v width condition left right offset s after false here goes sends h
     goes_quietly v i s (v.pc + 1) v.frame here (rw goes refl) (inl refl) (frame_of v here.sound)
     (fall_arrives v.subject.program v.pc (v.pc + 1) i s after v.frame v.objects (defined_in v here.sound) here.at here.entered here.full sends refl (omega arith) h)
 
-register_source : (frame : Frame ℕ) (calls : List ℕ) (width : Width) (src : Source) (a : Abs) → IsOf calls a (source_value frame width src) → (r : Reg) → src ≡ Register r → IsOf calls a (read frame r)
+register_source : (frame : Frame ℕ) (calls : List ℕ) (width : Width) (src : Source) (a : Abs)
+    → IsOf calls a (source_value frame width src) → (r : Reg) → src ≡ Register r → IsOf calls a (read frame r)
 register_source frame calls width src a h r same = subst (λ (q : Source). IsOf calls a (source_value frame width q)) same h
 
-branch_next : (v : RunView) (width : Width) (condition : Cond) (left : Reg) (right : Source) (offset : ℤ) (s : StateView) (test : Option ℕ) → null_test width condition (register_of s left) right ≡ test → IsHere v (insn.Branch width condition left right offset) s → IsNext v
+branch_next : (v : RunView) (width : Width) (condition : Cond) (left : Reg) (right : Source) (offset : ℤ) (s : StateView) (test : Option ℕ)
+    → null_test width condition (register_of s left) right ≡ test → IsHere v (insn.Branch width condition left right offset) s
+    → IsNext v
 branch_next v width condition left right offset s None is here =
     let i = insn.Branch width condition left right offset in
     let source = (defined_in v here.sound v.pc i here.at).0 in
@@ -133,7 +144,8 @@ branch_next v width condition left right offset s (Some call) is here =
 abbrev IsNumber : Option (Value ℕ) → Type 0
 IsNumber x = (n : ℕ) × (x ≡ Some (Number n))
 
-returns_number : (calls : List ℕ) (a : Abs) (held : ℕ) (x : Option (Value ℕ)) → exit_refusal a held ≡ None → IsOf calls a x → IsNumber x × (nat_lt 0 held ≡ false)
+returns_number : (calls : List ℕ) (a : Abs) (held : ℕ) (x : Option (Value ℕ)) → exit_refusal a held ≡ None → IsOf calls a x
+    → IsNumber x × (nat_lt 0 held ≡ false)
 returns_number calls a held x fine h =
     let u = none_first (is_unset a) _ _ fine in
     let l = none_first (nat_lt 0 held) _ _ u.1 in
@@ -143,7 +155,8 @@ returns_number calls a held x fine h =
     ((n.0, n.2), l.0)
 
 -- where no reference is held, no object is
-no_objects : (s : StateView) (objects : List ObjectView) → nat_lt 0 (length s.held) ≡ false → IsAscending (calls_of objects) → AreReferred s objects → objects ≡ []
+no_objects : (s : StateView) (objects : List ObjectView) → nat_lt 0 (length s.held) ≡ false → IsAscending (calls_of objects)
+    → AreReferred s objects → objects ≡ []
 no_objects s [] none order h = refl
 no_objects s (o ∷ objects) none order h = absurd (is_empty (length s.held) none (objects_few (o ∷ objects) s.held order h)) where
   is_empty : (n : ℕ) → nat_lt 0 n ≡ false → suc (length objects) ≤ n → ⊥
@@ -174,14 +187,17 @@ insn_next v (insn.Swap order bits dst) s here = unary_next v (insn.Swap order bi
 insn_next v (insn.Wide dst value) s here = wide_next v dst value s here
 insn_next v (insn.Jump offset) s here = jump_next v (insn.Jump offset) s offset here refl refl refl
 insn_next v (insn.JumpFar offset) s here = jump_next v (insn.JumpFar offset) s offset here refl refl refl
-insn_next v (insn.Branch width condition left right offset) s here = branch_next v width condition left right offset s (null_test width condition (register_of s left) right) refl here
+insn_next v (insn.Branch width condition left right offset) s here =
+    branch_next v width condition left right offset s (null_test width condition (register_of s left) right) refl here
 insn_next v insn.Exit s here = exit_next v s here
 insn_next v (insn.Load size signed dst base offset) s here = load_next v size signed dst base offset s here
 insn_next v (insn.Store size base offset src) s here = store_next v size base offset src s here
 insn_next v (insn.Call number) s here = call_next v number s here
 
 -- the instruction of a sound run, at a slot that is not refused
-pub slot_next : (v : RunView) (i : Insn) (a : EntryState) → IsSound v → AreSized v → v.status ≡ Going → insn_at v.subject.program v.pc ≡ Some i → entry_of v.subject.program v.pc ≡ a → IsWhole v.pc a → Arrives a v.frame v.objects → refusal_in v.subject.decl v.subject.rows (Some i) a ≡ None → IsNext v
+pub slot_next : (v : RunView) (i : Insn) (a : EntryState) → IsSound v → AreSized v → v.status ≡ Going
+    → insn_at v.subject.program v.pc ≡ Some i → entry_of v.subject.program v.pc ≡ a → IsWhole v.pc a → Arrives a v.frame v.objects
+    → refusal_in v.subject.decl v.subject.rows (Some i) a ≡ None → IsNext v
 slot_next v i Unreached sound sized going at entered w h fine = absurd h
 slot_next v i Conflict sound sized going at entered w h fine = absurd (cc)
 slot_next v i (Known s) sound sized going at entered w h fine =

@@ -46,7 +46,8 @@ pub record IsStored (calls : List ℕ) (s after : StateView) (store : Result (Li
 length-stored : (place bytes : ℕ) (v : Value ℕ) (stack : List (Cell ℕ)) → length (stored_cells place bytes v stack) ≡ length stack
 length-stored place bytes v stack = length-map (enumerate_from 0 stack) (λ (p : ℕ × Cell ℕ). stored_cell place bytes v p.0 p.1) ∙ length-enumerate_from 0 stack
 
-cell_stored : (place bytes : ℕ) (v : Value ℕ) (stack : List (Cell ℕ)) (i : ℕ) → i < length stack → cell_at (stored_cells place bytes v stack) i ≡ stored_cell place bytes v i (cell_at stack i)
+cell_stored : (place bytes : ℕ) (v : Value ℕ) (stack : List (Cell ℕ)) (i : ℕ) → i < length stack
+    → cell_at (stored_cells place bytes v stack) i ≡ stored_cell place bytes v i (cell_at stack i)
 cell_stored place bytes v stack i lt =
     let f = λ (p : ℕ × Cell ℕ). stored_cell place bytes v p.0 p.1 in
     let none : ℕ × Cell ℕ = (0, cell.Unset) in
@@ -70,7 +71,8 @@ value_fits (Number n) j h = tt
 value_fits (Pointer base k) j h = h
 
 -- what holds of the cells of the value and of those that are left holds of all
-each_cell : (P : Cell ℕ → Type 0) (place bytes : ℕ) (v : Value ℕ) (i : ℕ) (old : Cell ℕ) → ((j : ℕ) → P (cell_of v j)) → P (left_over old) → P old → P (stored_cell place bytes v i old)
+each_cell : (P : Cell ℕ → Type 0) (place bytes : ℕ) (v : Value ℕ) (i : ℕ) (old : Cell ℕ) → ((j : ℕ) → P (cell_of v j))
+    → P (left_over old) → P old → P (stored_cell place bytes v i old)
 each_cell P place bytes v i old value left kept =
     cond_both (is_among place bytes i) (cell_of v (i - place)) (cond (touches place bytes (i / 8)) (left_over old) old) P
     (λ e. value (i - place))
@@ -94,14 +96,17 @@ not_among : (place bytes i : ℕ) → (place ≤ i → i < place + bytes → ⊥
 not_among place bytes i apart = false_from_ne_true (is_among place bytes i) (λ e. let both = and_parts (nat_le place i) (nat_lt i (place + bytes)) e in apart (leb-true place i both.0) (ltb-true i (place + bytes) both.1))
 
 -- a cell of a word that they don't lie in is as it was
-cell_outside : (place bytes : ℕ) (v : Value ℕ) (i : ℕ) (old : Cell ℕ) → (place ≤ i → i < place + bytes → ⊥) → i / 8 ≢ place / 8 → i / 8 ≢ (place + bytes - 1) / 8 → stored_cell place bytes v i old ≡ old
+cell_outside : (place bytes : ℕ) (v : Value ℕ) (i : ℕ) (old : Cell ℕ) → (place ≤ i → i < place + bytes → ⊥) → i / 8 ≢ place / 8
+    → i / 8 ≢ (place + bytes - 1) / 8 → stored_cell place bytes v i old ≡ old
 cell_outside place bytes v i old apart first last =
     cond-false (is_among place bytes i) (cell_of v (i - place)) (cond (touches place bytes (i / 8)) (left_over old) old) (not_among place bytes i apart)
     ∙ cond-false (touches place bytes (i / 8)) (left_over old) old (or_from (i / 8 == place / 8) (i / 8 == (place + bytes - 1) / 8) (ne_eqb (i / 8) (place / 8) first) (ne_eqb (i / 8) ((place + bytes - 1) / 8) last))
 
 -- ---- a word that is written as a whole
 
-whole_word : (calls : List ℕ) (words : List Word) (stack : List (Cell ℕ)) (place : ℕ) (known : Abs) (v : Value ℕ) → place % 8 ≡ 0 → place + 8 ≤ 512 → AreOfCells calls words stack → length words ≡ 64 → length stack ≡ 512 → is_unset known ≡ false → IsOf calls known (Some v) → AreOfCells calls (set words (place / 8) (spill_or_nothing known)) (stored_cells place 8 v stack)
+whole_word : (calls : List ℕ) (words : List Word) (stack : List (Cell ℕ)) (place : ℕ) (known : Abs) (v : Value ℕ) → place % 8 ≡ 0
+    → place + 8 ≤ 512 → AreOfCells calls words stack → length words ≡ 64 → length stack ≡ 512 → is_unset known ≡ false
+    → IsOf calls known (Some v) → AreOfCells calls (set words (place / 8) (spill_or_nothing known)) (stored_cells place 8 v stack)
 whole_word calls words stack place known v aligned fits h many deep known_set of w lt = by (cases_eq w (place / 8)) where
   spilled : (a : Abs) → is_unset a ≡ false → spill_or_nothing a ≡ Spill a
   spilled Unset e = absurd (cc)
@@ -111,7 +116,8 @@ whole_word calls words stack place known v aligned fits h many deep known_set of
   spilled (Ob r a b) e = refl
   spilled (May r) e = refl
 
-  by : (w ≡ place / 8) ⊎ (w ≡ place / 8 → ⊥) → IsOfCells calls (word_of (set words (place / 8) (spill_or_nothing known)) w) (word_cells (stored_cells place 8 v stack) w)
+  by : (w ≡ place / 8) ⊎ (w ≡ place / 8 → ⊥)
+      → IsOfCells calls (word_of (set words (place / 8) (spill_or_nothing known)) w) (word_cells (stored_cells place 8 v stack) w)
   by (inl here) =
       let word : word_of (set words (place / 8) (spill_or_nothing known)) w ≡ Spill known = ap (word_of (set words (place / 8) (spill_or_nothing known))) here ∙ get_or-set_same words (place / 8) (spill_or_nothing known) (Bytes 0) (omega (arith, many, fits)) ∙ spilled known known_set in
       subst (λ (x : Word). IsOfCells calls x (word_cells (stored_cells place 8 v stack) w)) (sym word) (v, of, written_cell, known_set)
@@ -123,7 +129,8 @@ whole_word calls words stack place known v aligned fits h many deep known_set of
           ∙ cell_inside place 8 v (8 * w + j) (cell_at stack (8 * w + j)) (omega (arith, here, aligned)) (omega (arith, here, aligned, less))
           ∙ ap (cell_of v) back
   by (inr other) =
-      let word : word_of (set words (place / 8) (spill_or_nothing known)) w ≡ word_of words w = get_or-set_other words (place / 8) w (spill_or_nothing known) (Bytes 0) other in
+      let word : word_of (set words (place / 8) (spill_or_nothing known)) w ≡ word_of words w =
+      get_or-set_other words (place / 8) w (spill_or_nothing known) (Bytes 0) other in
       subst (λ (x : Word). IsOfCells calls x (word_cells (stored_cells place 8 v stack) w)) (sym word) (same_cells calls (word_of words w) (word_cells stack w) (word_cells (stored_cells place 8 v stack) w) kept_cell (h w lt))
     where
       kept_cell : (j : ℕ) → j < 8 → cell_at stack (8 * w + j) ≡ cell_at (stored_cells place 8 v stack) (8 * w + j)
@@ -135,13 +142,16 @@ whole_word calls words stack place known v aligned fits h many deep known_set of
 -- ---- words that are written in part
 
 -- what is known of a word that is written in part: of the bits that are not, what was a byte stays one
-written_cells : (calls : List ℕ) (word : Word) (bits : ℕ) (old new : ℕ → Cell ℕ) → IsOfCells calls word old → ((j : ℕ) → j < 8 → bit_at bits j ≡ 1 → IsByte (new j)) → ((j : ℕ) → j < 8 → IsByte (old j) → IsByte (new j)) → (bits ≡ 0 → (j : ℕ) → j < 8 → old j ≡ new j) → IsOfCells calls (written bits word) new
+written_cells : (calls : List ℕ) (word : Word) (bits : ℕ) (old new : ℕ → Cell ℕ) → IsOfCells calls word old
+    → ((j : ℕ) → j < 8 → bit_at bits j ≡ 1 → IsByte (new j)) → ((j : ℕ) → j < 8 → IsByte (old j) → IsByte (new j))
+    → (bits ≡ 0 → (j : ℕ) → j < 8 → old j ≡ new j) → IsOfCells calls (written bits word) new
 written_cells calls word bits old new h inside kept same =
     cond_both (bits == 0) word (overwritten bits word) (λ (x : Word). IsOfCells calls x new)
     (λ e. same_cells calls word old new (same (eqb-true bits 0 e)) h)
     (λ e. over word h)
   where
-    either : (mask j : ℕ) → j < 8 → (bit_at mask j ≡ 1 → IsByte (old j)) → bit_at (bit_or mask bits) j ≡ 1 → (bit_at mask j ≡ 1) ⊎ (bit_at mask j ≡ 1 → ⊥) → IsByte (new j)
+    either : (mask j : ℕ) → j < 8 → (bit_at mask j ≡ 1 → IsByte (old j)) → bit_at (bit_or mask bits) j ≡ 1
+        → (bit_at mask j ≡ 1) ⊎ (bit_at mask j ≡ 1 → ⊥) → IsByte (new j)
     either mask j lt was bit (inl one) = kept j lt (was one)
     either mask j lt was bit (inr none) = inside j lt (omega (arith, bit_at_or mask bits j, bit, bit_at-lt mask j, bit_at-lt bits j))
 
@@ -159,7 +169,8 @@ module _ (place bytes : ℕ) (v : Value ℕ) (stack : List (Cell ℕ)) (w : ℕ)
   cell_now : (j : ℕ) → j < 8 → cell_at (stored_cells place bytes v stack) (8 * w + j) ≡ stored_cell place bytes v (8 * w + j) (cell_at stack (8 * w + j))
   cell_now j less = cell_stored place bytes v stack (8 * w + j) (omega (arith, deep, lt, less))
 
-  cell_left : (j : ℕ) → j < 8 → (place ≤ 8 * w + j → 8 * w + j < place + bytes → ⊥) → w ≢ place / 8 → w ≢ (place + bytes - 1) / 8 → cell_at stack (8 * w + j) ≡ cell_at (stored_cells place bytes v stack) (8 * w + j)
+  cell_left : (j : ℕ) → j < 8 → (place ≤ 8 * w + j → 8 * w + j < place + bytes → ⊥) → w ≢ place / 8 → w ≢ (place + bytes - 1) / 8
+      → cell_at stack (8 * w + j) ≡ cell_at (stored_cells place bytes v stack) (8 * w + j)
   cell_left j less apart first last =
       let here : (8 * w + j) / 8 ≡ w = omega (arith, less) in
       sym (cell_now j less ∙ cell_outside place bytes v (8 * w + j) (cell_at stack (8 * w + j)) apart (λ e. first (sym here ∙ e)) (λ e. last (sym here ∙ e)))
@@ -173,7 +184,8 @@ module _ (place bytes : ℕ) (v : Value ℕ) (stack : List (Cell ℕ)) (w : ℕ)
       apart : (k : ℕ) → k < 8 → place ≤ 8 * w + k → 8 * w + k < place + bytes → ⊥
       apart k small low high = omega (arith, covered_inside place bytes w k small low high, ap (λ (n : ℕ). bit_at n k) none, bit_at-zero k)
 
-  word_written : (calls : List ℕ) (word : Word) → ((j : ℕ) → IsByte (cell_of v j)) → IsOfCells calls word (word_cells stack w) → IsOfCells calls (written (covered place bytes w) word) (word_cells (stored_cells place bytes v stack) w)
+  word_written : (calls : List ℕ) (word : Word) → ((j : ℕ) → IsByte (cell_of v j)) → IsOfCells calls word (word_cells stack w)
+      → IsOfCells calls (written (covered place bytes w) word) (word_cells (stored_cells place bytes v stack) w)
   word_written calls word byte h = written_cells calls word (covered place bytes w) (word_cells stack w) (word_cells (stored_cells place bytes v stack) w) h inside kept none_written where
     inside : (j : ℕ) → j < 8 → bit_at (covered place bytes w) j ≡ 1 → IsByte (cell_at (stored_cells place bytes v stack) (8 * w + j))
     inside j less bit =
@@ -187,7 +199,8 @@ abbrev both_written : ℕ → ℕ → List Word → List Word
 both_written place bytes words = written_at place bytes (place / 8 + 1) (written_at place bytes (place / 8) words)
 
 -- the words of the first byte and the next one are written, and no others
-near_word : (place bytes : ℕ) (words : List Word) (w : ℕ) → w < length words → (w ≡ place / 8) ⊎ (w ≡ place / 8 + 1) → word_of (both_written place bytes words) w ≡ written (covered place bytes w) (word_of words w)
+near_word : (place bytes : ℕ) (words : List Word) (w : ℕ) → w < length words → (w ≡ place / 8) ⊎ (w ≡ place / 8 + 1)
+    → word_of (both_written place bytes words) w ≡ written (covered place bytes w) (word_of words w)
 near_word place bytes words w lt (inl first) =
     let other : w ≢ place / 8 + 1 = λ e. omega (arith, first) in
     get_or-set_other (written_at place bytes (place / 8) words) (place / 8 + 1) w _ (Bytes 0) other
@@ -204,7 +217,9 @@ far_word place bytes words w first second =
     get_or-set_other (written_at place bytes (place / 8) words) (place / 8 + 1) w _ (Bytes 0) second
     ∙ get_or-set_other words (place / 8) w _ (Bytes 0) first
 
-part_word : (calls : List ℕ) (words : List Word) (stack : List (Cell ℕ)) (place bytes : ℕ) (v : Value ℕ) → 0 < bytes → bytes ≤ 8 → AreOfCells calls words stack → length words ≡ 64 → length stack ≡ 512 → ((j : ℕ) → IsByte (cell_of v j)) → AreOfCells calls (both_written place bytes words) (stored_cells place bytes v stack)
+part_word : (calls : List ℕ) (words : List Word) (stack : List (Cell ℕ)) (place bytes : ℕ) (v : Value ℕ) → 0 < bytes → bytes ≤ 8
+    → AreOfCells calls words stack → length words ≡ 64 → length stack ≡ 512 → ((j : ℕ) → IsByte (cell_of v j))
+    → AreOfCells calls (both_written place bytes words) (stored_cells place bytes v stack)
 part_word calls words stack place bytes v some few h many deep byte w lt = by (cases_eq w (place / 8)) (cases_eq w (place / 8 + 1)) where
   near : (w ≡ place / 8) ⊎ (w ≡ place / 8 + 1) → IsOfCells calls (word_of (both_written place bytes words) w) (word_cells (stored_cells place bytes v stack) w)
   near which =
@@ -221,7 +236,8 @@ part_word calls words stack place bytes v some few h many deep byte w lt = by (c
         beyond : place / 8 ≤ w → w ≤ place / 8 + 1 → ⊥
         beyond low high = omega (arith, first, second)
 
-  by : (w ≡ place / 8) ⊎ (w ≡ place / 8 → ⊥) → (w ≡ place / 8 + 1) ⊎ (w ≡ place / 8 + 1 → ⊥) → IsOfCells calls (word_of (both_written place bytes words) w) (word_cells (stored_cells place bytes v stack) w)
+  by : (w ≡ place / 8) ⊎ (w ≡ place / 8 → ⊥) → (w ≡ place / 8 + 1) ⊎ (w ≡ place / 8 + 1 → ⊥)
+      → IsOfCells calls (word_of (both_written place bytes words) w) (word_cells (stored_cells place bytes v stack) w)
   by (inl first) other = near (inl first)
   by (inr first) (inl second) = near (inr second)
   by (inr first) (inr second) = far first second
@@ -229,7 +245,8 @@ part_word calls words stack place bytes v some few h many deep byte w lt = by (c
 -- ---- the stack
 
 -- a pointer that is known may be one
-pointer_known : (calls : List ℕ) (known : Abs) (base : Base ℕ) (k : ℤ) → is_unset known ≡ false → IsOf calls known (Some (Pointer base k)) → may_point known ≡ true
+pointer_known : (calls : List ℕ) (known : Abs) (base : Base ℕ) (k : ℤ) → is_unset known ≡ false
+    → IsOf calls known (Some (Pointer base k)) → may_point known ≡ true
 pointer_known calls (Stk x) base k known_set of = refl
 pointer_known calls (Ctx a b) base k known_set of = refl
 pointer_known calls (Ob r a b) base k known_set of = refl
@@ -243,15 +260,19 @@ done_where true fault x after e = absurd (cc)
 done_where false fault x after e = (refl, cc)
 
 -- a pointer is stored as a whole
-stores_pointer : (calls : List ℕ) (known : Abs) (v : Value ℕ) (whole : Bool) → is_unset known ≡ false → IsOf calls known (Some v) → (may_point known && not whole) ≡ false → (is_pointer v && not whole) ≡ false
+stores_pointer : (calls : List ℕ) (known : Abs) (v : Value ℕ) (whole : Bool) → is_unset known ≡ false → IsOf calls known (Some v)
+    → (may_point known && not whole) ≡ false → (is_pointer v && not whole) ≡ false
 stores_pointer calls known (Number n) whole known_set of fine = refl
-stores_pointer calls known (Pointer base k) whole known_set of fine = ap (λ (t : Bool). t && not whole) (sym (pointer_known calls known base k known_set of)) ∙ fine
+stores_pointer calls known (Pointer base k) whole known_set of fine =
+    ap (λ (t : Bool). t && not whole) (sym (pointer_known calls known base k known_set of)) ∙ fine
 
 not_whole : (t : Bool) → (t && not false) ≡ false → t ≡ false
 not_whole false e = refl
 not_whole true e = absurd (cc)
 
-words_stored : (calls : List ℕ) (words : List Word) (stack : List (Cell ℕ)) (place bytes : ℕ) (known : Abs) (v : Value ℕ) (whole : Bool) → is_whole_word place bytes ≡ whole → (may_point known && not whole) ≡ false → 0 < bytes → bytes ≤ 8 → place + bytes ≤ 512 → AreOfCells calls words stack → length words ≡ 64 → length stack ≡ 512 → is_unset known ≡ false → IsOf calls known (Some v)
+words_stored : (calls : List ℕ) (words : List Word) (stack : List (Cell ℕ)) (place bytes : ℕ) (known : Abs) (v : Value ℕ) (whole : Bool)
+    → is_whole_word place bytes ≡ whole → (may_point known && not whole) ≡ false → 0 < bytes → bytes ≤ 8 → place + bytes ≤ 512
+    → AreOfCells calls words stack → length words ≡ 64 → length stack ≡ 512 → is_unset known ≡ false → IsOf calls known (Some v)
     → AreOfCells calls (cond whole (set words (place / 8) (spill_or_nothing known)) (both_written place bytes words)) (stored_cells place bytes v stack)
 words_stored calls words stack place bytes known v true is fine some few fits h many deep known_set of =
     let parts = and_parts (bytes == 8) (place % 8 == 0) is in
@@ -261,7 +282,10 @@ words_stored calls words stack place bytes known v true is fine some few fits h 
 words_stored calls words stack place bytes known v false is fine some few fits h many deep known_set of =
     part_word calls words stack place bytes v some few h many deep (λ j. plain_byte calls known v j known_set (not_whole (may_point known) fine) of)
 
-placed_store : (calls : List ℕ) (s after : StateView) (stack : List (Cell ℕ)) (place bytes : ℕ) (known : Abs) (v : Value ℕ) → 0 < bytes → bytes ≤ 8 → place + bytes ≤ 512 → AreOfCells calls s.words stack → length s.words ≡ 64 → length stack ≡ 512 → All FitsCell stack → FitsValue v → is_unset known ≡ false → IsOf calls known (Some v) → state.stored_at (Some place) bytes known s ≡ Ok after → IsStored calls s after (stored_at (Some place) bytes v stack)
+placed_store : (calls : List ℕ) (s after : StateView) (stack : List (Cell ℕ)) (place bytes : ℕ) (known : Abs) (v : Value ℕ)
+    → 0 < bytes → bytes ≤ 8 → place + bytes ≤ 512 → AreOfCells calls s.words stack → length s.words ≡ 64 → length stack ≡ 512
+    → All FitsCell stack → FitsValue v → is_unset known ≡ false → IsOf calls known (Some v)
+    → state.stored_at (Some place) bytes known s ≡ Ok after → IsStored calls s after (stored_at (Some place) bytes v stack)
 placed_store calls s after stack place bytes known v some few inside h many deep fit fits known_set of e =
     let whole = is_whole_word place bytes in
     let now = record s { words = stored_words place bytes known s.words } in
@@ -277,11 +301,18 @@ placed_store calls s after stack place bytes known v some few inside h many deep
       held = ap (λ (t : StateView). t.held) (sym done.1);
     }
 
-found_store : (calls : List ℕ) (s after : StateView) (stack : List (Cell ℕ)) (bytes : ℕ) (o : Option ℕ) (known : Abs) (v : Value ℕ) → 0 < bytes → bytes ≤ 8 → ((place : ℕ) → o ≡ Some place → place + bytes ≤ 512) → AreOfCells calls s.words stack → length s.words ≡ 64 → length stack ≡ 512 → All FitsCell stack → FitsValue v → is_unset known ≡ false → IsOf calls known (Some v) → state.stored_at o bytes known s ≡ Ok after → IsStored calls s after (stored_at o bytes v stack)
+found_store : (calls : List ℕ) (s after : StateView) (stack : List (Cell ℕ)) (bytes : ℕ) (o : Option ℕ) (known : Abs) (v : Value ℕ)
+    → 0 < bytes → bytes ≤ 8 → ((place : ℕ) → o ≡ Some place → place + bytes ≤ 512) → AreOfCells calls s.words stack
+    → length s.words ≡ 64 → length stack ≡ 512 → All FitsCell stack → FitsValue v → is_unset known ≡ false
+    → IsOf calls known (Some v) → state.stored_at o bytes known s ≡ Ok after → IsStored calls s after (stored_at o bytes v stack)
 found_store calls s after stack bytes None known v some few inside h many deep fit fits known_set of e = absurd (cc)
-found_store calls s after stack bytes (Some place) known v some few inside h many deep fit fits known_set of e = placed_store calls s after stack place bytes known v some few (inside place refl) h many deep fit fits known_set of e
+found_store calls s after stack bytes (Some place) known v some few inside h many deep fit fits known_set of e =
+    placed_store calls s after stack place bytes known v some few (inside place refl) h many deep fit fits known_set of e
 
 -- a store to the stack that is not refused
-pub stack_store_sound : (calls : List ℕ) (s after : StateView) (stack : List (Cell ℕ)) (size : Size) (offset : ℤ) (known : Abs) (v : Value ℕ) → AreOfCells calls s.words stack → length s.words ≡ 64 → length stack ≡ 512 → All FitsCell stack → FitsValue v → is_unset known ≡ false → IsOf calls known (Some v) → stored s size offset known ≡ Ok after → IsStored calls s after (stored_at (place_of offset (bytes_in size)) (bytes_in size) v stack)
+pub stack_store_sound : (calls : List ℕ) (s after : StateView) (stack : List (Cell ℕ)) (size : Size) (offset : ℤ) (known : Abs) (v : Value ℕ)
+    → AreOfCells calls s.words stack → length s.words ≡ 64 → length stack ≡ 512 → All FitsCell stack → FitsValue v
+    → is_unset known ≡ false → IsOf calls known (Some v) → stored s size offset known ≡ Ok after
+    → IsStored calls s after (stored_at (place_of offset (bytes_in size)) (bytes_in size) v stack)
 stack_store_sound calls s after stack size offset known v h many deep fit fits known_set of e =
     found_store calls s after stack (bytes_in size) (place_of offset (bytes_in size)) known v (bytes_some size) (bytes_few size) (λ place at. placed_inside offset (bytes_in size) place at) h many deep fit fits known_set of e

@@ -69,13 +69,17 @@ record IsStoredAt (calls : List ℕ) (s : StateView) (after : Option StateView) 
   sends : after ≡ Some then
   stored : IsStored calls s then store
 
-stack_stored : (calls : List ℕ) (size : Size) (offset : ℤ) (value : Abs) (v : Value ℕ) (s : StateView) (stack : List (Cell ℕ)) (store : Result StateView StackFault) → state.stored s size offset value ≡ store → is_unset value ≡ false → refused_access store ≡ None → AreOfCells calls s.words stack → length s.words ≡ 64 → length stack ≡ 512 → All FitsCell stack → FitsValue v → IsOf calls value (Some v)
+stack_stored : (calls : List ℕ) (size : Size) (offset : ℤ) (value : Abs) (v : Value ℕ) (s : StateView) (stack : List (Cell ℕ)) (store : Result StateView StackFault)
+    → state.stored s size offset value ≡ store → is_unset value ≡ false → refused_access store ≡ None
+    → AreOfCells calls s.words stack → length s.words ≡ 64 → length stack ≡ 512 → All FitsCell stack → FitsValue v
+    → IsOf calls value (Some v)
     → IsStoredAt calls s (state_after store) (stored_at (place_of offset (bytes_in size)) (bytes_in size) v stack)
 stack_stored calls size offset value v s stack (Err fault) is known fine words many deep fit fits h = absurd (cc)
 stack_stored calls size offset value v s stack (Ok then) is known fine words many deep fit fits h =
     record { then = then; sends = refl; stored = stack_store_sound calls s then stack size offset value v words many deep fit fits known h is }
 
-to_stack : (v : RunView) (size : Size) (base : Reg) (offset : ℤ) (src : Source) (s : StateView) (k w : ℤ) (value : Abs) (stored : Value ℕ) → w ≡ k → IsStore v size base offset src s (Stk k) value (Pointer Stack w) stored → IsNext v
+to_stack : (v : RunView) (size : Size) (base : Reg) (offset : ℤ) (src : Source) (s : StateView) (k w : ℤ) (value : Abs) (stored : Value ℕ)
+    → w ≡ k → IsStore v size base offset src s (Stk k) value (Pointer Stack w) stored → IsNext v
 to_stack v size base offset src s k w value stored same h =
     let i = insn.Store size base offset src in
     let here = h.here in
@@ -97,11 +101,13 @@ patched_alike : (call at : ℕ) (bytes : List ℕ) (objects : List ObjectView) �
 patched_alike call at bytes [] = refl
 patched_alike call at bytes (o ∷ objects) =
     let rest = patched_alike call at bytes objects in
-    let same : named o ≡ named (patched_at call at bytes o) = cond_both (o.call == call) (record o { bytes = patched o.bytes at bytes }) o (λ (p : ObjectView). named o ≡ named p) (λ e. refl) (λ e. refl) in
+    let same : named o ≡ named (patched_at call at bytes o) =
+    cond_both (o.call == call) (record o { bytes = patched o.bytes at bytes }) o (λ (p : ObjectView). named o ≡ named p) (λ e. refl) (λ e. refl) in
     λ j. same j ∷ rest j
 
 -- a value that is no pointer, and may not be one, is a number
-plain_number : (calls : List ℕ) (value : Abs) (v : Value ℕ) → is_unset value ≡ false → may_point value ≡ false → IsOf calls value (Some v) → (n : ℕ) × (v ≡ Number n)
+plain_number : (calls : List ℕ) (value : Abs) (v : Value ℕ) → is_unset value ≡ false → may_point value ≡ false
+    → IsOf calls value (Some v) → (n : ℕ) × (v ≡ Number n)
 plain_number calls (Num a) (Number n) known plain h = (n, refl)
 plain_number calls (Num a) (Pointer base k) known plain h = absurd h
 plain_number calls Unset v known plain h = absurd (cc)
@@ -110,10 +116,14 @@ plain_number calls (Ctx a b) v known plain h = absurd (cc)
 plain_number calls (Ob r a b) v known plain h = absurd (cc)
 plain_number calls (May r) v known plain h = absurd (cc)
 
-number_written : (to : ℕ) (frame : Frame ℕ) (name : ℕ) (there : Result Found Trap) (found : Found) (offset : ℤ) (bytes place n : ℕ) (v : Value ℕ) → there ≡ Ok found → place_in (length found.bytes) offset bytes ≡ Some place → v ≡ Number n → writes_object to frame name there offset bytes v ≡ Goes (Write name place (little_bytes bytes n)) to frame
+number_written : (to : ℕ) (frame : Frame ℕ) (name : ℕ) (there : Result Found Trap) (found : Found) (offset : ℤ) (bytes place n : ℕ) (v : Value ℕ)
+    → there ≡ Ok found → place_in (length found.bytes) offset bytes ≡ Some place → v ≡ Number n
+    → writes_object to frame name there offset bytes v ≡ Goes (Write name place (little_bytes bytes n)) to frame
 number_written to frame name there found offset bytes place n v is at number = rw (is, at, number) refl
 
-to_object : (v : RunView) (size : Size) (base : Reg) (offset : ℤ) (src : Source) (s : StateView) (call : ℕ) (low high w : ℤ) (at : ℕ) (value : Abs) (stored : Value ℕ) → IsOf (calls_of v.objects) (Ob call low high) (Some (Pointer (Object at) w)) → IsStore v size base offset src s (Ob call low high) value (Pointer (Object at) w) stored → IsNext v
+to_object : (v : RunView) (size : Size) (base : Reg) (offset : ℤ) (src : Source) (s : StateView) (call : ℕ) (low high w : ℤ) (at : ℕ) (value : Abs) (stored : Value ℕ)
+    → IsOf (calls_of v.objects) (Ob call low high) (Some (Pointer (Object at) w))
+    → IsStore v size base offset src s (Ob call low high) value (Pointer (Object at) w) stored → IsNext v
 to_object v size base offset src s call low high w at value stored address h =
     let i = insn.Store size base offset src in
     let here = h.here in
@@ -133,9 +143,12 @@ to_object v size base offset src s call low high w at value stored address h =
 -- ---- the table
 
 -- the address of a store that is not refused is a pointer to the stack or to an object
-store_to : (v : RunView) (size : Size) (base : Reg) (offset : ℤ) (src : Source) (s : StateView) (known value : Abs) (address stored : Value ℕ) → is_unset known ≡ false → is_number known ≡ false → is_may known ≡ false → IsOf (calls_of v.objects) known (Some address) → IsStore v size base offset src s known value address stored → IsNext v
+store_to : (v : RunView) (size : Size) (base : Reg) (offset : ℤ) (src : Source) (s : StateView) (known value : Abs) (address stored : Value ℕ)
+    → is_unset known ≡ false → is_number known ≡ false → is_may known ≡ false → IsOf (calls_of v.objects) known (Some address)
+    → IsStore v size base offset src s known value address stored → IsNext v
 store_to v size base offset src s (Stk k) value (Pointer Stack w) stored known no_number no_may of h = to_stack v size base offset src s k w value stored of h
-store_to v size base offset src s (Ob call low high) value (Pointer (Object at) w) stored known no_number no_may of h = to_object v size base offset src s call low high w at value stored of h
+store_to v size base offset src s (Ob call low high) value (Pointer (Object at) w) stored known no_number no_may of h =
+    to_object v size base offset src s call low high w at value stored of h
 store_to v size base offset src s (Ctx low high) value address stored known no_number no_may of h = let fine = h.fine in absurd (cc)
 store_to v size base offset src s Unset value address stored known no_number no_may of h = absurd (cc)
 store_to v size base offset src s (Num a) value address stored known no_number no_may of h = absurd (cc)

@@ -62,7 +62,8 @@ plain_byte calls (May r) v j set plain h = absurd (cc)
 -- ---- joins
 
 -- what is left of two spills speaks of cells that what is known of both does
-pub left_spilled : (calls : List ℕ) (a : Abs) (v : Value ℕ) (cells : ℕ → Cell ℕ) → IsOf calls a (Some v) → ((j : ℕ) → j < 8 → cells j ≡ cell_of v j) → IsOfCells calls (spill_or_nothing a) cells
+pub left_spilled : (calls : List ℕ) (a : Abs) (v : Value ℕ) (cells : ℕ → Cell ℕ) → IsOf calls a (Some v)
+    → ((j : ℕ) → j < 8 → cells j ≡ cell_of v j) → IsOfCells calls (spill_or_nothing a) cells
 left_spilled calls Unset v cells of same = nothing_known calls cells
 left_spilled calls (Num a) v cells of same = (v, of, same, refl)
 left_spilled calls (Stk k) v cells of same = (v, of, same, refl)
@@ -96,7 +97,8 @@ answer_set call true = refl
 answer_set call false = refl
 
 settled_set : (call : ℕ) (null : Bool) (a : Abs) → is_unset a ≡ false → is_unset (settled_value call null a) ≡ false
-settled_set call null (May r) set = cond_both (r == call) (answer_known call null) (May r) (λ (a : Abs). is_unset a ≡ false) (λ e. answer_set call null) (λ e. refl)
+settled_set call null (May r) set =
+    cond_both (r == call) (answer_known call null) (May r) (λ (a : Abs). is_unset a ≡ false) (λ e. answer_set call null) (λ e. refl)
 settled_set call null Unset set = set
 settled_set call null (Num a) set = refl
 settled_set call null (Stk k) set = refl
@@ -105,7 +107,9 @@ settled_set call null (Ob r a b) set = refl
 
 -- A word, once it is known whether an answer is null: what holds of each value is an argument, since the file that has it stands on
 -- this one.
-pub settled_cells : (calls : List ℕ) (call : ℕ) (null : Bool) (word : Word) (cells : ℕ → Cell ℕ) → ((a : Abs) (v : Option (Value ℕ)) → IsOf calls a v → IsOf calls (settled_value call null a) v) → IsOfCells calls word cells → IsOfCells calls (settled_word call null word) cells
+pub settled_cells : (calls : List ℕ) (call : ℕ) (null : Bool) (word : Word) (cells : ℕ → Cell ℕ)
+    → ((a : Abs) (v : Option (Value ℕ)) → IsOf calls a v → IsOf calls (settled_value call null a) v) → IsOfCells calls word cells
+    → IsOfCells calls (settled_word call null word) cells
 settled_cells calls call null (Spill a) cells values h = (h.0, values a (Some h.0) h.1, h.2, settled_set call null a h.3)
 settled_cells calls call null (Bytes mask) cells values h = h
 

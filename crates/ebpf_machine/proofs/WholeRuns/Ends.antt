@@ -17,7 +17,9 @@ use Rattle.ebpf_machine.specs.Whole.{IsReportOf, told_alone}
 use Rattle.ebpf_machine.proofs.World.Lone.{none_more, outcome_exited, told_exited}
 
 -- the report of a run that exited with this number
-pub report_of : {S H : Type 0} (o : Store S H) (s new : S) (t : RunState H) (n : ℕ) (r : Report) → t.exit ≡ Some n → IsSound (seen_in o s t) → IsAlone (seen_in o s t) → length t.replies ≤ t.executed → IsEnded o t r s new → IsReportOf t.subject t.context r
+pub report_of : {S H : Type 0} (o : Store S H) (s new : S) (t : RunState H) (n : ℕ) (r : Report) → t.exit ≡ Some n
+    → IsSound (seen_in o s t) → IsAlone (seen_in o s t) → length t.replies ≤ t.executed → IsEnded o t r s new
+    → IsReportOf t.subject t.context r
 report_of o s new t n r exited sound alone few is = record {
   exit = n;
   exited = is.exit ∙ exited;
@@ -53,7 +55,8 @@ report_with s t context bytes r same_subject same_context is = rw (← same_subj
 -- ---- the store, once all that the run held is back
 
 -- it went by the answers of the report
-pub goes_last : {S H : Type 0} (o : Store S H) (first before now : S) (t : RunState H) (answers : List Reply) → o.goes first t.replies before → o.goes before [] now → answers ≡ t.replies → o.goes first answers now
+pub goes_last : {S H : Type 0} (o : Store S H) (first before now : S) (t : RunState H) (answers : List Reply)
+    → o.goes first t.replies before → o.goes before [] now → answers ≡ t.replies → o.goes first answers now
 goes_last o first before now t answers told back is =
     let all : t.replies ++ [] ≡ answers = append-nil t.replies ∙ sym is in
     subst (λ (rs : List Reply). o.goes first rs now) all (o.goes_on first before now t.replies [] told back)

@@ -16,7 +16,8 @@ none_out o s = record { out = λ i d few. absurd (omega (arith, few)); apart = �
 first_alone : {H : Type 0} (bytes : H → List ℕ) (subject : Subject) (context : List ℕ) → IsAlone (seen bytes (first_state_of subject context))
 first_alone bytes subject context = ap (λ (a : Alone). view_in a.world 0) (after_none subject context (replies_from [] []))
 
-pub starts : {S H : Type 0} (o : Store S H) (s : S) (subject : Subject) (context : List ℕ) (r : RunState H) → r ≡ first_state_of subject context → IsSound (seen_in o s r) → IsUnderWay o s s subject context r
+pub starts : {S H : Type 0} (o : Store S H) (s : S) (subject : Subject) (context : List ℕ) (r : RunState H)
+    → r ≡ first_state_of subject context → IsSound (seen_in o s r) → IsUnderWay o s s subject context r
 starts {S} {H} o s subject context r first sound = subst Starting (sym first) from_first sound where
   Starting : RunState H → Type 0
   Starting t = IsSound (seen_in o s t) → IsUnderWay o s s subject context t

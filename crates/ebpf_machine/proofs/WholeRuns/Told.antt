@@ -24,14 +24,16 @@ told_nothing : (may : Offers) (at : ℕ) (served : Served) → MayAnswer may at 
 told_nothing may at served idle = ap told_by idle
 
 -- a call of new, or of swap, is told what it was served
-told_to_new : (may : Offers) (at kind : ℕ) (served : Served) → MayAnswer may at (OfKind kind) served → told_by served ≡ reply_in (heard_by_new (result_of served)) ∷ []
+told_to_new : (may : Offers) (at kind : ℕ) (served : Served) → MayAnswer may at (OfKind kind) served
+    → told_by served ≡ reply_in (heard_by_new (result_of served)) ∷ []
 told_to_new may at kind (Granted slot) can = refl
 told_to_new may at kind Refused can = refl
 told_to_new may at kind Idle can = absurd can
 told_to_new may at kind step.Empty can = absurd can
 told_to_new may at kind (step.Fetched slot bytes) can = absurd can
 
-told_to_swap : (may : Offers) (at shelf : ℕ) (served : Served) → MayAnswer may at (AtShelf shelf) served → told_by served ≡ reply_in (heard_by_swap (result_of served)) ∷ []
+told_to_swap : (may : Offers) (at shelf : ℕ) (served : Served) → MayAnswer may at (AtShelf shelf) served
+    → told_by served ≡ reply_in (heard_by_swap (result_of served)) ∷ []
 told_to_swap may at shelf (step.Fetched slot bytes) can = refl
 told_to_swap may at shelf step.Empty can = refl
 told_to_swap may at shelf Idle can = absurd can
@@ -46,7 +48,8 @@ one_at_most step.Empty = omega arith
 one_at_most (step.Fetched slot bytes) = omega arith
 
 -- the replies after an instruction that was served so
-told_next : (v : RunView) (served : Served) (may : Offers) → IsSound v → AreSized v → v.status ≡ Going → MayAnswer may v.pc (asking_in v) served → (stepped (result_of served) v).replies ≡ v.replies ++ told_by served
+told_next : (v : RunView) (served : Served) (may : Offers) → IsSound v → AreSized v → v.status ≡ Going
+    → MayAnswer may v.pc (asking_in v) served → (stepped (result_of served) v).replies ≡ v.replies ++ told_by served
 told_next v served may sound sized going can = by (asks_of v (next_of v sound sized going)) where
   answered : (asked : Asking) → asking_in v ≡ asked → MayAnswer may v.pc asked served
   answered asked e = subst (λ (a : Asking). MayAnswer may v.pc a served) e can
@@ -69,7 +72,8 @@ told_next v served may sound sized going can = by (asks_of v (next_of v sound si
 abbrev pub HaveSizes : {S H : Type 0} → Store S H → S → Type 0
 HaveSizes {H = H} o s = (h : H) → o.is_out s h → (length (o.bytes_of s h) ≡ length (image_at o.kinds (o.kind_of h))) × (o.kind_of h < length o.kinds)
 
-pub sized_out : {S H : Type 0} (o : Store S H) (s : S) (r : RunState H) → HaveSizes o s → o.kinds ≡ kinds_of r.subject.rows → AreOut o s r.held → AreSized (seen_in o s r)
+pub sized_out : {S H : Type 0} (o : Store S H) (s : S) (r : RunState H) → HaveSizes o s → o.kinds ≡ kinds_of r.subject.rows
+    → AreOut o s r.held → AreSized (seen_in o s r)
 sized_out o s r sizes known out =
     All-map (λ (x : ObjectView). length x.bytes ≡ length (image_at (kinds_of r.subject.rows) x.kind)) (object_seen (o.bytes_of s)) r.held
     (λ k d few. let h = out.out k d few in
@@ -83,7 +87,8 @@ pub record IsReadyIn {S H : Type 0} (o : Store S H) (s : S) (r : RunState H) : T
   pub kinds : o.kinds ≡ kinds_of r.subject.rows
 
 -- the replies after one step
-pub told_turn : {S H : Type 0} (o : Store S H) (old new : S) (r t : RunState H) → HaveSizes o old → IsReadyIn o old r → (turn : IsTurn o r t old new) → t.replies ≡ r.replies ++ told_by turn.step.0
+pub told_turn : {S H : Type 0} (o : Store S H) (old new : S) (r t : RunState H) → HaveSizes o old → IsReadyIn o old r
+    → (turn : IsTurn o r t old new) → t.replies ≡ r.replies ++ told_by turn.step.0
 told_turn o old new r t sizes ready turn =
     let v = seen_in o old r in
     let now : v.status ≡ Going = ap status_of turn.going in
@@ -112,7 +117,8 @@ pub none_gone : {S H : Type 0} (o : Store S H) (s : S) (r : RunState H) → HasG
 none_gone o s r = record { told = []; replies = sym (append-nil r.replies); goes = o.stays s; few = omega arith; outs = λ k. refl }
 
 -- steps after steps
-pub gone_then : {S H : Type 0} (o : Store S H) (old between new : S) (r t u : RunState H) → HasGone o r t old between → HasGone o t u between new → HasGone o r u old new
+pub gone_then : {S H : Type 0} (o : Store S H) (old between new : S) (r t u : RunState H) → HasGone o r t old between
+    → HasGone o t u between new → HasGone o r u old new
 gone_then o old between new r t u was more = record {
   told = was.told ++ more.told;
   replies = more.replies ∙ ap (λ (rs : List Reply). rs ++ more.told) was.replies ∙ append_assoc r.replies was.told more.told;
@@ -121,7 +127,8 @@ gone_then o old between new r t u was more = record {
   outs = λ k. let before = was.outs k in let after = more.outs k in omega (arith, before, after);
 }
 
-pub went : {S H : Type 0} (o : Store S H) (old new : S) (number : ℕ) (r t : RunState H) → ((s : S) → HaveSizes o s) → IsReadyIn o old r → AreTurns o number r t old new → IsGone o old new r t
+pub went : {S H : Type 0} (o : Store S H) (old new : S) (number : ℕ) (r t : RunState H) → ((s : S) → HaveSizes o s)
+    → IsReadyIn o old r → AreTurns o number r t old new → IsGone o old new r t
 went o old new zero r t sizes ready turns = rw (turns.0, turns.1) (record { ready = ready; same = (refl, refl); gone = none_gone o old r })
 went o old new (suc number) r t sizes ready turns =
     let before = went o old turns.store number r turns.run sizes ready turns.before in
@@ -132,7 +139,8 @@ went o old new (suc number) r t sizes ready turns =
       gone = gone_then o old turns.store new r turns.run t before.gone (gone_turn o turns.store new turns.run t (sizes turns.store) before.ready last);
     }
 
-pub gone_by : {S H : Type 0} (o : Store S H) (old new : S) (number : ℕ) (r t : RunState H) → ((s : S) → HaveSizes o s) → IsReadyIn o old r → AreTurns o number r t old new → HasGone o r t old new
+pub gone_by : {S H : Type 0} (o : Store S H) (old new : S) (number : ℕ) (r t : RunState H) → ((s : S) → HaveSizes o s)
+    → IsReadyIn o old r → AreTurns o number r t old new → HasGone o r t old new
 gone_by o old new number r t sizes ready turns = (went o old new number r t sizes ready turns).gone
 
 -- a run of this program on this context, since the first state of its store: the store went by what the run was told, each reply was to
@@ -147,7 +155,8 @@ pub record IsUnderWay {S H : Type 0} (o : Store S H) (first now : S) (subject : 
   pub few : length r.replies ≤ r.executed
   pub outs : (k : ℕ) → o.outs now k ≡ o.outs first k + held_of_kind r.held k
 
-pub under_way : {S H : Type 0} (o : Store S H) (first old new : S) (subject : Subject) (context : List ℕ) (number : ℕ) (r t : RunState H) → ((s : S) → HaveSizes o s)
+pub under_way : {S H : Type 0} (o : Store S H) (first old new : S) (subject : Subject) (context : List ℕ) (number : ℕ) (r t : RunState H)
+    → ((s : S) → HaveSizes o s)
     → o.kinds ≡ kinds_of subject.rows → IsUnderWay o first old subject context r → AreTurns o number r t old new → IsUnderWay o first new subject context t
 under_way o first old new subject context number r t sizes kinds was turns =
     let known = kinds ∙ ap (λ (s : Subject). kinds_of s.rows) (sym was.subject_is) in

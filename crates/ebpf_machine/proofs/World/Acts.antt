@@ -67,12 +67,16 @@ served_effect w (Traps trap) answer = served_by answer
 
 -- ---- a world in which one run was written
 
-own_seen : (v : World) (run : ℕ) (runs : List Running) (r now : Running) → slice_get runs run ≡ Some r → v.runs ≡ slice_set runs run now → view_in v run ≡ Some (view_of v run now)
-own_seen v run runs r now there written = ap (λ (rs : List Running). option_map (view_of v run) (slice_get rs run)) written ∙ ap (option_map (view_of v run)) (get_set_same runs run r now there)
+own_seen : (v : World) (run : ℕ) (runs : List Running) (r now : Running) → slice_get runs run ≡ Some r
+    → v.runs ≡ slice_set runs run now → view_in v run ≡ Some (view_of v run now)
+own_seen v run runs r now there written =
+    ap (λ (rs : List Running). option_map (view_of v run) (slice_get rs run)) written ∙ ap (option_map (view_of v run)) (get_set_same runs run r now there)
 
-other_seen : (v w : World) (run other : ℕ) (now : Running) → other ≢ run → v.runs ≡ slice_set w.runs run now → objects_of v other ≡ objects_of w other → view_in v other ≡ view_in w other
+other_seen : (v w : World) (run other : ℕ) (now : Running) → other ≢ run → v.runs ≡ slice_set w.runs run now
+    → objects_of v other ≡ objects_of w other → view_in v other ≡ view_in w other
 other_seen v w run other now ne written same =
-    let there : slice_get v.runs other ≡ slice_get w.runs other = ap (λ (rs : List Running). slice_get rs other) written ∙ get_set_other w.runs run other now ne in
+    let there : slice_get v.runs other ≡ slice_get w.runs other =
+    ap (λ (rs : List Running). slice_get rs other) written ∙ get_set_other w.runs run other now ne in
     ap (option_map (view_of v other)) there ∙ ap (λ (objects : List ObjectView). option_map (λ (r : Running). record (view_of w other r) { objects = objects }) (slice_get w.runs other)) same
 
 -- ---- a reply
@@ -81,7 +85,8 @@ frame_replied : (frame : Frame Name) (v : Value Name) → frame_seen (with_value
 frame_replied frame v = ap (λ (registers : List (Option (Value ℕ))). record (frame_seen frame) { registers = registers }) (map-set (register_renamed by_call.name) frame.registers 0 (Some v))
 
 -- the view of a run that goes on with a reply, and with these objects
-reply_seen : (w v : World) (run : ℕ) (r : Running) (kind to : ℕ) (told : CallResult) (x : Value Name) (frame : Frame Name) (objects : List ObjectView) → objects_of v run ≡ objects
+reply_seen : (w v : World) (run : ℕ) (r : Running) (kind to : ℕ) (told : CallResult) (x : Value Name) (frame : Frame Name) (objects : List ObjectView)
+    → objects_of v run ≡ objects
     → view_of v run (replied kind (reply_in told) x to frame r) ≡ record (view.replied told (value_renamed by_call.name x) to (frame_seen frame) (view_of w run r)) { objects = objects }
 reply_seen w v run r kind to told x frame objects same =
     let now : RunView = record (view.replied told (value_renamed by_call.name x) to (frame_seen frame) (view_of w run r)) { objects = objects } in
@@ -95,7 +100,8 @@ null_seen w run r to kind frame there =
     let now = replied kind reply.Null (Number 0) to frame r in
     own_seen (with_run w run now) run w.runs r now there refl ∙ ap Some (reply_seen w (with_run w run now) run r kind to view.Null (Number 0) frame (objects_of w run) refl)
 
-granted_seen : (w : World) (run : ℕ) (r : Running) (slot to kind : ℕ) (frame : Frame Name) → IsOwned w → slice_get w.runs run ≡ Some r → is_home w slot ≡ true → is_in slot (ledger_of w kind) ≡ true
+granted_seen : (w : World) (run : ℕ) (r : Running) (slot to kind : ℕ) (frame : Frame Name) → IsOwned w
+    → slice_get w.runs run ≡ Some r → is_home w slot ≡ true → is_in slot (ledger_of w kind) ≡ true
     → view_in (granted slot w run r to frame kind) run ≡ Some (view.answered view.Granted to (frame_seen frame) kind (view_of w run r))
 granted_seen w run r slot to kind frame owned there home kind_is =
     by (nat_le r.subject.decl.held (holds_of w run)) ∙ ap (λ (n : ℕ). Some (seen_by (nat_le r.subject.decl.held n))) (sym (length-map (held_by w run) (object_in w)))
@@ -126,20 +132,25 @@ runs_put None shelf run w = refl
 runs_put (Some name) shelf run w = refl
 
 -- what a run sees of the owners that it has
-objects_put : (w v : World) (run shelf : ℕ) (given : Option Name) → v.ledgers ≡ w.ledgers → v.bytes ≡ w.bytes → objects_of (put_on given shelf run v) run ≡ map (object_in w) (held_by (put_on given shelf run v) run)
+objects_put : (w v : World) (run shelf : ℕ) (given : Option Name) → v.ledgers ≡ w.ledgers → v.bytes ≡ w.bytes
+    → objects_of (put_on given shelf run v) run ≡ map (object_in w) (held_by (put_on given shelf run v) run)
 objects_put w v run shelf None ledgers bytes = rw (ledgers, bytes) refl
 objects_put w v run shelf (Some name) ledgers bytes = rw (ledgers, bytes) refl
 
-others_objects : (w v : World) (run other shelf : ℕ) (given : Option Name) → other ≢ run → v.ledgers ≡ w.ledgers → v.bytes ≡ w.bytes → held_by v other ≡ held_by w other → objects_of (put_on given shelf run v) other ≡ objects_of w other
+others_objects : (w v : World) (run other shelf : ℕ) (given : Option Name) → other ≢ run → v.ledgers ≡ w.ledgers → v.bytes ≡ w.bytes
+    → held_by v other ≡ held_by w other → objects_of (put_on given shelf run v) other ≡ objects_of w other
 others_objects w v run other shelf None ne ledgers bytes held = rw (ledgers, bytes) (ap (map (object_in w)) held)
-others_objects w v run other shelf (Some name) ne ledgers bytes held = rw (ledgers, bytes) (ap (map (object_in w)) (others_put v run other shelf (Some name) ne ∙ held))
+others_objects w v run other shelf (Some name) ne ledgers bytes held =
+    rw (ledgers, bytes) (ap (map (object_in w)) (others_put v run other shelf (Some name) ne ∙ held))
 
 -- a call that is given away is not the one at which the run is
-not_now : (w : World) (run shelf : ℕ) (r : Running) (given : Option Name) → IsOwned w → slice_get w.runs run ≡ Some r → IsOwnGiven w run shelf given → IsNotGiven given r.pc
+not_now : (w : World) (run shelf : ℕ) (r : Running) (given : Option Name) → IsOwned w → slice_get w.runs run ≡ Some r
+    → IsOwnGiven w run shelf given → IsNotGiven given r.pc
 not_now w run shelf r None owned there own = tt
 not_now w run shelf r (Some name) owned there own = λ e. nothing_yet w run r (owner_of run name) owned there own.0 (ap (λ (n : ℕ). Run run n) e)
 
-exchanged_seen : (w : World) (run : ℕ) (r : Running) (to shelf : ℕ) (frame : Frame Name) (given : Option Name) → IsOwned w → slice_get w.runs run ≡ Some r → IsOwnGiven w run shelf given
+exchanged_seen : (w : World) (run : ℕ) (r : Running) (to shelf : ℕ) (frame : Frame Name) (given : Option Name) → IsOwned w
+    → slice_get w.runs run ≡ Some r → IsOwnGiven w run shelf given
     → view_in (exchanged (standing w shelf) w run r to frame shelf given) run ≡ Some (view.exchanged (result_of (served_from w (standing w shelf))) to (frame_seen frame) shelf (call_given given) (view_of w run r))
 exchanged_seen w run r to shelf frame given owned there own = by (standing w shelf) (stands w shelf) where
   left : List ObjectView
@@ -198,7 +209,8 @@ exchanged_seen w run r to shelf frame given owned there own = by (standing w she
 
 with_objects : (w : World) (run : ℕ) (r : Running) (to : ℕ) (frame : Frame Name) (objects now : List ObjectView) → objects ≡ now
     → Some (record (view.moved_to to (frame_seen frame) (view_of w run r)) { objects = objects }) ≡ Some (record (view.moved_to to (frame_seen frame) (view_of w run r)) { objects = now })
-with_objects w run r to frame objects now same = ap (λ (os : List ObjectView). Some (record (view.moved_to to (frame_seen frame) (view_of w run r)) { objects = os })) same
+with_objects w run r to frame objects now same =
+    ap (λ (os : List ObjectView). Some (record (view.moved_to to (frame_seen frame) (view_of w run r)) { objects = os })) same
 
 -- it sees what it does to it as a run that sees itself
 pub own_view : (w : World) (run : ℕ) (r : Running) (e : Effect Name) (answer : Answer) → IsOwned w → slice_get w.runs run ≡ Some r → IsOwnEffect w run answer e
@@ -219,7 +231,8 @@ own_view w run r (Goes (Ask kind) to frame) (Slot slot) owned there own = grante
 
 -- ---- the other runs
 
-others_taken : (w : World) (run other : ℕ) (r : Running) (slot to kind : ℕ) (frame : Frame Name) → is_home w slot ≡ true → other ≢ run → view_in (granted slot w run r to frame kind) other ≡ view_in w other
+others_taken : (w : World) (run other : ℕ) (r : Running) (slot to kind : ℕ) (frame : Frame Name) → is_home w slot ≡ true
+    → other ≢ run → view_in (granted slot w run r to frame kind) other ≡ view_in w other
 others_taken w run other r slot to kind frame home ne = by (nat_le r.subject.decl.held (holds_of w run)) where
   now : Running
   now = replied kind reply.Granted (Pointer (Object (name_of slot r.pc)) (pos 0)) to frame r
@@ -231,7 +244,8 @@ others_taken w run other r slot to kind frame home ne = by (nat_le r.subject.dec
   by true = other_seen (with_run w run (trapped TooManyObjects r)) w run other (trapped TooManyObjects r) ne refl refl
   by false = other_seen after w run other now ne refl (others_unchanged w run other r.pc slot (image_at w.kinds kind) home ne)
 
-others_exchanged : (w : World) (run other : ℕ) (r : Running) (to shelf : ℕ) (frame : Frame Name) (given : Option Name) → other ≢ run → view_in (exchanged (standing w shelf) w run r to frame shelf given) other ≡ view_in w other
+others_exchanged : (w : World) (run other : ℕ) (r : Running) (to shelf : ℕ) (frame : Frame Name) (given : Option Name) → other ≢ run
+    → view_in (exchanged (standing w shelf) w run r to frame shelf given) other ≡ view_in w other
 others_exchanged w run other r to shelf frame given ne = by (standing w shelf) where
   by : (o : Option Owner) → view_in (exchanged o w run r to frame shelf given) other ≡ view_in w other
   by None =
@@ -253,28 +267,34 @@ pub others_view : (w : World) (run other : ℕ) (r : Running) (e : Effect Name) 
     → view_in (done_by e answer w run r) other ≡ view_in w other
 others_view w run other r (Ends n) answer owned own ne = other_seen (with_run w run (ended n r)) w run other (ended n r) ne refl refl
 others_view w run other r (Traps trap) answer owned own ne = absurd own
-others_view w run other r (Goes Nothing to frame) answer owned own ne = other_seen (with_run w run (moved_to to frame r)) w run other (moved_to to frame r) ne refl refl
+others_view w run other r (Goes Nothing to frame) answer owned own ne =
+    other_seen (with_run w run (moved_to to frame r)) w run other (moved_to to frame r) ne refl refl
 others_view w run other r (Goes (Write name at bytes) to frame) answer owned own ne =
     other_seen (done_by (Goes (Write name at bytes) to frame) answer w run r) w run other (moved_to to frame r) ne refl (others_written w run other name (patched (w.bytes name.slot) at bytes) owned own.0 ne)
 others_view w run other r (Goes (Free name) to frame) answer owned own ne =
     other_seen (done_by (Goes (Free name) to frame) answer w run r) w run other (moved_to to frame r) ne refl (others_given_back w run other name (image_at w.kinds (kind_in w name.slot)) owned own ne)
 others_view w run other r (Goes (Exchange shelf given) to frame) answer owned own ne = others_exchanged w run other r to shelf frame given ne
-others_view w run other r (Goes (Ask kind) to frame) Absent owned own ne = let now = replied kind reply.Null (Number 0) to frame r in other_seen (with_run w run now) w run other now ne refl refl
-others_view w run other r (Goes (Ask kind) to frame) Null owned own ne = let now = replied kind reply.Null (Number 0) to frame r in other_seen (with_run w run now) w run other now ne refl refl
+others_view w run other r (Goes (Ask kind) to frame) Absent owned own ne =
+    let now = replied kind reply.Null (Number 0) to frame r in other_seen (with_run w run now) w run other now ne refl refl
+others_view w run other r (Goes (Ask kind) to frame) Null owned own ne =
+    let now = replied kind reply.Null (Number 0) to frame r in other_seen (with_run w run now) w run other now ne refl refl
 others_view w run other r (Goes (Ask kind) to frame) (Slot slot) owned own ne = others_taken w run other r slot to kind frame own.1.0 ne
 
 -- ---- the slots that a run holds
 
-others_held : (w : World) (run other : ℕ) (r : Running) (slot to kind : ℕ) (frame : Frame Name) → other ≢ run → held_by (granted slot w run r to frame kind) other ≡ held_by w other
+others_held : (w : World) (run other : ℕ) (r : Running) (slot to kind : ℕ) (frame : Frame Name) → other ≢ run
+    → held_by (granted slot w run r to frame kind) other ≡ held_by w other
 others_held w run other r slot to kind frame ne = by (nat_le r.subject.decl.held (holds_of w run)) where
   now : Running
   now = replied kind reply.Granted (Pointer (Object (name_of slot r.pc)) (pos 0)) to frame r
 
-  by : (t : Bool) → held_by (cond t (with_run w run (trapped TooManyObjects r)) (with_owner slot (Run run r.pc) (with_bytes slot (image_at w.kinds kind) (with_run w run now)))) other ≡ held_by w other
+  by : (t : Bool)
+      → held_by (cond t (with_run w run (trapped TooManyObjects r)) (with_owner slot (Run run r.pc) (with_bytes slot (image_at w.kinds kind) (with_run w run now)))) other ≡ held_by w other
   by true = refl
   by false = others_granted w run other r.pc slot ne
 
-others_hold : (w : World) (run other : ℕ) (r : Running) (to shelf : ℕ) (frame : Frame Name) (given : Option Name) → other ≢ run → held_by (exchanged (standing w shelf) w run r to frame shelf given) other ≡ held_by w other
+others_hold : (w : World) (run other : ℕ) (r : Running) (to shelf : ℕ) (frame : Frame Name) (given : Option Name) → other ≢ run
+    → held_by (exchanged (standing w shelf) w run r to frame shelf given) other ≡ held_by w other
 others_hold w run other r to shelf frame given ne = by (standing w shelf) where
   by : (o : Option Owner) → held_by (exchanged o w run r to frame shelf given) other ≡ held_by w other
   by None = others_put (with_run w run (replied shelf reply.Empty (Number 0) to frame r)) run other shelf given ne
@@ -299,7 +319,8 @@ others_slots w run other r (Goes (Ask kind) to frame) Absent owned own ne = refl
 others_slots w run other r (Goes (Ask kind) to frame) Null owned own ne = refl
 others_slots w run other r (Goes (Ask kind) to frame) (Slot slot) owned own ne = ap (map slot_held) (others_held w run other r slot to kind frame ne)
 
-slots_granted : (w : World) (run : ℕ) (r : Running) (slot to kind : ℕ) (frame : Frame Name) → slots_in (granted slot w run r to frame kind) run ≡ slots_acted (Ask kind) (Granted slot) r.subject.decl.held r.pc (slots_in w run)
+slots_granted : (w : World) (run : ℕ) (r : Running) (slot to kind : ℕ) (frame : Frame Name)
+    → slots_in (granted slot w run r to frame kind) run ≡ slots_acted (Ask kind) (Granted slot) r.subject.decl.held r.pc (slots_in w run)
 slots_granted w run r slot to kind frame = by (nat_le r.subject.decl.held (holds_of w run)) ∙ ap (λ (n : ℕ). slots_by (nat_le r.subject.decl.held n)) (sym (length-map (held_by w run) slot_held)) where
   now : Running
   now = replied kind reply.Granted (Pointer (Object (name_of slot r.pc)) (pos 0)) to frame r
@@ -307,11 +328,13 @@ slots_granted w run r slot to kind frame = by (nat_le r.subject.decl.held (holds
   slots_by : Bool → List Name
   slots_by t = cond t (slots_in w run) (slots_in w run ++ name_of slot r.pc ∷ [])
 
-  by : (t : Bool) → slots_in (cond t (with_run w run (trapped TooManyObjects r)) (with_owner slot (Run run r.pc) (with_bytes slot (image_at w.kinds kind) (with_run w run now)))) run ≡ slots_by t
+  by : (t : Bool)
+      → slots_in (cond t (with_run w run (trapped TooManyObjects r)) (with_owner slot (Run run r.pc) (with_bytes slot (image_at w.kinds kind) (with_run w run now)))) run ≡ slots_by t
   by true = refl
   by false = ap (map slot_held) (held_granted w run r.pc slot) ∙ map_push slot_held (held_by w run) (owner_of run (name_of slot r.pc))
 
-slots_after_exchange : (w : World) (run : ℕ) (r : Running) (to shelf : ℕ) (frame : Frame Name) (given : Option Name) → IsOwned w → slice_get w.runs run ≡ Some r → IsOwnGiven w run shelf given
+slots_after_exchange : (w : World) (run : ℕ) (r : Running) (to shelf : ℕ) (frame : Frame Name) (given : Option Name) → IsOwned w
+    → slice_get w.runs run ≡ Some r → IsOwnGiven w run shelf given
     → slots_in (exchanged (standing w shelf) w run r to frame shelf given) run ≡ slots_exchanged (served_from w (standing w shelf)) r.subject.decl.held r.pc (call_given given) (slots_in w run)
 slots_after_exchange w run r to shelf frame given owned there own = by (standing w shelf) where
   left : List Name
@@ -320,7 +343,8 @@ slots_after_exchange w run r to shelf frame given owned there own = by (standing
   left_is : map slot_held (held_without given (held_by w run)) ≡ left
   left_is = slots_left given (held_by w run)
 
-  by : (o : Option Owner) → slots_in (exchanged o w run r to frame shelf given) run ≡ slots_exchanged (served_from w o) r.subject.decl.held r.pc (call_given given) (slots_in w run)
+  by : (o : Option Owner)
+      → slots_in (exchanged o w run r to frame shelf given) run ≡ slots_exchanged (served_from w o) r.subject.decl.held r.pc (call_given given) (slots_in w run)
   by None = ap (map slot_held) (held_put (with_run w run (replied shelf reply.Empty (Number 0) to frame r)) run shelf given (given_slot w run shelf given owned own)) ∙ left_is
   by (Some o) =
       by_room (nat_le r.subject.decl.held (holds_of (put_on given shelf run w) run))
@@ -332,7 +356,8 @@ slots_after_exchange w run r to shelf frame given owned there own = by (standing
       slots_by : Bool → List Name
       slots_by t = cond t (slots_in w run) (left ++ name_of o.slot r.pc ∷ [])
 
-      by_room : (t : Bool) → slots_in (cond t (with_run w run (trapped TooManyObjects r)) (put_on given shelf run (fetched o shelf run r.pc (with_run w run now)))) run ≡ slots_by t
+      by_room : (t : Bool)
+          → slots_in (cond t (with_run w run (trapped TooManyObjects r)) (put_on given shelf run (fetched o shelf run r.pc (with_run w run now)))) run ≡ slots_by t
       by_room true = refl
       by_room false =
           ap (map slot_held) (held_exchanged w run r.pc shelf o given now owned own (not_now w run shelf r given owned there own))

@@ -75,7 +75,8 @@ jumps_asks : {N : Type 0} (a : Environment N) (target : Option ℕ) (frame : Fra
 jumps_asks a None frame = tt
 jumps_asks a (Some to) frame = (refl, tt)
 
-branches_asks : {N : Type 0} (a : Environment N) (next : ℕ) (target : Option ℕ) (frame : Frame N) (r : Result Bool Trap) → AsksFor a Unasked (effect_of_branch next target frame r)
+branches_asks : {N : Type 0} (a : Environment N) (next : ℕ) (target : Option ℕ) (frame : Frame N) (r : Result Bool Trap)
+    → AsksFor a Unasked (effect_of_branch next target frame r)
 branches_asks a next target frame (Err trap) = tt
 branches_asks a next target frame (Ok true) = jumps_asks a target frame
 branches_asks a next target frame (Ok false) = (refl, tt)
@@ -98,26 +99,33 @@ inside len bytes offset place e = by (int_le (pos 0) offset) (int_le (offset +�
   from_start (pos n) low high = search (rules, ints)
   from_start (negsuc n) low high = search (rules, ints)
 
-  by : (t u : Bool) → int_le (pos 0) offset ≡ t → int_le (offset +ℤ pos bytes) (pos len) ≡ u → cond (t && u) (Some (nat_abs offset)) None ≡ Some place → place + bytes ≤ len
+  by : (t u : Bool) → int_le (pos 0) offset ≡ t → int_le (offset +ℤ pos bytes) (pos len) ≡ u
+      → cond (t && u) (Some (nat_abs offset)) None ≡ Some place → place + bytes ≤ len
   by true true low high e = let is : nat_abs offset ≡ place = cc in subst (λ (k : ℕ). k + bytes ≤ len) is (from_start offset low high)
   by true false low high e = absurd (cc)
   by false u low high e = absurd (cc)
 
-written_at_asks : {N : Type 0} (a : Environment N) (to : ℕ) (frame : Frame N) (name : N) (found : Found) (place : Option ℕ) (bytes : ℕ) (v : Value N) → a.object name ≡ Ok found → ((k : ℕ) → place ≡ Some k → k + bytes ≤ length found.bytes)
+written_at_asks : {N : Type 0} (a : Environment N) (to : ℕ) (frame : Frame N) (name : N) (found : Found) (place : Option ℕ) (bytes : ℕ) (v : Value N)
+    → a.object name ≡ Ok found → ((k : ℕ) → place ≡ Some k → k + bytes ≤ length found.bytes)
     → AsksFor a Unasked (written_at to frame name place bytes v)
 written_at_asks a to frame name found None bytes v is within = tt
-written_at_asks a to frame name found (Some place) bytes (Number n) is within = (refl, (found, is, omega (arith, length-bytes_low_first 0 bytes n, within place refl)))
+written_at_asks a to frame name found (Some place) bytes (Number n) is within =
+    (refl, (found, is, omega (arith, length-bytes_low_first 0 bytes n, within place refl)))
 written_at_asks a to frame name found (Some place) bytes (Pointer base k) is within = tt
 
-object_asks : {N : Type 0} (a : Environment N) (to : ℕ) (frame : Frame N) (name : N) (r : Result Found Trap) (offset : ℤ) (bytes : ℕ) (v : Value N) → a.object name ≡ r → AsksFor a Unasked (writes_object to frame name r offset bytes v)
+object_asks : {N : Type 0} (a : Environment N) (to : ℕ) (frame : Frame N) (name : N) (r : Result Found Trap) (offset : ℤ) (bytes : ℕ) (v : Value N)
+    → a.object name ≡ r → AsksFor a Unasked (writes_object to frame name r offset bytes v)
 object_asks a to frame name (Err trap) offset bytes v is = tt
-object_asks a to frame name (Ok found) offset bytes v is = written_at_asks a to frame name found (place_in (length found.bytes) offset bytes) bytes v is (λ k e. inside (length found.bytes) bytes offset k e)
+object_asks a to frame name (Ok found) offset bytes v is =
+    written_at_asks a to frame name found (place_in (length found.bytes) offset bytes) bytes v is (λ k e. inside (length found.bytes) bytes offset k e)
 
-stores_asks : {N : Type 0} (to : ℕ) (a : Environment N) (frame : Frame N) (size : Size) (offset : ℤ) (x y : Option (Value N)) → AsksFor a Unasked (effect_of_store to a frame size offset x y)
+stores_asks : {N : Type 0} (to : ℕ) (a : Environment N) (frame : Frame N) (size : Size) (offset : ℤ) (x y : Option (Value N))
+    → AsksFor a Unasked (effect_of_store to a frame size offset x y)
 stores_asks to a frame size offset None y = tt
 stores_asks to a frame size offset (Some base) None = tt
 stores_asks to a frame size offset (Some (Number n)) (Some v) = tt
-stores_asks to a frame size offset (Some (Pointer Stack k)) (Some v) = rewritten_asks a to frame (stored_at (place_of (k +ℤ offset) (bytes_in size)) (bytes_in size) v frame.stack)
+stores_asks to a frame size offset (Some (Pointer Stack k)) (Some v) =
+    rewritten_asks a to frame (stored_at (place_of (k +ℤ offset) (bytes_in size)) (bytes_in size) v frame.stack)
 stores_asks to a frame size offset (Some (Pointer Context k)) (Some v) = tt
 stores_asks to a frame size offset (Some (Pointer (Object name) k)) (Some v) = object_asks a to frame name (a.object name) (k +ℤ offset) (bytes_in size) v refl
 
@@ -129,7 +137,8 @@ news_asks {N} to a frame (Some (Number kind)) = by (nat_lt kind a.kinds) refl wh
   by false e = tt
 news_asks to a frame (Some (Pointer base k)) = tt
 
-gives_asks : {N : Type 0} (a : Environment N) (to : ℕ) (frame : Frame N) (name : N) (r : Result Found Trap) (k : ℤ) → a.object name ≡ r → AsksFor a Unasked (effect_of_freeing to frame name r k)
+gives_asks : {N : Type 0} (a : Environment N) (to : ℕ) (frame : Frame N) (name : N) (r : Result Found Trap) (k : ℤ)
+    → a.object name ≡ r → AsksFor a Unasked (effect_of_freeing to frame name r k)
 gives_asks a to frame name (Err trap) k is = tt
 gives_asks {N} a to frame name (Ok found) k is = by (int_eq k (pos 0)) where
   by : (t : Bool) → AsksFor a Unasked (cond t (Goes (Free name) to (with_zero frame)) (Traps BadCall))
@@ -149,30 +158,40 @@ emits_asks a to frame (Some (Number n)) = (refl, tt)
 emits_asks a to frame (Some (Pointer base k)) = tt
 
 -- an exchange, where it is allowed
-exchanges_asks : {N : Type 0} (a : Environment N) (to : ℕ) (frame : Frame N) (asked : Asking) (shelf : ℕ) (given : Option N) (allowed : Bool) → (allowed ≡ true → (asked ≡ AtShelf shelf) × IsThere a (Exchange shelf given)) → AsksFor a asked (exchanges to frame shelf given allowed)
+exchanges_asks : {N : Type 0} (a : Environment N) (to : ℕ) (frame : Frame N) (asked : Asking) (shelf : ℕ) (given : Option N) (allowed : Bool)
+    → (allowed ≡ true → (asked ≡ AtShelf shelf) × IsThere a (Exchange shelf given))
+    → AsksFor a asked (exchanges to frame shelf given allowed)
 exchanges_asks a to frame asked shelf given true h = h refl
 exchanges_asks a to frame asked shelf given false h = tt
 
-giving_asks : {N : Type 0} (a : Environment N) (to : ℕ) (frame : Frame N) (asked : Asking) (known : Bool) (shelf : ℕ) (name : N) (r : Result Found Trap) (k : ℤ) → a.object name ≡ r → (known ≡ true → (asked ≡ AtShelf shelf) × (shelf < a.kinds)) → AsksFor a asked (effect_of_giving to frame known shelf name r k)
+giving_asks : {N : Type 0} (a : Environment N) (to : ℕ) (frame : Frame N) (asked : Asking) (known : Bool) (shelf : ℕ) (name : N) (r : Result Found Trap) (k : ℤ)
+    → a.object name ≡ r → (known ≡ true → (asked ≡ AtShelf shelf) × (shelf < a.kinds))
+    → AsksFor a asked (effect_of_giving to frame known shelf name r k)
 giving_asks a to frame asked known shelf name (Err trap) k is h = tt
-giving_asks a to frame asked known shelf name (Ok found) k is h = exchanges_asks a to frame asked shelf (Some name) (known && ((found.kind == shelf) && int_eq k (pos 0))) (λ allowed.
+giving_asks a to frame asked known shelf name (Ok found) k is h =
+    exchanges_asks a to frame asked shelf (Some name) (known && ((found.kind == shelf) && int_eq k (pos 0))) (λ allowed.
     let parts = and_parts known ((found.kind == shelf) && int_eq k (pos 0)) allowed in
     let at = h parts.0 in
     (at.0, (at.1, (found, is, eqb-true found.kind shelf (and_parts (found.kind == shelf) (int_eq k (pos 0)) parts.1).0))))
 
-swapping_asks : {N : Type 0} (a : Environment N) (to : ℕ) (frame : Frame N) (asked : Asking) (known : Bool) (shelf : ℕ) (given : Value N) → (known ≡ true → (asked ≡ AtShelf shelf) × (shelf < a.kinds)) → AsksFor a asked (effect_of_swapping to a frame known shelf given)
-swapping_asks a to frame asked known shelf (Number n) h = exchanges_asks a to frame asked shelf None (known && (n == 0)) (λ allowed. let at = h (and_parts known (n == 0) allowed).0 in (at.0, (at.1, tt)))
+swapping_asks : {N : Type 0} (a : Environment N) (to : ℕ) (frame : Frame N) (asked : Asking) (known : Bool) (shelf : ℕ) (given : Value N)
+    → (known ≡ true → (asked ≡ AtShelf shelf) × (shelf < a.kinds))
+    → AsksFor a asked (effect_of_swapping to a frame known shelf given)
+swapping_asks a to frame asked known shelf (Number n) h =
+    exchanges_asks a to frame asked shelf None (known && (n == 0)) (λ allowed. let at = h (and_parts known (n == 0) allowed).0 in (at.0, (at.1, tt)))
 swapping_asks a to frame asked known shelf (Pointer Stack k) h = tt
 swapping_asks a to frame asked known shelf (Pointer Context k) h = tt
 swapping_asks a to frame asked known shelf (Pointer (Object name) k) h = giving_asks a to frame asked known shelf name (a.object name) k refl h
 
-swaps_asks : {N : Type 0} (to : ℕ) (a : Environment N) (frame : Frame N) (x y : Option (Value N)) → AsksFor a (asking_shelf x a.kinds) (effect_of_swap to a frame x y)
+swaps_asks : {N : Type 0} (to : ℕ) (a : Environment N) (frame : Frame N) (x y : Option (Value N))
+    → AsksFor a (asking_shelf x a.kinds) (effect_of_swap to a frame x y)
 swaps_asks to a frame None y = tt
 swaps_asks to a frame (Some shelf) None = tt
 swaps_asks {N} to a frame (Some (Number shelf)) (Some given) = swapping_asks a to frame (asking_shelf {N = N} (Some (Number shelf)) a.kinds) (nat_lt shelf a.kinds) shelf given (λ known. (ap (λ (t : Bool). cond t (AtShelf shelf) Unasked) known, ltb-true shelf a.kinds known))
 swaps_asks to a frame (Some (Pointer base k)) (Some given) = swapping_asks a to frame Unasked false 0 given (λ known. absurd (cc))
 
-calls_asks : {N : Type 0} (helper : Option Helper) (to : ℕ) (a : Environment N) (frame : Frame N) → AsksFor a (asking_helper helper a.kinds frame) (effect_of_call helper to a frame)
+calls_asks : {N : Type 0} (helper : Option Helper) (to : ℕ) (a : Environment N) (frame : Frame N)
+    → AsksFor a (asking_helper helper a.kinds frame) (effect_of_call helper to a frame)
 calls_asks None to a frame = tt
 calls_asks (Some helper.New) to a frame = news_asks to a frame (read frame R1)
 calls_asks (Some helper.Free) to a frame = frees_asks to a frame (read frame R1)
@@ -198,13 +217,16 @@ effect_at_asks None pc a frame = tt
 effect_at_asks (Some i) pc a frame = effect_asks i pc a frame
 
 -- what an instruction asks for is what its effect does
-pub asked_goes : {N : Type 0} (o : Option Insn) (pc : ℕ) (a : Environment N) (frame : Frame N) (act : Act N) (to : ℕ) (after : Frame N) → effect_at o pc a frame ≡ Goes act to after → asking o a.kinds frame ≡ asked_by act
+pub asked_goes : {N : Type 0} (o : Option Insn) (pc : ℕ) (a : Environment N) (frame : Frame N) (act : Act N) (to : ℕ) (after : Frame N)
+    → effect_at o pc a frame ≡ Goes act to after → asking o a.kinds frame ≡ asked_by act
 asked_goes o pc a frame act to after does = (subst (AsksFor a (asking o a.kinds frame)) does (effect_at_asks o pc a frame)).0
 
-pub asked_ends : {N : Type 0} (o : Option Insn) (pc : ℕ) (a : Environment N) (frame : Frame N) (n : ℕ) → effect_at o pc a frame ≡ Ends n → asking o a.kinds frame ≡ Unasked
+pub asked_ends : {N : Type 0} (o : Option Insn) (pc : ℕ) (a : Environment N) (frame : Frame N) (n : ℕ)
+    → effect_at o pc a frame ≡ Ends n → asking o a.kinds frame ≡ Unasked
 asked_ends o pc a frame n does = subst (AsksFor a (asking o a.kinds frame)) does (effect_at_asks o pc a frame)
 
-pub there_goes : {N : Type 0} (o : Option Insn) (pc : ℕ) (a : Environment N) (frame : Frame N) (act : Act N) (to : ℕ) (after : Frame N) → effect_at o pc a frame ≡ Goes act to after → IsThere a act
+pub there_goes : {N : Type 0} (o : Option Insn) (pc : ℕ) (a : Environment N) (frame : Frame N) (act : Act N) (to : ℕ) (after : Frame N)
+    → effect_at o pc a frame ≡ Goes act to after → IsThere a act
 there_goes o pc a frame act to after does = (subst (AsksFor a (asking o a.kinds frame)) does (effect_at_asks o pc a frame)).1
 
 -- ---- what the run sees of it
@@ -237,7 +259,8 @@ asks_seen (Some i) kinds frame = insn_asks i kinds frame
 pub asking_seen : (w : World) (run : ℕ) (r : Running) → IsOwned w → slice_get w.runs run ≡ Some r → asking_of w r ≡ asking_in (view_of w run r)
 asking_seen w run r owned there =
     let o = insn_at r.subject.program r.pc in
-    let kinds : length w.kinds ≡ length r.subject.rows = ap (λ (ks : List Kind). length ks) (sym (owned.runs.kinds_are run r there)) ∙ length-map r.subject.rows _ in
+    let kinds : length w.kinds ≡ length r.subject.rows =
+    ap (λ (ks : List Kind). length ks) (sym (owned.runs.kinds_are run r there)) ∙ length-map r.subject.rows _ in
     ap (λ (n : ℕ). asking o n r.frame) kinds ∙ sym (asks_seen o (length r.subject.rows) r.frame)
 
 -- ---- what the next instruction of a sound run asks for
@@ -273,4 +296,5 @@ asks_of v (inl (act, to, after, g)) = by act g (asked_goes (insn_at v.subject.pr
   by (Write name at bytes) g asked = ForNothing asked
   by (Free name) g asked = ForNothing asked
   by (Ask kind) g asked = ForObject kind asked (record { to = to; after = after; does = g.does; kind_is = g.room.0; room = g.room.1 })
-  by (Exchange shelf given) g asked = ForShelf shelf asked (record { given = given; to = to; after = after; does = g.does; shelf_is = g.room.0; room = g.room.1 })
+  by (Exchange shelf given) g asked =
+      ForShelf shelf asked (record { given = given; to = to; after = after; does = g.does; shelf_is = g.room.0; room = g.room.1 })

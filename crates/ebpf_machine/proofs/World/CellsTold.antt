@@ -24,7 +24,8 @@ abbrev pub stack_told : {N M : Type 0} → (how : Telling N M) → Result (List 
 stack_told how (Ok stack) = Ok (map (cell_renamed how.name) stack)
 stack_told how (Err trap) = Err (trap_told how trap)
 
-cell_at-told : {N M : Type 0} → (how : Telling N M) → (xs : List (Cell N)) (k : ℕ) → cell_at (map (cell_renamed how.name) xs) k ≡ cell_renamed how.name (cell_at xs k)
+cell_at-told : {N M : Type 0} → (how : Telling N M) → (xs : List (Cell N)) (k : ℕ)
+    → cell_at (map (cell_renamed how.name) xs) k ≡ cell_renamed how.name (cell_at xs k)
 cell_at-told how [] k = refl
 cell_at-told how (x ∷ xs) zero = refl
 cell_at-told how (x ∷ xs) (suc k) = cell_at-told how xs k
@@ -49,7 +50,9 @@ cell_points frame n h = InCell (cell_at frame.stack h.0) (part_among frame.stack
 abbrev AreAlike : {N M : Type 0} → (N → M) → (N → N → Bool) → (M → M → Bool) → List (Cell N) → Type 0
 AreAlike {N} name one seen stack = (n m : N) → HasPart stack n → HasPart stack m → seen (name n) (name m) ≡ one n m
 
-base-told : {N M : Type 0} → (how : Telling N M) → (one : N → N → Bool) (seen : M → M → Bool) (a b : Base N) → ((n m : N) → a ≡ Object n → b ≡ Object m → seen (how.name n) (how.name m) ≡ one n m) → is_same_base seen (base_renamed how.name a) (base_renamed how.name b) ≡ is_same_base one a b
+base-told : {N M : Type 0} → (how : Telling N M) → (one : N → N → Bool) (seen : M → M → Bool) (a b : Base N)
+    → ((n m : N) → a ≡ Object n → b ≡ Object m → seen (how.name n) (how.name m) ≡ one n m)
+    → is_same_base seen (base_renamed how.name a) (base_renamed how.name b) ≡ is_same_base one a b
 base-told how one seen Stack Stack alike = refl
 base-told how one seen Stack Context alike = refl
 base-told how one seen Stack (Object m) alike = refl
@@ -60,7 +63,9 @@ base-told how one seen (Object n) Stack alike = refl
 base-told how one seen (Object n) Context alike = refl
 base-told how one seen (Object n) (Object m) alike = alike n m refl refl
 
-pointer-told : {N M : Type 0} → (how : Telling N M) → (one : N → N → Bool) (seen : M → M → Bool) (v u : Value N) → ((n m : N) → Names (Some v) n → Names (Some u) m → seen (how.name n) (how.name m) ≡ one n m) → is_same_pointer seen (value_renamed how.name v) (value_renamed how.name u) ≡ is_same_pointer one v u
+pointer-told : {N M : Type 0} → (how : Telling N M) → (one : N → N → Bool) (seen : M → M → Bool) (v u : Value N)
+    → ((n m : N) → Names (Some v) n → Names (Some u) m → seen (how.name n) (how.name m) ≡ one n m)
+    → is_same_pointer seen (value_renamed how.name v) (value_renamed how.name u) ≡ is_same_pointer one v u
 pointer-told how one seen (Number x) u alike = refl
 pointer-told how one seen (Pointer a k) (Number x) alike = refl
 pointer-told {N} {M} how one seen (Pointer a k) (Pointer b j) alike =
@@ -70,12 +75,17 @@ pointer-told {N} {M} how one seen (Pointer a k) (Pointer b j) alike =
         of_object : (base : Base N) (k : ℤ) (n : N) → base ≡ Object n → Names (Some (Pointer base k)) n
         of_object base k n e = rw e refl
 
-part-told : {N M : Type 0} → (how : Telling N M) → (one : N → N → Bool) (seen : M → M → Bool) (v : Value N) (j : ℕ) (c : Cell N) → ((n m : N) → Names (Some v) n → NamesPart c m → seen (how.name n) (how.name m) ≡ one n m) → is_part seen (value_renamed how.name v) j (cell_renamed how.name c) ≡ is_part one v j c
+part-told : {N M : Type 0} → (how : Telling N M) → (one : N → N → Bool) (seen : M → M → Bool) (v : Value N) (j : ℕ) (c : Cell N)
+    → ((n m : N) → Names (Some v) n → NamesPart c m → seen (how.name n) (how.name m) ≡ one n m)
+    → is_part seen (value_renamed how.name v) j (cell_renamed how.name c) ≡ is_part one v j c
 part-told how one seen v j Unset alike = refl
 part-told how one seen v j (Byte b) alike = refl
 part-told how one seen v j (Part u i) alike = ap (λ (t : Bool). t && i == j) (pointer-told how one seen v u alike)
 
-parts-told : {N M : Type 0} → (how : Telling N M) → (one : N → N → Bool) (seen : M → M → Bool) (v : Value N) (stack : List (Cell N)) (place n : ℕ) → AreAlike how.name one seen stack → ((m : N) → Names (Some v) m → HasPart stack m) → are_parts seen (value_renamed how.name v) (map (cell_renamed how.name) stack) place n ≡ are_parts one v stack place n
+parts-told : {N M : Type 0} → (how : Telling N M)
+    → (one : N → N → Bool) (seen : M → M → Bool) (v : Value N) (stack : List (Cell N)) (place n : ℕ)
+    → AreAlike how.name one seen stack → ((m : N) → Names (Some v) m → HasPart stack m)
+    → are_parts seen (value_renamed how.name v) (map (cell_renamed how.name) stack) place n ≡ are_parts one v stack place n
 unfolding are_parts
 parts-told how one seen v stack place zero alike among = refl
 parts-told how one seen v stack place (suc n) alike among =
@@ -87,14 +97,19 @@ abbrev value_found : {N M : Type 0} → (how : Telling N M) → Option (Value N)
 value_found how None = None
 value_found how (Some v) = Some (value_renamed how.name v)
 
-found_by : {N M : Type 0} → (how : Telling N M) → (t : Bool) (v : Value N) → cond t (Some (value_renamed how.name v)) None ≡ value_found how (cond t (Some v) None)
+found_by : {N M : Type 0} → (how : Telling N M) → (t : Bool) (v : Value N)
+    → cond t (Some (value_renamed how.name v)) None ≡ value_found how (cond t (Some v) None)
 found_by how true v = refl
 found_by how false v = refl
 
-from-told : {N M : Type 0} → (how : Telling N M) → (one : N → N → Bool) (seen : M → M → Bool) (c : Cell N) (stack : List (Cell N)) (place : ℕ) → AreAlike how.name one seen stack → ((m : N) → NamesPart c m → HasPart stack m) → pointer_from seen (cell_renamed how.name c) (map (cell_renamed how.name) stack) place ≡ value_found how (pointer_from one c stack place)
+from-told : {N M : Type 0} → (how : Telling N M)
+    → (one : N → N → Bool) (seen : M → M → Bool) (c : Cell N) (stack : List (Cell N)) (place : ℕ) → AreAlike how.name one seen stack
+    → ((m : N) → NamesPart c m → HasPart stack m)
+    → pointer_from seen (cell_renamed how.name c) (map (cell_renamed how.name) stack) place ≡ value_found how (pointer_from one c stack place)
 from-told how one seen Unset stack place alike among = refl
 from-told how one seen (Byte b) stack place alike among = refl
-from-told how one seen (Part v j) stack place alike among = rw (parts-told how one seen v stack place 8 alike among) (found_by how (are_parts one v stack place 8) v)
+from-told how one seen (Part v j) stack place alike among =
+    rw (parts-told how one seen v stack place 8 alike among) (found_by how (are_parts one v stack place 8) v)
 
 byte-told : {N M : Type 0} → (how : Telling N M) → (c : Cell N) (n : Option ℕ) → with_byte (cell_renamed how.name c) n ≡ with_byte c n
 byte-told how Unset n = refl
@@ -102,24 +117,32 @@ byte-told how (Part v j) n = refl
 byte-told how (Byte b) None = refl
 byte-told how (Byte b) (Some n) = refl
 
-number-told : {N M : Type 0} → (how : Telling N M) → (stack : List (Cell N)) (place n : ℕ) → number_from (map (cell_renamed how.name) stack) place n ≡ number_from stack place n
+number-told : {N M : Type 0} → (how : Telling N M) → (stack : List (Cell N)) (place n : ℕ)
+    → number_from (map (cell_renamed how.name) stack) place n ≡ number_from stack place n
 unfolding number_from
 number-told how stack place zero = refl
-number-told how stack place (suc n) = rw (cell_at-told how stack place, number-told how stack (suc place) n) (byte-told how (cell_at stack place) (number_from stack (suc place) n))
+number-told how stack place (suc n) =
+    rw (cell_at-told how stack place, number-told how stack (suc place) n) (byte-told how (cell_at stack place) (number_from stack (suc place) n))
 
-loaded_number-told : {N M : Type 0} → (how : Telling N M) → (n : Option ℕ) (bytes : ℕ) (signed : Bool) → loaded_number n bytes signed ≡ result_told how (loaded_number n bytes signed)
+loaded_number-told : {N M : Type 0} → (how : Telling N M) → (n : Option ℕ) (bytes : ℕ) (signed : Bool)
+    → loaded_number n bytes signed ≡ result_told how (loaded_number n bytes signed)
 loaded_number-told how None bytes signed = refl
 loaded_number-told how (Some n) bytes signed = refl
 
-loaded_word-told : {N M : Type 0} → (how : Telling N M) → (v : Option (Value N)) (n : Option ℕ) (bytes : ℕ) (signed : Bool) → loaded_word (value_found how v) n bytes signed ≡ result_told how (loaded_word v n bytes signed)
+loaded_word-told : {N M : Type 0} → (how : Telling N M) → (v : Option (Value N)) (n : Option ℕ) (bytes : ℕ) (signed : Bool)
+    → loaded_word (value_found how v) n bytes signed ≡ result_told how (loaded_word v n bytes signed)
 loaded_word-told how None n bytes signed = loaded_number-told how n bytes signed
 loaded_word-told how (Some v) n bytes signed = refl
 
-chosen-told : {N M : Type 0} → (how : Telling N M) → (t : Bool) (a b : Result (Value N) Trap) → cond t (result_told how a) (result_told how b) ≡ result_told how (cond t a b)
+chosen-told : {N M : Type 0} → (how : Telling N M) → (t : Bool) (a b : Result (Value N) Trap)
+    → cond t (result_told how a) (result_told how b) ≡ result_told how (cond t a b)
 chosen-told how true a b = refl
 chosen-told how false a b = refl
 
-pub loaded_at-told : {N M : Type 0} → (how : Telling N M) → (one : N → N → Bool) (seen : M → M → Bool) (place : Option ℕ) (bytes : ℕ) (signed : Bool) (stack : List (Cell N)) → AreAlike how.name one seen stack → loaded_at seen place bytes signed (map (cell_renamed how.name) stack) ≡ result_told how (loaded_at one place bytes signed stack)
+pub loaded_at-told : {N M : Type 0} → (how : Telling N M)
+    → (one : N → N → Bool) (seen : M → M → Bool) (place : Option ℕ) (bytes : ℕ) (signed : Bool) (stack : List (Cell N))
+    → AreAlike how.name one seen stack
+    → loaded_at seen place bytes signed (map (cell_renamed how.name) stack) ≡ result_told how (loaded_at one place bytes signed stack)
 loaded_at-told how one seen None bytes signed stack alike = refl
 loaded_at-told how one seen (Some place) bytes signed stack alike =
     let pointer = from-told how one seen (cell_at stack place) stack place alike (λ m part. (place, part)) in
@@ -127,7 +150,9 @@ loaded_at-told how one seen (Some place) bytes signed stack alike =
     rw (cell_at-told how stack place, pointer, number-told how stack place bytes, loaded_word-told how (pointer_from one (cell_at stack place) stack place) n bytes signed, loaded_number-told how n bytes signed)
     (chosen-told how (is_whole_word place bytes) (loaded_word (pointer_from one (cell_at stack place) stack place) n bytes signed) (loaded_number n bytes signed))
 
-pub read_at-told : {N M : Type 0} → (how : Telling N M) → (outside : Trap) (place : Option ℕ) (bytes : ℕ) (signed : Bool) (source : List ℕ) → trap_told how outside ≡ outside → read_at outside place bytes signed source ≡ result_told how (read_at outside place bytes signed source)
+pub read_at-told : {N M : Type 0} → (how : Telling N M)
+    → (outside : Trap) (place : Option ℕ) (bytes : ℕ) (signed : Bool) (source : List ℕ) → trap_told how outside ≡ outside
+    → read_at outside place bytes signed source ≡ result_told how (read_at outside place bytes signed source)
 read_at-told how outside None bytes signed source same = ap Err (sym same)
 read_at-told how outside (Some place) bytes signed source same = refl
 
@@ -142,16 +167,19 @@ left_over-told how Unset = refl
 left_over-told how (Byte b) = refl
 left_over-told how (Part v j) = refl
 
-one_of-told : {N M : Type 0} → (how : Telling N M) → (t : Bool) (a b : Cell N) → cond t (cell_renamed how.name a) (cell_renamed how.name b) ≡ cell_renamed how.name (cond t a b)
+one_of-told : {N M : Type 0} → (how : Telling N M) → (t : Bool) (a b : Cell N)
+    → cond t (cell_renamed how.name a) (cell_renamed how.name b) ≡ cell_renamed how.name (cond t a b)
 one_of-told how true a b = refl
 one_of-told how false a b = refl
 
-stored_cell-told : {N M : Type 0} → (how : Telling N M) → (place bytes : ℕ) (v : Value N) (i : ℕ) (c : Cell N) → stored_cell place bytes (value_renamed how.name v) i (cell_renamed how.name c) ≡ cell_renamed how.name (stored_cell place bytes v i c)
+stored_cell-told : {N M : Type 0} → (how : Telling N M) → (place bytes : ℕ) (v : Value N) (i : ℕ) (c : Cell N)
+    → stored_cell place bytes (value_renamed how.name v) i (cell_renamed how.name c) ≡ cell_renamed how.name (stored_cell place bytes v i c)
 stored_cell-told how place bytes v i c =
     rw (cell_of-told how v (i - place), left_over-told how c, one_of-told how (touches place bytes (i / 8)) (left_over c) c)
     (one_of-told how (is_among place bytes i) (cell_of v (i - place)) (cond (touches place bytes (i / 8)) (left_over c) c))
 
-stored_from-told : {N M : Type 0} → (how : Telling N M) → (place bytes : ℕ) (v : Value N) (from : ℕ) (stack : List (Cell N)) → map (λ p. stored_cell place bytes (value_renamed how.name v) p.0 p.1) (enumerate_from from (map (cell_renamed how.name) stack)) ≡ map (cell_renamed how.name) (map (λ p. stored_cell place bytes v p.0 p.1) (enumerate_from from stack))
+stored_from-told : {N M : Type 0} → (how : Telling N M) → (place bytes : ℕ) (v : Value N) (from : ℕ) (stack : List (Cell N))
+    → map (λ p. stored_cell place bytes (value_renamed how.name v) p.0 p.1) (enumerate_from from (map (cell_renamed how.name) stack)) ≡ map (cell_renamed how.name) (map (λ p. stored_cell place bytes v p.0 p.1) (enumerate_from from stack))
 stored_from-told how place bytes v from [] = refl
 stored_from-told how place bytes v from (c ∷ stack) = rw (stored_cell-told how place bytes v from c, stored_from-told how place bytes v (from + 1) stack) refl
 
@@ -159,11 +187,13 @@ is_pointer-told : {N M : Type 0} → (how : Telling N M) → (v : Value N) → i
 is_pointer-told how (Number n) = refl
 is_pointer-told how (Pointer base k) = refl
 
-either-told : {N M : Type 0} → (how : Telling N M) → (t : Bool) (stack : List (Cell N)) → cond t (Err PointerMisuse) (Ok (map (cell_renamed how.name) stack)) ≡ stack_told how (cond t (Err PointerMisuse) (Ok stack))
+either-told : {N M : Type 0} → (how : Telling N M) → (t : Bool) (stack : List (Cell N))
+    → cond t (Err PointerMisuse) (Ok (map (cell_renamed how.name) stack)) ≡ stack_told how (cond t (Err PointerMisuse) (Ok stack))
 either-told how true stack = refl
 either-told how false stack = refl
 
-pub stored_at-told : {N M : Type 0} → (how : Telling N M) → (place : Option ℕ) (bytes : ℕ) (v : Value N) (stack : List (Cell N)) → stored_at place bytes (value_renamed how.name v) (map (cell_renamed how.name) stack) ≡ stack_told how (stored_at place bytes v stack)
+pub stored_at-told : {N M : Type 0} → (how : Telling N M) → (place : Option ℕ) (bytes : ℕ) (v : Value N) (stack : List (Cell N))
+    → stored_at place bytes (value_renamed how.name v) (map (cell_renamed how.name) stack) ≡ stack_told how (stored_at place bytes v stack)
 stored_at-told how None bytes v stack = refl
 stored_at-told how (Some place) bytes v stack =
     rw (is_pointer-told how v, stored_from-told how place bytes v 0 stack) (either-told how (is_pointer v && not (is_whole_word place bytes)) (stored_cells place bytes v stack))

@@ -57,7 +57,8 @@ shelf_dropped w shelf o owned on = record {
 }
 
 -- nothing else stands there
-pub nothing_else : (w : World) (shelf : ℕ) (o p : Owner) → IsOwned w → StandsOn w shelf o → Contains (filter (stays_off o.slot shelf) w.owners) p → p.holder ≢ Shelf shelf
+pub nothing_else : (w : World) (shelf : ℕ) (o p : Owner) → IsOwned w → StandsOn w shelf o
+    → Contains (filter (stays_off o.slot shelf) w.owners) p → p.holder ≢ Shelf shelf
 nothing_else w shelf o p owned on among e =
     let parts = Contains-filter (stays_off o.slot shelf) w.owners p among in
     let same = ap (stays_off o.slot shelf) (owned.holders.one_a_call p o parts.0 on.among (e ∙ sym on.holder)) in
@@ -72,25 +73,29 @@ abbrev pub IsOwnGiven : World → (run shelf : ℕ) → Option Name → Type 0
 IsOwnGiven w run shelf None = Unit {0}
 IsOwnGiven w run shelf (Some name) = Contains w.owners (owner_of run name) × (kind_in w name.slot ≡ shelf)
 
-pub given_dropped : (w : World) (run : ℕ) (name : Name) → Contains w.owners (owner_of run name) → IsDropped w (owner_of run name) (λ p. not ((p.slot == name.slot) && is_call run name.call p.holder))
+pub given_dropped : (w : World) (run : ℕ) (name : Name) → Contains w.owners (owner_of run name)
+    → IsDropped w (owner_of run name) (λ p. not ((p.slot == name.slot) && is_call run name.call p.holder))
 given_dropped w run name own = record {
   among = own;
   drops = ap not (and_from (name.slot == name.slot) (is_call run name.call (Run run name.call)) (eq-eqb name.slot name.slot refl) (call_is run name.call (Run run name.call) refl));
   only = λ p among e. its_owner run name p (not-false (has_name run name p) e);
 }
 
-pub given_with_run : (w : World) (run shelf : ℕ) (given : Option Name) (now : Running) → IsOwnGiven w run shelf given → IsOwnGiven (with_run w run now) run shelf given
+pub given_with_run : (w : World) (run shelf : ℕ) (given : Option Name) (now : Running) → IsOwnGiven w run shelf given
+    → IsOwnGiven (with_run w run now) run shelf given
 given_with_run w run shelf None now own = tt
 given_with_run w run shelf (Some name) now own = own
 
 -- it still is where the run got what stood on the shelf
-pub given_fetched : (w : World) (run at shelf : ℕ) (o : Owner) (given : Option Name) (now : Running) → IsOwnGiven w run shelf given → IsOwnGiven (fetched o shelf run at (with_run w run now)) run shelf given
+pub given_fetched : (w : World) (run at shelf : ℕ) (o : Owner) (given : Option Name) (now : Running) → IsOwnGiven w run shelf given
+    → IsOwnGiven (fetched o shelf run at (with_run w run now)) run shelf given
 given_fetched w run at shelf o None now own = tt
 given_fetched w run at shelf o (Some name) now own =
     (Contains-append_left (filter (stays_off o.slot shelf) w.owners) _ (owner_of run name) (Contains-kept (stays_off o.slot shelf) w.owners (owner_of run name) own.0 (ap not (and_false (name.slot == o.slot)))), own.1)
 
 -- nothing stands on the shelf then
-pub fetched_off : (w : World) (run at shelf : ℕ) (o p : Owner) → IsOwned w → StandsOn w shelf o → Contains (fetched o shelf run at w).owners p → p.holder ≢ Shelf shelf
+pub fetched_off : (w : World) (run at shelf : ℕ) (o p : Owner) → IsOwned w → StandsOn w shelf o
+    → Contains (fetched o shelf run at w).owners p → p.holder ≢ Shelf shelf
 fetched_off w run at shelf o p owned on among = by (Contains-push_cases (filter (stays_off o.slot shelf) w.owners) new p among) where
   new : Owner
   new = owner_of run (name_of o.slot at)
@@ -111,7 +116,8 @@ given_slot w run shelf (Some name) owned own = λ o among e. slot_of_call w run 
 -- ---- what runs hold
 
 pub held_shelved : (w : World) (run slot shelf : ℕ) → held_by (with_owner slot (Shelf shelf) w) run ≡ held_by w run
-held_shelved w run slot shelf = filter-append (λ (o : Owner). is_run run o.holder) w.owners (record { slot = slot; holder = Shelf shelf } ∷ []) ∙ append-nil (held_by w run)
+held_shelved w run slot shelf =
+    filter-append (λ (o : Owner). is_run run o.holder) w.owners (record { slot = slot; holder = Shelf shelf } ∷ []) ∙ append-nil (held_by w run)
 
 pub held_unshelved : (w : World) (run slot shelf : ℕ) → held_by (without_shelved slot shelf w) run ≡ held_by w run
 held_unshelved w run slot shelf =
@@ -130,7 +136,8 @@ abbrev pub held_without : Option Name → List Owner → List Owner
 held_without None owners = owners
 held_without (Some name) owners = filter (λ o. not (call_of o.holder == name.call)) owners
 
-pub held_put : (w : World) (run shelf : ℕ) (given : Option Name) → IsGivenSlot w run given → held_by (put_on given shelf run w) run ≡ held_without given (held_by w run)
+pub held_put : (w : World) (run shelf : ℕ) (given : Option Name) → IsGivenSlot w run given
+    → held_by (put_on given shelf run w) run ≡ held_without given (held_by w run)
 held_put w run shelf None its = refl
 held_put w run shelf (Some name) its = held_shelved (without_owner run name w) run name.slot shelf ∙ held_given w run name its
 
@@ -148,11 +155,13 @@ call_given given = option_map (λ (name : Name). name.call) given
 abbrev pub slot_held : Owner → Name
 slot_held o = name_of o.slot (call_of o.holder)
 
-pub slots_left : (given : Option Name) (owners : List Owner) → map slot_held (held_without given owners) ≡ slots_without (call_given given) (map slot_held owners)
+pub slots_left : (given : Option Name) (owners : List Owner)
+    → map slot_held (held_without given owners) ≡ slots_without (call_given given) (map slot_held owners)
 slots_left None owners = refl
 slots_left (Some name) owners = sym (filter-map (λ (n : Name). not (n.call == name.call)) slot_held owners)
 
-pub objects_left : (w : World) (given : Option Name) (owners : List Owner) → map (object_in w) (held_without given owners) ≡ without_given (call_given given) (map (object_in w) owners)
+pub objects_left : (w : World) (given : Option Name) (owners : List Owner)
+    → map (object_in w) (held_without given owners) ≡ without_given (call_given given) (map (object_in w) owners)
 objects_left w None owners = refl
 objects_left w (Some name) owners = sym (filter-map (λ (v : ObjectView). not (v.call == name.call)) (object_in w) owners)
 
@@ -161,7 +170,8 @@ abbrev pub IsNotGiven : Option Name → ℕ → Type 0
 IsNotGiven None at = Unit {0}
 IsNotGiven (Some name) at = name.call ≢ at
 
-pub left_push : (given : Option Name) (run at slot : ℕ) (owners : List Owner) → IsNotGiven given at → held_without given (owners ++ owner_of run (name_of slot at) ∷ []) ≡ held_without given owners ++ owner_of run (name_of slot at) ∷ []
+pub left_push : (given : Option Name) (run at slot : ℕ) (owners : List Owner) → IsNotGiven given at
+    → held_without given (owners ++ owner_of run (name_of slot at) ∷ []) ≡ held_without given owners ++ owner_of run (name_of slot at) ∷ []
 left_push None run at slot owners ne = refl
 left_push (Some name) run at slot owners ne =
     let apart = ne_eqb at name.call (λ e. ne (sym e)) in
@@ -169,15 +179,18 @@ left_push (Some name) run at slot owners ne =
     ∙ ap (λ (t : Bool). filter (λ (o : Owner). not (call_of o.holder == name.call)) owners ++ cond (not t) (owner_of run (name_of slot at) ∷ []) []) apart
 
 -- a call that is given away is another than this one
-given_slot_fetched : (w : World) (run at shelf : ℕ) (o : Owner) (given : Option Name) (now : Running) → IsOwned w → IsOwnGiven w run shelf given → IsNotGiven given at → IsGivenSlot (fetched o shelf run at (with_run w run now)) run given
+given_slot_fetched : (w : World) (run at shelf : ℕ) (o : Owner) (given : Option Name) (now : Running) → IsOwned w
+    → IsOwnGiven w run shelf given → IsNotGiven given at → IsGivenSlot (fetched o shelf run at (with_run w run now)) run given
 given_slot_fetched w run at shelf o None now owned own ne = tt
 given_slot_fetched w run at shelf o (Some name) now owned own ne = λ p among e. by p (Contains-push_cases (filter (stays_off o.slot shelf) w.owners) (owner_of run (name_of o.slot at)) p among) e where
-  by : (p : Owner) → Contains (filter (stays_off o.slot shelf) w.owners) p ⊎ (owner_of run (name_of o.slot at) ≡ p) → p.holder ≡ Run run name.call → p.slot ≡ name.slot
+  by : (p : Owner) → Contains (filter (stays_off o.slot shelf) w.owners) p ⊎ (owner_of run (name_of o.slot at) ≡ p)
+      → p.holder ≡ Run run name.call → p.slot ≡ name.slot
   by p (inl old) e = slot_of_call w run name p owned own.0 (Contains-filter (stays_off o.slot shelf) w.owners p old).0 e
   by p (inr same) e = absurd (ne (sym (ap call_of (ap (λ (q : Owner). q.holder) same ∙ e))))
 
 -- what a run holds that got what stood on the shelf by this call
-pub held_exchanged : (w : World) (run at shelf : ℕ) (o : Owner) (given : Option Name) (now : Running) → IsOwned w → IsOwnGiven w run shelf given → IsNotGiven given at
+pub held_exchanged : (w : World) (run at shelf : ℕ) (o : Owner) (given : Option Name) (now : Running) → IsOwned w
+    → IsOwnGiven w run shelf given → IsNotGiven given at
     → held_by (put_on given shelf run (fetched o shelf run at (with_run w run now))) run ≡ held_without given (held_by w run) ++ owner_of run (name_of o.slot at) ∷ []
 held_exchanged w run at shelf o given now owned own ne =
     held_put (fetched o shelf run at (with_run w run now)) run shelf given (given_slot_fetched w run at shelf o given now owned own ne)

@@ -64,7 +64,8 @@ steady_put : (w v : World) (run shelf : ℕ) (given : Option Name) → IsSteady 
 steady_put w v run shelf None same = same
 steady_put w v run shelf (Some name) same = record { as_many = same.as_many; kinds = same.kinds; ledgers = same.ledgers }
 
-steady_exchanged : (w : World) (run : ℕ) (r : Running) (shelf to : ℕ) (given : Option Name) (frame : Frame Name) → IsSteady w (exchanged (standing w shelf) w run r to frame shelf given)
+steady_exchanged : (w : World) (run : ℕ) (r : Running) (shelf to : ℕ) (given : Option Name) (frame : Frame Name)
+    → IsSteady w (exchanged (standing w shelf) w run r to frame shelf given)
 steady_exchanged w run r shelf to given frame = by (standing w shelf) where
   by : (o : Option Owner) → IsSteady w (exchanged o w run r to frame shelf given)
   by None = steady_put w (with_run w run _) run shelf given (record { as_many = length-set w.runs run _; kinds = refl; ledgers = refl })
@@ -93,7 +94,8 @@ and_false true = refl
 and_false false = refl
 
 -- what a run meets in the world is seen by it
-met : (w : World) (run : ℕ) (r : Running) → IsOwned w → slice_get w.runs run ≡ Some r → IsToldAs by_call (environment w run r) (environment_of_view (view_of w run r)) r.frame
+met : (w : World) (run : ℕ) (r : Running) → IsOwned w → slice_get w.runs run ≡ Some r
+    → IsToldAs by_call (environment w run r) (environment_of_view (view_of w run r)) r.frame
 met w run r owned there = record {
   context = refl;
   kinds = kinds_alike w run r owned there;
@@ -102,7 +104,8 @@ met w run r owned there = record {
   names = λ n m has too. same n m (n.call == m.call) refl (λ e. owned.runs.one_slot run r there n m has too e);
 }
   where
-    same : (n m : Name) (t : Bool) → (n.call == m.call) ≡ t → (n.call ≡ m.call → n.slot ≡ m.slot) → (n.call == m.call) ≡ ((n.slot == m.slot) && (n.call == m.call))
+    same : (n m : Name) (t : Bool) → (n.call == m.call) ≡ t → (n.call ≡ m.call → n.slot ≡ m.slot)
+        → (n.call == m.call) ≡ ((n.slot == m.slot) && (n.call == m.call))
     same n m false e one = rw e (sym (and_false (n.slot == m.slot)))
     same n m true e one = let slots = equal n.slot m.slot (one (calls n.call m.call e)) in rw (e, slots) refl
       where
@@ -112,7 +115,8 @@ met w run r owned there = record {
         equal : (a b : ℕ) → a ≡ b → (a == b) ≡ true
         equal a b e = grind (arith, nat_tests)
 
-seen_effect : (w : World) (run : ℕ) (r : Running) → IsOwned w → slice_get w.runs run ≡ Some r → effect_seen (effect_of_run w run r) ≡ effect_of_view (view_of w run r)
+seen_effect : (w : World) (run : ℕ) (r : Running) → IsOwned w → slice_get w.runs run ≡ Some r
+    → effect_seen (effect_of_run w run r) ≡ effect_of_view (view_of w run r)
 seen_effect w run r owned there = sym (effect_at-told by_call (insn_at r.subject.program r.pc) r.pc (environment w run r) (environment_of_view (view_of w run r)) r.frame (met w run r owned there))
 
 -- each object of a run has as many bytes as its kind says
@@ -131,12 +135,15 @@ grantable : (w : World) (kind : ℕ) (answer : Answer) → answer_fault w (OfKin
 grantable w kind Absent fine = tt
 grantable w kind world.Null fine = tt
 grantable w kind (Slot slot) fine = by (is_home w slot) (is_in slot (ledger_of w kind)) refl refl fine where
-  by : (t u : Bool) → is_home w slot ≡ t → is_in slot (ledger_of w kind) ≡ u → first_of ((not t, SlotNotHome) ∷ (not u, SlotOfAnotherKind) ∷ []) ≡ None → (is_home w slot ≡ true) × (is_in slot (ledger_of w kind) ≡ true)
+  by : (t u : Bool) → is_home w slot ≡ t → is_in slot (ledger_of w kind) ≡ u
+      → first_of ((not t, SlotNotHome) ∷ (not u, SlotOfAnotherKind) ∷ []) ≡ None
+      → (is_home w slot ≡ true) × (is_in slot (ledger_of w kind) ≡ true)
   by true true home its fine = (home, its)
   by true false home its fine = absurd (cc)
   by false u home its fine = absurd (cc)
 
-own_act : (w : World) (run : ℕ) (r : Running) (answer : Answer) (act : Act Name) → IsThere (environment w run r) act → answer_fault w (asked_by act) answer ≡ None → IsOwnAct w run answer act
+own_act : (w : World) (run : ℕ) (r : Running) (answer : Answer) (act : Act Name) → IsThere (environment w run r) act
+    → answer_fault w (asked_by act) answer ≡ None → IsOwnAct w run answer act
 own_act w run r answer Nothing there fine = tt
 own_act w run r answer (Write name at bytes) there fine =
     let own = own_found w run name there.0 there.1 in
@@ -151,7 +158,9 @@ own_act w run r answer (Exchange shelf given) there fine = (there.0, given_own g
 abbrev IsOwnNext : World → ℕ → Running → Answer → Effect Name → Type 0
 IsOwnNext w run r answer e = IsOwnEffect w run answer e × IsForward r.frame r.pc e × HasRoomFor w run r e
 
-own_next : (w : World) (run : ℕ) (r : Running) (answer : Answer) (e : Effect Name) → answer_fault w (asking_of w r) answer ≡ None → effect_of_run w run r ≡ e → effect_seen e ≡ effect_of_view (view_of w run r) → IsNext (view_of w run r) → IsOwnNext w run r answer e
+own_next : (w : World) (run : ℕ) (r : Running) (answer : Answer) (e : Effect Name) → answer_fault w (asking_of w r) answer ≡ None
+    → effect_of_run w run r ≡ e → effect_seen e ≡ effect_of_view (view_of w run r) → IsNext (view_of w run r)
+    → IsOwnNext w run r answer e
 own_next w run r answer (Ends n) fine is seen next = (tt, tt, tt)
 own_next w run r answer (Traps trap) fine is seen (inl (act, to, after, g)) = let does = g.does in absurd (cc)
 own_next w run r answer (Traps trap) fine is seen (inr (n, ends)) = let does = ends.does in absurd (cc)
@@ -177,14 +186,18 @@ served_alike w (Ask kind) answer = refl
 served_alike w (Free name) answer = refl
 served_alike w (Exchange shelf given) answer = refl
 
-served_fits : (w : World) (run : ℕ) (r : Running) (e : Effect Name) (answer : Answer) → effect_of_run w run r ≡ e → IsOwnEffect w run answer e → served_to w r answer ≡ served_effect w e answer
+served_fits : (w : World) (run : ℕ) (r : Running) (e : Effect Name) (answer : Answer) → effect_of_run w run r ≡ e
+    → IsOwnEffect w run answer e → served_to w r answer ≡ served_effect w e answer
 served_fits w run r (Goes act to frame) answer is own = ap (λ (asked : Asking). served_in w asked answer) (asked_goes (insn_at r.subject.program r.pc) r.pc (environment w run r) r.frame act to frame is) ∙ served_alike w act answer
-served_fits w run r (Ends n) answer is own = ap (λ (asked : Asking). served_in w asked answer) (asked_ends (insn_at r.subject.program r.pc) r.pc (environment w run r) r.frame n is)
+served_fits w run r (Ends n) answer is own =
+    ap (λ (asked : Asking). served_in w asked answer) (asked_ends (insn_at r.subject.program r.pc) r.pc (environment w run r) r.frame n is)
 served_fits w run r (Traps trap) answer is own = absurd own
 
 -- ---- the next world
 
-pub next_world : (w : World) (run : ℕ) (r : Running) (answer : Answer) → IsOwned w → slice_get w.runs run ≡ Some r → IsSound (view_of w run r) → r.status ≡ Going → answer_fault w (asking_of w r) answer ≡ None → (after : World) × IsNextWorld w run r answer after
+pub next_world : (w : World) (run : ℕ) (r : Running) (answer : Answer) → IsOwned w → slice_get w.runs run ≡ Some r
+    → IsSound (view_of w run r) → r.status ≡ Going → answer_fault w (asking_of w r) answer ≡ None
+    → (after : World) × IsNextWorld w run r answer after
 next_world w run r answer owned there sound going fine =
     let v = view_of w run r in
     let e = effect_of_run w run r in
@@ -223,13 +236,15 @@ shown_run w run v e = of_run (slice_get w.runs run) refl where
   of_run (Some r) there = let some : view_in w run ≡ Some (view_of w run r) = rw there refl in (r, there, cc)
 
 -- the answer to a legal event has no fault
-legal_answer : (w after : World) (run : ℕ) (r : Running) (answer : Answer) → slice_get w.runs run ≡ Some r → r.status ≡ Going → exec w run answer ≡ Ok after → answer_fault w (asking_of w r) answer ≡ None
+legal_answer : (w after : World) (run : ℕ) (r : Running) (answer : Answer) → slice_get w.runs run ≡ Some r → r.status ≡ Going
+    → exec w run answer ≡ Ok after → answer_fault w (asking_of w r) answer ≡ None
 legal_answer w after run r answer there going does = by (answer_fault w (asking_of w r) answer) refl where
   by : (o : Option Illegal) → answer_fault w (asking_of w r) answer ≡ o → o ≡ None
   by None fault = refl
   by (Some why) fault = let illegal : exec w run answer ≡ Err why = rw (there, going, fault) refl in absurd (cc)
 
-pub step_event : (v : RunView) (served : Served) (held : List Name) → IsSound v → v.status ≡ Going → IsEvent served v (stepped (result_of served) v) held (slots_after (effect_of_view v) served v.subject.decl.held v.pc held)
+pub step_event : (v : RunView) (served : Served) (held : List Name) → IsSound v → v.status ≡ Going
+    → IsEvent served v (stepped (result_of served) v) held (slots_after (effect_of_view v) served v.subject.decl.held v.pc held)
 step_event v served held sound going w after run owned shows slots serves does =
     let r = shown_run w run v shows in
     let goes : r.0.status ≡ Going = ap (λ (u : RunView). u.status) r.2 ∙ going in
@@ -250,7 +265,9 @@ step_event v served held sound going w after run owned shows slots serves does =
     subst (λ (u : World). (view_in u run ≡ Some (stepped (result_of served) v)) × (slots_in u run ≡ slots_after (effect_of_view v) served v.subject.decl.held v.pc held) × ((shelf : ℕ) → shelved_in u shelf ≡ standing_seen w held (effect_of_view v) shelf)) same (seen, now, shelves)
 
 -- where a store may answer so, the event with this answer serves so, if what stands on the shelf is what the store tells
-pub may_serve : (w : World) (may : Offers) (at : ℕ) (asked : Asking) (served : Served) → MayAnswer may at asked served → ((shelf : ℕ) → asked ≡ AtShelf shelf → served_from w (standing w shelf) ≡ served) → served_in w asked (answer_for served) ≡ served
+pub may_serve : (w : World) (may : Offers) (at : ℕ) (asked : Asking) (served : Served) → MayAnswer may at asked served
+    → ((shelf : ℕ) → asked ≡ AtShelf shelf → served_from w (standing w shelf) ≡ served)
+    → served_in w asked (answer_for served) ≡ served
 may_serve w may at Unasked served can stands = ap (λ (s : Served). served_by (answer_for s)) can ∙ sym can
 may_serve w may at OfNoKind served can stands = absurd can
 may_serve w may at (AtShelf shelf) served can stands = stands shelf refl

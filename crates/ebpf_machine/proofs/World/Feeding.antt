@@ -79,11 +79,13 @@ pub record IsFed (w : World) (r : Running) (told : CallResult) (f : Fed) : Type 
   pub steps : stepped (result_of (served_to f.world r f.answer)) (view_of w 0 r) ≡ stepped told (view_of w 0 r)
   pub below : (slot : ℕ) → is_in_ledger f.world slot ≡ true → slot < length (stepped told (view_of w 0 r)).replies
 
-fed_nothing : (a : Alone) (h : IsLone a) (told : CallResult) → h.run.status ≡ Going → asking_of a.world h.run ≡ Unasked → IsFed a.world h.run told (record { world = a.world; answer = Absent })
+fed_nothing : (a : Alone) (h : IsLone a) (told : CallResult) → h.run.status ≡ Going → asking_of a.world h.run ≡ Unasked
+    → IsFed a.world h.run told (record { world = a.world; answer = Absent })
 fed_nothing a h told going unasked =
     let v = view_of a.world 0 h.run in
     let asked : asking_in v ≡ Unasked = sym (asking_seen a.world 0 h.run h.owned (there_is a h)) ∙ unasked in
-    let kept : length (stepped told v).replies ≡ length h.run.calls = ap (λ (rs : Replies). length rs.answers) (replies_kept v told going asked) ∙ length-map h.run.calls _ in
+    let kept : length (stepped told v).replies ≡ length h.run.calls =
+    ap (λ (rs : Replies). length rs.answers) (replies_kept v told going asked) ∙ length-map h.run.calls _ in
     record {
       owned = h.owned;
       runs = refl;
@@ -94,12 +96,14 @@ fed_nothing a h told going unasked =
     }
 
 -- a call of new tells one reply more
-one_more : (a : Alone) (h : IsLone a) (told : CallResult) (kind : ℕ) → h.run.status ≡ Going → AsksNew (view_of a.world 0 h.run) kind → length (stepped told (view_of a.world 0 h.run)).replies ≡ length h.run.calls + 1
+one_more : (a : Alone) (h : IsLone a) (told : CallResult) (kind : ℕ) → h.run.status ≡ Going → AsksNew (view_of a.world 0 h.run) kind
+    → length (stepped told (view_of a.world 0 h.run)).replies ≡ length h.run.calls + 1
 one_more a h told kind going new =
     let v = view_of a.world 0 h.run in
     ap (λ (rs : Replies). length rs.answers) (replies_added v told kind going new) ∙ length_push v.replies (reply_in (heard_by_new told)) ∙ ap (λ (n : ℕ). n + 1) (length-map h.run.calls (λ (t : AnsweredCall). t.reply))
 
-fed_null : (a : Alone) (h : IsLone a) (kind : ℕ) → h.run.status ≡ Going → asking_of a.world h.run ≡ OfKind kind → AsksNew (view_of a.world 0 h.run) kind → IsFed a.world h.run view.Null (record { world = a.world; answer = Null })
+fed_null : (a : Alone) (h : IsLone a) (kind : ℕ) → h.run.status ≡ Going → asking_of a.world h.run ≡ OfKind kind
+    → AsksNew (view_of a.world 0 h.run) kind → IsFed a.world h.run view.Null (record { world = a.world; answer = Null })
 fed_null a h kind going asked new = record {
   owned = h.owned;
   runs = refl;
@@ -110,7 +114,9 @@ fed_null a h kind going asked new = record {
 }
 
 -- a slot that is to be granted is new
-fed_slot : (a : Alone) (h : IsLone a) (kind : ℕ) → h.run.status ≡ Going → asking_of a.world h.run ≡ OfKind kind → AsksNew (view_of a.world 0 h.run) kind → IsFed a.world h.run view.Granted (record { world = with_slot_joined kind (length h.run.calls) a.world; answer = Slot (length h.run.calls) })
+fed_slot : (a : Alone) (h : IsLone a) (kind : ℕ) → h.run.status ≡ Going → asking_of a.world h.run ≡ OfKind kind
+    → AsksNew (view_of a.world 0 h.run) kind
+    → IsFed a.world h.run view.Granted (record { world = with_slot_joined kind (length h.run.calls) a.world; answer = Slot (length h.run.calls) })
 fed_slot a h kind going asked new =
     let w = a.world in
     let slot = length h.run.calls in
@@ -133,7 +139,8 @@ fed_slot a h kind going asked new =
 -- ---- a shelf
 
 -- a call of swap tells one reply more
-one_swapped_more : (a : Alone) (h : IsLone a) (told : CallResult) (shelf : ℕ) → h.run.status ≡ Going → AsksShelf (view_of a.world 0 h.run) shelf → length (stepped told (view_of a.world 0 h.run)).replies ≡ length h.run.calls + 1
+one_swapped_more : (a : Alone) (h : IsLone a) (told : CallResult) (shelf : ℕ) → h.run.status ≡ Going
+    → AsksShelf (view_of a.world 0 h.run) shelf → length (stepped told (view_of a.world 0 h.run)).replies ≡ length h.run.calls + 1
 one_swapped_more a h told shelf going asks =
     let v = view_of a.world 0 h.run in
     ap (λ (rs : Replies). length rs.answers) (replies_swapped v told shelf going asks) ∙ length_push v.replies (reply_in (heard_by_swap told)) ∙ ap (λ (n : ℕ). n + 1) (length-map h.run.calls (λ (t : AnsweredCall). t.reply))
@@ -150,11 +157,14 @@ cleared_runs w shelf = by (standing w shelf) where
   by None = refl
   by (Some o) = refl
 
-asked_in : (w : World) (r : Running) (kinds : List Kind) (shelf : ℕ) → kinds ≡ w.kinds → asking_of w r ≡ AtShelf shelf → asking (insn_at r.subject.program r.pc) (length kinds) r.frame ≡ AtShelf shelf
+asked_in : (w : World) (r : Running) (kinds : List Kind) (shelf : ℕ) → kinds ≡ w.kinds → asking_of w r ≡ AtShelf shelf
+    → asking (insn_at r.subject.program r.pc) (length kinds) r.frame ≡ AtShelf shelf
 asked_in w r kinds shelf same asked = ap (λ (ks : List Kind). asking (insn_at r.subject.program r.pc) (length ks) r.frame) same ∙ asked
 
 -- nothing stands on it
-fed_cleared : (a : Alone) (h : IsLone a) (shelf : ℕ) → h.run.status ≡ Going → asking_of a.world h.run ≡ AtShelf shelf → AsksShelf (view_of a.world 0 h.run) shelf → IsFed a.world h.run view.Empty (record { world = cleared shelf a.world; answer = Absent })
+fed_cleared : (a : Alone) (h : IsLone a) (shelf : ℕ) → h.run.status ≡ Going → asking_of a.world h.run ≡ AtShelf shelf
+    → AsksShelf (view_of a.world 0 h.run) shelf
+    → IsFed a.world h.run view.Empty (record { world = cleared shelf a.world; answer = Absent })
 fed_cleared a h shelf going asked asks =
     let w = a.world in
     let is : asking_of (cleared shelf w) h.run ≡ AtShelf shelf = asked_in w h.run (cleared shelf w).kinds shelf (cleared_kinds w shelf) asked in
@@ -168,7 +178,8 @@ fed_cleared a h shelf going asked asks =
     }
 
 -- a new object stands on it
-fed_shelved : (a : Alone) (h : IsLone a) (shelf : ℕ) (bytes : List ℕ) → length bytes ≡ length (image_at a.world.kinds shelf) → h.run.status ≡ Going → asking_of a.world h.run ≡ AtShelf shelf → AsksShelf (view_of a.world 0 h.run) shelf
+fed_shelved : (a : Alone) (h : IsLone a) (shelf : ℕ) (bytes : List ℕ) → length bytes ≡ length (image_at a.world.kinds shelf)
+    → h.run.status ≡ Going → asking_of a.world h.run ≡ AtShelf shelf → AsksShelf (view_of a.world 0 h.run) shelf
     → IsFed a.world h.run (view.Shelved bytes) (record { world = shelved shelf (length h.run.calls) bytes (cleared shelf a.world); answer = Absent })
 fed_shelved a h shelf bytes long going asked asks = record {
   owned = owned_shelved (cleared shelf w) shelf slot bytes room (long ∙ ap (λ (ks : List Kind). length (image_at ks shelf)) (sym (cleared_kinds w shelf)));
@@ -218,7 +229,8 @@ bytes_left r replies = drop (length r.taken) replies.taken
 abbrev pub told_now : (a : Alone) → Running → Replies → CallResult
 told_now a r replies = used_by (asking_of a.world r) a.world.kinds (slice_get replies.answers (length r.calls)) (bytes_left r replies)
 
-pub fed_is : (a : Alone) (replies : Replies) (h : IsLone a) → h.run.status ≡ Going → IsFed a.world h.run (told_now a h.run replies) (fed_to a.world h.run replies)
+pub fed_is : (a : Alone) (replies : Replies) (h : IsLone a) → h.run.status ≡ Going
+    → IsFed a.world h.run (told_now a h.run replies) (fed_to a.world h.run replies)
 fed_is a replies h going = by (asks a h going) (slice_get replies.answers i) where
   i : ℕ
   i = length h.run.calls

@@ -28,7 +28,8 @@ module _ {H : Type 0} (bytes : H → List ℕ) (slot_of : H → ℕ) (w : World)
   name_kept h = name_of (slot_of h.object) h.call
 
   -- the objects of the world are those that are kept, in the same slots
-  found_kept : (owners : List Owner) (held : List (Holding H)) (call : ℕ) → map (object_in w) owners ≡ map (object_seen bytes) held → map slot_held owners ≡ map name_kept held
+  found_kept : (owners : List Owner) (held : List (Holding H)) (call : ℕ) → map (object_in w) owners ≡ map (object_seen bytes) held
+      → map slot_held owners ≡ map name_kept held
       → shelved_given w (option_map name_kept (find (λ h. h.call == call) held)) ≡ option_map (λ h. as_kept h.object) (find (λ h. h.call == call) held)
   found_kept [] [] call objects slots = refl
   found_kept [] (h ∷ held) call objects slots = absurd (cc)
@@ -47,7 +48,8 @@ module _ {H : Type 0} (bytes : H → List ℕ) (slot_of : H → ℕ) (w : World)
       same : w.bytes (slot_of h.object) ≡ bytes h.object
       same = ap (λ (n : Name). w.bytes n.slot) (sym name) ∙ ap (λ (v : ObjectView). v.bytes) first
 
-      by : (t : Bool) → shelved_given w (option_map name_kept (find (λ x. x.call == call) held)) ≡ option_map (λ x. as_kept x.object) (find (λ x. x.call == call) held)
+      by : (t : Bool)
+          → shelved_given w (option_map name_kept (find (λ x. x.call == call) held)) ≡ option_map (λ x. as_kept x.object) (find (λ x. x.call == call) held)
           → shelved_given w (option_map name_kept (cond t (Some h) (find (λ x. x.call == call) held))) ≡ option_map (λ x. as_kept x.object) (cond t (Some h) (find (λ x. x.call == call) held))
       by true rest = ap (λ (b : List ℕ). Some (record { slot = slot_of h.object; bytes = b })) same
       by false rest = rest
@@ -56,17 +58,20 @@ module _ {H : Type 0} (bytes : H → List ℕ) (slot_of : H → ℕ) (w : World)
     given_kept : (given : Option ℕ) → shelved_given w (name_given (slots_kept slot_of r.held) given) ≡ shelved_from as_kept r.held given
     given_kept None = refl
     given_kept (Some call) =
-        let objects : map (object_in w) (held_by w run) ≡ map (object_seen bytes) r.held = ap (λ (v : RunView). v.objects) (shown_run w run (seen bytes r) shows).2 in
+        let objects : map (object_in w) (held_by w run) ≡ map (object_seen bytes) r.held =
+        ap (λ (v : RunView). v.objects) (shown_run w run (seen bytes r) shows).2 in
         ap (shelved_given w) (find-map (λ (n : Name). n.call == call) name_kept r.held) ∙ found_kept (held_by w run) r.held call objects slots
 
-    acted_kept : (act : Act ℕ) (shelf : ℕ) (what : Option Shelved) → shelf_acted (λ given. shelved_given w (name_given (slots_kept slot_of r.held) given)) act shelf what ≡ shelf_acted (shelved_from as_kept r.held) act shelf what
+    acted_kept : (act : Act ℕ) (shelf : ℕ) (what : Option Shelved)
+        → shelf_acted (λ given. shelved_given w (name_given (slots_kept slot_of r.held) given)) act shelf what ≡ shelf_acted (shelved_from as_kept r.held) act shelf what
     acted_kept Nothing shelf what = refl
     acted_kept (Write name at now) shelf what = refl
     acted_kept (Ask kind) shelf what = refl
     acted_kept (Free name) shelf what = refl
     acted_kept (Exchange k given) shelf what = ap (λ (it : Option Shelved). cond (shelf == k) it what) (given_kept given)
 
-    pub standing_kept : (e : Effect ℕ) (shelf : ℕ) → standing_seen w (slots_kept slot_of r.held) e shelf ≡ shelf_done (shelved_from as_kept r.held) e shelf (shelved_in w shelf)
+    pub standing_kept : (e : Effect ℕ) (shelf : ℕ)
+        → standing_seen w (slots_kept slot_of r.held) e shelf ≡ shelf_done (shelved_from as_kept r.held) e shelf (shelved_in w shelf)
     standing_kept (Goes act to frame) shelf = acted_kept act shelf (shelved_in w shelf)
     standing_kept (Ends n) shelf = refl
     standing_kept (Traps trap) shelf = refl
@@ -76,7 +81,8 @@ module _ {H : Type 0} (bytes : H → List ℕ) (slot_of : H → ℕ) (w : World)
 -- it is none that stands on a shelf
 pub shelved_joined : (w : World) (kind slot shelf : ℕ) → IsOwned w → IsNew w kind slot → shelved_in (with_slot_joined kind slot w) shelf ≡ shelved_in w shelf
 shelved_joined w kind slot shelf owned new = by (standing w shelf) (stands w shelf) where
-  by : (f : Option Owner) → IsFound (λ (o : Owner). is_shelf shelf o.holder) w.owners f → option_map (λ (o : Owner). shelved_at (with_slot_joined kind slot w) o.slot) f ≡ option_map (λ (o : Owner). shelved_at w o.slot) f
+  by : (f : Option Owner) → IsFound (λ (o : Owner). is_shelf shelf o.holder) w.owners f
+      → option_map (λ (o : Owner). shelved_at (with_slot_joined kind slot w) o.slot) f ≡ option_map (λ (o : Owner). shelved_at w o.slot) f
   by None none = refl
   by (Some o) found = ap (λ (t : Bool). Some (record { slot = o.slot; bytes = cond t (image_at w.kinds kind) (w.bytes o.slot) })) (ne_eqb o.slot slot other) where
     other : o.slot ≢ slot

@@ -28,7 +28,8 @@ count-set {X} p (x ∷ xs) (suc k) y d e =
     let one : X → ℕ = λ z. cond (p z) 1 0 in
     sum_by-cons one x (set xs k y) ∙ ap (λ (n : ℕ). one x + n) (count-set p xs k y d e) ∙ sym (sum_by-cons one x xs)
 
-kind_from-set : (base : ℕ) (ledgers : List (List ℕ)) (k : ℕ) (slots : List ℕ) (slot : ℕ) → is_in slot slots ≡ is_in slot (get_or ledgers k []) → kind_from base (set ledgers k slots) slot ≡ kind_from base ledgers slot
+kind_from-set : (base : ℕ) (ledgers : List (List ℕ)) (k : ℕ) (slots : List ℕ) (slot : ℕ)
+    → is_in slot slots ≡ is_in slot (get_or ledgers k []) → kind_from base (set ledgers k slots) slot ≡ kind_from base ledgers slot
 unfolding kind_from
 kind_from-set base [] k slots slot e = refl
 kind_from-set base (x ∷ ledgers) zero slots slot e = ap (λ (b : Bool). cond b base (kind_from (suc base) ledgers slot)) e
@@ -36,10 +37,12 @@ kind_from-set base (x ∷ ledgers) (suc k) slots slot e = ap (λ (n : ℕ). cond
 
 -- ---- what the ledgers say of a slot of which a kind's new ledger answers as its old one
 
-pub other_ledger : (w : World) (kind : ℕ) (slots : List ℕ) (s : ℕ) → is_in s slots ≡ is_in s (ledger_of w kind) → is_in_ledger (with_ledger kind slots w) s ≡ is_in_ledger w s
+pub other_ledger : (w : World) (kind : ℕ) (slots : List ℕ) (s : ℕ) → is_in s slots ≡ is_in s (ledger_of w kind)
+    → is_in_ledger (with_ledger kind slots w) s ≡ is_in_ledger w s
 other_ledger w kind slots s same = any-set (is_in s) w.ledgers kind slots [] same
 
-other_count : (w : World) (kind : ℕ) (slots : List ℕ) (s : ℕ) → is_in s slots ≡ is_in s (ledger_of w kind) → count_by (is_in s) (with_ledger kind slots w).ledgers ≡ count_by (is_in s) w.ledgers
+other_count : (w : World) (kind : ℕ) (slots : List ℕ) (s : ℕ) → is_in s slots ≡ is_in s (ledger_of w kind)
+    → count_by (is_in s) (with_ledger kind slots w).ledgers ≡ count_by (is_in s) w.ledgers
 other_count w kind slots s same = count-set (is_in s) w.ledgers kind slots [] same
 
 other_kind : (w : World) (kind : ℕ) (slots : List ℕ) (s : ℕ) → is_in s slots ≡ is_in s (ledger_of w kind) → kind_in (with_ledger kind slots w) s ≡ kind_in w s
@@ -62,7 +65,8 @@ pub record IsChange (w : World) (kind slot : ℕ) (slots : List ℕ) (bytes : �
 owners_apart : (w : World) (slot : ℕ) (o : Owner) → is_owned w slot ≡ false → Contains w.owners o → o.slot ≢ slot
 owners_apart w slot o nobodys among e = let somebodys = any_from (λ (q : Owner). q.slot == slot) w.owners o among (eq-eqb o.slot slot e) in absurd (cc)
 
-pub owned_changed : (w : World) (kind slot : ℕ) (slots : List ℕ) (bytes : ℕ → List ℕ) → IsOwned w → IsChange w kind slot slots bytes → IsOwned (changed kind slots bytes w)
+pub owned_changed : (w : World) (kind slot : ℕ) (slots : List ℕ) (bytes : ℕ → List ℕ) → IsOwned w → IsChange w kind slot slots bytes
+    → IsOwned (changed kind slots bytes w)
 owned_changed w kind slot slots bytes owned change = record {
   ledgers = record {
     as_many = length-set w.ledgers kind slots ∙ owned.ledgers.as_many;
@@ -99,8 +103,10 @@ owned_changed w kind slot slots bytes owned change = record {
         and_from (is_in_ledger w s) (not (is_owned w s)) (sym (other_ledger w kind slots s (change.others s ne)) ∙ parts.0) parts.1
 
     image : (s : ℕ) → is_home after s ≡ true → (s ≡ slot) ⊎ (s ≢ slot) → bytes s ≡ image_at w.kinds (kind_in after s)
-    image s home (inl e) = subst (λ (k : ℕ). bytes k ≡ image_at w.kinds (kind_in after k)) (sym e) (change.imaged (subst (λ (k : ℕ). is_home after k ≡ true) e home))
-    image s home (inr ne) = change.others_bytes s ne ∙ owned.ledgers.imaged s (was_home s ne home) ∙ ap (image_at w.kinds) (sym (other_kind w kind slots s (change.others s ne)))
+    image s home (inl e) =
+        subst (λ (k : ℕ). bytes k ≡ image_at w.kinds (kind_in after k)) (sym e) (change.imaged (subst (λ (k : ℕ). is_home after k ≡ true) e home))
+    image s home (inr ne) =
+        change.others_bytes s ne ∙ owned.ledgers.imaged s (was_home s ne home) ∙ ap (image_at w.kinds) (sym (other_kind w kind slots s (change.others s ne)))
 
     long : (o : Owner) → Contains w.owners o → length (bytes o.slot) ≡ length (image_at w.kinds (kind_in after o.slot))
     long o among =
@@ -109,7 +115,8 @@ owned_changed w kind slot slots bytes owned change = record {
 
 -- ---- what a run sees
 
-pub view_changed : (w : World) (run kind slot : ℕ) (slots : List ℕ) (bytes : ℕ → List ℕ) (r : Running) → IsChange w kind slot slots bytes → view_of (changed kind slots bytes w) run r ≡ view_of w run r
+pub view_changed : (w : World) (run kind slot : ℕ) (slots : List ℕ) (bytes : ℕ → List ℕ) (r : Running)
+    → IsChange w kind slot slots bytes → view_of (changed kind slots bytes w) run r ≡ view_of w run r
 view_changed w run kind slot slots bytes r change = ap (λ (objects : List ObjectView). record (view_of w run r) { objects = objects }) (map_agree (object_in (changed kind slots bytes w)) (object_in w) (held_by w run) (λ o among. alike o (held_owner w run o among).0)) where
   alike : (o : Owner) → Contains w.owners o → object_in (changed kind slots bytes w) o ≡ object_in w o
   alike o among =

@@ -68,7 +68,8 @@ pub record IsNextAlone (a : Alone) (replies : Replies) (h : IsLone a) (world : W
   pub seen : view_in world 0 ≡ Some (stepped (told_now a h.run replies) (view_of a.world 0 h.run))
   pub lone : IsLone (peaked a world)
 
-advanced_to : (a : Alone) (replies : Replies) (r : Running) (after : World) → slice_get a.world.runs 0 ≡ Some r → exec (fed_to a.world r replies).world 0 (fed_to a.world r replies).answer ≡ Ok after → alone_next replies a ≡ peaked a after
+advanced_to : (a : Alone) (replies : Replies) (r : Running) (after : World) → slice_get a.world.runs 0 ≡ Some r
+    → exec (fed_to a.world r replies).world 0 (fed_to a.world r replies).answer ≡ Ok after → alone_next replies a ≡ peaked a after
 advanced_to a replies r after there legal = rw (there, legal) refl
 
 pub next_alone : (a : Alone) (replies : Replies) (h : IsLone a) → h.run.status ≡ Going → (world : World) × IsNextAlone a replies h world
@@ -79,7 +80,8 @@ next_alone a replies h going =
     let is = fed_is a replies h going in
     let there : slice_get f.world.runs 0 ≡ Some h.run = ap (λ (rs : List Running). slice_get rs 0) is.runs ∙ there_is a h in
     let next = next_world f.world 0 h.run f.answer is.owned there (subst IsSound (sym is.seen) h.sound) going is.fine in
-    let seen : view_in next.0 0 ≡ Some (stepped told v) = next.1.seen ∙ ap (λ (u : RunView). Some (stepped (result_of (served_to f.world h.run f.answer)) u)) is.seen ∙ ap Some is.steps in
+    let seen : view_in next.0 0 ≡ Some (stepped told v) =
+    next.1.seen ∙ ap (λ (u : RunView). Some (stepped (result_of (served_to f.world h.run f.answer)) u)) is.seen ∙ ap Some is.steps in
     let r = shown_run next.0 0 (stepped told v) seen in
     let one : length next.0.runs ≡ 1 = next.1.as_many ∙ ap (λ (rs : List Running). length rs) (is.runs ∙ h.only) in
     let as_told : length r.0.calls ≡ length (stepped told v).replies = sym (length-map r.0.calls (λ (t : AnsweredCall). t.reply)) ∙ ap (λ (u : RunView). length u.replies) r.2 in (
@@ -112,7 +114,8 @@ fed_runs (AtShelf shelf) (Some reply.Empty) bytes i w = cleared_runs w shelf
 fed_runs (AtShelf shelf) (Some reply.Shelf) bytes i w = cleared_runs w shelf
 fed_runs (AtShelf shelf) (Some reply.Granted) bytes i w = cleared_runs w shelf
 
-ended_stays : (w : World) (answer : Answer) (r : Running) (n : ℕ) (a : Alone) → slice_get w.runs 0 ≡ Some r → r.status ≡ Exited n → advanced (exec w 0 answer) a ≡ a
+ended_stays : (w : World) (answer : Answer) (r : Running) (n : ℕ) (a : Alone) → slice_get w.runs 0 ≡ Some r → r.status ≡ Exited n
+    → advanced (exec w 0 answer) a ≡ a
 ended_stays w answer r n a there ended = rw (there, ended) refl
 
 -- a run that ended stays
@@ -143,12 +146,15 @@ lone_first subject context accepted long = record {
   below = λ slot there. let none = none_in subject.rows slot in absurd (cc);
 }
 
-pub lone_after : (n : ℕ) (subject : Subject) (context : List ℕ) (replies : Replies) → IsAccepted subject → length context ≡ subject.decl.context → IsLone (alone_after n subject context replies)
+pub lone_after : (n : ℕ) (subject : Subject) (context : List ℕ) (replies : Replies) → IsAccepted subject
+    → length context ≡ subject.decl.context → IsLone (alone_after n subject context replies)
 unfolding alone_after
 lone_after zero subject context replies accepted long = lone_first subject context accepted long
-lone_after (suc n) subject context replies accepted long = lone_next (alone_after n subject context replies) replies (lone_after n subject context replies accepted long)
+lone_after (suc n) subject context replies accepted long =
+    lone_next (alone_after n subject context replies) replies (lone_after n subject context replies accepted long)
 
-after_more : (n : ℕ) (subject : Subject) (context : List ℕ) (replies : Replies) → alone_after (n + 1) subject context replies ≡ alone_next replies (alone_after n subject context replies)
+after_more : (n : ℕ) (subject : Subject) (context : List ℕ) (replies : Replies)
+    → alone_after (n + 1) subject context replies ≡ alone_next replies (alone_after n subject context replies)
 unfolding alone_after
 after_more n subject context replies = rw add-one refl
 
@@ -172,7 +178,8 @@ told_is a h = ap told_to (there_is a h)
 told_seen : (w : World) (v : RunView) → view_in w 0 ≡ Some v → told_to (slice_get w.runs 0) ≡ replies_of v
 told_seen w v seen = let r = shown_run w 0 v seen in ap told_to r.1 ∙ ap replies_of r.2
 
-told_next : (a : Alone) (replies : Replies) (h : IsLone a) → h.run.status ≡ Going → told_of (alone_next replies a) ≡ replies_of (stepped (told_now a h.run replies) (view_of a.world 0 h.run))
+told_next : (a : Alone) (replies : Replies) (h : IsLone a) → h.run.status ≡ Going
+    → told_of (alone_next replies a) ≡ replies_of (stepped (told_now a h.run replies) (view_of a.world 0 h.run))
 told_next a replies h going = let n = next_alone a replies h going in ap told_of n.1.is ∙ told_seen n.0 _ n.1.seen
 
 -- these replies are no more than those
@@ -184,17 +191,20 @@ within_less : (told more replies : Replies) → IsWithin (more_than told more) r
 within_less told more replies h = record { answers = omega (arith, h.answers, length-append told.answers more.answers); taken = omega (arith, h.taken, length-append told.taken more.taken) }
 
 -- what is fed to a run is all that it has of the replies
-fed_alike : (a : Alone) (h : IsLone a) (replies others : Replies) → fed_to a.world h.run replies ≡ fed_to a.world h.run others → alone_next replies a ≡ alone_next others a
+fed_alike : (a : Alone) (h : IsLone a) (replies others : Replies) → fed_to a.world h.run replies ≡ fed_to a.world h.run others
+    → alone_next replies a ≡ alone_next others a
 fed_alike a h replies others alike =
     ap (λ (o : Option Running). alone_by o replies a) (there_is a h)
     ∙ ap (λ (f : Fed). advanced (exec f.world 0 f.answer) a) alike
     ∙ sym (ap (λ (o : Option Running). alone_by o others a) (there_is a h))
 
-fed_unasked : (asked : Asking) (o other : Option Reply) (bytes more : List ℕ) (i : ℕ) (w : World) → asked ≡ Unasked → fed asked o bytes i w ≡ fed asked other more i w
+fed_unasked : (asked : Asking) (o other : Option Reply) (bytes more : List ℕ) (i : ℕ) (w : World) → asked ≡ Unasked
+    → fed asked o bytes i w ≡ fed asked other more i w
 fed_unasked asked o other bytes more i w unasked = rw unasked refl
 
 -- a call of new reads no bytes
-fed_new : (asked : Asking) (kind : ℕ) (o : Option Reply) (bytes more : List ℕ) (i : ℕ) (w : World) → asked ≡ OfKind kind → fed asked o bytes i w ≡ fed asked o more i w
+fed_new : (asked : Asking) (kind : ℕ) (o : Option Reply) (bytes more : List ℕ) (i : ℕ) (w : World) → asked ≡ OfKind kind
+    → fed asked o bytes i w ≡ fed asked o more i w
 fed_new asked kind o bytes more i w is = rw is (by o) where
   by : (o : Option Reply) → fed (OfKind kind) o bytes i w ≡ fed (OfKind kind) o more i w
   by None = refl
@@ -204,7 +214,8 @@ fed_new asked kind o bytes more i w is = rw is (by o) where
   by (Some reply.Shelf) = refl
 
 -- bytes behind those that a call of swap takes are not read
-bytes_unread : (kinds : List Kind) (shelf n : ℕ) (taken more : List ℕ) → n + length (image_at kinds shelf) ≤ length taken → bytes_for kinds shelf (drop n (taken ++ more)) ≡ bytes_for kinds shelf (drop n taken)
+bytes_unread : (kinds : List Kind) (shelf n : ℕ) (taken more : List ℕ) → n + length (image_at kinds shelf) ≤ length taken
+    → bytes_for kinds shelf (drop n (taken ++ more)) ≡ bytes_for kinds shelf (drop n taken)
 bytes_unread kinds shelf n taken more few =
     let image = image_at kinds shelf in
     let left = drop n taken in
@@ -215,9 +226,12 @@ bytes_unread kinds shelf n taken more few =
     ∙ sym (take-append-le (length image) left image enough)
 
 -- a call of swap reads the bytes that it takes
-fed_at_shelf : (asked : Asking) (shelf : ℕ) (o : Option Reply) (n i : ℕ) (taken more : List ℕ) (w : World) → asked ≡ AtShelf shelf → n + length (bytes_told (used_at_shelf (bytes_for w.kinds shelf (drop n taken)) o)) ≤ length taken → fed asked o (drop n (taken ++ more)) i w ≡ fed asked o (drop n taken) i w
+fed_at_shelf : (asked : Asking) (shelf : ℕ) (o : Option Reply) (n i : ℕ) (taken more : List ℕ) (w : World) → asked ≡ AtShelf shelf
+    → n + length (bytes_told (used_at_shelf (bytes_for w.kinds shelf (drop n taken)) o)) ≤ length taken
+    → fed asked o (drop n (taken ++ more)) i w ≡ fed asked o (drop n taken) i w
 fed_at_shelf asked shelf o n i taken more w is few = rw is (by o few) where
-  by : (o : Option Reply) → n + length (bytes_told (used_at_shelf (bytes_for w.kinds shelf (drop n taken)) o)) ≤ length taken → fed (AtShelf shelf) o (drop n (taken ++ more)) i w ≡ fed (AtShelf shelf) o (drop n taken) i w
+  by : (o : Option Reply) → n + length (bytes_told (used_at_shelf (bytes_for w.kinds shelf (drop n taken)) o)) ≤ length taken
+      → fed (AtShelf shelf) o (drop n (taken ++ more)) i w ≡ fed (AtShelf shelf) o (drop n taken) i w
   by None few = refl
   by (Some reply.Null) few = refl
   by (Some reply.Granted) few = refl
@@ -231,7 +245,8 @@ record IsUnread (a : Alone) (replies more : Replies) : Type 0 where
   within : IsWithin (told_of a) replies
   same : alone_next (more_than replies more) a ≡ alone_next replies a
 
-unread_next : (a : Alone) (replies more : Replies) (h : IsLone a) → h.run.status ≡ Going → IsWithin (told_of (alone_next replies a)) replies → IsUnread a replies more
+unread_next : (a : Alone) (replies more : Replies) (h : IsLone a) → h.run.status ≡ Going
+    → IsWithin (told_of (alone_next replies a)) replies → IsUnread a replies more
 unread_next a replies more h going fits = by (asks a h going) where
   v : RunView
   v = view_of a.world 0 h.run
@@ -247,13 +262,15 @@ unread_next a replies more h going fits = by (asks a h going) where
   same_reply few = slice_get-append_left replies.answers more.answers i reply.Null few
 
   -- after the instruction it was told so much more
-  after : (told : Replies) → replies_of (stepped (told_now a h.run replies) v) ≡ more_than (replies_of v) told → IsWithin (more_than (replies_of v) told) replies
+  after : (told : Replies) → replies_of (stepped (told_now a h.run replies) v) ≡ more_than (replies_of v) told
+      → IsWithin (more_than (replies_of v) told) replies
   after told is = subst (λ (rs : Replies). IsWithin rs replies) (told_next a replies h going ∙ is) fits
 
   before : (told : Replies) → replies_of (stepped (told_now a h.run replies) v) ≡ more_than (replies_of v) told → IsWithin (told_of a) replies
   before told is = subst (λ (rs : Replies). IsWithin rs replies) (sym (told_is a h)) (within_less (replies_of v) told replies (after told is))
 
-  one : (told : Replies) → replies_of (stepped (told_now a h.run replies) v) ≡ more_than (replies_of v) told → length told.answers ≡ 1 → i < length replies.answers
+  one : (told : Replies) → replies_of (stepped (told_now a h.run replies) v) ≡ more_than (replies_of v) told
+      → length told.answers ≡ 1 → i < length replies.answers
   one told is long = omega (arith, (after told is).answers, length-append v.replies told.answers, long, calls)
 
   by : Asks v → IsUnread a replies more
@@ -272,8 +289,10 @@ unread_next a replies more h going fits = by (asks a h going) where
   by (ForShelf shelf asked new) =
       let told = told_now a h.run replies in
       let added = replies_swapped v told shelf going new in
-      let is : told ≡ used_at_shelf (bytes_for a.world.kinds shelf (bytes_left h.run replies)) (slice_get replies.answers i) = ap (λ (k : Asking). used_by k a.world.kinds (slice_get replies.answers i) (bytes_left h.run replies)) (asking_is a h ∙ asked) in
-      let few : length h.run.taken + length (bytes_told told) ≤ length replies.taken = omega (arith, (after (one_swapped told) added).taken, length-append h.run.taken (bytes_told told)) in
+      let is : told ≡ used_at_shelf (bytes_for a.world.kinds shelf (bytes_left h.run replies)) (slice_get replies.answers i) =
+      ap (λ (k : Asking). used_by k a.world.kinds (slice_get replies.answers i) (bytes_left h.run replies)) (asking_is a h ∙ asked) in
+      let few : length h.run.taken + length (bytes_told told) ≤ length replies.taken =
+      omega (arith, (after (one_swapped told) added).taken, length-append h.run.taken (bytes_told told)) in
       record {
         within = before (one_swapped told) added;
         same = fed_alike a h (more_than replies more) replies
@@ -281,7 +300,8 @@ unread_next a replies more h going fits = by (asks a h going) where
             ∙ fed_at_shelf (asking_of a.world h.run) shelf (slice_get replies.answers i) (length h.run.taken) i replies.taken more.taken a.world (asking_is a h ∙ asked) (subst (λ (t : CallResult). length h.run.taken + length (bytes_told t) ≤ length replies.taken) is few));
       }
 
-after_unread : (n : ℕ) (subject : Subject) (context : List ℕ) (replies more : Replies) → IsAccepted subject → length context ≡ subject.decl.context → IsWithin (told_of (alone_after n subject context replies)) replies
+after_unread : (n : ℕ) (subject : Subject) (context : List ℕ) (replies more : Replies) → IsAccepted subject
+    → length context ≡ subject.decl.context → IsWithin (told_of (alone_after n subject context replies)) replies
     → alone_after n subject context (more_than replies more) ≡ alone_after n subject context replies
 unfolding alone_after
 after_unread zero subject context replies more accepted long fits = refl
@@ -292,7 +312,9 @@ after_unread (suc n) subject context replies more accepted long fits = by_status
   h : IsLone a
   h = lone_after n subject context replies accepted long
 
-  by_status : (s : Status) → h.run.status ≡ s → (IsWithin (told_of a) replies → alone_after n subject context (more_than replies more) ≡ a) → alone_next (more_than replies more) (alone_after n subject context (more_than replies more)) ≡ alone_next replies a
+  by_status : (s : Status) → h.run.status ≡ s
+      → (IsWithin (told_of a) replies → alone_after n subject context (more_than replies more) ≡ a)
+      → alone_next (more_than replies more) (alone_after n subject context (more_than replies more)) ≡ alone_next replies a
   by_status Going e before = let u = unread_next a replies more h e fits in ap (alone_next (more_than replies more)) (before u.within) ∙ u.same
   by_status (Exited m) e before =
       let few = subst (λ (b : Alone). IsWithin (told_of b) replies) (ended_next a replies h m e) fits in
@@ -327,18 +349,21 @@ all_within : (v : RunView) → IsAlone v → IsWithin (told_of (alone_after v.ex
 all_within v alone = subst (λ (rs : Replies). IsWithin rs (replies_of v)) (sym (all_told v alone)) (record { answers = omega arith; taken = omega arith })
 
 -- replies behind those of the run change nothing of where it is
-pub alone_more : (v : RunView) (more : Replies) → IsSound v → IsAlone v → view_in (alone_after v.executed v.subject v.context (more_than (replies_of v) more)).world 0 ≡ Some v
+pub alone_more : (v : RunView) (more : Replies) → IsSound v → IsAlone v
+    → view_in (alone_after v.executed v.subject v.context (more_than (replies_of v) more)).world 0 ≡ Some v
 alone_more v more sound alone = ap (λ (a : Alone). view_in a.world 0) (after_unread v.executed v.subject v.context (replies_of v) more sound.accepted sound.context (all_within v alone)) ∙ alone
 
 -- what an event serves fits its shelf
-pub served_fits_shelf : (w : World) (v : RunView) (answer : Answer) → IsOwned w → kinds_of v.subject.rows ≡ w.kinds → FitsShelf v (result_of (served_in w (asking_in v) answer))
+pub served_fits_shelf : (w : World) (v : RunView) (answer : Answer) → IsOwned w → kinds_of v.subject.rows ≡ w.kinds
+    → FitsShelf v (result_of (served_in w (asking_in v) answer))
 served_fits_shelf w v answer owned kinds = by (asking_in v) refl where
   by_answer : (answer : Answer) → FitsShelf v (result_of (served_by answer))
   by_answer Absent = tt
   by_answer Null = tt
   by_answer (Slot slot) = tt
 
-  from_shelf : (s : ℕ) → asking_in v ≡ AtShelf s → (o : Option Owner) → IsFound (λ (p : Owner). is_shelf s p.holder) w.owners o → FitsShelf v (result_of (served_from w o))
+  from_shelf : (s : ℕ) → asking_in v ≡ AtShelf s → (o : Option Owner) → IsFound (λ (p : Owner). is_shelf s p.holder) w.owners o
+      → FitsShelf v (result_of (served_from w o))
   from_shelf s asked None none = tt
   from_shelf s asked (Some o) found = λ shelf e.
       let same : s ≡ shelf = shelf_number s shelf (sym asked ∙ e) in
@@ -435,7 +460,8 @@ stepped_alone v told sound alone going fits = by (asks a h.lone now) where
       taken : h.lone.run.taken ≡ v.taken
       taken = ap (λ (u : RunView). u.taken) h.seen
 
-      heard : (told : CallResult) → FitsShelf v told → used_at_shelf (bytes_for a.world.kinds shelf (drop (length h.lone.run.taken) (v.taken ++ bytes_told told))) (Some (reply_in (heard_by_swap told))) ≡ heard_by_swap told
+      heard : (told : CallResult) → FitsShelf v told
+          → used_at_shelf (bytes_for a.world.kinds shelf (drop (length h.lone.run.taken) (v.taken ++ bytes_told told))) (Some (reply_in (heard_by_swap told))) ≡ heard_by_swap told
       heard (view.Shelved bytes) fits =
           let image = image_at a.world.kinds shelf in
           let long : length bytes ≡ length image = fits shelf asked ∙ ap (λ (ks : List Kind). length (image_at ks shelf)) kinds in
@@ -459,7 +485,8 @@ pub alone_stepped : (v : RunView) (reply : CallResult) → IsSound v → IsAlone
 alone_stepped v reply sound alone going fits =
     let n = stepped_alone v reply sound alone going fits in
     let on = one_on v reply going in
-    let here : view_in (alone_after (v.executed + 1) v.subject v.context (replies_of (stepped reply v))).world 0 ≡ Some (stepped reply v) = ap (λ (b : Alone). view_in b.world 0) n.1.is ∙ n.1.seen in
+    let here : view_in (alone_after (v.executed + 1) v.subject v.context (replies_of (stepped reply v))).world 0 ≡ Some (stepped reply v) =
+    ap (λ (b : Alone). view_in b.world 0) n.1.is ∙ n.1.seen in
     rw (on.executed, on.subject, on.context) here
 
 -- and its peak is the most that it held so far
@@ -468,12 +495,14 @@ pub peak_stepped : (v : RunView) (reply : CallResult) → IsSound v → IsAlone 
 peak_stepped v reply sound alone going fits =
     let n = stepped_alone v reply sound alone going fits in
     let r = shown_run n.0 0 (stepped reply v) n.1.seen in
-    let held : holds_of n.0 0 ≡ length (stepped reply v).objects = sym (length-map (held_by n.0 0) (object_in n.0)) ∙ ap (λ (u : RunView). length u.objects) r.2 in
+    let held : holds_of n.0 0 ≡ length (stepped reply v).objects =
+    sym (length-map (held_by n.0 0) (object_in n.0)) ∙ ap (λ (u : RunView). length u.objects) r.2 in
     ap (λ (b : Alone). b.peak) n.1.is ∙ ap (max (alone_after v.executed v.subject v.context (replies_of v)).peak) held
 
 -- ---- a run that ended
 
-ended_after : (k m : ℕ) (subject : Subject) (context : List ℕ) (replies : Replies) (h : IsLone (alone_after m subject context replies)) (n : ℕ) → h.run.status ≡ Exited n → alone_after (k + m) subject context replies ≡ alone_after m subject context replies
+ended_after : (k m : ℕ) (subject : Subject) (context : List ℕ) (replies : Replies) (h : IsLone (alone_after m subject context replies)) (n : ℕ)
+    → h.run.status ≡ Exited n → alone_after (k + m) subject context replies ≡ alone_after m subject context replies
 unfolding alone_after
 ended_after zero m subject context replies h n ended = let e : 0 + m ≡ m = omega arith in rw e refl
 ended_after (suc k) m subject context replies h n ended =
@@ -501,7 +530,9 @@ outcome_exited v n sound alone ended more =
     let fits = subst (λ (b : Alone). IsWithin (told_of b) (replies_of v)) (sym stays) (all_within v alone) in
     ap outcome_of (after_unread (length (instructions v.subject.program)) v.subject v.context (replies_of v) more sound.accepted sound.context fits ∙ stays) ∙ outcome_seen a v n h.lone.run h.lone.only h.seen ended
   where
-    outcome_seen : (a : Alone) (v : RunView) (n : ℕ) (r : Running) → a.world.runs ≡ r ∷ [] → view_of a.world 0 r ≡ v → v.status ≡ Exited n → outcome_of a ≡ record { status = Exited n; output = v.frame.output; executed = v.executed; peak = a.peak }
+    outcome_seen : (a : Alone) (v : RunView) (n : ℕ) (r : Running) → a.world.runs ≡ r ∷ [] → view_of a.world 0 r ≡ v
+        → v.status ≡ Exited n
+        → outcome_of a ≡ record { status = Exited n; output = v.frame.output; executed = v.executed; peak = a.peak }
     outcome_seen a v n r only same ended =
         let status : r.status ≡ Exited n = ap (λ (u : RunView). u.status) same ∙ ended in
         let output : r.frame.output ≡ v.frame.output = ap (λ (u : RunView). u.frame.output) same in

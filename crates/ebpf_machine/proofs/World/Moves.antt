@@ -30,7 +30,8 @@ pub record MayHold (w : World) (slot : ℕ) (holder : Holder) : Type 0 where
   pub asked : IsOfKind w.runs holder (kind_in w slot)
   pub points : (k : ℕ) (x : Running) (n : Name) → slice_get w.runs k ≡ Some x → HasPointer x.frame n → holder ≡ Run k n.call → slot ≡ n.slot
 
-pub owned_moved : (w : World) (o : Owner) (stays : Owner → Bool) (holder : Holder) → IsOwned w → IsDropped w o stays → MayHold w o.slot holder → IsOwned (moved w o stays holder)
+pub owned_moved : (w : World) (o : Owner) (stays : Owner → Bool) (holder : Holder) → IsOwned w → IsDropped w o stays
+    → MayHold w o.slot holder → IsOwned (moved w o stays holder)
 owned_moved w o stays holder owned drop may = record {
   ledgers = record { as_many = owned.ledgers.as_many; apart = owned.ledgers.apart; imaged = λ s home. owned.ledgers.imaged s (was_home s home) };
   holders = record {
@@ -76,7 +77,8 @@ owned_moved w o stays holder owned drop may = record {
       by : (p : Owner) × Contains w.owners p × ((p.slot == s) ≡ true) → is_owned (moved w o stays holder) s ≡ true
       by (p, among, its) = stayed (stays p) refl where
         stayed : (t : Bool) → stays p ≡ t → is_owned (moved w o stays holder) s ≡ true
-        stayed true e = any_from (λ (q : Owner). q.slot == s) (left ++ new ∷ []) p (Contains-append_left left (new ∷ []) p (Contains-kept stays w.owners p among e)) its
+        stayed true e =
+            any_from (λ (q : Owner). q.slot == s) (left ++ new ∷ []) p (Contains-append_left left (new ∷ []) p (Contains-kept stays w.owners p among e)) its
         stayed false e = any_from (λ (q : Owner). q.slot == s) (left ++ new ∷ []) new (Contains-push left new) (ap (λ (q : Owner). q.slot == s) (sym (drop.only p among e)) ∙ its)
 
     was_home : (s : ℕ) → is_home (moved w o stays holder) s ≡ true → is_home w s ≡ true

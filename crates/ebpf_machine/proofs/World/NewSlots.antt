@@ -24,7 +24,8 @@ is_in-with_slot : (s slot : ℕ) (slots : List ℕ) → is_in s (with_slot slot 
 unfolding with_slot
 is_in-with_slot s slot [] = refl
 is_in-with_slot s slot (x ∷ slots) = by (nat_lt x slot) (is_in-with_slot s slot slots) where
-  by : (t : Bool) → is_in s (with_slot slot slots) ≡ ((slot == s) || is_in s slots) → is_in s (cond t (x ∷ with_slot slot slots) (slot ∷ x ∷ slots)) ≡ ((slot == s) || ((x == s) || is_in s slots))
+  by : (t : Bool) → is_in s (with_slot slot slots) ≡ ((slot == s) || is_in s slots)
+      → is_in s (cond t (x ∷ with_slot slot slots) (slot ∷ x ∷ slots)) ≡ ((slot == s) || ((x == s) || is_in s slots))
   by true rest = ap (λ (b : Bool). (x == s) || b) rest ∙ or_swap (x == s) (slot == s) (is_in s slots)
   by false rest = refl
 
@@ -56,7 +57,8 @@ nobodys w kind slot owned new = false_from_ne_true (is_owned w slot) (λ owns. s
 
 -- what the ledgers say of it
 pub joined_in : (w : World) (kind slot : ℕ) → IsOwned w → IsNew w kind slot → is_in slot (ledger_of (with_slot_joined kind slot w) kind) ≡ true
-joined_in w kind slot owned new = ap (is_in slot) (get_or-set_same w.ledgers kind (with_slot slot (ledger_of w kind)) [] (room w kind slot owned new)) ∙ itself_in slot (ledger_of w kind)
+joined_in w kind slot owned new =
+    ap (is_in slot) (get_or-set_same w.ledgers kind (with_slot slot (ledger_of w kind)) [] (room w kind slot owned new)) ∙ itself_in slot (ledger_of w kind)
 
 joined_once : (w : World) (kind slot : ℕ) → IsOwned w → IsNew w kind slot → count_by (is_in slot) (with_slot_joined kind slot w).ledgers ≤ 1
 joined_once w kind slot owned new =
@@ -65,11 +67,13 @@ joined_once w kind slot owned new =
     omega (arith, none, one, sum_by-set (λ slots. cond (is_in slot slots) 1 0) w.ledgers kind (with_slot slot (ledger_of w kind)) [] (room w kind slot owned new))
 
 pub joined_kind : (w : World) (kind slot : ℕ) → IsOwned w → IsNew w kind slot → kind_in (with_slot_joined kind slot w) slot ≡ kind
-joined_kind w kind slot owned new = kind_from-ledger 0 (with_slot_joined kind slot w).ledgers kind slot (joined_in w kind slot owned new) (joined_once w kind slot owned new) ∙ omega arith
+joined_kind w kind slot owned new =
+    kind_from-ledger 0 (with_slot_joined kind slot w).ledgers kind slot (joined_in w kind slot owned new) (joined_once w kind slot owned new) ∙ omega arith
 
 pub joined_home : (w : World) (kind slot : ℕ) → IsOwned w → IsNew w kind slot → is_home (with_slot_joined kind slot w) slot ≡ true
 joined_home w kind slot owned new =
-    let inside : kind < length (with_slot_joined kind slot w).ledgers = omega (arith, room w kind slot owned new, length-set w.ledgers kind (with_slot slot (ledger_of w kind))) in
+    let inside : kind < length (with_slot_joined kind slot w).ledgers =
+    omega (arith, room w kind slot owned new, length-set w.ledgers kind (with_slot slot (ledger_of w kind))) in
     let there = list_any_at (is_in slot) (with_slot_joined kind slot w).ledgers kind [] inside (joined_in w kind slot owned new) in
     and_from (is_in_ledger (with_slot_joined kind slot w) slot) (not (is_owned w slot)) there (not_from_false (is_owned w slot) (nobodys w kind slot owned new))
 
@@ -84,7 +88,8 @@ joined_cases w kind slot s there = by (cases_eq s slot) where
   by (inl e) = inl e
   by (inr ne) = inr (sym (joined_others w kind slot s ne) ∙ there)
 
-joined_change : (w : World) (kind slot : ℕ) → IsOwned w → IsNew w kind slot → IsChange w kind slot (with_slot slot (ledger_of w kind)) (with_slot_joined kind slot w).bytes
+joined_change : (w : World) (kind slot : ℕ) → IsOwned w → IsNew w kind slot
+    → IsChange w kind slot (with_slot slot (ledger_of w kind)) (with_slot_joined kind slot w).bytes
 joined_change w kind slot owned new = record {
   nobodys = nobodys w kind slot owned new;
   others = λ s ne. others_in s slot (ledger_of w kind) ne;

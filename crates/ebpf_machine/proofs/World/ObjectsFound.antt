@@ -42,18 +42,21 @@ ok_same : (a b : Found) (the : Result Found Trap) → the ≡ Ok a → the ≡ O
 ok_same a b the e f = cc
 
 -- what a run finds, it holds
-pub own_found : (w : World) (run : ℕ) (n : Name) (found : Found) → object_for w run n ≡ Ok found → Contains w.owners (owner_of run n) × (found.bytes ≡ w.bytes n.slot) × (found.kind ≡ kind_in w n.slot)
+pub own_found : (w : World) (run : ℕ) (n : Name) (found : Found) → object_for w run n ≡ Ok found
+    → Contains w.owners (owner_of run n) × (found.bytes ≡ w.bytes n.slot) × (found.kind ≡ kind_in w n.slot)
 own_found w run n found e = by (is_held_by w run n) (is_anothers w run n.slot) refl e where
   its : Found
   its = record { kind = kind_in w n.slot; bytes = w.bytes n.slot }
 
-  by : (t u : Bool) → is_held_by w run n ≡ t → cond t (Ok its) (cond u (Err AnotherRunsObject) (Err UseAfterFree)) ≡ Ok found → Contains w.owners (owner_of run n) × (found.bytes ≡ w.bytes n.slot) × (found.kind ≡ kind_in w n.slot)
+  by : (t u : Bool) → is_held_by w run n ≡ t → cond t (Ok its) (cond u (Err AnotherRunsObject) (Err UseAfterFree)) ≡ Ok found
+      → Contains w.owners (owner_of run n) × (found.bytes ≡ w.bytes n.slot) × (found.kind ≡ kind_in w n.slot)
   by true u held e = let one = any_one (has_name run n) w.owners held in (subst (Contains w.owners) (its_owner run n one.0 one.2) one.1, ap (λ (f : Found). f.bytes) (ok_same its found (Ok its) refl e), ap (λ (f : Found). f.kind) (ok_same its found (Ok its) refl e))
   by false true held e = absurd (cc)
   by false false held e = absurd (cc)
 
 -- as a run that sees itself it finds the same; another run's object and nobody's are one to it
-pub objects_found : (w : World) (run : ℕ) (r : Running) (n : Name) → IsOwned w → slice_get w.runs run ≡ Some r → HasPointer r.frame n → object_at (objects_of w run) n.call ≡ found_told by_call (object_for w run n)
+pub objects_found : (w : World) (run : ℕ) (r : Running) (n : Name) → IsOwned w → slice_get w.runs run ≡ Some r
+    → HasPointer r.frame n → object_at (objects_of w run) n.call ≡ found_told by_call (object_for w run n)
 objects_found w run r n owned there has =
     ap found_in (find-map (λ (o : ObjectView). o.call == n.call) (object_in w) (held_by w run))
     ∙ by (find named (held_by w run)) (find_is named (held_by w run))

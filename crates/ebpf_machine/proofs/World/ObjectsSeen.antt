@@ -23,10 +23,12 @@ pub object_kept : (w : World) (slot : ℕ) (bytes : List ℕ) (o : Owner) → o.
 object_kept w slot bytes o ne = let apart = ne_eqb o.slot slot ne in rw apart refl
 
 -- an object of the run, where the bytes of one are patched
-object_written : (w : World) (run : ℕ) (name : Name) (at : ℕ) (bytes : List ℕ) (o : Owner) → IsOwned w → Contains w.owners (owner_of run name) → Contains (held_by w run) o
+object_written : (w : World) (run : ℕ) (name : Name) (at : ℕ) (bytes : List ℕ) (o : Owner) → IsOwned w
+    → Contains w.owners (owner_of run name) → Contains (held_by w run) o
     → object_in (with_bytes name.slot (patched (w.bytes name.slot) at bytes) w) o ≡ patched_at name.call at bytes (object_in w o)
 object_written w run name at bytes o owned own among = by (cases_eq (call_of o.holder) name.call) where
-  by : (call_of o.holder ≡ name.call) ⊎ (call_of o.holder ≢ name.call) → object_in (with_bytes name.slot (patched (w.bytes name.slot) at bytes) w) o ≡ patched_at name.call at bytes (object_in w o)
+  by : (call_of o.holder ≡ name.call) ⊎ (call_of o.holder ≢ name.call)
+      → object_in (with_bytes name.slot (patched (w.bytes name.slot) at bytes) w) o ≡ patched_at name.call at bytes (object_in w o)
   by (inl e) =
       let held = held_owner w run o among in
       let slot = slot_of_call w run name o owned own held.0 (held.1 ∙ ap (λ (n : ℕ). Run run n) e) in
@@ -96,6 +98,7 @@ objects_granted w run at slot kind owned home there =
         let here = eq-eqb slot slot refl in
         rw (of_kind, here) refl
 
-pub others_unchanged : (w : World) (run other at slot : ℕ) (bytes : List ℕ) → is_home w slot ≡ true → other ≢ run → objects_of (with_owner slot (Run run at) (with_bytes slot bytes w)) other ≡ objects_of w other
+pub others_unchanged : (w : World) (run other at slot : ℕ) (bytes : List ℕ) → is_home w slot ≡ true → other ≢ run
+    → objects_of (with_owner slot (Run run at) (with_bytes slot bytes w)) other ≡ objects_of w other
 others_unchanged w run other at slot bytes home ne =
     ap (map (object_in (with_bytes slot bytes w))) (others_granted w run other at slot ne) ∙ objects_kept w other slot bytes home

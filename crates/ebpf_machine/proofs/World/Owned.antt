@@ -40,12 +40,14 @@ true_later : (w : World) (run : ℕ) (r now : Running) (n : Name) → r.pc ≤ n
 true_later w run r now n later h = record { behind = omega (arith, h.behind); slot = h.slot }
 
 -- it stays where it is
-owned_stays : (w : World) (run : ℕ) (r now : Running) → IsOwned w → slice_get w.runs run ≡ Some r → now.subject ≡ r.subject → now.pc ≡ r.pc → now.calls ≡ r.calls → now.frame ≡ r.frame → IsOwned (with_run w run now)
+owned_stays : (w : World) (run : ℕ) (r now : Running) → IsOwned w → slice_get w.runs run ≡ Some r → now.subject ≡ r.subject
+    → now.pc ≡ r.pc → now.calls ≡ r.calls → now.frame ≡ r.frame → IsOwned (with_run w run now)
 owned_stays w run r now owned there subject pc told frame =
     let later : IsLater r now = record { subject = subject; pc = omega (arith, pc); told = λ t among. subst (λ (ts : List AnsweredCall). Contains ts t) (sym told) among } in
     owned_running w run r now owned there later (λ n has. true_later w run r now n (omega (arith, pc)) (owned.runs.pointers run r there n (subst (λ (f : Frame Name). HasPointer f n) frame has))) (subst HasOneSlot (sym frame) (owned.runs.one_slot run r there))
 
-owned_gone : (w : World) (run : ℕ) (r : Running) (to : ℕ) (frame : Frame Name) → IsOwned w → slice_get w.runs run ≡ Some r → r.pc < to → ((n : Name) → HasPointer frame n → HasPointer r.frame n) → IsOwned (with_run w run (moved_to to frame r))
+owned_gone : (w : World) (run : ℕ) (r : Running) (to : ℕ) (frame : Frame Name) → IsOwned w → slice_get w.runs run ≡ Some r
+    → r.pc < to → ((n : Name) → HasPointer frame n → HasPointer r.frame n) → IsOwned (with_run w run (moved_to to frame r))
 owned_gone w run r to frame owned there forward fewer =
     owned_running w run r (moved_to to frame r) owned there (record { subject = refl; pc = omega arith; told = λ t among. among }) (λ n has. true_later w run r (moved_to to frame r) n (omega arith) (owned.runs.pointers run r there n (fewer n has))) (λ n m has too e. owned.runs.one_slot run r there n m (fewer n has) (fewer m too) e)
 
@@ -53,7 +55,9 @@ later_replied : (r : Running) (kind to : ℕ) (told : Reply) (v : Value Name) (f
 later_replied r kind to told v frame forward = record { subject = refl; pc = omega arith; told = λ t among. Contains-append_left r.calls (record { at = r.pc; kind = kind; reply = told } ∷ []) t among }
 
 -- a call goes on with 0
-pub owned_told : (w : World) (run : ℕ) (r : Running) (told : Reply) (kind to : ℕ) (frame : Frame Name) → IsOwned w → slice_get w.runs run ≡ Some r → r.pc < to → ((n : Name) → HasPointer frame n → HasPointer r.frame n) → IsOwned (with_run w run (replied kind told (Number 0) to frame r))
+pub owned_told : (w : World) (run : ℕ) (r : Running) (told : Reply) (kind to : ℕ) (frame : Frame Name) → IsOwned w
+    → slice_get w.runs run ≡ Some r → r.pc < to → ((n : Name) → HasPointer frame n → HasPointer r.frame n)
+    → IsOwned (with_run w run (replied kind told (Number 0) to frame r))
 owned_told w run r told kind to frame owned there forward fewer = owned_running w run r now owned there (later_replied r kind to told (Number 0) frame forward) (λ n has. by n (pointer_written frame (Number 0) n has)) (λ n m has too e. alike n m (pointer_written frame (Number 0) n has) (pointer_written frame (Number 0) m too) e) where
   now : Running
   now = replied kind told (Number 0) to frame r
@@ -74,7 +78,9 @@ record IsHanded (w : World) (run : ℕ) (r now : Running) (slot : ℕ) : Type 0 
   owned : IsOwned (with_run w run now)
   points : (x : Running) (n : Name) → slice_get (with_run w run now).runs run ≡ Some x → HasPointer x.frame n → n.call ≡ r.pc → n.slot ≡ slot
 
-handed : (w : World) (run : ℕ) (r now : Running) (slot : ℕ) (frame : Frame Name) → IsOwned w → slice_get w.runs run ≡ Some r → now.frame ≡ with_value frame R0 (Pointer (Object (name_of slot r.pc)) (pos 0)) → IsLater r now → r.pc < now.pc → ((n : Name) → HasPointer frame n → HasPointer r.frame n) → IsHanded w run r now slot
+handed : (w : World) (run : ℕ) (r now : Running) (slot : ℕ) (frame : Frame Name) → IsOwned w → slice_get w.runs run ≡ Some r
+    → now.frame ≡ with_value frame R0 (Pointer (Object (name_of slot r.pc)) (pos 0)) → IsLater r now → r.pc < now.pc
+    → ((n : Name) → HasPointer frame n → HasPointer r.frame n) → IsHanded w run r now slot
 handed w run r now slot frame owned there is later forward fewer = record {
   owned = owned_running w run r now owned there later (λ n has. true_now n (cases n has)) (λ n m has too e. alike n m (cases n has) (cases m too) e);
   points = λ x n at has e.
@@ -95,10 +101,13 @@ handed w run r now slot frame owned there is later forward fewer = record {
         let call : r.pc ≡ n.call = ap (λ (m : Name). m.call) new in
         record { behind = omega arith; slot = λ o among e. absurd (nothing_yet w run r o owned there among (e ∙ ap (λ (k : ℕ). Run run k) (sym call))) }
 
-    alike : (n m : Name) → (HasPointer r.frame n) ⊎ (name_of slot r.pc ≡ n) → (HasPointer r.frame m) ⊎ (name_of slot r.pc ≡ m) → n.call ≡ m.call → n.slot ≡ m.slot
+    alike : (n m : Name) → (HasPointer r.frame n) ⊎ (name_of slot r.pc ≡ n) → (HasPointer r.frame m) ⊎ (name_of slot r.pc ≡ m)
+        → n.call ≡ m.call → n.slot ≡ m.slot
     alike n m (inl old) (inl older) e = owned.runs.one_slot run r there n m old older e
-    alike n m (inl old) (inr new) e = let behind = (owned.runs.pointers run r there n old).behind in let call : r.pc ≡ m.call = ap (λ (x : Name). x.call) new in absurd (omega arith)
-    alike n m (inr new) (inl old) e = let behind = (owned.runs.pointers run r there m old).behind in let call : r.pc ≡ n.call = ap (λ (x : Name). x.call) new in absurd (omega arith)
+    alike n m (inl old) (inr new) e =
+        let behind = (owned.runs.pointers run r there n old).behind in let call : r.pc ≡ m.call = ap (λ (x : Name). x.call) new in absurd (omega arith)
+    alike n m (inr new) (inl old) e =
+        let behind = (owned.runs.pointers run r there m old).behind in let call : r.pc ≡ n.call = ap (λ (x : Name). x.call) new in absurd (omega arith)
     alike n m (inr new) (inr newer) e = ap (λ (x : Name). x.slot) (sym new ∙ newer)
 
     to_slot : (n : Name) → (HasPointer r.frame n) ⊎ (name_of slot r.pc ≡ n) → n.call ≡ r.pc → n.slot ≡ slot
@@ -106,7 +115,9 @@ handed w run r now slot frame owned there is later forward fewer = record {
     to_slot n (inr new) e = ap (λ (m : Name). m.slot) (sym new)
 
 -- what it was told is that it got one of this kind
-asked_now : (w : World) (run : ℕ) (r now : Running) (kind : ℕ) (told : Reply) → slice_get w.runs run ≡ Some r → r.pc < now.pc → now.calls ≡ r.calls ++ record { at = r.pc; kind = kind; reply = told } ∷ [] → IsGot told → AskedFor (with_run w run now).runs run r.pc kind
+asked_now : (w : World) (run : ℕ) (r now : Running) (kind : ℕ) (told : Reply) → slice_get w.runs run ≡ Some r → r.pc < now.pc
+    → now.calls ≡ r.calls ++ record { at = r.pc; kind = kind; reply = told } ∷ [] → IsGot told
+    → AskedFor (with_run w run now).runs run r.pc kind
 asked_now w run r now kind told there forward is got = record {
   asker = now;
   there = get_set_same w.runs run r now there;
@@ -117,7 +128,9 @@ asked_now w run r now kind told there forward is got = record {
 }
 
 -- so the call may hold it
-may_hold : (w : World) (run : ℕ) (r now : Running) (slot : ℕ) → IsOwned w → slice_get w.runs run ≡ Some r → IsHanded w run r now slot → AskedFor (with_run w run now).runs run r.pc (kind_in w slot) → MayHold (with_run w run now) slot (Run run r.pc)
+may_hold : (w : World) (run : ℕ) (r now : Running) (slot : ℕ) → IsOwned w → slice_get w.runs run ≡ Some r
+    → IsHanded w run r now slot → AskedFor (with_run w run now).runs run r.pc (kind_in w slot)
+    → MayHold (with_run w run now) slot (Run run r.pc)
 may_hold w run r now slot owned there next asked = record {
   nothing = λ p among. nothing_yet w run r p owned there among;
   asked = asked;
@@ -127,7 +140,9 @@ may_hold w run r now slot owned there next asked = record {
       sym (next.points x n (ap (λ (m : ℕ). slice_get (with_run w run now).runs m) its_run ∙ at) has (sym its_call));
 }
 
-owned_taken : (w : World) (run : ℕ) (r : Running) (slot kind to : ℕ) (frame : Frame Name) → IsOwned w → slice_get w.runs run ≡ Some r → is_home w slot ≡ true → is_in slot (ledger_of w kind) ≡ true → r.pc < to → ((n : Name) → HasPointer frame n → HasPointer r.frame n)
+owned_taken : (w : World) (run : ℕ) (r : Running) (slot kind to : ℕ) (frame : Frame Name) → IsOwned w
+    → slice_get w.runs run ≡ Some r → is_home w slot ≡ true → is_in slot (ledger_of w kind) ≡ true → r.pc < to
+    → ((n : Name) → HasPointer frame n → HasPointer r.frame n)
     → IsOwned (granted slot w run r to frame kind)
 owned_taken w run r slot kind to frame owned there home of_kind forward fewer = by (nat_le r.subject.decl.held (holds_of w run)) where
   pointer : Value Name
@@ -139,7 +154,8 @@ owned_taken w run r slot kind to frame owned there home of_kind forward fewer = 
   next : IsHanded w run r now slot
   next = handed w run r now slot frame owned there refl (later_replied r kind to reply.Granted pointer frame forward) forward fewer
 
-  by : (t : Bool) → IsOwned (cond t (with_run w run (trapped TooManyObjects r)) (with_owner slot (Run run r.pc) (with_bytes slot (image_at w.kinds kind) (with_run w run now))))
+  by : (t : Bool)
+      → IsOwned (cond t (with_run w run (trapped TooManyObjects r)) (with_owner slot (Run run r.pc) (with_bytes slot (image_at w.kinds kind) (with_run w run now))))
   by true = owned_stays w run r (trapped TooManyObjects r) owned there refl refl refl refl
   by false =
       let kind_is : kind ≡ kind_in w slot = sym (kind_in-ledger w kind slot owned of_kind) in
@@ -149,12 +165,15 @@ owned_taken w run r slot kind to frame owned there home of_kind forward fewer = 
 -- ---- what stands on a shelf is exchanged
 
 -- what a run gives goes onto a shelf on which nothing stands
-owned_put : (w : World) (run shelf : ℕ) (given : Option Name) → IsOwned w → IsOwnGiven w run shelf given → ((p : Owner) → Contains w.owners p → p.holder ≢ Shelf shelf) → IsOwned (put_on given shelf run w)
+owned_put : (w : World) (run shelf : ℕ) (given : Option Name) → IsOwned w → IsOwnGiven w run shelf given
+    → ((p : Owner) → Contains w.owners p → p.holder ≢ Shelf shelf) → IsOwned (put_on given shelf run w)
 owned_put w run shelf None owned own nobody = owned
 owned_put w run shelf (Some name) owned own nobody =
     owned_moved w (owner_of run name) (λ p. not ((p.slot == name.slot) && is_call run name.call p.holder)) (Shelf shelf) owned (given_dropped w run name own.0) (record { nothing = nobody; asked = sym own.1; points = λ k x n at has e. absurd (shelf_is_no_run shelf k n.call e) })
 
-owned_exchanged : (w : World) (run : ℕ) (r : Running) (to : ℕ) (frame : Frame Name) (shelf : ℕ) (given : Option Name) → IsOwned w → slice_get w.runs run ≡ Some r → IsOwnGiven w run shelf given → r.pc < to → ((n : Name) → HasPointer frame n → HasPointer r.frame n)
+owned_exchanged : (w : World) (run : ℕ) (r : Running) (to : ℕ) (frame : Frame Name) (shelf : ℕ) (given : Option Name) → IsOwned w
+    → slice_get w.runs run ≡ Some r → IsOwnGiven w run shelf given → r.pc < to
+    → ((n : Name) → HasPointer frame n → HasPointer r.frame n)
     → IsOwned (exchanged (standing w shelf) w run r to frame shelf given)
 owned_exchanged w run r to frame shelf given owned there own forward fewer = by (standing w shelf) (stands w shelf) where
   by : (o : Option Owner) → IsFound (λ p. is_shelf shelf p.holder) w.owners o → IsOwned (exchanged o w run r to frame shelf given)
@@ -188,7 +207,8 @@ owned_exchanged w run r to frame shelf given owned there own forward fewer = by 
 patched_long : (old bytes : List ℕ) (at : ℕ) → at + length bytes ≤ length old → length (patched old at bytes) ≡ length old
 patched_long old bytes at fits = rw (length-append, length-append, length-take, length-drop) (omega arith)
 
-pub owned_done : (w : World) (run : ℕ) (r : Running) (e : Effect Name) (answer : Answer) → IsOwned w → slice_get w.runs run ≡ Some r → IsOwnEffect w run answer e → IsForward r.frame r.pc e → IsOwned (done_by e answer w run r)
+pub owned_done : (w : World) (run : ℕ) (r : Running) (e : Effect Name) (answer : Answer) → IsOwned w → slice_get w.runs run ≡ Some r
+    → IsOwnEffect w run answer e → IsForward r.frame r.pc e → IsOwned (done_by e answer w run r)
 owned_done w run r (Ends n) answer owned there own forward = owned_stays w run r (ended n r) owned there refl refl refl refl
 owned_done w run r (Traps trap) answer owned there own forward = absurd own
 owned_done w run r (Goes Nothing to frame) answer owned there own forward = owned_gone w run r to frame owned there forward.0 forward.1
@@ -196,12 +216,15 @@ owned_done w run r (Goes (Write name at bytes) to frame) answer owned there own 
     owned_bytes (with_run w run (moved_to to frame r)) name.slot (patched (w.bytes name.slot) at bytes) (owner_of run name) (owned_gone w run r to frame owned there forward.0 forward.1) own.0 refl (patched_long (w.bytes name.slot) bytes at own.1)
 owned_done w run r (Goes (Free name) to frame) answer owned there own forward =
     owned_freed (with_run w run (moved_to to frame r)) (owner_of run name) (λ p. not ((p.slot == name.slot) && is_call run name.call p.holder)) (owned_gone w run r to frame owned there forward.0 forward.1) (given_dropped (with_run w run (moved_to to frame r)) run name own)
-owned_done w run r (Goes (Exchange shelf given) to frame) answer owned there own forward = owned_exchanged w run r to frame shelf given owned there own.1 forward.0 forward.1
+owned_done w run r (Goes (Exchange shelf given) to frame) answer owned there own forward =
+    owned_exchanged w run r to frame shelf given owned there own.1 forward.0 forward.1
 owned_done w run r (Goes (Ask kind) to frame) Absent owned there own forward = owned_told w run r reply.Null kind to frame owned there forward.0 forward.1
 owned_done w run r (Goes (Ask kind) to frame) Null owned there own forward = owned_told w run r reply.Null kind to frame owned there forward.0 forward.1
-owned_done w run r (Goes (Ask kind) to frame) (Slot slot) owned there own forward = owned_taken w run r slot kind to frame owned there own.1.0 own.1.1 forward.0 forward.1
+owned_done w run r (Goes (Ask kind) to frame) (Slot slot) owned there own forward =
+    owned_taken w run r slot kind to frame owned there own.1.0 own.1.1 forward.0 forward.1
 
-of_kind_started : (w v : World) (s : Subject) (context : List ℕ) (o : Owner) (kind : ℕ) → v.runs ≡ w.runs ++ first_run s context ∷ [] → IsOfKind w.runs o.holder kind → IsOfKind v.runs o.holder kind
+of_kind_started : (w v : World) (s : Subject) (context : List ℕ) (o : Owner) (kind : ℕ)
+    → v.runs ≡ w.runs ++ first_run s context ∷ [] → IsOfKind w.runs o.holder kind → IsOfKind v.runs o.holder kind
 of_kind_started w v s context o kind more h = in_runs o.holder h where
   in_runs : (holder : _) → IsOfKind w.runs holder kind → IsOfKind v.runs holder kind
   in_runs (Run run at) h = record { asker = h.asker; there = ap (λ (rs : List Running). slice_get rs run) more ∙ get_push w.runs run h.asker (first_run s context) h.there; behind = h.behind; reply = h.reply; got = h.got; told = h.told }
@@ -237,7 +260,8 @@ none_in : {X : Type 0} (xs : List X) (slot : ℕ) → (count_by (is_in slot) (ma
 none_in [] slot = (refl, refl)
 none_in (x ∷ xs) slot = none_in xs slot
 
-pub owned_empty : {X : Type 0} (xs : List X) (kinds : List Kind) → length xs ≡ length kinds → IsOwned (record { kinds = kinds; ledgers = map (λ x. []) xs; owners = []; bytes = λ slot. []; runs = [] })
+pub owned_empty : {X : Type 0} (xs : List X) (kinds : List Kind) → length xs ≡ length kinds
+    → IsOwned (record { kinds = kinds; ledgers = map (λ x. []) xs; owners = []; bytes = λ slot. []; runs = [] })
 owned_empty xs kinds as_many = record {
   ledgers = record {
     as_many = length-map xs _ ∙ as_many;

@@ -15,7 +15,8 @@ use Rattle.ebpf_machine.proofs.World.Owners.{not_home, same_slot, kind_in-ledger
 use Rattle.ebpf_machine.proofs.World.Moves.{IsDropped, MayHold, owned_by, with_owners}
 
 -- a pointer stays true where no more is owned
-pub true_fewer : (owners fewer : List Owner) (run : ℕ) (r : Running) (n : Name) → ((o : Owner) → Contains fewer o → Contains owners o) → IsTrue owners run r n → IsTrue fewer run r n
+pub true_fewer : (owners fewer : List Owner) (run : ℕ) (r : Running) (n : Name)
+    → ((o : Owner) → Contains fewer o → Contains owners o) → IsTrue owners run r n → IsTrue fewer run r n
 true_fewer owners fewer run r n among h = record { behind = h.behind; slot = λ o there e. h.slot o (among o there) e }
 
 -- ---- a run goes on
@@ -29,7 +30,8 @@ pub record IsLater (r now : Running) : Type 0 where
 pub same_run : (w : World) (run : ℕ) (r x : Running) → slice_get w.runs run ≡ Some r → slice_get w.runs run ≡ Some x → x ≡ r
 same_run w run r x there at = cc
 
-of_kind_later : (w : World) (run : ℕ) (r now : Running) (h : Holder) (kind : ℕ) → slice_get w.runs run ≡ Some r → IsLater r now → IsOfKind w.runs h kind → IsOfKind (with_run w run now).runs h kind
+of_kind_later : (w : World) (run : ℕ) (r now : Running) (h : Holder) (kind : ℕ) → slice_get w.runs run ≡ Some r → IsLater r now
+    → IsOfKind w.runs h kind → IsOfKind (with_run w run now).runs h kind
 of_kind_later w run r now (Run asker at) kind there later h = by (cases_eq asker run) where
   by : (asker ≡ run) ⊎ (asker ≢ run) → AskedFor (with_run w run now).runs asker at kind
   by (inl e) =
@@ -45,7 +47,8 @@ of_kind_later w run r now (Run asker at) kind there later h = by (cases_eq asker
   by (inr ne) = record { asker = h.asker; there = get_set_other w.runs run asker now ne ∙ h.there; behind = h.behind; reply = h.reply; got = h.got; told = h.told }
 of_kind_later w run r now (Shelf s) kind there later h = h
 
-pub owned_running : (w : World) (run : ℕ) (r now : Running) → IsOwned w → slice_get w.runs run ≡ Some r → IsLater r now → ((n : Name) → HasPointer now.frame n → IsTrue w.owners run now n) → HasOneSlot now.frame → IsOwned (with_run w run now)
+pub owned_running : (w : World) (run : ℕ) (r now : Running) → IsOwned w → slice_get w.runs run ≡ Some r → IsLater r now
+    → ((n : Name) → HasPointer now.frame n → IsTrue w.owners run now n) → HasOneSlot now.frame → IsOwned (with_run w run now)
 owned_running w run r now owned there later true_now alike = record {
   ledgers = owned.ledgers;
   holders = owned.holders;
@@ -62,10 +65,12 @@ owned_running w run r now owned there later true_now alike = record {
     alike_in k x (inr at) = owned.runs.one_slot k x at.1
 
     kinds : (k : ℕ) (x : Running) → ((k ≡ run) × (now ≡ x)) ⊎ ((k ≢ run) × (slice_get w.runs k ≡ Some x)) → kinds_of x.subject.rows ≡ w.kinds
-    kinds k x (inl e) = ap (λ (y : Running). kinds_of y.subject.rows) (sym e.1) ∙ ap (λ (s : Subject). kinds_of s.rows) later.subject ∙ owned.runs.kinds_are run r there
+    kinds k x (inl e) =
+        ap (λ (y : Running). kinds_of y.subject.rows) (sym e.1) ∙ ap (λ (s : Subject). kinds_of s.rows) later.subject ∙ owned.runs.kinds_are run r there
     kinds k x (inr at) = owned.runs.kinds_are k x at.1
 
-    true_in : (k : ℕ) (x : Running) (n : Name) → HasPointer x.frame n → ((k ≡ run) × (now ≡ x)) ⊎ ((k ≢ run) × (slice_get w.runs k ≡ Some x)) → IsTrue w.owners k x n
+    true_in : (k : ℕ) (x : Running) (n : Name) → HasPointer x.frame n
+        → ((k ≡ run) × (now ≡ x)) ⊎ ((k ≢ run) × (slice_get w.runs k ≡ Some x)) → IsTrue w.owners k x n
     true_in k x n has (inl e) =
         let here = true_now n (subst (λ (y : Running). HasPointer y.frame n) (sym e.1) has) in
         record { behind = subst (λ (y : Running). n.call < y.pc) e.1 here.behind; slot = λ o among held. here.slot o among (held ∙ ap (λ (m : ℕ). Run m n.call) e.0) }
@@ -73,7 +78,8 @@ owned_running w run r now owned there later true_now alike = record {
 
 -- ---- bytes of an object that a run holds
 
-pub owned_bytes : (w : World) (slot : ℕ) (bytes : List ℕ) (p : Owner) → IsOwned w → Contains w.owners p → p.slot ≡ slot → length bytes ≡ length (w.bytes slot) → IsOwned (with_bytes slot bytes w)
+pub owned_bytes : (w : World) (slot : ℕ) (bytes : List ℕ) (p : Owner) → IsOwned w → Contains w.owners p → p.slot ≡ slot
+    → length bytes ≡ length (w.bytes slot) → IsOwned (with_bytes slot bytes w)
 owned_bytes w slot bytes p owned own is as_long = record {
   ledgers = record { as_many = owned.ledgers.as_many; apart = owned.ledgers.apart; imaged = λ s home. elsewhere s home };
   holders = record {
@@ -88,13 +94,15 @@ owned_bytes w slot bytes p owned own is as_long = record {
     elsewhere : (s : ℕ) → is_home w s ≡ true → cond (s == slot) bytes (w.bytes s) ≡ image_at w.kinds (kind_in w s)
     elsewhere s home = let apart = ne_eqb s slot (λ e. not_home w p s home own (is ∙ sym e)) in rw apart (owned.ledgers.imaged s home)
 
-    long : (o : Owner) → Contains w.owners o → (o.slot ≡ slot) ⊎ (o.slot ≢ slot) → length (cond (o.slot == slot) bytes (w.bytes o.slot)) ≡ length (image_at w.kinds (kind_in w o.slot))
+    long : (o : Owner) → Contains w.owners o → (o.slot ≡ slot) ⊎ (o.slot ≢ slot)
+        → length (cond (o.slot == slot) bytes (w.bytes o.slot)) ≡ length (image_at w.kinds (kind_in w o.slot))
     long o among (inl e) = let here = eq-eqb o.slot slot e in rw here (as_long ∙ ap (λ (s : ℕ). length (w.bytes s)) (sym e) ∙ owned.holders.sized o among)
     long o among (inr ne) = let apart = ne_eqb o.slot slot ne in rw apart (owned.holders.sized o among)
 
 -- ---- an object is nobody's any more, and gets its image
 
-pub owned_freed : (w : World) (o : Owner) (stays : Owner → Bool) → IsOwned w → IsDropped w o stays → IsOwned (with_bytes o.slot (image_at w.kinds (kind_in w o.slot)) (with_owners (filter stays w.owners) w))
+pub owned_freed : (w : World) (o : Owner) (stays : Owner → Bool) → IsOwned w → IsDropped w o stays
+    → IsOwned (with_bytes o.slot (image_at w.kinds (kind_in w o.slot)) (with_owners (filter stays w.owners) w))
 owned_freed w o stays owned drop = record {
   ledgers = record { as_many = owned.ledgers.as_many; apart = owned.ledgers.apart; imaged = λ s home. image s home (cases_eq s o.slot) };
   holders = record {
@@ -140,7 +148,8 @@ owned_freed w o stays owned drop = record {
         let was = false_from_ne_true (is_owned w s) (λ owns. let owns_still = still_owned s ne owns in absurd (cc)) in
         and_from (is_in_ledger w s) (not (is_owned w s)) parts.0 (not_from_false (is_owned w s) was)
 
-    image : (s : ℕ) → is_home after s ≡ true → (s ≡ o.slot) ⊎ (s ≢ o.slot) → cond (s == o.slot) (image_at w.kinds (kind_in w o.slot)) (w.bytes s) ≡ image_at w.kinds (kind_in w s)
+    image : (s : ℕ) → is_home after s ≡ true → (s ≡ o.slot) ⊎ (s ≢ o.slot)
+        → cond (s == o.slot) (image_at w.kinds (kind_in w o.slot)) (w.bytes s) ≡ image_at w.kinds (kind_in w s)
     image s home (inl e) = let here = eq-eqb s o.slot e in rw here (ap (λ (m : ℕ). image_at w.kinds (kind_in w m)) (sym e))
     image s home (inr ne) = let apart = ne_eqb s o.slot ne in rw apart (owned.ledgers.imaged s (still s ne home))
 
@@ -163,7 +172,8 @@ still_home w slot holder s home =
       λ e. eqb-false slot s (or_parts (slot == s) false both.1).0 (sym e),
     )
 
-counted_more : (w : World) (slot : ℕ) (holder : Holder) (s : ℕ) → IsOwned w → is_home w slot ≡ true → count_by (λ (o : Owner). o.slot == s) (with_owner slot holder w).owners ≤ 1
+counted_more : (w : World) (slot : ℕ) (holder : Holder) (s : ℕ) → IsOwned w → is_home w slot ≡ true
+    → count_by (λ (o : Owner). o.slot == s) (with_owner slot holder w).owners ≤ 1
 counted_more w slot holder s owned home = by (cases_eq slot s) where
   more : count_by (λ (o : Owner). o.slot == s) (with_owner slot holder w).owners ≡ count_by (λ (o : Owner). o.slot == s) w.owners + cond (slot == s) 1 0
   more = sum_by_push (λ (o : Owner). cond (o.slot == s) 1 0) w.owners (owned_by slot holder)
@@ -177,7 +187,8 @@ counted_more w slot holder s owned home = by (cases_eq slot s) where
       omega (arith, here, owned.holders.once s)
 
 -- and bytes of its kind's length
-pub owned_granted : (w : World) (slot kind : ℕ) (holder : Holder) (bytes : List ℕ) → IsOwned w → is_home w slot ≡ true → is_in slot (ledger_of w kind) ≡ true → length bytes ≡ length (image_at w.kinds kind) → MayHold w slot holder
+pub owned_granted : (w : World) (slot kind : ℕ) (holder : Holder) (bytes : List ℕ) → IsOwned w → is_home w slot ≡ true
+    → is_in slot (ledger_of w kind) ≡ true → length bytes ≡ length (image_at w.kinds kind) → MayHold w slot holder
     → IsOwned (with_owner slot holder (with_bytes slot bytes w))
 owned_granted w slot kind holder bytes owned home there as_long may = record {
   ledgers = record { as_many = owned.ledgers.as_many; apart = owned.ledgers.apart; imaged = λ s h. image s (still_home w slot holder s h) };
@@ -222,7 +233,8 @@ owned_granted w slot kind holder bytes owned home there as_long may = record {
     of_kind o (inl among) = owned.runs.asked o among
     of_kind o (inr e) = subst (λ (p : Owner). IsOfKind w.runs p.holder (kind_in w p.slot)) e may.asked
 
-    true_in : (k : ℕ) (x : Running) (n : Name) → slice_get w.runs k ≡ Some x → HasPointer x.frame n → IsTrue w.owners k x n → IsTrue (with_owner slot holder w).owners k x n
+    true_in : (k : ℕ) (x : Running) (n : Name) → slice_get w.runs k ≡ Some x → HasPointer x.frame n → IsTrue w.owners k x n
+        → IsTrue (with_owner slot holder w).owners k x n
     true_in k x n seen has h = record { behind = h.behind; slot = λ o among e. to o (added w slot holder o among) e }
       where
         to : (o : Owner) → Contains w.owners o ⊎ (new ≡ o) → o.holder ≡ Run k n.call → o.slot ≡ n.slot

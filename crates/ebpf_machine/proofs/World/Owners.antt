@@ -47,7 +47,8 @@ held_owner w run o among =
 -- ---- who owns a slot
 
 pub same_slot : (w : World) (o p : Owner) → IsOwned w → Contains w.owners o → Contains w.owners p → o.slot ≡ p.slot → o ≡ p
-same_slot w o p owned (i, li, ei) (j, lj, ej) e = only_one (λ (q : Owner). q.slot == p.slot) w.owners i j o p li lj ei ej (eq-eqb o.slot p.slot e) (eq-eqb p.slot p.slot refl) (owned.holders.once p.slot)
+same_slot w o p owned (i, li, ei) (j, lj, ej) e =
+    only_one (λ (q : Owner). q.slot == p.slot) w.owners i j o p li lj ei ej (eq-eqb o.slot p.slot e) (eq-eqb p.slot p.slot refl) (owned.holders.once p.slot)
 
 -- a slot that is home is nobody's
 pub not_home : (w : World) (o : Owner) (slot : ℕ) → is_home w slot ≡ true → Contains w.owners o → o.slot ≢ slot
@@ -58,17 +59,21 @@ not_home w o slot home (i, li, ei) e =
     absurd (cc)
 
 -- the object of a name is owned by one call of one run
-pub slot_of_call : (w : World) (run : ℕ) (name : Name) (o : Owner) → IsOwned w → Contains w.owners (owner_of run name) → Contains w.owners o → o.holder ≡ Run run name.call → o.slot ≡ name.slot
+pub slot_of_call : (w : World) (run : ℕ) (name : Name) (o : Owner) → IsOwned w → Contains w.owners (owner_of run name)
+    → Contains w.owners o → o.holder ≡ Run run name.call → o.slot ≡ name.slot
 slot_of_call w run name o owned own among e = ap (λ (q : Owner). q.slot) (owned.holders.one_a_call o (owner_of run name) among own e)
 
-pub holder_of_slot : (w : World) (run : ℕ) (name : Name) (o : Owner) → IsOwned w → Contains w.owners (owner_of run name) → Contains w.owners o → o.slot ≡ name.slot → o.holder ≡ Run run name.call
+pub holder_of_slot : (w : World) (run : ℕ) (name : Name) (o : Owner) → IsOwned w → Contains w.owners (owner_of run name)
+    → Contains w.owners o → o.slot ≡ name.slot → o.holder ≡ Run run name.call
 holder_of_slot w run name o owned own among e = ap (λ (q : Owner). q.holder) (same_slot w o (owner_of run name) owned among own e)
 
 -- an object of another call is in another slot, and one of another run
-pub slot_of_another_call : (w : World) (run : ℕ) (name : Name) (o : Owner) → IsOwned w → Contains w.owners (owner_of run name) → Contains w.owners o → call_of o.holder ≢ name.call → o.slot ≢ name.slot
+pub slot_of_another_call : (w : World) (run : ℕ) (name : Name) (o : Owner) → IsOwned w → Contains w.owners (owner_of run name)
+    → Contains w.owners o → call_of o.holder ≢ name.call → o.slot ≢ name.slot
 slot_of_another_call w run name o owned own among ne e = ne (ap call_of (holder_of_slot w run name o owned own among e))
 
-pub slot_of_another_run : (w : World) (run other : ℕ) (name : Name) (o : Owner) → IsOwned w → Contains w.owners (owner_of run name) → other ≢ run → Contains (held_by w other) o → o.slot ≢ name.slot
+pub slot_of_another_run : (w : World) (run other : ℕ) (name : Name) (o : Owner) → IsOwned w → Contains w.owners (owner_of run name)
+    → other ≢ run → Contains (held_by w other) o → o.slot ≢ name.slot
 slot_of_another_run w run other name o owned own ne among e =
     let held = held_owner w other o among in
     ne (ap run_of (sym held.1 ∙ holder_of_slot w run name o owned own held.0 e))
@@ -102,9 +107,11 @@ held_given w run name its =
     ∙ sym (filter-filter (λ (o : Owner). not (call_of o.holder == name.call)) (λ (o : Owner). is_run run o.holder) w.owners)
   where
     is_its : (o : Owner) → Contains w.owners o → is_run run o.holder ≡ true → (call_of o.holder == name.call) ≡ true → (o.slot == name.slot) ≡ true
-    is_its o among mine named = eq-eqb o.slot name.slot (its o among (is_run-own run o.holder mine ∙ ap (λ (n : ℕ). Run run n) (eqb-true (call_of o.holder) name.call named)))
+    is_its o among mine named =
+        eq-eqb o.slot name.slot (its o among (is_run-own run o.holder mine ∙ ap (λ (n : ℕ). Run run n) (eqb-true (call_of o.holder) name.call named)))
 
-    alike : (o : Owner) → Contains w.owners o → (not ((o.slot == name.slot) && is_call run name.call o.holder) && is_run run o.holder) ≡ (is_run run o.holder && not (call_of o.holder == name.call))
+    alike : (o : Owner) → Contains w.owners o
+        → (not ((o.slot == name.slot) && is_call run name.call o.holder) && is_run run o.holder) ≡ (is_run run o.holder && not (call_of o.holder == name.call))
     alike o among =
         ap (λ (t : Bool). not ((o.slot == name.slot) && t) && is_run run o.holder) (is_call-parts run name.call o.holder)
         ∙ kept_bits (o.slot == name.slot) (is_run run o.holder) (call_of o.holder == name.call) (is_its o among)
@@ -135,7 +142,8 @@ others_granted w run other at slot ne =
 -- ---- the kind of a slot
 
 -- a slot of one ledger, in no other, is of that ledger's kind
-pub kind_from-ledger : (base : ℕ) (ledgers : List (List ℕ)) (kind slot : ℕ) → is_in slot (get_or ledgers kind []) ≡ true → count_by (is_in slot) ledgers ≤ 1 → kind_from base ledgers slot ≡ base + kind
+pub kind_from-ledger : (base : ℕ) (ledgers : List (List ℕ)) (kind slot : ℕ) → is_in slot (get_or ledgers kind []) ≡ true
+    → count_by (is_in slot) ledgers ≤ 1 → kind_from base ledgers slot ≡ base + kind
 unfolding kind_from
 kind_from-ledger base [] kind slot there most = absurd (cc)
 kind_from-ledger base (slots ∷ ledgers) zero slot there most = rw there (omega arith)
@@ -152,11 +160,13 @@ pub in_one_ledger : (w : World) (kind slot : ℕ) → IsOwned w → is_in slot (
 in_one_ledger w kind slot owned there = omega (arith, owned.ledgers.apart slot, counted_at (is_in slot) w.ledgers kind [] refl there)
 
 -- a slot of some ledger is in that of its kind
-in_its_ledger : (base : ℕ) (ledgers : List (List ℕ)) (slot : ℕ) → list_any (is_in slot) ledgers ≡ true → (k : ℕ) × (kind_from base ledgers slot ≡ base + k) × (is_in slot (get_or ledgers k []) ≡ true)
+in_its_ledger : (base : ℕ) (ledgers : List (List ℕ)) (slot : ℕ) → list_any (is_in slot) ledgers ≡ true
+    → (k : ℕ) × (kind_from base ledgers slot ≡ base + k) × (is_in slot (get_or ledgers k []) ≡ true)
 unfolding kind_from
 in_its_ledger base [] slot there = absurd (cc)
 in_its_ledger base (slots ∷ ledgers) slot there = by (is_in slot slots) refl (in_its_ledger (suc base) ledgers slot) where
-  by : (t : Bool) → is_in slot slots ≡ t → (list_any (is_in slot) ledgers ≡ true → (k : ℕ) × (kind_from (suc base) ledgers slot ≡ suc base + k) × (is_in slot (get_or ledgers k []) ≡ true))
+  by : (t : Bool) → is_in slot slots ≡ t
+      → (list_any (is_in slot) ledgers ≡ true → (k : ℕ) × (kind_from (suc base) ledgers slot ≡ suc base + k) × (is_in slot (get_or ledgers k []) ≡ true))
       → (k : ℕ) × (cond t base (kind_from (suc base) ledgers slot) ≡ base + k) × (is_in slot (get_or (slots ∷ ledgers) k []) ≡ true)
   by true here later = (0, omega arith, here)
   by false away later =
@@ -176,7 +186,9 @@ owned_there w o owned among = by (is_in_ledger w o.slot) refl where
 -- ---- no shelf has two slots
 
 -- owners that answer alike are one, and it stands in the list once
-once_by : (p : Owner → Bool) (owners : List Owner) → ((o q : Owner) → Contains owners o → Contains owners q → p o ≡ true → p q ≡ true → o ≡ q) → ((slot : ℕ) → count_by (λ (o : Owner). o.slot == slot) owners ≤ 1) → count_by p owners ≤ 1
+once_by : (p : Owner → Bool) (owners : List Owner)
+    → ((o q : Owner) → Contains owners o → Contains owners q → p o ≡ true → p q ≡ true → o ≡ q)
+    → ((slot : ℕ) → count_by (λ (o : Owner). o.slot == slot) owners ≤ 1) → count_by p owners ≤ 1
 once_by p [] one once = omega arith
 once_by p (o ∷ owners) one once =
     by (p o) refl (once_by p owners (λ a b here there. one a b (Contains-tail o a owners here) (Contains-tail o b owners there)) (λ slot. omega (arith, once slot, counted_less (λ (q : Owner). q.slot == slot) o owners)))
@@ -187,10 +199,13 @@ once_by p (o ∷ owners) one once =
       twice (q, among, too) =
           let same = one o q (Contains-head o owners) (Contains-tail o q owners among) passes too in
           let here = counted_once (λ (x : Owner). x.slot == o.slot) o owners (eq-eqb o.slot o.slot refl) in
-          let there : list_any (λ (x : Owner). x.slot == o.slot) owners ≡ true = any_from (λ (x : Owner). x.slot == o.slot) owners q among (eq-eqb q.slot o.slot (ap (λ (x : Owner). x.slot) (sym same))) in
+          let there : list_any (λ (x : Owner). x.slot == o.slot) owners ≡ true =
+          any_from (λ (x : Owner). x.slot == o.slot) owners q among (eq-eqb q.slot o.slot (ap (λ (x : Owner). x.slot) (sym same))) in
           more (count_by (λ (x : Owner). x.slot == o.slot) owners) refl here there
         where
-          more : (n : ℕ) → count_by (λ (x : Owner). x.slot == o.slot) owners ≡ n → count_by (λ (x : Owner). x.slot == o.slot) (o ∷ owners) ≡ 1 + count_by (λ (x : Owner). x.slot == o.slot) owners → list_any (λ (x : Owner). x.slot == o.slot) owners ≡ true → ⊥
+          more : (n : ℕ) → count_by (λ (x : Owner). x.slot == o.slot) owners ≡ n
+              → count_by (λ (x : Owner). x.slot == o.slot) (o ∷ owners) ≡ 1 + count_by (λ (x : Owner). x.slot == o.slot) owners
+              → list_any (λ (x : Owner). x.slot == o.slot) owners ≡ true → ⊥
           more zero e here there = let no = none_from_count (λ (x : Owner). x.slot == o.slot) owners e in absurd (cc)
           more (suc n) e here there = omega (arith, e, here, once o.slot)
 

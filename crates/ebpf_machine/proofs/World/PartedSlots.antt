@@ -59,5 +59,6 @@ parted_change w kind slot owned reapable = record {
 pub owned_parted : (w : World) (kind slot : ℕ) → IsOwned w → IsReapable w kind slot → IsOwned (with_slot_left kind slot w)
 owned_parted w kind slot owned reapable = owned_changed w kind slot _ _ owned (parted_change w kind slot owned reapable)
 
-pub view_parted : (w : World) (run kind slot : ℕ) (r : Running) → IsOwned w → IsReapable w kind slot → view_of (with_slot_left kind slot w) run r ≡ view_of w run r
+pub view_parted : (w : World) (run kind slot : ℕ) (r : Running) → IsOwned w → IsReapable w kind slot
+    → view_of (with_slot_left kind slot w) run r ≡ view_of w run r
 view_parted w run kind slot r owned reapable = view_changed w run kind slot _ _ r (parted_change w kind slot owned reapable)

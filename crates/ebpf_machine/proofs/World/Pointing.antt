@@ -122,7 +122,9 @@ value_plain frame dst v from = pointed where
     by_place (inl same) = from n (subst (λ (o : Option (Value Name)). Names o n) (sym same) h)
     by_place (inr before) = InRegister x before h
 
-written_plain : (to : ℕ) (frame : Frame Name) (dst : Reg) (x y : Option (Value Name)) (r : Result (Value Name) Trap) → ((n : Name) → Names x n → HasPointer frame n) → ((n : Name) → Names y n → HasPointer frame n) → PointsAsBefore x y r → IsPlainEffect frame (written to frame dst r)
+written_plain : (to : ℕ) (frame : Frame Name) (dst : Reg) (x y : Option (Value Name)) (r : Result (Value Name) Trap)
+    → ((n : Name) → Names x n → HasPointer frame n) → ((n : Name) → Names y n → HasPointer frame n) → PointsAsBefore x y r
+    → IsPlainEffect frame (written to frame dst r)
 written_plain to frame dst x y (Err trap) left right points = tt
 written_plain to frame dst x y (Ok v) left right points = chosen (is_frame_pointer dst) where
   from : (n : Name) → Names (Some v) n → HasPointer frame n
@@ -146,7 +148,9 @@ number_points : (stack : List (Cell Name)) (n : Option ℕ) (bytes : ℕ) (signe
 number_points stack None bytes signed = tt
 number_points stack (Some m) bytes signed = λ n h. absurd h
 
-word_points : (one : Name → Name → Bool) (c : Cell Name) (stack : List (Cell Name)) (place : ℕ) (number : Option ℕ) (bytes : ℕ) (signed : Bool) → ((n : Name) → NamesPart c n → HasPart stack n) → PointsIn stack (loaded_word (pointer_from one c stack place) number bytes signed)
+word_points : (one : Name → Name → Bool) (c : Cell Name) (stack : List (Cell Name)) (place : ℕ) (number : Option ℕ) (bytes : ℕ) (signed : Bool)
+    → ((n : Name) → NamesPart c n → HasPart stack n)
+    → PointsIn stack (loaded_word (pointer_from one c stack place) number bytes signed)
 word_points one Unset stack place number bytes signed among = number_points stack number bytes signed
 word_points one (Byte b) stack place number bytes signed among = number_points stack number bytes signed
 word_points one (Part v j) stack place number bytes signed among = found (are_parts one v stack place 8) where
@@ -154,7 +158,8 @@ word_points one (Part v j) stack place number bytes signed among = found (are_pa
   found true = among
   found false = number_points stack number bytes signed
 
-loaded_points : (one : Name → Name → Bool) (place : Option ℕ) (bytes : ℕ) (signed : Bool) (stack : List (Cell Name)) → PointsIn stack (loaded_at one place bytes signed stack)
+loaded_points : (one : Name → Name → Bool) (place : Option ℕ) (bytes : ℕ) (signed : Bool) (stack : List (Cell Name))
+    → PointsIn stack (loaded_at one place bytes signed stack)
 loaded_points one None bytes signed stack = tt
 loaded_points one (Some place) bytes signed stack =
     cond_both (is_whole_word place bytes) (loaded_word (pointer_from one (cell_at stack place) stack place) (number_from stack place bytes) bytes signed) (loaded_number (number_from stack place bytes) bytes signed) (PointsIn stack)
@@ -167,23 +172,29 @@ load_plain to frame dst (Ok v) points = chosen (is_frame_pointer dst) where
   chosen true = tt
   chosen false = value_plain frame dst v (λ n h. cell_points frame n (points n h))
 
-read_points_nowhere : (stack : List (Cell Name)) (outside : Trap) (place : Option ℕ) (bytes : ℕ) (signed : Bool) (source : List ℕ) → PointsIn stack (read_at outside place bytes signed source)
+read_points_nowhere : (stack : List (Cell Name)) (outside : Trap) (place : Option ℕ) (bytes : ℕ) (signed : Bool) (source : List ℕ)
+    → PointsIn stack (read_at outside place bytes signed source)
 read_points_nowhere stack outside None bytes signed source = tt
 read_points_nowhere stack outside (Some place) bytes signed source = λ n h. absurd h
 
 object_points_nowhere : (stack : List (Cell Name)) (r : Result Found Trap) (at : ℤ) (bytes : ℕ) (signed : Bool) → PointsIn stack (read_object r at bytes signed)
 object_points_nowhere stack (Err trap) at bytes signed = tt
-object_points_nowhere stack (Ok found) at bytes signed = read_points_nowhere stack ObjectBounds (place_in (length found.bytes) at bytes) bytes signed found.bytes
+object_points_nowhere stack (Ok found) at bytes signed =
+    read_points_nowhere stack ObjectBounds (place_in (length found.bytes) at bytes) bytes signed found.bytes
 
-through_points : (a : Environment Name) (stack : List (Cell Name)) (size : Size) (signed : Bool) (offset : ℤ) (x : Option (Value Name)) → PointsIn stack (loaded a stack size signed offset x)
+through_points : (a : Environment Name) (stack : List (Cell Name)) (size : Size) (signed : Bool) (offset : ℤ) (x : Option (Value Name))
+    → PointsIn stack (loaded a stack size signed offset x)
 through_points a stack size signed offset None = tt
 through_points a stack size signed offset (Some (Number n)) = tt
-through_points a stack size signed offset (Some (Pointer Stack k)) = loaded_points a.is_same (place_of (k +ℤ offset) (bytes_in size)) (bytes_in size) signed stack
-through_points a stack size signed offset (Some (Pointer Context k)) = read_points_nowhere stack ContextAccess (place_in (length a.context) (k +ℤ offset) (bytes_in size)) (bytes_in size) signed a.context
+through_points a stack size signed offset (Some (Pointer Stack k)) =
+    loaded_points a.is_same (place_of (k +ℤ offset) (bytes_in size)) (bytes_in size) signed stack
+through_points a stack size signed offset (Some (Pointer Context k)) =
+    read_points_nowhere stack ContextAccess (place_in (length a.context) (k +ℤ offset) (bytes_in size)) (bytes_in size) signed a.context
 through_points a stack size signed offset (Some (Pointer (Object name) k)) = object_points_nowhere stack (a.object name) (k +ℤ offset) (bytes_in size) signed
 
 -- a cell after a store is of the value, or was there
-stored_from : (place bytes : ℕ) (v : Value Name) (i : ℕ) (old c : Cell Name) (n : Name) → stored_cell place bytes v i old ≡ c → NamesPart c n → Names (Some v) n ⊎ NamesPart old n
+stored_from : (place bytes : ℕ) (v : Value Name) (i : ℕ) (old c : Cell Name) (n : Name) → stored_cell place bytes v i old ≡ c
+    → NamesPart c n → Names (Some v) n ⊎ NamesPart old n
 stored_from place bytes v i old c n e h = of_cell (subst (λ (x : Cell Name). NamesPart x n) (sym e) h) where
   of_value : (v : Value Name) (j : ℕ) → NamesPart (cell_of v j) n → Names (Some v) n
   of_value (Number m) j part = absurd part
@@ -203,7 +214,8 @@ stored_from place bytes v i old c n e h = of_cell (subst (λ (x : Cell Name). Na
   of_cell part = by (is_among place bytes i) (touches place bytes (i / 8)) part
 
 -- an element of a list that was changed place by place
-in_changed : {X Y : Type 0} (f : ℕ × X → Y) (xs : List X) (from : ℕ) (y : Y) (i : ℕ) → i < length (map f (enumerate_from from xs)) → get_or (map f (enumerate_from from xs)) i y ≡ y → (k : ℕ) × (x : X) × Contains xs x × (f (k, x) ≡ y)
+in_changed : {X Y : Type 0} (f : ℕ × X → Y) (xs : List X) (from : ℕ) (y : Y) (i : ℕ) → i < length (map f (enumerate_from from xs))
+    → get_or (map f (enumerate_from from xs)) i y ≡ y → (k : ℕ) × (x : X) × Contains xs x × (f (k, x) ≡ y)
 in_changed f [] from y i lt e = absurd (omega (arith, lt))
 in_changed f (x ∷ xs) from y zero lt e = (from, x, (0, omega arith, refl), e)
 in_changed f (x ∷ xs) from y (suc i) lt e =
@@ -212,7 +224,9 @@ in_changed f (x ∷ xs) from y (suc i) lt e =
     let inside = among.1 in
     (there.0, there.1, (suc among.0, omega arith, among.2), there.3)
 
-stack_plain : (to : ℕ) (frame : Frame Name) (place bytes : ℕ) (v : Value Name) → ((n : Name) → Names (Some v) n → HasPointer frame n) → IsPlain frame (record frame { stack = stored_cells place bytes v frame.stack })
+stack_plain : (to : ℕ) (frame : Frame Name) (place bytes : ℕ) (v : Value Name)
+    → ((n : Name) → Names (Some v) n → HasPointer frame n)
+    → IsPlain frame (record frame { stack = stored_cells place bytes v frame.stack })
 stack_plain to frame place bytes v from = pointed where
   old_or_new : (n : Name) (old : Cell Name) → Contains frame.stack old → Names (Some v) n ⊎ NamesPart old n → HasPointer frame n
   old_or_new n old among (inl named) = from n named
@@ -224,29 +238,36 @@ stack_plain to frame place bytes v from = pointed where
       let it = in_changed (λ p. stored_cell place bytes v p.0 p.1) frame.stack 0 c there.0 there.1 there.2 in
       old_or_new n it.1 it.2 (stored_from place bytes v it.0 it.1 c n it.3 h)
 
-stored_at_plain : (to : ℕ) (frame : Frame Name) (place : Option ℕ) (bytes : ℕ) (v : Value Name) → ((n : Name) → Names (Some v) n → HasPointer frame n) → IsPlainEffect frame (rewritten to frame (stored_at place bytes v frame.stack))
+stored_at_plain : (to : ℕ) (frame : Frame Name) (place : Option ℕ) (bytes : ℕ) (v : Value Name)
+    → ((n : Name) → Names (Some v) n → HasPointer frame n)
+    → IsPlainEffect frame (rewritten to frame (stored_at place bytes v frame.stack))
 stored_at_plain to frame None bytes v from = tt
 stored_at_plain to frame (Some place) bytes v from = chosen (is_pointer v && not (is_whole_word place bytes)) where
   chosen : (t : Bool) → IsPlainEffect frame (rewritten to frame (cond t (Err PointerMisuse) (Ok (stored_cells place bytes v frame.stack))))
   chosen true = tt
   chosen false = stack_plain to frame place bytes v from
 
-written_at_plain : (to : ℕ) (frame : Frame Name) (name : Name) (place : Option ℕ) (bytes : ℕ) (v : Value Name) → IsPlainEffect frame (written_at to frame name place bytes v)
+written_at_plain : (to : ℕ) (frame : Frame Name) (name : Name) (place : Option ℕ) (bytes : ℕ) (v : Value Name)
+    → IsPlainEffect frame (written_at to frame name place bytes v)
 written_at_plain to frame name None bytes v = tt
 written_at_plain to frame name (Some place) bytes (Number m) = λ n h. h
 written_at_plain to frame name (Some place) bytes (Pointer base k) = tt
 
-object_plain : (to : ℕ) (frame : Frame Name) (name : Name) (r : Result Found Trap) (at : ℤ) (bytes : ℕ) (v : Value Name) → IsPlainEffect frame (writes_object to frame name r at bytes v)
+object_plain : (to : ℕ) (frame : Frame Name) (name : Name) (r : Result Found Trap) (at : ℤ) (bytes : ℕ) (v : Value Name)
+    → IsPlainEffect frame (writes_object to frame name r at bytes v)
 object_plain to frame name (Err trap) at bytes v = tt
 object_plain to frame name (Ok found) at bytes v = written_at_plain to frame name (place_in (length found.bytes) at bytes) bytes v
 
-through_plain : (to : ℕ) (a : Environment Name) (frame : Frame Name) (size : Size) (offset : ℤ) (base v : Value Name) → ((n : Name) → Names (Some v) n → HasPointer frame n) → IsPlainEffect frame (effect_of_store_through to a frame size offset base v)
+through_plain : (to : ℕ) (a : Environment Name) (frame : Frame Name) (size : Size) (offset : ℤ) (base v : Value Name)
+    → ((n : Name) → Names (Some v) n → HasPointer frame n)
+    → IsPlainEffect frame (effect_of_store_through to a frame size offset base v)
 through_plain to a frame size offset (Number m) v from = tt
 through_plain to a frame size offset (Pointer Stack k) v from = stored_at_plain to frame (place_of (k +ℤ offset) (bytes_in size)) (bytes_in size) v from
 through_plain to a frame size offset (Pointer Context k) v from = tt
 through_plain to a frame size offset (Pointer (Object name) k) v from = object_plain to frame name (a.object name) (k +ℤ offset) (bytes_in size) v
 
-store_plain : (to : ℕ) (a : Environment Name) (frame : Frame Name) (size : Size) (offset : ℤ) (x y : Option (Value Name)) → ((n : Name) → Names y n → HasPointer frame n) → IsPlainEffect frame (effect_of_store to a frame size offset x y)
+store_plain : (to : ℕ) (a : Environment Name) (frame : Frame Name) (size : Size) (offset : ℤ) (x y : Option (Value Name))
+    → ((n : Name) → Names y n → HasPointer frame n) → IsPlainEffect frame (effect_of_store to a frame size offset x y)
 store_plain to a frame size offset None y from = tt
 store_plain to a frame size offset (Some base) None from = tt
 store_plain to a frame size offset (Some base) (Some v) from = through_plain to a frame size offset base v from
@@ -276,7 +297,8 @@ output_plain : (m : ℕ) (frame : Frame Name) → IsPlain frame (with_output m f
 output_plain m frame n (InRegister x there h) = InRegister x there h
 output_plain m frame n (InCell c there h) = InCell c there h
 
-or_bad_plain : (frame : Frame Name) (t : Bool) (act : Act Name) (to : ℕ) (after : Frame Name) → IsPlain frame after → IsPlainEffect frame (cond t (Goes act to after) (Traps BadCall))
+or_bad_plain : (frame : Frame Name) (t : Bool) (act : Act Name) (to : ℕ) (after : Frame Name) → IsPlain frame after
+    → IsPlainEffect frame (cond t (Goes act to after) (Traps BadCall))
 or_bad_plain frame true act to after plain = plain
 or_bad_plain frame false act to after plain = tt
 
@@ -301,14 +323,17 @@ emits_plain to frame None = tt
 emits_plain to frame (Some (Number m)) = λ n h. zero_plain frame n (output_plain m (with_zero frame) n h)
 emits_plain to frame (Some (Pointer base k)) = tt
 
-exchanges_plain : (to : ℕ) (frame : Frame Name) (shelf : ℕ) (given : Option Name) (allowed : Bool) → IsPlainEffect frame (exchanges to frame shelf given allowed)
+exchanges_plain : (to : ℕ) (frame : Frame Name) (shelf : ℕ) (given : Option Name) (allowed : Bool)
+    → IsPlainEffect frame (exchanges to frame shelf given allowed)
 exchanges_plain to frame shelf given allowed = or_bad_plain frame allowed (Exchange shelf given) to (without_arguments frame) (arguments_plain frame)
 
-giving_plain : (to : ℕ) (frame : Frame Name) (known : Bool) (shelf : ℕ) (name : Name) (r : Result Found Trap) (k : ℤ) → IsPlainEffect frame (effect_of_giving to frame known shelf name r k)
+giving_plain : (to : ℕ) (frame : Frame Name) (known : Bool) (shelf : ℕ) (name : Name) (r : Result Found Trap) (k : ℤ)
+    → IsPlainEffect frame (effect_of_giving to frame known shelf name r k)
 giving_plain to frame known shelf name (Err trap) k = tt
 giving_plain to frame known shelf name (Ok found) k = exchanges_plain to frame shelf (Some name) (known && ((found.kind == shelf) && int_eq k (pos 0)))
 
-swapping_plain : (to : ℕ) (a : Environment Name) (frame : Frame Name) (known : Bool) (shelf : ℕ) (given : Value Name) → IsPlainEffect frame (effect_of_swapping to a frame known shelf given)
+swapping_plain : (to : ℕ) (a : Environment Name) (frame : Frame Name) (known : Bool) (shelf : ℕ) (given : Value Name)
+    → IsPlainEffect frame (effect_of_swapping to a frame known shelf given)
 swapping_plain to a frame known shelf (Number n) = exchanges_plain to frame shelf None (known && (n == 0))
 swapping_plain to a frame known shelf (Pointer Stack k) = tt
 swapping_plain to a frame known shelf (Pointer Context k) = tt
@@ -363,13 +388,16 @@ effect_plain (insn.Jump offset) pc a frame = jumps_plain (jump_of (insn.Jump off
 effect_plain (insn.JumpFar offset) pc a frame = jumps_plain (jump_of (insn.JumpFar offset) pc) frame
 effect_plain (insn.Branch width condition left right offset) pc a frame = branches_plain _ (jump_of (insn.Branch width condition left right offset) pc) frame (is_taken width condition right (read frame left) (source_value frame width right))
 effect_plain insn.Exit pc a frame = exits_plain frame a.holds (read frame R0)
-effect_plain (insn.Load size signed dst base offset) pc a frame = load_plain _ frame dst (loaded a frame.stack size signed offset (read frame base)) (through_points a frame.stack size signed offset (read frame base))
-effect_plain (insn.Store size base offset src) pc a frame = store_plain _ a frame size offset (read frame base) (source_value frame W64 src) (source_points frame W64 src)
+effect_plain (insn.Load size signed dst base offset) pc a frame =
+    load_plain _ frame dst (loaded a frame.stack size signed offset (read frame base)) (through_points a frame.stack size signed offset (read frame base))
+effect_plain (insn.Store size base offset src) pc a frame =
+    store_plain _ a frame size offset (read frame base) (source_value frame W64 src) (source_points frame W64 src)
 effect_plain (insn.Call number) pc a frame = calls_plain (helper_of number) _ a frame
 
 effect_at_plain : (o : Option Insn) (pc : ℕ) (a : Environment Name) (frame : Frame Name) → IsPlainEffect frame (effect_at o pc a frame)
 effect_at_plain None pc a frame = tt
 effect_at_plain (Some i) pc a frame = effect_plain i pc a frame
 
-pub plain_goes : (o : Option Insn) (pc : ℕ) (a : Environment Name) (frame : Frame Name) (act : Act Name) (to : ℕ) (after : Frame Name) → effect_at o pc a frame ≡ Goes act to after → (n : Name) → HasPointer after n → HasPointer frame n
+pub plain_goes : (o : Option Insn) (pc : ℕ) (a : Environment Name) (frame : Frame Name) (act : Act Name) (to : ℕ) (after : Frame Name)
+    → effect_at o pc a frame ≡ Goes act to after → (n : Name) → HasPointer after n → HasPointer frame n
 plain_goes o pc a frame act to after e = subst (IsPlainEffect frame) e (effect_at_plain o pc a frame)

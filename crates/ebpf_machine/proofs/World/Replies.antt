@@ -30,11 +30,14 @@ deaf v (Traps trap) is unasked = record { same = λ result other. refl; replies 
 deaf v (Goes Nothing to after) is unasked = record { same = λ result other. refl; replies = λ result. refl }
 deaf v (Goes (Write name at bytes) to after) is unasked = record { same = λ result other. refl; replies = λ result. refl }
 deaf v (Goes (Free name) to after) is unasked = record { same = λ result other. refl; replies = λ result. refl }
-deaf v (Goes (Exchange shelf given) to after) is unasked = let asked = asked_goes (insn_at v.subject.program v.pc) v.pc (environment_of_view v) v.frame (Exchange shelf given) to after is in absurd (cc)
-deaf v (Goes (Ask kind) to after) is unasked = let asked = asked_goes (insn_at v.subject.program v.pc) v.pc (environment_of_view v) v.frame (Ask kind) to after is in absurd (cc)
+deaf v (Goes (Exchange shelf given) to after) is unasked =
+    let asked = asked_goes (insn_at v.subject.program v.pc) v.pc (environment_of_view v) v.frame (Exchange shelf given) to after is in absurd (cc)
+deaf v (Goes (Ask kind) to after) is unasked =
+    let asked = asked_goes (insn_at v.subject.program v.pc) v.pc (environment_of_view v) v.frame (Ask kind) to after is in absurd (cc)
 
 pub stepped_any : (v : RunView) (result other : CallResult) → v.status ≡ Going → asking_in v ≡ Unasked → stepped result v ≡ stepped other v
-stepped_any v result other going unasked = stepped_going v result going ∙ (deaf v (effect_of_view v) refl unasked).same result other ∙ sym (stepped_going v other going)
+stepped_any v result other going unasked =
+    stepped_going v result going ∙ (deaf v (effect_of_view v) refl unasked).same result other ∙ sym (stepped_going v other going)
 
 pub replies_kept : (v : RunView) (result : CallResult) → v.status ≡ Going → asking_in v ≡ Unasked → replies_of (stepped result v) ≡ replies_of v
 replies_kept v result going unasked = ap replies_of (stepped_going v result going) ∙ (deaf v (effect_of_view v) refl unasked).replies result
@@ -63,7 +66,8 @@ stepped_heard v result kind going new = does (heard_by_new result) ∙ heard res
 abbrev pub one_told : CallResult → Replies
 one_told result = replies_from (reply_in (heard_by_new result) ∷ []) []
 
-pub replies_added : (v : RunView) (result : CallResult) (kind : ℕ) → v.status ≡ Going → AsksNew v kind → replies_of (stepped result v) ≡ more_than (replies_of v) (one_told result)
+pub replies_added : (v : RunView) (result : CallResult) (kind : ℕ) → v.status ≡ Going → AsksNew v kind
+    → replies_of (stepped result v) ≡ more_than (replies_of v) (one_told result)
 replies_added v result kind going new = ap replies_of (stepped_going v result going ∙ ap (λ (e : Effect ℕ). done_by e result v) new.does) ∙ told result where
   nothing_taken : (answers : List Reply) → replies_from answers v.taken ≡ replies_from answers (v.taken ++ [])
   nothing_taken answers = ap (replies_from answers) (sym (append-nil v.taken))
@@ -108,7 +112,8 @@ shelf_heard v result shelf going asks = does (heard_by_swap result) ∙ heard re
   heard Null = refl
   heard Granted = refl
 
-pub replies_swapped : (v : RunView) (result : CallResult) (shelf : ℕ) → v.status ≡ Going → AsksShelf v shelf → replies_of (stepped result v) ≡ more_than (replies_of v) (one_swapped result)
+pub replies_swapped : (v : RunView) (result : CallResult) (shelf : ℕ) → v.status ≡ Going → AsksShelf v shelf
+    → replies_of (stepped result v) ≡ more_than (replies_of v) (one_swapped result)
 replies_swapped v result shelf going asks = ap replies_of (stepped_going v result going ∙ ap (λ (e : Effect ℕ). done_by e result v) asks.does) ∙ told result where
   nothing_taken : (answers : List Reply) → replies_from answers v.taken ≡ replies_from answers (v.taken ++ [])
   nothing_taken answers = ap (replies_from answers) (sym (append-nil v.taken))

@@ -57,7 +57,8 @@ owned_cleared w shelf owned = by (standing w shelf) (stands w shelf) where
   by (Some o) found = let on = standing_there w shelf o found in owned_parted (emptied w shelf o) shelf o.slot (owned_emptied w shelf o owned on) (emptied_home w shelf o owned on)
 
 -- no run sees it
-view_emptied : (w : World) (shelf : ℕ) (o : Owner) (run : ℕ) (r : Running) → IsOwned w → StandsOn w shelf o → view_of (emptied w shelf o) run r ≡ view_of w run r
+view_emptied : (w : World) (shelf : ℕ) (o : Owner) (run : ℕ) (r : Running) → IsOwned w → StandsOn w shelf o
+    → view_of (emptied w shelf o) run r ≡ view_of w run r
 view_emptied w shelf o run r owned on = ap (λ (objects : List ObjectView). record (view_of w run r) { objects = objects }) same where
   apart : (p : Owner) → Contains (held_by w run) p → p.slot ≢ o.slot
   apart p among = let held = held_owner w run p among in apart_from_it w shelf o p owned on held.0 (ap (λ (h : Holder). not ((p.slot == o.slot) && is_shelf shelf h)) held.1 ∙ ap not (and_false (p.slot == o.slot)))
@@ -84,9 +85,11 @@ none_found p xs none = by (find p xs) (find_is p xs) where
 
 pub cleared_off : (w : World) (shelf : ℕ) (p : Owner) → IsOwned w → Contains (cleared shelf w).owners p → is_shelf shelf p.holder ≡ false
 cleared_off w shelf p owned = by (standing w shelf) (stands w shelf) where
-  by : (o : Option Owner) → IsFound (λ (q : Owner). is_shelf shelf q.holder) w.owners o → Contains (cleared_of o shelf w).owners p → is_shelf shelf p.holder ≡ false
+  by : (o : Option Owner) → IsFound (λ (q : Owner). is_shelf shelf q.holder) w.owners o → Contains (cleared_of o shelf w).owners p
+      → is_shelf shelf p.holder ≡ false
   by None none among = none p among
-  by (Some o) found among = false_from_ne_true (is_shelf shelf p.holder) (λ e. nothing_else w shelf o p owned (standing_there w shelf o found) among (is_shelf-own shelf p.holder e))
+  by (Some o) found among =
+      false_from_ne_true (is_shelf shelf p.holder) (λ e. nothing_else w shelf o p owned (standing_there w shelf o found) among (is_shelf-own shelf p.holder e))
 
 pub nothing_standing : (w : World) (shelf : ℕ) → IsOwned w → standing (cleared shelf w) shelf ≡ None
 nothing_standing w shelf owned = none_found (λ (p : Owner). is_shelf shelf p.holder) (cleared shelf w).owners (λ p among. cleared_off w shelf p owned among)
@@ -112,7 +115,8 @@ pub record IsRoom (w : World) (shelf slot : ℕ) : Type 0 where
   pub off : (p : Owner) → Contains w.owners p → is_shelf shelf p.holder ≡ false
   pub new : IsNew w shelf slot
 
-pub owned_shelved : (w : World) (shelf slot : ℕ) (bytes : List ℕ) → IsRoom w shelf slot → length bytes ≡ length (image_at w.kinds shelf) → IsOwned (shelved shelf slot bytes w)
+pub owned_shelved : (w : World) (shelf slot : ℕ) (bytes : List ℕ) → IsRoom w shelf slot
+    → length bytes ≡ length (image_at w.kinds shelf) → IsOwned (shelved shelf slot bytes w)
 owned_shelved w shelf slot bytes room long =
     owned_granted (with_slot_joined shelf slot w) slot shelf (Shelf shelf) bytes (owned_joined w shelf slot room.owned room.new) (joined_home w shelf slot room.owned room.new) (joined_in w shelf slot room.owned room.new) long (record {
       nothing = λ p among. off_shelf shelf p (room.off p among);
@@ -120,7 +124,8 @@ owned_shelved w shelf slot bytes room long =
       points = λ k x n at has e. absurd (shelf_is_no_run shelf k n.call e);
     })
 
-pub view_shelved : (w : World) (shelf slot run : ℕ) (bytes : List ℕ) (r : Running) → IsRoom w shelf slot → view_of (shelved shelf slot bytes w) run r ≡ view_of w run r
+pub view_shelved : (w : World) (shelf slot run : ℕ) (bytes : List ℕ) (r : Running) → IsRoom w shelf slot
+    → view_of (shelved shelf slot bytes w) run r ≡ view_of w run r
 view_shelved w shelf slot run bytes r room =
     ap (λ (objects : List ObjectView). record (view_of (with_slot_joined shelf slot w) run r) { objects = objects }) same
     ∙ view_joined w run shelf slot r room.owned room.new
@@ -139,8 +144,10 @@ find_last {X} p (x ∷ xs) y none passes =
     let away = none x (Contains-head x xs) in
     rw away (find_last p xs y (λ z among. none z (Contains-tail x z xs among)) passes)
 
-pub standing_new : (w : World) (shelf slot : ℕ) (bytes : List ℕ) → IsRoom w shelf slot → standing (shelved shelf slot bytes w) shelf ≡ Some (owned_by slot (Shelf shelf))
-standing_new w shelf slot bytes room = find_last (λ (p : Owner). is_shelf shelf p.holder) w.owners (owned_by slot (Shelf shelf)) room.off (eq-eqb shelf shelf refl)
+pub standing_new : (w : World) (shelf slot : ℕ) (bytes : List ℕ) → IsRoom w shelf slot
+    → standing (shelved shelf slot bytes w) shelf ≡ Some (owned_by slot (Shelf shelf))
+standing_new w shelf slot bytes room =
+    find_last (λ (p : Owner). is_shelf shelf p.holder) w.owners (owned_by slot (Shelf shelf)) room.off (eq-eqb shelf shelf refl)
 
 pub bytes_new : (w : World) (shelf slot : ℕ) (bytes : List ℕ) → (shelved shelf slot bytes w).bytes slot ≡ bytes
 bytes_new w shelf slot bytes = let here = eq-eqb slot slot refl in rw here refl

@@ -35,7 +35,8 @@ find_pushed p (x ∷ xs) y fails = ap (λ (rest : Option _). cond (p x) (Some x)
 find_filtered : {X : Type 0} (p q : X → Bool) (xs : List X) → ((x : X) → p x ≡ true → q x ≡ true) → find p (filter q xs) ≡ find p xs
 find_filtered p q [] stays = refl
 find_filtered {X} p q (x ∷ xs) stays = by (p x) (q x) refl refl (stays x) (find_filtered p q xs stays) where
-  by : (s t : Bool) → p x ≡ s → q x ≡ t → (p x ≡ true → q x ≡ true) → find p (filter q xs) ≡ find p xs → find p (cond t (x ∷ filter q xs) (filter q xs)) ≡ cond s (Some x) (find p xs)
+  by : (s t : Bool) → p x ≡ s → q x ≡ t → (p x ≡ true → q x ≡ true) → find p (filter q xs) ≡ find p xs
+      → find p (cond t (x ∷ filter q xs) (filter q xs)) ≡ cond s (Some x) (find p xs)
   by s true here kept stays rest = ap (λ (u : Bool). cond u (Some x) (find p (filter q xs))) here ∙ ap (λ (o : Option X). cond s (Some x) o) rest
   by true false here kept stays rest = let yes = stays here in absurd (cc)
   by false false here kept stays rest = rest
@@ -67,25 +68,31 @@ standing_fetched : (w : World) (o : Owner) (run at k shelf : ℕ) → shelf ≢ 
 standing_fetched w o run at k shelf ne = standing_granted (without_shelved o.slot k w) run at o.slot shelf ∙ standing_unshelved w o.slot k shelf ne
 
 standing_elsewhere : (w : World) (slot k shelf : ℕ) → shelf ≢ k → standing (with_owner slot (Shelf k) w) shelf ≡ standing w shelf
-standing_elsewhere w slot k shelf ne = find_pushed (λ (o : Owner). is_shelf shelf o.holder) w.owners (owned_by slot (Shelf k)) (ne_eqb k shelf (λ e. ne (sym e)))
+standing_elsewhere w slot k shelf ne =
+    find_pushed (λ (o : Owner). is_shelf shelf o.holder) w.owners (owned_by slot (Shelf k)) (ne_eqb k shelf (λ e. ne (sym e)))
 
 -- where nothing stands on a shelf, what is put there does
-standing_put : (w : World) (slot k : ℕ) → ((p : Owner) → Contains w.owners p → is_shelf k p.holder ≡ false) → standing (with_owner slot (Shelf k) w) k ≡ Some (owned_by slot (Shelf k))
+standing_put : (w : World) (slot k : ℕ) → ((p : Owner) → Contains w.owners p → is_shelf k p.holder ≡ false)
+    → standing (with_owner slot (Shelf k) w) k ≡ Some (owned_by slot (Shelf k))
 standing_put w slot k off = find_last (λ (o : Owner). is_shelf k o.holder) w.owners (owned_by slot (Shelf k)) off (eq-eqb k k refl)
 
 -- ---- and its bytes
 
 -- the same slot with the same bytes
-shelf_stays : (w v : World) (shelf : ℕ) → standing v shelf ≡ standing w shelf → ((o : Owner) → Contains w.owners o → o.holder ≡ Shelf shelf → v.bytes o.slot ≡ w.bytes o.slot) → shelved_in v shelf ≡ shelved_in w shelf
+shelf_stays : (w v : World) (shelf : ℕ) → standing v shelf ≡ standing w shelf
+    → ((o : Owner) → Contains w.owners o → o.holder ≡ Shelf shelf → v.bytes o.slot ≡ w.bytes o.slot)
+    → shelved_in v shelf ≡ shelved_in w shelf
 shelf_stays w v shelf same kept = ap (option_map (λ (o : Owner). shelved_at v o.slot)) same ∙ by (standing w shelf) (stands w shelf) where
-  by : (o : Option Owner) → IsFound (λ (p : Owner). is_shelf shelf p.holder) w.owners o → option_map (λ (p : Owner). shelved_at v p.slot) o ≡ option_map (λ (p : Owner). shelved_at w p.slot) o
+  by : (o : Option Owner) → IsFound (λ (p : Owner). is_shelf shelf p.holder) w.owners o
+      → option_map (λ (p : Owner). shelved_at v p.slot) o ≡ option_map (λ (p : Owner). shelved_at w p.slot) o
   by None none = refl
   by (Some o) found =
       let on = standing_there w shelf o found in
       ap (λ (bytes : List ℕ). Some (record { slot = o.slot; bytes = bytes })) (kept o on.among on.holder)
 
 -- what a run has is in another slot than what stands on a shelf
-apart_from_shelf : (w : World) (run : ℕ) (name : Name) (shelf : ℕ) (o : Owner) → IsOwned w → Contains w.owners (owner_of run name) → Contains w.owners o → o.holder ≡ Shelf shelf → o.slot ≢ name.slot
+apart_from_shelf : (w : World) (run : ℕ) (name : Name) (shelf : ℕ) (o : Owner) → IsOwned w → Contains w.owners (owner_of run name)
+    → Contains w.owners o → o.holder ≡ Shelf shelf → o.slot ≢ name.slot
 apart_from_shelf w run name shelf o owned own among on e = shelf_is_no_run shelf run name.call (sym on ∙ holder_of_slot w run name o owned own among e)
 
 bytes_elsewhere : (w : World) (slot : ℕ) (bytes : List ℕ) (s : ℕ) → s ≢ slot → (with_bytes slot bytes w).bytes s ≡ w.bytes s
@@ -93,14 +100,18 @@ bytes_elsewhere w slot bytes s ne = let apart = ne_eqb s slot ne in rw apart ref
 
 -- ---- an act
 
-shelf_written : (w v : World) (run : ℕ) (name : Name) (bytes : List ℕ) (shelf : ℕ) → IsOwned w → Contains w.owners (owner_of run name) → standing v shelf ≡ standing w shelf → v.bytes ≡ w.bytes → shelved_in (with_bytes name.slot bytes v) shelf ≡ shelved_in w shelf
+shelf_written : (w v : World) (run : ℕ) (name : Name) (bytes : List ℕ) (shelf : ℕ) → IsOwned w
+    → Contains w.owners (owner_of run name) → standing v shelf ≡ standing w shelf → v.bytes ≡ w.bytes
+    → shelved_in (with_bytes name.slot bytes v) shelf ≡ shelved_in w shelf
 shelf_written w v run name bytes shelf owned own same old =
     shelf_stays w (with_bytes name.slot bytes v) shelf same
     (λ o among on. bytes_elsewhere v name.slot bytes o.slot (apart_from_shelf w run name shelf o owned own among on) ∙ ap (λ (f : ℕ → List ℕ). f o.slot) old)
 
-shelf_granted : (w : World) (run : ℕ) (r : Running) (slot to kind : ℕ) (frame : Frame Name) (shelf : ℕ) → is_home w slot ≡ true → shelved_in (granted slot w run r to frame kind) shelf ≡ shelved_in w shelf
+shelf_granted : (w : World) (run : ℕ) (r : Running) (slot to kind : ℕ) (frame : Frame Name) (shelf : ℕ) → is_home w slot ≡ true
+    → shelved_in (granted slot w run r to frame kind) shelf ≡ shelved_in w shelf
 shelf_granted w run r slot to kind frame shelf home = by (nat_le r.subject.decl.held (holds_of w run)) where
-  by : (t : Bool) → shelved_in (cond t (with_run w run (trapped TooManyObjects r)) (with_owner slot (Run run r.pc) (with_bytes slot (image_at w.kinds kind) (with_run w run (replied kind reply.Granted (Pointer (Object (name_of slot r.pc)) (pos 0)) to frame r))))) shelf ≡ shelved_in w shelf
+  by : (t : Bool)
+      → shelved_in (cond t (with_run w run (trapped TooManyObjects r)) (with_owner slot (Run run r.pc) (with_bytes slot (image_at w.kinds kind) (with_run w run (replied kind reply.Granted (Pointer (Object (name_of slot r.pc)) (pos 0)) to frame r))))) shelf ≡ shelved_in w shelf
   by true = refl
   by false =
       let after = with_owner slot (Run run r.pc) (with_bytes slot (image_at w.kinds kind) w) in
@@ -109,7 +120,8 @@ shelf_granted w run r slot to kind frame shelf home = by (nat_le r.subject.decl.
 -- ---- an exchange
 
 -- what is given stands on the shelf, where nothing stood there; other shelves are as they were
-shelf_put : (w v : World) (run k : ℕ) (given : Option Name) → ((p : Owner) → Contains v.owners p → p.holder ≢ Shelf k) → ((shelf : ℕ) → shelf ≢ k → standing v shelf ≡ standing w shelf) → v.bytes ≡ w.bytes
+shelf_put : (w v : World) (run k : ℕ) (given : Option Name) → ((p : Owner) → Contains v.owners p → p.holder ≢ Shelf k)
+    → ((shelf : ℕ) → shelf ≢ k → standing v shelf ≡ standing w shelf) → v.bytes ≡ w.bytes
     → (shelf : ℕ) → shelved_in (put_on given k run v) shelf ≡ cond (shelf == k) (shelved_given w given) (shelved_in w shelf)
 shelf_put w v run k given nobody elsewhere bytes shelf = by (cases_eq shelf k) where
   off : (p : Owner) → Contains v.owners p → is_shelf k p.holder ≡ false
@@ -134,18 +146,23 @@ shelf_put w v run k given nobody elsewhere bytes shelf = by (cases_eq shelf k) w
   by (inr ne) = let apart = ne_eqb shelf k ne in rw apart (away given ne)
 
 -- an exchange of a run that has room does not trap
-has_room : (w : World) (run : ℕ) (r : Running) (k : ℕ) (given : Option Name) → IsOwned w → IsOwnGiven w run k given → HasRoom (view_of w run r) (Exchange k (call_given given)) → nat_le r.subject.decl.held (holds_of (put_on given k run w) run) ≡ false
+has_room : (w : World) (run : ℕ) (r : Running) (k : ℕ) (given : Option Name) → IsOwned w → IsOwnGiven w run k given
+    → HasRoom (view_of w run r) (Exchange k (call_given given))
+    → nat_le r.subject.decl.held (holds_of (put_on given k run w) run) ≡ false
 has_room w run r k given owned own room =
     let many : holds_of (put_on given k run w) run ≡ length (without_given (call_given given) (objects_of w run)) =
     ap (λ (os : List Owner). length os) (held_put w run k given (given_slot w run k given owned own)) ∙ sym (length-map (held_without given (held_by w run)) (object_in w)) ∙ ap (λ (os : List ObjectView). length os) (objects_left w given (held_by w run)) in
     let few = room.1 in
     grind (arith, nat_tests)
 
-shelf_exchanged : (w : World) (run : ℕ) (r : Running) (to k : ℕ) (frame : Frame Name) (given : Option Name) → IsOwned w → IsOwnGiven w run k given → HasRoom (view_of w run r) (Exchange k (call_given given))
+shelf_exchanged : (w : World) (run : ℕ) (r : Running) (to k : ℕ) (frame : Frame Name) (given : Option Name) → IsOwned w
+    → IsOwnGiven w run k given → HasRoom (view_of w run r) (Exchange k (call_given given))
     → (shelf : ℕ) → shelved_in (exchanged (standing w k) w run r to frame k given) shelf ≡ cond (shelf == k) (shelved_given w given) (shelved_in w shelf)
 shelf_exchanged w run r to k frame given owned own room shelf = by (standing w k) (stands w k) where
-  by : (o : Option Owner) → IsFound (λ (p : Owner). is_shelf k p.holder) w.owners o → shelved_in (exchanged o w run r to frame k given) shelf ≡ cond (shelf == k) (shelved_given w given) (shelved_in w shelf)
-  by None none = shelf_put w (with_run w run (replied k reply.Empty (Number 0) to frame r)) run k given (λ p among. off_shelf k p (none p among)) (λ s ne. refl) refl shelf
+  by : (o : Option Owner) → IsFound (λ (p : Owner). is_shelf k p.holder) w.owners o
+      → shelved_in (exchanged o w run r to frame k given) shelf ≡ cond (shelf == k) (shelved_given w given) (shelved_in w shelf)
+  by None none =
+      shelf_put w (with_run w run (replied k reply.Empty (Number 0) to frame r)) run k given (λ p among. off_shelf k p (none p among)) (λ s ne. refl) refl shelf
   by (Some o) found =
       let on = standing_there w k o found in
       let fits = has_room w run r k given owned own room in
@@ -165,7 +182,8 @@ pub shelves_done : (w : World) (run : ℕ) (r : Running) (e : Effect Name) (answ
 shelves_done w run r (Ends n) answer owned own room shelf = refl
 shelves_done w run r (Traps trap) answer owned own room shelf = refl
 shelves_done w run r (Goes Nothing to frame) answer owned own room shelf = refl
-shelves_done w run r (Goes (Write name at bytes) to frame) answer owned own room shelf = shelf_written w (with_run w run (moved_to to frame r)) run name (patched (w.bytes name.slot) at bytes) shelf owned own.0 refl refl
+shelves_done w run r (Goes (Write name at bytes) to frame) answer owned own room shelf =
+    shelf_written w (with_run w run (moved_to to frame r)) run name (patched (w.bytes name.slot) at bytes) shelf owned own.0 refl refl
 shelves_done w run r (Goes (Free name) to frame) answer owned own room shelf =
     shelf_written w (without_owner run name (with_run w run (moved_to to frame r))) run name (image_at w.kinds (kind_in w name.slot)) shelf owned own (standing_given w run name shelf) refl
 shelves_done w run r (Goes (Exchange k given) to frame) answer owned own room shelf = shelf_exchanged w run r to k frame given owned own.1 room shelf
@@ -176,7 +194,8 @@ shelves_done w run r (Goes (Ask kind) to frame) (Slot slot) owned own room shelf
 -- ---- as the run sees it
 
 -- the run finds what it gives by its call
-given_found : (w : World) (run k : ℕ) (given : Option Name) → IsOwned w → IsOwnGiven w run k given → shelved_given w (name_given (slots_in w run) (call_given given)) ≡ shelved_given w given
+given_found : (w : World) (run k : ℕ) (given : Option Name) → IsOwned w → IsOwnGiven w run k given
+    → shelved_given w (name_given (slots_in w run) (call_given given)) ≡ shelved_given w given
 given_found w run k None owned own = refl
 given_found w run k (Some name) owned own =
     ap (shelved_given w) (find-map (λ (n : Name). n.call == name.call) slot_held (held_by w run))
@@ -195,11 +214,13 @@ given_found w run k (Some name) owned own =
         let its = eq-eqb name.call name.call refl in
         absurd (cc)
 
-pub standing_alike : (w : World) (run : ℕ) (e : Effect Name) (answer : Answer) → IsOwned w → IsOwnEffect w run answer e → (shelf : ℕ) → standing_then w e shelf ≡ standing_seen w (slots_in w run) (effect_seen e) shelf
+pub standing_alike : (w : World) (run : ℕ) (e : Effect Name) (answer : Answer) → IsOwned w → IsOwnEffect w run answer e
+    → (shelf : ℕ) → standing_then w e shelf ≡ standing_seen w (slots_in w run) (effect_seen e) shelf
 standing_alike w run (Ends n) answer owned own shelf = refl
 standing_alike w run (Traps trap) answer owned own shelf = refl
 standing_alike w run (Goes Nothing to frame) answer owned own shelf = refl
 standing_alike w run (Goes (Write name at bytes) to frame) answer owned own shelf = refl
 standing_alike w run (Goes (Ask kind) to frame) answer owned own shelf = refl
 standing_alike w run (Goes (Free name) to frame) answer owned own shelf = refl
-standing_alike w run (Goes (Exchange k given) to frame) answer owned own shelf = ap (λ (what : Option Shelved). cond (shelf == k) what (shelved_in w shelf)) (sym (given_found w run k given owned own.1))
+standing_alike w run (Goes (Exchange k given) to frame) answer owned own shelf =
+    ap (λ (what : Option Shelved). cond (shelf == k) what (shelved_in w shelf)) (sym (given_found w run k given owned own.1))

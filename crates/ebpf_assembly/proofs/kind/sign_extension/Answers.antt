@@ -19,4 +19,5 @@ pub returns-in-movs32_64 : goal.returns-in-movs32_64
 returns-in-movs32_64 c = (refl, c.in-movs32_64.is ∙ sym (move_32 W64))
 
 pub returns-in_default : goal.returns-in_default
-returns-in_default c = no_move _ c.in_default.not-movs8_32 c.in_default.not-movs16_32 c.in_default.not-movs8_64 c.in_default.not-movs16_64 c.in_default.not-movs32_64
+returns-in_default c =
+    no_move _ c.in_default.not-movs8_32 c.in_default.not-movs16_32 c.in_default.not-movs8_64 c.in_default.not-movs16_64 c.in_default.not-movs32_64

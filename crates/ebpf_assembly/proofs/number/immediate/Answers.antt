@@ -5,7 +5,8 @@ pub returns-in_err-first : goal.returns-in_err-first
 returns-in_err-first c = rw c.from_residual.ensures (immediate_empty _ c.in_err-first.ensures.cases)
 
 pub returns-in_err-number : goal.returns-in_err-number
-returns-in_err-number c = rw c.from_residual-in_err-number.ensures (minus_unread _ _ _ c.in_ok-first.ensures.cases.0 c.if-first-eq45.true c.in_err-number.ensures)
+returns-in_err-number c =
+    rw c.from_residual-in_err-number.ensures (minus_unread _ _ _ c.in_ok-first.ensures.cases.0 c.if-first-eq45.true c.in_err-number.ensures)
 
 pub returns-then-first-eq45 : goal.returns-then-first-eq45
 returns-then-first-eq45 c =

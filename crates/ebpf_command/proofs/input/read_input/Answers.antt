@@ -11,7 +11,8 @@ returns-then-n-eq0-clause-read g c =
 
 pub reading-preserved : goal.reading-preserved
 reading-preserved g c =
-    let grown = Consumes-chunk _ _ _ _ _ _ _ c.in-Ok.n c.in-Ok.ensures.bound.0 c.reading.invariant.0 c.in-Ok.ensures.bytes.0 c.in_ok-extend_from_slice.ensures.items in
+    let grown =
+    Consumes-chunk _ _ _ _ _ _ _ c.in-Ok.n c.in-Ok.ensures.bound.0 c.reading.invariant.0 c.in-Ok.ensures.bytes.0 c.in_ok-extend_from_slice.ensures.items in
     let want = c.min-want.ensures in let kept = c.read.auto.buf in let len = c.len-in-reading.ensures in let fits = c.in-Ok.ensures.bound.0 in let chunk = c.reading.invariant.1 in
     (grown.0, grind (arith, common_steps), grind (arith, common_steps))
 

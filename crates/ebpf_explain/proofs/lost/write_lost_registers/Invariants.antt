@@ -5,4 +5,5 @@ use Rattle.ebpf_explain.specs.declared.lost.Place.TheVariants.{Register}
 use Rattle.ebpf_explain.proofs.lost.write_lost_registers.Given as goal
 
 abbrev pub invariant-loop-register : goal.invariant-loop-register
-invariant-loop-register l = string_bytes l.text ≡ string_bytes l.fn.text ++ flat_map (λ r. lost_at (Register r) l.comers l.joined) (take l.register-index l.registers)
+invariant-loop-register l =
+    string_bytes l.text ≡ string_bytes l.fn.text ++ flat_map (λ r. lost_at (Register r) l.comers l.joined) (take l.register-index l.registers)

@@ -8,4 +8,5 @@ pub loop-number-init : goal.loop-number-init
 loop-number-init c = no_text _ _
 
 pub loop-number-preserved : goal.loop-number-preserved
-loop-number-preserved c = one_text _ _ _ _ _ _ (ap (λ (word : Word). stack_word c.loop-number.number word) c.word.ensures.value) c.loop-number.invariant c.in_ok-write_word.ensures
+loop-number-preserved c =
+    one_text _ _ _ _ _ _ (ap (λ (word : Word). stack_word c.loop-number.number word) c.word.ensures.value) c.loop-number.invariant c.in_ok-write_word.ensures

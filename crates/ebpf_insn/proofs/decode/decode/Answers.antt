@@ -44,8 +44,10 @@ pub loop-slot-preserved-then-is_second_half : goal.loop-slot-preserved-then-is_s
 loop-slot-preserved-then-is_second_half c =
     let half : c.loop-slot.is_second_half ≡ true = c.if-is_second_half.true in
     let read : IsReadSoFar c.args.bytes.now c.loop-slot.slot c.loop-slot.slots.items true = rw half at c.loop-slot.invariant.read in
-    let parts : instructions (c.loop-slot.slots.items ++ None ∷ []) ≡ instructions c.loop-slot.slots.items = instructions-append c.loop-slot.slots.items (None ∷ []) ∙ append-nil (instructions c.loop-slot.slots.items) in
-    let fine : fault_at c.args.bytes.now c.loop-slot.slot ≡ None = fault_at_is c.args.bytes.now c.loop-slot.slot None c.if-slot-eq-MAX_SLOTS.false (half_fault c.args.bytes.now c.loop-slot.slot read.here) in
+    let parts : instructions (c.loop-slot.slots.items ++ None ∷ []) ≡ instructions c.loop-slot.slots.items =
+    instructions-append c.loop-slot.slots.items (None ∷ []) ∙ append-nil (instructions c.loop-slot.slots.items) in
+    let fine : fault_at c.args.bytes.now c.loop-slot.slot ≡ None =
+    fault_at_is c.args.bytes.now c.loop-slot.slot None c.if-slot-eq-MAX_SLOTS.false (half_fault c.args.bytes.now c.loop-slot.slot read.here) in
     record {
       even = c.loop-slot.invariant.even;
       few = let few : c.loop-slot.slot ≤ 4096 = c.loop-slot.invariant.few in let below : c.loop-slot.slot ≢ 4096 = c.if-slot-eq-MAX_SLOTS.false in omega arith;
@@ -81,7 +83,8 @@ loop-slot-preserved c =
     let here = c.in-Ok.ensures.found in
     let first : c.loop-slot.is_second_half ≡ false = c.if-is_second_half.false in
     let read : IsReadSoFar c.args.bytes.now c.loop-slot.slot c.loop-slot.slots.items false = rw first at c.loop-slot.invariant.read in
-    let parts : instructions (c.loop-slot.slots.items ++ Some c.in-Ok.insn ∷ []) ≡ instructions c.loop-slot.slots.items ++ c.in-Ok.insn ∷ [] = instructions-append c.loop-slot.slots.items (Some c.in-Ok.insn ∷ []) in
+    let parts : instructions (c.loop-slot.slots.items ++ Some c.in-Ok.insn ∷ []) ≡ instructions c.loop-slot.slots.items ++ c.in-Ok.insn ∷ [] =
+    instructions-append c.loop-slot.slots.items (Some c.in-Ok.insn ∷ []) in
     record {
       even = c.loop-slot.invariant.even;
       few = let few : c.loop-slot.slot ≤ 4096 = c.loop-slot.invariant.few in let below : c.loop-slot.slot ≢ 4096 = c.if-slot-eq-MAX_SLOTS.false in omega arith;

@@ -34,7 +34,8 @@ pub returns-else-is_left_out-clause-fault : goal.returns-else-is_left_out-clause
 returns-else-is_left_out-clause-fault c = fault_no_form c.args.slot (second_at c.args.bytes.now) (sym c.in_default.is ∙ c.requires) c.if-is_left_out.ensures
 
 pub returns-then-has_left_out_source-clause-fault : goal.returns-then-has_left_out_source-clause-fault
-returns-then-has_left_out_source-clause-fault c = fault_source c.in-Some.form c.args.slot (second_at c.args.bytes.now) (sym c.in-Some.is ∙ c.requires) c.if-has_left_out_source.ensures
+returns-then-has_left_out_source-clause-fault c =
+    fault_source c.in-Some.form c.args.slot (second_at c.args.bytes.now) (sym c.in-Some.is ∙ c.requires) c.if-has_left_out_source.ensures
 
 pub returns-in_default-2-2-clause-fault : goal.returns-in_default-2-2-clause-fault
 returns-in_default-2-2-clause-fault c = fault_dst c.in-Some.form c.args.slot (second_at c.args.bytes.now) (sym c.in-Some.is ∙ c.requires) c.if-has_left_out_source.ensures (sym c.new.ensures ∙ c.in_default-2.is-0)

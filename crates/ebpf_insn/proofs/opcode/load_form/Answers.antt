@@ -8,7 +8,8 @@ pub returns-in-3 : goal.returns-in-3
 returns-in-3 c = sym (form_found c.args.opcode (form.Load c.size-size.result false) refl (omega (arith, c.size-size.ensures, c.in-3.is, c.requires)))
 
 pub returns-in-4 : goal.returns-in-4
-returns-in-4 c = sym (form_found c.args.opcode (form.Load c.size-size.result true) (grind (arith, nat_tests)) (omega (arith, c.size-size.ensures, c.in-4.is, c.requires)))
+returns-in-4 c =
+    sym (form_found c.args.opcode (form.Load c.size-size.result true) (grind (arith, nat_tests)) (omega (arith, c.size-size.ensures, c.in-4.is, c.requires)))
 
 pub returns-in_default : goal.returns-in_default
 returns-in_default c = sym (no_form c.args.opcode (search rules) (grind (arith, nat_tests)))

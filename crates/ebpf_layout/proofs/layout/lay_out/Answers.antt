@@ -65,7 +65,8 @@ returns-then-branch-clause-laid_out c =
     subst (λ (q : List (Option Insn)). IsLaidOut p q) (sym c.in_ok-copy_of.ensures) (kept p c.slots.ensures.formed (c.in_ok-is_in_order.ensures.yes c.if-branch.true))
 
 pub returns-then-branch-clause-fine : goal.returns-then-branch-clause-fine
-returns-then-branch-clause-fine c = subst (λ (q : List (Option Insn)). flow_fault q ≡ None) (sym c.in_ok-copy_of.ensures) (c.in_ok-is_in_order.ensures.yes c.if-branch.true)
+returns-then-branch-clause-fine c =
+    subst (λ (q : List (Option Insn)). flow_fault q ≡ None) (sym c.in_ok-copy_of.ensures) (c.in_ok-is_in_order.ensures.yes c.if-branch.true)
 
 pub returns-then-branch-clause-alike : goal.returns-then-branch-clause-alike
 returns-then-branch-clause-alike c =

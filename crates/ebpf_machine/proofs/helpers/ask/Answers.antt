@@ -20,7 +20,8 @@ pub take-requires-clause-at : goal.take-requires-clause-at
 take-requires-clause-at g c = ready_inside _ _ _ c.requires.ready
 
 pub take-requires-clause-kind : goal.take-requires-clause-kind
-take-requires-clause-kind g c = kind_there _ _ _ g.O.Objects.store.kinds _ (asking _ _ _ _ c.requires.ready c.requires.at c.number-kind.ensures) c.requires.kinds
+take-requires-clause-kind g c =
+    kind_there _ _ _ g.O.Objects.store.kinds _ (asking _ _ _ _ c.requires.ready c.requires.at c.number-kind.ensures) c.requires.kinds
 
 pub hold-requires-clause-held : goal.hold-requires-clause-held
 hold-requires-clause-held g c =
@@ -36,10 +37,12 @@ pub hold-requires-clause-called : goal.hold-requires-clause-called
 hold-requires-clause-called g c = ap is_call_there c.requires.at.at
 
 pub answer-requires-clause-few : goal.answer-requires-clause-few
-answer-requires-clause-few g c = let few = ready_few _ _ _ c.requires.ready in let same = ap (λ (r : RunState _). r.executed) c.hold.ensures.state in omega (arith, few, same)
+answer-requires-clause-few g c =
+    let few = ready_few _ _ _ c.requires.ready in let same = ap (λ (r : RunState _). r.executed) c.hold.ensures.state in omega (arith, few, same)
 
 pub answer-requires-clause-inside : goal.answer-requires-clause-inside
-answer-requires-clause-inside g c = let inside = ready_inside _ _ _ c.requires.ready in let same = ap (λ (r : RunState _). r.pc) c.hold.ensures.state in omega (arith, inside, same)
+answer-requires-clause-inside g c =
+    let inside = ready_inside _ _ _ c.requires.ready in let same = ap (λ (r : RunState _). r.pc) c.hold.ensures.state in omega (arith, inside, same)
 
 pub push_reserved-requires : goal.push_reserved-requires
 push_reserved-requires g c =
@@ -79,4 +82,5 @@ returns-in-Some-clause-next g c = (
 )
 
 pub returns-in-None-clause-next : goal.returns-in-None-clause-next
-returns-in-None-clause-next g c = (ap (λ (r : RunState _). r.pc) c.answer-in-None.ensures.state, ap (λ (r : RunState _). r.exit) c.answer-in-None.ensures.state ∙ c.requires.ready.going)
+returns-in-None-clause-next g c =
+    (ap (λ (r : RunState _). r.pc) c.answer-in-None.ensures.state, ap (λ (r : RunState _). r.exit) c.answer-in-None.ensures.state ∙ c.requires.ready.going)

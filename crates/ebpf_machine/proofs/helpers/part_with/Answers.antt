@@ -10,7 +10,8 @@ returns-clause-parted g c =
     let h = c.remove-object.result in
     let place = c.place_of-place.result in
     let inside : place < length c.args.parts.now.held.items = subst (λ (hs : List (Holding _)). place < length hs) items c.place_of-place.ensures.inside in
-    let named : (get_or c.args.parts.now.held.items place h).call ≡ c.in-Some.call = subst (λ (hs : List (Holding _)). (get_or hs place h).call ≡ c.in-Some.call) items (c.place_of-place.ensures.value h) in
+    let named : (get_or c.args.parts.now.held.items place h).call ≡ c.in-Some.call =
+    subst (λ (hs : List (Holding _)). (get_or hs place h).call ≡ c.in-Some.call) items (c.place_of-place.ensures.value h) in
     let same : c.in-Some.call ≡ h.call = sym named ∙ ap (λ (x : Holding _). x.call) (sym c.remove-object.ensures.value) in (
       h,
       refl,

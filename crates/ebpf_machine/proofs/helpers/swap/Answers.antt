@@ -27,7 +27,8 @@ pub part_with-given-requires-clause-held : goal.part_with-given-requires-clause-
 part_with-given-requires-clause-held g c = given_held _ _ _ _ (swaps g (goal.at.part_with-given-requires-clause-held g c).After-number-shelf)
 
 pub swap-requires-clause-shelf : goal.swap-requires-clause-shelf
-swap-requires-clause-shelf g c = shelf_there _ _ _ g.O.Objects.store.kinds _ (swaps g (goal.at.swap-requires-clause-shelf g c).After-number-shelf) c.requires.kinds
+swap-requires-clause-shelf g c =
+    shelf_there _ _ _ g.O.Objects.store.kinds _ (swaps g (goal.at.swap-requires-clause-shelf g c).After-number-shelf) c.requires.kinds
 
 pub swap-requires-clause-at : goal.swap-requires-clause-at
 swap-requires-clause-at g c = ready_inside _ _ _ c.requires.ready
@@ -36,14 +37,17 @@ pub swap-requires-clause-given : goal.swap-requires-clause-given
 swap-requires-clause-given g c = given_fits _ _ _ _ _ _ (swaps g (goal.at.swap-requires-clause-given g c).After-number-shelf) c.part_with-given.ensures.parted
 
 -- the run without what it gave
-left : (g : Over) (c : After-part_with-given g) → state_of c.part_with-given.new.parts ≡ record (state_of c.args.parts.now) { held = c.part_with-given.new.parts.held.items }
+left : (g : Over) (c : After-part_with-given g)
+    → state_of c.part_with-given.new.parts ≡ record (state_of c.args.parts.now) { held = c.part_with-given.new.parts.held.items }
 left g c = parted_state _ _ _ c.part_with-given.ensures.parted
 
 -- the call still stands at its pc
-called : (g : Over) (c : After-part_with-given g) → insn_at c.part_with-given.new.parts.verified.now.program c.part_with-given.new.parts.pc ≡ Some (Call c.requires.at.number)
+called : (g : Over) (c : After-part_with-given g)
+    → insn_at c.part_with-given.new.parts.verified.now.program c.part_with-given.new.parts.pc ≡ Some (Call c.requires.at.number)
 called g c = ap (λ (x : RunState _). insn_at x.subject.program x.pc) (left g c) ∙ c.requires.at.at
 
-swapped : (g : Over) (c : After-swap g) → IsSwapped g.O.Objects.store c.number-shelf.result c.part_with-given.result c.swap.result c.args.objects.now c.swap.new.self
+swapped : (g : Over) (c : After-swap g)
+    → IsSwapped g.O.Objects.store c.number-shelf.result c.part_with-given.result c.swap.result c.args.objects.now c.swap.new.self
 swapped g c = record { goes = c.swap.ensures.goes; outs = c.swap.ensures.outs; gone = c.swap.ensures.gone; others = c.swap.ensures.others; shelves = c.swap.ensures.shelves }
 
 pub keep-requires-clause-few : goal.keep-requires-clause-few
@@ -137,7 +141,8 @@ returns-in-None-clause-advanced g c =
     (miss_advanced g.O.Objects.store (state_of c.args.parts.now) (state_of t) c.args.objects.now c.swap.new.self c.number-shelf.result c.part_with-given.result it c.part_with-given.ensures.parted swap c.in-None.ensures.missed)
 
 -- the run after it parted with an object
-parted_there : (g : Over) (c : After-part_with-given g) → (c.part_with-given.new.parts.pc ≡ c.args.parts.now.pc) × (c.part_with-given.new.parts.exit ≡ c.args.parts.now.exit)
+parted_there : (g : Over) (c : After-part_with-given g)
+    → (c.part_with-given.new.parts.pc ≡ c.args.parts.now.pc) × (c.part_with-given.new.parts.exit ≡ c.args.parts.now.exit)
 parted_there g c = (ap (λ (r : RunState _). r.pc) (left g c), ap (λ (r : RunState _). r.exit) (left g c))
 
 pub returns-in-Some-clause-next : goal.returns-in-Some-clause-next

@@ -6,7 +6,8 @@ pub returns-then-is_whole_word-clause-pointing : goal.returns-then-is_whole_word
 returns-then-is_whole_word-clause-pointing c = λ word. whole_words c.args.pointing.now c.args.place c.args.count word c.told-pointing c.requires.inside (sym c.is_whole_word.ensures ∙ c.if-is_whole_word.true)
 
 pub returns-then-is_whole_word-clause-set : goal.returns-then-is_whole_word-clause-set
-returns-then-is_whole_word-clause-set c = λ i lt outside. whole_flags c.args.set.now c.args.pointing.now c.args.place c.args.count i (sym c.is_whole_word.ensures ∙ c.if-is_whole_word.true) outside
+returns-then-is_whole_word-clause-set c =
+    λ i lt outside. whole_flags c.args.set.now c.args.pointing.now c.args.place c.args.count i (sym c.is_whole_word.ensures ∙ c.if-is_whole_word.true) outside
 
 pub returns-else-is_whole_word-clause-pointing : goal.returns-else-is_whole_word-clause-pointing
 returns-else-is_whole_word-clause-pointing c = λ word. forgotten_words c.args.pointing.now c.forget_word.new.pointing c.forget_word-else-is_whole_word.new.pointing _ _ word c.forget_word.ensures.pointing c.forget_word-else-is_whole_word.ensures.pointing

@@ -11,7 +11,8 @@ pub run-requires-clause-out : goal.run-requires-clause-out
 run-requires-clause-out g c = (starts g.O.Objects.store c.args.objects.now _ _ c.in_ok-run.run' c.in_ok-run.ensures.started (c.in_ok-run.ensures.sound _)).out
 
 pub run-requires-clause-alone : goal.run-requires-clause-alone
-run-requires-clause-alone g c = (starts g.O.Objects.store c.args.objects.now _ _ c.in_ok-run.run' c.in_ok-run.ensures.started (c.in_ok-run.ensures.sound _)).alone
+run-requires-clause-alone g c =
+    (starts g.O.Objects.store c.args.objects.now _ _ c.in_ok-run.run' c.in_ok-run.ensures.started (c.in_ok-run.ensures.sound _)).alone
 
 -- what holds of the run where it has exited
 ran : (g : Over) (c : After-end g) → IsUnderWay g.O.Objects.store c.args.objects.now c.run.new.objects c.args.verified.now c.args.context.items c.run.new.self

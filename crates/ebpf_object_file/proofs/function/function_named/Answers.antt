@@ -7,7 +7,8 @@ pub returns-in-None-clause-refused : goal.returns-in-None-clause-refused
 returns-in-None-clause-refused c =
     let f = c.in-Ok.functions in
     let are = c.in-Ok.ensures.found in
-    let none = found_named c.args.file.now f.symbols.now f.strings.now c.args.name.now f.header.sections _ None (count_of c.args.file.now f are) c.in-None.ensures in
+    let none =
+    found_named c.args.file.now f.symbols.now f.strings.now c.args.name.now f.header.sections _ None (count_of c.args.file.now f are) c.in-None.ensures in
     inr (c.if-name-gt-MOST_NAME.false, inr (f, are, inl (refl, none)))
 
 pub returns-in-Some-clause-found : goal.returns-in-Some-clause-found

@@ -12,7 +12,8 @@ returns-then-not-is_of_section c =
     inl (of_section c.args.functions c.args.symbol _ c.requires.functions (sym c.is_of_section.ensures ∙ c.if-not-is_of_section.true), c.text_at.ensures)
 
 pub bytes_of-names-requires-clause-index : goal.bytes_of-names-requires-clause-index
-bytes_of-names-requires-clause-index c = names_inside c.args.functions.file.now c.args.functions.header c.requires.functions.symbols.is.file_is c.requires.functions.header
+bytes_of-names-requires-clause-index c =
+    names_inside c.args.functions.file.now c.args.functions.header c.requires.functions.symbols.is.file_is c.requires.functions.header
 
 pub section_of-section-requires-clause-index : goal.section_of-section-requires-clause-index
 section_of-section-requires-clause-index c = inside c.args.functions.header.sections c.args.symbol (sym c.is_of_section.ensures ∙ c.if-not-is_of_section.false)

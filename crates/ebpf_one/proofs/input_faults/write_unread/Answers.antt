@@ -7,7 +7,8 @@ use Rattle.ebpf_one.specs.InputFaults.{part_name, place_of_other, other_byte, od
 use Rattle.ebpf_one.proofs.input_faults.write_unread.Goals as goal
 
 -- what is told where a byte may not stand
-told_byte : (part : Part) (bytes : List ℕ) (place byte : ℕ) → place ≡ place_of_other part bytes → slice_get bytes place ≡ Some byte → other_byte part place byte ≡ unread part bytes
+told_byte : (part : Part) (bytes : List ℕ) (place byte : ℕ) → place ≡ place_of_other part bytes → slice_get bytes place ≡ Some byte
+    → other_byte part place byte ≡ unread part bytes
 told_byte part bytes place byte is there =
     let found = subst (λ (n : ℕ). slice_get bytes n ≡ Some byte) is there in
     ap (λ (n : ℕ). other_byte part n byte) is ∙ sym (ap (unread_by part bytes) found)

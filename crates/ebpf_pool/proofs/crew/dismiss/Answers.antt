@@ -5,7 +5,8 @@ use Rattle.ebpf_pool.proofs.Dismissing.{last_back, few_more, one_apart, none_apa
 use Rattle.ebpf_pool.proofs.crew.dismiss.Goals as goal
 
 -- what is parted from the workers so far leaves room for one worker's more
-fits : {A W : Type 0} (items : List A) (f : W → A) (done left rest : List W) (w : W) (n all room : ℕ) → n ≡ length items → items ≡ map f done → length done + length left ≡ all → left ≡ rest ++ w ∷ [] → all ≤ room → n < room
+fits : {A W : Type 0} (items : List A) (f : W → A) (done left rest : List W) (w : W) (n all room : ℕ) → n ≡ length items
+    → items ≡ map f done → length done + length left ≡ all → left ≡ rest ++ w ∷ [] → all ≤ room → n < room
 fits items f done left rest w n all room many are sum is holds =
     let same = ap length are ∙ length-map done f in
     let more = ap length is ∙ length-append rest (w ∷ []) in
@@ -81,7 +82,8 @@ push_reserved-requires g c =
       };
       records = record {
         hands = fits _ _ i.apart.done _ _ _ _ _ _ h.records.hands.ok.0 i.apart.parts.hands.records.hands sum is i.room.hands.records.hands;
-        shelf_hands = fits _ _ i.apart.done _ _ _ _ _ _ h.records.shelf_hands.ok.0 i.apart.parts.hands.records.shelf_hands sum is i.room.hands.records.shelf_hands;
+        shelf_hands =
+            fits _ _ i.apart.done _ _ _ _ _ _ h.records.shelf_hands.ok.0 i.apart.parts.hands.records.shelf_hands sum is i.room.hands.records.shelf_hands;
       };
       blocks = record {
         hands = fits _ _ i.apart.done _ _ _ _ _ _ h.blocks.hands.ok.0 i.apart.parts.hands.blocks.hands sum is i.room.hands.blocks.hands;

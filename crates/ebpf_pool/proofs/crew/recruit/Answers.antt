@@ -36,7 +36,8 @@ loop-worker-preserved g c =
         hands = rest_all_unused n k _ _ _ some f.hands hands;
         seats = (rest_len (IsIdle o) n k _ _ _ seats.items some f.seats.0 f.seats.1, rest_all (IsIdle o) n k _ _ _ seats.items some f.seats.0 f.seats.1);
         drawers = (rest_len blank n k _ _ _ drawers.items some f.drawers.0 f.drawers.1, rest_all blank n k _ _ _ drawers.items some f.drawers.0 f.drawers.1);
-        answered = (rest_len empty n k _ _ _ answered.items some f.answered.0 f.answered.1, rest_all empty n k _ _ _ answered.items some f.answered.0 f.answered.1);
+        answered =
+            (rest_len empty n k _ _ _ answered.items some f.answered.0 f.answered.1, rest_all empty n k _ _ _ answered.items some f.answered.0 f.answered.1);
       };
       room = record {
         hands = rooms_before n _ _ _ i.room.hands hands;

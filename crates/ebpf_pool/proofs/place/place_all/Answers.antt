@@ -5,7 +5,8 @@ use Rattle.ebpf_pool.proofs.PlacingAll.{one_inside, one_exited, one_once, all_pl
 use Rattle.ebpf_pool.proofs.place.place_all.Goals as goal
 
 -- the lists that are left, and the one that is taken
-last_list : (left rest : List (Vec Numbered Global)) (one : Vec Numbered Global) → left ≡ rest ++ one ∷ [] → map (λ v. v.items) left ≡ map (λ v. v.items) rest ++ one.items ∷ []
+last_list : (left rest : List (Vec Numbered Global)) (one : Vec Numbered Global) → left ≡ rest ++ one ∷ []
+    → map (λ v. v.items) left ≡ map (λ v. v.items) rest ++ one.items ∷ []
 last_list left rest one is = ap (map (λ (v : Vec Numbered Global). v.items)) is ∙ map_push (λ (v : Vec Numbered Global). v.items) rest one
 
 pub place-requires-clause-inside : goal.place-requires-clause-inside

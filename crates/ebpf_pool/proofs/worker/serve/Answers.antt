@@ -28,4 +28,5 @@ returns-in_default-answer-clause-good g c =
     subst (λ (l : List Numbered). All (Answers c.args.shared.now.programs.now c.args.shared.now.jobs.now) l) (sym c.in_default-answer.ensures.failed.0) c.loop.invariant.good
 
 pub returns-in_default-answer-clause-goes : goal.returns-in_default-answer-clause-goes
-returns-in_default-answer-clause-goes g c = answered_same _ _ _ c.loop.answered.items _ c.in_default-answer.ensures.failed.0 c.loop.invariant.goes c.in_default-answer.ensures.failed.1
+returns-in_default-answer-clause-goes g c =
+    answered_same _ _ _ c.loop.answered.items _ c.in_default-answer.ensures.failed.0 c.loop.invariant.goes c.in_default-answer.ensures.failed.1

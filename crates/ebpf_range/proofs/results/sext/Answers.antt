@@ -9,4 +9,5 @@ value : (c : goal.After-extension_or_any) → c.extension_or_any.result ≡ exte
 value c = c.extension_or_any.ensures ∙ ap (extension_or_any c.args.width c.args.bits) c.low_at.ensures.value
 
 pub returns-clause-holds : goal.returns-clause-holds
-returns-clause-holds c = λ n h. subst (IsWithin (extension_at c.args.width c.args.bits n)) (sym (value c)) (extension-sound c.args.width c.args.bits c.args.a n (omega arith) h)
+returns-clause-holds c =
+    λ n h. subst (IsWithin (extension_at c.args.width c.args.bits n)) (sym (value c)) (extension-sound c.args.width c.args.bits c.args.a n (omega arith) h)

@@ -6,7 +6,9 @@ use Rattle.ebpf_range.proofs.ResultLemmas.{swap_range-below, swap-sound}
 use Rattle.ebpf_range.proofs.results.swap.Goals as goal
 
 pub returns-clause-below : goal.returns-clause-below
-returns-clause-below c = subst (λ (r : Range). r.hi < 2 ^ swapped_bits c.args.bits) (sym c.swap_or_any.ensures) (swap_range-below c.args.order c.args.bits c.args.a)
+returns-clause-below c =
+    subst (λ (r : Range). r.hi < 2 ^ swapped_bits c.args.bits) (sym c.swap_or_any.ensures) (swap_range-below c.args.order c.args.bits c.args.a)
 
 pub returns-clause-holds : goal.returns-clause-holds
-returns-clause-holds c = λ n h. subst (IsWithin (swap_of c.args.order c.args.bits n)) (sym c.swap_or_any.ensures) (swap-sound c.args.order c.args.bits c.args.a n h)
+returns-clause-holds c =
+    λ n h. subst (IsWithin (swap_of c.args.order c.args.bits n)) (sym c.swap_or_any.ensures) (swap-sound c.args.order c.args.bits c.args.a n h)

@@ -18,5 +18,6 @@ pub returns : goal.returns
 returns c =
     let all = YieldsList-end (YieldsList-from_slice_split _ (λ (b : ℕ). b == 10) c.args.script.now (cc) (cc) (cc) (λ x r q k. search (rules, tests))) c.loop-line.yielded _ c.loop-line.yielded_by _ _ c.in-None.is c.next.ensures.steps in
     let lines = script_lines c.args.script.now in
-    let past : length lines ≤ c.args.number - 1 = omega (arith, all.1, c.loop-line.invariant.counted, c.loop-line.invariant.before, c.saturating_sub-index.ensures) in
+    let past : length lines ≤ c.args.number - 1 =
+    omega (arith, all.1, c.loop-line.invariant.counted, c.loop-line.invariant.before, c.saturating_sub-index.ensures) in
     sym (line_past lines (c.args.number - 1) past)

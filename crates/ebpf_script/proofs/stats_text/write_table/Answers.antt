@@ -4,7 +4,8 @@ use Rattle.ebpf_script.specs.StatsLines.{workers_from}
 use Rattle.ebpf_script.proofs.stats_text.write_table.Goals as goal
 
 -- what is written behind three others
-behind_three : {A E : Type 0} (result : Result A E) (before one two three new a b c d : List ℕ) → one ≡ before ++ a → two ≡ one ++ b → three ≡ two ++ c → OnOk result (new ≡ three ++ d) → OnOk result (new ≡ before ++ (a ++ (b ++ (c ++ d))))
+behind_three : {A E : Type 0} (result : Result A E) (before one two three new a b c d : List ℕ) → one ≡ before ++ a → two ≡ one ++ b
+    → three ≡ two ++ c → OnOk result (new ≡ three ++ d) → OnOk result (new ≡ before ++ (a ++ (b ++ (c ++ d))))
 behind_three result before one two three new a b c d first second third last =
     subst (λ (rest : List ℕ). OnOk result (new ≡ before ++ (a ++ rest))) (append_assoc b c d)
     (behind_two result before one three new a (b ++ c) d d first (third ∙ (ap (λ (t : List ℕ). t ++ c) second ∙ append_assoc one b c)) refl last)

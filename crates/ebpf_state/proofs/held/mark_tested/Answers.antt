@@ -5,7 +5,8 @@ use Rattle.ebpf_state.proofs.JoinLists.{changing_none, changing_more, changing_a
 use Rattle.ebpf_state.proofs.held.mark_tested.Goals as goal
 
 pub loop-i-init : goal.loop-i-init
-loop-i-init c = changing_none (tested_reference c.args.call) (λ h. Unit {0}) (record { call = 0; kind = 0; tested = false }) c.args.held.now.items (λ k lt d. tt)
+loop-i-init c =
+    changing_none (tested_reference c.args.call) (λ h. Unit {0}) (record { call = 0; kind = 0; tested = false }) c.args.held.now.items (λ k lt d. tt)
 
 pub loop-i-preserved : goal.loop-i-preserved
 loop-i-preserved c =

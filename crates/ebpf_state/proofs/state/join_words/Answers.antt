@@ -11,7 +11,8 @@ pub returns-clause-value : goal.returns-clause-value
 returns-clause-value c =
     let below = c.saturating_sub-below.result in
     let beyond = c.saturating_sub-beyond.result in
-    let low : c.fill.new.self ≡ replicate below (Bytes 0) = c.fill.ensures.after (λ y e. e) ∙ ap (λ (n : ℕ). replicate n (Bytes 0)) c.split_at_mut-low.ensures.front_len in
+    let low : c.fill.new.self ≡ replicate below (Bytes 0) =
+    c.fill.ensures.after (λ y e. e) ∙ ap (λ (n : ℕ). replicate n (Bytes 0)) c.split_at_mut-low.ensures.front_len in
     let high : c.join_each.new.here ≡ joined_list joined_word (drop below c.args.left.now) (drop beyond c.args.right.now) =
     c.join_each.ensures.value ∙ rw (c.split_at_mut-low.ensures.back, c.split_at.ensures.back) refl in
     let whole : length (c.fill.new.self ++ c.join_each.new.here) ≡ length c.args.left.now =

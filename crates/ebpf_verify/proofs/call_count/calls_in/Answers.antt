@@ -12,11 +12,13 @@ loop-slot-preserved c =
     let there = c.is_counted.ensures ∙ ap (is_counted c.args.counted) c.at.ensures in
     elim c.if-is_counted.branch [
       | then-is_counted w ↦ record {
-        counted = let more = counted_call c.args.counted p c.loop-slot.slot inside (sym there ∙ w.if-is_counted.true) in omega (arith, more, w.calls-is, i.counted);
+        counted =
+            let more = counted_call c.args.counted p c.loop-slot.slot inside (sym there ∙ w.if-is_counted.true) in omega (arith, more, w.calls-is, i.counted);
         few = omega (arith, w.calls-is, i.few);
       }
       | else-is_counted w ↦ record {
-        counted = let same = counted_other c.args.counted p c.loop-slot.slot inside (sym there ∙ w.if-is_counted.false) in omega (arith, same, w.calls-is, i.counted);
+        counted =
+            let same = counted_other c.args.counted p c.loop-slot.slot inside (sym there ∙ w.if-is_counted.false) in omega (arith, same, w.calls-is, i.counted);
         few = omega (arith, w.calls-is, i.few);
       }
     ]

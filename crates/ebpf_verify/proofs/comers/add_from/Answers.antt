@@ -18,7 +18,8 @@ add_after-requires-clause-fine c =
     let looked = c.args.looked.now in
     let subject : Subject = record { program = looked.flowed.now; decl = looked.decl; rows = looked.kinds.now } in
     let at : insn_at looked.flowed.now c.args.from ≡ Some c.in-Some-Known.insn.now = search rules in
-    let here = entry_looked_at subject looked.entries.now c.args.from c.index-looked-from.result looked.looked (omega (arith, c.requires.before, c.requires.inside)) in
+    let here =
+    entry_looked_at subject looked.entries.now c.args.from c.index-looked-from.result looked.looked (omega (arith, c.requires.before, c.requires.inside)) in
     refusal_below subject looked.entries.now c.args.from c.args.to c.in-Some-Known.insn.now c.in-Some-Known.state looked.looked
     c.requires.before c.requires.inside at (sym c.in-Some-Known.is-1 ∙ here)
 
@@ -26,7 +27,8 @@ pub returns-in-Some-Known : goal.returns-in-Some-Known
 returns-in-Some-Known c =
     let looked = c.args.looked.now in
     let subject : Subject = record { program = looked.flowed.now; decl = looked.decl; rows = looked.kinds.now } in
-    let here = entry_looked_at subject looked.entries.now c.args.from c.index-looked-from.result looked.looked (omega (arith, c.requires.before, c.requires.inside)) in
+    let here =
+    entry_looked_at subject looked.entries.now c.args.from c.index-looked-from.result looked.looked (omega (arith, c.requires.before, c.requires.inside)) in
     rw (← here, c.in-Some-Known.is-1) (search rules)
 
 pub returns-in_default : goal.returns-in_default

@@ -16,21 +16,24 @@ pub returns-in-Ob-clause-value : goal.returns-in-Ob-clause-value
 returns-in-Ob-clause-value c = rw (c.ok_or-in-Ob.ensures.value, c.read_bytes-in-Ob.ensures.value, c.size_held.ensures, c.in-Ob.is) (inside _ _ _)
 
 -- the code of an access that is outside, where the code's test is the rule's
-outside : {A E : Type 0} (tested wanted : Bool) (value : A) (code : E) → tested ≡ wanted → IfErr (ok_or (if tested then Some value else None) code) (λ it. (if wanted then None else Some code) ≡ Some it)
+outside : {A E : Type 0} (tested wanted : Bool) (value : A) (code : E) → tested ≡ wanted
+    → IfErr (ok_or (if tested then Some value else None) code) (λ it. (if wanted then None else Some code) ≡ Some it)
 outside true true value code same = tt
 outside true false value code same = tt
 outside false true value code same = cc
 outside false false value code same = refl
 
 -- an access that is not outside has none
-not_outside : {A E : Type 0} (tested wanted : Bool) (value : A) (code : E) → tested ≡ wanted → OnOk (ok_or (if tested then Some value else None) code) ((if wanted then None else Some code) ≡ None)
+not_outside : {A E : Type 0} (tested wanted : Bool) (value : A) (code : E) → tested ≡ wanted
+    → OnOk (ok_or (if tested then Some value else None) code) ((if wanted then None else Some code) ≡ None)
 not_outside true true value code same = refl
 not_outside true false value code same = cc
 not_outside false true value code same = tt
 not_outside false false value code same = tt
 
 -- the code's test of a pointer's ends, which it reads as signed numbers, is the rule's
-same_test : (len bytes : ℕ) (low high offset : ℤ) → SFits w64 low → SFits w64 high → is_in_bounds len (to_z w64 (of_z w64 low)) (to_z w64 (of_z w64 high)) offset bytes ≡ is_in_bounds len low high offset bytes
+same_test : (len bytes : ℕ) (low high offset : ℤ) → SFits w64 low → SFits w64 high
+    → is_in_bounds len (to_z w64 (of_z w64 low)) (to_z w64 (of_z w64 high)) offset bytes ≡ is_in_bounds len low high offset bytes
 same_test len bytes low high offset low_fits high_fits = rw (to_z-of_z w64 low low_fits, to_z-of_z w64 high high_fits) refl
 
 pub returns-in-Ctx-clause-refused : goal.returns-in-Ctx-clause-refused

@@ -51,8 +51,10 @@ pub returns-then-sum-2 : goal.returns-then-sum-2
 returns-then-sum-2 c =
     let same = is_sum c.args.end c.args.by c.ranges.end c.ranges.by c.requires.low c.requires.high in
     elim c.if-sum.branch [
-      | then-sum w ↦ let test : lt_z (computed_sum c.args.end c.args.by) (negsuc 536870911) ≡ true = w.if-sum.true in rw (below (c.args.end +ℤ c.args.by) (rw same at test)) refl
-      | else-sum w ↦ let test : lt_z (pos 536870912) (computed_sum c.args.end c.args.by) ≡ true = sym w.value-is ∙ c.if-sum-2.true in rw (above (c.args.end +ℤ c.args.by) (rw same at test)) refl
+      | then-sum w ↦ let test : lt_z (computed_sum c.args.end c.args.by) (negsuc 536870911) ≡ true =
+          w.if-sum.true in rw (below (c.args.end +ℤ c.args.by) (rw same at test)) refl
+      | else-sum w ↦ let test : lt_z (pos 536870912) (computed_sum c.args.end c.args.by) ≡ true =
+          sym w.value-is ∙ c.if-sum-2.true in rw (above (c.args.end +ℤ c.args.by) (rw same at test)) refl
     ]
 
 pub returns-else-sum-2 : goal.returns-else-sum-2

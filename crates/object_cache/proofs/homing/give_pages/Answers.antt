@@ -15,10 +15,12 @@ loop-span-init g c = record {
 }
 
 pub loop-span-smaller-then-give : goal.loop-span-smaller-then-give
-loop-span-smaller-then-give g c = omega (arith, had_less 256 _ _ _ c.in-Some.ensures.removed c.in-Some.ensures.had (omega (arith, c.in-Some.span.some, c.in-Some.span.within)))
+loop-span-smaller-then-give g c =
+    omega (arith, had_less 256 _ _ _ c.in-Some.ensures.removed c.in-Some.ensures.had (omega (arith, c.in-Some.span.some, c.in-Some.span.within)))
 
 pub loop-span-smaller : goal.loop-span-smaller
-loop-span-smaller g c = omega (arith, had_less 256 _ _ _ c.in-Some.ensures.removed c.in-Some.ensures.had (omega (arith, c.in-Some.span.some, c.in-Some.span.within)))
+loop-span-smaller g c =
+    omega (arith, had_less 256 _ _ _ c.in-Some.ensures.removed c.in-Some.ensures.had (omega (arith, c.in-Some.span.some, c.in-Some.span.within)))
 
 pub loop-span-preserved-then-give : goal.loop-span-preserved-then-give
 loop-span-preserved-then-give g c =

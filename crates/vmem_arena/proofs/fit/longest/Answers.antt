@@ -5,7 +5,8 @@ use Rattle.vmem_arena.proofs.Listing.{none_listed, none_longer}
 use Rattle.vmem_arena.proofs.fit.longest.Goals as goal
 
 pub returns-in_default-clause-longest : goal.returns-in_default-clause-longest
-returns-in_default-clause-longest c = λ page. let none = none_listed c.args.classes.now c.args.table.now page c.requires.listed (c.requires.short page) c.in_default.ensures.none in omega arith
+returns-in_default-clause-longest c =
+    λ page. let none = none_listed c.args.classes.now c.args.table.now page c.requires.listed (c.requires.short page) c.in_default.ensures.none in omega arith
 
 pub returns-in_default-clause-reached : goal.returns-in_default-clause-reached
 returns-in_default-clause-reached c = (0, none_listed c.args.classes.now c.args.table.now 0 c.requires.listed (c.requires.short 0) c.in_default.ensures.none)

@@ -7,5 +7,6 @@ abbrev pub invariant-loop-number : goal.invariant-loop-number
 invariant-loop-number g l = record {
   counted : l.count ≡ functions_below l.self.header.sections l.self.symbols.now l.number;
   few : l.count ≤ l.number;
-  written : IsPlainFormatter l.fn.f → HasWritten g.W.Write.write_str_gives l.fn.f (names_below l.self.header.sections l.self.symbols.now l.self.strings.now l.number) l.f;
+  written : IsPlainFormatter l.fn.f
+      → HasWritten g.W.Write.write_str_gives l.fn.f (names_below l.self.header.sections l.self.symbols.now l.self.strings.now l.number) l.f;
 }

@@ -23,7 +23,8 @@ invariant_of-client-2 g c =
       seated = claim.table ∙ client.seated;
       once = once_same client.seat.held _ claim.taken.0 client.once;
       few = (c.count.ensures.few, client.few.1);
-      clashed = let more = lost_one_more _ _ client.seat.notes _ claim.taken.1 in let one = c.count.ensures.one_more in omega (arith, more, one, client.clashed);
+      clashed =
+          let more = lost_one_more _ _ client.seat.notes _ claim.taken.1 in let one = c.count.ensures.one_more in omega (arith, more, one, client.clashed);
     }
 
 pub returns-in_default-clause-lost : goal.returns-in_default-clause-lost

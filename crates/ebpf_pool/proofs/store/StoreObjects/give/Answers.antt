@@ -18,10 +18,12 @@ invariant_of-self g c =
     }
 
 pub returns-clause-back : goal.returns-clause-back
-returns-clause-back g c other now = held_before _ _ (slot_of other) _ _ refl (ap (λ s. s.held) c.release-bare.ensures.seat) c.requires.out c.args.self.now.client.once now
+returns-clause-back g c other now =
+    held_before _ _ (slot_of other) _ _ refl (ap (λ s. s.held) c.release-bare.ensures.seat) c.requires.out c.args.self.now.client.once now
 
 pub returns-clause-others : goal.returns-clause-others
-returns-clause-others g c other had apart = (held_after _ _ (slot_of other) _ _ refl (ap (λ s. s.held) c.release-bare.ensures.seat) c.requires.out had apart, refl)
+returns-clause-others g c other had apart =
+    (held_after _ _ (slot_of other) _ _ refl (ap (λ s. s.held) c.release-bare.ensures.seat) c.requires.out had apart, refl)
 
 pub returns-clause-goes : goal.returns-clause-goes
 returns-clause-goes g c =

@@ -9,6 +9,7 @@ use Rattle.ebpf_script.proofs.reader.names.is_name.Goals as goal
 
 pub returns : goal.returns
 returns c =
-    let all : c.all.result ≡ list_all is_name_byte c.args.word.now = all_from_yields_List is_name_byte _ _ c.all.result c.all.ensures.ran (YieldsList-from_slice c.args.word.now cc) (λ x b q k. search (rules, tests)) in
+    let all : c.all.result ≡ list_all is_name_byte c.args.word.now =
+    all_from_yields_List is_name_byte _ _ c.all.result c.all.ensures.ran (YieldsList-from_slice c.args.word.now cc) (λ x b q k. search (rules, tests)) in
     let some : 0 < length c.args.word.now = grind (arith, nat_tests) in
     is_name-bytes c.args.word.now c.all.result some (omega arith) all

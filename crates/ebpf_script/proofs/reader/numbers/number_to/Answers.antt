@@ -32,5 +32,6 @@ returns-clause-value c =
     let all : length word ≤ c.loop-digit.digit-index = omega arith in
     let some : 0 < length word = grind (arith, nat_tests) in
     let digits : all_ascii_digits word ≡ true = sym c.loop-digit.invariant.digits ∙ at_drop_all all_ascii_digits word c.loop-digit.digit-index all in
-    let value : value_of word ≡ c.loop-digit.value = sym c.loop-digit.invariant.value ∙ at_drop_all (fold more c.loop-digit.value) word c.loop-digit.digit-index all in
+    let value : value_of word ≡ c.loop-digit.value =
+    sym c.loop-digit.invariant.value ∙ at_drop_all (fold more c.loop-digit.value) word c.loop-digit.digit-index all in
     sym (number_to-fits c.args.most c.loop-digit.value word some digits value (omega (arith, c.from-limit.ensures, c.loop-digit.invariant.fits)))

@@ -14,14 +14,16 @@ bytes-are c = sym (rw c.in-Some.is at c.in_ok-bytes.ensures)
 number-is : (c : In-Some-get_full) → number_of (map named c.args.script.now.programs.entries) c.args.name.now ≡ Some c.in-Some-get_full.program
 number-is c = number_of-index _ _ c.args.name.now _ c.in-Some-name_of.ensures.same c.in-Some-get_full.ensures.index
 
-declared-is : (c : In-Some-get_full) → declared_by (map named c.args.script.now.programs.entries) c.args.name.now ≡ Some c.in-Some-get_full.text.now.decl.context
+declared-is : (c : In-Some-get_full)
+    → declared_by (map named c.args.script.now.programs.entries) c.args.name.now ≡ Some c.in-Some-get_full.text.now.decl.context
 declared-is c = declared_by-found _ _ c.args.name.now _ c.in-Some-name_of.ensures.same c.in-Some-get_full.ensures.value
 
 pub returns-in_default-get_full-clause-refused :
     goal.returns-in_default-get_full-clause-refused
 returns-in_default-get_full-clause-refused c =
     let allowed : is_name c.args.name.now ≡ true = sym c.in-Some-name_of.ensures.allowed in
-    let absent : number_of (map named c.args.script.now.programs.entries) c.args.name.now ≡ None = number_of-index _ _ c.args.name.now _ c.in-Some-name_of.ensures.same c.in_default-get_full.ensures.index in
+    let absent : number_of (map named c.args.script.now.programs.entries) c.args.name.now ≡ None =
+    number_of-index _ _ c.args.name.now _ c.in-Some-name_of.ensures.same c.in_default-get_full.ensures.index in
     rw (bytes-are (goal.at.returns-in_default-get_full-clause-refused c).In-Some, allowed, absent) refl
 
 pub returns-then-len-text-clause-refused : goal.returns-then-len-text-clause-refused

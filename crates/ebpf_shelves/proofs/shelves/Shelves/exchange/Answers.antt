@@ -16,7 +16,8 @@ pub invariant_of-self : goal.invariant_of-self
 invariant_of-self c = subst (λ (o : Option Object). AreShelves (slice_set c.self.inside.rooms c.args.shelf o)) (sym c.replace.ensures.after)
     (are_shelves c.self.inside.rooms c.args.shelf c.args.given (inside c) c.self.invariant c.requires.fits (off c))
 
-done : (c : goal.After-replace) → IsExchanged c.args.shelf c.args.given c.replace.result c.self.inside.rooms (slice_set c.self.inside.rooms c.args.shelf c.args.given)
+done : (c : goal.After-replace)
+    → IsExchanged c.args.shelf c.args.given c.replace.result c.self.inside.rooms (slice_set c.self.inside.rooms c.args.shelf c.args.given)
 done c = is_exchanged c.self.inside.rooms c.args.shelf c.args.given (inside c) c.replace.result c.self.invariant (off c)
     (c.replace.ensures.value ∙ get_or_default c.self.inside.rooms c.args.shelf _ None (inside c))
 

@@ -8,7 +8,8 @@ use Rattle.ebpf_world.proofs.ledger.Ledger.join.Goals as goal
 pub unreachable-requires : goal.unreachable-requires
 unreachable-requires c =
     let slots = c.self.inside.slots.items in
-    let there = place_found c.args.slot slots c.deref.result.now (Ok c.in_default.field-0) c.self.invariant c.deref.ensures.value c.in_default.ensures.position in
+    let there =
+    place_found c.args.slot slots c.deref.result.now (Ok c.in_default.field-0) c.self.invariant c.deref.ensures.value c.in_default.ensures.position in
     let new = subst (λ (l : List ℕ). is_in c.args.slot l ≡ false) (sym c.self.view_is) c.requires.new in
     cc (sym there.0 ∙ new)
 

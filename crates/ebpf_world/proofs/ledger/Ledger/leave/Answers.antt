@@ -20,5 +20,6 @@ invariant_of-self c =
 pub returns-in_default : goal.returns-in_default
 returns-in_default c =
     let slots = c.self.inside.slots.items in
-    let there = place_found c.args.slot slots c.deref.result.now (Err c.in_default.field-0) c.self.invariant c.deref.ensures.value c.in_default.ensures.position in
+    let there =
+    place_found c.args.slot slots c.deref.result.now (Err c.in_default.field-0) c.self.invariant c.deref.ensures.value c.in_default.ensures.position in
     sym c.self.view_is ∙ (sym (parted_none c.args.slot slots there.0) ∙ ap (without_slot c.args.slot) c.self.view_is)

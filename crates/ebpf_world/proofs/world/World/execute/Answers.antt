@@ -54,7 +54,8 @@ put-requires c =
     let t = c.step_in-freed.new.run in
     let at = slice_get_read c.self.inside.runs.items _ c.args.run r refl (omega arith) c.index_mut-run.ensures.value in
     let i = instruction _ c.args.run c.args.answer r t c.lend-lent.result c.step_in-freed.result.0 c.wants.result c.answer_fault.result c.self.invariant at (going r.exit (search rules)) c.answer_fault.ensures c.in_default.is c.wants.ensures c.lend-lent.ensures.object c.replace-shelves.result c.step_in-freed.result.1 c.replace-shelves.ensures.value c.step_in-freed.ensures.stepped in
-    let lent = λ (q : ℕ). c.lend-lent.ensures.places q ∙ ap (λ (n : ℕ). place_lent c.args.answer c.args.run n c.self.inside.places.entries q) c.pc-at.ensures.value in
+    let lent =
+    λ (q : ℕ). c.lend-lent.ensures.places q ∙ ap (λ (n : ℕ). place_lent c.args.answer c.args.run n c.self.inside.places.entries q) c.pc-at.ensures.value in
     record { known = freed_known c.self.invariant.shown.0 _ c.args.run c.args.answer r t c.step_in-freed.result.0 _ c.self.invariant.shown.1 i lent }
 
 pub exchange-requires : goal.exchange-requires
@@ -63,7 +64,8 @@ exchange-requires c =
     let t = c.step_in-freed.new.run in
     let at = slice_get_read c.self.inside.runs.items _ c.args.run r refl (omega arith) c.index_mut-run.ensures.value in
     let i = instruction _ c.args.run c.args.answer r t c.lend-lent.result c.step_in-freed.result.0 c.wants.result c.answer_fault.result c.self.invariant at (going r.exit (search rules)) c.answer_fault.ensures c.in_default.is c.wants.ensures c.lend-lent.ensures.object c.replace-shelves.result c.step_in-freed.result.1 c.replace-shelves.ensures.value c.step_in-freed.ensures.stepped in
-    let lent = λ (q : ℕ). c.lend-lent.ensures.places q ∙ ap (λ (n : ℕ). place_lent c.args.answer c.args.run n c.self.inside.places.entries q) c.pc-at.ensures.value in
+    let lent =
+    λ (q : ℕ). c.lend-lent.ensures.places q ∙ ap (λ (n : ℕ). place_lent c.args.answer c.args.run n c.self.inside.places.entries q) c.pc-at.ensures.value in
     let known = shelves_known c.self.invariant.shown.0 _ c.args.run c.args.answer r t c.step_in-freed.result.0 _ c.put.new.places.entries c.self.invariant.shown.1 i lent c.put.ensures.places in
     let are = known_by c.self.inside.shelves r c.step_in-freed.result.1 c.put.new.places.entries c.reaches-reached.result c.slot_reached-stood.result c.slot_reached-stands.result c.reaches-reached.ensures c.slot_reached-stood.ensures c.slot_reached-stands.ensures known in
     record { stood = are.stood_has; stands = are.stands_has }

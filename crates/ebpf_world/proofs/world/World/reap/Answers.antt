@@ -23,9 +23,10 @@ invariant_of-self c = reap_tended _ c.args.kind c.args.slot c.leave.new.ledgers 
 })
 
 pub returns-clause-done : goal.returns-clause-done
-returns-clause-done c = rw (← c.self.view_is) (λ w h. reap_done w _ c.args.kind c.args.slot c.leave.new.ledgers c.remove.new.self.entries h c.self.invariant.placed (record {
-  known = omega arith;
-  home = ap (λ (p : Option Place). is_home_of p c.args.kind) (sym c.get.ensures.value) ∙ sym c.is_home_of.ensures ∙ c.if-not-is_home_of.false;
-  ledgers_are = c.leave.ensures;
-  places_are = updated_places c.self.inside.places c.remove.new.self c.args.slot None c.remove.ensures.updates;
-}))
+returns-clause-done c =
+    rw (← c.self.view_is) (λ w h. reap_done w _ c.args.kind c.args.slot c.leave.new.ledgers c.remove.new.self.entries h c.self.invariant.placed (record {
+      known = omega arith;
+      home = ap (λ (p : Option Place). is_home_of p c.args.kind) (sym c.get.ensures.value) ∙ sym c.is_home_of.ensures ∙ c.if-not-is_home_of.false;
+      ledgers_are = c.leave.ensures;
+      places_are = updated_places c.self.inside.places c.remove.new.self c.args.slot None c.remove.ensures.updates;
+    }))

@@ -10,7 +10,9 @@ destroy_empty-requires g c =
     full.ok.0 ∙ none_full full.items g.K.Kind.ROUNDS (holds_some _ g.K.Kind.is_row) c.self.invariant.filled (ap (λ (d : DepotView). d.rounds) c.self.view_is ∙ c.requires)
 
 pub end-requires : goal.end-requires
-end-requires g c = (All-pop (λ m. m ≡ []) c.loop-magazine.empty.items c.pop.new.self.items (Some c.in-Some.magazine) c.in-Some.ensures.items c.loop-magazine.invariant).1
+end-requires g c =
+    (All-pop (λ m. m ≡ []) c.loop-magazine.empty.items c.pop.new.self.items (Some c.in-Some.magazine) c.in-Some.ensures.items c.loop-magazine.invariant).1
 
 pub loop-magazine-preserved : goal.loop-magazine-preserved
-loop-magazine-preserved g c = (All-pop (λ m. m ≡ []) c.loop-magazine.empty.items c.pop.new.self.items c.pop.result c.pop.ensures.items c.loop-magazine.invariant).0
+loop-magazine-preserved g c =
+    (All-pop (λ m. m ≡ []) c.loop-magazine.empty.items c.pop.new.self.items c.pop.result c.pop.ensures.items c.loop-magazine.invariant).0

@@ -6,5 +6,6 @@ use Rattle.magazine.proofs.layer.Layer.try_give.Goals.{then-is_full+else-not-is_
 
 pub returns-clause-given : goal.returns-clause-given
 returns-clause-given g c =
-    let turned : (c.if-is_full.self ≡ exchanged c.args.self.now) ⊎ (c.if-is_full.self ≡ c.args.self.now) = elim c.if-is_full.branch [ then-is_full+else-not-is_empty w ↦ inl (w.self-is ∙ w.exchange.ensures) | else-is_full w ↦ inr w.self-is ] in
+    let turned : (c.if-is_full.self ≡ exchanged c.args.self.now) ⊎ (c.if-is_full.self ≡ c.args.self.now) =
+    elim c.if-is_full.branch [ then-is_full+else-not-is_empty w ↦ inl (w.self-is ∙ w.exchange.ensures) | else-is_full w ↦ inr w.self-is ] in
     given_rounds c.args.self.now c.if-is_full.self c.self-2.inside.loaded c.push.new.self c.self-2.inside.previous c.args.object.slot turned c.self-2.view_is c.push.ensures

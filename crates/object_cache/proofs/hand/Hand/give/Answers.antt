@@ -13,6 +13,7 @@ invariant_of-self g c =
       even = omega (arith, one_more c.restore.result.slot (rounds_of c.self.inside.layer) (rounds_of c.try_give.new.self) c.in_default.ensures.given, i.even);
       lent = i.lent;
       few_allocs = i.few_allocs;
-      few_frees = elim c.if-self-ge-MOST.branch [ then-self-ge-MOST w ↦ absurd w.wait_for_ever.ensures | else-self-ge-MOST w ↦ omega (arith, w.if-self-ge-MOST) ];
+      few_frees =
+          elim c.if-self-ge-MOST.branch [ then-self-ge-MOST w ↦ absurd w.wait_for_ever.ensures | else-self-ge-MOST w ↦ omega (arith, w.if-self-ge-MOST) ];
       few_nulls = i.few_nulls;
     }

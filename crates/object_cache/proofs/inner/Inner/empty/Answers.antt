@@ -14,5 +14,6 @@ loop-object-preserved g c =
     record {
       parts = c.retire.ensures.parts ∙ i.parts;
       amount = omega (arith, list_less (slot ∷ []) old new taken, c.retire.ensures.amount, i.amount);
-      sent = λ final rest. i.sent final (sends_both c.loop-object.self.slabs c.retire.new.self.slabs final (slot ∷ []) new old c.retire.ensures.sent rest taken);
+      sent =
+          λ final rest. i.sent final (sends_both c.loop-object.self.slabs c.retire.new.self.slabs final (slot ∷ []) new old c.retire.ensures.sent rest taken);
     }

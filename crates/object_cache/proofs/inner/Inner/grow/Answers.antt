@@ -29,7 +29,8 @@ pub returns-in_default-clause-no_page : goal.returns-in_default-clause-no_page
 returns-in_default-clause-no_page g c = λ _ _. c.in_default.ensures.none
 
 pub returns-then-has-clause-no_page : goal.returns-then-has-clause-no_page
-returns-then-has-clause-no_page g c = λ _ held _ _. held c.first.result (subst (λ page. AreFree c.args.arena.now page 1) (sym c.first.ensures) c.in-Ok.ensures.free) (c.if-has.ensures.0 refl)
+returns-then-has-clause-no_page g c =
+    λ _ held _ _. held c.first.result (subst (λ page. AreFree c.args.arena.now page 1) (sym c.first.ensures) c.in-Ok.ensures.free) (c.if-has.ensures.0 refl)
 
 pub returns-in-Ok-grow-clause-no_page : goal.returns-in-Ok-grow-clause-no_page
 returns-in-Ok-grow-clause-no_page g c = λ wrong _ _ _. let never : ⊥ = cc in never

@@ -14,7 +14,8 @@ loop-slot-preserved c =
     }
 
 -- the words that were read are those of all slots
-all-read : (count words key slots slot : ℕ) (xs ws : List ℕ) → xs ≡ take slot ws → count ≡ words → words ≡ key + 1 → key ≡ slots → slot ≤ count - 1 → count - 1 ≤ slot → xs ≡ take slots ws
+all-read : (count words key slots slot : ℕ) (xs ws : List ℕ) → xs ≡ take slot ws → count ≡ words → words ≡ key + 1 → key ≡ slots
+    → slot ≤ count - 1 → count - 1 ≤ slot → xs ≡ take slots ws
 all-read count words key slots slot xs ws e a b d le ge = let same : slot ≡ slots = omega arith in e ∙ ap (λ k. take k ws) same
 
 pub returns-clause-held : goal.returns-clause-held

@@ -11,8 +11,10 @@ use Rattle.owners_table.proofs.Dealing.{rest-dealt, all-there, last-left, only-f
 use Rattle.owners_table.proofs.tickets.Tickets.new.Goals as goal
 
 -- the view of a seat that was just dealt
-dealt : (limit : ℕ) (p : Seat (Unit {0}) (List TicketSheet)) (table : TableId) → p.table_id ≡ table → p.me.0 ≡ blank limit ∷ [] → ticket_view p ≡ fresh table limit
-dealt limit p table e m = λ i. record { table = e i; limit = (first_or (blank 0) (m i)).limit; drawn = (first_or (blank 0) (m i)).drawn; passed = (first_or (blank 0) (m i)).passed }
+dealt : (limit : ℕ) (p : Seat (Unit {0}) (List TicketSheet)) (table : TableId) → p.table_id ≡ table → p.me.0 ≡ blank limit ∷ []
+    → ticket_view p ≡ fresh table limit
+dealt limit p table e m =
+    λ i. record { table = e i; limit = (first_or (blank 0) (m i)).limit; drawn = (first_or (blank 0) (m i)).drawn; passed = (first_or (blank 0) (m i)).passed }
 
 pub split_seat-seat-requires : goal.split_seat-seat-requires
 split_seat-seat-requires c =

@@ -29,4 +29,5 @@ pub invariant_of-self-clause-whole : goal.invariant_of-self-clause-whole
 invariant_of-self-clause-whole g c = length-set c.args.self.now.places.items _ _ ∙ c.args.self.now.whole
 
 pub invariant_of-self-clause-room : goal.invariant_of-self-clause-room
-invariant_of-self-clause-room g c = let e = length-set c.args.self.now.places.items (c.slot.result % 256) Home in omega (arith, e, c.args.self.now.room, c.push_reserved.ensures.capacity)
+invariant_of-self-clause-room g c =
+    let e = length-set c.args.self.now.places.items (c.slot.result % 256) Home in omega (arith, e, c.args.self.now.room, c.push_reserved.ensures.capacity)

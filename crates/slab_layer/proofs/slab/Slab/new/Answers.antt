@@ -70,5 +70,6 @@ push_reserved-requires-in-loop-index g c =
     let l = c.loop-index in
     has_room _ _ l.index c.objects_of_a_page-index-end.result _ _ l.places.ok.0 (ap length l.invariant.places ∙ length-replicate l.index Home) c.loop-index-test.true c.objects_of_a_page-index-end.ensures.value l.invariant.few_places
   where
-    has_room : (len there index count objects capacity : ℕ) → len ≡ there → there ≡ index → index < count → count ≡ objects → objects ≤ capacity → len < capacity
+    has_room : (len there index count objects capacity : ℕ) → len ≡ there → there ≡ index → index < count → count ≡ objects
+        → objects ≤ capacity → len < capacity
     has_room len there index count objects capacity a b below e few = omega arith

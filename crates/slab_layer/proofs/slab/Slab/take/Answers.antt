@@ -11,7 +11,8 @@ left : (g : Over) (c : In-Some g) → IsTaken (map (λ o. o.slot) c.pop.new.self
 left g c =
     let s = c.args.self.now in
     let object = c.in-Some.object in
-    let popped : map (λ o. o.slot) s.home.items ≡ map (λ o. o.slot) c.pop.new.self.items ++ object.slot ∷ [] = ap (map (λ o. o.slot)) c.in-Some.ensures.items ∙ map_push (λ o. o.slot) c.pop.new.self.items object in
+    let popped : map (λ o. o.slot) s.home.items ≡ map (λ o. o.slot) c.pop.new.self.items ++ object.slot ∷ [] =
+    ap (map (λ o. o.slot)) c.in-Some.ensures.items ∙ map_push (λ o. o.slot) c.pop.new.self.items object in
     let few : length s.places.items ≤ 256 = few_places _ (is_some s.span) (length s.places.items) g.K.Kind.is_row s.whole in
     taken (map (λ o. o.slot) s.home.items) (map (λ o. o.slot) c.pop.new.self.items) object.slot s.page s.places.items popped s.stacked few
 
@@ -32,7 +33,8 @@ pub invariant_of-self-clause-whole : goal.invariant_of-self-clause-whole
 invariant_of-self-clause-whole g c = length-set c.args.self.now.places.items _ _ ∙ c.args.self.now.whole
 
 pub invariant_of-self-clause-room : goal.invariant_of-self-clause-room
-invariant_of-self-clause-room g c = let e = length-set c.args.self.now.places.items (c.slot.result % 256) Out in omega (arith, e, c.args.self.now.room, c.pop.ensures.capacity)
+invariant_of-self-clause-room g c =
+    let e = length-set c.args.self.now.places.items (c.slot.result % 256) Out in omega (arith, e, c.args.self.now.room, c.pop.ensures.capacity)
 
 pub returns-clause-slot : goal.returns-clause-slot
 returns-clause-slot g c = (left g (goal.at.returns-clause-slot g c).In-Some).here

@@ -14,7 +14,9 @@ inside : (g : Over) (c : After-index-2 g) → c.slot-slot.result / 256 < length 
 inside g c = subst (λ n. c.slot-slot.result / 256 < n) (c.len.ensures ∙ c.self.inside.slabs.ok.0) c.if-at-len.false
 
 -- and the slot is out of its slab
-out : (g : Over) (c : After-index-2 g) (old : Slab g.row.K.Denot g.K.Kind) → old ≡ get_or c.self.inside.slabs.items (c.slot-slot.result / 256) old → slice_get old.places.items (c.slot-slot.result % 256) ≡ Some Out
+out : (g : Over) (c : After-index-2 g) (old : Slab g.row.K.Denot g.K.Kind)
+    → old ≡ get_or c.self.inside.slabs.items (c.slot-slot.result / 256) old
+    → slice_get old.places.items (c.slot-slot.result % 256) ≡ Some Out
 out g c old read = out_read c.self.inside.slabs.items (c.slot-slot.result / 256) (c.slot-slot.result % 256) c.index.result.now (inside g c) c.index.ensures (c.is_out.ensures.0 c.if-not-is_out.false) old read
 
 pub push_reserved-requires : goal.push_reserved-requires
@@ -64,7 +66,8 @@ returns-clause-moved g c = λ _.
     let xs = c.self.inside.slabs.items in
     let at = c.slot-slot.result / 256 in
     let old = c.index_mut.result.now in
-    let kept : c.if-is_first.self-inside.slabs.items ≡ set xs at c.give.new.self = elim c.if-is_first.branch [ then-is_first w ↦ ap (λ s. s.slabs.items) w.self-inside-is | else-is_first w ↦ ap (λ s. s.slabs.items) w.self-inside-is ] in
+    let kept : c.if-is_first.self-inside.slabs.items ≡ set xs at c.give.new.self =
+    elim c.if-is_first.branch [ then-is_first w ↦ ap (λ s. s.slabs.items) w.self-inside-is | else-is_first w ↦ ap (λ s. s.slabs.items) w.self-inside-is ] in
     let there = slice_get_within _ _ Out (out g p.After-index-2 old c.index_mut.ensures.value) in
     rw (← c.self.view_is, kept, ← c.slot-slot.ensures)
     (moves xs c.slot-slot.result at Home old c.give.new.self (inside g p.After-index-2) c.index_mut.ensures.value refl there (homed g p.After-give))
@@ -75,7 +78,8 @@ returns-clause-counted g c = λ _.
     let xs = c.self.inside.slabs.items in
     let at = c.slot-slot.result / 256 in
     let old = c.index_mut.result.now in
-    let kept : c.if-is_first.self-inside.slabs.items ≡ set xs at c.give.new.self = elim c.if-is_first.branch [ then-is_first w ↦ ap (λ s. s.slabs.items) w.self-inside-is | else-is_first w ↦ ap (λ s. s.slabs.items) w.self-inside-is ] in
+    let kept : c.if-is_first.self-inside.slabs.items ≡ set xs at c.give.new.self =
+    elim c.if-is_first.branch [ then-is_first w ↦ ap (λ s. s.slabs.items) w.self-inside-is | else-is_first w ↦ ap (λ s. s.slabs.items) w.self-inside-is ] in
     let was = out g p.After-index-2 old c.index_mut.ensures.value in
     rw (← c.self.view_is, kept)
     (count_given xs at (c.slot-slot.result % 256) old c.give.new.self (inside g p.After-index-2) c.index_mut.ensures.value was (homed g p.After-give))

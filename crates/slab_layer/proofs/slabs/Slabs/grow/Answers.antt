@@ -10,14 +10,18 @@ use Rattle.slab_layer.proofs.slabs.Slabs.grow.Goals.{After-first-page, After-rep
 use Rattle.slab_layer.proofs.slabs.Slabs.grow.Goals as goal
 
 -- the table, with its places filled
-filled : (g : Over) (c : After-first-page g) → IsFilled c.self.inside.slabs.items c.fill_table.new.slabs.items c.reserve_tables.new.partial.items c.self.inside.out c.first-page.result
+filled : (g : Over) (c : After-first-page g)
+    → IsFilled c.self.inside.slabs.items c.fill_table.new.slabs.items c.reserve_tables.new.partial.items c.self.inside.out c.first-page.result
 filled g c =
     let xs = c.fill_table.new.slabs.items in
     let at = c.first-page.result in
-    let kept : IsSlabTable c.reserve_tables.new.slabs.items c.reserve_tables.new.partial.items c.self.inside.out = rw (c.reserve_tables.ensures.slabs, c.reserve_tables.ensures.partial) c.self.invariant.0 in
-    let all : length xs ≡ 256 = c.fill_table.ensures.all (subst (λ m. (m ≡ 0) ⊎ (m ≡ 256)) (length-map c.reserve_tables.new.slabs.items places_of) kept.sized) in
+    let kept : IsSlabTable c.reserve_tables.new.slabs.items c.reserve_tables.new.partial.items c.self.inside.out =
+    rw (c.reserve_tables.ensures.slabs, c.reserve_tables.ensures.partial) c.self.invariant.0 in
+    let all : length xs ≡ 256 =
+    c.fill_table.ensures.all (subst (λ m. (m ≡ 0) ⊎ (m ≡ 256)) (length-map c.reserve_tables.new.slabs.items places_of) kept.sized) in
     let same = grown_same xs c.reserve_tables.new.slabs.items c.self.inside.slabs.items c.fill_table.ensures.same c.reserve_tables.ensures.slabs in
-    let free : Has (pages_in c.self.inside.slabs.items) at → ⊥ = subst (λ v. Has v at → ⊥) (sym c.self.view_is) (subst (λ m. Has c.args.self.now m → ⊥) (sym c.first-page.ensures) c.requires.not_had) in
+    let free : Has (pages_in c.self.inside.slabs.items) at → ⊥ =
+    subst (λ v. Has v at → ⊥) (sym c.self.view_is) (subst (λ m. Has c.args.self.now m → ⊥) (sym c.first-page.ensures) c.requires.not_had) in
     record {
       stack = c.fill_table.ensures.stack c.reserve_tables.new.partial.items c.self.inside.out kept;
       all = all;
@@ -27,11 +31,14 @@ filled g c =
     }
 
 -- the slab that comes to its place
-new : (g : Over) (c : After-replace-vacant g) → (c.replace-vacant.new.dest.places.items ≡ replicate (4096 / g.K.Kind.SIZE) Home) × (c.replace-vacant.new.dest.page ≡ c.first-page.result)
+new : (g : Over) (c : After-replace-vacant g)
+    → (c.replace-vacant.new.dest.places.items ≡ replicate (4096 / g.K.Kind.SIZE) Home) × (c.replace-vacant.new.dest.page ≡ c.first-page.result)
 new g c = (ap places_of c.replace-vacant.ensures.after ∙ c.new-2.ensures.places, ap page_of c.replace-vacant.ensures.after ∙ (c.new-2.ensures.page ∙ sym c.first-page.ensures))
 
 -- the table with it
-after : (g : Over) (c : After-replace-vacant g) → IsFilled c.self.inside.slabs.items c.fill_table.new.slabs.items c.reserve_tables.new.partial.items c.self.inside.out c.first-page.result → IsSlabTable (set c.fill_table.new.slabs.items c.first-page.result c.replace-vacant.new.dest) (c.reserve_tables.new.partial.items ++ c.first-page.result ∷ []) c.self.inside.out × (length c.reserve_tables.new.partial.items < length c.fill_table.new.slabs.items)
+after : (g : Over) (c : After-replace-vacant g)
+    → IsFilled c.self.inside.slabs.items c.fill_table.new.slabs.items c.reserve_tables.new.partial.items c.self.inside.out c.first-page.result
+    → IsSlabTable (set c.fill_table.new.slabs.items c.first-page.result c.replace-vacant.new.dest) (c.reserve_tables.new.partial.items ++ c.first-page.result ∷ []) c.self.inside.out × (length c.reserve_tables.new.partial.items < length c.fill_table.new.slabs.items)
 after g c f =
     let row = row_objects _ g.K.Kind.is_row in
     partial_grown c.fill_table.new.slabs.items c.first-page.result (4096 / g.K.Kind.SIZE) c.self.inside.out c.index_mut.result.now c.replace-vacant.new.dest c.reserve_tables.new.partial.items f.stack f.within c.index_mut.ensures.value f.vacant (new g c).1 (new g c).0 row.0 row.1
@@ -78,4 +85,5 @@ pub new-requires-2 : goal.new-requires-2
 new-requires-2 g c = c.requires.one_page
 
 pub fill_table-requires : goal.fill_table-requires
-fill_table-requires g c none = c.in-Ok.ensures.room (c.self.inside.slabs.ok.0 ∙ (sym (ap length c.reserve_tables.ensures.slabs) ∙ (sym c.reserve_tables.new.slabs.ok.0 ∙ none)))
+fill_table-requires g c none =
+    c.in-Ok.ensures.room (c.self.inside.slabs.ok.0 ∙ (sym (ap length c.reserve_tables.ensures.slabs) ∙ (sym c.reserve_tables.new.slabs.ok.0 ∙ none)))

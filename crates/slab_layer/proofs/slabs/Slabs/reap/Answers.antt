@@ -27,7 +27,8 @@ noted : (g : Over) (c : After-replace-slab g) → IsIdleAt c.self.inside.slabs.i
 noted g c i = ap page_of c.replace-slab.ensures.value ∙ number_is c.self.inside.slabs.items c.in-Some.at c.self.inside.out c.self.inside.partial.items c.index_mut.result.now c.self.invariant.0 i.within c.index_mut.ensures.value
 
 -- and gives its place to a vacant one
-after : (g : Over) (c : After-take_number g) → IsIdleAt c.self.inside.slabs.items c.in-Some.at → IsSlabTable (set c.self.inside.slabs.items c.in-Some.at c.replace-slab.new.dest) c.take_number.new.numbers.items c.self.inside.out
+after : (g : Over) (c : After-take_number g) → IsIdleAt c.self.inside.slabs.items c.in-Some.at
+    → IsSlabTable (set c.self.inside.slabs.items c.in-Some.at c.replace-slab.new.dest) c.take_number.new.numbers.items c.self.inside.out
 after g c i = partial_reaped c.self.inside.slabs.items c.in-Some.at c.self.inside.out c.index_mut.result.now c.replace-slab.new.dest c.self.inside.partial.items c.take_number.new.numbers.items c.self.invariant.0 i c.index_mut.ensures.value (ap page_of c.replace-slab.ensures.after ∙ c.vacant.ensures.page) (ap places_of c.replace-slab.ensures.after ∙ c.vacant.ensures.places) c.take_number.ensures.count c.take_number.ensures.each
 
 -- a page's number is a small one
@@ -47,7 +48,8 @@ pub take_number-requires : goal.take_number-requires
 take_number-requires g c = on_stack c.self.inside.slabs.items c.in-Some.at c.self.inside.out c.self.inside.partial.items c.self.invariant.0 (idle g (goal.at.take_number-requires g c).In-Some)
 
 pub invariant_of-self : goal.invariant_of-self
-invariant_of-self g c = let h = goal.at.invariant_of-self g c in (after g h.After-take_number (idle g h.In-Some), omega (arith, c.self.invariant.1, c.take_number.ensures.capacity))
+invariant_of-self g c =
+    let h = goal.at.invariant_of-self g c in (after g h.After-take_number (idle g h.In-Some), omega (arith, c.self.invariant.1, c.take_number.ensures.capacity))
 
 pub returns-clause-one_page : goal.returns-clause-one_page
 returns-clause-one_page g c = IfSome_then c.end.result c.end.ensures.page (λ s p. p.1)
@@ -95,7 +97,9 @@ had g c i =
     subst (λ ps. 0 < length ps) (read ∙ sym (ap places_of c.replace-slab.ensures.value)) i.had
 
 pub returns-clause-none : goal.returns-clause-none
-returns-clause-none g c = let h = goal.at.returns-clause-none g c in never_none _ c.end.result (c.end.ensures.had (had g h.After-replace-slab (idle g h.In-Some)))
+returns-clause-none g c =
+    let h = goal.at.returns-clause-none g c in never_none _ c.end.result (c.end.ensures.had (had g h.After-replace-slab (idle g h.In-Some)))
 
 pub returns-clause-unchanged : goal.returns-clause-unchanged
-returns-clause-unchanged g c = let h = goal.at.returns-clause-unchanged g c in never_none _ c.end.result (c.end.ensures.had (had g h.After-replace-slab (idle g h.In-Some)))
+returns-clause-unchanged g c =
+    let h = goal.at.returns-clause-unchanged g c in never_none _ c.end.result (c.end.ensures.had (had g h.After-replace-slab (idle g h.In-Some)))

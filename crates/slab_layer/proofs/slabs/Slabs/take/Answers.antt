@@ -28,7 +28,8 @@ index-requires g c = omega (arith, (top g (goal.at.index-requires g c).In-Some).
 pub overflow_add-self : goal.overflow_add-self
 overflow_add-self g c =
     let few = partial_few _ _ _ _ c.self.invariant.0 in
-    let same : c.if-not-has_home.self-inside.out ≡ c.self.inside.out = elim c.if-not-has_home.branch [ then-not-has_home w ↦ ap (λ s. s.out) w.self-inside-is | else-not-has_home w ↦ ap (λ s. s.out) w.self-inside-is ] in
+    let same : c.if-not-has_home.self-inside.out ≡ c.self.inside.out =
+    elim c.if-not-has_home.branch [ then-not-has_home w ↦ ap (λ s. s.out) w.self-inside-is | else-not-has_home w ↦ ap (λ s. s.out) w.self-inside-is ] in
     omega (arith, few)
 
 pub invariant_of-self : goal.invariant_of-self
@@ -39,7 +40,8 @@ invariant_of-self g c =
     let rest = take (length partial - 1) partial in
     let t = top g (goal.at.invariant_of-self g c).In-Some in
     let new = c.take-object.new.self in
-    let now : c.has_home.result ≡ has_home new.places.items = c.has_home.ensures ∙ ap (λ s. has_home s.places.items) (read_set xs at new c.index.result.now t.within c.index.ensures) in
+    let now : c.has_home.result ≡ has_home new.places.items =
+    c.has_home.ensures ∙ ap (λ s. has_home s.places.items) (read_set xs at new c.index.result.now t.within c.index.ensures) in
     let taken = partial_taken xs at (c.take-object.result.slot % 256) c.index_mut.result.now new partial rest c.self.inside.out c.has_home.result c.self.invariant.0 t.last t.within c.index_mut.ensures.value c.take-object.ensures.page c.take-object.ensures.was_home c.take-object.ensures.out now in
     elim c.if-not-has_home.branch [
       | then-not-has_home w ↦ rw w.self-inside-is (taken w.pop.new.self.items (w.pop.ensures.rest ∙ (ap (λ n. take (n - 1) partial) c.self.inside.partial.ok.0 ∙ sym (ap (λ b. if not b then rest else partial) w.if-not-has_home.true))), omega (arith, c.self.invariant.1, w.pop.ensures.capacity))

@@ -3,7 +3,8 @@ use Rattle.vmem_arena.specs.declared.segment.Tag.{Tag}
 use Rattle.vmem_arena.specs.Segments.{with_before}
 use Rattle.vmem_arena.proofs.segment.Table.set_before.Goals as goal
 
-set_is : (ts : List Tag) (page len : ℕ) (d : Tag) → page < length ts → slice_set ts page (record (slice_index_or ts page d) { before = len }) ≡ with_before ts page len
+set_is : (ts : List Tag) (page len : ℕ) (d : Tag) → page < length ts
+    → slice_set ts page (record (slice_index_or ts page d) { before = len }) ≡ with_before ts page len
 set_is [] page len d within = refl
 set_is (t ∷ ts) zero len d within = refl
 set_is (t ∷ ts) (suc page) len d within = ap (λ us. t ∷ us) (set_is ts page len d (omega arith))
