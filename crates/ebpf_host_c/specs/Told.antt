@@ -1,9 +1,11 @@
 -- What C is told.
-use Rattle.std.specs.Prelude.{◌≡◌, ℕ, ◌++◌, List, [], ◌∷◌, length, filter, take, drop, is_some, unwrap_or, string_bytes}
+use Rattle.std.specs.Prelude.{◌≡◌, ℕ, Bool, true, false, ◌++◌, List, [], ◌∷◌, length, filter, take, drop, is_some, unwrap_or, string_bytes}
 use Rattle.ebpf_verify.specs.Subject.{Subject}
 use Rattle.ebpf_command.specs.Codes.{refusal_name}
+use Rattle.ebpf_machine.specs.declared.report.Reply.{Reply}
+use Rattle.ebpf_machine.specs.declared.report.Reply.TheVariants.{Null, Granted, Empty, Shelf}
 use Rattle.ebpf_machine.specs.declared.report.Report.{Report}
-use Rattle.ebpf_machine.specs.Whole.{is_granted, is_null, is_fetched, is_empty}
+use Rattle.ebpf_machine.specs.Whole.{is_granted, is_null, is_fetched}
 use Rattle.ebpf_host.specs.declared.refusal.Refusal.{Refusal}
 use Rattle.ebpf_host.specs.declared.stocks.Stocks.{Stocks}
 use Rattle.ebpf_host.specs.Leaving.{AreLeft}
@@ -11,6 +13,13 @@ use Rattle.ebpf_host.specs.Loading.{IsRefusedAs}
 use Rattle.ebpf_host.specs.Reports.{IsReportWithin}
 use Rattle.ebpf_host_c.specs.declared.told.Refused.{Refused}
 use Rattle.ebpf_host_c.specs.declared.told.Reported.{Reported}
+
+-- a call of swap that found nothing on the shelf
+abbrev pub is_empty : Reply → Bool
+is_empty Empty = true
+is_empty Shelf = false
+is_empty Null = false
+is_empty Granted = false
 
 -- as many of the items as there is room for, and the rest of the room as it was
 abbrev pub copied : {X : Type 0} → List X → List X → List X

@@ -1,9 +1,9 @@
 //! What C is told: why bytes are refused, and what a run did.
 
 ghost use Rattle.std.specs.Prelude.{◌≡◌, [], ◌∷◌, filter, is_some, length, string_bytes, unwrap_or};
-ghost use Rattle.ebpf_machine.specs.Whole.{is_granted, is_null, is_fetched, is_empty};
+ghost use Rattle.ebpf_machine.specs.Whole.{is_granted, is_null, is_fetched};
 ghost use Rattle.ebpf_command.specs.Codes.{refusal_name};
-ghost use Rattle.ebpf_host_c.specs.Told.{copied};
+ghost use Rattle.ebpf_host_c.specs.Told.{copied, is_empty};
 
 use ebpf_host::refusal::Refusal;
 use ebpf_machine::report::{Reply, Report};

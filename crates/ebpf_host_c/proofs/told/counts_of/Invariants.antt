@@ -1,5 +1,6 @@
 use Rattle.std.proofs.Common.{◌≡◌, ◌+◌, ◌≤◌, filter, length, take}
-use Rattle.ebpf_machine.specs.Whole.{is_granted, is_null, is_fetched, is_empty}
+use Rattle.ebpf_machine.specs.Whole.{is_granted, is_null, is_fetched}
+use Rattle.ebpf_host_c.specs.Told.{is_empty}
 use Rattle.ebpf_host_c.proofs.told.counts_of.Given as goal
 
 abbrev pub invariant-loop-reply : goal.invariant-loop-reply
