@@ -11,6 +11,9 @@ is a comment, and blank lines are passed over. No name stands twice.
 COMMAND AND OPTIONS are words as in a shell, so that '' is an empty one. A word in brackets, as [--nulls], is an option
 that may be left out: the case is tried without it and with it.
 
+In INPUT a program may be written as instructions, as `list` writes them, between backquotes and with a semicolon between two:
+`mov64 r0, 7; exit` is its hex. Hex stays where the bytes are what is tried.
+
 In INPUT, TEXT and the words \n \t \r \\ and \xHH are escapes. \xHH is a byte: \x20 is a blank at an end of a field, \x7c
 a bar, and a character beyond ASCII has its UTF-8 bytes. {PART*N} is PART, N times; # in PART is the number of the turn,
 from 0. \x23 \x2a \x7b \x7d are # * { } themselves.
@@ -21,6 +24,7 @@ import re
 import shlex
 from typing import NamedTuple
 
+from assembly import encoded
 from built import TESTS
 
 TABLE = TESTS / 'commands.txt'
@@ -57,6 +61,11 @@ def bytes_of(field):
     return text
 
 
+def with_programs(field):
+    """The field with the hex of each program that is written as instructions."""
+    return re.sub('`([^`]*)`', lambda found: b''.join(map(encoded, found[1].split('; '))).hex(), field)
+
+
 def words_of(command):
     """The words as they stand: shlex would take the backslashes for its own."""
     lexer = shlex.shlex(command, posix=True)
@@ -87,7 +96,7 @@ def case_of(line):
     name, command, given, status, text = fields
     if not name or not command or not status.isdigit():
         raise ValueError('no name, no command, or a status that is no number')
-    return Case(name, calls_of(command), bytes_of(given), int(status), bytes_of(text))
+    return Case(name, calls_of(command), bytes_of(with_programs(given)), int(status), bytes_of(text))
 
 
 def cases_of(lines):
