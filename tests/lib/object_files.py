@@ -1,10 +1,10 @@
 """What the tests of the built program know of object files: those that are kept, their functions, and the numbers in them."""
 
-from pathlib import Path
 from typing import NamedTuple
 
-HERE = Path(__file__).resolve().parent
-FILES = [*sorted(HERE.glob('objects/*.o')), *sorted(HERE.parent.glob('examples/*.o'))]
+from built import TESTS, TOP
+
+FILES = [*sorted(TESTS.glob('objects/*.o')), *sorted(TOP.glob('examples/*.o'))]
 
 # the fields of each header: the offset and the size of a number
 HEADER = [(4, 1), (5, 1), (6, 1), (16, 2), (18, 2), (20, 4), (32, 8), (40, 8), (52, 2), (58, 2), (60, 2), (62, 2)]
