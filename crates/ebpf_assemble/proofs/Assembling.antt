@@ -50,7 +50,8 @@ writes_slots text p input old new result is h short given =
     of_result result (subst (λ (i : Option (List ℕ)). Writes Assembles i old new result) given h)
   where
     of_result : (r : Result Done EngineFault) → Writes Assembles (Some text) old new r → Writes (λ _ response. AreSlotsOf p response) input old new r
-    of_result (Ok done) k = subst (λ (i : Option (List ℕ)). Writes (λ _ response. AreSlotsOf p response) i old new (Ok done)) (sym given) (k.0, slots_of text p k.0 is short k.1, k.2, k.3)
+    of_result (Ok done) k = subst (λ (i : Option (List ℕ)). Writes (λ _ response. AreSlotsOf p response) i old new (Ok done)) (sym given)
+        (k.0, slots_of text p k.0 is short k.1, k.2, k.3)
     of_result (Err fault) k = tt
 
 -- and those of a program of which the input is the listing

@@ -14,4 +14,5 @@ pub behind_two : {A E : Type 0} (result : Result A E) (before one two new a b c 
     → c ≡ d → OnOk result (new ≡ two ++ c) → OnOk result (new ≡ before ++ (a ++ (b ++ d)))
 behind_two (Err e) before one two new a b c d f g h k = tt
 behind_two (Ok r) before one two new a b c d f g h k =
-    k ∙ (ap (λ (xs : List ℕ). two ++ xs) h ∙ (ap (λ (xs : List ℕ). xs ++ d) g ∙ (append_assoc one b d ∙ (ap (λ (xs : List ℕ). xs ++ (b ++ d)) f ∙ append_assoc before a (b ++ d)))))
+    k ∙ (ap (λ (xs : List ℕ). two ++ xs) h
+        ∙ (ap (λ (xs : List ℕ). xs ++ d) g ∙ (append_assoc one b d ∙ (ap (λ (xs : List ℕ). xs ++ (b ++ d)) f ∙ append_assoc before a (b ++ d)))))

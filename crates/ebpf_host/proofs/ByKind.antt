@@ -93,15 +93,19 @@ module _ (old new : Stocks) (kind : ℕ) (stay : OthersStay old new kind) where
       by : (kind_of other ≡ kind) ⊎ (kind_of other ≢ kind) → Holds old other × (number_of other ≢ number_of o)
       by (inl same) =
           let was = t.before (slot_of other) (subst (λ (k : ℕ). IsHeld (stock_of new k) (slot_of other)) same held) in
-          (subst (λ (k : ℕ). IsHeld (stock_of old k) (slot_of other)) (sym same) was.0, λ e. was.1 (same_slot (kind_of other) (kind_of o) (slot_of other) (slot_of o) (few_kinds other) (few_kinds o) e))
+          (subst (λ (k : ℕ). IsHeld (stock_of old k) (slot_of other)) (sym same) was.0, λ e.
+              was.1 (same_slot (kind_of other) (kind_of o) (slot_of other) (slot_of o) (few_kinds other) (few_kinds o) e))
       by (inr apart) =
-          (subst (λ (s : StockView). IsHeld s (slot_of other)) (stay (kind_of other) apart) held, λ e. apart (same_kind (kind_of other) (kind_of o) (slot_of other) (slot_of o) (few_kinds other) (few_kinds o) e ∙ of_kind))
+          (subst (λ (s : StockView). IsHeld s (slot_of other)) (stay (kind_of other) apart) held, λ e.
+              apart (same_kind (kind_of other) (kind_of o) (slot_of other) (slot_of o) (few_kinds other) (few_kinds o) e ∙ of_kind))
 
     pub given_counted : (k : ℕ) → held_of new k + (if k == kind then 1 else 0) ≡ held_of old k
     given_counted k = let e = counted_by 1 0 (let counts = t.counted in omega (arith, counts)) k in grind (arith, nat_tests, e)
 
     pub given_others : (other : Object) → Holds old other → number_of other ≢ number_of o → Holds new other
-    given_others other held apart = still other held (λ same was. t.others (slot_of other) was (λ slots. apart ((λ i. number_in (same i) (slots i)) ∙ ap (λ (k : ℕ). number_in k (slot_of o)) (sym of_kind))))
+    given_others other held apart = still other held
+        (λ same was. t.others (slot_of other) was
+        (λ slots. apart ((λ i. number_in (same i) (slots i)) ∙ ap (λ (k : ℕ). number_in k (slot_of o)) (sym of_kind))))
 
   -- ---- an object, or nothing, is exchanged for what stands on the shelf
 

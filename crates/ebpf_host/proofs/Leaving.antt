@@ -45,7 +45,8 @@ done_told told given_is as_told same (Goes (Exchange k given) to after) shelf wh
 given_told : {S H : Type 0} (o : Store S H) (s : S) (r : RunState H) (given : Option ℕ)
     → bytes_on (shelved_from (shelved_as o s) r.held given) ≡ bytes_given (seen_in o s r) given
 given_told o s r None = refl
-given_told {S} {H} o s r (Some call) = of (find (λ h. h.call == call) r.held) ∙ ap (option_map (λ (x : ObjectView). x.bytes)) (sym (find-map (λ (x : ObjectView). x.call == call) (object_seen (o.bytes_of s)) r.held)) where
+given_told {S} {H} o s r (Some call) = of (find (λ h. h.call == call) r.held)
+    ∙ ap (option_map (λ (x : ObjectView). x.bytes)) (sym (find-map (λ (x : ObjectView). x.call == call) (object_seen (o.bytes_of s)) r.held)) where
   of : (found : Option (Holding H))
       → bytes_on (option_map (λ h. shelved_as o s h.object) found) ≡ option_map (λ x. x.bytes) (option_map (object_seen (o.bytes_of s)) found)
   of None = refl
@@ -113,10 +114,12 @@ module _ {S H : Type 0} (o : Store S H) (first : S) (subject : Subject) (context
           ap (λ (u : RunView). more_than (replies_of u) more) s.2.state ∙ ap (λ (x : Replies). more_than x more) told.1 ∙ more_again (replies_of v) told.0 more
 
       seen : (more : Replies) → view_in (alone_after number subject context (more_than (replies_of v) more)).world 0 ≡ Some v
-      seen more = (λ i. view_in (alone_after (sym before.executed i) (sym was.subject_is i) (sym was.context_is i) (more_than (replies_of v) more)).world 0) ∙ alone_more v more was.sound was.alone
+      seen more = (λ i. view_in (alone_after (sym before.executed i) (sym was.subject_is i) (sym was.context_is i) (more_than (replies_of v) more)).world 0)
+          ∙ alone_more v more was.sound was.alone
 
       bytes : (more : Replies)
-          → bytes_on (standing_after o old r.held (effect_of_view v) shelf before.what) ≡ left_after (suc number) subject context (more_than (replies_of (seen_in o new t)) more) shelf (bytes_on stood)
+          → bytes_on (standing_after o old r.held (effect_of_view v) shelf before.what)
+            ≡ left_after (suc number) subject context (more_than (replies_of (seen_in o new t)) more) shelf (bytes_on stood)
       bytes more =
           let rest = more_than told.0 more in
           done_told bytes_on (shelved_from (shelved_as o old) r.held) (bytes_given v) (given_told o old r) (effect_of_view v) shelf before.what
@@ -127,7 +130,9 @@ module _ {S H : Type 0} (o : Store S H) (first : S) (subject : Subject) (context
   left_turns : (number : ℕ) (now : S) (r t : RunState H) → ((s : S) → HaveSizes o s) → o.kinds ≡ kinds_of subject.rows
       → IsUnderWay o first first subject context r → r.executed ≡ 0 → o.stand first shelf stood → AreTurns o number r t first now
       → IsLeftSoFar number now t
-  left_turns zero now r t sizes kinds start none stands turns = rw (turns.0, turns.1) (record { what = stood; stands = stands; executed = none; bytes_are = λ more. sym (left_none subject context (more_than (replies_of (seen_in o first r)) more) shelf (bytes_on stood)) })
+  left_turns zero now r t sizes kinds start none stands turns =
+      rw (turns.0, turns.1) (record { what = stood; stands = stands; executed = none; bytes_are = λ more.
+      sym (left_none subject context (more_than (replies_of (seen_in o first r)) more) shelf (bytes_on stood)) })
   left_turns (suc number) now r t sizes kinds start none stands turns =
       left_turn number turns.store now turns.run t (sizes turns.store) kinds
       (under_way o first first turns.store subject context number r turns.run sizes kinds start turns.before) turns.last
@@ -160,7 +165,8 @@ same_bytes s shelf = of (stock_of s shelf).shelf where
 
 -- so what a store of these shelves has there is what the machine has
 pub on_machine : (old new : Stocks) (s : Subject) (context : List ℕ) (r : Report)
-    → ((shelf : ℕ) (what : Option Shelved) → what ≡ standing_on old shelf → (now : Option Shelved) × (now ≡ standing_on new shelf) × (bytes_on now ≡ left_in s context r shelf (bytes_on what)))
+    → ((shelf : ℕ) (what : Option Shelved) → what ≡ standing_on old shelf → (now : Option Shelved) × (now ≡ standing_on new shelf)
+      × (bytes_on now ≡ left_in s context r shelf (bytes_on what)))
     → AreLeft old new s context r
 on_machine old new s context r left shelf =
     let is = left shelf (standing_on old shelf) refl in

@@ -4,6 +4,7 @@ ghost use Rattle.std.specs.Prelude.{◌≡◌, ◌≢◌, ◌⊎◌, ◌<◌, �
 ghost use Rattle.std.specs.Option.{MatchOption};
 ghost use Rattle.vmem_arena.specs.declared.arena.TheConstants.{MAX_PAGES};
 ghost use Rattle.ebpf_host.specs.Stocks.{stock_of};
+ghost use Rattle.ebpf_host_c.specs.Handles.{IsRunTold, MachineGoes, PagesStay, ShelvesStay};
 ghost use Rattle.ebpf_host_c.specs.Told.{IsReportTold};
 
 use crate::status::{CONTEXT, DONE, EMPTY, NO_MEMORY, PAGES};
@@ -49,8 +50,8 @@ pub extern "C" fn ebpf_machine_free(alloc: Global, machine: &mut MachineHandle)
 #[unsafe(no_mangle)]
 pub extern "C" fn ebpf_machine_reap(alloc: Global, machine: &mut MachineHandle) -> u32
     ensures told { MatchOption machine.old.value (result ≡ 5) (λ _. result ≡ 0) }
-    ensures shelves { MatchOption machine.old.value (machine.new.value ≡ None) (λ old. MatchOption machine.new.value ⊥ (λ new. (kind : ℕ) → (stock_of new kind).shelf ≡ (stock_of old kind).shelf)) }
-    ensures pages { MatchOption machine.old.value (machine.new.value ≡ None) (λ old. MatchOption machine.new.value ⊥ (λ new. new.arena.pages ≡ old.arena.pages)) }
+    ensures shelves { MachineGoes ShelvesStay machine.old.value machine.new.value }
+    ensures pages { MachineGoes PagesStay machine.old.value machine.new.value }
 {
     match machine.take(alloc) {
         None => EMPTY,
@@ -74,8 +75,8 @@ pub extern "C" fn ebpf_machine_run(
     output: &mut [u64],
     report: &mut Reported,
 ) -> u32
-    ensures report { result ≡ 0 → MatchOption program.old.value ⊥ (λ p. MatchOption machine.old.value ⊥ (λ old. MatchOption machine.new.value ⊥ (λ new. IsReportTold old new p.verified context.now limit output.old output.new report.new))) }
-    ensures pages { MatchOption machine.old.value (machine.new.value ≡ None) (λ old. MatchOption machine.new.value ⊥ (λ new. new.arena.pages ≡ old.arena.pages)) }
+    ensures report { result ≡ 0 → IsRunTold program.old.value machine.old.value machine.new.value context.now limit output.old output.new report.new }
+    ensures pages { MachineGoes PagesStay machine.old.value machine.new.value }
     ensures unchanged { result ≢ 0 → machine.new.value ≡ machine.old.value }
     ensures context { result ≡ 4 → MatchOption program.old.value ⊥ (λ p. length context.now ≢ p.verified.decl.context) }
     ensures empty { MatchOption machine.old.value (result ≡ 5) (λ _. MatchOption program.old.value (result ≡ 5) (λ _. (result ≡ 0) ⊎ (result ≡ 4) ⊎ (result ≡ 6))) }

@@ -19,7 +19,8 @@ use Rattle.ebpf_layout.proofs.Renamed.{AreApart, placed, object_placed, laid_vie
 -- an act took a run to a slot, and the run in the new program to another; or both were trapped where they stood
 abbrev pub Follows : List (Option Insn) → (ℕ → ℕ) → ℕ → ℕ → ℕ → RunView → RunView → RunView → Type 0
 Follows q place executed to there v now new =
-    ((now.pc ≡ to) × (now.status ≡ v.status) × (new ≡ record (laid_view q place executed now) { pc = there })) ⊎ ((now.pc ≡ v.pc) × (new ≡ laid_view q place executed now))
+    ((now.pc ≡ to) × (now.status ≡ v.status) × (new ≡ record (laid_view q place executed now) { pc = there }))
+        ⊎ ((now.pc ≡ v.pc) × (new ≡ laid_view q place executed now))
 
 -- ---- the lists of objects
 
@@ -27,7 +28,8 @@ patched_placed : (place : ℕ → ℕ) (call at : ℕ) (bytes : List ℕ) (o : O
     → patched_at (place call) at bytes (object_placed place o) ≡ object_placed place (patched_at call at bytes o)
 patched_placed place call at bytes o apart = rw (same_names place o.call call apart) (by (o.call == call)) where
   by : (t : Bool)
-      → cond t (record (object_placed place o) { bytes = patched o.bytes at bytes }) (object_placed place o) ≡ object_placed place (cond t (record o { bytes = patched o.bytes at bytes }) o)
+      → cond t (record (object_placed place o) { bytes = patched o.bytes at bytes }) (object_placed place o)
+        ≡ object_placed place (cond t (record o { bytes = patched o.bytes at bytes }) o)
   by true = refl
   by false = refl
 
@@ -65,24 +67,28 @@ pushed_placed place (x ∷ objects) o = ap (λ (os : List ObjectView). object_pl
 abbrev told_on : CallResult → Value ℕ → ℕ → Frame ℕ → List ObjectView → List ℕ → RunView → RunView
 told_on result value to frame objects taken v = record (replied result value to frame v) { objects = objects; taken = taken }
 
-replied_placed : (q : List (Option Insn)) (place : ℕ → ℕ) (executed : ℕ) (result : CallResult) (value : Value ℕ) (to there : ℕ) (frame : Frame ℕ) (objects new : List ObjectView) (taken : List ℕ) (v : RunView)
+replied_placed : (q : List (Option Insn)) (place : ℕ → ℕ) (executed : ℕ) (result : CallResult) (value : Value ℕ) (to there : ℕ) (frame : Frame ℕ)
+    (objects new : List ObjectView) (taken : List ℕ) (v : RunView)
     → new ≡ map (object_placed place) objects
     → told_on result (value_renamed place value) there (frame_renamed place frame) new taken (laid_view q place executed v)
     ≡ record (laid_view q place (executed + 1) (told_on result value to frame objects taken v)) { pc = there }
 replied_placed q place executed result value to there frame objects new taken v same =
     ap (λ (os : List ObjectView). told_on result (value_renamed place value) there (frame_renamed place frame) os taken (laid_view q place executed v)) same
-    ∙ ap (λ (f : Frame ℕ). record (told_on result (value_renamed place value) there (frame_renamed place frame) (map (object_placed place) objects) taken (laid_view q place executed v)) { frame = f })
+    ∙ ap (λ (f : Frame ℕ). record (told_on result (value_renamed place value) there (frame_renamed place frame) (map (object_placed place) objects) taken
+      (laid_view q place executed v)) { frame = f })
     (with_value-told (placed place) frame R0 value)
 
 answer_follows : (q : List (Option Insn)) (place : ℕ → ℕ) (executed : ℕ) (result : CallResult) (to there : ℕ) (frame : Frame ℕ) (kind : ℕ) (v : RunView)
-    → Follows q place (executed + 1) to there v (answered result to frame kind v) (answered result there (frame_renamed place frame) kind (laid_view q place executed v))
+    → Follows q place (executed + 1) to there v (answered result to frame kind v)
+      (answered result there (frame_renamed place frame) kind (laid_view q place executed v))
 answer_follows q place executed Null to there frame kind v =
     inl (refl, refl, replied_placed q place executed Null (Number 0) to there frame v.objects (map (object_placed place) v.objects) v.taken v refl)
 answer_follows q place executed Empty to there frame kind v =
     inl (refl, refl, replied_placed q place executed Null (Number 0) to there frame v.objects (map (object_placed place) v.objects) v.taken v refl)
 answer_follows q place executed (Shelved bytes) to there frame kind v =
     inl (refl, refl, replied_placed q place executed Null (Number 0) to there frame v.objects (map (object_placed place) v.objects) v.taken v refl)
-answer_follows q place executed Granted to there frame kind v = rw (length-map v.objects (object_placed place)) (by (nat_le v.subject.decl.held (length v.objects))) where
+answer_follows q place executed Granted to there frame kind v =
+    rw (length-map v.objects (object_placed place)) (by (nat_le v.subject.decl.held (length v.objects))) where
   granted : RunView
   granted = told_on Granted (Pointer (Object v.pc) (pos 0)) to frame (v.objects ++ new_object v kind ∷ []) v.taken v
 
@@ -94,22 +100,28 @@ answer_follows q place executed Granted to there frame kind v = rw (length-map v
 
   by : (t : Bool) → Follows q place (executed + 1) to there v (cond t (trapped TooManyObjects v) granted) (cond t (trapped TooManyObjects laid) followed)
   by true = inr (refl, refl)
-  by false = inl (refl, refl, replied_placed q place executed Granted (Pointer (Object v.pc) (pos 0)) to there frame (v.objects ++ new_object v kind ∷ []) (laid.objects ++ new_object laid kind ∷ []) v.taken v (pushed_placed place v.objects (new_object v kind)))
+  by false = inl (refl, refl, replied_placed q place executed Granted (Pointer (Object v.pc) (pos 0)) to there frame (v.objects ++ new_object v kind ∷ [])
+      (laid.objects ++ new_object laid kind ∷ []) v.taken v (pushed_placed place v.objects (new_object v kind)))
 
 emptied : (q : List (Option Insn)) (place : ℕ → ℕ) (executed to there : ℕ) (frame : Frame ℕ) (given : Option ℕ) (v : RunView) → AreApart place
-    → told_on Empty (Number 0) there (frame_renamed place frame) (without_given (option_map place given) (map (object_placed place) v.objects)) v.taken (laid_view q place executed v)
+    → told_on Empty (Number 0) there (frame_renamed place frame) (without_given (option_map place given) (map (object_placed place) v.objects)) v.taken
+      (laid_view q place executed v)
     ≡ record (laid_view q place (executed + 1) (told_on Empty (Number 0) to frame (without_given given v.objects) v.taken v)) { pc = there }
 emptied q place executed to there frame given v apart =
-    replied_placed q place executed Empty (Number 0) to there frame (without_given given v.objects) (without_given (option_map place given) (map (object_placed place) v.objects)) v.taken v (left_placed place given v.objects apart)
+    replied_placed q place executed Empty (Number 0) to there frame (without_given given v.objects)
+        (without_given (option_map place given) (map (object_placed place) v.objects)) v.taken v (left_placed place given v.objects apart)
 
-exchange_follows : (q : List (Option Insn)) (place : ℕ → ℕ) (executed : ℕ) (result : CallResult) (to there : ℕ) (frame : Frame ℕ) (shelf : ℕ) (given : Option ℕ) (v : RunView)
+exchange_follows : (q : List (Option Insn)) (place : ℕ → ℕ) (executed : ℕ) (result : CallResult) (to there : ℕ) (frame : Frame ℕ) (shelf : ℕ)
+    (given : Option ℕ) (v : RunView)
     → AreApart place
-    → Follows q place (executed + 1) to there v (exchanged result to frame shelf given v) (exchanged result there (frame_renamed place frame) shelf (option_map place given) (laid_view q place executed v))
+    → Follows q place (executed + 1) to there v (exchanged result to frame shelf given v)
+      (exchanged result there (frame_renamed place frame) shelf (option_map place given) (laid_view q place executed v))
 exchange_follows q place executed Empty to there frame shelf given v apart = inl (refl, refl, emptied q place executed to there frame given v apart)
 exchange_follows q place executed Null to there frame shelf given v apart = inl (refl, refl, emptied q place executed to there frame given v apart)
 exchange_follows q place executed Granted to there frame shelf given v apart = inl (refl, refl, emptied q place executed to there frame given v apart)
 exchange_follows q place executed (Shelved bytes) to there frame shelf given v apart =
-    rw (left_placed place given v.objects apart, length-map (without_given given v.objects) (object_placed place)) (by (nat_le v.subject.decl.held (length left))) where
+    rw (left_placed place given v.objects apart, length-map (without_given given v.objects) (object_placed place))
+        (by (nat_le v.subject.decl.held (length left))) where
       left : List ObjectView
       left = without_given given v.objects
 
@@ -120,7 +132,8 @@ exchange_follows q place executed (Shelved bytes) to there frame shelf given v a
       got = told_on (Shelved bytes) (Pointer (Object v.pc) (pos 0)) to frame (left ++ shelved_object v shelf bytes ∷ []) (v.taken ++ bytes) v
 
       followed : RunView
-      followed = told_on (Shelved bytes) (Pointer (Object (place v.pc)) (pos 0)) there (frame_renamed place frame) (map (object_placed place) left ++ shelved_object laid shelf bytes ∷ []) (v.taken ++ bytes) laid
+      followed = told_on (Shelved bytes) (Pointer (Object (place v.pc)) (pos 0)) there (frame_renamed place frame)
+          (map (object_placed place) left ++ shelved_object laid shelf bytes ∷ []) (v.taken ++ bytes) laid
 
       by : (t : Bool) → Follows q place (executed + 1) to there v (cond t (trapped TooManyObjects v) got) (cond t (trapped TooManyObjects laid) followed)
       by true = inr (refl, refl)
@@ -128,22 +141,26 @@ exchange_follows q place executed (Shelved bytes) to there frame shelf given v a
         refl,
         refl,
         replied_placed q place executed (Shelved bytes) (Pointer (Object v.pc) (pos 0)) to there frame (left ++ shelved_object v shelf bytes ∷ [])
-            (map (object_placed place) left ++ shelved_object laid shelf bytes ∷ []) (v.taken ++ bytes) v (pushed_placed place left (shelved_object v shelf bytes)),
+            (map (object_placed place) left ++ shelved_object laid shelf bytes ∷ []) (v.taken ++ bytes) v
+                (pushed_placed place left (shelved_object v shelf bytes)),
       )
 
 pub act_follows : (q : List (Option Insn)) (place : ℕ → ℕ) (executed : ℕ) (act : Act ℕ) (result : CallResult) (to there : ℕ) (frame : Frame ℕ) (v : RunView)
     → AreApart place
-    → Follows q place (executed + 1) to there v (acted act result to frame v) (acted (act_told (placed place) act) result there (frame_renamed place frame) (laid_view q place executed v))
+    → Follows q place (executed + 1) to there v (acted act result to frame v)
+      (acted (act_told (placed place) act) result there (frame_renamed place frame) (laid_view q place executed v))
 act_follows q place executed Nothing result to there frame v apart = inl (refl, refl, refl)
 act_follows q place executed (Write call at bytes) result to there frame v apart = inl (
   refl,
   refl,
-  ap (λ (os : List ObjectView). record (laid_view q place executed v) { pc = there; frame = frame_renamed place frame; executed = executed + 1; objects = os }) (written_placed place call at bytes v.objects apart),
+  ap (λ (os : List ObjectView). record (laid_view q place executed v)
+      { pc = there; frame = frame_renamed place frame; executed = executed + 1; objects = os }) (written_placed place call at bytes v.objects apart),
 )
 act_follows q place executed (Ask kind) result to there frame v apart = answer_follows q place executed result to there frame kind v
 act_follows q place executed (Free call) result to there frame v apart = inl (
   refl,
   refl,
-  ap (λ (os : List ObjectView). record (laid_view q place executed v) { pc = there; frame = frame_renamed place frame; executed = executed + 1; objects = os }) (freed_placed place call v.objects apart),
+  ap (λ (os : List ObjectView). record (laid_view q place executed v)
+      { pc = there; frame = frame_renamed place frame; executed = executed + 1; objects = os }) (freed_placed place call v.objects apart),
 )
 act_follows q place executed (Exchange shelf given) result to there frame v apart = exchange_follows q place executed result to there frame shelf given v apart

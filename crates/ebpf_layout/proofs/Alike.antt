@@ -38,7 +38,8 @@ first_placed : (p q : List (Option Insn)) (place : ℕ → ℕ) (decl : Decl) (r
 first_placed p q place decl rows context first =
     let cells : replicate 512 Unset ≡ map (cell_renamed place) (replicate 512 Unset) = sym (cells_placed place 512) in
     ap (λ (k : ℕ). record (run_of q decl rows context) { pc = k }) (sym first)
-    ∙ ap (λ (stack : List (Cell ℕ)). record (run_of q decl rows context) { pc = place 0; frame = record { registers = first_registers; stack = stack; output = [] } }) cells
+    ∙ ap (λ (stack : List (Cell ℕ)). record (run_of q decl rows context)
+      { pc = place 0; frame = record { registers = first_registers; stack = stack; output = [] } }) cells
 
 -- ---- instruction by instruction
 
@@ -84,7 +85,8 @@ paired_next p q laid told old new n h =
     let least = h.least in
     let most = h.most in
     elim (over_or_going v.status) [
-      | inl over ↦ next_by p q laid.place told old new v n (suc h.steps) h.executed (omega arith) (omega arith) (here ∙ over v result refl) (there ∙ over w result refl) h.program h.reached
+      | inl over ↦ next_by p q laid.place told old new v n (suc h.steps) h.executed (omega arith) (omega arith) (here ∙ over v result refl)
+          (there ∙ over w result refl) h.program h.reached
       | inr going ↦
           let other = told (length (stepped result w).replies) in
           let s = step_kept p q laid v h.executed result other h.program h.reached going in
@@ -92,8 +94,10 @@ paired_next p q laid told old new n h =
           let further : run_on (suc (suc h.steps)) told new ≡ stepped other (stepped result w) =
           run_more (suc h.steps) told new ∙ ap (λ (t : RunView). stepped (told (length t.replies)) t) there in
           elim s.kept [
-            | inl one ↦ next_by p q laid.place told old new (stepped result v) n (suc h.steps) (h.executed + 1) (omega arith) (omega arith) here (there ∙ one) program s.reached
-            | inr two ↦ next_by p q laid.place told old new (stepped result v) n (suc (suc h.steps)) (h.executed + 1 + 1) (omega arith) (omega arith) here (further ∙ two) program s.reached
+            | inl one ↦ next_by p q laid.place told old new (stepped result v) n (suc h.steps) (h.executed + 1) (omega arith) (omega arith) here (there ∙ one)
+                program s.reached
+            | inr two ↦ next_by p q laid.place told old new (stepped result v) n (suc (suc h.steps)) (h.executed + 1 + 1) (omega arith) (omega arith) here
+                (further ∙ two) program s.reached
           ]
     ]
 
@@ -128,4 +132,5 @@ as_far q place executed v w same =
 pub run_alike : (p q : List (Option Insn)) → IsLaidOut p q → RunAlike p q
 run_alike p q laid decl rows context told n =
     let h = paired p q laid decl rows context told n in
-    (h.steps, h.least, h.most, as_far q laid.place h.executed (run_on n told (run_of p decl rows context)) (run_on h.steps told (run_of q decl rows context)) h.same)
+    (h.steps, h.least, h.most, as_far q laid.place h.executed (run_on n told (run_of p decl rows context)) (run_on h.steps told (run_of q decl rows context))
+        h.same)

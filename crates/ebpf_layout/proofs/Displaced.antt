@@ -37,7 +37,8 @@ written_led : (there next : ℕ) (frame : Frame ℕ) (dst : Reg) (r : Result (Va
 written_led there next frame dst (Err trap) = refl
 written_led there next frame dst (Ok v) = by (is_frame_pointer dst) where
   by : (t : Bool)
-      → cond t (Traps FramePointerWritten) (Goes Nothing there (with_value frame dst v)) ≡ led_to there (cond t (Traps FramePointerWritten) (Goes Nothing next (with_value frame dst v)))
+      → cond t (Traps FramePointerWritten) (Goes Nothing there (with_value frame dst v))
+        ≡ led_to there (cond t (Traps FramePointerWritten) (Goes Nothing next (with_value frame dst v)))
   by true = refl
   by false = refl
 
@@ -207,7 +208,8 @@ displaced (insn.Jump offset) z pc at a frame both = let b = both offset refl in 
 displaced (insn.JumpFar offset) z pc at a frame both = let b = both offset refl in jump_alike (insn.JumpFar offset) pc (insn.JumpFar z) at b.0 b.1 frame b.2 b.3
 displaced (insn.Branch width condition left right offset) z pc at a frame both =
     let b = both offset refl in
-    branch_alike (insn.Branch width condition left right offset) pc (insn.Branch width condition left right z) at b.0 b.1 frame (is_taken width condition right (read frame left) (source_value frame width right)) refl b.2 b.3
+    branch_alike (insn.Branch width condition left right offset) pc (insn.Branch width condition left right z) at b.0 b.1 frame
+        (is_taken width condition right (read frame left) (source_value frame width right)) refl b.2 b.3
 displaced insn.Exit z pc at a frame both = exit_alike pc at a.holds (read frame R0)
 displaced (insn.Alu width o dst src) z pc at a frame both = plain (insn.Alu width o dst src) pc at a frame refl refl
 displaced (insn.Sext width bits dst src) z pc at a frame both = plain (insn.Sext width bits dst src) pc at a frame refl refl

@@ -29,13 +29,16 @@ reached_stays q m (suc n) to le e = elim (cases_lt n m) [
   | inl lt ↦ let same : m ≡ suc n = omega arith in rw same at e
   | inr below ↦
       let before = reached_stays q m n to below e in
-      subst (λ (k : ℕ). reached_by q k to ≡ true) (add-one n) (sym (reached_by-more q n to (reached_by q n to) refl) ∙ or_right (reached_by q n n && has_edge_to (edges_at q n) to) (reached_by q n to) before)
+      subst (λ (k : ℕ). reached_by q k to ≡ true) (add-one n)
+          (sym (reached_by-more q n to (reached_by q n to) refl) ∙ or_right (reached_by q n n && has_edge_to (edges_at q n) to) (reached_by q n to) before)
 ]
 
 reached_next : (q : List (Option Insn)) (from to : ℕ) → is_reached q from ≡ true → IsEdge q from to → from < to → is_reached q to ≡ true
 reached_next q from to reached edge lt =
     let here : reached_by q (from + 1) to ≡ true =
-    sym (reached_by-more q from to (reached_by q from to) refl) ∙ or_left (reached_by q from from && has_edge_to (edges_at q from) to) (reached_by q from to) (and_from (reached_by q from from) (has_edge_to (edges_at q from) to) reached edge) in
+    sym (reached_by-more q from to (reached_by q from to) refl)
+        ∙ or_left (reached_by q from from && has_edge_to (edges_at q from) to) (reached_by q from to)
+        (and_from (reached_by q from from) (has_edge_to (edges_at q from) to) reached edge) in
     reached_stays q (from + 1) to to (omega arith) here
 
 reached_first : (q : List (Option Insn)) → is_reached q 0 ≡ true
@@ -71,7 +74,8 @@ forward_at q k to (Some i) h at edge =
     let m = h k i at in
     elim (edge_cases q k to edge) [
       | inl falls_to ↦ forward_fall i k to (subst (λ (o : Option Insn). (edges_of o k).fall ≡ Some to) at falls_to)
-      | inr jumps ↦ forward_jump m.0 m.1 k to (subst (λ (x : Insn). jump_of x k ≡ Some to) m.2 (subst (λ (o : Option Insn). (edges_of o k).jump ≡ Some to) at jumps))
+      | inr jumps ↦ forward_jump m.0 m.1 k to
+          (subst (λ (x : Insn). jump_of x k ≡ Some to) m.2 (subst (λ (o : Option Insn). (edges_of o k).jump ≡ Some to) at jumps))
     ]
 
 pub forward : (q : List (Option Insn)) (k to : ℕ) → JumpsForward q → IsEdge q k to → k < to
@@ -133,7 +137,8 @@ sound_jump q k i h s = elim s.jumps [
   | inl none ↦ no_displacement q k (displacement_of i) (jump_of i k) none
   | inr to ↦
       let edge = jump_is_edge q k to.0 (subst (λ (o : Option Insn). (edges_of o k).jump ≡ Some to.0) (sym s.here) to.1) in
-      subst (λ (t : Option ℕ). jump_fault q k (displacement_of i) t ≡ None) (sym to.1) (no_jump_fault q k to.0 (displacement_of i) (forward q k to.0 h edge) to.2)
+      subst (λ (t : Option ℕ). jump_fault q k (displacement_of i) t ≡ None) (sym to.1)
+          (no_jump_fault q k to.0 (displacement_of i) (forward q k to.0 h edge) to.2)
 ]
 
 no_fall_fault : (q : List (Option Insn)) (k : ℕ) (i : Insn) → (falls i && leb (length q) (k + slots_in i)) ≡ false

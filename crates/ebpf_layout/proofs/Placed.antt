@@ -112,7 +112,8 @@ marked_place marks order slot h lt left = record {
     | inr other ↦ get_kept order (slot ∷ []) n s (h.order_slot s n other.1)
   ];
   order_mark = λ s n e. elim (get_pushed order slot n s e) [
-    | inl old ↦ unset marks slot s (Done (length order)) (Done n) (λ same. not_left marks [] order slot n h left (subst (λ (x : ℕ). slice_get order n ≡ Some x) same old)) (h.order_mark s n old)
+    | inl old ↦ unset marks slot s (Done (length order)) (Done n)
+        (λ same. not_left marks [] order slot n h left (subst (λ (x : ℕ). slice_get order n ≡ Some x) same old)) (h.order_mark s n old)
     | inr here ↦ rw (here.0, here.1) (get_or-set_same marks slot (Done (length order)) New lt)
   ];
 }
@@ -151,7 +152,8 @@ open_edge : (p : List (Option Insn)) (marks : List Mark) (edge : Option ℕ) →
 open_edge p marks None e = absurd (false≢true (sym e))
 open_edge p marks (Some to) e = open_there p marks to (insn_at p to) refl e
 
-module _ (p : List (Option Insn)) (search : List Mark) (old : List ℕ) (marks : List Mark) (order : List ℕ) (o : IsOrder p search old) (h : IsPlacing p marks order) where
+module _ (p : List (Option Insn)) (search : List Mark) (old : List ℕ) (marks : List Mark) (order : List ℕ) (o : IsOrder p search old)
+    (h : IsPlacing p marks order) where
   -- what falls to something placed and may not go jumps to something that isn't placed
   unready : (n to from : ℕ) → slice_get order n ≡ Some to → (edges_at p from).fall ≡ Some to → is_done (mark_at marks from) ≡ false
       → IsReached p from → is_ready p search marks from ≡ false
@@ -227,7 +229,8 @@ was_found p search old slot o there =
     let at = o.ordered number.0 slot (o.marked.order_slot slot number.0 number.1) in
     (at.0, at.1)
 
-module _ (p : List (Option Insn)) (search : List Mark) (old : List ℕ) (marks : List Mark) (order : List ℕ) (slot : ℕ) (o : IsOrder p search old) (h : IsPlacing p marks order) (next : GoesNext p search marks order slot) where
+module _ (p : List (Option Insn)) (search : List Mark) (old : List ℕ) (marks : List Mark) (order : List ℕ) (slot : ℕ) (o : IsOrder p search old)
+    (h : IsPlacing p marks order) (next : GoesNext p search marks order slot) where
   left : is_done (mark_at marks slot) ≡ false
   left = (may_go p search marks slot next.ready).left
 
@@ -240,7 +243,8 @@ module _ (p : List (Option Insn)) (search : List Mark) (old : List ℕ) (marks :
   behind : IsBehind p order (length order) slot
   behind =
       let m = may_go p search marks slot next.ready in
-      is_behind p marks [] order slot h.marked (placed_in marks (standing p (edges_at p slot).jump) m.jump) (placed_in marks (standing p (edges_at p slot).fall) m.fall)
+      is_behind p marks [] order slot h.marked (placed_in marks (standing p (edges_at p slot).jump) m.jump)
+          (placed_in marks (standing p (edges_at p slot).fall) m.fall)
 
   there_in : (n to : ℕ) → slice_get (order ++ slot ∷ []) n ≡ Some to → is_none (insn_at p to) ≡ false
   there_in n to e = elim (get_pushed order slot n to e) [

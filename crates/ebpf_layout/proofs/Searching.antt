@@ -156,7 +156,8 @@ marked_close marks path order at slot h lt long top = record {
     | inr other ↦ get_kept order (slot ∷ []) n s (h.order_slot s n other.1)
   ];
   order_mark = λ s n e. elim (get_pushed order slot n s e) [
-    | inl old ↦ let m = h.order_mark s n old in unset marks slot s (Done (length order)) (Done n) (apart marks s slot (Done n) (Open at) m (h.path_mark slot at top) (λ q. open_done at n (sym q))) m
+    | inl old ↦ let m = h.order_mark s n old in
+        unset marks slot s (Done (length order)) (Done n) (apart marks s slot (Done n) (Open at) m (h.path_mark slot at top) (λ q. open_done at n (sym q))) m
     | inr here ↦ rw (here.0, here.1) (get_or-set_same marks slot (Done (length order)) New lt)
   ];
 }
@@ -306,7 +307,8 @@ search_close p marks path order at slot h long top jump fall inside =
         | inl old ↦ let o = h.ordered n s old in (o.0, o.1, behind_more p order n s slot o.2)
         | inr here ↦ rw (here.0, here.1) (h.reached at slot top, h.there at slot top, behind_more p order (length order) slot slot behind)
       ];
-      size = slots_of-push p order slot ∙ ap (λ (n : ℕ). n + size_of (insn_at p slot)) h.size ∙ sym (size_done p marks slot (length order) all (omega arith) (ap is_done (h.marked.path_mark slot at top)));
+      size = slots_of-push p order slot ∙ ap (λ (n : ℕ). n + size_of (insn_at p slot)) h.size
+          ∙ sym (size_done p marks slot (length order) all (omega arith) (ap is_done (h.marked.path_mark slot at top)));
       there = λ k s e. h.there k s (get_from_take at path k s e).1;
     }
 

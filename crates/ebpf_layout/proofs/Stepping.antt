@@ -107,7 +107,8 @@ jumps_on q place executed next to now other going jump same =
     let target : jump_of (insn.Jump jump.0) next ≡ Some (place to) = jump_of_edge q next (insn.Jump jump.0) (place to) jump.1 jump.2 in
     let goes : effect_of_view w ≡ Goes Nothing (place to) w.frame =
     ap (λ (o : Option Insn). effect_at o next (environment_of_view w) w.frame) jump.1 ∙ ap (λ (t : Option ℕ). effect_of_jump t w.frame) target in
-    stepped_going w other going ∙ ap (λ (e : Effect ℕ). done_by e other w) goes ∙ ap (λ (k : ℕ). record (laid_view q place (executed + 1) now) { pc = place k }) (sym same)
+    stepped_going w other going ∙ ap (λ (e : Effect ℕ). done_by e other w) goes
+        ∙ ap (λ (k : ℕ). record (laid_view q place (executed + 1) now) { pc = place k }) (sym same)
 
 -- what follows of an act that goes on at a slot of the new program, if that is the place or a jump there
 followed : (q : List (Option Insn)) (place : ℕ → ℕ) (executed to next : ℕ) (v now new w : RunView) (result other : CallResult)
@@ -130,7 +131,8 @@ pub record IsStep (p q : List (Option Insn)) (place : ℕ → ℕ) (executed : �
   pub kept : Keeps q place executed (laid_view q place executed v) result other (stepped result v)
 
 -- an act that goes on along an edge
-goes_along : (p q : List (Option Insn)) (laid : IsLaidOut p q) (v : RunView) (executed : ℕ) (act : Act ℕ) (frame : Frame ℕ) (to next : ℕ) (result other : CallResult)
+goes_along : (p q : List (Option Insn)) (laid : IsLaidOut p q) (v : RunView) (executed : ℕ) (act : Act ℕ) (frame : Frame ℕ) (to next : ℕ)
+    (result other : CallResult)
     → v.status ≡ Going → IsReached p v.pc → IsReached p to
     → effect_of_view v ≡ Goes act to frame
     → effect_of_view (laid_view q laid.place executed v) ≡ Goes (act_told (placed laid.place) act) next (frame_renamed laid.place frame)
@@ -171,7 +173,8 @@ by_effect : (p q : List (Option Insn)) (laid : IsLaidOut p q) (v : RunView) (exe
 by_effect p q laid v executed i z e f result other going reached at there old new (Ended n told is) =
     stops p q laid.place v executed (Ends n) (ended n) result other going reached (old ∙ was_ended laid.place e n told) (new ∙ is) (λ w. refl) (λ w. refl) refl
 by_effect p q laid v executed i z e f result other going reached at there old new (Trapped trap told is) =
-    stops p q laid.place v executed (Traps trap) (trapped trap) result other going reached (old ∙ was_trapped laid.place e trap told) (new ∙ is) (λ w. refl) (λ w. refl) refl
+    stops p q laid.place v executed (Traps trap) (trapped trap) result other going reached (old ∙ was_trapped laid.place e trap told) (new ∙ is) (λ w. refl)
+        (λ w. refl) refl
 by_effect p q laid v executed i z e f result other going reached at there old new (Fell act frame falling told is) =
     let to = v.pc + slots_in i in
     let g = went_on laid.place e act to frame told in
@@ -179,14 +182,16 @@ by_effect p q laid v executed i z e f result other going reached at there old ne
     let edge = fall_edge p v.pc i to at falls_to in
     let way = laid.falls v.pc to reached edge in
     let next : laid.place v.pc + slots_in i ≡ way.0 =
-    same_Some (laid.place v.pc + slots_in i) way.0 (sym (fall_moved i z v.pc to (laid.place v.pc) falls_to) ∙ fall_of_edge q (laid.place v.pc) (moved i z) way.0 there way.1) in
+    same_Some (laid.place v.pc + slots_in i) way.0
+        (sym (fall_moved i z v.pc to (laid.place v.pc) falls_to) ∙ fall_of_edge q (laid.place v.pc) (moved i z) way.0 there way.1) in
     let goes = led_alike act (act_told (placed laid.place) g.acts) to way.0 frame (frame_renamed laid.place g.left) g.told in
     goes_along p q laid v executed g.acts g.left to way.0 result other going reached (path_more p 0 v.pc to reached (fall_is_edge p v.pc to edge))
     (old ∙ g.was) (new ∙ is ∙ ap (λ (k : ℕ). Goes act k frame) next ∙ goes) way.2
 by_effect p q laid v executed i z e f result other going reached at there old new (Jumped act frame to next jumps jumps_there told is) =
     let g = went_on laid.place e act to frame told in
     let edge = jump_edge p v.pc i to at jumps in
-    let same : next ≡ laid.place to = same_Some next (laid.place to) (sym jumps_there ∙ jump_of_edge q (laid.place v.pc) (moved i z) (laid.place to) there (laid.jumps v.pc to reached edge)) in
+    let same : next ≡ laid.place to = same_Some next (laid.place to)
+        (sym jumps_there ∙ jump_of_edge q (laid.place v.pc) (moved i z) (laid.place to) there (laid.jumps v.pc to reached edge)) in
     let goes = led_alike act (act_told (placed laid.place) g.acts) to next frame (frame_renamed laid.place g.left) g.told in
     goes_along p q laid v executed g.acts g.left to next result other going reached (path_more p 0 v.pc to reached (jump_is_edge p v.pc to edge))
     (old ∙ g.was) (new ∙ is ∙ goes) (inl same)

@@ -75,7 +75,8 @@ slot_fits p marks order places code count slot i n =
     let fits = order_fits p marks [] order n.ordered in
     omega (arith, n.writing.short, n.ordered.formed.few)
 
-pub slot_written : (p : List (Option Insn)) (marks : List Mark) (order places : List ℕ) (code : List (Option Insn)) (count slot : ℕ) (i : Insn) (new : List (Option Insn)) (newer place : ℕ)
+pub slot_written : (p : List (Option Insn)) (marks : List Mark) (order places : List ℕ) (code : List (Option Insn)) (count slot : ℕ) (i : Insn)
+    (new : List (Option Insn)) (newer place : ℕ)
     → IsNext p marks order places code count slot i → IsCode new newer
     → Writes marks places code i (fall_of i slot) (jump_of i slot) new → place + 1 ≡ length new
     → IsWriting p order (places ++ place ∷ []) new newer
@@ -87,7 +88,8 @@ slot_written p marks order places code count slot i new newer place n coded w la
     let long : length (places ++ place ∷ []) ≡ length places + 1 = length_push places place in
     record {
       coded = coded;
-      written = written_more p marks order places code slot i new place (record { ordered = n.ordered; neighbours = n.neighbours; here = n.here; owned = n.owned; writes = w; last = last }) n.writing.written;
+      written = written_more p marks order places code slot i new place
+          (record { ordered = n.ordered; neighbours = n.neighbours; here = n.here; owned = n.owned; writes = w; last = last }) n.writing.written;
       short = rw long (omega (arith, n.writing.short));
     }
 

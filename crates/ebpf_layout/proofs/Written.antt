@@ -172,7 +172,8 @@ old_or_jump : (marks : List Mark) (places : List ℕ) (code : List (Option Insn)
     → slice_get behind k ≡ Some (Some j) → (slice_get code k ≡ Some (Some j)) ⊎ ((k ≡ length code) × HasJump marks places code fall behind)
 old_or_jump marks places code fall behind k j h e = elim (leads_cases marks places code fall behind h) [
   | inl same ↦ inl (rw same at e)
-  | inr jump ↦ elim (get_pushed code (Some (insn.Jump (pos jump.way))) k (Some j) (subst (λ (xs : List (Option Insn)). slice_get xs k ≡ Some (Some j)) jump.behind_is e)) [
+  | inr jump ↦ elim (get_pushed code (Some (insn.Jump (pos jump.way))) k (Some j)
+      (subst (λ (xs : List (Option Insn)). slice_get xs k ≡ Some (Some j)) jump.behind_is e)) [
     | inl old ↦ inl old
     | inr here ↦ inr (here.0, jump)
   ]
@@ -197,7 +198,8 @@ length-behind marks places code fall behind h = elim (leads_cases marks places c
 -- ---- what holds of an instruction that was written
 
 -- the facts of one that was written last: where it stands, and what stands there
-pub record IsNew (p : List (Option Insn)) (marks : List Mark) (order places : List ℕ) (code : List (Option Insn)) (slot : ℕ) (i : Insn) (new : List (Option Insn)) (place : ℕ) : Type 0 where
+pub record IsNew (p : List (Option Insn)) (marks : List Mark) (order places : List ℕ) (code : List (Option Insn)) (slot : ℕ) (i : Insn)
+    (new : List (Option Insn)) (place : ℕ) : Type 0 where
   pub ordered : IsOrder p marks order
   pub neighbours : AreNeighbours p order
   pub here : slice_get order (length places) ≡ Some slot
@@ -217,7 +219,8 @@ pub new_length : (marks : List Mark) (places : List ℕ) (code : List (Option In
     → (w : Writes marks places code i fall jump new)
     → length new ≡ length w.behind + slots_in i
 new_length marks places code i fall jump new w =
-    omega (arith, ap length w.written, length_push (w.behind ++ half_of w.moved) (Some w.moved), length-append w.behind (half_of w.moved), length-half w.moved, moved_size marks places w.behind i jump w.moved w.moved_is)
+    omega (arith, ap length w.written, length_push (w.behind ++ half_of w.moved) (Some w.moved), length-append w.behind (half_of w.moved), length-half
+        w.moved, moved_size marks places w.behind i jump w.moved w.moved_is)
 
 new_place : (marks : List Mark) (places : List ℕ) (code : List (Option Insn)) (i : Insn) (fall jump : Option ℕ) (new : List (Option Insn)) (place : ℕ)
     → (w : Writes marks places code i fall jump new)
@@ -239,7 +242,8 @@ keeps_all marks places code i fall jump new w k o e =
 abbrev JumpsBy : List ℕ → List ℕ → Insn → ℕ → ℕ → ℕ → Type 0
 JumpsBy order places i slot place way = (to : ℕ) → jump_of i slot ≡ Some to → (t : ℕ) × StandsAt order places to t × (t + way + 1 ≡ place)
 
-new_jump : (p : List (Option Insn)) (marks : List Mark) (order places : List ℕ) (behind : List (Option Insn)) (i : Insn) (slot place : ℕ) (jump : Option ℕ) (new : Insn)
+new_jump : (p : List (Option Insn)) (marks : List Mark) (order places : List ℕ) (behind : List (Option Insn)) (i : Insn) (slot place : ℕ) (jump : Option ℕ)
+    (new : Insn)
     → IsOrder p marks order
     → jump ≡ jump_of i slot → place + 1 ≡ length behind + slots_in i → IsMovedTo marks places behind i jump new
     → (way : ℕ) × (new ≡ moved i (pos way)) × JumpsBy order (places ++ place ∷ []) i slot place way
@@ -253,10 +257,12 @@ new_jump p marks order places behind i slot place (Some to) new h e last is =
       is.2,
       λ x jumps.
           let same : to ≡ x = same_Some to x (e ∙ jumps) in
-          (t.place, subst (λ (y : ℕ). StandsAt order (places ++ place ∷ []) y t.place) same (stands_more order places place to t.place (has_stands p marks order places to t.place h t.has)), omega arith),
+          (t.place, subst (λ (y : ℕ). StandsAt order (places ++ place ∷ []) y t.place) same
+              (stands_more order places place to t.place (has_stands p marks order places to t.place h t.has)), omega arith),
     )
 
-new_fall : (p : List (Option Insn)) (marks : List Mark) (order places : List ℕ) (code behind new : List (Option Insn)) (i : Insn) (slot place to : ℕ) (fall : Option ℕ)
+new_fall : (p : List (Option Insn)) (marks : List Mark) (order places : List ℕ) (code behind new : List (Option Insn)) (i : Insn) (slot place to : ℕ)
+    (fall : Option ℕ)
     → IsOrder p marks order
     → fall ≡ Some to → place + 1 ≡ length behind + slots_in i → Keeps behind new → LeadsOn marks places code fall behind
     → FallsRight order (places ++ place ∷ []) new i place to
@@ -265,7 +271,8 @@ new_fall p marks order places code behind new i slot place to (Some x) h e last 
     let same : x ≡ to = same_Some x to e in
     let t = leads.1 in
     let way = t.way_is in
-    let there = subst (λ (y : ℕ). StandsAt order (places ++ place ∷ []) y t.place) same (stands_more order places place x t.place (has_stands p marks order places x t.place h t.has)) in
+    let there = subst (λ (y : ℕ). StandsAt order (places ++ place ∷ []) y t.place) same
+        (stands_more order places place x t.place (has_stands p marks order places x t.place h t.has)) in
     elim (cases_Bool (eqb leads.0 0)) [
       | inl none ↦
           let zero : leads.0 ≡ 0 = eqb-true leads.0 0 none in
@@ -286,7 +293,8 @@ new_fall p marks order places code behind new i slot place to (Some x) h e last 
           )
     ]
 
-new_written : (p : List (Option Insn)) (marks : List Mark) (order places : List ℕ) (code : List (Option Insn)) (slot : ℕ) (i : Insn) (new : List (Option Insn)) (place : ℕ)
+new_written : (p : List (Option Insn)) (marks : List Mark) (order places : List ℕ) (code : List (Option Insn)) (slot : ℕ) (i : Insn)
+    (new : List (Option Insn)) (place : ℕ)
     → IsNew p marks order places code slot i new place → IsWritten order (places ++ place ∷ []) new i slot place
 new_written p marks order places code slot i new place n =
     let w = n.writes in
@@ -299,7 +307,8 @@ new_written p marks order places code slot i new place n =
       way = jump.0;
       here = there ∙ ap (λ (m : Insn). Some (Some m)) jump.1;
       jump = jump.2;
-      fall = λ to falls. new_fall p marks order places code w.behind new i slot place to (fall_of i slot) n.ordered falls last (keeps_new marks places code i (fall_of i slot) (jump_of i slot) new w) w.leads_on;
+      fall = λ to falls. new_fall p marks order places code w.behind new i slot place to (fall_of i slot) n.ordered falls last
+          (keeps_new marks places code i (fall_of i slot) (jump_of i slot) new w) w.leads_on;
     }
 
 -- a place that was given to a slot is an old one or the last
@@ -312,11 +321,13 @@ stood_at order places place slot at h = elim (get_pushed places place h.number a
   | inr here ↦ inr (here.1, subst (λ (n : ℕ). slice_get order n ≡ Some slot) here.0 h.ordered)
 ]
 
-each_more : (p : List (Option Insn)) (marks : List Mark) (order places : List ℕ) (code : List (Option Insn)) (slot : ℕ) (i : Insn) (new : List (Option Insn)) (place : ℕ)
+each_more : (p : List (Option Insn)) (marks : List Mark) (order places : List ℕ) (code : List (Option Insn)) (slot : ℕ) (i : Insn) (new : List (Option Insn))
+    (place : ℕ)
     → IsNew p marks order places code slot i new place → AreWritten p order places code
     → (s at : ℕ) (j : Insn) → StandsAt order (places ++ place ∷ []) s at → insn_at p s ≡ Some j → IsWritten order (places ++ place ∷ []) new j s at
 each_more p marks order places code slot i new place n old s at j stands owned = elim (stood_at order places place s at stands) [
-  | inl before ↦ is_written_more order places place code new j s at (keeps_all marks places code i (fall_of i slot) (jump_of i slot) new n.writes) (old.each s at j before owned)
+  | inl before ↦ is_written_more order places place code new j s at (keeps_all marks places code i (fall_of i slot) (jump_of i slot) new n.writes)
+      (old.each s at j before owned)
   | inr here ↦
       let same : slot ≡ s = same_Some slot s (sym n.here ∙ here.1) in
       let insn : i ≡ j = same_Some i j (sym n.owned ∙ ap (insn_at p) same ∙ owned) in
@@ -332,7 +343,8 @@ record Leaps (order places : List ℕ) (code : List (Option Insn)) (i : Insn) (s
   pub above : fall < spot
   pub below : spot < length code
 
-leaps_over : (p : List (Option Insn)) (marks : List Mark) (order places : List ℕ) (code : List (Option Insn)) (slot : ℕ) (i : Insn) (new : List (Option Insn)) (place : ℕ)
+leaps_over : (p : List (Option Insn)) (marks : List Mark) (order places : List ℕ) (code : List (Option Insn)) (slot : ℕ) (i : Insn) (new : List (Option Insn))
+    (place : ℕ)
     → (n : IsNew p marks order places code slot i new place) → AreWritten p order places code → (j : HasJump marks places code (fall_of i slot) n.writes.behind)
     → Leaps order places code i slot j.there.place
 leaps_over p marks order places code slot i new place n old j =
@@ -353,7 +365,8 @@ leaps_over p marks order places code slot i new place n old j =
           }
     ]
 
-only_more : (p : List (Option Insn)) (marks : List Mark) (order places : List ℕ) (code : List (Option Insn)) (slot : ℕ) (i : Insn) (new : List (Option Insn)) (place : ℕ)
+only_more : (p : List (Option Insn)) (marks : List Mark) (order places : List ℕ) (code : List (Option Insn)) (slot : ℕ) (i : Insn) (new : List (Option Insn))
+    (place : ℕ)
     → IsNew p marks order places code slot i new place → AreWritten p order places code
     → (at : ℕ) (j : Insn) → slice_get new at ≡ Some (Some j)
     → ((s : ℕ) × StandsAt order (places ++ place ∷ []) s at) ⊎ IsAddedAt p order (places ++ place ∷ []) new at
@@ -388,7 +401,8 @@ only_more p marks order places code slot i new place n old at j there =
                 to = h.there.place;
                 there = stands_more order places place h.to h.there.place (has_stands p marks order places h.to h.there.place n.ordered h.there.has);
                 way = h.way;
-                here = keeps_new marks places code i (fall_of i slot) (jump_of i slot) new w at _ (rw (at_end, h.behind_is) (get_last code (Some (insn.Jump (pos h.way)))));
+                here = keeps_new marks places code i (fall_of i slot) (jump_of i slot) new w at _
+                    (rw (at_end, h.behind_is) (get_last code (Some (insn.Jump (pos h.way)))));
                 way_is = rw at_end h.there.way_is;
               };
               over = l.over;
@@ -401,7 +415,8 @@ only_more p marks order places code slot i new place n old at j there =
       ]
     ]
 
-pub written_more : (p : List (Option Insn)) (marks : List Mark) (order places : List ℕ) (code : List (Option Insn)) (slot : ℕ) (i : Insn) (new : List (Option Insn)) (place : ℕ)
+pub written_more : (p : List (Option Insn)) (marks : List Mark) (order places : List ℕ) (code : List (Option Insn)) (slot : ℕ) (i : Insn)
+    (new : List (Option Insn)) (place : ℕ)
     → IsNew p marks order places code slot i new place → AreWritten p order places code → AreWritten p order (places ++ place ∷ []) new
 written_more p marks order places code slot i new place n old =
     let w = n.writes in

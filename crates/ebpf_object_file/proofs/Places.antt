@@ -44,7 +44,8 @@ none_wanted file p none r h = true_false (wanted_in file (RelocationsFor p.secti
 reaches_none : (file : List ℕ) (p : Place) (r : Relocation) (h : IsReached file p r)
     → NoneBelow (λ k. reaches p.from p.size (relocation_of (bytes_of file h.table) k)) (length (bytes_of file h.table) / 16) → ⊥
 reaches_none file p r h none =
-    true_false (reaches p.from p.size (relocation_of (bytes_of file h.table) h.entry)) (subst (λ (x : Relocation). reaches p.from p.size x ≡ true) h.is h.reaches) (none h.entry h.there)
+    true_false (reaches p.from p.size (relocation_of (bytes_of file h.table) h.entry))
+        (subst (λ (x : Relocation). reaches p.from p.size x ≡ true) h.is h.reaches) (none h.entry h.there)
 
 -- the only section that has them has none that reaches it
 pub none_reaching : (file : List ℕ) (p : Place) (i : ℕ) (bytes : List ℕ) → IsOnly (wanted_in file (RelocationsFor p.section)) (sections_in file) i
@@ -52,7 +53,8 @@ pub none_reaching : (file : List ℕ) (p : Place) (i : ℕ) (bytes : List ℕ) �
     → (r : Relocation) → IsReached file p r → ⊥
 none_reaching file p i bytes only same none r h =
     elim (eqb_tells h.table i) [
-      | inl e ↦ reaches_none file p r h (subst (λ (x : List ℕ). NoneBelow (λ k. reaches p.from p.size (relocation_of x k)) (length x / 16)) (same ∙ ap (λ (t : ℕ). bytes_of file t) (sym e.1)) none)
+      | inl e ↦ reaches_none file p r h (subst (λ (x : List ℕ). NoneBelow (λ k. reaches p.from p.size (relocation_of x k)) (length x / 16))
+          (same ∙ ap (λ (t : ℕ). bytes_of file t) (sym e.1)) none)
       | inr e ↦ true_false (wanted_in file (RelocationsFor p.section) h.table) h.wanted (only.other h.table h.inside e.1)
     ]
 

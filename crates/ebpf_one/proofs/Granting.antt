@@ -49,8 +49,10 @@ given_goes nulls short table slot entry = record {
 pub swapped_goes : {H : Type 0} (nulls short nulls' short' : Bool) (table table' : List Entry) (got : Option H)
     → length table' ≡ length table → (nulls' ≡ nulls) × (short' ≡ short)
     → GoesBy (granting nulls short table) (reply_to_swap got ∷ []) (granting nulls' short' table')
-swapped_goes nulls short nulls' short' table table' None slots stays = record { nulls = stays.0; slots = omega (arith, slots); ample = λ grants fine. (sym stays.1 ∙ fine, refl) }
-swapped_goes nulls short nulls' short' table table' (Some h) slots stays = record { nulls = stays.0; slots = omega (arith, slots); ample = λ grants fine. (sym stays.1 ∙ fine, refl) }
+swapped_goes nulls short nulls' short' table table' None slots stays =
+    record { nulls = stays.0; slots = omega (arith, slots); ample = λ grants fine. (sym stays.1 ∙ fine, refl) }
+swapped_goes nulls short nulls' short' table table' (Some h) slots stays =
+    record { nulls = stays.0; slots = omega (arith, slots); ample = λ grants fine. (sym stays.1 ∙ fine, refl) }
 
 -- ---- a run's answers
 

@@ -32,7 +32,8 @@ use Rattle.ebpf_one.proofs.Providing.{AnswersSo, IsShown, IsProvided, provides}
 
 -- ---- the instruction in the world that is provided
 
-module _ {S H : Type 0} (o : Store S H) (s new : S) (r t : RunState H) (a : Alone) (turn : IsTurn o r t s new) (f : Fed) (p : IsProvided o s r turn.step.0 f) (sound : IsSound (seen_in o s r)) (alone : IsAlone (seen_in o s r)) where
+module _ {S H : Type 0} (o : Store S H) (s new : S) (r t : RunState H) (a : Alone) (turn : IsTurn o r t s new) (f : Fed) (p : IsProvided o s r turn.step.0 f)
+    (sound : IsSound (seen_in o s r)) (alone : IsAlone (seen_in o s r)) where
   abbrev v : RunView
   v = seen_in o s r
 
@@ -49,7 +50,8 @@ module _ {S H : Type 0} (o : Store S H) (s new : S) (r t : RunState H) (a : Alon
   next : (x : Running) → slice_get f.world.runs 0 ≡ Some x → view_of f.world 0 x ≡ v → (after : World) × IsNextWorld f.world 0 x f.answer after
   next x there seen =
       let asked : asking_of f.world x ≡ asking_in v = asking_seen f.world 0 x p.owned there ∙ ap asking_in seen in
-      next_world f.world 0 x f.answer p.owned there (subst IsSound (sym seen) sound) (ap (λ (u : RunView). u.status) seen ∙ goes) (ap (λ (k : Asking). answer_fault f.world k f.answer) asked ∙ p.fine)
+      next_world f.world 0 x f.answer p.owned there (subst IsSound (sym seen) sound) (ap (λ (u : RunView). u.status) seen ∙ goes)
+          (ap (λ (k : Asking). answer_fault f.world k f.answer) asked ∙ p.fine)
 
   fits : FitsShelf v (result_of served)
   fits =
@@ -83,7 +85,8 @@ module _ {S H : Type 0} (o : Store S H) (s new : S) (r t : RunState H) (a : Alon
           shelves = λ shelf.
               let stands = event.2 shelf ∙ standing_kept (o.bytes_of s) o.slot_of f.world 0 r p.view p.slots (effect_of_view v) shelf in
               subst (o.stand new shelf) (sym stands) (turn.step.3 shelf (shelved_in f.world shelf) (p.shelves shelf));
-          below = λ slot there. let fewer = p.below slot (sym (ap (λ (ls : List (List ℕ)). list_any (is_in slot) ls) n.1.ledgers) ∙ there) in omega (arith, fewer, more);
+          below = λ slot there. let fewer = p.below slot (sym (ap (λ (ls : List (List ℕ)). list_any (is_in slot) ls) n.1.ledgers) ∙ there) in
+              omega (arith, fewer, more);
           peak = peak_is n.0 was event.0;
         })
 
@@ -115,7 +118,8 @@ starts_alone {H} bytes subject context r first =
 
 -- a run begins over a store that answers so, granted nothing, and has nothing on its shelves; where the store is fine in the end, it was so
 -- all the time, and refused no call that was to be granted
-pub record IsBegun {S H : Type 0} (o : Store S H) (IsFine : S → Type 0) (nulls : Bool) (first : S) (subject : Subject) (context : List ℕ) (r : RunState H) : Type 0 where
+pub record IsBegun {S H : Type 0} (o : Store S H) (IsFine : S → Type 0) (nulls : Bool) (first : S) (subject : Subject) (context : List ℕ)
+    (r : RunState H) : Type 0 where
   pub so : (told : List Reply) (s : S) → o.goes first told s → AnswersSo o nulls (granted told) s
   pub ample : (s t : S) (told : List Reply) → o.goes s told t → IsFine t → IsFine s × (nulls ≡ false → refused told ≡ 0)
   pub sizes : (s : S) → HaveSizes o s
@@ -124,7 +128,8 @@ pub record IsBegun {S H : Type 0} (o : Store S H) (IsFine : S → Type 0) (nulls
   pub is : r ≡ first_state_of subject context
   pub starts : IsUnderWay o first first subject context r
 
-module _ {S H : Type 0} (o : Store S H) (IsFine : S → Type 0) (nulls : Bool) (first : S) (subject : Subject) (context : List ℕ) (r : RunState H) (begun : IsBegun o IsFine nulls first subject context r) where
+module _ {S H : Type 0} (o : Store S H) (IsFine : S → Type 0) (nulls : Bool) (first : S) (subject : Subject) (context : List ℕ) (r : RunState H)
+    (begun : IsBegun o IsFine nulls first subject context r) where
   one_more : (s new : S) (between t : RunState H) (a : Alone) → IsUnderWay o first s subject context between → IsShown o s between a
       → (turn : IsTurn o between t s new) → IsFine new → IsShown o new t (solo_next nulls a)
   one_more s new between t a was shown turn fine = by (shown_run a.world 0 v shown.view) where
@@ -150,7 +155,8 @@ module _ {S H : Type 0} (o : Store S H) (IsFine : S → Type 0) (nulls : Bool) (
         let slot : next_slot x ≡ granted between.replies = ap (λ (u : RunView). granted u.replies) seen in
         let same : provided (asking_in v) nulls (granted between.replies) a.world ≡ provided (asking_of a.world x) nulls (next_slot x) a.world =
         λ i. provided (sym asked i) nulls (sym slot i) a.world in
-        let after = shows_next o s new between t a turn (provided (asking_of a.world x) nulls (next_slot x) a.world) (subst (IsProvided o s between turn.step.0) same given) was.sound was.alone shown more in
+        let after = shows_next o s new between t a turn (provided (asking_of a.world x) nulls (next_slot x) a.world)
+            (subst (IsProvided o s between turn.step.0) same given) was.sound was.alone shown more in
         subst (λ (running : Option Running). IsShown o new t (solo_by running nulls a)) (sym there) after
 
   pub shows_after : (number : ℕ) (new : S) (t : RunState H) → AreTurns o number r t first new → IsFine new
@@ -158,7 +164,8 @@ module _ {S H : Type 0} (o : Store S H) (IsFine : S → Type 0) (nulls : Bool) (
   unfolding solo_after
   shows_after zero new t turns fine =
       let from_first = shows_first o first subject context begun.bare in
-      subst (λ (x : RunState H). IsShown o new x (alone_first subject context)) (sym (turns.0 ∙ begun.is)) (subst (λ (x : S). IsShown o x (first_state_of subject context) (alone_first subject context)) (sym turns.1) from_first)
+      subst (λ (x : RunState H). IsShown o new x (alone_first subject context)) (sym (turns.0 ∙ begun.is))
+          (subst (λ (x : S). IsShown o x (first_state_of subject context) (alone_first subject context)) (sym turns.1) from_first)
   shows_after (suc number) new t turns fine =
       let before =
       shows_after number turns.store turns.run turns.before (begun.ample turns.store new (told_by turns.last.step.0) turns.last.step.2.store.goes fine).0 in
@@ -205,11 +212,13 @@ reported_peak o s after t n report exited is sound alone =
     ap (λ (out : Outcome). out.peak) (sym told ∙ ap (outcome_alone t.subject t.context) (replies ∙ sym (none_more (replies_of v))) ∙ ends)
 
 -- so the report of a run that exited is that of the run in a world of its own
-reports_exit : {S H : Type 0} (o : Store S H) (IsFine : S → Type 0) (nulls : Bool) (first new after : S) (subject : Subject) (context : List ℕ) (r t : RunState H) (number n : ℕ) (report : Report)
+reports_exit : {S H : Type 0} (o : Store S H) (IsFine : S → Type 0) (nulls : Bool) (first new after : S) (subject : Subject) (context : List ℕ)
+    (r t : RunState H) (number n : ℕ) (report : Report)
     → IsBegun o IsFine nulls first subject context r → AreTurns o number r t first new → t.executed ≡ number
     → number ≤ length (instructions subject.program)
     → IsFine new → t.exit ≡ Some n → IsEnded o t report new after → IsReportWith subject context nulls report
-reports_exit o IsFine nulls first new after subject context r t number n report begun turns counted few fine exited is = by (shown_run a.world 0 v shown.view) where
+reports_exit o IsFine nulls first new after subject context r t number n report begun turns counted few fine exited is =
+    by (shown_run a.world 0 v shown.view) where
   was : IsUnderWay o first new subject context t
   was = under_way o first first new subject context number r t begun.sizes begun.kinds begun.starts turns
 
@@ -253,4 +262,5 @@ report_solo o IsFine limit first new after r t within many bounded nulls subject
     let none : r.executed ≡ 0 = ap (λ (x : RunState _). x.executed) begun.is in
     let counted : t.executed ≡ within.number = omega (arith, within.counted, none) in
     let same = ap (λ (s : Subject). length (instructions s.program)) was.subject_is in
-    reports_exit o IsFine nulls first new after subject context r t within.number exited.0 report begun within.turns counted (omega (arith, bounded, counted, same)) fine exited.1 is
+    reports_exit o IsFine nulls first new after subject context r t within.number exited.0 report begun within.turns counted
+        (omega (arith, bounded, counted, same)) fine exited.1 is

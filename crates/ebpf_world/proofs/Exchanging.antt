@@ -103,7 +103,8 @@ can_lend kept k answer r placed tended at fine = by (loan kept.places answer (wa
   out : (lent : Option Object) → ((h : Holding Object) → Contains r.held h → IsAway lent h.object.slot)
       → AreOutBy (IsOut lent kept.shelves) (λ o. o.kind) (λ o. o.slot) r.held
   out lent away = record {
-    out = All-by_contains (λ h. IsOut lent kept.shelves h.object × (h.object.kind ≡ h.kind)) r.held (λ h among. still h among (All-contains (λ x. IsOut None [] x.object × (x.object.kind ≡ x.kind)) r.held h tended.out.out among));
+    out = All-by_contains (λ h. IsOut lent kept.shelves h.object × (h.object.kind ≡ h.kind)) r.held
+        (λ h among. still h among (All-contains (λ x. IsOut None [] x.object × (x.object.kind ≡ x.kind)) r.held h tended.out.out among));
     apart = tended.out.apart;
   }
     where
@@ -112,7 +113,8 @@ can_lend kept k answer r placed tended at fine = by (loan kept.places answer (wa
       still h among was = (record { sized = was.0.sized; away = away h among; off = off h among }, was.1)
 
   by : IsLoan kept.places answer (wanted (asking_in (run_seen r))) → CanLend (lent_by answer kept.places) kept.shelves r
-  by (Nothing unanswered none stays) = subst (λ (l : Option Object). CanLend l kept.shelves r) (sym none) (record { image = tt; out = out None (λ h among. tt); asked = λ e. refl; away = λ shelf p q on is. absurd (cc) })
+  by (Nothing unanswered none stays) = subst (λ (l : Option Object). CanLend l kept.shelves r) (sym none)
+      (record { image = tt; out = out None (λ h among. tt); asked = λ e. refl; away = λ shelf p q on is. absurd (cc) })
   by (Loan slot o is home wants) = subst (λ (l : Option Object). CanLend l kept.shelves r) (sym (lent_loan kept.places answer slot o is home)) (record {
     image = (here.image, here.known);
     out = out (Some o) away;
@@ -152,7 +154,8 @@ counts_seen : (kind : ℕ) (held : List (Holding Object)) → held_of_kind held 
 counts_seen kind [] = refl
 counts_seen kind (h ∷ held) =
     let here = sum_by-cons (λ (x : Holding Object). cond {A = ℕ} (kind == x.kind) 1 0) h held in
-    let there = sum_by-cons (λ (o : ObjectView). cond {A = ℕ} (kind == o.kind) 1 0) (object_seen (λ (o : Object). o.bytes.items) h) (map (object_seen (λ (o : Object). o.bytes.items)) held) in
+    let there = sum_by-cons (λ (o : ObjectView). cond {A = ℕ} (kind == o.kind) 1 0) (object_seen (λ (o : Object). o.bytes.items) h)
+        (map (object_seen (λ (o : Object). o.bytes.items)) held) in
     omega (arith, here, there, counts_seen kind held)
 
 none_freed : (freed : Option Object) → ((kind : ℕ) → one_away freed kind ≡ 1) → freed ≡ None
@@ -217,7 +220,8 @@ left_many r call =
     ap (λ (ns : List Name). length ns) (filter-map (λ (n : Name). not (n.call == call)) (λ (h : Holding Object). name_of h.object.slot h.call) r.held)
     ∙ length-map (others_held call r.held) _
     ∙ sym (length-map (others_held call r.held) (object_seen (λ (o : Object). o.bytes.items)))
-    ∙ sym (ap (λ (os : List ObjectView). length os) (filter-map (λ (o : ObjectView). not (o.call == call)) (object_seen (λ (o : Object). o.bytes.items)) r.held))
+    ∙ sym (ap (λ (os : List ObjectView). length os)
+      (filter-map (λ (o : ObjectView). not (o.call == call)) (object_seen (λ (o : Object). o.bytes.items)) r.held))
 
 -- what becomes of the objects of the run
 outcome : (w : World) (kept : WorldState) (k : ℕ) (answer : Answer) (r t : RunState Object) (freed : Option Object) → Shows w kept
@@ -254,13 +258,16 @@ quiet_leaves kept k answer r t freed i quiet = record {
   unreached = quiet.unreached;
   same = λ shelf.
       slot_standing i.after shelf
-      ∙ ap (option_map (λ (x : world.Shelved). x.slot)) (i.step.shelves shelf ∙ quiet.leaves (shelved_from as_shelved r.held) shelf (standing_on kept.shelves shelf))
+      ∙ ap (option_map (λ (x : world.Shelved). x.slot))
+        (i.step.shelves shelf ∙ quiet.leaves (shelved_from as_shelved r.held) shelf (standing_on kept.shelves shelf))
       ∙ sym (slot_standing kept.shelves shelf);
 }
 
 -- the counts of the store
-counted_all : (kept : WorldState) (k : ℕ) (answer : Answer) (r t : RunState Object) (freed : Option Object) (i : IsInstruction kept k answer r t freed) (kind : ℕ)
-    → one_away freed kind + is_bare (on_shelf i.after kind) + of_kind kind (run_seen r).objects ≡ one_away (lent_by answer kept.places) kind + is_bare (on_shelf kept.shelves kind) + of_kind kind (run_seen t).objects
+counted_all : (kept : WorldState) (k : ℕ) (answer : Answer) (r t : RunState Object) (freed : Option Object) (i : IsInstruction kept k answer r t freed)
+    (kind : ℕ)
+    → one_away freed kind + is_bare (on_shelf i.after kind) + of_kind kind (run_seen r).objects
+      ≡ one_away (lent_by answer kept.places) kind + is_bare (on_shelf kept.shelves kind) + of_kind kind (run_seen t).objects
 counted_all kept k answer r t freed i kind = omega (arith, i.step.of_kind kind, counts_seen kind r.held, counts_seen kind t.held)
 
 counted : (kept : WorldState) (k : ℕ) (answer : Answer) (r t : RunState Object) (freed : Option Object) (i : IsInstruction kept k answer r t freed)
@@ -279,7 +286,8 @@ freed_its : (kept : WorldState) (k : ℕ) (answer : Answer) (r t : RunState Obje
 freed_its kept k answer r t freed o h i leaves is among slots = by (cases_eq o.slot h.object.slot) where
   others : (x : Holding Object) → Contains t.held x → x.object.slot ≢ h.object.slot
   others x there same =
-      let left = Contains-filter (λ (n : Name). not (n.call == h.call)) (slots_of r) (name_of x.object.slot x.call) (subst (λ (ns : List Name). Contains ns (name_of x.object.slot x.call)) slots (held_named t x there)) in
+      let left = Contains-filter (λ (n : Name). not (n.call == h.call)) (slots_of r) (name_of x.object.slot x.call)
+          (subst (λ (ns : List Name). Contains ns (name_of x.object.slot x.call)) slots (held_named t x there)) in
       let mine = i.tended.placed.held k r i.at (name_of x.object.slot x.call) left.0 in
       let its = held_placed kept k r h i.tended.placed i.at among in
       let both : Some (Held k x.call) ≡ Some (Held k h.call) = sym mine ∙ ap (place_at kept.places) same ∙ its in
@@ -294,7 +302,12 @@ freed_its kept k answer r t freed o h i leaves is among slots = by (cases_eq o.s
   by (inl same) = same
   by (inr ne) =
       let out = All-contains (λ x. IsOut None [] x.object × (x.object.kind ≡ x.kind)) r.held h i.run.out.out among in
-      let there : IsOut freed i.after h.object = subst (λ (f : Option Object). IsOut f i.after h.object) (sym is) (record { sized = out.0.sized; away = λ e. ne (sym e); off = λ shelf. away_from (on_shelf i.after shelf) h.object.slot (λ other stands. off_shelves kept h.object.slot i.tended.placed (held_off kept k r h i.tended.placed i.at among) shelf other (sym (leaves.same shelf) ∙ stands)) }) in
+      let there : IsOut freed i.after h.object =
+          subst (λ (f : Option Object). IsOut f i.after h.object) (sym is)
+          (record { sized = out.0.sized; away = λ e. ne (sym e); off = λ shelf.
+          away_from (on_shelf i.after shelf) h.object.slot
+          (λ other stands. off_shelves kept h.object.slot i.tended.placed (held_off kept k r h i.tended.placed i.at among) shelf other
+          (sym (leaves.same shelf) ∙ stands)) }) in
       absurd (i.step.gone h among (All-by_contains (λ x. x.object.slot ≢ h.object.slot) t.held others) there)
 
 frees : (w : World) (kept : WorldState) (k : ℕ) (answer : Answer) (r t : RunState Object) (freed : Option Object) → Shows w kept
@@ -316,7 +329,9 @@ frees w kept k answer r t freed shows i leaves none stays f =
     let new : IsNewObject o = subst (λ (x : Option Object). IfSome x IsNewObject) back.1 i.step.image in
     let here : IsAtHome kept o.slot o = record {
       same = refl;
-      its = ledger_kept w kept o.slot o.kind shows (subst (λ (s : ℕ). is_in s (ledger_of w o.kind) ≡ true) (sym slot) (subst (λ (c : ℕ). is_in h.object.slot (ledger_of w c) ≡ true) (kind ∙ sym back.2) its));
+      its = ledger_kept w kept o.slot o.kind shows
+          (subst (λ (s : ℕ). is_in s (ledger_of w o.kind) ≡ true) (sym slot)
+          (subst (λ (c : ℕ). is_in h.object.slot (ledger_of w c) ≡ true) (kind ∙ sym back.2) its));
       known = new.1;
       image = new.0;
     } in
@@ -375,7 +390,8 @@ record IsGivenOf (r : RunState Object) (shelf : ℕ) (given : Option ℕ) : Type
 given_of : (r : RunState Object) (shelf : ℕ) (given : Option ℕ) → IsTended r → r.exit ≡ None
     → IfSome given (λ call. (o : ObjectView) × Contains (run_seen r).objects o × (o.call ≡ call) × (o.kind ≡ shelf))
     → IsGivenOf r shelf given
-given_of r shelf None tended going there = record { name = None; call = refl; own = tt; stands = refl; kinds = λ kind. nothing_more kind shelf (of_kind kind (run_seen r).objects) } where
+given_of r shelf None tended going there =
+    record { name = None; call = refl; own = tt; stands = refl; kinds = λ kind. nothing_more kind shelf (of_kind kind (run_seen r).objects) } where
   nothing_more : (kind shelf n : ℕ) → n + cond (kind == shelf) 0 0 ≡ n
   nothing_more kind shelf n = by (kind == shelf) where
     by : (t : Bool) → n + cond t 0 0 ≡ n
@@ -424,7 +440,8 @@ given_of r shelf (Some call) tended going (o, among, is_call, is_kind) = record 
     found None none = let away = none h one.1 in let here = eq-eqb h.call call called in absurd (cc)
     found (Some x) it =
         let there : get_or r.held it.0.0 h ≡ x = get_or_default r.held it.0.0 h x it.0.1 ∙ it.0.2 in
-        let place = one_place r.held it.0.0 one.1.0 h up it.0.1 one.1.1 (ap (λ (y : Holding Object). y.call) there ∙ eqb-true x.call call it.1 ∙ sym called ∙ sym (ap (λ (y : Holding Object). y.call) get_or_found)) in
+        let place = one_place r.held it.0.0 one.1.0 h up it.0.1 one.1.1
+            (ap (λ (y : Holding Object). y.call) there ∙ eqb-true x.call call it.1 ∙ sym called ∙ sym (ap (λ (y : Holding Object). y.call) get_or_found)) in
         let same : x ≡ h = sym there ∙ ap (λ (n : ℕ). get_or r.held n h) place ∙ get_or_found in
         ap (λ (y : Holding Object). Some y.object.slot) same
 
@@ -456,18 +473,27 @@ swaps kept k answer r t freed i none stays s = Swaps s.shelf its.name (none_free
     its : IsGivenOf r s.shelf s.given
     its = given_of r s.shelf s.given i.run i.going s.there
 
-    got : (slots_fetched r.pc i.step.served ≡ got_by (slot_on kept.shelves s.shelf) r.pc) × (whole.fetched (told_by i.step.served) + is_bare (on_shelf kept.shelves s.shelf) ≡ 1)
-    got = got_of (lent_by answer kept.places) kept.shelves r.pc s.shelf i.step.served (subst (λ (a : Asking). MayAnswer (offers (lent_by answer kept.places) kept.shelves) r.pc a i.step.served) s.asked i.step.may)
+    got : (slots_fetched r.pc i.step.served ≡ got_by (slot_on kept.shelves s.shelf) r.pc)
+        × (whole.fetched (told_by i.step.served) + is_bare (on_shelf kept.shelves s.shelf) ≡ 1)
+    got = got_of (lent_by answer kept.places) kept.shelves r.pc s.shelf i.step.served
+        (subst (λ (a : Asking). MayAnswer (offers (lent_by answer kept.places) kept.shelves) r.pc a i.step.served) s.asked i.step.may)
 
     leaves : (shelf : ℕ)
-        → slot_on i.after shelf ≡ option_map (λ (x : world.Shelved). x.slot) (if shelf == s.shelf then shelved_from as_shelved r.held s.given else standing_on kept.shelves shelf)
-    leaves shelf = slot_standing i.after shelf ∙ ap (option_map (λ (x : world.Shelved). x.slot)) (i.step.shelves shelf ∙ s.leaves (shelved_from as_shelved r.held) shelf (standing_on kept.shelves shelf))
+        → slot_on i.after shelf ≡ option_map (λ (x : world.Shelved). x.slot)
+          (if shelf == s.shelf then shelved_from as_shelved r.held s.given else standing_on kept.shelves shelf)
+    leaves shelf = slot_standing i.after shelf
+        ∙ ap (option_map (λ (x : world.Shelved). x.slot))
+        (i.step.shelves shelf ∙ s.leaves (shelved_from as_shelved r.held) shelf (standing_on kept.shelves shelf))
 
     there : slot_on i.after s.shelf ≡ slot_of its.name
-    there = leaves s.shelf ∙ ap (λ (b : Bool). option_map (λ (x : world.Shelved). x.slot) (cond b (shelved_from as_shelved r.held s.given) (standing_on kept.shelves s.shelf))) (eq-eqb s.shelf s.shelf refl) ∙ its.stands
+    there = leaves s.shelf ∙ ap (λ (b : Bool).
+        option_map (λ (x : world.Shelved). x.slot) (cond b (shelved_from as_shelved r.held s.given) (standing_on kept.shelves s.shelf)))
+        (eq-eqb s.shelf s.shelf refl) ∙ its.stands
 
     elsewhere : (other : ℕ) → (other == s.shelf) ≡ false → slot_on i.after other ≡ slot_on kept.shelves other
-    elsewhere other ne = leaves other ∙ ap (λ (b : Bool). option_map (λ (x : world.Shelved). x.slot) (cond b (shelved_from as_shelved r.held s.given) (standing_on kept.shelves other))) ne ∙ sym (slot_standing kept.shelves other)
+    elsewhere other ne = leaves other ∙ ap
+        (λ (b : Bool). option_map (λ (x : world.Shelved). x.slot) (cond b (shelved_from as_shelved r.held s.given) (standing_on kept.shelves other))) ne
+        ∙ sym (slot_standing kept.shelves other)
 
     given_bare : is_bare (on_shelf i.after s.shelf) + cond (is_some its.name) 1 0 ≡ 1
     given_bare = by its.name (bare_slot i.after s.shelf ∙ ap (λ (o : Option ℕ). cond (is_some o) 0 1) there) where
@@ -497,7 +523,8 @@ swaps kept k answer r t freed i none stays s = Swaps s.shelf its.name (none_free
 
 pub exchange : (w : World) (kept : WorldState) (k : ℕ) (answer : Answer) (r t : RunState Object) (freed : Option Object)
     → Shows w kept → (i : IsInstruction kept k answer r t freed) → IsExchange kept k answer r t freed i.after
-exchange w kept k answer r t freed shows i = by (loan kept.places answer (wanted (asking_in (run_seen r))) i.fine) (outcome w kept k answer r t freed shows i) where
+exchange w kept k answer r t freed shows i =
+    by (loan kept.places answer (wanted (asking_in (run_seen r))) i.fine) (outcome w kept k answer r t freed shows i) where
   leaves : IsQuiet (run_seen r) → LeavesShelves kept r i.after
   leaves quiet = quiet_leaves kept k answer r t freed i quiet
 
@@ -516,7 +543,9 @@ exchange w kept k answer r t freed shows i = by (loan kept.places answer (wanted
 
   by : IsLoan kept.places answer (wanted (asking_in (run_seen r)))
       → IsOutcome (run_seen r) (run_seen t) i.step.served (slots_of r) (slots_of t) → IsExchange kept k answer r t freed i.after
-  by (Nothing unanswered none stays) (Kept quiet o) = Stays (leaves quiet) (none_freed freed (λ kind. omega (arith, counted kept k answer r t freed i (leaves quiet) kind, lent_none kept answer kind none, o.kinds kind))) stays o.slots_are
+  by (Nothing unanswered none stays) (Kept quiet o) =
+      Stays (leaves quiet) (none_freed freed
+      (λ kind. omega (arith, counted kept k answer r t freed i (leaves quiet) kind, lent_none kept answer kind none, o.kinds kind))) stays o.slots_are
   by (Nothing unanswered none stays) (Granted quiet g) = absurd (not_slot answer unanswered g.slot (slot_answered g.slot g.answered)) where
     not_slot : (a : Answer) → ((slot : ℕ) → a ≢ Slot slot) → (slot : ℕ) → answer_of a ≢ world.Slot slot
     not_slot Absent un slot e = absurd (cc)

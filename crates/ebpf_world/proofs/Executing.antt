@@ -147,7 +147,8 @@ answered kept k answer r t freed i = answer_given kept.places kept.shelves r.pc 
   theirs slot o at = (subst (IsPlaced kept slot) at (i.tended.placed.each slot)).same
 
 -- so it is, by what the tests and the step told
-abbrev pub instruction : (kept : WorldState) (k : ℕ) (answer : Answer) (r t : RunState Object) (lent freed : Option Object) (wants : Option ℕ) (fault : Option ApplyCode)
+abbrev pub instruction : (kept : WorldState) (k : ℕ) (answer : Answer) (r t : RunState Object) (lent freed : Option Object) (wants : Option ℕ)
+    (fault : Option ApplyCode)
     → IsTendedWorld kept → slice_get kept.runs k ≡ Some r → r.exit ≡ None
     → fault ≡ code_by kept.places answer wants → fault ≡ None → wants ≡ wanted (asking_in (run_seen r))
     → lent ≡ lent_by answer kept.places → (shelves after : List (Option Object)) → shelves ≡ kept.shelves
@@ -159,7 +160,8 @@ instruction kept k answer r t lent freed wants fault tended at goes code none wa
   at = at;
   going = goes;
   fine = ap (code_by kept.places answer) (sym wanted_is) ∙ sym code ∙ none;
-  step = subst (λ (l : Option Object). IsStepped l freed kept.shelves after r t) lent_is (subst (λ (s : List (Option Object)). IsStepped lent freed s after r t) shelves_are (then_going r.exit goes step));
+  step = subst (λ (l : Option Object). IsStepped l freed kept.shelves after r t) lent_is
+      (subst (λ (s : List (Option Object)). IsStepped lent freed s after r t) shelves_are (then_going r.exit goes step));
 }
   where
     then_going : (o : Option ℕ) → o ≡ None → IfNone o (IsStepped lent freed shelves after r t) → IsStepped lent freed shelves after r t
@@ -190,7 +192,8 @@ going_at w kept k r h placed at sound going =
       seen = run.2;
       goes = goes;
       sound = here;
-      code = λ answer. code_at w k run.0 kept.places answer h.owned (answers_from w kept answer h placed) run.1 here goes ∙ ap (λ (v : RunView). code_by kept.places answer (wanted (asking_in v))) run.2;
+      code = λ answer. code_at w k run.0 kept.places answer h.owned (answers_from w kept answer h placed) run.1 here goes
+          ∙ ap (λ (v : RunView). code_by kept.places answer (wanted (asking_in v))) run.2;
     }
 
 -- there is no such run
@@ -222,7 +225,8 @@ executed_bad w kept k answer code r h placed at sound going bad = by (answer_fau
 
 -- ---- the world after it
 
-pub record IsAfter (w : World) (kept : WorldState) (k : ℕ) (answer : Answer) (r t : RunState Object) (served : Served) (stands : List (Option Object)) : Type 0 where
+pub record IsAfter (w : World) (kept : WorldState) (k : ℕ) (answer : Answer) (r t : RunState Object) (served : Served) (stands : List (Option Object)) : Type
+    0 where
   pub after : World
   pub legal : exec w k (answer_of answer) ≡ Ok after
   pub shows : (places : Places) → Shows after (record kept { runs = slice_set kept.runs k t; places = places; shelves = stands })
@@ -239,7 +243,8 @@ executed_after w kept k answer r t freed h i = record { after = after; legal = n
   here = going_at w kept k r h i.tended.placed i.at i.run.sound i.going
 
   next : (after : World) × IsNextWorld w k here.run (answer_of answer) after
-  next = next_world w k here.run (answer_of answer) h.owned here.there here.sound here.goes (no_fault (answer_fault w (asking_of w here.run) (answer_of answer)) (here.code answer ∙ i.fine))
+  next = next_world w k here.run (answer_of answer) h.owned here.there here.sound here.goes
+      (no_fault (answer_fault w (asking_of w here.run) (answer_of answer)) (here.code answer ∙ i.fine))
 
   after : World
   after = next.0
@@ -247,7 +252,8 @@ executed_after w kept k answer r t freed h i = record { after = after; legal = n
   -- the world serves what the store answered
   serves : served_in w (asking_in (run_seen r)) (answer_for i.step.served) ≡ i.step.served
   serves = may_serve w (offers (lent_by answer kept.places) kept.shelves) r.pc (asking_in (run_seen r)) i.step.served i.step.may
-      (λ shelf asked. shelf_serves w (lent_by answer kept.places) kept.shelves r.pc shelf i.step.served (h.shelves shelf) (subst (λ (a : Asking). MayAnswer (offers (lent_by answer kept.places) kept.shelves) r.pc a i.step.served) asked i.step.may))
+      (λ shelf asked. shelf_serves w (lent_by answer kept.places) kept.shelves r.pc shelf i.step.served (h.shelves shelf)
+          (subst (λ (a : Asking). MayAnswer (offers (lent_by answer kept.places) kept.shelves) r.pc a i.step.served) asked i.step.may))
 
   given : answer_for i.step.served ≡ answer_of answer
   given = answered kept k answer r t freed i
@@ -263,7 +269,8 @@ executed_after w kept k answer r t freed h i = record { after = after; legal = n
   view = h.views k ∙ ap (option_map run_seen) i.at
 
   -- what the step says of the world that is shown
-  happens : (view_in after k ≡ Some (run_seen t)) × (slots_in after k ≡ slots_of t) × ((shelf : ℕ) → shelved_in after shelf ≡ standing_seen w (slots_of r) (effect_of_view (run_seen r)) shelf)
+  happens : (view_in after k ≡ Some (run_seen t)) × (slots_in after k ≡ slots_of t)
+      × ((shelf : ℕ) → shelved_in after shelf ≡ standing_seen w (slots_of r) (effect_of_view (run_seen r)) shelf)
   happens = i.step.event w after k h.owned view (h.slots k r i.at) serves (ap (exec w k) given ∙ next.1.legal)
 
   event : (view_in after k ≡ Some (run_seen t)) × (slots_in after k ≡ slots_of t)
@@ -272,7 +279,9 @@ executed_after w kept k answer r t freed h i = record { after = after; legal = n
   slots : slots_of t ≡ slots_after (effect_of_view (run_seen r)) i.step.served r.subject.decl.held r.pc (slots_of r)
   slots =
       let subject = ap (λ (v : RunView). slots_after (effect_of_view v) i.step.served v.subject.decl.held v.pc (slots_in w k)) here.seen in
-      sym event.1 ∙ next.1.slots ∙ ap (λ (s : Served). slots_after (effect_of_view (view_of w k here.run)) s here.run.subject.decl.held here.run.pc (slots_in w k)) served ∙ subject ∙ ap (slots_after (effect_of_view (run_seen r)) i.step.served r.subject.decl.held r.pc) (h.slots k r i.at)
+      sym event.1 ∙ next.1.slots ∙ ap (λ (s : Served).
+          slots_after (effect_of_view (view_of w k here.run)) s here.run.subject.decl.held here.run.pc (slots_in w k)) served ∙ subject
+          ∙ ap (slots_after (effect_of_view (run_seen r)) i.step.served r.subject.decl.held r.pc) (h.slots k r i.at)
 
   -- and of what stands on its shelves
   stands : (shelf : ℕ) → shelved_in after shelf ≡ standing_on i.after shelf
@@ -286,7 +295,8 @@ executed_after w kept k answer r t freed h i = record { after = after; legal = n
   runs = slice_set kept.runs k t
 
   view_at : (j : ℕ) → (j ≡ k) ⊎ (j ≢ k) → view_in after j ≡ option_map run_seen (slice_get runs j)
-  view_at j (inl same) = subst (λ (n : ℕ). view_in after n ≡ option_map run_seen (slice_get runs n)) (sym same) (event.0 ∙ sym (ap (option_map run_seen) (get_set_same kept.runs k r t i.at)))
+  view_at j (inl same) = subst (λ (n : ℕ). view_in after n ≡ option_map run_seen (slice_get runs n)) (sym same)
+      (event.0 ∙ sym (ap (option_map run_seen) (get_set_same kept.runs k r t i.at)))
   view_at j (inr ne) = next.1.others j ne ∙ (h.views j ∙ sym (ap (option_map run_seen) (get_set_other kept.runs k j t ne)))
 
   slots_at : (j : ℕ) (x : RunState Object) → slice_get runs j ≡ Some x → (j ≡ k) ⊎ (j ≢ k) → slots_in after j ≡ slots_of x

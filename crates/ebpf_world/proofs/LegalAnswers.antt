@@ -41,7 +41,8 @@ same_fault : (w : World) (v : RunView) (answer : world.Answer) → Asks v
     → answer_fault w (asking_in v) answer ≡ answer_fault w (asked_as (wanted (asking_in v))) answer
 same_fault w v answer (ForNothing unasked) = ap (λ (a : Asking). answer_fault w a answer) (unasked ∙ ap (λ (a : Asking). asked_as (wanted a)) (sym unasked))
 same_fault w v answer (ForObject kind asked new) = ap (λ (a : Asking). answer_fault w a answer) (asked ∙ ap (λ (a : Asking). asked_as (wanted a)) (sym asked))
-same_fault w v answer (ForShelf shelf asked new) = ap (λ (a : Asking). answer_fault w a answer) asked ∙ unasked answer ∙ ap (λ (a : Asking). answer_fault w (asked_as (wanted a)) answer) (sym asked) where
+same_fault w v answer (ForShelf shelf asked new) = ap (λ (a : Asking). answer_fault w a answer) asked ∙ unasked answer
+    ∙ ap (λ (a : Asking). answer_fault w (asked_as (wanted a)) answer) (sym asked) where
   unasked : (answer : world.Answer) → answer_fault w (AtShelf shelf) answer ≡ answer_fault w Unasked answer
   unasked world.Absent = refl
   unasked world.Null = refl
@@ -78,9 +79,11 @@ slot_fault w slot None wants owned kept = rw kept refl
 slot_fault w slot (Some (Held run at)) wants owned kept = rw kept refl
 slot_fault w slot (Some (Shelved shelf)) wants owned kept = rw kept refl
 slot_fault w slot (Some (Home o)) None owned kept = let home = kept.0 in rw home refl
-slot_fault w slot (Some (Home o)) (Some kind) owned kept = let home = kept.0 in let which = in_which w slot o.kind kind owned kept.1 in rw (home, which) (by (o.kind == kind)) where
+slot_fault w slot (Some (Home o)) (Some kind) owned kept = let home = kept.0 in let which = in_which w slot o.kind kind owned kept.1 in
+    rw (home, which) (by (o.kind == kind)) where
   by : (t : Bool)
-      → option_map code_of (first_of ((false, SlotNotHome) ∷ (not t, SlotOfAnotherKind) ∷ (false, AnswerUnasked) ∷ (false, AnswerMissing) ∷ [])) ≡ cond t None (Some apply.SlotOfAnotherKind)
+      → option_map code_of (first_of ((false, SlotNotHome) ∷ (not t, SlotOfAnotherKind) ∷ (false, AnswerUnasked) ∷ (false, AnswerMissing) ∷ []))
+        ≡ cond t None (Some apply.SlotOfAnotherKind)
   by true = refl
   by false = refl
 
@@ -139,10 +142,15 @@ told_next w v answer sound sized going fine = by (asks_of v (next_of v sound siz
   by (ForNothing unasked) Null fits = let bad = ap is_asked unasked in absurd (cc)
   by (ForNothing unasked) (Slot slot) fits = let bad = ap is_asked unasked in absurd (cc)
   by (ForObject kind asked new) Absent fits = let bad = ap is_asked asked in absurd (cc)
-  by (ForObject kind asked new) Null fits = rw asked (more (reply.Null ∷ []) (replies_of (stepped (result_of (served_in w (OfKind kind) world.Null)) v)) reply.Null refl (ap (λ (rs : Replies). rs.answers) (replies_added v _ kind going new)))
-  by (ForObject kind asked new) (Slot slot) fits = rw asked (more (reply.Granted ∷ []) (replies_of (stepped (result_of (served_in w (OfKind kind) (world.Slot slot))) v)) reply.Granted refl (ap (λ (rs : Replies). rs.answers) (replies_added v _ kind going new)))
+  by (ForObject kind asked new) Null fits =
+      rw asked (more (reply.Null ∷ []) (replies_of (stepped (result_of (served_in w (OfKind kind) world.Null)) v)) reply.Null refl
+      (ap (λ (rs : Replies). rs.answers) (replies_added v _ kind going new)))
+  by (ForObject kind asked new) (Slot slot) fits =
+      rw asked (more (reply.Granted ∷ []) (replies_of (stepped (result_of (served_in w (OfKind kind) (world.Slot slot))) v)) reply.Granted refl
+      (ap (λ (rs : Replies). rs.answers) (replies_added v _ kind going new)))
   by (ForShelf shelf asked new) Absent fits =
       let result = result_of (served_in w (asking_in v) world.Absent) in
-      more [] (replies_of (stepped result v)) (reply_in (heard_by_swap result)) (to_swap result) (ap (λ (rs : Replies). rs.answers) (replies_swapped v result shelf going new))
+      more [] (replies_of (stepped result v)) (reply_in (heard_by_swap result)) (to_swap result)
+          (ap (λ (rs : Replies). rs.answers) (replies_swapped v result shelf going new))
   by (ForShelf shelf asked new) Null fits = let bad = ap is_asked asked in absurd (cc)
   by (ForShelf shelf asked new) (Slot slot) fits = let bad = ap is_asked asked in absurd (cc)

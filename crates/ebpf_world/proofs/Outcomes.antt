@@ -123,11 +123,13 @@ given_there objects call found is = by (find (λ (o : ObjectView). o.call == cal
 -- and what is given for what stands on a shelf, of the shelf's kind
 given_of_kind : (objects : List ObjectView) (call shelf : ℕ) (found : Found) → object_at objects call ≡ Ok found
     → found.kind ≡ shelf → (o : ObjectView) × Contains objects o × (o.call ≡ call) × (o.kind ≡ shelf)
-given_of_kind objects call shelf found is kind = by (find (λ (o : ObjectView). o.call == call) objects) (find_is (λ (o : ObjectView). o.call == call) objects) is where
+given_of_kind objects call shelf found is kind =
+    by (find (λ (o : ObjectView). o.call == call) objects) (find_is (λ (o : ObjectView). o.call == call) objects) is where
   by : (f : Option ObjectView) → IsFound (λ (o : ObjectView). o.call == call) objects f → found_in f ≡ Ok found
       → (o : ObjectView) × Contains objects o × (o.call ≡ call) × (o.kind ≡ shelf)
   by None none is = absurd (cc)
-  by (Some o) there is = (o, there.0, eqb-true o.call call there.1, ap (λ (f : Found). f.kind) (same (record { kind = o.kind; bytes = o.bytes }) found (found_in (Some o)) refl is) ∙ kind) where
+  by (Some o) there is = (o, there.0, eqb-true o.call call there.1, ap (λ (f : Found). f.kind)
+      (same (record { kind = o.kind; bytes = o.bytes }) found (found_in (Some o)) refl is) ∙ kind) where
     same : (a b : Found) (the : Result Found Trap) → the ≡ Ok a → the ≡ Ok b → a ≡ b
     same a b the e f = cc
 
@@ -139,7 +141,8 @@ freed v to after call served slots o unasked there same = record {
   object = o;
   there = there;
   slots_are = ap (λ (c : ℕ). filter (λ (n : Name). not (n.call == c)) slots) (sym same);
-  fewer = fewer_dropped (λ (x : ObjectView). o.kind == x.kind) (λ (x : ObjectView). not (x.call == call)) v.objects o there (equal o.kind) (ap not (ap (λ (c : ℕ). c == call) same ∙ equal call));
+  fewer = fewer_dropped (λ (x : ObjectView). o.kind == x.kind) (λ (x : ObjectView). not (x.call == call)) v.objects o there (equal o.kind)
+      (ap not (ap (λ (c : ℕ). c == call) same ∙ equal call));
 }
   where
     equal : (a : ℕ) → (a == a) ≡ true
@@ -181,7 +184,8 @@ swapped_got : (v : RunView) (to : ℕ) (after : Frame ℕ) (shelf : ℕ) (given 
     → length (without_given given v.objects) < v.subject.decl.held
     → length (slots_without given slots) ≡ length (without_given given v.objects)
     → (slots_exchanged served v.subject.decl.held v.pc given slots ≡ slots_without given slots ++ slots_fetched v.pc served)
-    × ((kind : ℕ) → of_kind kind (exchanged (result_of served) to after shelf given v).objects ≡ of_kind kind (without_given given v.objects) + cond (kind == shelf) (whole.fetched (told_by served)) 0)
+    × ((kind : ℕ) → of_kind kind (exchanged (result_of served) to after shelf given v).objects
+        ≡ of_kind kind (without_given given v.objects) + cond (kind == shelf) (whole.fetched (told_by served)) 0)
 swapped_got v to after shelf given (step.Fetched slot bytes) slots room many =
     let few = room_for v.subject.decl.held (length (without_given given v.objects)) room in
     let few_slots = ap (nat_le v.subject.decl.held) many ∙ few in
@@ -197,7 +201,8 @@ swapped_got v to after shelf given (step.Granted slot) slots room many =
 
 swapped : (v : RunView) (to : ℕ) (after : Frame ℕ) (shelf : ℕ) (given : Option ℕ) (served : Served) (slots : List Name)
     → GoesOn v (Exchange shelf given) to after → length (slots_without given slots) ≡ length (without_given given v.objects)
-    → IsSwapped v (acted (Exchange shelf given) (result_of served) to after v) served slots (slots_acted (Exchange shelf given) served v.subject.decl.held v.pc slots)
+    → IsSwapped v (acted (Exchange shelf given) (result_of served) to after v) served slots
+      (slots_acted (Exchange shelf given) served v.subject.decl.held v.pc slots)
 swapped v to after shelf given served slots g many =
     let there = there_goes (insn_at v.subject.program v.pc) v.pc (environment_of_view v) v.frame (Exchange shelf given) to after g.does in
     let got = swapped_got v to after shelf given served slots g.room.1 many in
@@ -229,8 +234,12 @@ outcome_acted : (v : RunView) (act : Act ℕ) (to : ℕ) (after : Frame ℕ) (se
     → IsSound v → v.status ≡ Going → length slots ≡ length v.objects
     → ((call : ℕ) → length (slots_without (Some call) slots) ≡ length (without_given (Some call) v.objects))
     → IsOutcome v (acted act (result_of served) to after v) served slots (slots_acted act served v.subject.decl.held v.pc slots)
-outcome_acted v Nothing to after served slots g sound going many left = Kept (quiet v Nothing to after g refl (λ given_is shelf what. refl)) (record { unasked = λ slot e. asks_for v Nothing to after g; slots_are = refl; kinds = λ k. refl })
-outcome_acted v (Write call at bytes) to after served slots g sound going many left = Kept (quiet v (Write call at bytes) to after g refl (λ given_is shelf what. refl)) (record { unasked = λ slot e. asks_for v (Write call at bytes) to after g; slots_are = refl; kinds = λ k. kinds_patched k call at bytes v.objects })
+outcome_acted v Nothing to after served slots g sound going many left =
+    Kept (quiet v Nothing to after g refl (λ given_is shelf what. refl))
+    (record { unasked = λ slot e. asks_for v Nothing to after g; slots_are = refl; kinds = λ k. refl })
+outcome_acted v (Write call at bytes) to after served slots g sound going many left =
+    Kept (quiet v (Write call at bytes) to after g refl (λ given_is shelf what. refl))
+    (record { unasked = λ slot e. asks_for v (Write call at bytes) to after g; slots_are = refl; kinds = λ k. kinds_patched k call at bytes v.objects })
 outcome_acted v (Exchange shelf None) to after served slots g sound going many left = Swapped (swapped v to after shelf None served slots g many)
 outcome_acted v (Exchange shelf (Some call)) to after served slots g sound going many left =
     Swapped (swapped v to after shelf (Some call) served slots g (left call))
@@ -239,7 +248,8 @@ outcome_acted v (Ask kind) to after served slots g sound going many left =
 outcome_acted v (Free call) to after served slots g sound going many left =
     let there = there_goes (insn_at v.subject.program v.pc) v.pc (environment_of_view v) v.frame (Free call) to after g.does in
     let o = given_there v.objects call there.0 there.1 in
-    Freed (quiet v (Free call) to after g refl (λ given_is shelf what. refl)) (freed v to after call served slots o.0 (asks_for v (Free call) to after g) o.1 o.2)
+    Freed (quiet v (Free call) to after g refl (λ given_is shelf what. refl))
+        (freed v to after call served slots o.0 (asks_for v (Free call) to after g) o.1 o.2)
 
 -- ---- each instruction
 
@@ -254,7 +264,9 @@ outcome_of v served slots sound sized going many left = by (next_of v sound size
   by : IsNext v → IsOne (stepped (result_of served) v) (slots_after (effect_of_view v) served v.subject.decl.held v.pc slots)
   by (inl (act, to, after, g)) =
       rw (stepped_goes v (result_of served) act to after going g, g.does) (outcome_acted v act to after served slots g sound going many left)
-  by (inr (n, ends)) = rw (stepped_ends v (result_of served) n going ends, ends.does) (Kept (silent n ends) (record { unasked = λ slot e. asked_ends (insn_at v.subject.program v.pc) v.pc (environment_of_view v) v.frame n ends.does; slots_are = refl; kinds = λ k. refl }))
+  by (inr (n, ends)) = rw (stepped_ends v (result_of served) n going ends, ends.does)
+      (Kept (silent n ends) (record { unasked = λ slot e. asked_ends (insn_at v.subject.program v.pc) v.pc (environment_of_view v) v.frame n ends.does;
+      slots_are = refl; kinds = λ k. refl }))
     where
       silent : (n : ℕ) → EndsRun v n → IsQuiet v
       silent n ends = record {

@@ -24,7 +24,8 @@ held_owns w run n among =
     subst (λ (o : Owner). Contains w.owners o) same held.0
 
 pub owns_held : (w : World) (run : ℕ) (n : Name) → Contains w.owners (owner_of run n) → Contains (slots_in w run) n
-owns_held w run n among = Contains-mapped (λ (o : Owner). name_of o.slot (call_of o.holder)) (held_by w run) (owner_of run n) (Contains-kept (λ (o : Owner). is_run run o.holder) w.owners (owner_of run n) among (eq-eqb run run refl))
+owns_held w run n among = Contains-mapped (λ (o : Owner). name_of o.slot (call_of o.holder)) (held_by w run) (owner_of run n)
+    (Contains-kept (λ (o : Owner). is_run run o.holder) w.owners (owner_of run n) among (eq-eqb run run refl))
 
 -- a run that has a slot is one of the world
 pub owner_runs : (w : World) (o : Owner) → IsOwned w → is_by_run o.holder ≡ true → Contains w.owners o

@@ -64,7 +64,8 @@ not_given given names n g is among same =
 
 -- ---- what passes over a shelf
 
-module _ (w : World) (kept : WorldState) (k : ℕ) (answer : Answer) (r t : RunState Object) (freed : Option Object) (after : List (Option Object)) (lent back now : Places) (shelf : ℕ) (given : Option Name)
+module _ (w : World) (kept : WorldState) (k : ℕ) (answer : Answer) (r t : RunState Object) (freed : Option Object) (after : List (Option Object))
+    (lent back now : Places) (shelf : ℕ) (given : Option Name)
     (shows : Shows w kept) (i : IsInstruction kept k answer r t freed) (m : IsMoved kept k answer r freed after lent back now) (none : freed ≡ None)
     (stays : (run at q : ℕ) → place_lent answer run at kept.places q ≡ place_at kept.places q) (passes : PassesShelf kept r t after shelf given) where
   before : (q : ℕ) → place_at back q ≡ place_at kept.places q
@@ -74,11 +75,13 @@ module _ (w : World) (kept : WorldState) (k : ℕ) (answer : Answer) (r t : RunS
   at_shelf shelves = ap (option_and_then (slot_on shelves)) passes.reached_is
 
   now_is : (q : ℕ)
-      → place_at now q ≡ cond (is_slot (slot_of given) q) (Some (Shelved shelf)) (cond (is_slot (slot_on kept.shelves shelf) q) (Some (Held k r.pc)) (place_at kept.places q))
+      → place_at now q ≡ cond (is_slot (slot_of given) q) (Some (Shelved shelf))
+        (cond (is_slot (slot_on kept.shelves shelf) q) (Some (Held k r.pc)) (place_at kept.places q))
   now_is q =
       m.now_are q
       ∙ (λ j. place_exchanged (passes.reached_is j) (at_shelf kept.shelves j) ((at_shelf after ∙ passes.stands) j) k r.pc back q)
-      ∙ ap (λ (p : Option Place). cond (is_slot (slot_of given) q) (Some (Shelved shelf)) (cond (is_slot (slot_on kept.shelves shelf) q) (Some (Held k r.pc)) p)) (before q)
+      ∙ ap (λ (p : Option Place). cond (is_slot (slot_of given) q) (Some (Shelved shelf))
+        (cond (is_slot (slot_on kept.shelves shelf) q) (Some (Held k r.pc)) p)) (before q)
 
   -- what is given was the run's
   given_held : (g : Name) → given ≡ Some g → place_at kept.places g.slot ≡ Some (Held k g.call)
@@ -99,17 +102,20 @@ module _ (w : World) (kept : WorldState) (k : ℕ) (answer : Answer) (r t : RunS
   elsewhere : (q : ℕ) → slot_of given ≢ Some q → slot_on kept.shelves shelf ≢ Some q → place_at now q ≡ place_at kept.places q
   elsewhere q off not_stood =
       now_is q
-      ∙ ap (λ (b : Bool). cond b (Some (Shelved shelf)) (cond (is_slot (slot_on kept.shelves shelf) q) (Some (Held k r.pc)) (place_at kept.places q))) (is_not (slot_of given) q off)
+      ∙ ap (λ (b : Bool). cond b (Some (Shelved shelf)) (cond (is_slot (slot_on kept.shelves shelf) q) (Some (Held k r.pc)) (place_at kept.places q)))
+        (is_not (slot_of given) q off)
       ∙ ap (λ (b : Bool). cond b (Some (Held k r.pc)) (place_at kept.places q)) (is_not (slot_on kept.shelves shelf) q not_stood)
 
   put_there : (q : ℕ) → slot_of given ≡ Some q → place_at now q ≡ Some (Shelved shelf)
-  put_there q is = now_is q ∙ ap (λ (b : Bool). cond b (Some (Shelved shelf)) (cond (is_slot (slot_on kept.shelves shelf) q) (Some (Held k r.pc)) (place_at kept.places q))) (is_it (slot_of given) q is)
+  put_there q is = now_is q ∙ ap (λ (b : Bool).
+      cond b (Some (Shelved shelf)) (cond (is_slot (slot_on kept.shelves shelf) q) (Some (Held k r.pc)) (place_at kept.places q))) (is_it (slot_of given) q is)
 
   -- what stood there is not what is given
   got_it : (q : ℕ) → slot_on kept.shelves shelf ≡ Some q → place_at now q ≡ Some (Held k r.pc)
   got_it q is =
       now_is q
-      ∙ ap (λ (b : Bool). cond b (Some (Shelved shelf)) (cond (is_slot (slot_on kept.shelves shelf) q) (Some (Held k r.pc)) (place_at kept.places q))) (is_not (slot_of given) q apart)
+      ∙ ap (λ (b : Bool). cond b (Some (Shelved shelf)) (cond (is_slot (slot_on kept.shelves shelf) q) (Some (Held k r.pc)) (place_at kept.places q)))
+        (is_not (slot_of given) q apart)
       ∙ ap (λ (b : Bool). cond b (Some (Held k r.pc)) (place_at kept.places q)) (is_it (slot_on kept.shelves shelf) q is)
     where
       apart : slot_of given ≢ Some q
@@ -136,7 +142,8 @@ module _ (w : World) (kept : WorldState) (k : ℕ) (answer : Answer) (r t : RunS
 
   newest : (slot : ℕ) → slot_on kept.shelves shelf ≡ Some slot → Contains (slots_of t) (name_of slot r.pc)
   newest slot is =
-      subst (λ (ns : List Name). Contains ns (name_of slot r.pc)) (sym (passes.slots_are ∙ ap (λ (o : Option ℕ). slots_without (call_of given) (slots_of r) ++ got_by o r.pc) is))
+      subst (λ (ns : List Name). Contains ns (name_of slot r.pc))
+          (sym (passes.slots_are ∙ ap (λ (o : Option ℕ). slots_without (call_of given) (slots_of r) ++ got_by o r.pc) is))
       (Contains-push (slots_without (call_of given) (slots_of r)) (name_of slot r.pc))
 
   each : (q : ℕ) → (slot_of given ≡ Some q) ⊎ (slot_of given ≢ Some q)
@@ -144,11 +151,13 @@ module _ (w : World) (kept : WorldState) (k : ℕ) (answer : Answer) (r t : RunS
       → IsPlaced (stepped_to kept k t now after) q (place_at now q)
   each q (inl is) other = subst (IsPlaced (stepped_to kept k t now after) q) (sym (put_there q is)) (passes.stands ∙ is)
   each q (inr off) (inl is) = subst (IsPlaced (stepped_to kept k t now after) q) (sym (got_it q is)) (t, get_set_same kept.runs k r t i.at, newest q is)
-  each q (inr off) (inr not_stood) = subst (IsPlaced (stepped_to kept k t now after) q) (sym (elsewhere q off not_stood)) (moved kept k q r t now after (place_at kept.places q) i.at keeps stands (i.tended.placed.each q)) where
+  each q (inr off) (inr not_stood) = subst (IsPlaced (stepped_to kept k t now after) q) (sym (elsewhere q off not_stood))
+      (moved kept k q r t now after (place_at kept.places q) i.at keeps stands (i.tended.placed.each q)) where
     keeps : (at : ℕ) → place_at kept.places q ≡ Some (Held k at) → Contains (slots_of r) (name_of q at) → Contains (slots_of t) (name_of q at)
     keeps at is among =
         subst (λ (ns : List Name). Contains ns (name_of q at)) (sym passes.slots_are)
-        (Contains-append_left (slots_without (call_of given) (slots_of r)) (got_by (slot_on kept.shelves shelf) r.pc) (name_of q at) (kept_without given (slots_of r) (name_of q at) among other))
+        (Contains-append_left (slots_without (call_of given) (slots_of r)) (got_by (slot_on kept.shelves shelf) r.pc) (name_of q at)
+            (kept_without given (slots_of r) (name_of q at) among other))
       where
         other : (g : Name) → given ≡ Some g → at ≢ g.call
         other g given_is same =
@@ -174,7 +183,8 @@ module _ (w : World) (kept : WorldState) (k : ℕ) (answer : Answer) (r t : RunS
       → ((run ≡ k) × (t ≡ x)) ⊎ ((run ≢ k) × (slice_get kept.runs run ≡ Some x)) → place_at now n.slot ≡ Some (Held run n.call)
   held_then run x n among (inl (same, is_t)) =
       let there = subst (λ (ns : List Name). Contains ns n) passes.slots_are (subst (λ (y : RunState Object). Contains (slots_of y) n) (sym is_t) among) in
-      mine n (Contains-append_cases (slots_without (call_of given) (slots_of r)) (got_by (slot_on kept.shelves shelf) r.pc) n there) ∙ ap (λ (j : ℕ). Some (Held j n.call)) (sym same)
+      mine n (Contains-append_cases (slots_without (call_of given) (slots_of r)) (got_by (slot_on kept.shelves shelf) r.pc) n there)
+          ∙ ap (λ (j : ℕ). Some (Held j n.call)) (sym same)
   held_then run x n among (inr (ne, there)) = held_on run n (i.tended.placed.held run x there n among) (λ g is same. absurd (ne same))
 
   shelved_then : (other slot : ℕ) → slot_on after other ≡ Some slot → (other ≡ shelf) ⊎ (other ≢ shelf) → place_at now slot ≡ Some (Shelved other)
@@ -212,7 +222,8 @@ placed_after w kept k answer r t freed lent back now shows i m = by (exchange w 
   by (Swaps shelf given none stays passes) = swaps_placed w kept k answer r t freed i.after lent back now shelf given shows i m none stays passes
 
 -- the parts, as the code has them
-pub moved_by : (kept : WorldState) (k : ℕ) (answer : Answer) (r : RunState Object) (freed : Option Object) (after : List (Option Object)) (lent back now : Places) (shelf stood stands : Option ℕ) (at : ℕ)
+pub moved_by : (kept : WorldState) (k : ℕ) (answer : Answer) (r : RunState Object) (freed : Option Object) (after : List (Option Object))
+    (lent back now : Places) (shelf stood stands : Option ℕ) (at : ℕ)
     → at ≡ r.pc → shelf ≡ reached (asking_in (run_seen r))
     → stood ≡ option_and_then (slot_on kept.shelves) shelf → stands ≡ option_and_then (slot_on after) shelf
     → ((q : ℕ) → place_at lent q ≡ place_lent answer k at kept.places q) → ((q : ℕ) → place_at back q ≡ place_returned freed lent q)
@@ -220,7 +231,8 @@ pub moved_by : (kept : WorldState) (k : ℕ) (answer : Answer) (r : RunState Obj
 moved_by kept k answer r freed after lent back now shelf stood stands at pc shelf_is stood_is stands_is lent_are back_are now_are = record {
   lent_are = λ q. lent_are q ∙ ap (λ (n : ℕ). place_lent answer k n kept.places q) pc;
   back_are = back_are;
-  now_are = λ q. now_are q ∙ (λ j. place_exchanged (shelf_is j) ((stood_is ∙ ap (option_and_then (slot_on kept.shelves)) shelf_is) j) ((stands_is ∙ ap (option_and_then (slot_on after)) shelf_is) j) k (pc j) back q);
+  now_are = λ q. now_are q ∙ (λ j. place_exchanged (shelf_is j) ((stood_is ∙ ap (option_and_then (slot_on kept.shelves)) shelf_is) j)
+      ((stands_is ∙ ap (option_and_then (slot_on after)) shelf_is) j) k (pc j) back q);
 }
 
 -- what is freed was held
@@ -263,7 +275,8 @@ shelves_known w kept k answer r t freed lent back shows i lent_are back_are = by
   by (Lends leaves slot o none is home slots) = unreached leaves
   by (Frees leaves o call is stays among home slots) = unreached leaves
   by (Swaps shelf given none stays passes) = record {
-    stood_has = subst HasPlace (sym (ap (option_and_then (slot_on kept.shelves)) passes.reached_is)) (there (slot_on kept.shelves shelf) (λ q is. (Shelved shelf, i.tended.placed.shelved shelf q is)));
+    stood_has = subst HasPlace (sym (ap (option_and_then (slot_on kept.shelves)) passes.reached_is))
+        (there (slot_on kept.shelves shelf) (λ q is. (Shelved shelf, i.tended.placed.shelved shelf q is)));
     stands_has = subst HasPlace (sym (ap (option_and_then (slot_on i.after)) passes.reached_is ∙ passes.stands)) (own given refl);
   }
     where
@@ -287,4 +300,6 @@ pub known_by : (before : List (Option Object)) (r : RunState Object) (after : Li
     → shelf ≡ reached (asking_in (run_seen r)) → stood ≡ option_and_then (slot_on before) shelf
     → stands ≡ option_and_then (slot_on after) shelf
     → AreThere (reached_slot before r) (reached_slot after r) back → AreThere stood stands back
-known_by before r after back shelf stood stands shelf_is stood_is stands_is are = subst (λ (a : Option ℕ). AreThere a stands back) (sym (stood_is ∙ ap (option_and_then (slot_on before)) shelf_is)) (subst (λ (b : Option ℕ). AreThere (reached_slot before r) b back) (sym (stands_is ∙ ap (option_and_then (slot_on after)) shelf_is)) are)
+known_by before r after back shelf stood stands shelf_is stood_is stands_is are =
+    subst (λ (a : Option ℕ). AreThere a stands back) (sym (stood_is ∙ ap (option_and_then (slot_on before)) shelf_is))
+    (subst (λ (b : Option ℕ). AreThere (reached_slot before r) b back) (sym (stands_is ∙ ap (option_and_then (slot_on after)) shelf_is)) are)

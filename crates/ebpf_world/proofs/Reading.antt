@@ -98,7 +98,9 @@ bytes_home w kept slot o h placed is =
     let home = subst (IsKeptIn w slot) is (kept_in w kept slot h placed) in
     let there = (and_parts (is_in_ledger w slot) (not (is_owned w slot)) home.0).0 in
     let kind : o.kind ≡ kind_in w slot = sym (kind_in-ledger w o.kind slot h.owned home.1) in
-    there_bytes w slot o.bytes.items there (at.image ∙ ap (image_at known_kinds) kind ∙ ap (λ (kinds : List Kind). image_at kinds (kind_in w slot)) (sym h.kinds) ∙ sym (h.owned.ledgers.imaged slot home.0))
+    there_bytes w slot o.bytes.items there
+        (at.image ∙ ap (image_at known_kinds) kind ∙ ap (λ (kinds : List Kind). image_at kinds (kind_in w slot)) (sym h.kinds)
+        ∙ sym (h.owned.ledgers.imaged slot home.0))
 
 -- on a shelf it has those of what stands there
 bytes_shelved : (w : World) (kept : WorldState) (slot shelf : ℕ) (o : Object) → Shows w kept → ArePlaced kept
@@ -136,12 +138,14 @@ bytes_held w kept slot run at r held h owns there among call =
     let its = object_kept w kept run r held h there among in
     let same = h.owned.holders.one_a_call (owner_of run (name_of held.object.slot held.call)) (owner_of run (name_of slot at)) its.0 owns (ap (Run run) call) in
     let bytes : w.bytes held.object.slot ≡ held.object.bytes.items = ap (λ (v : ObjectView). v.bytes) its.1 in
-    there_bytes w slot held.object.bytes.items (owned_there w (owner_of run (name_of slot at)) h.owned owns) (sym bytes ∙ ap (λ (o : Owner). w.bytes o.slot) same)
+    there_bytes w slot held.object.bytes.items (owned_there w (owner_of run (name_of slot at)) h.owned owns)
+        (sym bytes ∙ ap (λ (o : Owner). w.bytes o.slot) same)
 
 object_held : (w : World) (kept : WorldState) (slot run at : ℕ) (r : RunState Object) → Shows w kept → ArePlaced kept
     → place_at kept.places slot ≡ Some (Held run at) → slice_get kept.runs run ≡ Some r
     → (held : Holding Object) × (find (λ (held : Holding Object). held.call == at) r.held ≡ Some held) × (Some held.object.bytes.items ≡ bytes_in w slot)
-object_held w kept slot run at r h placed is there = by (find (λ (held : Holding Object). held.call == at) r.held) refl (find_is (λ (held : Holding Object). held.call == at) r.held) where
+object_held w kept slot run at r h placed is there =
+    by (find (λ (held : Holding Object). held.call == at) r.held) refl (find_is (λ (held : Holding Object). held.call == at) r.held) where
   owns : Contains w.owners (owner_of run (name_of slot at))
   owns = held_kept w kept slot run at h placed is
 

@@ -131,7 +131,8 @@ starting_shows programs program s context w kept r kinds h at fits first = (
 )
 
 -- runs are those that were kept, and the new one
-pub starting_pushed : (programs : List Subject) (program : ℕ) (s : Subject) (context : List ℕ) (w : World) (kept : WorldState) (r : RunState Object) (runs : List (RunState Object))
+pub starting_pushed : (programs : List Subject) (program : ℕ) (s : Subject) (context : List ℕ) (w : World) (kept : WorldState) (r : RunState Object)
+    (runs : List (RunState Object))
     → kinds_of s.rows ≡ known_kinds → Shows w kept → slice_get programs program ≡ Some s
     → length context ≡ s.decl.context → r ≡ first_state_of s context → runs ≡ kept.runs ++ r ∷ []
     → (after : World) × (starting (slice_get programs program) context w ≡ Ok after) × Shows after (record kept { runs = runs })
@@ -142,7 +143,9 @@ starting_pushed programs program s context w kept r runs kinds h at fits first p
 -- ---- what always holds
 
 placed_started : (kept : WorldState) (r : RunState Object) → slots_of r ≡ [] → ArePlaced kept → ArePlaced (with_started kept r)
-placed_started kept r none placed = record { each = λ slot. by (place_at kept.places slot) slot (placed.each slot); held = λ run t at n among. held run t n among (get_push_cases kept.runs run t r at) at; shelved = placed.shelved } where
+placed_started kept r none placed = record
+    { each = λ slot. by (place_at kept.places slot) slot (placed.each slot); held = λ run t at n among.
+    held run t n among (get_push_cases kept.runs run t r at) at; shelved = placed.shelved } where
   by : (p : Option Place) (slot : ℕ) → IsPlaced kept slot p → IsPlaced (with_started kept r) slot p
   by None slot is = is
   by (Some (Home o)) slot is = record { same = is.same; its = is.its; known = is.known; image = is.image }
@@ -163,7 +166,8 @@ started_tended kept s context r kinds first sound tended = record {
   placed = placed_started kept r (ap slots_of first) tended.placed;
   shown = (
     started s context tended.shown.0,
-    subst (λ (x : RunState Object). Shows (started s context tended.shown.0) (with_started kept x)) (sym first) (started_shows tended.shown.0 kept s context (kinds ∙ sym tended.shown.1.kinds) tended.shown.1),
+    subst (λ (x : RunState Object). Shows (started s context tended.shown.0) (with_started kept x)) (sym first)
+        (started_shows tended.shown.0 kept s context (kinds ∙ sym tended.shown.1.kinds) tended.shown.1),
   );
 }
 

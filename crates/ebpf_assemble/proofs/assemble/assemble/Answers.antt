@@ -5,7 +5,8 @@ use Rattle.ebpf_assemble.proofs.Assembling.{assemble_cuts, writes_slots, writes_
 use Rattle.ebpf_assemble.proofs.assemble.assemble.Goals as goal
 
 pub returns-clause-response : goal.returns-clause-response
-returns-clause-response g c = response_through Assembles _ _ _ _ c.respond.ensures.response (λ all response k. response_of_shown Assembles assemble_cuts all response k.0 k.2 (let h = k.1 in search rules))
+returns-clause-response g c = response_through Assembles _ _ _ _ c.respond.ensures.response
+    (λ all response k. response_of_shown Assembles assemble_cuts all response k.0 k.2 (let h = k.1 in search rules))
 
 pub returns-clause-only : goal.returns-clause-only
 returns-clause-only g c text p is = writes_slots text p _ _ _ _ is (returns-clause-response g c)
@@ -17,4 +18,5 @@ pub returns-clause-consumed : goal.returns-clause-consumed
 returns-clause-consumed g c = c.respond.ensures.consumed
 
 pub returns-clause-beginning : goal.returns-clause-beginning
-returns-clause-beginning g c = begun_through Assembles _ _ _ _ c.respond.ensures.beginning (λ all response k. response_of_shown Assembles assemble_cuts all response k.0 k.2 (let h = k.1 in search rules))
+returns-clause-beginning g c = begun_through Assembles _ _ _ _ c.respond.ensures.beginning
+    (λ all response k. response_of_shown Assembles assemble_cuts all response k.0 k.2 (let h = k.1 in search rules))

@@ -9,15 +9,19 @@ use Rattle.ebpf_assembly.proofs.plain.plain_lines.Goals as goal
 
 pub loop-line-preserved : goal.loop-line-preserved
 loop-line-preserved c =
-    let turn = YieldsList-turn (YieldsList-from_slice_split _ is_newline c.args.text.now (cc) (cc) (cc) (λ x r q k. search (rules, tests))) c.loop-line.yielded _ c.loop-line.yielded_by _ _ c.in-Some.line c.in-Some.is c.next.ensures.steps in
+    let turn = YieldsList-turn (YieldsList-from_slice_split _ is_newline c.args.text.now (cc) (cc) (cc) (λ x r q k. search (rules, tests)))
+        c.loop-line.yielded _ c.loop-line.yielded_by _ _ c.in-Some.line c.in-Some.is c.next.ensures.steps in
     let same = ap (λ (ws : List (Bor (List ℕ))). map (λ w. w.now) ws) c.deref.ensures.value ∙ c.in_ok-words.ensures in
     let again = ap (λ (ws : List (Bor (List ℕ))). map (λ w. w.now) ws) c.deref-in-loop-line.ensures.value ∙ c.in_ok-words.ensures in
     record {
       few = c.slot_after-slot.ensures.bound;
-      rest = rw (length_push c.loop-line.yielded c.in-Some.line) (line_more (names_of c.args.labels.now) _ _ _ _ _ _ (text_lines c.args.text.now) _ _ _ turn.0 turn.1 same again c.in_ok-push_line.ensures c.slot_after-slot.ensures.value c.loop-line.invariant.rest);
+      rest = rw (length_push c.loop-line.yielded c.in-Some.line)
+          (line_more (names_of c.args.labels.now) _ _ _ _ _ _ (text_lines c.args.text.now) _ _ _ turn.0 turn.1 same again c.in_ok-push_line.ensures
+          c.slot_after-slot.ensures.value c.loop-line.invariant.rest);
     }
 
 pub returns : goal.returns
 returns c =
-    let all = YieldsList-end (YieldsList-from_slice_split _ is_newline c.args.text.now (cc) (cc) (cc) (λ x r q k. search (rules, tests))) c.loop-line.yielded _ c.loop-line.yielded_by _ _ c.in-None.is c.next.ensures.steps in
+    let all = YieldsList-end (YieldsList-from_slice_split _ is_newline c.args.text.now (cc) (cc) (cc) (λ x r q k. search (rules, tests))) c.loop-line.yielded
+        _ c.loop-line.yielded_by _ _ c.in-None.is c.next.ensures.steps in
     all_plain (names_of c.args.labels.now) _ _ _ _ (text_lines c.args.text.now) (omega (arith, all.1)) c.loop-line.invariant.rest

@@ -7,5 +7,6 @@ use Rattle.ebpf_assembly.proofs.plain.plain_lines.Given as goal
 abbrev pub invariant-loop-line : goal.invariant-loop-line
 invariant-loop-line l = record {
   few : l.slot ≤ 4098;
-  rest : l.plain.items ++ plain_lines (names_of l.labels) l.slot (drop (length l.yielded) (text_lines l.text)) ≡ plain_lines (names_of l.labels) 0 (text_lines l.text);
+  rest : l.plain.items ++ plain_lines (names_of l.labels) l.slot (drop (length l.yielded) (text_lines l.text))
+      ≡ plain_lines (names_of l.labels) 0 (text_lines l.text);
 }

@@ -15,5 +15,6 @@ returns-clause-code c =
     let code = c.args.writer.now.code.items in
     let i = c.args.insn in
     let written : c.push.new.self.items ≡ code ++ reverse (placed i) =
-    c.in_ok-push.ensures.items ∙ ap (λ (x : List (Option Insn)). x ++ Some i ∷ []) c.in_ok-push_half.ensures ∙ append_assoc code (half_of i) (Some i ∷ []) ∙ ap (λ (x : List (Option Insn)). code ++ x) (halves i) in
+    c.in_ok-push.ensures.items ∙ ap (λ (x : List (Option Insn)). x ++ Some i ∷ []) c.in_ok-push_half.ensures ∙ append_assoc code (half_of i) (Some i ∷ [])
+        ∙ ap (λ (x : List (Option Insn)). code ++ x) (halves i) in
     rw written (code_more code c.args.writer.now.count i c.requires.code c.requires.defined c.requires.room)

@@ -9,7 +9,8 @@ returns-in-NoSuch-count_sections-clause-found c = record {
 
 pub returns-in-None-clause-found : goal.returns-in-None-clause-found
 returns-in-None-clause-found c = record {
-  none = none_reaching c.args.file.now c.args.place c.in-One-count_sections.table c.bytes_of-relocations.result.now c.in-One-count_sections.ensures c.bytes_of-relocations.ensures c.in-None.ensures;
+  none = none_reaching c.args.file.now c.args.place c.in-One-count_sections.table c.bytes_of-relocations.result.now c.in-One-count_sections.ensures
+      c.bytes_of-relocations.ensures c.in-None.ensures;
   no_addends = c.in-NoSuch.ensures;
 }
 

@@ -9,4 +9,5 @@ returns-in-Ok c =
     let asked : Asked = record { bytes = c.in-Ok.request.bytes.items; context = c.in-Ok.request.context.items; held = c.in-Ok.request.decl.held } in
     let e = c.in-Ok.ensures in
     let same : asked ≡ asked_for c.args.form c.args.input.now c.args.context.now c.args.held = rw (e.bytes, e.context, e.declared.1) refl in
-    IfOk-weaker c.explain_request.result _ _ (λ response h. Explains-asked c.args.form c.args.input.now c.args.context.now c.args.held asked response e.fine same h) c.explain_request.ensures
+    IfOk-weaker c.explain_request.result _ _
+        (λ response h. Explains-asked c.args.form c.args.input.now c.args.context.now c.args.held asked response e.fine same h) c.explain_request.ensures

@@ -8,4 +8,5 @@ pub returns-in-Ok : goal.returns-in-Ok
 returns-in-Ok c = IfOk-weaker c.list_input.result _ _ (λ response h. of_taken (RespondsList Raw) _ _ _ response c.in-Ok.ensures.found h) c.list_input.ensures
 
 pub returns-in-Err : goal.returns-in-Err
-returns-in-Err c = IfOk-weaker c.answer_object_fault.result _ _ (λ response h. of_fault (RespondsList Raw) _ _ _ response c.in-Err.ensures.refused h) c.answer_object_fault.ensures
+returns-in-Err c = IfOk-weaker c.answer_object_fault.result _ _ (λ response h. of_fault (RespondsList Raw) _ _ _ response c.in-Err.ensures.refused h)
+    c.answer_object_fault.ensures

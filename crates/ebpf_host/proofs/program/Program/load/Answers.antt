@@ -17,7 +17,8 @@ write_why-requires c = AreRows-kinds c.kinds-rows.result c.kinds-rows.ensures
 pub invariant_of-result : goal.invariant_of-result
 invariant_of-result c = record {
   kinds =
-      ap kinds_of (accepted_rows c.args.bytes.now c.in-Some.decl c.kinds-rows.result c.in_ok-verified.field-0 c.in-Accepted.verified c.in_ok-verified.ensures c.in-Accepted.is)
+      ap kinds_of (accepted_rows c.args.bytes.now c.in-Some.decl c.kinds-rows.result c.in_ok-verified.field-0 c.in-Accepted.verified c.in_ok-verified.ensures
+          c.in-Accepted.is)
       ∙ kinds_known c.kinds-rows.result c.kinds-rows.ensures;
 }
 
@@ -40,5 +41,6 @@ returns-in_ok-write_why-in-Refused-clause-refused c =
         declared = record { context_is = value.0; held_is = value.1; kinds = c.kinds-rows.ensures };
         is = subst (λ (j : Judged). IsJudged c.args.bytes.now c.in-Some.decl c.kinds-rows.result j) c.in-Refused.is c.in_ok-verified.ensures;
       };
-      why = subst (IsWhy c.args.bytes.now c.in-Some.decl c.kinds-rows.result) (sym (written.2 ∙ ap (λ (text : List ℕ). text ++ written.0) c.new-sentence.ensures.bytes)) written.1;
+      why = subst (IsWhy c.args.bytes.now c.in-Some.decl c.kinds-rows.result)
+          (sym (written.2 ∙ ap (λ (text : List ℕ). text ++ written.0) c.new-sentence.ensures.bytes)) written.1;
     }

@@ -5,9 +5,11 @@ use Rattle.ebpf_object_file.proofs.lines.Lines.at_slots.Goals.{then-is_none, els
 
 pub loop-slot-preserved : goal.loop-slot-preserved
 loop-slot-preserved c = elim c.if-is_none.branch [
-  | then-is_none w ↦ rw w.lines-is (carried_kept c.args.self.now.size c.args.self.now.records.now c.args.from c.loop-slot.slot c.loop-slot.lines c.loop-slot.auto.slot
+  | then-is_none w ↦ rw w.lines-is (carried_kept c.args.self.now.size c.args.self.now.records.now c.args.from c.loop-slot.slot c.loop-slot.lines
+      c.loop-slot.auto.slot
       (subst (λ (n : ℕ). c.loop-slot.slot < n) (sym c.loop-slot.auto.lines) c.loop-slot-test.true) c.loop-slot.invariant (is_empty _ w.if-is_none.ensures))
-  | else-is_none w ↦ rw w.lines-is (carried_begun c.args.self.now.size c.args.self.now.records.now c.args.from c.loop-slot.slot c.loop-slot.lines c.loop-slot.auto.slot c.loop-slot.invariant (isnt_empty _ w.if-is_none.ensures))
+  | else-is_none w ↦ rw w.lines-is (carried_begun c.args.self.now.size c.args.self.now.records.now c.args.from c.loop-slot.slot c.loop-slot.lines
+      c.loop-slot.auto.slot c.loop-slot.invariant (isnt_empty _ w.if-is_none.ensures))
 ]
 
 pub loop-slot-init : goal.loop-slot-init

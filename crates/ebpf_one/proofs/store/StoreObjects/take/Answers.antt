@@ -4,7 +4,8 @@ use Rattle.ebpf_one.proofs.Slots.{granted_out, granted_apart, granted_others, gr
 use Rattle.ebpf_one.proofs.store.StoreObjects.take.Goals as goal
 
 pub returns-in-Some-clause-out : goal.returns-in-Some-clause-out
-returns-in-Some-clause-out c = let granted = c.in-Some.ensures in granted_out c.args.self.now.table.items _ c.in-Some.object c.args.kind granted.table granted.object granted.image c.requires.kind
+returns-in-Some-clause-out c = let granted = c.in-Some.ensures in
+    granted_out c.args.self.now.table.items _ c.in-Some.object c.args.kind granted.table granted.object granted.image c.requires.kind
 
 pub returns-in-Some-clause-apart : goal.returns-in-Some-clause-apart
 returns-in-Some-clause-apart c other out = granted_apart c.args.self.now.table.items c.in-Some.object.slot other c.in-Some.ensures.object.0 out

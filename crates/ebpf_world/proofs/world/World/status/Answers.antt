@@ -10,4 +10,5 @@ pub returns-in-Some : goal.returns-in-Some
 returns-in-Some c = λ w h. status_exited w _ c.args.run c.in-Some.number c.in_ok-run.run'.now h (sym c.in_ok-run.ensures) (sym c.in-Some.ensures)
 
 pub returns-in-None : goal.returns-in-None
-returns-in-None c = λ w h. ap (λ (n : ℕ). Some (status.Going n)) c.pc.ensures.value ∙ status_going w _ c.args.run c.in_ok-run.run'.now h (sym c.in_ok-run.ensures) (sym c.in-None.ensures)
+returns-in-None c = λ w h. ap (λ (n : ℕ). Some (status.Going n)) c.pc.ensures.value
+    ∙ status_going w _ c.args.run c.in_ok-run.run'.now h (sym c.in_ok-run.ensures) (sym c.in-None.ensures)

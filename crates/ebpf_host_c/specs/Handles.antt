@@ -1,0 +1,26 @@
+-- What a call by handles does with what they hold.
+use Rattle.std.specs.Prelude.{◌≡◌, ℕ, ⊥, List, Option, None}
+use Rattle.std.specs.Option.{MatchOption}
+use Rattle.ebpf_host.specs.declared.program.Program.{Program}
+use Rattle.ebpf_host.specs.declared.stocks.Stocks.{Stocks}
+use Rattle.ebpf_host.specs.Stocks.{stock_of}
+use Rattle.ebpf_host_c.specs.declared.told.Reported.{Reported}
+use Rattle.ebpf_host_c.specs.Told.{IsReportTold}
+
+-- a handle that held nothing holds nothing, and one that held a machine holds one: the relation is of the two
+abbrev pub MachineGoes : (Stocks → Stocks → Type 0) → Option Stocks → Option Stocks → Type 0
+MachineGoes R old new = MatchOption old (new ≡ None) (λ before. MatchOption new ⊥ (λ after. R before after))
+
+-- the pages of the arena stay as many as they were
+abbrev pub PagesStay : Stocks → Stocks → Type 0
+PagesStay before after = after.arena.pages ≡ before.arena.pages
+
+-- what is on each shelf stays there
+abbrev pub ShelvesStay : Stocks → Stocks → Type 0
+ShelvesStay before after = (kind : ℕ) → (stock_of after kind).shelf ≡ (stock_of before kind).shelf
+
+-- the handles held a program and a machine, the machine is still held, and what C reads is the report of the run
+abbrev pub IsRunTold : Option Program → Option Stocks → Option Stocks → List ℕ → ℕ → List ℕ → List ℕ → Reported → Type 0
+IsRunTold program old new context limit room output told =
+    MatchOption program ⊥ (λ p. MatchOption old ⊥ (λ before. MatchOption new ⊥ (λ after.
+        IsReportTold before after p.verified context limit room output told)))
