@@ -8,7 +8,7 @@ ghost use Rattle.std.specs.Int.{w64};
 ghost use Rattle.ebpf_machine.specs.Values.{Trap};
 ghost use Rattle.ebpf_machine.specs.Effect.{loaded};
 ghost use Rattle.ebpf_machine.specs.Store.{AreOut, objects_in, environment_in};
-ghost use Rattle.ebpf_machine.specs.Flows.{IsResult, stored_from, found_on_stack, found_among, found_in_object};
+ghost use Rattle.ebpf_machine.specs.Flows.{IsResult, CanStore, IsStored, found_on_stack, found_among, found_in_object};
 
 use crate::holding::{Holding, place_of};
 use crate::number::number_at;
@@ -27,7 +27,7 @@ pub(crate) struct Loaded {
 
 /// The value of the bytes at an offset from an address.
 #[inline(always)]
-pub(crate) fn load<O: Objects>(
+pub(crate) fn load_from<O: Objects>(
     stack: &Stack,
     context: &[u8],
     held: &[Holding<O::Held>],
@@ -92,8 +92,8 @@ pub(crate) fn store_value(
     offset: i16,
     value: Option<Value<u16>>,
 )
-    requires { (v : Value ℕ) × (value ≡ Some v) × (is_ok (stored_from from offset size v stack.old) ≡ true) }
-    ensures { (v : Value ℕ) → value ≡ Some v → stored_from from offset size v stack.old ≡ Ok stack.new }
+    requires { CanStore value from offset size stack.old }
+    ensures { IsStored value from offset size stack.old stack.new }
 {
     match value {
         Some(value) => stack.store(stack_place(from, offset), size, value),

@@ -2,7 +2,7 @@
 
 ghost use Rattle.std.specs.Prelude.{◌≡◌, ◌+◌, ℕ};
 ghost use Rattle.byteorder.specs.Endian.{little_bytes};
-ghost use Rattle.ebpf_machine.specs.Burst.{IsDone, IsWriting};
+ghost use Rattle.ebpf_machine.specs.Burst.{IsWriting, IsOverwritten};
 
 use crate::holding::place_of;
 use crate::memory::byte_place;
@@ -29,7 +29,7 @@ pub(crate) struct Written {
 #[inline(always)]
 pub(crate) fn overwrite<O: Objects>(parts: &mut Parts<'_, O::Held>, write: Written, objects: &mut O)
     requires { (pc : ℕ) × (done : ℕ) × IsWriting O.store write pc done parts.old objects.old }
-    ensures { (pc done : ℕ) → IsWriting O.store write pc done parts.old objects.old → IsDone O.store pc done (pc + 1) parts.old parts.new objects.old objects.new }
+    ensures { IsOverwritten O.store write parts.old parts.new objects.old objects.new }
 {
     let bytes = low_bytes(write.number);
     let at = byte_place(write.from, write.offset);

@@ -11,7 +11,7 @@ ghost use Rattle.ebpf_state.specs.Stack.{bytes_in, is_whole_word};
 ghost use Rattle.ebpf_machine.specs.declared.value.Value.{Value};
 ghost use Rattle.ebpf_machine.specs.Values.{empty_stack};
 ghost use Rattle.ebpf_machine.specs.Cells.{loaded_at, stored_cells, is_pointer, is_among, touches};
-ghost use Rattle.ebpf_machine.specs.StackWords.{IsReflexive, pointer_of, is_set_after};
+ghost use Rattle.ebpf_machine.specs.StackWords.{IsReflexive, CanLoad, pointer_of, is_set_after};
 
 use crate::number::number_at;
 use crate::value::{Base, Value};
@@ -68,7 +68,7 @@ impl Stack {
     #[inline(always)]
     pub(crate) fn load(&self, place: usize, size: Size, signed: bool) -> Value<u16>
         requires inside { place + bytes_in size ≤ 512 }
-        requires loads { (is_same : ℕ → ℕ → Bool) × IsReflexive is_same × (is_ok (loaded_at is_same (Some place) (bytes_in size) signed self.now) ≡ true) }
+        requires loads { CanLoad place size signed self.now }
         ensures { (is_same : ℕ → ℕ → Bool) → IsReflexive is_same → loaded_at is_same (Some place) (bytes_in size) signed self.now ≡ Ok result }
     {
         match pointer_at(
