@@ -244,7 +244,8 @@ fn put(
 fn forget(marks: &mut [u8; 512], pointing: &mut [bool; 64], place: usize, count: usize)
     requires inside { place + count ≤ 512 }
     requires some { 0 < count }
-    ensures marks { (i : ℕ) → i < 512 → is_among place count i ≡ false → slice_index_or marks.new i 0 ≡ left_after place count pointing.old marks.old i }
+    ensures marks { (i : ℕ) → i < 512 → is_among place count i ≡ false →
+        slice_index_or marks.new i 0 ≡ left_after place count pointing.old marks.old i }
     ensures pointing { (word : ℕ) → slice_index_or pointing.new word false ≡
         (if touches place count word then false else slice_index_or pointing.old word false) }
 {
