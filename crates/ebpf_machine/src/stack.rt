@@ -2,16 +2,17 @@
 //!
 //! Its bytes are kept as they are, so that a number is read and written as a whole wherever it lies. A pointer is kept beside
 //! them, by the aligned word that holds it; the word's bytes count again once one of them is written. Which bytes were written
-//! no load asks, since the verdict has ruled out that others are read: contracts alone see it. What counts no more, or was never
+//! no load asks, since the verdict has ruled out that others are read: only contracts see it. A byte that was written has the
+//! mark of its run, and the next run has another, so that no mark is cleared at a start. What no longer counts, or was never
 //! written, is what an earlier run left there.
 
-ghost use Rattle.std.specs.Prelude.{◌≡◌, ℕ, ◌≤◌, ◌<◌, ◌+◌, ◌-◌, ◌/◌, true, false, ◌==◌, ◌&&◌, if◌then◌else◌, is_ok, None, Some, Ok, slice_index_or, Bool, length};
+ghost use Rattle.std.specs.Prelude.{◌≡◌, ℕ, ◌≤◌, ◌<◌, ◌+◌, ◌-◌, ◌/◌, replicate, true, false, ◌==◌, ◌&&◌, if◌then◌else◌, is_ok, None, Some, Ok, slice_index_or, Bool, length};
 ghost use Rattle.std.specs.Int.{byte_at};
 ghost use Rattle.ebpf_state.specs.Stack.{bytes_in, is_whole_word};
 ghost use Rattle.ebpf_machine.specs.declared.value.Value.{Value};
 ghost use Rattle.ebpf_machine.specs.Values.{empty_stack};
 ghost use Rattle.ebpf_machine.specs.Cells.{loaded_at, stored_cells, is_pointer, is_among, touches};
-ghost use Rattle.ebpf_machine.specs.StackWords.{IsReflexive, CanLoad, pointer_of, is_set_after};
+ghost use Rattle.ebpf_machine.specs.StackWords.{AreMarks, CanLoad, IsReflexive, holds_without, left_after, mark_after, pointer_of};
 
 use crate::number::number_at;
 use crate::value::{Base, Value};
@@ -23,8 +24,10 @@ use std::marker::Model;
 #[derive(Drop)]
 pub(crate) struct Stack {
     bytes: [u8; 512],
-    /// Which of them were written.
-    set: [bool; 512],
+    /// Beside each of them the mark of the run that wrote it last, or 0.
+    marks: [u8; 512],
+    /// The mark of this run.
+    mark: u8,
     /// Which words hold a pointer.
     pointing: [bool; 64],
     /// Of those that do, its base and its offset.
@@ -35,11 +38,13 @@ pub(crate) struct Stack {
 impl Model for Stack {
     ghost use Rattle.std.specs.Prelude.{ℕ, List};
     ghost use Rattle.ebpf_machine.specs.declared.value.Cell.{Cell};
-    ghost use Rattle.ebpf_machine.specs.StackWords.{cells_of, pointer_of};
+    ghost use Rattle.ebpf_machine.specs.StackWords.{cells_of, marked, pointer_of, AreMarks};
 
     ghost Value = { List (Cell ℕ) };
 
-    ghost view = { λ s. cells_of s.bytes s.set (pointer_of s.pointing s.bases s.offsets) };
+    ghost view = { λ s. cells_of s.bytes (marked s.mark s.marks) (pointer_of s.pointing s.bases s.offsets) };
+
+    ghost invariant = { λ s. AreMarks s.mark s.marks };
 }
 
 impl Stack {
@@ -49,7 +54,8 @@ impl Stack {
     {
         Stack {
             bytes: [0; 512],
-            set: [false; 512],
+            marks: [0; 512],
+            mark: 1,
             pointing: [false; 64],
             bases: [Base::Stack; 64],
             offsets: [0; 64],
@@ -60,7 +66,7 @@ impl Stack {
     pub(crate) fn clear(&mut self)
         ensures { self.new ≡ empty_stack }
     {
-        self.set = [false; 512];
+        self.mark = next_mark(&mut self.marks, self.mark);
         self.pointing = [false; 64];
     }
 
@@ -104,7 +110,8 @@ impl Stack {
             }
             Value::Number(n) => write(
                 &mut self.bytes,
-                &mut self.set,
+                &mut self.marks,
+                self.mark,
                 &mut self.pointing,
                 place,
                 size,
@@ -112,6 +119,30 @@ impl Stack {
             ),
         }
     }
+}
+
+// A mark that no byte has.
+#[inline(always)]
+fn next_mark(marks: &mut [u8; 512], mark: u8) -> u8
+    requires { AreMarks mark marks.old }
+    ensures long { length marks.new ≡ 512 }
+    ensures some { 0 < result }
+    ensures new { (i : ℕ) → i < 512 → slice_index_or marks.new i 0 < result }
+{
+    if mark == u8::MAX {
+        forget_marks(marks);
+        return 1;
+    }
+    mark + 1
+}
+
+// Out of line, since few starts need it.
+#[cold]
+#[inline(never)]
+fn forget_marks(marks: &mut [u8; 512])
+    ensures { marks.new ≡ replicate 512 0 }
+{
+    *marks = [0; 512];
 }
 
 // The pointer that the bytes hold, where they are an aligned word.
@@ -159,25 +190,26 @@ fn keep(
 #[inline(always)]
 fn write(
     bytes: &mut [u8; 512],
-    set: &mut [bool; 512],
+    marks: &mut [u8; 512],
+    mark: u8,
     pointing: &mut [bool; 64],
     place: usize,
     size: Size,
     n: u64,
 )
     requires { place + bytes_in size ≤ 512 }
-    ensures long { length bytes.new ≡ 512 }
+    ensures long { (length bytes.new ≡ 512) × (length marks.new ≡ 512) }
     ensures bytes { (i : ℕ) → i < 512 → slice_index_or bytes.new i 0 ≡
         (if is_among place (bytes_in size) i then byte_at (i - place) n else slice_index_or bytes.old i 0) }
-    ensures set { (i : ℕ) → i < 512 → slice_index_or set.new i false ≡ is_set_after place (bytes_in size) pointing.old set.old i }
+    ensures marks { (i : ℕ) → i < 512 → slice_index_or marks.new i 0 ≡ mark_after place (bytes_in size) pointing.old mark marks.old i }
     ensures pointing { (word : ℕ) → slice_index_or pointing.new word false ≡
         (if touches place (bytes_in size) word then false else slice_index_or pointing.old word false) }
 {
     match size {
-        Size::B => put(bytes, set, pointing, place, 1, n),
-        Size::H => put(bytes, set, pointing, place, 2, n),
-        Size::W => put(bytes, set, pointing, place, 4, n),
-        Size::D => put(bytes, set, pointing, place, 8, n),
+        Size::B => put(bytes, marks, mark, pointing, place, 1, n),
+        Size::H => put(bytes, marks, mark, pointing, place, 2, n),
+        Size::W => put(bytes, marks, mark, pointing, place, 4, n),
+        Size::D => put(bytes, marks, mark, pointing, place, 8, n),
     }
 }
 
@@ -185,7 +217,8 @@ fn write(
 #[inline(always)]
 fn put(
     bytes: &mut [u8; 512],
-    set: &mut [bool; 512],
+    marks: &mut [u8; 512],
+    mark: u8,
     pointing: &mut [bool; 64],
     place: usize,
     count: usize,
@@ -194,56 +227,57 @@ fn put(
     requires inside { place + count ≤ 512 }
     requires some { 0 < count }
     requires few { count ≤ 8 }
-    ensures long { length bytes.new ≡ 512 }
+    ensures long { (length bytes.new ≡ 512) × (length marks.new ≡ 512) }
     ensures bytes { (i : ℕ) → i < 512 → slice_index_or bytes.new i 0 ≡
         (if is_among place count i then byte_at (i - place) n else slice_index_or bytes.old i 0) }
-    ensures set { (i : ℕ) → i < 512 → slice_index_or set.new i false ≡ is_set_after place count pointing.old set.old i }
+    ensures marks { (i : ℕ) → i < 512 → slice_index_or marks.new i 0 ≡ mark_after place count pointing.old mark marks.old i }
     ensures pointing { (word : ℕ) → slice_index_or pointing.new word false ≡
         (if touches place count word then false else slice_index_or pointing.old word false) }
 {
-    forget(set, pointing, place, count);
+    forget(marks, pointing, place, count);
     bytes[place..place + count].copy_from_slice(&n.to_le_bytes()[..count]);
-    set[place..place + count].copy_from_slice(&[true; 8][..count]);
+    marks[place..place + count].copy_from_slice(&[mark; 8][..count]);
 }
 
 // Some bytes of these words are overwritten, so what is left of a pointer in them is unset. Of a whole word nothing is left.
 #[inline(always)]
-fn forget(set: &mut [bool; 512], pointing: &mut [bool; 64], place: usize, count: usize)
+fn forget(marks: &mut [u8; 512], pointing: &mut [bool; 64], place: usize, count: usize)
     requires inside { place + count ≤ 512 }
     requires some { 0 < count }
-    ensures set { (i : ℕ) → i < 512 → is_among place count i ≡ false → slice_index_or set.new i false ≡ is_set_after place count pointing.old set.old i }
+    ensures marks { (i : ℕ) → i < 512 → is_among place count i ≡ false →
+        slice_index_or marks.new i 0 ≡ left_after place count pointing.old marks.old i }
     ensures pointing { (word : ℕ) → slice_index_or pointing.new word false ≡
         (if touches place count word then false else slice_index_or pointing.old word false) }
 {
     if is_whole_word(place, count) {
         pointing[place / 8] = false;
     } else {
-        forget_word(set, pointing, place / 8);
-        forget_word(set, pointing, (place + count - 1) / 8);
+        forget_word(marks, pointing, place / 8);
+        forget_word(marks, pointing, (place + count - 1) / 8);
     }
 }
 
 // A word holds no pointer any more; of one that did no byte is set.
 #[inline(always)]
-fn forget_word(set: &mut [bool; 512], pointing: &mut [bool; 64], word: usize)
+fn forget_word(marks: &mut [u8; 512], pointing: &mut [bool; 64], word: usize)
     requires { word < 64 }
-    ensures set { (i : ℕ) → i < 512 → slice_index_or set.new i false ≡
-        (if i / 8 == word && slice_index_or pointing.old word false then false else slice_index_or set.old i false) }
-    ensures pointing { (other : ℕ) → slice_index_or pointing.new other false ≡ (if other == word then false else slice_index_or pointing.old other false) }
+    ensures marks { (i : ℕ) → i < 512 → slice_index_or marks.new i 0 ≡
+        (if i / 8 == word && slice_index_or pointing.old word false then 0 else slice_index_or marks.old i 0) }
+    ensures pointing { (other : ℕ) → slice_index_or pointing.new other false ≡ holds_without word pointing.old other }
 {
     if pointing[word] {
-        unset_word(set, pointing, word);
+        unset_word(marks, pointing, word);
     }
 }
 
 // Out of line, since few stores are over a pointer.
 #[cold]
 #[inline(never)]
-fn unset_word(set: &mut [bool; 512], pointing: &mut [bool; 64], word: usize)
+fn unset_word(marks: &mut [u8; 512], pointing: &mut [bool; 64], word: usize)
     requires { word < 64 }
-    ensures set { (i : ℕ) → i < 512 → slice_index_or set.new i false ≡ (if i / 8 == word then false else slice_index_or set.old i false) }
-    ensures pointing { (other : ℕ) → slice_index_or pointing.new other false ≡ (if other == word then false else slice_index_or pointing.old other false) }
+    ensures marks { (i : ℕ) → i < 512 → slice_index_or marks.new i 0 ≡ (if i / 8 == word then 0 else slice_index_or marks.old i 0) }
+    ensures pointing { (other : ℕ) → slice_index_or pointing.new other false ≡ holds_without word pointing.old other }
 {
     pointing[word] = false;
-    set[8 * word..8 * word + 8].copy_from_slice(&[false; 8]);
+    marks[8 * word..8 * word + 8].copy_from_slice(&[0; 8]);
 }

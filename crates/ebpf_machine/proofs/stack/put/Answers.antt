@@ -1,13 +1,13 @@
-use Rattle.std.proofs.Common.{true, false, refl, arith, ◌∙◌, ap, take, List, ℕ}
+use Rattle.std.proofs.Common.{refl, arith, ◌∙◌, ap, take, List, ℕ}
 use Rattle.ebpf_machine.proofs.Instructions.StackWords.{marked_after, marked_byte, written_byte}
 use Rattle.ebpf_machine.proofs.stack.put.Goals as goal
 
 pub returns-clause-bytes : goal.returns-clause-bytes
 returns-clause-bytes c = λ i lt. written_byte c.args.place c.args.count _ c.args.n c.args.bytes.now c.copy_from_slice.new.self i refl (let long = c.told-bytes in let room = c.requires.inside in omega arith) c.requires.few (c.copy_from_slice.ensures.after ∙ ap (λ (xs : List ℕ). take c.args.count xs) c.to_le_bytes.ensures)
 
-pub returns-clause-set : goal.returns-clause-set
-returns-clause-set c = λ i lt.
-    let long = c.told-set in
+pub returns-clause-marks : goal.returns-clause-marks
+returns-clause-marks c = λ i lt.
+    let long = c.told-marks in
     let room = c.requires.inside in
-    marked_after c.args.set.now c.forget.new.set _ c.args.pointing.now c.args.place c.args.count i (c.forget.ensures.set i lt)
-    (marked_byte c.args.place c.args.count _ true false c.forget.new.set c.copy_from_slice-2.new.self i refl (omega arith) c.requires.few c.copy_from_slice-2.ensures.after)
+    marked_after c.args.marks.now c.forget.new.marks _ c.args.mark c.args.pointing.now c.args.place c.args.count i (c.forget.ensures.marks i lt)
+    (marked_byte c.args.place c.args.count _ c.args.mark 0 c.forget.new.marks c.copy_from_slice-2.new.self i refl (omega arith) c.requires.few c.copy_from_slice-2.ensures.after)
