@@ -1,6 +1,8 @@
+pub mod Bundles
 pub mod Holding
 pub mod Claiming
 pub mod Sums
+pub mod Answering
 pub mod Evens
 pub mod Exchanging
 pub mod Passing

@@ -19,12 +19,14 @@ use Rattle.ebpf_pool.specs.declared.crew.Done.{Done}
 use Rattle.ebpf_pool.specs.declared.outcome.Outcome.{Outcome}
 use Rattle.ebpf_pool.specs.declared.outcome.ShelfTotals.{ShelfTotals}
 use Rattle.ebpf_pool.specs.declared.hands.FreePairs.{FreePairs}
+use Rattle.ebpf_pool.specs.Bundles.{bundle_of}
 use Rattle.ebpf_pool.specs.Outcomes.{IsOutcome, AreReportsFor, IsReportFor, IsEvenTotal, IsEvenShelf, allocs_in, nulls_in, gets_in, left_in, granted_in, refused_in, fetched_in}
 use Rattle.ebpf_pool.specs.Supplies.{IsClosed, AreClosed}
 use Rattle.ebpf_pool.specs.Places.{HasExit, IsIn, filled, filled_at, times_in, weight, weight_at, weight_of}
 use Rattle.ebpf_pool.specs.Serving.{AreServed, AreEven, all_allocs, all_nulls, all_gets, reports_of}
 use Rattle.ebpf_pool.specs.Working.{Answers, granted_by, refused_by, fetched_by}
-use Rattle.ebpf_pool.proofs.Shares.{sum_same, one_if}
+use Rattle.ebpf_pool.proofs.Bundles.{one_if}
+use Rattle.ebpf_pool.proofs.Shares.{sum_same}
 
 -- ---- numbers of jobs
 
@@ -104,8 +106,8 @@ module _ {K L : Type 0} (count : ℕ) (f : FreePairs K L) (shelf : ShelfTotals) 
   even_shelf : IsEvenShelf shelf
   even_shelf = record { balance = closed.shelf_balance; one = closed.one }
 
-module _ {L : Type 0} (programs : List Subject) (jobs : List Job) (o : OwnersView) (t : TicketsView) (seats : List SeatView) (p : Parts L) (done : Done)
-    (through : done.ending ≡ Through) (s : AreServed programs jobs o t seats p done) where
+module _ {L : Type 0} (programs : List Subject) (jobs : List Job) (o : OwnersView) (size : ℕ) (t : TicketsView) (seats : List SeatView) (p : Parts L) (done : Done)
+    (through : done.ending ≡ Through) (s : AreServed programs jobs o size t seats p done) where
   inside : All (All (λ n. n.job < length jobs)) (reports_of p)
   inside = answered_inside programs jobs (reports_of p) s.good
 
@@ -116,12 +118,12 @@ module _ {L : Type 0} (programs : List Subject) (jobs : List Job) (o : OwnersVie
       by : (b : Bool) → nat_lt x (length jobs) ≡ b → filled blank x + sum_by (times_in x) (reports_of p) ≤ 1
       by true e =
           let below : x < length jobs = grind (arith, nat_tests) in
-          omega (arith, blank_filled blank x none, s.drawn through x below, once x)
+          omega (arith, blank_filled blank x none, s.drawn through x below, once (bundle_of size x))
       by false e =
           let past : length jobs ≤ x = grind (arith, nat_tests) in
           omega (arith, blank_filled blank x none, all_beyond (length jobs) x (reports_of p) inside past)
 
-    module _ (each : (x : ℕ) → x < length jobs → times_drawn x p.drawers.items ≡ 1) (places : List Report) (len : length places ≡ length jobs)
+    module _ (each : (x : ℕ) → x < length jobs → times_drawn (bundle_of size x) p.drawers.items ≡ 1) (places : List Report) (len : length places ≡ length jobs)
         (fills : (x : ℕ) → filled places x ≡ filled blank x + sum_by (times_in x) (reports_of p))
         (weighs : (h : Report → ℕ) → weight h places ≡ weight h blank + sum_by (weight_of h) (reports_of p))
         (from : (x : ℕ) (r : Report) → slice_get places x ≡ Some r → HasExit r → (slice_get blank x ≡ Some r) ⊎ IsIn (record { job = x; report = r }) (reports_of p)) where

@@ -18,6 +18,7 @@ use Rattle.ebpf_pool.specs.declared.hands.FreePairs.{FreePairs}
 use Rattle.ebpf_pool.specs.declared.hands.Tools.{Tools}
 use Rattle.ebpf_pool.specs.declared.crew.Parts.{Parts}
 use Rattle.ebpf_pool.specs.declared.crew.Done.{Done}
+use Rattle.ebpf_pool.specs.Bundles.{AreAsDrawn, bundle_of}
 use Rattle.ebpf_pool.specs.Claims.{lost}
 use Rattle.ebpf_pool.specs.Crews.{AreDismissed, IsBack, tools_or, tools_in, hands_in, seat_in, clashes_in, strays_in}
 use Rattle.ebpf_pool.specs.Counts.{all_allocs, all_nulls, all_gets}
@@ -29,7 +30,7 @@ use Rattle.ebpf_pool.specs.Working.{IsEven, IsEvenPair, IsFresh, IsDone, AreDone
 use Rattle.ebpf_pool.proofs.Turned.{sum_turned, sum_mapped, all_mapped, any_also, as_many}
 use Rattle.ebpf_pool.proofs.Shares.{sum_same, three_sums, sum_two, sum_two_less, sum_even, sum_grown, all_by_index, part_sum, part_all, part_any, part_len, drawn_by, passed_by, through_not_out}
 
-module _ {L : Type 0} (programs : List Subject) (jobs : List Job) (o : OwnersView) (t : TicketsView) where
+module _ {L : Type 0} (programs : List Subject) (jobs : List Job) (o : OwnersView) (size : ℕ) (t : TicketsView) where
   abbrev allocs_in : Worker L → ℕ
   allocs_in w = all_allocs (hands_in w)
 
@@ -63,18 +64,18 @@ module _ {L : Type 0} (programs : List Subject) (jobs : List Job) (o : OwnersVie
     pub idle : IsIdle o (seat_in w)
     pub ticket : IsOf t w.ticket
     pub good : All (Answers programs jobs) w.answered.items
-    pub drawn : HasDrawn jobs w.ticket w.answered.items w.ending
+    pub drawn : HasDrawn size jobs w.ticket w.answered.items w.ending
     pub granted : allocs_in w ≡ granted_in w + clashes_in w
     pub refused : nulls_in w + clashes_in w ≡ refused_in w
     pub fetched : gets_in w ≡ fetched_in w + strays_in w
 
-  share_drawn : (w : Worker L) → IsShare w → w.ending ≢ OutOfMemory → (x : ℕ) → x < length jobs → times x w.ticket.drawn ≡ times_in x w.answered.items
-  share_drawn w s = drawn_by jobs w.ticket w.answered.items w.ending s.drawn
+  share_drawn : (w : Worker L) → IsShare w → w.ending ≢ OutOfMemory → AreAsDrawn size (length jobs) w.ticket.drawn w.answered.items
+  share_drawn w s = drawn_by size jobs w.ticket w.answered.items w.ending s.drawn
 
   share_passed : (w : Worker L) → IsShare w → w.ending ≡ Through → w.ticket.passed ≡ true
-  share_passed w s = passed_by jobs w.ticket w.answered.items w.ending s.drawn
+  share_passed w s = passed_by size jobs w.ticket w.answered.items w.ending s.drawn
 
-  module _ (before after : Worker L) (f : IsFresh o t before) (d : IsDone programs jobs t before after) where
+  module _ (before after : Worker L) (f : IsFresh o t before) (d : IsDone programs jobs size t before after) where
     now_has : tools_in after ≡ d.new
     now_has = ap tools_or d.new_are
 
@@ -133,7 +134,7 @@ module _ {L : Type 0} (programs : List Subject) (jobs : List Job) (o : OwnersVie
         omega (arith, new, old, k, d.used.lost)
 
   module _ (olds news : List (Worker L)) (len : length news ≡ length olds) (fresh : All (IsFresh o t) olds)
-      (done_each : AreDone programs jobs t olds news) where
+      (done_each : AreDone programs jobs size t olds news) where
     pub all_back : All IsBack news
     all_back = all_by_index IsBack olds news len (λ i d l. is_back (slice_index_or olds i d) (slice_index_or news i d) (fresh i d l) (done_each i d l))
 
@@ -217,7 +218,7 @@ module _ {L : Type 0} (programs : List Subject) (jobs : List Job) (o : OwnersVie
       after_noted : (h : SeatView → ℕ) → sum_by h p.seats.items ≡ sum_by (λ w. h (seat_in w)) news
       after_noted h = part_sum seat_in news p.seats.items dismissed.parts.seats h
 
-      pub all_served : AreServed programs jobs o t seats p done
+      pub all_served : AreServed programs jobs o size t seats p done
       all_served = record {
         cells = even_pairs cells_in p.hands.cells dismissed.parts.hands.cells (λ i d l. (shares i d l).even.cells);
         records = even_pairs records_in p.hands.records dismissed.parts.hands.records (λ i d l. (shares i d l).even.records);
@@ -245,7 +246,7 @@ module _ {L : Type 0} (programs : List Subject) (jobs : List Job) (o : OwnersVie
             (any_also (λ w. w.ending ≡ Through) (λ w. w.ticket.passed ≡ true) news (λ i d l. share_passed (slice_index_or news i d) (shares i d l)) (dismissed.through is));
         drawn = λ is x below.
             let well : done.ending ≢ OutOfMemory = λ out. through_not_out (sym is ∙ out) in
-            part_sum (λ w. w.ticket) news p.drawers.items dismissed.parts.drawers (λ s. times x s.drawn)
-            ∙ sum_same (λ w. times x w.ticket.drawn) (λ w. times_in x w.answered.items) news (λ i d l. share_drawn (slice_index_or news i d) (shares i d l) (dismissed.kept well i d l) x below)
+            part_sum (λ w. w.ticket) news p.drawers.items dismissed.parts.drawers (λ s. times (bundle_of size x) s.drawn)
+            ∙ sum_same (λ w. times (bundle_of size x) w.ticket.drawn) (λ w. times_in x w.answered.items) news (λ i d l. share_drawn (slice_index_or news i d) (shares i d l) (dismissed.kept well i d l) x below)
             ∙ sym (reported (times_in x));
       }

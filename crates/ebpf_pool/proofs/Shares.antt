@@ -9,8 +9,9 @@ use Rattle.ebpf_pool.specs.declared.worker.Ending.{Ending}
 use Rattle.ebpf_pool.specs.declared.worker.Ending.TheVariants.{Through, Unstarted, OutOfMemory}
 use Rattle.ebpf_pool.specs.declared.jobs.Job.{Job}
 use Rattle.ebpf_pool.specs.declared.jobs.Numbered.{Numbered}
+use Rattle.ebpf_pool.specs.Bundles.{AreAsDrawn, bundle_of}
 use Rattle.ebpf_pool.specs.Places.{times_in}
-use Rattle.ebpf_pool.specs.Working.{HasDrawn, number_of}
+use Rattle.ebpf_pool.specs.Working.{HasDrawn}
 use Rattle.ebpf_pool.proofs.Turned.{sum_turned, length_turned, all_turned, any_turned, sum_mapped, all_mapped, any_mapped}
 
 -- ---- sums over one list
@@ -80,28 +81,17 @@ module _ {X Y : Type 0} (f : X → Y) (ws : List X) (items : List Y) (are : item
 
 -- ---- what was drawn, and what was reported
 
-abbrev pub one_if : ℕ → ℕ → ℕ
-one_if y x = if y == x then 1 else 0
-
--- each number that was drawn and is below the limit has a report
-drawn_reported : (x n : ℕ) (drawn : List ℕ) (ns : List Numbered) → drawn ≡ map number_of ns ++ n ∷ [] → x < n → times x drawn ≡ times_in x ns
-drawn_reported x n drawn ns are below =
-    let last : one_if n x ≡ 0 = grind (arith, nat_tests) in
-    let split = ap (times x) are ∙ sum_by_push (λ (y : ℕ). one_if y x) (map number_of ns) n in
-    let mapped : times x (map number_of ns) ≡ times_in x ns = sum_mapped (λ (y : ℕ). one_if y x) number_of ns in
-    omega (arith, split, last, mapped)
-
 pub through_not_out : Through ≡ OutOfMemory → ⊥
 through_not_out e = cc
 
 -- of a worker that ended well
-module _ (jobs : List Job) (ticket : TicketView) (answered : List Numbered) where
-  pub drawn_by : (e : Ending) → HasDrawn jobs ticket answered e → e ≢ OutOfMemory → (x : ℕ) → x < length jobs → times x ticket.drawn ≡ times_in x answered
-  drawn_by Through h well x below = drawn_reported x h.1 ticket.drawn answered h.3 (omega (arith, below, h.2))
-  drawn_by Unstarted h well x below = ap (times x) h.0 ∙ sym (ap (times_in x) h.1)
-  drawn_by OutOfMemory h well x below = absurd (well refl)
+module _ (size : ℕ) (jobs : List Job) (ticket : TicketView) (answered : List Numbered) where
+  pub drawn_by : (e : Ending) → HasDrawn size jobs ticket answered e → e ≢ OutOfMemory → AreAsDrawn size (length jobs) ticket.drawn answered
+  drawn_by Through h well = h.1
+  drawn_by Unstarted h well = λ x below. ap (times (bundle_of size x)) h.0 ∙ sym (ap (times_in x) h.1)
+  drawn_by OutOfMemory h well = absurd (well refl)
 
-  pub passed_by : (e : Ending) → HasDrawn jobs ticket answered e → e ≡ Through → ticket.passed ≡ true
+  pub passed_by : (e : Ending) → HasDrawn size jobs ticket answered e → e ≡ Through → ticket.passed ≡ true
   passed_by Through h is = h.0
   passed_by Unstarted h is = absurd (cc)
   passed_by OutOfMemory h is = absurd (cc)

@@ -4,6 +4,7 @@ use Rattle.owners_table.specs.Owning.{OwnersView, SeatView}
 use Rattle.owners_table.specs.Owning as owning
 use Rattle.owners_table.specs.Drawing.{TicketsView, TicketView}
 use Rattle.owners_table.specs.Drawing as drawing
+use Rattle.ebpf_pool.specs.Bundles.{IsBundleSize, bundles_in}
 use Rattle.ebpf_pool.specs.Hands.{AllAreUnused, AllAreMadeOf, AreNone, unused_hands}
 use Rattle.ebpf_pool.specs.Outcomes.{IsIdle}
 use Rattle.ebpf_pool.specs.Supplies.{AreOpened}
@@ -81,9 +82,10 @@ module _ {L : Type 0} where
 
   -- all that this many workers and jobs need, with which nothing was done
   pub record IsPrepared (count jobs : ℕ) (s : Setup L) : Type 0 where
-    pub limit : s.room.tickets.limit ≡ jobs
+    pub size : IsBundleSize s.room.size
+    pub limit : s.room.tickets.limit ≡ bundles_in s.room.size jobs
     pub tickets : s.room.tickets.seats ≡ count
-    pub drawers : (length s.drawers.items ≡ count) × All (λ d. d ≡ drawing.fresh s.room.tickets.table jobs) s.drawers.items
+    pub drawers : (length s.drawers.items ≡ count) × All (λ d. d ≡ drawing.fresh s.room.tickets.table s.room.tickets.limit) s.drawers.items
     pub answered : (length s.answered.items ≡ count) × All (λ l. l.items ≡ []) s.answered.items
     pub reports : (length s.room.reports.items ≡ jobs) × All (λ r. r.exit ≡ None) s.room.reports.items
     pub jobs_done : (s.room.jobs_done.items ≡ []) × (count ≤ vec_capacity s.room.jobs_done)

@@ -1,5 +1,5 @@
 -- How a worker's store goes from one state to a later one, by what its runs were told.
-use Rattle.std.specs.Prelude.{◌≡◌, ◌+◌, ◌-◌, ℕ, List, [], ◌∷◌, ◌++◌, length}
+use Rattle.std.specs.Prelude.{◌≡◌, ◌+◌, ◌-◌, ℕ, List, [], ◌∷◌, ◌++◌, All, length}
 use Rattle.std.proofs.Common.{cond, refl, sym, ap, ◌∙◌, add_assoc, add-zero}
 use Rattle.std.proofs.lemmas.List.Sums.{sum_by-append}
 use Rattle.ebpf_machine.specs.declared.report.Reply.{Reply}
@@ -60,6 +60,17 @@ module _ {L : Type 0} where
     pub good : Answers programs jobs made
     pub kept : new ≡ old ++ made ∷ []
     pub goes : GoesBy before made.report.answers after
+
+  -- several reports more, and what was done for them
+  pub record AreAnswered (programs : List Subject) (jobs : List Job) (before after : Tools L) (old new : List Numbered) : Type 0 where
+    pub made : List Numbered
+    pub good : All (Answers programs jobs) made
+    pub kept : new ≡ old ++ made
+    pub goes : HasAnsweredAll before made after
+
+  -- no report more, and nothing that a call was granted, refused or fetched
+  abbrev pub IsUnanswered : (before after : Tools L) → (old new : List Numbered) → Type 0
+  IsUnanswered before after old new = (new ≡ old) × GoesBy before [] after
 
   -- ---- the laws of `goes`
 

@@ -1,4 +1,5 @@
 pub mod Admission
+pub mod Bundles
 pub mod Books
 pub mod Claims
 pub mod Counts
@@ -13,3 +14,4 @@ pub mod Stocks
 pub mod Supplies
 pub mod Working
 pub mod Settling
+pub mod Sharing

@@ -9,6 +9,7 @@ use Rattle.ebpf_pool.specs.declared.jobs.Job.{Job}
 use Rattle.ebpf_pool.specs.declared.jobs.Numbered.{Numbered}
 use Rattle.ebpf_pool.specs.declared.crew.Parts.{Parts}
 use Rattle.ebpf_pool.specs.declared.crew.Done.{Done}
+use Rattle.ebpf_pool.specs.Bundles.{bundle_of}
 use Rattle.ebpf_pool.specs.Outcomes.{IsIdle, noted_by, lost_by, fetches_by}
 use Rattle.ebpf_pool.specs.Places.{times_in}
 use Rattle.ebpf_pool.specs.Working.{Answers, granted_by, refused_by, fetched_by}
@@ -50,8 +51,8 @@ module _ {L : Type 0} where
   reports_of p = map (λ l. l.items) p.answered.items
 
   -- What is left of workers that had these seats. Where they are through together, one was told that there are no more jobs, and each
-  -- number below the limit was drawn as often as there are reports of that job.
-  pub record AreServed (programs : List Subject) (jobs : List Job) (o : OwnersView) (t : TicketsView) (seats : List SeatView)
+  -- job has as many reports as its bundle was drawn.
+  pub record AreServed (programs : List Subject) (jobs : List Job) (o : OwnersView) (size : ℕ) (t : TicketsView) (seats : List SeatView)
       (p : Parts L) (done : Done) : Type 0 where
     pub cells : AreEven (length seats) p.hands.cells
     pub records : AreEven (length seats) p.hands.records
@@ -69,4 +70,4 @@ module _ {L : Type 0} where
     pub drawers_all : length p.drawers.items ≡ length seats
     pub drawers : All (IsOf t) p.drawers.items
     pub through : done.ending ≡ Through → Any (λ s. s.passed ≡ true) p.drawers.items
-    pub drawn : done.ending ≡ Through → (x : ℕ) → x < length jobs → times_drawn x p.drawers.items ≡ sum_by (times_in x) (reports_of p)
+    pub drawn : done.ending ≡ Through → (x : ℕ) → x < length jobs → times_drawn (bundle_of size x) p.drawers.items ≡ sum_by (times_in x) (reports_of p)

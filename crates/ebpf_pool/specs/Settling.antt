@@ -10,6 +10,7 @@ use Rattle.ebpf_pool.specs.declared.outcome.Outcome.{Outcome}
 use Rattle.ebpf_pool.specs.declared.outcome.TheConstants.{MAX_JOBS}
 use Rattle.ebpf_pool.specs.declared.setup.Room.{Room}
 use Rattle.ebpf_pool.specs.declared.supply.Supplies.{Supplies}
+use Rattle.ebpf_pool.specs.Bundles.{IsBundleSize, bundles_in}
 use Rattle.ebpf_pool.specs.Hands.{HaveHands}
 use Rattle.ebpf_pool.specs.Outcomes.{AreIdleAgain, IsOutcome}
 use Rattle.ebpf_pool.specs.Serving.{AreServed}
@@ -18,13 +19,14 @@ use Rattle.ebpf_pool.specs.Supplies.{HaveMade}
 -- the room, the supplies and the parts of workers that had these seats and did these jobs
 pub record AreLeft {L : Type 0} (programs : List Subject) (jobs : List Job) (o : OwnersView) (before : List SeatView)
     (room : Room) (s : Supplies L) (p : Parts L) (done : Done) : Type 0 where
-  pub served : AreServed programs jobs o room.tickets before p done
+  pub served : AreServed programs jobs o room.size room.tickets before p done
   pub made : HaveMade s p.hands
   pub hands : HaveHands p.hands
   pub some : 0 < length before
   pub few : length before ≤ 64
   pub few_jobs : length jobs ≤ MAX_JOBS
-  pub limit : room.tickets.limit ≡ length jobs
+  pub size : IsBundleSize room.size
+  pub limit : room.tickets.limit ≡ bundles_in room.size (length jobs)
   pub tickets : room.tickets.seats ≡ length before
   pub reports : (length room.reports.items ≡ length jobs) × All (λ r. r.exit ≡ None) room.reports.items
   pub jobs_done : (room.jobs_done.items ≡ []) × (length before ≤ vec_capacity room.jobs_done)

@@ -16,6 +16,7 @@ use Rattle.ebpf_pool.specs.declared.hands.Tools.{Tools}
 use Rattle.ebpf_machine.specs.Whole.{IsReportOf, granted, refused, fetched}
 use Rattle.ebpf_pool.specs.Claims.{lost}
 use Rattle.ebpf_pool.specs.Hands.{unused_hands}
+use Rattle.ebpf_pool.specs.Bundles.{AreAsDrawn}
 use Rattle.ebpf_pool.specs.Counts.{all_allocs, all_nulls, all_gets}
 
 -- what the hands took from the cache and got from the shelf went back there or onto the shelf
@@ -57,22 +58,19 @@ refused_by ns = sum_by (λ n. refused n.report.answers) ns
 abbrev pub fetched_by : List Numbered → ℕ
 fetched_by ns = sum_by (λ n. fetched n.report.answers) ns
 
-abbrev pub number_of : Numbered → ℕ
-number_of n = n.job
-
--- What a worker drew, by how it ended. Through: the numbers of the jobs that it answered, and a last one that no job has. Unstarted:
--- none, and it answered no job. Nothing is said where memory ran out.
-abbrev pub HasDrawn : List Job → TicketView → List Numbered → Ending → Type 0
-HasDrawn jobs ticket answered Through = (ticket.passed ≡ true) × (n : ℕ) × (length jobs ≤ n) × (ticket.drawn ≡ map number_of answered ++ n ∷ [])
-HasDrawn jobs ticket answered Unstarted = (ticket.drawn ≡ []) × (answered ≡ [])
-HasDrawn jobs ticket answered OutOfMemory = ⊤
+-- What a worker drew, by how it ended, of bundles of this size. Through: the bundles whose jobs it answered, each job as often as its
+-- bundle, and a last one that is none. Unstarted: none, and it answered no job. Nothing is said where memory ran out.
+abbrev pub HasDrawn : (size : ℕ) → List Job → TicketView → List Numbered → Ending → Type 0
+HasDrawn size jobs ticket answered Through = (ticket.passed ≡ true) × AreAsDrawn size (length jobs) ticket.drawn answered
+HasDrawn size jobs ticket answered Unstarted = (ticket.drawn ≡ []) × (answered ≡ [])
+HasDrawn size jobs ticket answered OutOfMemory = ⊤
 
 -- which jobs a worker did, by the reports that it made and by how it ended
-pub record IsServed (programs : List Subject) (jobs : List Job) (t : TicketsView) (ticket : TicketView) (answered : List Numbered)
+pub record IsServed (programs : List Subject) (jobs : List Job) (size : ℕ) (t : TicketsView) (ticket : TicketView) (answered : List Numbered)
     (ending : Ending) : Type 0 where
   pub tickets : IsOf t ticket
   pub good : All (Answers programs jobs) answered
-  pub drawn : HasDrawn jobs ticket answered ending
+  pub drawn : HasDrawn size jobs ticket answered ending
 
 module _ {L : Type 0} where
   -- nothing was taken, and the seat holds nothing
@@ -105,18 +103,18 @@ module _ {L : Type 0} where
     pub fetched : all_gets after.hands ≡ fetched_by answered + after.strays
 
   -- the worker after its work
-  pub record IsDone (programs : List Subject) (jobs : List Job) (t : TicketsView) (before after : Worker L) : Type 0 where
+  pub record IsDone (programs : List Subject) (jobs : List Job) (size : ℕ) (t : TicketsView) (before after : Worker L) : Type 0 where
     pub old : Tools L
     pub new : Tools L
     pub old_are : before.tools ≡ Some old
     pub new_are : after.tools ≡ Some new
     pub used : AreUsed old new after.answered.items
-    pub served : IsServed programs jobs t after.ticket after.answered.items after.ending
+    pub served : IsServed programs jobs size t after.ticket after.answered.items after.ending
 
   -- so is each of them
-  abbrev pub AreDone : List Subject → List Job → TicketsView → (before after : List (Worker L)) → Type 0
-  AreDone programs jobs t before after =
-      (i : ℕ) (d : Worker L) → i < length before → IsDone programs jobs t (slice_index_or before i d) (slice_index_or after i d)
+  abbrev pub AreDone : List Subject → List Job → (size : ℕ) → TicketsView → (before after : List (Worker L)) → Type 0
+  AreDone programs jobs size t before after =
+      (i : ℕ) (d : Worker L) → i < length before → IsDone programs jobs size t (slice_index_or before i d) (slice_index_or after i d)
 
   -- there are workers, none of which has done anything, and what they need is there
   pub record CanBegin (programs : List Subject) (jobs : List Job) (o : OwnersView) (t : TicketsView) (ws : List (Worker L)) : Type 0 where

@@ -2,7 +2,8 @@
 
 ghost use Rattle.std.specs.Prelude.{◌≡◌, ◌≤◌, [], All, reverse, map, length, vec_capacity};
 ghost use Rattle.ebpf_pool.specs.Crews.{AreFresh, HaveNone, IsBack, AreDismissed, seat_in};
-ghost use Rattle.ebpf_pool.specs.Working.{CanBegin, IsFresh, AreDone};
+ghost use Rattle.ebpf_pool.specs.Sharing.{AreDoneWith, CanBeginWith};
+ghost use Rattle.ebpf_pool.specs.Working.{IsFresh};
 ghost use denote.Param.Send.{IsSync};
 
 use crate::gate::{Gate, Point};
@@ -68,8 +69,8 @@ fn work_all<'a, L: Names + Send + Sync, G: Gate + Sync + 'a, R: Threads + Wait +
     shared: &Shared<'a, L, G, R>,
     workers: &mut [Worker<L>],
 )
-    requires { CanBegin shared.now.programs.now shared.now.jobs.now shared.now.owners.now shared.now.tickets.now workers.old }
-    ensures { AreDone shared.now.programs.now shared.now.jobs.now shared.now.tickets.now workers.old workers.new }
+    requires { CanBeginWith shared.now workers.old }
+    ensures { AreDoneWith shared.now workers.old workers.new }
 {
     let count = workers.len();
     thread::for_each_mut(shared.rt, workers, count, &|_, worker| work(shared, worker));
@@ -90,15 +91,15 @@ pub(crate) fn work_and_reap<
     G: Gate + Sync + 'a,
     R: Threads + Wait + Sync + 'a,
 >(shared: &Shared<'a, L, G, R>, reaps: u32, workers: &mut [Worker<L>])
-    requires { CanBegin shared.now.programs.now shared.now.jobs.now shared.now.owners.now shared.now.tickets.now workers.old }
-    ensures { AreDone shared.now.programs.now shared.now.jobs.now shared.now.tickets.now workers.old workers.new }
+    requires { CanBeginWith shared.now workers.old }
+    ensures { AreDoneWith shared.now workers.old workers.new }
 {
     join_mut(
         shared.rt,
         &mut || reap(shared, reaps),
         &mut ||
-            requires { IsSync R.row × IsSync G.row × CanBegin shared.now.programs.now shared.now.jobs.now shared.now.owners.now shared.now.tickets.now workers.now }
-            ensures { AreDone shared.entry.now.programs.now shared.entry.now.jobs.now shared.entry.now.tickets.now workers.entry.now workers.exit.now }
+            requires { IsSync R.row × IsSync G.row × CanBeginWith shared.now workers.now }
+            ensures { AreDoneWith shared.entry.now workers.entry.now workers.exit.now }
         { work_all(shared, workers) },
     );
 }

@@ -11,7 +11,8 @@ pub enum Point {
     Reaped,
 }
 
-/// Is told by each thread how far it is, and may hold it up. No lock is held then.
+/// Is told by each thread how far it is, and may hold it up. No lock is held then. One worker does the jobs of a bundle, one after
+/// another: so a gate that holds up a job until a neighbour is done may wait for ever.
 pub trait Gate {
     /// A job of this number is at this point; or, at [`Point::Reaped`], a pass of the reaper.
     fn at(&self, job: u64, point: Point);

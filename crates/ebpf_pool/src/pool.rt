@@ -4,18 +4,18 @@
 //! for reports. The workers do the jobs, with the reaper beside them. Then they are taken apart again, the supplies are closed over
 //! their hands, what the shelves hold goes back, and each report goes to the place of its job.
 //!
-//! *The reason.* The numbers that all workers drew are all the numbers of jobs, each once: so each job has one report. What a
-//! worker's hands took and got is what its reports say, clashes and strays aside, so the same holds of the sums.
+//! *The reason.* What all workers drew are all bundles of neighbouring jobs, each once: so each job has one report. What a worker's
+//! hands took and got is what its reports say, clashes and strays aside, so the same holds of the sums.
 
-ghost use Rattle.std.specs.Prelude.{◌≡◌, ◌≤◌, ◌<◌, List, [], None, All, length, vec_len, vec_capacity, IfOk, IfErr, OnOk};
-ghost use Rattle.owners_table.specs.Owning.{SeatView};
+ghost use Rattle.std.specs.Prelude.{◌≡◌, ◌≤◌, ◌<◌, [], None, All, length, vec_len, vec_capacity, IfOk, IfErr, OnOk};
 ghost use Rattle.ebpf_machine.specs.Kinds.{AreKnown};
 ghost use Rattle.ebpf_pool.specs.Admission.{pool_fault};
+ghost use Rattle.ebpf_pool.specs.Bundles.{IsBundleSize, bundles_in};
 ghost use Rattle.ebpf_pool.specs.Books.{AreAllFor};
 ghost use Rattle.ebpf_pool.specs.Crews.{AreFresh};
-ghost use Rattle.ebpf_pool.specs.Settling.{AreLeft, Settles};
+ghost use Rattle.ebpf_pool.specs.Settling.{Settles};
+ghost use Rattle.ebpf_pool.specs.Sharing.{AreLeftIn, AreServedIn};
 ghost use Rattle.ebpf_pool.specs.Outcomes.{IsIdle, IsOutcome, AreIdleAgain, IsFaultOf};
-ghost use Rattle.ebpf_pool.specs.Serving.{AreServed};
 ghost use Rattle.ebpf_pool.specs.Working.{AreReady};
 
 use crate::admission::{PoolFault, pool_fault};
@@ -49,9 +49,10 @@ struct Given<'a, G: Gate, R: Wait> {
 
 /// Does each job once, by a worker a seat, with the reaper beside them, and gives the seats back.
 ///
-/// Which worker does a job is open, and which calls of `new` are answered null where objects run out. The gate is told how far
-/// each job and the reaper are. A worker that can't be started leaves its jobs to the others, or to the calling thread, and so does
-/// one that finds no memory to begin with; a reaper that can't be started makes its passes when the jobs are done.
+/// Which worker does a job is open, and which calls of `new` are answered null where objects run out. Of many jobs a worker does up to
+/// 64 neighbours, one after another, before it looks for more. The gate is told how far each job and the reaper are. A worker that
+/// can't be started leaves its jobs to the others, or to the calling thread, and so does one that finds no memory to begin with; a
+/// reaper that can't be started makes its passes when the jobs are done.
 ///
 /// # Errors
 /// The faults of [`PoolFault`], in its order.
@@ -145,13 +146,14 @@ fn serve_all<L: Names + Send + Sync, G: Gate + Sync, R: Threads + Wait + Sync>(
     workers: &mut Vec<Worker<L>>,
 ) -> Done
     requires ready { AreReady given.now.host.now.programs.items given.now.jobs.now }
-    requires limit { room.now.tickets.limit ≡ length given.now.jobs.now }
+    requires size { IsBundleSize room.now.size }
+    requires limit { room.now.tickets.limit ≡ bundles_in room.now.size (length given.now.jobs.now) }
     requires some { (0 < length parts.old.seats.items) × (length parts.old.seats.items ≤ 64) }
     requires fresh { AreFresh given.now.owners.now room.now.tickets (length parts.old.seats.items) parts.old }
     requires none { workers.old.items ≡ [] }
     requires room { length parts.old.seats.items ≤ vec_capacity workers.old }
     ensures none { workers.new.items ≡ [] }
-    ensures served { AreServed given.now.host.now.programs.items given.now.jobs.now given.now.owners.now room.now.tickets parts.old.seats.items parts.new result }
+    ensures served { AreServedIn given.now.host.now given.now.jobs.now given.now.owners.now room.now parts.old.seats.items parts.new result }
 {
     let shared = Shared {
         rt: given.rt,
@@ -161,6 +163,7 @@ fn serve_all<L: Names + Send + Sync, G: Gate + Sync, R: Threads + Wait + Sync>(
         supplies,
         programs: &given.host.programs,
         jobs: given.jobs,
+        size: room.size,
         tickets: &room.tickets,
         gate: given.gate,
     };
@@ -177,7 +180,7 @@ fn settle<L: Names, G: Gate, R: Wait>(
     parts: Parts<L>,
     done: Done,
 ) -> (Vec<OwnerSeat>, Result<Outcome, AllocError>)
-    requires left { (before : List SeatView) × AreLeft given.now.host.now.programs.items given.now.jobs.now given.now.owners.now before room supplies parts done }
+    requires left { AreLeftIn given.now.host.now given.now.jobs.now given.now.owners.now room supplies parts done }
     ensures { Settles given.now.host.now.programs.items given.now.jobs.now given.now.owners.now room supplies parts done result.0.items result.1 }
 {
     let Parts {

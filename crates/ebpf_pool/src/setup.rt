@@ -2,6 +2,7 @@
 
 ghost use Rattle.std.specs.Prelude.{◌≡◌, ◌≤◌, ◌<◌, [], None, All, length, vec_len, vec_capacity, IfOk};
 ghost use Rattle.owners_table.specs.Drawing.{fresh};
+ghost use Rattle.ebpf_pool.specs.Bundles.{IsBundleSize, IsShared, bundles_in};
 ghost use Rattle.ebpf_pool.specs.Books.{AreAllFor};
 ghost use Rattle.ebpf_pool.specs.Crews.{IsPrepared};
 
@@ -16,11 +17,19 @@ use owners_table::tickets::{TicketSeat, Tickets};
 use std::alloc::{AllocError, Global};
 use std::sync::Wait;
 
-/// The arena and a ticket for each job; a place for the report of each job, where a report that has no exit is none; and room to
-/// say how many jobs each worker did.
+/// The most jobs that one ticket stands for.
+pub(crate) const MAX_BUNDLE: u64 = 64;
+
+/// How many tickets there are for each worker, at least, where one stands for more than one job: so workers end together.
+pub(crate) const MIN_BUNDLES: u64 = 64;
+
+/// The arena and a ticket for each bundle of jobs; a place for the report of each job, where a report that has no exit is none; and
+/// room to say how many jobs each worker did.
 #[derive(Drop)]
 pub(crate) struct Room {
     pub(crate) arena: ArenaLock,
+    /// How many jobs a bundle has; the last one may have fewer.
+    pub(crate) size: u64,
     pub(crate) tickets: Tickets,
     pub(crate) reports: Vec<Report>,
     pub(crate) jobs_done: Vec<u64>,
@@ -35,23 +44,35 @@ impl Room {
         jobs: usize,
     ) -> Result<(Room, Vec<TicketSeat>), AllocError>
         requires workers { (0 < workers) × (workers ≤ 64) }
-        ensures tickets { IfOk result (λ r. (r.0.tickets.limit ≡ jobs) × (r.0.tickets.seats ≡ workers)) }
-        ensures drawers { IfOk result (λ r. (length r.1.items ≡ workers) × All (λ s. s ≡ fresh r.0.tickets.table jobs) r.1.items) }
+        ensures size { IfOk result (λ r. IsBundleSize r.0.size) }
+        ensures tickets { IfOk result (λ r. (r.0.tickets.limit ≡ bundles_in r.0.size jobs) × (r.0.tickets.seats ≡ workers)) }
+        ensures drawers { IfOk result (λ r. (length r.1.items ≡ workers) × All (λ s. s ≡ fresh r.0.tickets.table r.0.tickets.limit) r.1.items) }
         ensures reports { IfOk result (λ r. (length r.0.reports.items ≡ jobs) × All (λ p. p.exit ≡ None) r.0.reports.items) }
         ensures jobs_done { IfOk result (λ r. (r.0.jobs_done.items ≡ []) × (workers ≤ vec_capacity r.0.jobs_done)) }
     {
         let Ok(arena) = ArenaLock::new(alloc, pages) else {
             return Err(AllocError);
         };
-        let (tickets, drawers) = Tickets::new(alloc, jobs as u64, workers as u32)?;
+        let size = bundle_size(workers as u64, jobs as u64);
+        let (tickets, drawers) = Tickets::new(alloc, (jobs as u64).div_ceil(size), workers as u32)?;
         let room = Room {
             arena,
+            size,
             tickets,
             reports: blank_reports(alloc, jobs)?,
             jobs_done: Vec::with_capacity(alloc, workers)?,
         };
         Ok((room, drawers))
     }
+}
+
+// How many jobs a bundle has: as many as leave each worker its number of bundles.
+fn bundle_size(workers: u64, jobs: u64) -> u64
+    requires workers { (0 < workers) × (workers ≤ 64) }
+    ensures size { IsBundleSize result }
+    ensures shared { IsShared result workers jobs }
+{
+    (jobs / (workers * MIN_BUNDLES)).clamp(1, MAX_BUNDLE)
 }
 
 // That many empty lists.

@@ -1,24 +1,23 @@
 //! A worker.
 //!
-//! *The idea.* A worker draws the number of a job, runs the job's program over its own store, keeps the report under that number,
-//! and draws again, until it is told that there are no more numbers. One that finds no memory to begin with draws none, and leaves all
-//! jobs to the others.
+//! *The idea.* A worker draws the number of a bundle of neighbouring jobs. It runs the program of each over its own store, and keeps
+//! the report under the job's number. Then it draws again, until it is told that there are no more bundles. One that finds no memory
+//! to begin with draws none, and leaves all jobs to the others. A bundle saves draws: each is a step on one word that all workers share.
 //!
-//! *The invariant.* The numbers that it drew are those of the reports that it keeps, in order. Each report is that of its job's
-//! program alone, with the answers that it reports. Of each kind its hands gave back or left on the shelf all that they took or got
-//! from there. What they took, got and were refused is what the reports say, clashes and strays aside.
+//! *The invariant.* Each job has as many reports as its bundle was drawn. Each report is that of its job's program alone, with the
+//! answers that it reports. Of each kind its hands gave back or left on the shelf all that they took or got from there. What they
+//! took, got and were refused is what the reports say, clashes and strays aside.
 //!
 //! *The reason.* A run over whatever store leaves as many objects of each kind out as there were, and its report's answers are
-//! what the store counts. Each number is drawn once, over all workers; so each job has one report.
+//! what the store counts. Each bundle is drawn once, over all workers, and each job is in one bundle; so each job has one report.
 
-ghost use Rattle.std.specs.Prelude.{◌≡◌, ◌≢◌, ◌⊎◌, ◌≤◌, ◌<◌, ◌+◌, ◌++◌, ◌∷◌, [], ℕ, All, length, false, vec_len, vec_capacity, IfOk, OnOk, OnErr};
+ghost use Rattle.std.specs.Prelude.{◌≡◌, ◌≢◌, ◌⊎◌, ◌≤◌, ◌<◌, [], All, length, false, vec_len, vec_capacity, IfOk, OnOk, OnErr};
 ghost use Rattle.owners_table.specs.Drawing.{IsOf};
-ghost use Rattle.ebpf_machine.specs.Whole.{granted, refused, fetched};
 ghost use Rattle.ebpf_pool.specs.declared.worker.Ending.TheVariants.{Through, OutOfMemory};
-ghost use Rattle.ebpf_pool.specs.Claims.{lost};
-ghost use Rattle.ebpf_pool.specs.Going.{GoesBy, HasAnsweredAll, IsAnswered, tools_of};
+ghost use Rattle.ebpf_pool.specs.Bundles.{IsBundleAdded, IsBundleSize, bundles_in};
+ghost use Rattle.ebpf_pool.specs.Going.{AreAnswered, HasAnsweredAll, IsAnswered, IsUnanswered, tools_of};
 ghost use Rattle.ebpf_pool.specs.Stocks.{hands_of};
-ghost use Rattle.ebpf_pool.specs.Working.{IsFresh, IsUnused, IsEven, IsDone, IsServed, AreUsed, AreReady, Answers, HasDrawn, granted_by, refused_by, fetched_by};
+ghost use Rattle.ebpf_pool.specs.Working.{IsFresh, IsUnused, IsEven, IsDone, IsServed, AreUsed, AreReady, Answers, HasDrawn};
 
 use crate::client::Client;
 use crate::gate::{Gate, Point};
@@ -39,7 +38,8 @@ use std::alloc::{AllocError, Global};
 use std::mem;
 use std::sync::Wait;
 
-/// What all workers use, and none owns: the supplies and tables, the programs and jobs, and the gate. There is a ticket for each job.
+/// What all workers use, and none owns: the supplies and tables, the programs and jobs, and the gate. There is a ticket for each bundle
+/// of jobs.
 #[derive(Drop)]
 pub(crate) struct Shared<'a, L: Names, G: Gate, R: Wait> {
     pub(crate) rt: &'a R,
@@ -49,10 +49,13 @@ pub(crate) struct Shared<'a, L: Names, G: Gate, R: Wait> {
     pub(crate) supplies: &'a Supplies<L>,
     pub(crate) programs: &'a [Verified],
     pub(crate) jobs: &'a [Job],
+    /// How many jobs a bundle has.
+    pub(crate) size: u64,
     pub(crate) tickets: &'a Tickets,
     pub(crate) gate: &'a G,
     ghost slots: { 65536 ≤ owners.now.slots },
-    ghost limit: { tickets.now.limit ≡ length jobs.now },
+    ghost sized: { IsBundleSize size },
+    ghost limit: { tickets.now.limit ≡ bundles_in size (length jobs.now) },
 }
 
 /// How a worker ended, or several together.
@@ -62,7 +65,7 @@ pub(crate) enum Ending {
     Through,
     /// It found no memory to begin with: it drew no job, and left all jobs to the others.
     Unstarted,
-    /// It drew a job and found no memory for it.
+    /// It drew a bundle and found no memory for one of its jobs.
     OutOfMemory,
 }
 
@@ -96,7 +99,7 @@ pub(crate) fn work<'a, L: Names, G: Gate + 'a, R: Wait + 'a>(
 )
     requires ready { AreReady shared.now.programs.now shared.now.jobs.now }
     requires fresh { IsFresh shared.now.owners.now shared.now.tickets.now worker.old }
-    ensures { IsDone shared.now.programs.now shared.now.jobs.now shared.now.tickets.now worker.old worker.new }
+    ensures { IsDone shared.now.programs.now shared.now.jobs.now shared.now.size shared.now.tickets.now worker.old worker.new }
 {
     let Some(tools) = worker.tools.take() else {
         unreachable!()
@@ -124,7 +127,7 @@ fn work_with<'a, L: Names, G: Gate + 'a, R: Wait + 'a>(
     requires table { IsOf shared.now.tickets.now ticket.old }
     requires none { (ticket.old.drawn ≡ []) × (ticket.old.passed ≡ false) × (answered.old.items ≡ []) }
     ensures used { AreUsed tools result.0 answered.new.items }
-    ensures served { IsServed shared.now.programs.now shared.now.jobs.now shared.now.tickets.now ticket.new answered.new.items result.1 }
+    ensures served { IsServed shared.now.programs.now shared.now.jobs.now shared.now.size shared.now.tickets.now ticket.new answered.new.items result.1 }
 {
     let Tools {
         hands,
@@ -139,7 +142,7 @@ fn work_with<'a, L: Names, G: Gate + 'a, R: Wait + 'a>(
     (store.end(), ending)
 }
 
-// Draws tickets and does their jobs.
+// Draws bundles and does their jobs.
 fn serve<'a, L: Names, G: Gate + 'a, R: Wait + 'a>(
     shared: &Shared<'a, L, G, R>,
     store: &mut Store<'a, L, R>,
@@ -153,23 +156,48 @@ fn serve<'a, L: Names, G: Gate + 'a, R: Wait + 'a>(
     ensures even { IsEven (hands_of store.new.stocks) }
     ensures table { IsOf shared.now.tickets.now ticket.new }
     ensures good { All (Answers shared.now.programs.now shared.now.jobs.now) answered.new.items }
-    ensures drawn { HasDrawn shared.now.jobs.now ticket.new answered.new.items result }
+    ensures drawn { HasDrawn shared.now.size shared.now.jobs.now ticket.new answered.new.items result }
     ensures goes { HasAnsweredAll (tools_of store.old.stocks store.old.client) answered.new.items (tools_of store.new.stocks store.new.client) }
 {
     let Ok(mut workspace) = Workspace::new(shared.alloc) else {
         return Ending::Unstarted;
     };
     for _ in shared.rt.forever() {
-        let Some(number) = shared.tickets.draw(ticket) else {
+        let Some(bundle) = shared.tickets.draw(ticket) else {
             workspace.free();
             return Ending::Through;
         };
-        let Ok(left) = answer(shared, number, store, answered, workspace) else {
+        let Ok(left) = answer_bundle(shared, bundle, store, answered, workspace) else {
             return Ending::OutOfMemory;
         };
         workspace = left;
     }
     unreachable!()
+}
+
+// Does the jobs of a bundle, one after another, as far as there is memory.
+fn answer_bundle<'a, L: Names, G: Gate + 'a, R: Wait + 'a>(
+    shared: &Shared<'a, L, G, R>,
+    bundle: u64,
+    store: &mut Store<'a, L, R>,
+    answered: &mut Vec<Numbered>,
+    workspace: Workspace<Owned>,
+) -> Result<Workspace<Owned>, AllocError>
+    requires ready { AreReady shared.now.programs.now shared.now.jobs.now }
+    requires bundle { bundle < bundles_in shared.now.size (length shared.now.jobs.now) }
+    requires even { IsEven (hands_of store.old.stocks) }
+    ensures even { IsEven (hands_of store.new.stocks) }
+    ensures answered { AreAnswered shared.now.programs.now shared.now.jobs.now
+        (tools_of store.old.stocks store.old.client) (tools_of store.new.stocks store.new.client) answered.old.items answered.new.items }
+    ensures all { OnOk result (IsBundleAdded shared.now.size (length shared.now.jobs.now) bundle answered.old.items answered.new.items) }
+{
+    let first = bundle * shared.size;
+    let end = (first + shared.size).min(shared.jobs.len() as u64);
+    let mut workspace = workspace;
+    for number in first..end {
+        workspace = answer(shared, number, store, answered, workspace)?;
+    }
+    Ok(workspace)
 }
 
 // Does the job of a number, and keeps its report.
@@ -186,7 +214,8 @@ fn answer<'a, L: Names, G: Gate + 'a, R: Wait + 'a>(
     ensures even { IsEven (hands_of store.new.stocks) }
     ensures answered { OnOk result (IsAnswered shared.now.programs.now shared.now.jobs.now number
         (tools_of store.old.stocks store.old.client) (tools_of store.new.stocks store.new.client) answered.old.items answered.new.items) }
-    ensures failed { OnErr result ((answered.new.items ≡ answered.old.items) × GoesBy (tools_of store.old.stocks store.old.client) [] (tools_of store.new.stocks store.new.client)) }
+    ensures failed { OnErr result (IsUnanswered (tools_of store.old.stocks store.old.client) (tools_of store.new.stocks store.new.client)
+        answered.old.items answered.new.items) }
 {
     let job = &shared.jobs[number as usize];
     let Ok(context) = room_for(shared.alloc, answered, &job.context.bytes) else {

@@ -36,7 +36,7 @@ serve_all-done-requires-after_bounds g c κs within =
       omega arith,
       (
         record { known = c.requires.known; can = a.can; few = a.few_jobs },
-        (search rules, (search rules, (search rules, (search rules, search rules)))),
+        (search rules, (search rules, (search rules, (search rules, (search rules, search rules))))),
       ),
     )
 
@@ -68,6 +68,7 @@ left g c =
       some = more;
       few = search rules;
       few_jobs = a.few_jobs;
+      size = p.size;
       limit = search rules;
       tickets = search rules;
       reports = search rules;

@@ -1,4 +1,4 @@
-use Rattle.std.proofs.Common.{rules, ◌≡◌, ◌<◌, List, All, length, map, vec_len, refl, ap, ◌∙◌, subst, arith}
+use Rattle.std.proofs.Common.{rules, ◌≡◌, ◌<◌, ℕ, List, All, length, map, vec_len, refl, ap, ◌∙◌, subst, arith}
 use Rattle.owners_table.specs.Drawing.{NeverWraps}
 use Rattle.ebpf_pool.specs.declared.worker.Ending.TheVariants.{Through}
 use Rattle.ebpf_pool.specs.declared.jobs.Numbered.{Numbered}
@@ -11,16 +11,18 @@ use Rattle.ebpf_pool.specs.declared.crew.Done.{Done}
 use Rattle.ebpf_pool.specs.declared.crew.Parts.{Parts}
 use Rattle.ebpf_pool.specs.declared.jobs.Job.{Job}
 use Rattle.ebpf_pool.specs.declared.outcome.ShelfTotals.{ShelfTotals}
+use Rattle.ebpf_pool.specs.Bundles.{bundle_of}
 use Rattle.ebpf_pool.specs.Outcomes.{AreIdleAgain}
 use Rattle.ebpf_pool.specs.Serving.{AreServed, reports_of}
 use Rattle.ebpf_pool.specs.Supplies.{AreClosed}
+use Rattle.ebpf_pool.proofs.Bundles.{bundle_below, bundles_few}
 use Rattle.ebpf_pool.proofs.Outcoming.{outcome, placed_once, answered_inside, answered_exits}
 use Rattle.ebpf_pool.proofs.pool.settle.Goals as goal
 
 -- the seats that come back are those that the workers had
-again : {L : Type 0} {programs : List Subject} {jobs : List Job} {o : OwnersView} {t : TicketsView} {p : Parts L} {done : Done}
+again : {L : Type 0} {programs : List Subject} {jobs : List Job} {o : OwnersView} {size : ℕ} {t : TicketsView} {p : Parts L} {done : Done}
     {after : List SeatView} {shelves : List ShelfTotals} {ts : List Totals}
-    → (before : List SeatView) → AreServed programs jobs o t before p done → AreClosed o p.hands p.seats.items after shelves ts → AreIdleAgain o before after
+    → (before : List SeatView) → AreServed programs jobs o size t before p done → AreClosed o p.hands p.seats.items after shelves ts → AreIdleAgain o before after
 again before s closed = record { all = closed.all ∙ s.seats_all; idle = closed.idle }
 
 -- the first part is that what is passed is not too large
@@ -48,9 +50,10 @@ place_all-requires-clause-once g c =
     let few_jobs = can.few_jobs in
     let limit = can.limit in
     let tickets = can.tickets in
+    let bundles = bundles_few c.args.room.size (length c.args.given.now.jobs.now) can.size.0 in
     let through : c.args.done.ending ≡ Through = search rules in
     let fits : NeverWraps c.args.room.tickets.limit c.args.room.tickets.seats = search rules in
-    placed_once _ _ _ _ _ _ _ through can.served (c.close-2.ensures.once fits) c.args.room.reports.items can.reports.1
+    placed_once _ _ _ _ _ _ _ _ through can.served (c.close-2.ensures.once fits) c.args.room.reports.items can.reports.1
 
 pub returns : goal.returns
 returns g c = λ before can.
@@ -58,11 +61,15 @@ returns g c = λ before can.
     let few_jobs = can.few_jobs in
     let limit = can.limit in
     let tickets = can.tickets in
+    let bundles = bundles_few c.args.room.size (length c.args.given.now.jobs.now) can.size.0 in
     let s = can.served in
     let through : c.args.done.ending ≡ Through = search rules in
     let fits : NeverWraps c.args.room.tickets.limit c.args.room.tickets.seats = search rules in
     let drawers = s.drawers_all in
     let all : vec_len c.args.parts.drawers ≡ c.args.room.tickets.seats = search rules in
+    let inside : (x : ℕ) → x < length c.args.given.now.jobs.now → bundle_of c.args.room.size x < c.args.room.tickets.limit =
+    λ x below. omega (arith, bundle_below c.args.room.size (length c.args.given.now.jobs.now) can.size.0 x below, limit)
+    in
     let made : Outcome = record {
       reports = c.place_all.new.places.items;
       totals = c.close.result.1;
@@ -74,8 +81,8 @@ returns g c = λ before can.
     let reports = can.reports.0 in
     let len : length c.place_all.new.places.items ≡ length c.args.given.now.jobs.now = search rules in
     let e = c.place_all.ensures in
-    let done = outcome _ _ _ _ _ _ _ through s (c.close-2.ensures.once fits) c.args.room.reports.items can.reports.1
-    (λ x below. c.close-2.ensures.each fits all (s.through through) x (omega (arith, below, limit)))
+    let done = outcome _ _ _ _ _ _ _ _ through s (c.close-2.ensures.once fits) c.args.room.reports.items can.reports.1
+    (λ x below. c.close-2.ensures.each fits all (s.through through) (bundle_of c.args.room.size x) (inside x below))
     c.place_all.new.places.items len e.filled e.weight e.from c.close.new.seats.items c.close.result.0 c.close.result.1 c.close.ensures made refl refl refl refl refl
     (c.count_all.ensures ∙ ap (map (λ l. vec_len l)) c.deref.ensures.value) in
     record { done = done; seats = again before can.served c.close.ensures }
