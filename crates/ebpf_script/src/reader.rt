@@ -1,6 +1,6 @@
 //! Reads a script: from the bytes of a text to its programs and its events or jobs, or to its first fault.
 //!
-//! To be read in this order: `words`, `lines`, `numbers`, `names`, `script`, `statement`, `line`.
+//! To be read in this order: `words`, `lines`, `numbers`, `names`, `script`, `programs`, `statement`, `line`.
 
 ghost use Rattle.std.specs.Prelude.{◌≡◌, ◌≤◌, ◌<◌, ◌+◌, IfOk, IfErr, Err, length};
 ghost use Rattle.ebpf_command.specs.declared.input.TheConstants.{MAX_INPUT};
@@ -11,6 +11,7 @@ mod line;
 mod lines;
 mod names;
 pub(crate) mod numbers;
+mod programs;
 pub mod script;
 mod statement;
 mod words;
