@@ -1,5 +1,7 @@
 pub mod NameLemmas
 pub mod NumberLemmas
+pub mod WordLemmas
+pub mod LinesLeft
 pub mod ScriptLemmas
 pub mod ShapeLemmas
 pub mod LinesLemmas

@@ -1,48 +1,56 @@
 -- The lines of a script, one by one.
-use Rattle.std.proofs.Common.{◌≡◌, ℕ, ◌+◌, ◌==◌, ◌<◌, ◌≤◌, false, nat_lt, arith, List, [], ◌∷◌, length, get_or, drop, Option, Some, None, Result, Ok, Err, refl, sym, ◌∙◌, ap}
+use Rattle.std.proofs.Common.{◌≡◌, ℕ, ◌+◌, ◌==◌, ◌<◌, ◌≤◌, true, false, nat_lt, arith, List, [], ◌∷◌, length, get_or, take, Option, Some, None, Result, Ok, Err, OnOk, refl, sym, ◌∙◌, ap}
 use Rattle.std.proofs.lemmas.Bool.Decides.{nat_tests}
-use Rattle.std.proofs.lemmas.List.{at_drop_more, at_drop_all, get_or_default, get_or_past}
+use Rattle.std.proofs.lemmas.List.{get_or_default, get_or_past}
 use Rattle.std.proofs.lemmas.List.Splits.{length-slice_split}
 use Rattle.std.proofs.lemmas.List.Sums.{count_by-le-length}
 use Rattle.ebpf_command.specs.declared.done.FaultCode.{FaultCode}
+use Rattle.ebpf_command.specs.declared.done.FaultCode.TheVariants.{UnprintableByte}
 use Rattle.ebpf_command.specs.declared.done.Stop.{Stop}
 use Rattle.ebpf_command.specs.declared.done.Stop.TheVariants as stops
 use Rattle.ebpf_command.specs.Stops.{IsStop}
 use Rattle.ebpf_script.specs.declared.reader.script.Dialect.{Dialect}
-use Rattle.ebpf_script.specs.LineFaults.{line_fault}
+use Rattle.ebpf_script.specs.LineFaults.{line_fault, shape_fault}
 use Rattle.ebpf_script.specs.declared.reader.script.Script.{Script}
 use Rattle.ebpf_script.specs.ReadScripts.{IsScriptStop, Adds, parsed_script, stop_at}
 use Rattle.ebpf_script.specs.ParsedScript.{ParsedScript, empty_script, with_line}
-use Rattle.ebpf_script.specs.ScriptLines.{script_lines}
+use Rattle.ebpf_script.specs.ScriptLines.{script_lines, is_text}
 use Rattle.ebpf_script.specs.Scripts.{parsed_lines, parsed_text, unless_fault}
 use Rattle.ebpf_script.specs.Shapes.{Shape, Passed, Unknown, ProgramLine, StartLine, ExecLine, AnsweredLine, GrowLine, ReapLine, ArenaLine, JobLine, PassLine, shape_of}
 use Rattle.ebpf_script.specs.Words.{words}
+use Rattle.ebpf_script.proofs.ShapeLemmas.{six_say}
 
--- the line of this index, and those behind it
-lines_here : (d : Dialect) (n : ℕ) (parsed : ParsedScript) (line : List ℕ) (lines : List (List ℕ)) → n < length lines → line ≡ get_or lines n line
-    → parsed_lines d (n + 1) parsed (drop n lines) ≡ unless_fault (n + 1) (line_fault d parsed line) (parsed_lines d (n + 1 + 1) (with_line parsed (shape_of d (words line))) (drop (n + 1) lines))
-lines_here d n parsed line lines inside same =
-    at_drop_more (parsed_lines d (n + 1) parsed) lines n line inside ∙ ap (λ (x : List ℕ). parsed_lines d (n + 1) parsed (x ∷ drop (n + 1) lines)) (sym same)
-
--- it has no fault
-pub lines_fine : (d : Dialect) (n : ℕ) (parsed next : ParsedScript) (line : List ℕ) (lines : List (List ℕ)) → n < length lines → line ≡ get_or lines n line
+-- the first line that is left has no fault
+pub lines_fine : (d : Dialect) (n : ℕ) (parsed next : ParsedScript) (line : List ℕ) (here rest : List (List ℕ)) → here ≡ line ∷ rest
     → line_fault d parsed line ≡ None → next ≡ with_line parsed (shape_of d (words line))
-    → parsed_lines d (n + 1 + 1) next (drop (n + 1) lines) ≡ parsed_lines d (n + 1) parsed (drop n lines)
-lines_fine d n parsed next line lines inside same fine parses =
-    sym (lines_here d n parsed line lines inside same ∙ (ap (λ (f : Option FaultCode). unless_fault (n + 1) f (parsed_lines d (n + 1 + 1) (with_line parsed (shape_of d (words line))) (drop (n + 1) lines))) fine
-    ∙ ap (λ (s : ParsedScript). parsed_lines d (n + 1 + 1) s (drop (n + 1) lines)) (sym parses)))
+    → parsed_lines d (n + 1 + 1) next rest ≡ parsed_lines d (n + 1) parsed here
+lines_fine d n parsed next line here rest is fine parses = rw (is, fine, parses) refl
 
 -- it has one
-pub lines_faulty : (d : Dialect) (n : ℕ) (parsed : ParsedScript) (line : List ℕ) (lines : List (List ℕ)) (code : FaultCode)
-    → n < length lines → line ≡ get_or lines n line
-    → line_fault d parsed line ≡ Some code → parsed_lines d (n + 1) parsed (drop n lines) ≡ Err (n + 1, code)
-lines_faulty d n parsed line lines code inside same fault =
-    lines_here d n parsed line lines inside same ∙ ap (λ (f : Option FaultCode). unless_fault (n + 1) f (parsed_lines d (n + 1 + 1) (with_line parsed (shape_of d (words line))) (drop (n + 1) lines))) fault
+pub lines_faulty : (d : Dialect) (n : ℕ) (parsed : ParsedScript) (line : List ℕ) (here rest : List (List ℕ)) (code : FaultCode) → here ≡ line ∷ rest
+    → line_fault d parsed line ≡ Some code → parsed_lines d (n + 1) parsed here ≡ Err (n + 1, code)
+lines_faulty d n parsed line here rest code is fault = rw (is, fault) refl
 
--- there are no more
-pub lines_end : (d : Dialect) (n : ℕ) (parsed : ParsedScript) (lines : List (List ℕ)) → length lines ≤ n
-    → parsed_lines d (n + 1) parsed (drop n lines) ≡ Ok parsed
-lines_end d n parsed lines all = at_drop_all (parsed_lines d (n + 1) parsed) lines n all
+-- none are left
+pub lines_end : (d : Dialect) (n : ℕ) (parsed : ParsedScript) (here : List (List ℕ)) → here ≡ [] → parsed_lines d n parsed here ≡ Ok parsed
+lines_end d n parsed here none = rw none refl
+
+-- ---- a line by its first words
+
+pub line_fault-text : (d : Dialect) (parsed : ParsedScript) (line : List ℕ) (found : List (List ℕ)) → is_text line ≡ true → found ≡ take 6 (words line)
+    → line_fault d parsed line ≡ shape_fault parsed (shape_of d found)
+unfolding line_fault
+line_fault-text d parsed line found printable is = rw (printable, is) (ap (shape_fault parsed) (sym (six_say d (words line))))
+
+pub line_fault-unprintable : (d : Dialect) (parsed : ParsedScript) (line : List ℕ) → is_text line ≡ false → line_fault d parsed line ≡ Some UnprintableByte
+unfolding line_fault
+line_fault-unprintable d parsed line other = rw other refl
+
+-- what is added has no fault
+pub added_fine : {T E : Type 0} (r : Result T E) (shape : Shape) (old new : Script) (fault : Option FaultCode) → fault ≡ shape_fault (parsed_script old) shape
+    → OnOk r (Adds shape old new) → OnOk r (fault ≡ None)
+added_fine (Ok x) shape old new fault same adds = same ∙ adds.fine
+added_fine (Err e) shape old new fault same adds = tt
 
 -- where a line stops, and its fault is the script's, the script stops there
 pub stops_at : (read : Result ParsedScript (ℕ × FaultCode)) (fault : Option FaultCode) (stop : Stop) (number : ℕ)

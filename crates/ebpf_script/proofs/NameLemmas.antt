@@ -1,5 +1,5 @@
 -- A name is a text.
-use Rattle.std.proofs.Common.{◌≡◌, ℕ, ◌<◌, ◌≤◌, Bool, true, ◌&&◌, nat_le, List, [], ◌∷◌, length, Result, Ok, Err, is_ok, MatchResult, refl, sym, ◌∙◌, ap, arith}
+use Rattle.std.proofs.Common.{◌≡◌, ℕ, ◌<◌, ◌≤◌, Bool, true, ◌&&◌, nat_le, List, [], ◌∷◌, length, refl, sym, ◌∙◌, ap, arith}
 use Rattle.std.specs.List.{list_all}
 use Rattle.std.specs.Str.{IsAscii, IsUtf8}
 use Rattle.std.proofs.lemmas.Str.{IsUtf8-from_ascii}
@@ -20,11 +20,6 @@ name_bytes-IsAscii (c ∷ bs) h =
 pub is_name-IsUtf8 : (word : List ℕ) → is_name word ≡ true → IsUtf8 word
 unfolding is_name
 is_name-IsUtf8 word h = IsUtf8-from_ascii word (name_bytes-IsAscii word (and_parts _ _ h).1)
-
--- what is tested for text, and is text, passes
-pub is_ok-where : {T E U : Type 0} (P : T → Type 0) (Q : E → Type 0) (r : Result T E) → MatchResult r P (λ e. (¬ U) × Q e) → U → is_ok r ≡ true
-is_ok-where P Q (Ok x) h u = refl
-is_ok-where P Q (Err e) h u = absurd (h.0 u)
 
 -- the test of a word whose length is right
 pub is_name-bytes : (word : List ℕ) (test : Bool) → 0 < length word → length word ≤ 32 → test ≡ list_all is_name_byte word → test ≡ is_name word

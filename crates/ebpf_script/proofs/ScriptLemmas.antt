@@ -1,13 +1,14 @@
 -- The programs of a script, by name.
-use Rattle.std.proofs.Common.{◌≡◌, ℕ, ◌+◌, Bool, true, false, cond, not, List, [], ◌∷◌, ◌++◌, length, map, Option, Some, None, is_some, option_map, position, String, string_bytes, refl, sym, ◌∙◌, ap, arith}
+use Rattle.std.proofs.Common.{◌≡◌, ℕ, ◌+◌, Bool, true, false, cond, not, List, [], ◌∷◌, ◌++◌, length, map, Option, Some, None, is_some, option_map, position, slice_get, String, string_bytes, refl, sym, ◌∙◌, ap, arith}
 use Rattle.std.proofs.lemmas.List.{map-append}
 use Rattle.std.specs.declared.alloc.Global.{Global}
-use Rattle.std.specs.List.{prefix_len}
+use Rattle.std.specs.List.{prefix_len, IsDistinct}
 use Rattle.std.specs.Map.{keys_of, lookup}
 use Rattle.std.specs.Str.{bytes_eq}
-use Rattle.std.specs.String.{string_eq}
+use Rattle.std.specs.String.{string_eq, string_eq_equiv}
 use Rattle.indexmap.specs.IndexMap.{IndexMap, get, insert_entry}
-use Rattle.indexmap.proofs.MapLemmas.{some_index}
+use Rattle.indexmap.proofs.MapLemmas.{some_index, index-first}
+use Rattle.indexmap.proofs.RemoveLemmas.{own_first}
 use Rattle.indexmap.proofs.CallerLemmas.{insert_entry-new}
 use Rattle.ebpf_script.specs.declared.reader.script.ProgramText.{ProgramText}
 use Rattle.ebpf_script.specs.ReadScripts.{named}
@@ -77,3 +78,25 @@ entries-more m key text asked new same absent put =
     let none : get string_eq m key ≡ None =
     none_where _ (ap (λ (q : List ℕ). is_some (lookup (λ k. bytes_eq q (string_bytes k)) m.entries)) same ∙ sym absent) in
     ap (λ (es : List (String Global × ProgramText)). map named es) (put ∙ insert_entry-new string_eq m key text none) ∙ map-append named m.entries ((key, text) ∷ [])
+
+-- ---- an entry whose key is the name
+
+pub number_of-own : (es : List (String Global × ProgramText)) (index : ℕ) (key : String Global) (text : ProgramText) (name : List ℕ)
+    → IsDistinct string_eq (keys_of es) → slice_get es index ≡ Some (key, text) → string_bytes key ≡ name → number_of (map named es) name ≡ Some index
+number_of-own es index key text name unique there same =
+    number_of-index es (string_bytes key) name (Some index) same
+    (sym (index-first (string_eq key) es index (own_first string_eq string_eq_equiv es index key text unique there)))
+
+pub declared_by-own : (es : List (String Global × ProgramText)) (key : String Global) (text : ProgramText) (name : List ℕ)
+    → lookup (string_eq key) es ≡ Some text → string_bytes key ≡ name → declared_by (map named es) name ≡ Some text.decl.context
+declared_by-own es key text name found same = declared_by-found es (string_bytes key) name text same (sym found)
+
+-- ---- what is said of a name is said of the same name
+
+pub number_of-said : (programs : List Named) (asked name : List ℕ) (index : Option ℕ) → asked ≡ name → index ≡ number_of programs asked
+    → number_of programs name ≡ index
+number_of-said programs asked name index same said = sym (said ∙ ap (number_of programs) same)
+
+pub declared_by-said : (programs : List Named) (asked name : List ℕ) (context : ℕ) → asked ≡ name → declared_by programs asked ≡ Some context
+    → declared_by programs name ≡ Some context
+declared_by-said programs asked name context same said = ap (declared_by programs) (sym same) ∙ said

@@ -1,14 +1,16 @@
 -- The shape of a line whose first word and number of words are known.
-use Rattle.std.proofs.Common.{◌≡◌, ◌≤◌, ◌<◌, ℕ, true, false, Bool, List, [], ◌∷◌, map, length, get_or, codes, Some, Result, OnOk, IfErr, refl, sym, ap, ◌∙◌, subst, arith}
+use Rattle.std.proofs.Common.{◌≡◌, ◌≤◌, ◌<◌, ℕ, true, false, Bool, List, [], ◌∷◌, cond, map, take, length, get_or, codes, Some, Result, OnOk, IfErr, refl, sym, ap, ◌∙◌, subst, arith}
 use Rattle.std.specs.Str.{bytes_eq}
 use Rattle.ebpf_command.specs.declared.done.FaultCode.TheVariants.{UnknownLine}
 use Rattle.ebpf_command.specs.declared.done.Stop.{Stop}
 use Rattle.ebpf_command.specs.Stops.{IsStop}
+use Rattle.ebpf_script.specs.declared.reader.script.Dialect.{Dialect}
+use Rattle.ebpf_script.specs.declared.reader.script.Dialect.TheVariants.{Events, Jobs}
 use Rattle.ebpf_script.specs.declared.reader.script.Script.{Script}
 use Rattle.ebpf_script.specs.LineFaults.{shape_fault}
 use Rattle.ebpf_script.specs.ParsedScript.{ParsedScript}
 use Rattle.ebpf_script.specs.ReadScripts.{Adds}
-use Rattle.ebpf_script.specs.Shapes.{Shape, StartLine, ExecLine, AnsweredLine, GrowLine, ReapLine, ArenaLine, JobLine, event_shape, job_shape}
+use Rattle.ebpf_script.specs.Shapes.{Shape, Passed, Unknown, StartLine, ExecLine, AnsweredLine, GrowLine, ReapLine, ArenaLine, JobLine, event_shape, job_shape, dialect_shape, line_shape, shape_of, is_comment}
 
 -- what a line of one shape adds, and why it is refused, is that of a line of the same shape
 pub shaped_ok : {T E : Type 0} (r : Result T E) (shape which : Shape) (old new : Script) → shape ≡ which
@@ -84,3 +86,23 @@ arena_line first rest a is arena = rw (is, arena) refl
 pub job_line : (first : List ℕ) (rest : List (List ℕ)) (a b : List ℕ) → rest ≡ a ∷ b ∷ [] → bytes_eq first (codes "run") ≡ true
     → job_shape first rest ≡ JobLine a b
 job_line first rest a b is run = rw (is, run) refl
+
+-- ---- the first six words say the shape
+
+six_of_dialect : (dialect : Dialect) (first a b c : List ℕ) (rest : List (List ℕ)) → dialect_shape dialect first (a ∷ b ∷ c ∷ rest) ≡ Unknown
+six_of_dialect Events first a b c rest = refl
+six_of_dialect Jobs first a b c rest = refl
+
+six_of_line : (dialect : Dialect) (first : List ℕ) (rest : List (List ℕ)) → line_shape dialect first (take 5 rest) ≡ line_shape dialect first rest
+six_of_line dialect first [] = refl
+six_of_line dialect first (a ∷ []) = refl
+six_of_line dialect first (a ∷ b ∷ []) = refl
+six_of_line dialect first (a ∷ b ∷ c ∷ []) = refl
+six_of_line dialect first (a ∷ b ∷ c ∷ d ∷ []) = refl
+six_of_line dialect first (a ∷ b ∷ c ∷ d ∷ e ∷ rest) =
+    ap (λ (s : Shape). cond (bytes_eq first (codes "program")) Unknown s)
+    (six_of_dialect dialect first a b c (d ∷ e ∷ []) ∙ sym (six_of_dialect dialect first a b c (d ∷ e ∷ rest)))
+
+pub six_say : (dialect : Dialect) (words : List (List ℕ)) → shape_of dialect (take 6 words) ≡ shape_of dialect words
+six_say dialect [] = refl
+six_say dialect (first ∷ rest) = ap (λ (s : Shape). cond (is_comment first) Passed s) (six_of_line dialect first rest)

@@ -6,8 +6,8 @@
 //! [`check::check`], of [`explained_check::explained_check`], which tells why programs are refused as well, of [`replay::replay`] and of
 //! [`run::run`].
 //!
-//! To be read in this order: `reader`, `verdicts`, `check`, `script_fault`,
-//! `explained_check`, `event_codes`, `world_text`, `replay`, `outcome_text`, `stats`, `outcome_stats`, `meter`, `run`, `stats_text`, `watch`.
+//! To be read in this order: `reader`, `verdicts`, `check`, `script_fault`, `explained_check`, `event_codes`, `world_text`, `replay`,
+//! `text_line`, `outcome_text`, `stats`, `outcome_stats`, `meter`, `run`, `stats_text`, `watch`.
 #![tactic(auto)]
 
 pub mod check;
@@ -22,6 +22,7 @@ pub mod run;
 mod script_fault;
 pub mod stats;
 mod stats_text;
+mod text_line;
 mod verdicts;
 pub mod watch;
 mod world_text;

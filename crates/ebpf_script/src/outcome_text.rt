@@ -4,6 +4,7 @@ ghost use Rattle.std.specs.Prelude.{◌≡◌, ◌++◌, string_bytes, OnOk};
 ghost use Rattle.std.specs.List.{flat_map};
 ghost use Rattle.ebpf_script.specs.OutcomeLines.{job_emit_line, report_lines, reports_from, cache_line, cache_lines, shelf_line, shelf_lines, outcome_lines};
 
+use crate::text_line::TextLine;
 use ebpf_machine::report::Report;
 use ebpf_pool::{Outcome, ShelfTotals};
 use object_cache::Totals;
@@ -37,12 +38,16 @@ fn write_report(text: &mut String, job: usize, report: &Report) -> Result<(), Al
     let Some(exit) = report.exit else {
         return Ok(());
     };
-    let executed = report.executed;
-    let peak = report.peak;
-    write!(
-        text,
-        "job {job} exit {exit} executed {executed} peak {peak}\n"
-    )
+    let mut line = TextLine::end();
+    line.number(report.peak);
+    line.words(b" peak ");
+    line.number(report.executed);
+    line.words(b" executed ");
+    line.number(exit);
+    line.words(b" exit ");
+    line.number(job as u64);
+    line.words(b"job ");
+    text.push_str(line.as_str())
 }
 
 // Writes the output of a job.
@@ -50,9 +55,21 @@ fn write_output(text: &mut String, job: usize, output: &[u64]) -> Result<(), All
     ensures { OnOk result (string_bytes text.new ≡ string_bytes text.old ++ flat_map (job_emit_line job) output.now) }
 {
     for value in output {
-        write!(text, "emit {job} {value}\n")?;
+        write_emit(text, job, *value)?;
     }
     Ok(())
+}
+
+// Writes a number of the output of a job.
+fn write_emit(text: &mut String, job: usize, value: u64) -> Result<(), AllocError>
+    ensures { OnOk result (string_bytes text.new ≡ string_bytes text.old ++ job_emit_line job value) }
+{
+    let mut line = TextLine::end();
+    line.number(value);
+    line.words(b" ");
+    line.number(job as u64);
+    line.words(b"emit ");
+    text.push_str(line.as_str())
 }
 
 // Writes what the cache of each kind did.

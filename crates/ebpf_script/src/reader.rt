@@ -1,6 +1,6 @@
 //! Reads a script: from the bytes of a text to its programs and its events or jobs, or to its first fault.
 //!
-//! To be read in this order: `words`, `numbers`, `names`, `script`, `statement`, `line`.
+//! To be read in this order: `words`, `lines`, `numbers`, `names`, `script`, `programs`, `statement`, `line`.
 
 ghost use Rattle.std.specs.Prelude.{◌≡◌, ◌≤◌, ◌<◌, ◌+◌, IfOk, IfErr, Err, length};
 ghost use Rattle.ebpf_command.specs.declared.input.TheConstants.{MAX_INPUT};
@@ -8,13 +8,16 @@ ghost use Rattle.ebpf_script.specs.ReadScripts.{parsed_script, IsScriptStop};
 ghost use Rattle.ebpf_script.specs.Scripts.{parsed_text};
 
 mod line;
+mod lines;
 mod names;
 pub(crate) mod numbers;
+mod programs;
 pub mod script;
 mod statement;
 mod words;
 
 use crate::reader::line::read_line;
+use crate::reader::lines::{first_line, is_script_text};
 use crate::reader::script::{Dialect, Script, ScriptFault, ScriptStop};
 use ebpf_command::done::FaultCode;
 use ebpf_command::input::MAX_INPUT;
@@ -48,10 +51,14 @@ pub fn read_script(alloc: Global, dialect: Dialect, text: &[u8]) -> Result<Scrip
         jobs: Vec::new(alloc),
         passes: 0,
     };
+    let is_text = is_script_text(text);
+    let mut from = 0;
     let mut number = 0;
-    for line in text.split(|c| *c == b'\n') {
+    while from <= text.len() {
+        let line = first_line(&text[from..]);
+        from += line.bytes.len() + 1;
         number += 1;
-        if let Err(stop) = read_line(alloc, dialect, &mut script, line) {
+        if let Err(stop) = read_line(alloc, dialect, &mut script, &line, is_text) {
             return Err(ScriptStop::at(stop, number));
         }
     }

@@ -1,39 +1,49 @@
 //! A line of a script, read into the script.
 
-ghost use Rattle.std.specs.Prelude.{◌≡◌, [], ◌∷◌, IfErr, OnOk, map};
+ghost use Rattle.std.specs.Prelude.{◌≡◌, [], ◌∷◌, true, IfErr, OnOk, map};
 ghost use Rattle.ebpf_command.specs.Stops.{IsStop};
 ghost use Rattle.ebpf_script.specs.LineFaults.{shape_fault, line_fault};
 ghost use Rattle.ebpf_script.specs.ReadScripts.{parsed_script, Adds, HasRoom};
+ghost use Rattle.ebpf_script.specs.ScriptLines.{is_text};
 ghost use Rattle.ebpf_script.specs.Shapes.{is_comment, event_shape, job_shape, program_shape, shape_of};
 ghost use Rattle.ebpf_script.specs.Words.{words};
 
+use crate::reader::lines::{Line, is_text};
 use crate::reader::script::{Dialect, Script};
 use crate::reader::statement::{
     read_answered, read_arena, read_exec, read_grow, read_job, read_pass, read_program, read_reap,
     read_start,
 };
-use crate::reader::words::{is_text, line_words};
 use ebpf_command::done::{FaultCode, Stop};
 use std::alloc::Global;
 
-/// Reads a line behind those that the script has. Where it stops, nothing is promised of the script.
-#[tactic(auto, unfolding(crate::specs::LineFaults::line_fault))]
+/// Reads a line behind those that the script has; whether it is text is looked at unless that is known. Where it stops, nothing is
+/// promised of the script.
 pub(crate) fn read_line(
     alloc: Global,
     dialect: Dialect,
     script: &mut Script,
-    line: &[u8],
+    line: &Line<'_>,
+    is_known: bool,
 ) -> Result<(), Stop>
-    requires { HasRoom script.now }
-    ensures fine { OnOk result (line_fault dialect (parsed_script script.old) line.now ≡ None) }
-    ensures ok { OnOk result (Adds (shape_of dialect (words line.now)) script.old script.new) }
-    ensures refused { IfErr result (IsStop (line_fault dialect (parsed_script script.old) line.now)) }
+    requires room { HasRoom script.now }
+    requires known { is_known ≡ true → is_text line.now.bytes.now ≡ true }
+    ensures fine { OnOk result (line_fault dialect (parsed_script script.old) line.now.bytes.now ≡ None) }
+    ensures ok { OnOk result (Adds (shape_of dialect (words line.now.bytes.now)) script.old script.new) }
+    ensures refused { IfErr result (IsStop (line_fault dialect (parsed_script script.old) line.now.bytes.now)) }
 {
-    if !is_text(line) {
+    if !is_line_text(line, is_known) {
         return Err(Stop::Fault(FaultCode::UnprintableByte));
     }
-    let words = line_words(alloc, line)?;
-    read_words(alloc, dialect, script, &words)
+    read_words(alloc, dialect, script, line.words.as_slice())
+}
+
+// Whether a line is text, which may be known.
+fn is_line_text(line: &Line<'_>, is_known: bool) -> bool
+    requires { is_known ≡ true → is_text line.now.bytes.now ≡ true }
+    ensures { result ≡ is_text line.now.bytes.now }
+{
+    is_known || is_text(line.bytes)
 }
 
 // Reads the words of a line.

@@ -11,7 +11,7 @@ pub(crate) fn name_of(word: &[u8]) -> Option<&str>
     if !is_name(word) {
         return None;
     }
-    str::from_utf8(word).ok()
+    Some(unsafe { str::from_utf8_unchecked(word) })
 }
 
 // 1 to 32 letters, digits, `_` or `-`.

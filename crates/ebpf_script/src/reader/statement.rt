@@ -9,6 +9,7 @@ ghost use Rattle.ebpf_script.specs.Shapes.{ProgramLine, StartLine, ExecLine, Ans
 
 use crate::reader::names::name_of;
 use crate::reader::numbers::{context_of, held_of, kind_of, pages_of, run_of, slot_of};
+use crate::reader::programs::program_of;
 use crate::reader::script::{ProgramText, Script};
 use ebpf_command::done::{FaultCode, Stop};
 use ebpf_command::hex_text::hex_or_dash;
@@ -178,7 +179,7 @@ pub(crate) fn read_job(
     let Some(name) = name_of(name) else {
         return Err(Stop::Fault(FaultCode::BadName));
     };
-    let Some((program, _, text)) = script.programs.get_full(name) else {
+    let Some((program, text)) = program_of(script, name) else {
         return Err(Stop::Fault(FaultCode::UndefinedName));
     };
     if bytes.len() != text.decl.context as usize {

@@ -1,35 +1,65 @@
 //! The words of a line.
 
-ghost use Rattle.std.specs.Prelude.{◌≡◌, IfOk, map};
-ghost use Rattle.ebpf_script.specs.ScriptLines.{is_text_byte, is_text};
-ghost use Rattle.ebpf_script.specs.Words.{is_gap, words};
+ghost use Rattle.std.specs.Prelude.{◌≡◌, ◌++◌, ◌∷◌, [], ◌==◌, if◌then◌else◌, length, take, map};
+ghost use Rattle.ebpf_script.specs.Words.{is_gap};
 
-use std::alloc::{AllocError, Global};
+use std::marker::Model;
 
-/// Whether a line has only tabs, carriage returns and the bytes 0x20 to 0x7e.
-#[tactic(auto, unfolding(crate::specs::ScriptLines::is_text))]
-pub(crate) fn is_text(line: &[u8]) -> bool
-    ensures { result ≡ is_text line.now }
-{
-    line.iter().all(|c| is_text_byte(*c))
+// More words than a line that is no comment may have.
+const MOST: usize = 6;
+
+/// The first words of a line, six at most. Contracts see the list of their bytes.
+#[derive(Drop)]
+pub(crate) struct Words<'a> {
+    found: [&'a [u8]; MOST],
+    count: usize,
 }
 
-fn is_text_byte(c: u8) -> bool
-    ensures { result ≡ is_text_byte c }
-{
-    c == b'\t' || c == b'\r' || (0x20 <= c && c <= 0x7e)
+impl<'a> Model for Words<'a> {
+    ghost use Rattle.std.specs.Prelude.{ℕ, List, ◌≤◌, map, take};
+
+    ghost Value = { List (List ℕ) };
+
+    ghost view = { λ w. map (λ word. word.now) (take w.count w.found) };
+
+    ghost invariant = { λ w. w.count ≤ 6 };
 }
 
-/// The words of a line, which runs of spaces, tabs and carriage returns separate.
-pub(crate) fn line_words(alloc: Global, line: &[u8]) -> Result<Vec<&[u8]>, AllocError>
-    ensures { IfOk result (λ v. map (λ w. w.now) v.items ≡ words line.now) }
-{
-    line.split(|c| is_gap(*c))
-        .filter(|word| !word.is_empty())
-        .collect(alloc)
+impl<'a> Words<'a> {
+    /// No words.
+    #[inline]
+    pub(crate) fn none() -> Words<'a>
+        ensures { result ≡ [] }
+    {
+        Words {
+            found: [&[]; MOST],
+            count: 0,
+        }
+    }
+
+    /// Adds a word, unless it is empty or one too many.
+    #[inline]
+    pub(crate) fn add(&mut self, word: &'a [u8])
+        ensures { self.new ≡ (if length word.now == 0 then self.old else take 6 (self.old ++ word.now ∷ [])) }
+    {
+        if !word.is_empty() && self.count < MOST {
+            self.found[self.count] = word;
+            self.count += 1;
+        }
+    }
+
+    /// The words.
+    #[inline]
+    pub(crate) fn as_slice(&self) -> &[&'a [u8]]
+        ensures { map (λ word. word.now) result.now ≡ self.now }
+    {
+        &self.found[..self.count]
+    }
 }
 
-fn is_gap(c: u8) -> bool
+/// Whether a byte separates words.
+#[inline]
+pub(crate) fn is_gap(c: u8) -> bool
     ensures { result ≡ is_gap c }
 {
     c == b'\t' || c == b'\r' || c == b' '

@@ -1,0 +1,71 @@
+//! A line of text that is written from its end to its beginning: each number is written where it stays, and a whole line is
+//! appended at once.
+
+ghost use Rattle.std.specs.Prelude.{◌≡◌, ◌+◌, ◌≤◌, ◌++◌, IsAscii, codes, decimal, length};
+
+use itoa::write_digits;
+use std::marker::Model;
+
+// The most bytes of a line.
+const ROOM: usize = 112;
+
+/// A line. Contracts see the bytes that are written.
+#[derive(Drop)]
+pub(crate) struct TextLine {
+    bytes: [u8; ROOM],
+    start: usize,
+}
+
+impl Model for TextLine {
+    ghost use Rattle.std.specs.Prelude.{ℕ, List, ◌≤◌, IsAscii, drop};
+
+    ghost Value = { List ℕ };
+
+    ghost view = { λ l. drop l.start l.bytes };
+
+    ghost invariant = { λ l. (l.start ≤ 112) × IsAscii (drop l.start l.bytes) };
+}
+
+impl TextLine {
+    /// The newline that ends a line.
+    #[inline]
+    pub(crate) fn end() -> TextLine
+        ensures { result ≡ codes "\n" }
+    {
+        TextLine {
+            bytes: [b'\n'; ROOM],
+            start: ROOM - 1,
+        }
+    }
+
+    /// Writes a number before the rest.
+    #[inline]
+    pub(crate) fn number(&mut self, n: u64)
+        requires { length self.old + 20 ≤ 112 }
+        ensures text { self.new ≡ decimal n ++ self.old }
+        ensures few { length self.new ≤ length self.old + 20 }
+    {
+        self.start = write_digits(n, &mut self.bytes, self.start);
+    }
+
+    /// Writes words before the rest.
+    #[inline]
+    pub(crate) fn words(&mut self, words: &[u8])
+        requires room { length self.old + length words.now ≤ 112 }
+        requires ascii { IsAscii words.now }
+        ensures { self.new ≡ words.now ++ self.old }
+    {
+        let end = self.start;
+        let start = end - words.len();
+        self.bytes[start..end].copy_from_slice(words);
+        self.start = start;
+    }
+
+    /// The line.
+    #[inline]
+    pub(crate) fn as_str(&self) -> &str
+        ensures { result.now ≡ self.now }
+    {
+        unsafe { str::from_utf8_unchecked(&self.bytes[self.start..]) }
+    }
+}
