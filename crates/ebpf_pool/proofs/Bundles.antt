@@ -1,13 +1,12 @@
 -- The bundles of jobs are a partition of them: each job is in one bundle, which has the jobs between its first and its end.
-use Rattle.std.proofs.Common.{◌≡◌, ◌≢◌, ◌+◌, ◌*◌, ◌/◌, ◌%◌, ◌<◌, ◌≤◌, ◌==◌, ℕ, suc, Bool, true, false, if◌then◌else◌, nat_lt, nat_le, min, List, [], ◌∷◌, ◌++◌, refl, sym, ap, ◌∙◌, arith, append_assoc, append-nil, mul-le-mul_right, suc-mul}
+use Rattle.std.proofs.Common.{◌≡◌, ◌≢◌, ◌+◌, ◌*◌, ◌<◌, ◌≤◌, ◌==◌, ℕ, suc, Bool, true, false, if◌then◌else◌, nat_lt, nat_le, min, List, [], ◌∷◌, ◌++◌, refl, sym, ap, ◌∙◌, arith, mul-le-mul_right, suc-mul}
 use Rattle.std.proofs.Math.Nat.{div-mul-le_self, lt-div-mul-add, div-lt_iff_lt-mul, le-div_iff_mul-le, mul-le-mul_left}
 use Rattle.std.proofs.lemmas.Bool.Decides.{nat_tests}
 use Rattle.std.proofs.lemmas.Grind.{div_ceil_times}
 use Rattle.std.proofs.lemmas.List.Sums.{sum_by_push}
-use Rattle.std.specs.Prelude.{sum_by}
 use Rattle.owners_table.specs.Drawing.{times}
 use Rattle.ebpf_pool.specs.declared.jobs.Numbered.{Numbered}
-use Rattle.ebpf_pool.specs.Bundles.{bundle_of, bundles_in, IsBundleAdded, AreAsDrawn}
+use Rattle.ebpf_pool.specs.Bundles.{bundle_of, bundles_in}
 use Rattle.ebpf_pool.specs.Places.{times_in}
 
 abbrev pub one_if : ℕ → ℕ → ℕ

@@ -1,9 +1,8 @@
 -- What all workers did, from what each did.
-use Rattle.std.proofs.Common.{◌≡◌, ◌≢◌, ◌<◌, ◌+◌, ◌==◌, if◌then◌else◌, ℕ, suc, true, All, Any, List, [], ◌∷◌, ◌++◌, length, map, reverse, slice_index_or, refl, sym, ap, subst, ◌∙◌, arith}
+use Rattle.std.proofs.Common.{◌≡◌, ◌≢◌, ◌<◌, ◌+◌, ℕ, suc, true, All, Any, List, [], ◌∷◌, length, map, reverse, slice_index_or, refl, sym, ap, subst, ◌∙◌, arith}
 use Rattle.std.specs.Prelude.{sum_by}
-use Rattle.std.proofs.lemmas.Bool.Decides.{nat_tests}
 use Rattle.std.proofs.lemmas.List.{length-map}
-use Rattle.std.proofs.lemmas.List.Sums.{sum_by-cons, sum_by_push}
+use Rattle.std.proofs.lemmas.List.Sums.{sum_by-cons}
 use Rattle.owners_table.specs.Drawing.{TicketView, times}
 use Rattle.ebpf_pool.specs.declared.worker.Ending.{Ending}
 use Rattle.ebpf_pool.specs.declared.worker.Ending.TheVariants.{Through, Unstarted, OutOfMemory}

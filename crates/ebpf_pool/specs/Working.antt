@@ -1,5 +1,5 @@
 -- What workers are given, and what they have done.
-use Rattle.std.specs.Prelude.{◌≡◌, ◌<◌, ◌≤◌, ◌+◌, ◌^◌, ℕ, ⊤, true, false, List, [], ◌∷◌, ◌++◌, length, map, All, sum_by, slice_get, slice_index_or, Some}
+use Rattle.std.specs.Prelude.{◌≡◌, ◌<◌, ◌≤◌, ◌+◌, ◌^◌, ℕ, ⊤, true, false, List, [], length, All, sum_by, slice_get, slice_index_or, Some}
 use Rattle.ebpf_verify.specs.Subject.{Subject}
 use Rattle.owners_table.specs.Owning.{OwnersView}
 use Rattle.owners_table.specs.Drawing.{TicketsView, TicketView, IsOf}
