@@ -12,7 +12,7 @@ ghost use Rattle.ebpf_state.specs.Stack.{bytes_in, is_whole_word};
 ghost use Rattle.ebpf_machine.specs.declared.value.Value.{Value};
 ghost use Rattle.ebpf_machine.specs.Values.{empty_stack};
 ghost use Rattle.ebpf_machine.specs.Cells.{loaded_at, stored_cells, is_pointer, is_among, touches};
-ghost use Rattle.ebpf_machine.specs.StackWords.{AreMarks, CanLoad, IsReflexive, holds_without, left_after, mark_after, pointer_of};
+ghost use Rattle.ebpf_machine.specs.StackWords.{AreMarks, CanLoad, IsMark, IsReflexive, holds_without, mark_in, left_after, mark_after, pointer_of};
 
 use crate::number::number_at;
 use crate::value::{Base, Value};
@@ -20,14 +20,17 @@ use ebpf_insn::insn::Size;
 use ebpf_state::stack::{bytes_in, is_whole_word};
 use std::marker::Model;
 
+// The first mark, eight times.
+const ONE_MARK: u64 = 0x0101_0101_0101_0101;
+
 /// The 512 bytes below the frame pointer.
 #[derive(Drop)]
 pub(crate) struct Stack {
     bytes: [u8; 512],
     /// Beside each of them the mark of the run that wrote it last, or 0.
     marks: [u8; 512],
-    /// The mark of this run.
-    mark: u8,
+    /// The mark of this run, eight times, so that it is written as the bytes are.
+    mark: u64,
     /// Which words hold a pointer.
     pointing: [bool; 64],
     /// Of those that do, its base and its offset.
@@ -38,11 +41,11 @@ pub(crate) struct Stack {
 impl Model for Stack {
     ghost use Rattle.std.specs.Prelude.{ℕ, List};
     ghost use Rattle.ebpf_machine.specs.declared.value.Cell.{Cell};
-    ghost use Rattle.ebpf_machine.specs.StackWords.{cells_of, marked, pointer_of, AreMarks};
+    ghost use Rattle.ebpf_machine.specs.StackWords.{AreMarks, cells_of, mark_in, marked, pointer_of};
 
     ghost Value = { List (Cell ℕ) };
 
-    ghost view = { λ s. cells_of s.bytes (marked s.mark s.marks) (pointer_of s.pointing s.bases s.offsets) };
+    ghost view = { λ s. cells_of s.bytes (marked (mark_in s.mark) s.marks) (pointer_of s.pointing s.bases s.offsets) };
 
     ghost invariant = { λ s. AreMarks s.mark s.marks };
 }
@@ -55,7 +58,7 @@ impl Stack {
         Stack {
             bytes: [0; 512],
             marks: [0; 512],
-            mark: 1,
+            mark: ONE_MARK,
             pointing: [false; 64],
             bases: [Base::Stack; 64],
             offsets: [0; 64],
@@ -123,17 +126,17 @@ impl Stack {
 
 // A mark that no byte has.
 #[inline(always)]
-fn next_mark(marks: &mut [u8; 512], mark: u8) -> u8
+fn next_mark(marks: &mut [u8; 512], mark: u64) -> u64
     requires { AreMarks mark marks.old }
     ensures long { length marks.new ≡ 512 }
-    ensures some { 0 < result }
-    ensures new { (i : ℕ) → i < 512 → slice_index_or marks.new i 0 < result }
+    ensures whole { IsMark result }
+    ensures new { (i : ℕ) → i < 512 → slice_index_or marks.new i 0 < mark_in result }
 {
-    if mark == u8::MAX {
+    if mark == u64::MAX {
         forget_marks(marks);
-        return 1;
+        return ONE_MARK;
     }
-    mark + 1
+    mark + ONE_MARK
 }
 
 // Out of line, since few starts need it.
@@ -191,17 +194,18 @@ fn keep(
 fn write(
     bytes: &mut [u8; 512],
     marks: &mut [u8; 512],
-    mark: u8,
+    mark: u64,
     pointing: &mut [bool; 64],
     place: usize,
     size: Size,
     n: u64,
 )
-    requires { place + bytes_in size ≤ 512 }
+    requires inside { place + bytes_in size ≤ 512 }
+    requires mark { IsMark mark }
     ensures long { (length bytes.new ≡ 512) × (length marks.new ≡ 512) }
     ensures bytes { (i : ℕ) → i < 512 → slice_index_or bytes.new i 0 ≡
         (if is_among place (bytes_in size) i then byte_at (i - place) n else slice_index_or bytes.old i 0) }
-    ensures marks { (i : ℕ) → i < 512 → slice_index_or marks.new i 0 ≡ mark_after place (bytes_in size) pointing.old mark marks.old i }
+    ensures marks { (i : ℕ) → i < 512 → slice_index_or marks.new i 0 ≡ mark_after place (bytes_in size) pointing.old (mark_in mark) marks.old i }
     ensures pointing { (word : ℕ) → slice_index_or pointing.new word false ≡
         (if touches place (bytes_in size) word then false else slice_index_or pointing.old word false) }
 {
@@ -218,7 +222,7 @@ fn write(
 fn put(
     bytes: &mut [u8; 512],
     marks: &mut [u8; 512],
-    mark: u8,
+    mark: u64,
     pointing: &mut [bool; 64],
     place: usize,
     count: usize,
@@ -227,16 +231,17 @@ fn put(
     requires inside { place + count ≤ 512 }
     requires some { 0 < count }
     requires few { count ≤ 8 }
+    requires mark { IsMark mark }
     ensures long { (length bytes.new ≡ 512) × (length marks.new ≡ 512) }
     ensures bytes { (i : ℕ) → i < 512 → slice_index_or bytes.new i 0 ≡
         (if is_among place count i then byte_at (i - place) n else slice_index_or bytes.old i 0) }
-    ensures marks { (i : ℕ) → i < 512 → slice_index_or marks.new i 0 ≡ mark_after place count pointing.old mark marks.old i }
+    ensures marks { (i : ℕ) → i < 512 → slice_index_or marks.new i 0 ≡ mark_after place count pointing.old (mark_in mark) marks.old i }
     ensures pointing { (word : ℕ) → slice_index_or pointing.new word false ≡
         (if touches place count word then false else slice_index_or pointing.old word false) }
 {
     forget(marks, pointing, place, count);
     bytes[place..place + count].copy_from_slice(&n.to_le_bytes()[..count]);
-    marks[place..place + count].copy_from_slice(&[mark; 8][..count]);
+    marks[place..place + count].copy_from_slice(&mark.to_le_bytes()[..count]);
 }
 
 // Some bytes of these words are overwritten, so what is left of a pointer in them is unset. Of a whole word nothing is left.

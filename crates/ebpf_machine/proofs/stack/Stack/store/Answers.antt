@@ -4,7 +4,7 @@ use Rattle.std.proofs.lemmas.Int.{to_z-of_z}
 use Rattle.ebpf_state.specs.Stack.{bytes_in}
 use Rattle.ebpf_machine.specs.Cells.{stored_cells, is_pointer}
 use Rattle.ebpf_machine.specs.declared.value.Value.{Value}
-use Rattle.ebpf_machine.specs.StackWords.{marked, pointer_of}
+use Rattle.ebpf_machine.specs.StackWords.{mark_in, marked, pointer_of}
 use Rattle.ebpf_machine.proofs.Instructions.StackWords.{marks_after, stores_value, writes_number}
 use Rattle.ebpf_machine.proofs.Rules.Words.{bytes_some, bytes_few}
 use Rattle.ebpf_machine.proofs.stack.Stack.store.Goals as goal
@@ -15,12 +15,12 @@ returns-in-Pointer c =
     let after : ℕ → Option (Value ℕ) = pointer_of c.keep.new.pointing c.keep.new.bases c.keep.new.offsets in
     let pointer = ap is_pointer c.in-Pointer.is in
     let offset = to_z-of_z w64 c.in-Pointer.offset (search rules) in
-    stores_value c.self.inside.bytes (marked c.self.inside.mark c.self.inside.marks) before after c.args.place (bytes_in c.args.size) c.args.value c.self.told.0 pointer (c.requires.whole pointer) (rw (c.in-Pointer.is, ← offset) c.keep.ensures)
+    stores_value c.self.inside.bytes (marked (mark_in c.self.inside.mark) c.self.inside.marks) before after c.args.place (bytes_in c.args.size) c.args.value c.self.told.0 pointer (c.requires.whole pointer) (rw (c.in-Pointer.is, ← offset) c.keep.ensures)
     ∙ ap (stored_cells c.args.place (bytes_in c.args.size) c.args.value) c.self.view_is
 
 pub returns-in-Number : goal.returns-in-Number
 returns-in-Number c =
-    writes_number c.self.inside.bytes c.write.new.bytes c.self.inside.mark c.self.inside.marks c.write.new.marks c.self.inside.pointing c.write.new.pointing c.self.inside.bases c.self.inside.offsets c.args.place (bytes_in c.args.size) c.args.value c.in-Number.n c.self.told.0 c.write.ensures.long.0 c.self.told.1 c.write.ensures.long.1 c.self.invariant.0 (bytes_some c.args.size) (bytes_few c.args.size) c.in-Number.is
+    writes_number c.self.inside.bytes c.write.new.bytes (mark_in c.self.inside.mark) c.self.inside.marks c.write.new.marks c.self.inside.pointing c.write.new.pointing c.self.inside.bases c.self.inside.offsets c.args.place (bytes_in c.args.size) c.args.value c.in-Number.n c.self.told.0 c.write.ensures.long.0 c.self.told.1 c.write.ensures.long.1 c.self.invariant.0.0 (bytes_some c.args.size) (bytes_few c.args.size) c.in-Number.is
     c.write.ensures.pointing c.write.ensures.marks c.write.ensures.bytes
     ∙ ap (stored_cells c.args.place (bytes_in c.args.size) c.args.value) c.self.view_is
 
