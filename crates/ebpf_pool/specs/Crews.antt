@@ -7,6 +7,7 @@ use Rattle.owners_table.specs.Drawing as drawing
 use Rattle.ebpf_pool.specs.Bundles.{IsBundleSize, bundles_in}
 use Rattle.ebpf_pool.specs.Hands.{AllAreUnused, AllAreMadeOf, AreNone, unused_hands}
 use Rattle.ebpf_pool.specs.Outcomes.{IsIdle}
+use Rattle.ebpf_pool.specs.Places.{AreReserved}
 use Rattle.ebpf_pool.specs.Supplies.{AreOpened}
 use Rattle.ebpf_pool.specs.declared.crew.Done.{Done}
 use Rattle.ebpf_pool.specs.declared.crew.Parts.{Parts}
@@ -87,7 +88,7 @@ module _ {L : Type 0} where
     pub tickets : s.room.tickets.seats ≡ count
     pub drawers : (length s.drawers.items ≡ count) × All (λ d. d ≡ drawing.fresh s.room.tickets.table s.room.tickets.limit) s.drawers.items
     pub answered : (length s.answered.items ≡ count) × All (λ l. l.items ≡ []) s.answered.items
-    pub reports : (length s.room.reports.items ≡ jobs) × All (λ r. r.exit ≡ None) s.room.reports.items
+    pub places : AreReserved jobs s.places
     pub jobs_done : (s.room.jobs_done.items ≡ []) × (count ≤ vec_capacity s.room.jobs_done)
     pub workers : (s.workers.items ≡ []) × (count ≤ vec_capacity s.workers)
     pub opened : AreOpened count s.supplies s.hands

@@ -1,5 +1,6 @@
 -- Reports in the places of their jobs. A report without an exit is none.
-use Rattle.std.specs.Prelude.{◌≡◌, ◌⊎◌, ◌+◌, ◌<◌, ◌≤◌, ℕ, ◌==◌, true, if◌then◌else◌, is_some, List, Option, Some, None, Contains, All, length, slice_get, sum_by}
+use Rattle.std.proofs.Common.{Vec, Global}
+use Rattle.std.specs.Prelude.{[], vec_capacity, ◌≡◌, ◌⊎◌, ◌+◌, ◌<◌, ◌≤◌, ℕ, ◌==◌, true, if◌then◌else◌, is_some, List, Option, Some, None, Contains, All, length, slice_get, sum_by}
 use Rattle.ebpf_machine.specs.declared.report.Report.{Report}
 use Rattle.ebpf_pool.specs.declared.jobs.Numbered.{Numbered}
 
@@ -31,6 +32,14 @@ weight_of h ns = sum_by (λ n. h n.report) ns
 -- it is in one of the lists
 abbrev pub IsIn : Numbered → List (List Numbered) → Type 0
 IsIn n lists = (l : List Numbered) × Contains lists l × Contains l n
+
+-- memory for that many places, and none yet
+abbrev pub AreReserved : ℕ → Vec Report Global → Type 0
+AreReserved count places = (places.items ≡ []) × (count ≤ vec_capacity places)
+
+-- that many places, without a report
+abbrev pub ArePlaces : ℕ → List Report → Type 0
+ArePlaces count places = (length places ≡ count) × All (λ r. r.exit ≡ None) places
 
 -- each report that has a place was there before, or is there with its number
 abbrev pub AreFrom : (old : List Report) → (Numbered → Type 0) → (new : List Report) → Type 0

@@ -2,6 +2,7 @@
 
 ghost use Rattle.std.specs.Prelude.{◌≡◌, ◌≤◌, [], All, reverse, map, length, vec_capacity};
 ghost use Rattle.ebpf_pool.specs.Crews.{AreFresh, HaveNone, IsBack, AreDismissed, seat_in};
+ghost use Rattle.ebpf_pool.specs.Places.{AreReserved, ArePlaces};
 ghost use Rattle.ebpf_pool.specs.Sharing.{AreDoneWith, CanBeginWith};
 ghost use Rattle.ebpf_pool.specs.Working.{IsFresh};
 ghost use denote.Param.Send.{IsSync};
@@ -10,7 +11,9 @@ use crate::gate::{Gate, Point};
 use crate::hands::{FreeHands, Tools};
 use crate::jobs::Numbered;
 use crate::ledgers::Names;
+use crate::place::make_places;
 use crate::worker::{Ending, Shared, Worker, work};
+use ebpf_machine::report::Report;
 use owners_table::owners::OwnerSeat;
 use owners_table::tickets::TicketSeat;
 use std::sync::Wait;
@@ -76,27 +79,41 @@ fn work_all<'a, L: Names + Send + Sync, G: Gate + Sync + 'a, R: Threads + Wait +
     thread::for_each_mut(shared.rt, workers, count, &|_, worker| work(shared, worker));
 }
 
-// Passes of the reaper.
-fn reap<'a, L: Names, G: Gate + 'a, R: Wait + 'a>(shared: &Shared<'a, L, G, R>, reaps: u32) {
+// What is done beside the workers: places for the reports of all jobs, and passes of the reaper.
+fn reap<'a, L: Names, G: Gate + 'a, R: Wait + 'a>(
+    shared: &Shared<'a, L, G, R>,
+    reaps: u32,
+    places: &mut Vec<Report>,
+)
+    requires { AreReserved (length shared.now.jobs.now) places.old }
+    ensures { ArePlaces (length shared.now.jobs.now) places.new.items }
+{
+    make_places(shared.alloc, shared.jobs.len(), places);
     for pass in 0..reaps {
         shared.supplies.reap(shared.rt, shared.arena);
         shared.gate.at(u64::from(pass), Point::Reaped);
     }
 }
 
-/// All workers, and the reaper beside them.
+/// All workers, and beside them the reaper, which makes places for the reports first: memory that is touched for the first time takes
+/// longer than a short job.
 pub(crate) fn work_and_reap<
     'a,
     L: Names + Send + Sync,
     G: Gate + Sync + 'a,
     R: Threads + Wait + Sync + 'a,
->(shared: &Shared<'a, L, G, R>, reaps: u32, workers: &mut [Worker<L>])
-    requires { CanBeginWith shared.now workers.old }
-    ensures { AreDoneWith shared.now workers.old workers.new }
+>(shared: &Shared<'a, L, G, R>, reaps: u32, places: &mut Vec<Report>, workers: &mut [Worker<L>])
+    requires workers { CanBeginWith shared.now workers.old }
+    requires places { AreReserved (length shared.now.jobs.now) places.old }
+    ensures workers { AreDoneWith shared.now workers.old workers.new }
+    ensures places { ArePlaces (length shared.now.jobs.now) places.new.items }
 {
     join_mut(
         shared.rt,
-        &mut || reap(shared, reaps),
+        &mut ||
+            requires { AreReserved (length shared.now.jobs.now) places.now }
+            ensures { ArePlaces (length shared.entry.now.jobs.now) places.exit.now.items }
+        { reap(shared, reaps, places) },
         &mut ||
             requires { IsSync R.row × IsSync G.row × CanBeginWith shared.now workers.now }
             ensures { AreDoneWith shared.entry.now workers.entry.now workers.exit.now }

@@ -1,11 +1,35 @@
 //! Reports, counted by their workers, and each in the place of its job.
 
 ghost use Rattle.std.specs.Prelude.{◌≡◌, Contains, map, ◌≤◌, ◌<◌, ◌+◌, ℕ, [], All, length, vec_len, vec_capacity, sum_by};
-ghost use Rattle.ebpf_pool.specs.Places.{HasExit, filled, times_in, weight, weight_of, AreFrom, IsIn};
+ghost use Rattle.ebpf_pool.specs.Places.{AreReserved, ArePlaces, HasExit, filled, times_in, weight, weight_of, AreFrom, IsIn};
 
 use crate::jobs::Numbered;
 use crate::ledgers::Puts;
-use ebpf_machine::report::Report;
+use ebpf_machine::report::{Answers, Output, Report, Taken};
+use std::alloc::Global;
+
+/// Makes a place for the report of each of so many jobs, for which there is memory. A report that has no exit is none.
+pub(crate) fn make_places(alloc: Global, count: usize, places: &mut Vec<Report>)
+    requires { AreReserved count places.old }
+    ensures { ArePlaces count places.new.items }
+{
+    for _place in 0..count {
+        places.push_reserved(Report {
+            exit: None,
+            output: Output {
+                numbers: Vec::new(alloc),
+            },
+            executed: 0,
+            answers: Answers {
+                replies: Vec::new(alloc),
+            },
+            taken: Taken {
+                bytes: Vec::new(alloc),
+            },
+            peak: 0,
+        });
+    }
+}
 
 /// Tells how many reports each worker made, in a list that has room for as many numbers.
 pub(crate) fn count_all(answered: &[Vec<Numbered>], counts: &mut Vec<u64>)

@@ -14,6 +14,7 @@ ghost use Rattle.ebpf_pool.specs.Bundles.{IsBundleSize, bundles_in};
 ghost use Rattle.ebpf_pool.specs.Books.{AreAllFor};
 ghost use Rattle.ebpf_pool.specs.Crews.{AreFresh};
 ghost use Rattle.ebpf_pool.specs.Settling.{Settles};
+ghost use Rattle.ebpf_pool.specs.Places.{AreReserved, ArePlaces};
 ghost use Rattle.ebpf_pool.specs.Sharing.{AreLeftIn, AreServedIn};
 ghost use Rattle.ebpf_pool.specs.Outcomes.{IsIdle, IsOutcome, AreIdleAgain, IsFaultOf};
 ghost use Rattle.ebpf_pool.specs.Working.{AreReady};
@@ -28,6 +29,7 @@ use crate::place::{count_all, place_all};
 use crate::setup::{Room, Setup};
 use crate::supply::{Blanks, Closing, Supplies};
 use crate::worker::{Ending, Shared, Worker};
+use ebpf_machine::report::Report;
 use owners_table::owners::{OwnerSeat, Owners};
 use std::alloc::{AllocError, Global};
 use std::marker::Brand;
@@ -122,6 +124,7 @@ fn run_in<L: Names + Send + Sync, G: Gate + Sync, R: Threads + Wait + Sync>(
         room,
         drawers,
         answered,
+        mut places,
         mut workers,
         supplies,
         hands,
@@ -132,18 +135,26 @@ fn run_in<L: Names + Send + Sync, G: Gate + Sync, R: Threads + Wait + Sync>(
         drawers,
         answered,
     };
-    let done = serve_all(given, &room, &supplies, &mut parts, &mut workers);
+    let done = serve_all(
+        given,
+        &room,
+        &supplies,
+        &mut parts,
+        &mut workers,
+        &mut places,
+    );
     workers.destroy_empty();
-    settle(given, room, supplies, parts, done)
+    settle(given, room, supplies, parts, places, done)
 }
 
-// Makes workers of the parts, lets them do all jobs, and takes them apart.
+// Makes workers of the parts, lets them do all jobs, with places made for the reports, and takes them apart.
 fn serve_all<L: Names + Send + Sync, G: Gate + Sync, R: Threads + Wait + Sync>(
     given: &Given<G, R>,
     room: &Room,
     supplies: &Supplies<L>,
     parts: &mut Parts<L>,
     workers: &mut Vec<Worker<L>>,
+    places: &mut Vec<Report>,
 ) -> Done
     requires ready { AreReady given.now.host.now.programs.items given.now.jobs.now }
     requires size { IsBundleSize room.now.size }
@@ -152,8 +163,10 @@ fn serve_all<L: Names + Send + Sync, G: Gate + Sync, R: Threads + Wait + Sync>(
     requires fresh { AreFresh given.now.owners.now room.now.tickets (length parts.old.seats.items) parts.old }
     requires none { workers.old.items ≡ [] }
     requires room { length parts.old.seats.items ≤ vec_capacity workers.old }
+    requires places { AreReserved (length given.now.jobs.now) places.old }
     ensures none { workers.new.items ≡ [] }
     ensures served { AreServedIn given.now.host.now given.now.jobs.now given.now.owners.now room.now parts.old.seats.items parts.new result }
+    ensures places { ArePlaces (length given.now.jobs.now) places.new.items }
 {
     let shared = Shared {
         rt: given.rt,
@@ -168,7 +181,7 @@ fn serve_all<L: Names + Send + Sync, G: Gate + Sync, R: Threads + Wait + Sync>(
         gate: given.gate,
     };
     recruit(&shared, parts, workers);
-    work_and_reap(&shared, given.reaps, workers.as_mut_slice());
+    work_and_reap(&shared, given.reaps, places, workers.as_mut_slice());
     dismiss(workers, parts)
 }
 
@@ -178,10 +191,11 @@ fn settle<L: Names, G: Gate, R: Wait>(
     mut room: Room,
     supplies: Supplies<L>,
     parts: Parts<L>,
+    places: Vec<Report>,
     done: Done,
 ) -> (Vec<OwnerSeat>, Result<Outcome, AllocError>)
-    requires left { AreLeftIn given.now.host.now given.now.jobs.now given.now.owners.now room supplies parts done }
-    ensures { Settles given.now.host.now.programs.items given.now.jobs.now given.now.owners.now room supplies parts done result.0.items result.1 }
+    requires left { AreLeftIn given.now.host.now given.now.jobs.now given.now.owners.now room supplies parts places.items done }
+    ensures { Settles given.now.host.now.programs.items given.now.jobs.now given.now.owners.now room supplies parts places.items done result.0.items result.1 }
 {
     let Parts {
         hands,
@@ -200,11 +214,10 @@ fn settle<L: Names, G: Gate, R: Wait>(
         return (seats, Err(AllocError));
     }
     count_all(&answered, &mut room.jobs_done);
-    place_all(&mut room.reports, answered);
+    let mut places = places;
+    place_all(&mut places, answered);
     let outcome = Outcome {
-        reports: Reports {
-            reports: room.reports,
-        },
+        reports: Reports { reports: places },
         totals,
         clashes: done.clashes,
         shelves,

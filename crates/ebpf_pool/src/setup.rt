@@ -1,6 +1,6 @@
 //! All that jobs need before there are workers: memory, tickets, supplies with their hands, and a list for workers.
 
-ghost use Rattle.std.specs.Prelude.{◌≡◌, ◌≤◌, ◌<◌, [], None, All, length, vec_len, vec_capacity, IfOk};
+ghost use Rattle.std.specs.Prelude.{◌≡◌, ◌≤◌, ◌<◌, [], All, length, vec_len, vec_capacity, IfOk};
 ghost use Rattle.owners_table.specs.Drawing.{fresh};
 ghost use Rattle.ebpf_pool.specs.Bundles.{IsBundleSize, IsShared, bundles_in};
 ghost use Rattle.ebpf_pool.specs.Books.{AreAllFor};
@@ -11,7 +11,7 @@ use crate::jobs::Numbered;
 use crate::ledgers::Names;
 use crate::supply::{Blanks, Supplies};
 use crate::worker::Worker;
-use ebpf_machine::report::{Answers, Output, Report, Taken};
+use ebpf_machine::report::Report;
 use object_cache::ArenaLock;
 use owners_table::tickets::{TicketSeat, Tickets};
 use std::alloc::{AllocError, Global};
@@ -23,15 +23,13 @@ pub(crate) const MAX_BUNDLE: u64 = 64;
 /// How many tickets there are for each worker, at least, where one stands for more than one job: so workers end together.
 pub(crate) const MIN_BUNDLES: u64 = 64;
 
-/// The arena and a ticket for each bundle of jobs; a place for the report of each job, where a report that has no exit is none; and
-/// room to say how many jobs each worker did.
+/// The arena and a ticket for each bundle of jobs, and room to say how many jobs each worker did.
 #[derive(Drop)]
 pub(crate) struct Room {
     pub(crate) arena: ArenaLock,
     /// How many jobs a bundle has; the last one may have fewer.
     pub(crate) size: u64,
     pub(crate) tickets: Tickets,
-    pub(crate) reports: Vec<Report>,
     pub(crate) jobs_done: Vec<u64>,
 }
 
@@ -47,7 +45,6 @@ impl Room {
         ensures size { IfOk result (λ r. IsBundleSize r.0.size) }
         ensures tickets { IfOk result (λ r. (r.0.tickets.limit ≡ bundles_in r.0.size jobs) × (r.0.tickets.seats ≡ workers)) }
         ensures drawers { IfOk result (λ r. (length r.1.items ≡ workers) × All (λ s. s ≡ fresh r.0.tickets.table r.0.tickets.limit) r.1.items) }
-        ensures reports { IfOk result (λ r. (length r.0.reports.items ≡ jobs) × All (λ p. p.exit ≡ None) r.0.reports.items) }
         ensures jobs_done { IfOk result (λ r. (r.0.jobs_done.items ≡ []) × (workers ≤ vec_capacity r.0.jobs_done)) }
     {
         let Ok(arena) = ArenaLock::new(alloc, pages) else {
@@ -59,7 +56,6 @@ impl Room {
             arena,
             size,
             tickets,
-            reports: blank_reports(alloc, jobs)?,
             jobs_done: Vec::with_capacity(alloc, workers)?,
         };
         Ok((room, drawers))
@@ -86,36 +82,13 @@ fn blank_lists(alloc: Global, count: usize) -> Result<Vec<Vec<Numbered>>, AllocE
     Ok(lists)
 }
 
-// That many reports of nothing.
-fn blank_reports(alloc: Global, count: usize) -> Result<Vec<Report>, AllocError>
-    ensures { IfOk result (λ v. (length v.items ≡ count) × All (λ p. p.exit ≡ None) v.items) }
-{
-    let mut reports = Vec::with_capacity(alloc, count)?;
-    for _report in 0..count {
-        reports.push_reserved(Report {
-            exit: None,
-            output: Output {
-                numbers: Vec::new(alloc),
-            },
-            executed: 0,
-            answers: Answers {
-                replies: Vec::new(alloc),
-            },
-            taken: Taken {
-                bytes: Vec::new(alloc),
-            },
-            peak: 0,
-        });
-    }
-    Ok(reports)
-}
-
 /// What workers are made of and work with, before there are any: for each a seat to draw tickets with, a list for its reports and
-/// its hands.
+/// its hands; and memory for a place for the report of each job.
 pub(crate) struct Setup<L: Names> {
     pub(crate) room: Room,
     pub(crate) drawers: Vec<TicketSeat>,
     pub(crate) answered: Vec<Vec<Numbered>>,
+    pub(crate) places: Vec<Report>,
     pub(crate) workers: Vec<Worker<L>>,
     pub(crate) supplies: Supplies<L>,
     pub(crate) hands: FreeHands<L>,
@@ -140,6 +113,7 @@ impl<L: Names> Setup<L> {
     {
         let (room, drawers) = Room::new(alloc, pages, count, jobs)?;
         let answered = blank_lists(alloc, count)?;
+        let places = Vec::with_capacity(alloc, jobs)?;
         let workers = Vec::with_capacity(alloc, count)?;
         let Ok((supplies, hands)) = Supplies::open(rt, alloc, &room.arena, count, blanks) else {
             workers.destroy_empty();
@@ -149,6 +123,7 @@ impl<L: Names> Setup<L> {
             room,
             drawers,
             answered,
+            places,
             workers,
             supplies,
             hands,

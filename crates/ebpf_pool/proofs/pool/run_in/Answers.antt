@@ -36,14 +36,14 @@ serve_all-done-requires-after_bounds g c κs within =
       omega arith,
       (
         record { known = c.requires.known; can = a.can; few = a.few_jobs },
-        (search rules, (search rules, (search rules, (search rules, (search rules, search rules))))),
+        (search rules, (search rules, (search rules, (search rules, (search rules, (search rules, search rules)))))),
       ),
     )
 
 -- what is left when the workers are done
 left : (g : Over) (c : After-destroy_empty g)
     → AreLeft c.args.given.now.host.now.programs.items c.args.given.now.jobs.now c.args.given.now.owners.now c.args.seats.items
-    c.in-Ok.setup.room c.in-Ok.setup.supplies c.serve_all-done.new.parts c.serve_all-done.result
+    c.in-Ok.setup.room c.in-Ok.setup.supplies c.serve_all-done.new.parts c.serve_all-done.new.places.items c.serve_all-done.result
 left g c =
     let a = admitted _ _ _ c.requires.fine in
     let some = a.some in
@@ -71,7 +71,7 @@ left g c =
       size = p.size;
       limit = search rules;
       tickets = search rules;
-      reports = search rules;
+      places_are = c.serve_all-done.ensures.places;
       jobs_done = search rules;
     }
 

@@ -36,8 +36,8 @@ pub place_all-requires-clause-inside : goal.place_all-requires-clause-inside
 place_all-requires-clause-inside g c =
     let can = c.requires.left.1 in
     let inside = answered_inside _ _ (reports_of c.args.parts) can.served.good in
-    let all = can.reports.0 in
-    let len : length c.args.given.now.jobs.now ≡ vec_len c.args.room.reports = search rules in
+    let all = can.places_are.0 in
+    let len : length c.args.given.now.jobs.now ≡ vec_len c.args.places = search rules in
     subst (λ k. All (All (λ (n : Numbered). n.job < k)) (reports_of c.args.parts)) len inside
 
 pub place_all-requires-clause-exited : goal.place_all-requires-clause-exited
@@ -53,7 +53,7 @@ place_all-requires-clause-once g c =
     let bundles = bundles_few c.args.room.size (length c.args.given.now.jobs.now) can.size.0 in
     let through : c.args.done.ending ≡ Through = search rules in
     let fits : NeverWraps c.args.room.tickets.limit c.args.room.tickets.seats = search rules in
-    placed_once _ _ _ _ _ _ _ _ through can.served (c.close-2.ensures.once fits) c.args.room.reports.items can.reports.1
+    placed_once _ _ _ _ _ _ _ _ through can.served (c.close-2.ensures.once fits) c.args.places.items can.places_are.1
 
 pub returns : goal.returns
 returns g c = λ before can.
@@ -78,10 +78,10 @@ returns g c = λ before can.
       strays = c.args.done.strays;
       jobs_done = c.count_all.new.counts;
     } in
-    let reports = can.reports.0 in
+    let reports = can.places_are.0 in
     let len : length c.place_all.new.places.items ≡ length c.args.given.now.jobs.now = search rules in
     let e = c.place_all.ensures in
-    let done = outcome _ _ _ _ _ _ _ _ through s (c.close-2.ensures.once fits) c.args.room.reports.items can.reports.1
+    let done = outcome _ _ _ _ _ _ _ _ through s (c.close-2.ensures.once fits) c.args.places.items can.places_are.1
     (λ x below. c.close-2.ensures.each fits all (s.through through) (bundle_of c.args.room.size x) (inside x below))
     c.place_all.new.places.items len e.filled e.weight e.from c.close.new.seats.items c.close.result.0 c.close.result.1 c.close.ensures made refl refl refl refl refl
     (c.count_all.ensures ∙ ap (map (λ l. vec_len l)) c.deref.ensures.value) in
