@@ -41,7 +41,7 @@ slots_of_words (word ∷ ws) = slots_of_word word
 abbrev pub slot_after : ℕ → List (List ℕ) → ℕ
 slot_after slot ws = if nat_lt MAX_SLOTS slot then slot else slot + slots_of_words (unlabelled ws)
 
--- a name, and the slot that it stands for
+-- a name, and the slot that it means
 pub record Named : Type 0 where
   pub name : List ℕ
   pub slot : ℕ

@@ -6,7 +6,7 @@ use thiserror::Error;
 /// What is wrong with a line.
 #[derive(Clone, Copy, Debug, Error)]
 pub enum LineFault {
-    /// The line begins with the slot of another instruction, or with a label that stands for another slot.
+    /// The line begins with the slot of another instruction, or with a label that means another slot.
     #[error("the slot or the label is that of another instruction")]
     WrongSlot,
     /// No instruction has these words.

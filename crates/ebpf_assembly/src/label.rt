@@ -18,7 +18,7 @@ use std::alloc::{AllocError, Global};
 // The most labels of a text: there are lines with a name by the hundred thousand, each of which is looked for.
 const MAX_LABELS: usize = 256;
 
-/// A name, and the slot that it stands for.
+/// A name, and the slot that it means.
 #[derive(Clone, Copy)]
 pub struct Label<'a> {
     pub name: &'a [u8],

@@ -57,7 +57,7 @@ pub Appends-front : (a b c : Option (List ℕ)) (place n : ℕ) (text : List ℕ
 Appends-front a b c place n text fits more h k =
     (subst (λ (zs : List ℕ). Appends a c zs) (sym (take_more place n text)) (Appends-more a b c _ _ h k), fits_more place n text fits more)
 
--- bytes were consumed, and some more, which stand at the front of a buffer
+-- bytes were consumed, and some more, which are at the front of a buffer
 pub Consumes-chunk : (a b c : Option (List ℕ)) (xs buf rest new : List ℕ) (n : ℕ) → n ≤ length buf → Consumes a b xs
     → Consumes b c (take n buf) → new ≡ xs ++ take n (buf ++ rest) → Consumes a c new × (length new ≡ length xs + n)
 Consumes-chunk a b c xs buf rest new n fits h k e =

@@ -7,7 +7,7 @@ abbrev pub bytes_or_none : Result (List ℕ) FromHexError → Option (List ℕ)
 bytes_or_none (Ok bytes) = Some bytes
 bytes_or_none (Err why) = None
 
--- the bytes that a text of hex digits stands for
+-- the bytes that a text of hex digits means
 abbrev pub hex_bytes : List ℕ → Option (List ℕ)
 hex_bytes text = bytes_or_none (decode_of text)
 
@@ -17,6 +17,6 @@ is_dash [] = false
 is_dash (c ∷ []) = c == 45
 is_dash (c ∷ d ∷ rest) = false
 
--- the same, where a lone `-` stands for no bytes
+-- the same, where a lone `-` means no bytes
 abbrev pub hex_or_dash : List ℕ → Option (List ℕ)
 hex_or_dash text = if is_dash text then Some [] else hex_bytes text

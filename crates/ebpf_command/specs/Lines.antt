@@ -14,6 +14,6 @@ fault_name UndefinedName = codes "S7"
 fault_name SecondArena = codes "S8"
 fault_name WrongContextLength = codes "S9"
 
--- the input or an option can't be used, for what stands on this line
+-- the input or an option can't be used, for what is on this line
 abbrev pub fault_line : FaultCode → ℕ → List ℕ
 fault_line code line = codes "fault " ++ (fault_name code ++ (codes " line " ++ (decimal line ++ codes "\n")))

@@ -31,6 +31,6 @@ abbrev pub WritesBeginning : Responding → (input old new : Option (List ℕ)) 
 WritesBeginning Responds input old new result =
     IfErr result (λ fault. IfSome input (λ all. fault ≡ Output → (response : Response) × Responds all response × AppendsBeginning old new response.text))
 
--- where it ends, what is read of the input is gone from the reader, and nothing behind it
+-- where it ends, what is read of the input is gone from the reader, and nothing after it
 abbrev pub Reads : (old new : Option (List ℕ)) → Result Done EngineFault → Type 0
 Reads old new result = IfOk result (λ done. IfSome old (λ input. Consumes old new (read_of input)))

@@ -6,7 +6,7 @@ ghost use Rattle.ebpf_command.specs.HexText.{hex_bytes, hex_or_dash, is_dash};
 use hex::FromHexError;
 use std::alloc::{AllocError, Global};
 
-/// The bytes that a text of hex digits stands for, in upper or lower case; `None` where it isn't readable. It fails only where
+/// The bytes that a text of hex digits means, in upper or lower case; `None` where it isn't readable. It fails only where
 /// an allocation fails.
 pub fn hex_bytes(alloc: Global, text: &[u8]) -> Result<Option<Vec<u8>>, AllocError>
     ensures value { IfOk result (λ r. option_map (λ v. v.items) r ≡ hex_bytes text.now) }
@@ -20,7 +20,7 @@ pub fn hex_bytes(alloc: Global, text: &[u8]) -> Result<Option<Vec<u8>>, AllocErr
     }
 }
 
-/// The same, where a lone `-` stands for no bytes. It fails only where an allocation fails.
+/// The same, where a lone `-` means no bytes. It fails only where an allocation fails.
 pub fn hex_or_dash(alloc: Global, text: &[u8]) -> Result<Option<Vec<u8>>, AllocError>
     ensures { IfOk result (λ r. option_map (λ v. v.items) r ≡ hex_or_dash text.now) }
 {

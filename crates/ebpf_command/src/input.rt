@@ -27,7 +27,7 @@ const CHUNK: usize = 4096;
 pub(crate) fn read_input<R: Read>(alloc: Global, reader: &mut R) -> Result<Vec<u8>, EngineFault>
     ensures read { IfOk result (λ bytes. IfSome (R.remaining reader.old) (λ input. bytes.items ≡ read_of input)) }
     ensures few { IfOk result (λ bytes. length bytes.items ≤ MAX_INPUT + 1) }
-    // What was read is gone from the reader, and nothing behind it.
+    // What was read is gone from the reader, and nothing after it.
     ensures consumed { IfOk result (λ bytes. Consumes (R.remaining reader.old) (R.remaining reader.new) bytes.items) }
     ensures err { IfErr result (λ e. e ≢ Output) }
 {

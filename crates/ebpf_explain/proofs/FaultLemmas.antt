@@ -12,7 +12,7 @@ pub told : {T E : Type 0} (r : Result T E) (before new : List ℕ) (i : Insn) (s
     → code ≡ which → OnOk r (new ≡ before ++ fault i s which decl rows) → OnOk r (new ≡ before ++ fault i s code decl rows)
 told r before new i s code which decl rows is h = subst (λ (c : VerifyCode). OnOk r (new ≡ before ++ fault i s c decl rows)) (sym is) h
 
--- the same of a text that was told of what is equal to what the code is about
+-- the same of a text that was written of what is equal to what the code is about
 pub told_as : {T E : Type 0} (r : Result T E) (before new text : List ℕ) (i : Insn) (s : StateView) (code which : VerifyCode) (decl : Decl)
     (rows : List KindRow)
     → code ≡ which → text ≡ fault i s which decl rows → OnOk r (new ≡ before ++ text) → OnOk r (new ≡ before ++ fault i s code decl rows)

@@ -15,12 +15,12 @@ unfolding texts_below
 one_text before text new here n text_of is h k =
     rw add-one (k ∙ (ap (λ (xs : List ℕ). text ++ xs) is ∙ (ap (λ (xs : List ℕ). xs ++ text_of n) h ∙ append_assoc before (texts_below n text_of) (text_of n))))
 
--- behind a text
+-- after a text
 pub pushed : {A E : Type 0} (result : Result A E) (text new here : List ℕ) → new ≡ cond (is_ok result) (text ++ here) text → OnOk result (new ≡ text ++ here)
 pushed (Ok _) text new here k = k
 pushed (Err _) text new here k = tt
 
--- behind two more texts
+-- after two more texts
 pub pushed_third : {A E : Type 0} (result : Result A E) (before one two new a b c : List ℕ) → one ≡ before ++ a → two ≡ one ++ b
     → new ≡ cond (is_ok result) (two ++ c) two → OnOk result (new ≡ before ++ (a ++ (b ++ c)))
 pushed_third (Ok _) before one two new a b c f g k =
@@ -35,7 +35,7 @@ pushed_behind_number result before one two new a n b c d f g k =
     ∙ ap (λ (xs : List ℕ). a ++ xs) (append_assoc n b (c ++ d)) in
     rw (← e) (pushed_third result before one two new (a ++ (n ++ b)) c d f g k)
 
--- behind two texts that were told, the last of which says what is equal to what is wanted
+-- after two texts that were written, the last of which says what is equal to what is wanted
 pub told_third : {A E : Type 0} (result : Result A E) (before one two new a b said wanted : List ℕ) → one ≡ before ++ a → two ≡ one ++ b → said ≡ wanted
     → OnOk result (new ≡ two ++ said) → OnOk result (new ≡ before ++ (a ++ (b ++ wanted)))
 told_third (Ok _) before one two new a b said wanted f g same k =

@@ -14,7 +14,7 @@ distance_text (Some slots) = offset_text slots
 abbrev pub jump_text : Insn → List ℕ
 jump_text i = distance_text (displacement_of i)
 
--- what is wrong with an instruction of a program that has so many slots, and how it is mended
+-- what is wrong with an instruction of a program that has that many slots, and how it is mended
 abbrev pub flow_words : Insn → ℕ → FlowCode → List ℕ
 flow_words i slots JumpOutside =
     codes "jumps " ++ (jump_text i ++ (codes " slots on, and the program has " ++ (decimal slots ++ codes " slots: let it lead to one of them")))

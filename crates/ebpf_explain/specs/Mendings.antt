@@ -57,7 +57,7 @@ plain_mending i PathsDiffer = codes "free what one path holds and the other does
 abbrev pub stack_ends : Ends
 stack_ends = record { low = negsuc 511; high = pos 0 }
 
--- so many bytes, from the first of them
+-- n bytes, from the first of them
 abbrev pub ends_of : ℕ → Ends
 ends_of size = record { low = pos 0; high = pos size }
 

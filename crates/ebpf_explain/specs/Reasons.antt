@@ -1,4 +1,4 @@
--- Why a slot of a program is refused, by what stands there and what comes there.
+-- Why a slot of a program is refused, by what is there and what comes there.
 use Rattle.std.specs.Prelude.{ℕ, List, [], length, Option, Some, None}
 use Rattle.ebpf_insn.specs.declared.insn.Insn.{Insn}
 use Rattle.ebpf_insn.specs.Program.{insn_at}

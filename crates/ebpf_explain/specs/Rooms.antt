@@ -22,7 +22,7 @@ pointer_ends (Ctx a b) = Some (record { low = a; high = b })
 pointer_ends (Ob call a b) = Some (record { low = a; high = b })
 pointer_ends _ = None
 
--- the offsets between some ends that have so many bytes, `on` bytes on, among others: from the first of these to the end
+-- the offsets between some ends that have n bytes, `on` bytes on, among others: from the first of these to the end
 abbrev pub room_among : Ends → ℤ → ℕ → Ends → Room
 room_among known on bytes among = record { low = int_max known.low (among.low -ℤ on); high = int_min known.high ((among.high -ℤ on) -ℤ pos bytes) }
 
@@ -38,7 +38,7 @@ abbrev pub room_of : Access → Ends → Ends → Room
 room_of a known among =
     if is_exact known then room_among offsets known.low (bytes_in a.size) among else room_among known a.offset (bytes_in a.size) among
 
--- the end of the access, if it is no more than the most, and the access begins at 0 or behind
+-- the end of the access, if it is no more than the most, and the access begins at 0 or after
 abbrev pub length_up_to : ℕ → (start end : ℤ) → Option ℕ
 length_up_to most start end = if int_le (pos 0) start && (int_le (pos 0) end && int_le end (pos most)) then Some (nat_abs end) else None
 
@@ -71,6 +71,6 @@ abbrev pub mended_from : Access → Option Ends → Ends → ℕ → List ℕ
 mended_from a None among most = codes "keep within it"
 mended_from a (Some known) among most = mended a.base (is_exact known) (room_of a known among) (length_for a known most)
 
--- of an access that may be outside of some bytes, where a context of so many at most may be declared in their place
+-- of an access that may be outside of some bytes, where a context of n at most may be declared in their place
 abbrev pub within : Access → StateView → Ends → ℕ → List ℕ
 within a s among most = mended_from a (pointer_ends (register_of s a.base)) among most

@@ -10,7 +10,7 @@ unfoldable pub texts_below : ℕ → (ℕ → List ℕ) → List ℕ
 texts_below zero text = []
 texts_below (suc n) text = texts_below n text ++ text n
 
--- where a word begins: so many bytes below the frame pointer
+-- where a word begins: n bytes below the frame pointer
 abbrev pub place_text : ℕ → List ℕ
 place_text number = codes "  [r10-" ++ (decimal (512 - 8 * number) ++ codes "] ")
 

@@ -7,7 +7,7 @@ use crate::hex::{write_byte, write_eight};
 use ebpf_insn::fault::DecodeCode;
 use std::alloc::AllocError;
 
-/// Writes behind a text why a slot of these bytes is refused, as a line: what is wrong with it, and the bytes where it
+/// Writes after a text why a slot of these bytes is refused, as a line: what is wrong with it, and the bytes where it
 /// shows. Bytes that aren't there count as zeros.
 ///
 /// # Errors

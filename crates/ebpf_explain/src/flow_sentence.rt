@@ -8,8 +8,8 @@ use ebpf_flow::fault::FlowCode;
 use ebpf_insn::insn::Insn;
 use std::alloc::AllocError;
 
-/// Writes behind a text why a slot is refused, as a line: its number, what is wrong with its instruction in a program of
-/// so many slots, and how that is mended.
+/// Writes after a text why a slot is refused, as a line: its number, what is wrong with its instruction in a program of
+/// n slots, and how that is mended.
 ///
 /// # Errors
 /// It fails only where an allocation fails, and some of the line may be written then.

@@ -1,4 +1,4 @@
-//! Bytes in hexadecimal digits, each written behind a text. Writing fails only where an allocation fails.
+//! Bytes in hexadecimal digits, each written after a text. Writing fails only where an allocation fails.
 
 ghost use Rattle.std.specs.Prelude.{◌≡◌, ◌<◌, ◌++◌, string_bytes, OnOk};
 ghost use Rattle.ebpf_explain.specs.Hex.{slot_byte, byte_digits, eight_digits};
@@ -35,7 +35,7 @@ pub(crate) fn write_byte(
     write!(text, "{byte:02x}")
 }
 
-// The same byte. Before it is looked for, its slot is: the place of one far behind the bytes may be no number.
+// The same byte. Before it is looked for, its slot is: the place of one far past the bytes may be no number.
 fn byte_of(bytes: &[u8], slot: usize, number: usize) -> u8
     requires { number < 16 }
     ensures { result ≡ slot_byte bytes.now slot number }

@@ -26,9 +26,9 @@ pub(crate) const REGISTERS: [Reg; 11] = [
     Reg::R10,
 ];
 
-/// Writes what a state knows behind a text: the registers that are set, the words of the stack of which something is known,
+/// Writes what a state knows after a text: the registers that are set, the words of the stack of which something is known,
 /// and the references that are held, each with two blanks before it. The rows have the names of the kinds; a kind without a
-/// row is told by its number.
+/// row is known by its number.
 ///
 /// # Errors
 /// It fails only where an allocation fails, and some of the words may be written then.

@@ -1,4 +1,4 @@
-//! What is lost where paths meet, in words, each written behind a text. Writing fails only where an allocation fails.
+//! What is lost where paths meet, in words, each written after a text. Writing fails only where an allocation fails.
 
 ghost use Rattle.std.specs.Prelude.{◌≡◌, ◌++◌, string_bytes, OnOk, Some, slice_get};
 ghost use Rattle.std.specs.List.{flat_map};

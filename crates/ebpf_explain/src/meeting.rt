@@ -1,4 +1,4 @@
-//! Why a slot is refused where paths meet that hold different objects, in words, each written behind a text. Writing fails only
+//! Why a slot is refused where paths meet that hold different objects, in words, each written after a text. Writing fails only
 //! where an allocation fails.
 
 ghost use Rattle.std.specs.Prelude.{◌≡◌, ◌++◌, string_bytes, OnOk, slice_get};

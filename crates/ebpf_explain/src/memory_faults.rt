@@ -1,4 +1,4 @@
-//! What a load or a store does that it may not, in words, each written behind a text. Writing fails only where an allocation
+//! What a load or a store does that it may not, in words, each written after a text. Writing fails only where an allocation
 //! fails.
 
 ghost use Rattle.std.specs.Prelude.{◌≡◌, ◌++◌, string_bytes, OnOk};

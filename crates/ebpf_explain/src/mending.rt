@@ -17,7 +17,7 @@ use std::alloc::AllocError;
 // The bytes of the stack, from the frame pointer.
 const STACK: Ends = Ends { low: -512, high: 0 };
 
-// Writes behind a text what would mend a slot: of an access that may be outside of something, by what is known of its base.
+// Writes after a text what would mend a slot: of an access that may be outside of something, by what is known of its base.
 pub(crate) fn write_mending(
     text: &mut String,
     insn: &Insn,

@@ -1,4 +1,4 @@
-//! Why a slot of a program is refused, by what stands there and what comes there.
+//! Why a slot of a program is refused, by what is there and what comes there.
 
 ghost use Rattle.std.specs.Prelude.{◌≡◌, ◌++◌, OnOk, string_bytes};
 ghost use Rattle.ebpf_verify.specs.Looked.{subject_of};
@@ -15,7 +15,7 @@ use ebpf_verify::fault::VerifyCode;
 use ebpf_verify::looked::Looked;
 use std::alloc::{AllocError, Global};
 
-/// Writes behind a text why the edges of a slot are refused, as [`write_flow_sentence`] does; nothing, where no instruction
+/// Writes after a text why the edges of a slot are refused, as [`write_flow_sentence`] does; nothing, where no instruction
 /// begins there.
 ///
 /// # Errors

@@ -1,4 +1,4 @@
-//! What is known of the registers, in words, each written behind a text. Writing fails only where an allocation fails.
+//! What is known of the registers, in words, each written after a text. Writing fails only where an allocation fails.
 
 ghost use Rattle.std.specs.Prelude.{◌≡◌, ◌++◌, string_bytes, OnOk};
 ghost use Rattle.std.specs.List.{flat_map};

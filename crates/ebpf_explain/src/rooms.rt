@@ -1,4 +1,4 @@
-//! How an access that may be outside of what its base points into is mended, in words, each written behind a text. Writing
+//! How an access that may be outside of what its base points into is mended, in words, each written after a text. Writing
 //! fails only where an allocation fails.
 
 ghost use Rattle.std.specs.Prelude.{◌≡◌, ◌^◌, ◌++◌, ◌+ℤ◌, ◌-ℤ◌, ◌≤ℤ◌, pos, negsuc, string_bytes, OnOk};
@@ -28,7 +28,7 @@ pub(crate) struct Room {
     high: i128,
 }
 
-// What mends an access that may be outside of these bytes, where a context of so many at most may be declared in their place.
+// What mends an access that may be outside of these bytes, where a context of n at most may be declared in their place.
 pub(crate) fn write_within(
     text: &mut String,
     access: Access,
@@ -86,7 +86,7 @@ fn room_of(access: Access, known: Ends, among: Ends) -> Room
     }
 }
 
-// The offsets between some ends that have so many bytes, `on` bytes on, among others.
+// The offsets between some ends that have n bytes, `on` bytes on, among others.
 fn room_among(known: Ends, on: i64, bytes: usize, among: Ends) -> Room
     ensures { result ≡ room_among known on bytes among }
 {
@@ -104,7 +104,7 @@ fn least(known: i64, first: i64, on: i64) -> i128
     if first < known { known } else { first }
 }
 
-// The greatest offset that is known, or the one from which so many bytes, `on` bytes on, end at the end.
+// The greatest offset that is known, or the one from which n bytes, `on` bytes on, end at the end.
 fn greatest(known: i64, end: i64, on: i64, bytes: usize) -> i128
     ensures { result ≡ int_min known ((end -ℤ on) -ℤ pos bytes) }
 {
@@ -122,7 +122,7 @@ fn moved_back(at: i64, by: i64) -> i128
     at as i128 - by as i128
 }
 
-// Where so many bytes begin that end there.
+// Where n bytes begin that end there.
 fn start_of(end: i128, bytes: usize) -> i128
     requires low { negsuc (2 ^ 64) ≤ℤ end }
     requires high { end ≤ℤ pos (2 ^ 64) }
@@ -155,7 +155,7 @@ fn moved_by(at: i64, by: i16) -> i128
     at as i128 + by as i128
 }
 
-// Where so many bytes end that begin there.
+// Where n bytes end that begin there.
 fn end_of(start: i128, bytes: usize) -> i128
     requires low { negsuc (2 ^ 64) ≤ℤ start }
     requires high { start ≤ℤ pos (2 ^ 64) }

@@ -1,4 +1,4 @@
-//! What is known of the stack, in words, each written behind a text. Writing fails only where an allocation fails.
+//! What is known of the stack, in words, each written after a text. Writing fails only where an allocation fails.
 
 ghost use Rattle.std.specs.Prelude.{◌≡◌, ◌<◌, ◌++◌, string_bytes, OnOk};
 ghost use Rattle.ebpf_explain.specs.StackWords.{texts_below, place_text, byte_text, set_text, bytes_word, stack_word, known_word};

@@ -22,7 +22,7 @@ use ebpf_verify::decl::Decl;
 use ebpf_verify::fault::VerifyCode;
 use std::alloc::AllocError;
 
-/// Writes behind a text why the instruction at a slot is refused, where this is known before it and this code is the reason:
+/// Writes after a text why the instruction at a slot is refused, where this is known before it and this code is the reason:
 /// what it does that it may not, and what would mend it. It is a line, which begins with two blanks. The rows have the sizes
 /// and the names of the kinds.
 ///

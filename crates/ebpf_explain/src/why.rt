@@ -21,7 +21,7 @@ use ebpf_verify::looked::Looked;
 use ebpf_verify::trace::trace_verdict;
 use std::alloc::{AllocError, Global};
 
-/// Writes behind a text why the bytes of a program are refused, as a line: the sentence of the first check that refuses them,
+/// Writes after a text why the bytes of a program are refused, as a line: the sentence of the first check that refuses them,
 /// for what is declared and with these kinds. Nothing is written of a program that is accepted.
 ///
 /// # Errors
@@ -65,7 +65,7 @@ fn write_why_program(
     }
 }
 
-/// Writes behind a text why the flow of the program that these bytes encode is refused at a slot, as a line. The program is
+/// Writes after a text why the flow of the program that these bytes encode is refused at a slot, as a line. The program is
 /// decoded once more, since the check of the flow keeps none that it refuses.
 ///
 /// # Errors

@@ -12,7 +12,7 @@ first_is_insn [] lt = absurd (omega arith)
 first_is_insn (insn.Wide dst value ∷ is) lt = refl
 first_is_insn (_ ∷ is) lt = refl
 
--- an instruction after which p stands, followed by an instruction if by anything
+-- an instruction after which p comes, followed by an instruction if by anything
 abbrev IsFollowed : List (Option Insn) → ℕ → Insn → Type 0
 IsFollowed p k i = insn_at p k ≡ Some i → k + slots_in i < length p → is_none (insn_at p (k + slots_in i)) ≡ false
 

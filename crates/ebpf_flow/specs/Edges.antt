@@ -19,7 +19,7 @@ displacement_of (insn.JumpFar offset) = Some offset
 displacement_of (insn.Branch width cond left right offset) = Some offset
 displacement_of _ = None
 
--- a number of no slot stands for none
+-- a number of no slot means none
 abbrev pub slot_of : ℤ → Option ℕ
 slot_of (pos n) = Some n
 slot_of (negsuc n) = None
@@ -34,7 +34,7 @@ target_of (Some z) slot = slot_of (pos slot +ℤ pos 1 +ℤ z)
 abbrev pub jump_of : Insn → ℕ → Option ℕ
 jump_of i slot = target_of (displacement_of i) slot
 
--- the edges of the instruction that stands at a slot; a second half has none
+-- the edges of the instruction that is at a slot; a second half has none
 abbrev pub edges_of : Option Insn → ℕ → Edges
 edges_of None slot = record { fall = None; jump = None }
 edges_of (Some i) slot = record { fall = fall_of i slot; jump = jump_of i slot }

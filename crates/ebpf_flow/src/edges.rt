@@ -62,7 +62,7 @@ pub fn displacement_of(insn: Insn) -> Option<i64>
     }
 }
 
-// The target of a jump by so many slots, or the first code that refuses it.
+// The target of a jump by n slots, or the first code that refuses it.
 #[inline(always)]
 fn target_from(program: &Program, slot: usize, displacement: i64) -> Result<u16, FlowCode>
     requires inside { slot < length program.now }

@@ -1,4 +1,4 @@
--- The stocks of all kinds, where one of them has changed: what is said of any object, of whatever kind.
+-- The stocks of all kinds, where one of them has changed: what is said of any object, of any kind.
 use Rattle.std.proofs.Common.{◌≡◌, ◌≢◌, ◌⊎◌, inl, inr, ℕ, ◌+◌, ◌<◌, ◌==◌, if◌then◌else◌, Bool, true, false, Option, Some, None, refl, sym, ap, ◌∙◌, subst, arith}
 use Rattle.std.specs.Prelude.{option_map, IfSome, IfNone}
 use Rattle.std.proofs.lemmas.Bool.{cases_eq}
@@ -46,7 +46,7 @@ module _ (old new : Stocks) (kind : ℕ) (stay : OthersStay old new kind) where
         subst (λ (k : ℕ). IsHeld (stock_of new k) (slot_of other)) (sym same) (here same (subst (λ (k : ℕ). IsHeld (stock_of old k) (slot_of other)) same held))
     by (inr apart) = subst (λ (s : StockView). IsHeld s (slot_of other)) (sym (stay (kind_of other) apart)) held
 
-  -- what stands on other shelves does so still
+  -- what is on other shelves is there still
   pub shelves_stay : (what : Option Shelved) (other : ℕ) → other ≢ kind → what ≡ standing_on old other → what ≡ standing_on new other
   shelves_stay what other apart stands = stands ∙ ap (λ (s : StockView). option_map (renumbered other) s.shelf) (sym (stay other apart))
 
@@ -107,7 +107,7 @@ module _ (old new : Stocks) (kind : ℕ) (stay : OthersStay old new kind) where
         (λ same was. t.others (slot_of other) was
         (λ slots. apart ((λ i. number_in (same i) (slots i)) ∙ ap (λ (k : ℕ). number_in k (slot_of o)) (sym of_kind))))
 
-  -- ---- an object, or nothing, is exchanged for what stands on the shelf
+  -- ---- an object, or nothing, is exchanged for what is on the shelf
 
   abbrev AreOfKind : Option Object → Type 0
   AreOfKind o = IfSome o (λ x. kind_of x ≡ kind)
@@ -128,7 +128,7 @@ module _ (old new : Stocks) (kind : ℕ) (stay : OthersStay old new kind) where
     abbrev Got : Option Object → Type 0
     Got got = Exchanges (stock_of old kind) (stock_of new kind) (option_map as_shelved given) (option_map as_shelved got)
 
-    -- what is got stood there
+    -- what is got was there
     pub got_fetched : (got : Option Object) → AreOfKind got → Got got → IfSome got (λ h. standing_on old kind ≡ Some (shelved_at (number_of h) (bytes_of h)))
     got_fetched None of_kind ex = tt
     got_fetched (Some h) of_kind ex = ap (option_map (renumbered kind)) (sym ex.got_is) ∙ renumbered_is (Some h) of_kind
@@ -162,7 +162,7 @@ module _ (old new : Stocks) (kind : ℕ) (stay : OthersStay old new kind) where
         off = subst (λ (s : Option Shelved). IfSome s (λ o. o.slot ≢ slot_of h)) (sym ex.given_is) (off given giving);
       }
 
-    -- what is given stands there, and is held no more
+    -- what is given is there, and is no longer held
     pub given_stands : (got : Option Object) → AreHeld given → Got got → option_map (λ g. shelved_at (number_of g) (bytes_of g)) given ≡ standing_on new kind
     given_stands got giving ex = sym (renumbered_is given (of_held given giving)) ∙ ap (option_map (renumbered kind)) (sym ex.given_is)
 

@@ -27,7 +27,7 @@ use Rattle.ebpf_host.specs.Stocks.{bytes_on, renumbered, shelf_bytes, standing_o
 
 -- ---- one instruction
 
--- what is said of all that may stand on a shelf is said of what an effect leaves there
+-- what is said of all that may be on a shelf is said of what an effect leaves there
 done_told : {N X Y : Type 0} (told : X → Y) (given_is : Option N → X) (as_told : Option N → Y)
     → ((given : Option N) → told (given_is given) ≡ as_told given) → (e : Effect N) (shelf : ℕ) (what : X)
     → told (shelf_done given_is e shelf what) ≡ shelf_done as_told e shelf (told what)
@@ -77,10 +77,10 @@ replies_more v result sound sized going = by (asks_of v (next_of v sound sized g
   by (ForObject kind asked new) = (one_told result, replies_added v result kind going new)
   by (ForShelf shelf asked swaps) = (one_swapped result, replies_swapped v result shelf going swaps)
 
--- ---- so many instructions
+-- ---- n instructions
 
 module _ {S H : Type 0} (o : Store S H) (first : S) (subject : Subject) (context : List ℕ) (shelf : ℕ) (stood : Option Shelved) where
-  -- what stands on a shelf after so many has the bytes that the run alone leaves there, whatever replies are behind its own
+  -- what is on a shelf after n has the bytes that the run alone leaves there, whatever replies are after its own
   record IsLeftSoFar (number : ℕ) (now : S) (r : RunState H) : Type 0 where
     what : Option Shelved
     stands : o.stand now shelf what
@@ -140,7 +140,7 @@ module _ {S H : Type 0} (o : Store S H) (first : S) (subject : Subject) (context
 
 -- ---- a run as a whole
 
--- what is left after the turns stands there once all that the run held is back
+-- what is left after the turns is there once all that the run held is back
 pub leaves : {S H : Type 0} (o : Store S H) (first before now : S) (subject : Subject) (context : List ℕ) (number : ℕ) (r t : RunState H) (report : Report)
     → ((s : S) → HaveSizes o s) → o.kinds ≡ kinds_of subject.rows → IsUnderWay o first first subject context r → r.executed ≡ 0
     → AreTurns o number r t first before → ShelvesStay o before now → report.executed ≡ t.executed

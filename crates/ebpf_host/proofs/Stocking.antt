@@ -9,7 +9,7 @@ pub one_at_most : {X : Type 0} (o : Option X) → one_if o ≤ 1
 one_at_most None = omega arith
 one_at_most (Some x) = omega arith
 
--- what stands on the shelf isn't in a slot that wasn't out
+-- what is on the shelf isn't in a slot that wasn't out
 off_shelf : (s : StockView) (slot : ℕ) → IfSome s.shelf (λ o. IsOut s.pages o.slot) → (IsOut s.pages slot → ⊥) → IfSome s.shelf (λ o. o.slot ≢ slot)
 off_shelf s slot standing free = by s.shelf standing where
   by : (x : Option Shelved) → IfSome x (λ o. IsOut s.pages o.slot) → IfSome x (λ o. o.slot ≢ slot)
@@ -41,7 +41,7 @@ gives_as old new slot same was moves counts = record {
   shelf = same;
 }
 
--- what stands on a shelf stays out when another slot is taken, and when a page is reaped
+-- what is on a shelf stays out when another slot is taken, and when a page is reaped
 pub stands_taken : {X : Type 0} (slot_of : X → ℕ) (shelf : Option X) (old new : Pages) (slot : ℕ) → TakesOut old new slot
     → IfSome shelf (λ o. IsOut old (slot_of o)) → IfSome shelf (λ o. IsOut new (slot_of o))
 stands_taken slot_of None old new slot taken standing = tt
@@ -53,7 +53,7 @@ pub stands_reaped : {X : Type 0} (slot_of : X → ℕ) (shelf : Option X) (old n
 stands_reaped slot_of None old new page removed idle standing = tt
 stands_reaped slot_of (Some o) old new page removed idle standing = removed.others (slot_of o) (λ same. idle (slot_of o) same standing) ∙ standing
 
--- what is said of the slot of what stands on a shelf, however it is told
+-- what is said of the slot of what is on a shelf, however it is named
 pub told : {X : Type 0} (shelf : Option X) (f : X → Shelved) (P : ℕ → Type 0) → IfSome shelf (λ o. P (f o).slot) → IfSome (option_map f shelf) (λ o. P o.slot)
 told None f P stands = tt
 told (Some o) f P stands = stands

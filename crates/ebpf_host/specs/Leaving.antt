@@ -1,4 +1,4 @@
--- What a run leaves on shelves, by what its program does alone. Only bytes are told: the run alone has other slots than a machine.
+-- What a run leaves on shelves, by what its program does alone. Only bytes are compared: the run alone has other slots than a machine.
 use Rattle.std.specs.Prelude.{◌≡◌, ◌==◌, ℕ, zero, suc, List, Option, Some, None, option_map}
 use Rattle.std.specs.List.{find}
 use Rattle.ebpf_verify.specs.Subject.{Subject}
@@ -20,7 +20,7 @@ abbrev pub left_by : Option RunView → ℕ → Option (List ℕ) → Option (Li
 left_by None shelf bytes = bytes
 left_by (Some v) shelf bytes = shelf_done (bytes_given v) (effect_of_view v) shelf bytes
 
--- the bytes on a shelf after so many instructions of the program alone, with these replies, where these were there at first
+-- the bytes on a shelf after n instructions of the program alone, with these replies, where these were there at first
 unfoldable pub left_after : ℕ → Subject → List ℕ → Replies → ℕ → Option (List ℕ) → Option (List ℕ)
 left_after zero s context replies shelf bytes = bytes
 left_after (suc n) s context replies shelf bytes = left_by (view_in (alone_after n s context replies).world 0) shelf (left_after n s context replies shelf bytes)
@@ -29,7 +29,7 @@ left_after (suc n) s context replies shelf bytes = left_by (view_in (alone_after
 abbrev pub left_in : Subject → List ℕ → Report → ℕ → Option (List ℕ) → Option (List ℕ)
 left_in s context r shelf bytes = left_after r.executed s context (replies_in r) shelf bytes
 
--- over a store: where it is known what stood on a shelf before the run, it is known what stands there after it, with these bytes
+-- over a store: where it is known what was on a shelf before the run, it is known what is there after it, with these bytes
 abbrev pub IsLeft : {S H : Type 0} → Store S H → (old new : S) → Subject → List ℕ → Report → Type 0
 IsLeft o old new s context r = (shelf : ℕ) (what : Option Shelved) → o.stand old shelf what → (now : Option Shelved) × o.stand new shelf now × (bytes_on now ≡ left_in s context r shelf (bytes_on what))
 

@@ -18,7 +18,7 @@ pub record AreDeclared (context held : ℕ) (decl : Decl) (rows : List KindRow) 
   pub held_is : decl.held ≡ held
   pub kinds : AreKinds rows
 
--- bytes are judged to be this, with so long a context and so many objects
+-- bytes are judged to be this, with a context of this length and n objects
 pub record IsJudgedWith (bytes : List ℕ) (context held : ℕ) (judged : Judged) : Type 0 where
   pub decl : Decl
   pub rows : List KindRow

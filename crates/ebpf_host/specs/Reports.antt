@@ -8,7 +8,7 @@ use Rattle.ebpf_machine.specs.View.{RunView, view_in}
 use Rattle.ebpf_machine.specs.World.{Going}
 use Rattle.ebpf_machine.specs.Whole.{IsReportOf}
 
--- after as many instructions as the report says, and with its replies, the run alone goes on, with the report's output; it held so many
+-- after as many instructions as the report says, and with its replies, the run alone goes on, with the report's output; it held that many
 -- objects at most
 pub record IsCutOff (s : Subject) (context : List ℕ) (r : Report) : Type 0 where
   pub run : RunView

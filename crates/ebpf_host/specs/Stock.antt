@@ -3,16 +3,16 @@ use Rattle.std.specs.Prelude.{◌≡◌, ◌≢◌, ◌+◌, ◌-◌, ℕ, List,
 use Rattle.slab_layer.specs.Slots.{Pages, IsOut, Has, AddsPage, out_count}
 pub use Rattle.ebpf_machine.specs.World.{Shelved}
 
--- where its slots are, and what stands on its shelf
+-- where its slots are, and what is on its shelf
 pub record StockView : Type 0 where
   pub pages : Pages
   pub shelf : Option Shelved
 
--- an object of a slot, with its bytes, as it stands on a shelf
+-- an object of a slot, with its bytes, as it is on a shelf
 abbrev pub shelved_at : ℕ → List ℕ → Shelved
 shelved_at slot bytes = record { slot = slot; bytes = bytes }
 
--- a run holds a slot: it is out of the slabs, and isn't that of what stands on the shelf
+-- a run holds a slot: it is out of the slabs, and isn't that of what is on the shelf
 pub record IsHeld (s : StockView) (slot : ℕ) : Type 0 where
   pub out : IsOut s.pages slot
   pub off : IfSome s.shelf (λ o. o.slot ≢ slot)
@@ -21,7 +21,7 @@ abbrev pub one_if : {X : Type 0} → Option X → ℕ
 one_if None = 0
 one_if (Some x) = 1
 
--- how many slots runs hold, counted from one on, since what stands on the shelf is out and held by none
+-- how many slots runs hold, counted from one on, since what is on the shelf is out and held by none
 abbrev pub held_count : StockView → ℕ
 held_count s = (out_count s.pages + 1) - one_if s.shelf
 
@@ -33,21 +33,21 @@ pub record Takes (old new : StockView) (slot : ℕ) : Type 0 where
   pub counted : held_count new ≡ held_count old + 1
   pub shelf : new.shelf ≡ old.shelf
 
--- a slot is held no more; the shelf stays
+-- a slot is no longer held; the shelf stays
 pub record Gives (old new : StockView) (slot : ℕ) : Type 0 where
   pub before : (x : ℕ) → IsHeld new x → IsHeld old x × (x ≢ slot)
   pub others : (x : ℕ) → IsHeld old x → x ≢ slot → IsHeld new x
   pub counted : held_count new + 1 ≡ held_count old
   pub shelf : new.shelf ≡ old.shelf
 
--- what is given stands on the shelf in place of what is got; the slabs stay
+-- what is given is on the shelf in place of what is got; the slabs stay
 pub record Exchanges (old new : StockView) (given got : Option Shelved) : Type 0 where
   pub got_is : got ≡ old.shelf
   pub given_is : new.shelf ≡ given
   pub pages : new.pages ≡ old.pages
   pub out : IfSome got (λ o. IsOut old.pages o.slot)
 
--- slabs have a page more, whose slots, so many of them, are home
+-- slabs have a page more, whose n slots are home
 pub record GrowsBy (old new : Pages) (objects : ℕ) : Type 0 where
   pub page : ℕ
   pub not_had : Has old page → ⊥

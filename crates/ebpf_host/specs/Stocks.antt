@@ -1,4 +1,4 @@
--- The objects of a machine: a stock of each kind, and what is said of an object of whatever kind there.
+-- The objects of a machine: a stock of each kind, and what is said of an object of any kind there.
 use Rattle.std.specs.Prelude.{◌≡◌, ◌≢◌, ◌+◌, ◌*◌, ℕ, ◌==◌, if◌then◌else◌, List, [], Option, Some, None, option_map}
 use Rattle.ebpf_object.specs.declared.object.Object.{Object}
 use Rattle.ebpf_object.specs.Object.{kind_of, slot_of, bytes_of}
@@ -20,7 +20,7 @@ OthersStay old new kind = (other : ℕ) → other ≢ kind → stock_of new othe
 abbrev pub Holds : Stocks → Object → Type 0
 Holds s o = IsHeld (stock_of s (kind_of o)) (slot_of o)
 
--- as it stands on the shelf of its kind
+-- as it is on the shelf of its kind
 abbrev pub as_shelved : Object → Shelved
 as_shelved o = shelved_at (slot_of o) (bytes_of o)
 
@@ -31,14 +31,14 @@ number_in kind slot = 3 * slot + kind
 abbrev pub number_of : Object → ℕ
 number_of o = number_in (kind_of o) (slot_of o)
 
--- what stands on the shelf of a kind, under that number
+-- what is on the shelf of a kind, under that number
 abbrev pub renumbered : ℕ → Shelved → Shelved
 renumbered kind o = shelved_at (number_in kind o.slot) o.bytes
 
 abbrev pub standing_on : Stocks → ℕ → Option Shelved
 standing_on s kind = option_map (renumbered kind) (stock_of s kind).shelf
 
--- the bytes of what stands on a shelf
+-- the bytes of what is on a shelf
 abbrev pub bytes_on : Option Shelved → Option (List ℕ)
 bytes_on what = option_map (λ o. o.bytes) what
 
@@ -50,7 +50,7 @@ shelf_bytes s kind = bytes_on (stock_of s kind).shelf
 abbrev pub held_of : Stocks → ℕ → ℕ
 held_of s kind = held_count (stock_of s kind)
 
--- what a call of swap is told: what stands on the shelf, or that nothing does
+-- what a call of swap is answered: what is on the shelf, or that nothing is
 abbrev pub StandsThere : Stocks → (shelf slot : ℕ) (bytes : List ℕ) → Type 0
 StandsThere s shelf slot bytes = standing_on s shelf ≡ Some (shelved_at slot bytes)
 

@@ -6,7 +6,7 @@
 //!
 //! What it promises: a loaded program is one that the verifier accepts, and a refusal is the verdict with its sentence; a report is that
 //! of the program alone with the answers that its calls got, whatever ran on the machine before; a run within a limit does as many
-//! instructions as it says; and what stands on the shelves afterwards is what the program alone leaves there. It stands on
+//! instructions as it says; and what is on the shelves afterwards is what the program alone leaves there. It rests on
 //! this: the store of a machine keeps the laws of `Objects` of ebpf_machine.
 //!
 //! To be read in this order: `refusal`, `program`, `stock`, `stocks`, `store`, `within`, `machine`.

@@ -37,7 +37,7 @@ impl Model for Machine {
 }
 
 impl Machine {
-    /// A machine whose objects lie on up to so many pages of 4,096 bytes, 1 to 256. A page is got when the first object on it is asked
+    /// A machine whose objects lie on up to n pages of 4,096 bytes, 1 to 256. A page is got when the first object on it is asked
     /// for.
     ///
     /// # Errors
@@ -77,7 +77,7 @@ impl Machine {
         ensures report { IfOk result (IsReportWithin program.now.verified context.now limit) }
         ensures length { OnOk result (length context.now ≡ program.now.verified.decl.context) }
         ensures refused { IfErr result (IsStartFault (length context.now) program.now.verified.decl.context) }
-        // What stands on the shelves afterwards is what the program alone leaves there.
+        // What is on the shelves afterwards is what the program alone leaves there.
         ensures shelves { IfOk result (AreLeft self.old self.new program.now.verified context.now) }
         ensures pages { self.new.arena.pages ≡ self.old.arena.pages }
         ensures unchanged { OnErr result (self.new ≡ self.old) }
@@ -121,7 +121,7 @@ impl Machine {
         }
     }
 
-    /// Gives the pages on which no object is held, and none stands on a shelf, back to the arena, where objects of any kind may get them.
+    /// Gives the pages on which no object is held, and none is on a shelf, back to the arena, where objects of any kind may get them.
     pub fn reap(&mut self)
         ensures shelves { (kind : ℕ) → (stock_of self.new kind).shelf ≡ (stock_of self.old kind).shelf }
         ensures pages { self.new.arena.pages ≡ self.old.arena.pages }

@@ -24,7 +24,7 @@ pub struct Program {
 
 impl Program {
     /// Loads the raw instruction slots of a program, eight bytes each, to be run on contexts of this many bytes, 0 to 4,096, with
-    /// at most so many objects held at one time, 0 to 64.
+    /// at most n objects held at one time, 0 to 64.
     ///
     /// # Errors
     /// `Declaration` where one of the two numbers is too large; `Refused` where the bytes are no program of which no run traps; `NoMemory`

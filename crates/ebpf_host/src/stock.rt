@@ -3,9 +3,9 @@
 //! *The idea* (Bonwick 1994, section 3). A machine serves one run at a time, so it needs no magazines and no locks: an object comes
 //! from the slabs and goes back to them. The slabs get their pages from the machine's arena.
 //!
-//! *The invariant.* What stands on the shelf is out of the slabs.
+//! *The invariant.* What is on the shelf is out of the slabs.
 //!
-//! *The reason.* So no call of `new` is granted the slot of what stands on the shelf, and it is there, with its bytes, for whatever
+//! *The reason.* So no call of `new` is granted the slot of what is on the shelf, and it is there, with its bytes, for whatever
 //! run takes it from there.
 
 ghost use Rattle.std.specs.Prelude.{◌≡◌, ◌/◌, ℕ, false, replicate, None, Option, option_map, IsTrue, IfSome, IfNone};
@@ -87,7 +87,7 @@ impl<K: Kind> Stock<K> {
         self.slabs.give(object.restore().retire());
     }
 
-    /// Exchanges what is given, if anything, for what stands on the shelf.
+    /// Exchanges what is given, if anything, for what is on the shelf.
     pub(crate) fn swap(&mut self, given: Option<Obj<K, Held>>) -> Option<Obj<K, Held>>
         requires { IfSome given (λ o. IsHeld self.old o.slot) }
         ensures { Exchanges self.old self.new (option_map (λ o. shelved_at o.slot o.bytes.items) given) (option_map (λ o. shelved_at o.slot o.bytes.items) result) }

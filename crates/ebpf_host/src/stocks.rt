@@ -83,7 +83,7 @@ impl Stocks {
         }
     }
 
-    /// Exchanges an object of a shelf's kind, or nothing, for what stands there.
+    /// Exchanges an object of a shelf's kind, or nothing, for what is there.
     pub(crate) fn swap(&mut self, shelf: u8, given: Option<Object>) -> Option<Object>
         requires shelf { shelf < length known_kinds }
         requires given { IfSome given (λ g. Holds self.old g × (kind_of g ≡ shelf)) }
@@ -109,7 +109,7 @@ impl Stocks {
         }
     }
 
-    /// Gives the pages that have nothing out back to the arena. What stands on the shelves stays there.
+    /// Gives the pages that have nothing out back to the arena. What is on the shelves stays there.
     pub(crate) fn reap(&mut self)
         ensures shelves { (kind : ℕ) → (stock_of self.new kind).shelf ≡ (stock_of self.old kind).shelf }
         ensures pages { self.new.arena.pages ≡ self.old.arena.pages }

@@ -23,4 +23,4 @@ ShelvesStay before after = (kind : ℕ) → (stock_of after kind).shelf ≡ (sto
 abbrev pub IsRunTold : Option Program → Option Stocks → Option Stocks → List ℕ → ℕ → List ℕ → List ℕ → Reported → Type 0
 IsRunTold program old new context limit room output told =
     MatchOption program ⊥ (λ p. MatchOption old ⊥ (λ before. MatchOption new ⊥ (λ after.
-        IsReportTold before after p.verified context limit room output told)))
+    IsReportTold before after p.verified context limit room output told)))

@@ -1,4 +1,4 @@
--- What C is told.
+-- What C is given.
 use Rattle.std.specs.Prelude.{◌≡◌, ℕ, Bool, true, false, ◌++◌, List, [], ◌∷◌, length, filter, take, drop, is_some, unwrap_or, string_bytes}
 use Rattle.ebpf_verify.specs.Subject.{Subject}
 use Rattle.ebpf_command.specs.Codes.{refusal_name}

@@ -17,7 +17,7 @@ use ebpf_machine::run::StartFault;
 use std::alloc::Global;
 use vmem_arena::ArenaFault;
 
-/// Makes a machine whose objects lie on up to so many pages, and frees what the handle held before.
+/// Makes a machine whose objects lie on up to n pages, and frees what the handle held before.
 #[unsafe(no_mangle)]
 pub extern "C" fn ebpf_machine_new(alloc: Global, machine: &mut MachineHandle, pages: u32) -> u32
     ensures made { result ≡ 0 → MatchOption machine.new.value ⊥ (λ m. (m.arena.pages ≡ pages) × ((kind : ℕ) → (stock_of m kind).shelf ≡ None)) }
@@ -46,7 +46,7 @@ pub extern "C" fn ebpf_machine_free(alloc: Global, machine: &mut MachineHandle)
     drop(machine.take(alloc));
 }
 
-/// Gives the pages of a machine on which there is no object that is held or stands on a shelf back to its arena.
+/// Gives the pages of a machine on which there is no object that is held or is on a shelf back to its arena.
 #[unsafe(no_mangle)]
 pub extern "C" fn ebpf_machine_reap(alloc: Global, machine: &mut MachineHandle) -> u32
     ensures told { MatchOption machine.old.value (result ≡ 5) (λ _. result ≡ 0) }
@@ -63,7 +63,7 @@ pub extern "C" fn ebpf_machine_reap(alloc: Global, machine: &mut MachineHandle) 
     }
 }
 
-/// Runs a program on a context, `limit` instructions at most, and tells what it did: by `report`, and its output by `output`, as far as
+/// Runs a program on a context, `limit` instructions at most, and reports what it did: by `report`, and its output by `output`, as far as
 /// there is room.
 #[unsafe(no_mangle)]
 pub extern "C" fn ebpf_machine_run(

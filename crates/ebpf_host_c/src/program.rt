@@ -12,7 +12,7 @@ use ebpf_host::program::Program;
 use ebpf_host::refusal::LoadFault;
 use std::alloc::Global;
 
-/// Loads a program, and frees what the handle held before. A refusal is told by `refused`, and its sentence by `text`, as far as there
+/// Loads a program, and frees what the handle held before. A refusal is reported by `refused`, and its sentence by `text`, as far as there
 /// is room.
 #[unsafe(no_mangle)]
 pub extern "C" fn ebpf_program_load(

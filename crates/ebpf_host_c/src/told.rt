@@ -1,4 +1,4 @@
-//! What C is told: why bytes are refused, and what a run did.
+//! What C is given: why bytes are refused, and what a run did.
 
 ghost use Rattle.std.specs.Prelude.{◌≡◌, [], ◌∷◌, filter, is_some, length, string_bytes, unwrap_or};
 ghost use Rattle.ebpf_machine.specs.Whole.{is_granted, is_null, is_fetched};
@@ -12,7 +12,7 @@ use ebpf_machine::report::{Reply, Report};
 #[repr(C)]
 #[derive(Drop)]
 pub struct Refused {
-    /// The letter of the stage that refuses them, `I`, `F` or `V`, and the digits behind it; zero where there is none.
+    /// The letter of the stage that refuses them, `I`, `F` or `V`, and the digits after it; zero where there is none.
     pub code: [u8; 4],
     /// The lowest slot that is at fault.
     pub slot: u32,

@@ -68,7 +68,7 @@ read_again i rest h = by_wide (λ j. IsDefined j → IsReadFrom j (slot_at (enco
 behind : (s : Slot) (rest : List ℕ) (n : ℕ) → drop (8 + n) (bytes_of_slot s ++ rest) ≡ drop n rest
 behind s rest n = sym (drop-drop n 8 (bytes_of_slot s ++ rest))
 
--- a slot further on, behind one that isn't the first of a wide instruction
+-- a slot further on, after one that isn't the first of a wide instruction
 shifted : (s : Slot) (rest : List ℕ) (k : ℕ) → (k ≡ 0 → eqb s.opcode (opcode_of Wide) ≡ false)
     → place_fault (bytes_of_slot s ++ rest) (suc k) ≡ place_fault rest k
 shifted s rest zero other = rw (other refl) refl
@@ -77,7 +77,7 @@ shifted s rest (suc k) other =
     let after : 8 * suc (suc k) ≡ 8 + (8 + 8 * k) = omega arith in
     rw (after, next, behind s rest (8 * k), behind s rest (8 + 8 * k)) refl
 
--- the places behind an instruction's bytes are those of the rest
+-- the places after an instruction's bytes are those of the rest
 pub places_after : (i : Insn) (rest : List ℕ) (k : ℕ) → IsDefined i → place_fault (encoding i ++ rest) (slots_in i + k) ≡ place_fault rest k
 places_after i rest k h = by_wide (λ j. IsDefined j → place_fault (encoding j ++ rest) (slots_in j + k) ≡ place_fault rest k)
     (λ dst value lt.

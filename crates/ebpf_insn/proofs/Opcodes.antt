@@ -1,4 +1,4 @@
--- The opcode of each form stands for that form, and every other number for none.
+-- The opcode of each form means that form, and every other number means none.
 use Rattle.std.proofs.Common.{rules, ◌≡◌, ◌⊎◌, if◌then◌else◌, ℕ, zero, suc, ◌/◌, ◌%◌, ◌<◌, Bool, true, false, cond, not, eqb, nat_lt, ◌&&◌, ◌||◌, ◌==◌, List, [], ◌∷◌, Option, Some, None, is_none, refl, sym, ap, ◌∙◌, arith, inl, inr}
 use Rattle.std.proofs.lemmas.Bool.{eqb-true, ne_eqb, and_parts, cases_lt}
 use Rattle.std.proofs.lemmas.Bool.Decides.{nat_tests}
@@ -46,7 +46,7 @@ holds_of P code n (b ∷ rest) a all e =
 
 -- ---- each form
 
--- a form that an opcode stands for
+-- a form that an opcode means
 abbrev pub IsForm : Form → Type 0
 IsForm (form.Alu width o operand) = unsigned_of o ≡ o
 IsForm (form.Load size signed) = has_load size signed ≡ true
@@ -106,7 +106,7 @@ form_again form.Exit h = refl
 pub form_found : (n : ℕ) (f : Form) → IsForm f → opcode_of f ≡ n → form_of n ≡ Some f
 form_found n f h e = ap form_of (sym e) ∙ form_again f h
 
--- the form that is found has this opcode, and is one that an opcode stands for
+-- the form that is found has this opcode, and is one that an opcode means
 pub opcode_is : (n : ℕ) (f : Form) → form_of n ≡ Some f → opcode_of f ≡ n
 unfolding form_of
 opcode_is n f e = code_is opcode_of n forms f e
@@ -137,7 +137,7 @@ is_form n f e = holds_of IsForm opcode_of n forms f (search rules) e
 pub alu_op_is : (n : ℕ) (o : AluOp) → alu_op_of n ≡ Some o → (alu_code o ≡ n) × (unsigned_of o ≡ o)
 alu_op_is n o e = (code_is alu_code n alu_ops o e, holds_of (λ k. unsigned_of k ≡ k) alu_code n alu_ops o (refl, (refl, (refl, (refl, (refl, (refl, (refl, (refl, (refl, (refl, (refl, (refl, tt)))))))))))) e)
 
--- ---- the numbers that stand for no form
+-- ---- the numbers that mean no form
 
 -- what each class asks for
 abbrev pub has_no_form : ℕ → Bool

@@ -37,7 +37,7 @@ defined_at (None ∷ p) (suc k) i all at = defined_at p k i all at
 defined_at (Some x ∷ p) zero i all at = let same : x ≡ i = cc in subst IsDefined same all.0
 defined_at (Some x ∷ p) (suc k) i all at = defined_at p k i all.1 at
 
--- an instruction stands at a slot of the program
+-- an instruction is at a slot of the program
 pub insn_at_within : (p : List (Option Insn)) (k : ℕ) (i : Insn) → insn_at p k ≡ Some i → k < length p
 insn_at_within [] k i at = absurd (cc)
 insn_at_within (o ∷ p) zero i at = omega arith

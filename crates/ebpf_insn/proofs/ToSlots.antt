@@ -281,7 +281,7 @@ first_fits insn.Exit h = fits_slot form.Exit _ _ _ _ _ (form_again form.Exit tt)
 pub second_fits : (value : ℕ) → value < 2 ^ 64 → FitsSlot (second_half (value / 2 ^ 32))
 second_fits value lt = record { opcode = omega arith; dst = omega arith; src = omega arith; offset = omega arith; imm = omega arith }
 
--- ---- the form of an instruction is one that an opcode stands for
+-- ---- the form of an instruction is one that an opcode means
 
 unsigned_again : (o : AluOp) → unsigned_of (unsigned_of o) ≡ unsigned_of o
 unsigned_again op.Add = refl

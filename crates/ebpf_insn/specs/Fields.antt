@@ -48,7 +48,7 @@ abbrev pub leaves_unused_zero : Form → Slot → Bool
 leaves_unused_zero f s =
     ((uses f).dst || s.dst == 0) && ((uses f).src || s.src == 0) && ((uses f).offset || s.offset == 0) && ((uses f).imm || s.imm == 0)
 
--- calls within a program and by the numbers of BTF; wide loads of what stands for a map, a variable or code
+-- calls within a program and by the numbers of BTF; wide loads of a map, a variable or code
 abbrev pub has_left_out_source : Form → ℕ → Bool
 has_left_out_source form.Call src = nat_le 1 src && nat_le src 2
 has_left_out_source form.Wide src = nat_le 1 src && nat_le src 6

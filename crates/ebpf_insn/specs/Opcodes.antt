@@ -92,7 +92,7 @@ opcode_of form.Exit = 0x95
 abbrev pub left_out : List ℕ
 left_out = 0x20 ∷ 0x28 ∷ 0x30 ∷ 0x40 ∷ 0x48 ∷ 0x50 ∷ 0xc3 ∷ 0xdb ∷ 0x8d ∷ []
 
--- ---- all forms. A division, a remainder and a move from a register stand for their signed kinds too.
+-- ---- all forms. A division, a remainder and a move from a register mean their signed kinds too.
 
 abbrev pub alu_ops : List AluOp
 alu_ops = op.Add ∷ op.Sub ∷ op.Mul ∷ op.Div ∷ op.Or ∷ op.And ∷ op.Lsh ∷ op.Rsh ∷ op.Rem ∷ op.Xor ∷ op.Mov ∷ op.Arsh ∷ []
@@ -120,7 +120,7 @@ forms =
     map (λ size. form.Load size true) (W ∷ H ∷ B ∷ []) ++
     on_both (λ operand. map (λ size. form.Store size operand) sizes)
 
--- ---- what a number stands for
+-- ---- what a number means
 
 -- the first of these that has the code
 abbrev pub with_code : {A : Type 0} → (A → ℕ) → ℕ → List A → Option A

@@ -108,7 +108,7 @@ fn decode_slot(slot: Slot, bytes: &[u8]) -> Result<Insn, DecodeCode>
     }
 }
 
-// The same, where this is the opcode's form. Each class has its own copy, in which little is left to be told apart.
+// The same, where this is the opcode's form. Each class has its own copy, in which little is left to tell apart.
 #[inline(always)]
 fn decode_form(form: Option<Form>, slot: Slot, bytes: &[u8]) -> Result<Insn, DecodeCode>
     requires { form ≡ form_of slot.opcode }

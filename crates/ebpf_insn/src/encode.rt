@@ -56,7 +56,7 @@ fn first_slot(insn: Insn) -> Slot
     }
 }
 
-// What stands in the field dst: the number of a register, or 0.
+// What is in the field dst: the number of a register, or 0.
 fn dst_of(insn: Insn) -> usize
     ensures value { result ≡ (first_slot insn).dst }
     ensures bound { result < 16 }
@@ -74,7 +74,7 @@ fn dst_of(insn: Insn) -> usize
     }
 }
 
-// What stands in the field src: the number of a register, or 0.
+// What is in the field src: the number of a register, or 0.
 fn src_of(insn: Insn) -> usize
     ensures value { result ≡ (first_slot insn).src }
     ensures bound { result < 16 }
@@ -88,7 +88,7 @@ fn src_of(insn: Insn) -> usize
     }
 }
 
-// What stands in the field offset.
+// What is in the field offset.
 fn offset_of(insn: Insn) -> u16
     ensures { result ≡ (first_slot insn).offset }
 {
@@ -103,7 +103,7 @@ fn offset_of(insn: Insn) -> u16
     }
 }
 
-// What stands in the field imm.
+// What is in the field imm.
 fn imm_of(insn: Insn) -> u32
     ensures { result ≡ (first_slot insn).imm }
 {
@@ -195,7 +195,7 @@ fn sign_offset(op: AluOp) -> u16
     }
 }
 
-// Where a second operand stands in a slot, and the fields that hold it.
+// Where a second operand is in a slot, and the fields that hold it.
 fn operand_of(source: Source) -> Operand
     ensures { result ≡ operand_of source }
 {

@@ -9,7 +9,7 @@ use thiserror::Error;
 pub enum DecodeCode {
     /// `I1`: there are no bytes, or their number is no multiple of 8. It is reported at slot 0, before all else.
     WrongLength,
-    /// `I2`: the opcode stands for no instruction.
+    /// `I2`: the opcode means no instruction.
     UnknownOpcode,
     /// `I3`: a register nibble is above 10, whether the instruction reads it or not.
     UnknownRegister,

@@ -53,7 +53,7 @@ fn leaves_source_zero(operand: Operand, slot: Slot) -> bool
 }
 
 // Whether src makes a call or a wide load one of the forms that are left out: calls within a program and by the numbers of
-// BTF, and loads of what stands for a map, a variable or code.
+// BTF, and loads of a map, a variable or code.
 #[inline(always)]
 pub(crate) fn has_left_out_source(form: Form, src: u8) -> bool
     ensures { result ≡ has_left_out_source form src }
@@ -86,7 +86,7 @@ pub(crate) fn has_defined_fields(form: Form, slot: Slot) -> bool
     }
 }
 
-// Whether there is a sign-extending move of so many bits.
+// Whether there is a sign-extending move of n bits.
 #[inline(always)]
 fn is_move_of(width: Width, bits: u16) -> bool
     ensures { result ≡ is_move_of width bits }
@@ -94,7 +94,7 @@ fn is_move_of(width: Width, bits: u16) -> bool
     bits == 8 || bits == 16 || (bits == 32 && matches!(width, Width::W64))
 }
 
-// Whether there is a byte swap of so many bits.
+// Whether there is a byte swap of n bits.
 #[inline(always)]
 fn is_swap_of(bits: u32) -> bool
     ensures { result ≡ is_swap_of bits }

@@ -16,7 +16,7 @@ pub enum Width {
 impl Width {
     ghost use Rattle.ebpf_insn.specs.Arithmetic.{immediate};
 
-    /// The number that an immediate stands for: at 64 bits it is sign-extended, at 32 it keeps its own bits (RFC 9669,
+    /// The number that an immediate means: at 64 bits it is sign-extended, at 32 it keeps its own bits (RFC 9669,
     /// section 4.1).
     pub fn immediate(self, imm: i32) -> u64
         ensures { result ≡ immediate self imm }

@@ -19,7 +19,7 @@ pub(crate) enum Operand {
     Register,
 }
 
-// What an opcode stands for, before the other fields of its slot are looked at.
+// What an opcode means, before the other fields of its slot are looked at.
 #[derive(Clone, Copy)]
 pub(crate) enum Form {
     // An operation on two operands. The offset makes a division or a remainder a signed one, and a move from a register a
@@ -59,7 +59,7 @@ pub(crate) enum Form {
     Exit,
 }
 
-// The class LD. For each class this is the form of an opcode, or `None` where it stands for no instruction of ours.
+// The class LD. For each class this is the form of an opcode, or `None` where it means no instruction of ours.
 #[inline(always)]
 pub(crate) fn wide_form(opcode: u8) -> Option<Form>
     requires { opcode % 8 ≡ 0 }

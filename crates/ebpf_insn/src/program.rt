@@ -36,7 +36,7 @@ impl Model for Program {
 }
 
 impl Program {
-    /// The program of these slots, which hold so many instructions.
+    /// The program of these slots, which hold n instructions.
     pub fn new(slots: Vec<Option<Insn>>, len: usize) -> Program
         requires formed { IsWellFormed slots.items }
         requires count { len ≡ length (instructions slots.items) }

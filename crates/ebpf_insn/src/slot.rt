@@ -6,7 +6,7 @@ ghost use Rattle.ebpf_insn.specs.Slot.{slot_at, bytes_of_slot};
 use byteorder::{ByteOrder, LittleEndian};
 use std::alloc::AllocError;
 
-// The fields of a slot, as unsigned numbers (RFC 9669, section 3.1). The registers are the nibbles as they stand, 0 to
+// The fields of a slot, as unsigned numbers (RFC 9669, section 3.1). The registers are the nibbles as they are, 0 to
 // 15; a signed field is cast where an instruction is made of it.
 #[derive(Clone, Copy)]
 pub(crate) struct Slot {

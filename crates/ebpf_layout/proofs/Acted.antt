@@ -16,7 +16,7 @@ use Rattle.ebpf_machine.proofs.World.Telling.{act_told}
 use Rattle.ebpf_machine.proofs.World.Projection.{with_value-told}
 use Rattle.ebpf_layout.proofs.Renamed.{AreApart, placed, object_placed, laid_view, same_names}
 
--- an act took a run to a slot, and the run in the new program to another; or both were trapped where they stood
+-- an act took a run to a slot, and the run in the new program to another; or both were trapped where they were
 abbrev pub Follows : List (Option Insn) → (ℕ → ℕ) → ℕ → ℕ → ℕ → RunView → RunView → RunView → Type 0
 Follows q place executed to there v now new =
     ((now.pc ≡ to) × (now.status ≡ v.status) × (new ≡ record (laid_view q place executed now) { pc = there }))
@@ -61,9 +61,9 @@ pushed_placed : (place : ℕ → ℕ) (objects : List ObjectView) (o : ObjectVie
 pushed_placed place [] o = refl
 pushed_placed place (x ∷ objects) o = ap (λ (os : List ObjectView). object_placed place x ∷ os) (pushed_placed place objects o)
 
--- ---- what a call is told
+-- ---- what a call is answered
 
--- a run that goes on behind a call, with these objects and bytes taken
+-- a run that goes on after a call, with these objects and bytes taken
 abbrev told_on : CallResult → Value ℕ → ℕ → Frame ℕ → List ObjectView → List ℕ → RunView → RunView
 told_on result value to frame objects taken v = record (replied result value to frame v) { objects = objects; taken = taken }
 

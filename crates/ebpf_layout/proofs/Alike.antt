@@ -43,7 +43,7 @@ first_placed p q place decl rows context first =
 
 -- ---- instruction by instruction
 
--- the run in the new program, after so many instructions, is the run in the old one, after so many
+-- the run in the new program, after some number of instructions, is the run in the old one, after n
 pub record IsPaired (p q : List (Option Insn)) (place : ℕ → ℕ) (told : ℕ → CallResult) (old new : RunView) (n : ℕ) : Type 0 where
   pub steps : ℕ
   pub least : n ≤ steps
@@ -59,7 +59,7 @@ over_or_going Going = inr refl
 over_or_going (Exited n) = inl (λ w result e. ap (λ (s : Status). stepped_from s result w) e)
 over_or_going (Trapped trap) = inl (λ w result e. ap (λ (s : Status). stepped_from s result w) e)
 
--- one instruction of the old program, and so many more of the new
+-- one instruction of the old program, and n more of the new
 next_by : (p q : List (Option Insn)) (place : ℕ → ℕ) (told : ℕ → CallResult) (old new now : RunView) (n steps executed : ℕ)
     → suc n ≤ steps → steps ≤ 2 * suc n → run_on (suc n) told old ≡ now
     → run_on steps told new ≡ laid_view q place executed now → now.subject.program ≡ p → IsReached p now.pc → IsPaired p q place told old new (suc n)

@@ -81,7 +81,7 @@ forward_at q k to (Some i) h at edge =
 pub forward : (q : List (Option Insn)) (k to : ℕ) → JumpsForward q → IsEdge q k to → k < to
 forward q k to h edge = forward_at q k to (insn_at q k) h refl edge
 
--- ---- and all that stands in it is reached
+-- ---- and all that is in it is reached
 
 next_reached : (p q : List (Option Insn)) (from to : ℕ) → (l : IsLaidOut p q) → JumpsForward q → IsReached p from
     → is_reached q (l.place from) ≡ true → IsEdge p from to → is_reached q (l.place to) ≡ true
@@ -181,7 +181,7 @@ record IsWhole (p : List (Option Insn)) : Type 0 where
   pub fine : (k : ℕ) → IsReached p k → faults.edge_fault_at p k ≡ None
   pub there : (k : ℕ) → IsReached p k → is_none (insn_at p k) ≡ false
 
--- where a reached slot stands is an instruction
+-- an instruction is where a reached slot is
 place_there : (p q : List (Option Insn)) (slot : ℕ) → (l : IsLaidOut p q) → IsWhole p → IsReached p slot → is_none (insn_at q (l.place slot)) ≡ false
 place_there p q slot l w reached =
     let i = ordered_insn p slot (insn_at p slot) refl (w.there slot reached) in

@@ -380,12 +380,12 @@ all_placed p marks order slot first h =
       there = λ k slot e. absurd (none-some slot e);
     }
 
--- ---- the instruction that stands right before a slot
+-- ---- the instruction that comes right before a slot
 
 second_of : (j i : Insn) (p : List (Option Insn)) → slots_in j ≡ 1 → insn_at (Some j ∷ p) 0 ≡ Some i → slots_in i ≡ 2 → ⊥
 second_of j i p one at two = let same : j ≡ i = cc in let wide : slots_in j ≡ 2 = ap slots_in same ∙ two in omega arith
 
--- what stands behind a wide instruction is its second half
+-- what comes after a wide instruction is its second half
 second_half : (is : List Insn) (k : ℕ) (i : Insn) → insn_at (flat_map placed is) k ≡ Some i → slots_in i ≡ 2 → insn_at (flat_map placed is) (k + 1) ≡ None
 second_half [] k i at two = absurd (none-some i at)
 second_half (insn.Wide dst value ∷ is) zero i at two = refl

@@ -1,4 +1,4 @@
--- Where what was reached stands in the new program.
+-- Where what was reached is in the new program.
 use Rattle.std.proofs.Common.{◌≡◌, ℕ, ◌+◌, ◌-◌, ◌<◌, ℤ, pos, List, [], ◌∷◌, length, get_or, Option, Some, None, refl, sym, ap, ◌∙◌, subst, arith, inl, inr, ◌⊎◌}
 use Rattle.std.specs.Prelude.{slice_get, reverse}
 use Rattle.std.proofs.lemmas.Bool.{cases_order}
@@ -70,7 +70,7 @@ all_in p marks order slot h fine reached =
     let zero = last_in p marks order h in
     led_fine p marks order h fine 0 reached.steps slot zero.0 zero.1 reached.lead
 
--- where what was at a slot stands; what was not reached has a place of its own behind the code
+-- where what was at a slot is; what was not reached has a place of its own after the code
 abbrev place_of : Mark → List ℕ → List (Option Insn) → ℕ → ℕ
 place_of (Done n) places code slot = length code - 1 - get_or places n 0
 place_of _ places code slot = length code + slot
@@ -88,7 +88,7 @@ place_is p marks order places code count slot at d s =
     let there : length code - 1 - get_or places s.number 0 + at + 1 ≡ length code = omega arith in
     rw done there
 
--- what was reached, with where it stands
+-- what was reached, with where it is
 pub record Stands (p : List (Option Insn)) (marks : List Mark) (order places : List ℕ) (code : List (Option Insn)) (slot : ℕ) : Type 0 where
   pub at : ℕ
   pub stands : StandsAt order places slot at
@@ -211,7 +211,7 @@ laid_apart p marks order places code count a b d x y same =
       | inr (inr after) ↦ absurd (omega (arith, d.writing.written.rising n m y.at x.at after y.stands.placed x.stands.placed))
     ]
 
--- a slot that was done stands somewhere, and any other has a place behind the code
+-- a slot that was done is somewhere, and any other has a place after the code
 place_cases : (p : List (Option Insn)) (marks : List Mark) (order places : List ℕ) (code : List (Option Insn)) (count slot : ℕ)
     → IsDone p marks order places code count
     → (mark : Mark) → mark_at marks slot ≡ mark → Stands p marks order places code slot ⊎ (place_in marks places code slot ≡ length code + slot)
@@ -234,7 +234,7 @@ all_apart p marks order places code count a b d same =
       ]
     ]
 
--- what the branch before a jump that was added leads to stands between that jump and where it leads
+-- what the branch before a jump that was added leads to is between that jump and where it leads
 laid_between : (p : List (Option Insn)) (marks : List Mark) (order places : List ℕ) (code : List (Option Insn)) (count k at : ℕ)
     → IsDone p marks order places code count → k + at + 1 ≡ length code
     → (a : IsAddedAt p order places code at) → JumpsBetween p (place_in marks places code) a.slot k (place_in marks places code a.to)

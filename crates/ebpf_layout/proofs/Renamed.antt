@@ -1,4 +1,4 @@
--- A run as it sees itself, and the same run in the new program: its objects are named by where the calls stand now.
+-- A run as it sees itself, and the same run in the new program: its objects are named by where the calls are now.
 use Rattle.std.proofs.Common.{◌≡◌, ℕ, Bool, true, false, cond, List, [], ◌∷◌, Option, Some, None, refl, sym, ap, ◌∙◌, inl, inr}
 use Rattle.std.specs.Prelude.{map, ◌==◌, option_map}
 use Rattle.std.specs.List.{find}
@@ -15,14 +15,14 @@ use Rattle.ebpf_machine.proofs.World.Projection.{IsToldAs}
 abbrev pub AreApart : (ℕ → ℕ) → Type 0
 AreApart place = (a b : ℕ) → place a ≡ place b → a ≡ b
 
--- names are told by places, and nothing is hidden
+-- names are given by places, and nothing is hidden
 abbrev pub placed : (ℕ → ℕ) → Telling ℕ ℕ
 placed place = record { name = place; hides = false }
 
 abbrev pub object_placed : (ℕ → ℕ) → ObjectView → ObjectView
 object_placed place o = record { call = place o.call; kind = o.kind; bytes = o.bytes }
 
--- the run in the new program, after so many instructions
+-- the run in the new program, after n instructions
 abbrev pub laid_view : List (Option Insn) → (ℕ → ℕ) → ℕ → RunView → RunView
 laid_view q place executed v = record {
   subject = record { program = q; decl = v.subject.decl; rows = v.subject.rows };

@@ -312,7 +312,7 @@ search_close p marks path order at slot h long top jump fall inside =
       there = λ k s e. h.there k s (get_from_take at path k s e).1;
     }
 
--- ---- where the search stands
+-- ---- where the search is
 
 insn_inside : (p : List (Option Insn)) (k : ℕ) (o : Option Insn) → insn_at p k ≡ o → is_none o ≡ false → k < length p
 insn_inside p k None at there = absurd (cc)

@@ -1,4 +1,4 @@
--- One instruction of the old program is one of the new program, or two where a jump was added behind it.
+-- One instruction of the old program is one of the new program, or two where a jump was added after it.
 use Rattle.std.proofs.Common.{◌≡◌, ℕ, ◌+◌, ℤ, List, Option, Some, None, refl, sym, ap, subst, ◌∙◌, inl, inr, ◌⊎◌}
 use Rattle.std.proofs.lemmas.Option.{none-some, same_Some}
 use Rattle.ebpf_insn.specs.declared.insn.Insn.{Insn}
@@ -52,7 +52,7 @@ both_jump p q laid slot i z reached at there d jumps =
     let edge = jump_edge p slot i to.0 at to.1 in
     (to.0, laid.place to.0, to.1, jump_of_edge q (laid.place slot) (moved i z) (laid.place to.0) there (laid.jumps slot to.0 reached edge))
 
--- ---- effects that are told by places
+-- ---- effects that are given by places
 
 was_ended : (place : ℕ → ℕ) (e : Effect ℕ) (n : ℕ) → effect_told (placed place) e ≡ Ends n → e ≡ Ends n
 was_ended place (Goes act to frame) n same = absurd (cc)
@@ -64,7 +64,7 @@ was_trapped place (Goes act to frame) trap same = absurd (cc)
 was_trapped place (Ends m) trap same = absurd (cc)
 was_trapped place (Traps other) trap same = ap Traps (sym (trap_kept place other)) ∙ same
 
--- it went on, with an act and a frame that are told so
+-- it went on, with an act and a frame that are given so
 pub record Went (place : ℕ → ℕ) (e : Effect ℕ) (act : Act ℕ) (to : ℕ) (frame : Frame ℕ) : Type 0 where
   pub acts : Act ℕ
   pub left : Frame ℕ

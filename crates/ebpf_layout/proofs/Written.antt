@@ -129,7 +129,7 @@ has_stands p marks order places slot place h has = record {
   placed = has.placed;
 }
 
--- ---- what is written behind an instruction
+-- ---- what is written after an instruction
 
 no_jump : (code : List (Option Insn)) (way : ℕ) → way ≡ 0 → with_jump code way ≡ code
 no_jump code way e = rw e refl
@@ -166,7 +166,7 @@ half_old behind (insn.Wide dst value) k j e = elim (get_pushed behind None k (So
 ]
 half_old behind _ k j e = subst (λ (xs : List (Option Insn)). slice_get xs k ≡ Some (Some j)) (append-nil behind) e
 
--- what stands in the new code behind what was written last was there before, or is the jump that was added
+-- what is in the new code after what was written last was there before, or is the jump that was added
 old_or_jump : (marks : List Mark) (places : List ℕ) (code : List (Option Insn)) (fall : Option ℕ) (behind : List (Option Insn)) (k : ℕ) (j : Insn)
     → LeadsOn marks places code fall behind
     → slice_get behind k ≡ Some (Some j) → (slice_get code k ≡ Some (Some j)) ⊎ ((k ≡ length code) × HasJump marks places code fall behind)
@@ -197,7 +197,7 @@ length-behind marks places code fall behind h = elim (leads_cases marks places c
 
 -- ---- what holds of an instruction that was written
 
--- the facts of one that was written last: where it stands, and what stands there
+-- the facts of one that was written last: where it is, and what is there
 pub record IsNew (p : List (Option Insn)) (marks : List Mark) (order places : List ℕ) (code : List (Option Insn)) (slot : ℕ) (i : Insn)
     (new : List (Option Insn)) (place : ℕ) : Type 0 where
   pub ordered : IsOrder p marks order

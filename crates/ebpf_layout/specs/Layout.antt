@@ -14,34 +14,34 @@ moved (insn.JumpFar offset) z = insn.JumpFar z
 moved (insn.Branch width condition left right offset) z = insn.Branch width condition left right z
 moved i z = i
 
--- at a slot of the new program stands this instruction, but for its displacement
+-- this instruction is at a slot of the new program, but for its displacement
 abbrev pub IsMoved : List (Option Insn) → ℕ → Insn → Type 0
 IsMoved q at i = (z : ℤ) × (insn_at q at ≡ Some (moved i z))
 
--- at a slot of the new program stands a jump whose only edge leads to a slot
+-- a jump whose only edge leads to a slot is at a slot of the new program
 abbrev pub IsJumpTo : List (Option Insn) → ℕ → ℕ → Type 0
 IsJumpTo q at to = (z : ℤ) × (insn_at q at ≡ Some (insn.Jump z)) × ((edges_at q at).jump ≡ Some to)
 
--- what stands at a slot falls to another, or to a jump that leads there
+-- what is at a slot falls to another, or to a jump that leads there
 abbrev pub FallsTo : List (Option Insn) → ℕ → ℕ → Type 0
 FallsTo q from to = (next : ℕ) × ((edges_at q from).fall ≡ Some next) × ((next ≡ to) ⊎ IsJumpTo q next to)
 
--- at a slot of the new program stands what was reached at some slot of the old one
+-- what was reached at some slot of the old one is at a slot of the new program
 abbrev pub IsKept : List (Option Insn) → (ℕ → ℕ) → ℕ → Type 0
 IsKept p place at = (slot : ℕ) × IsReached p slot × (place slot ≡ at)
 
--- what an instruction jumps to stands after one slot and before another
+-- what an instruction jumps to comes after one slot and before another
 abbrev pub JumpsBetween : List (Option Insn) → (ℕ → ℕ) → ℕ → ℕ → ℕ → Type 0
 JumpsBetween p place slot from to = (over : ℕ) × ((edges_at p slot).jump ≡ Some over) × (from < place over) × (place over < to)
 
--- a jump was added right after a reached branch, to where that one fell, and what the branch jumps to stands between them
+-- a jump was added right after a reached branch, to where that one fell, and what the branch jumps to is between them
 abbrev pub IsAdded : List (Option Insn) → List (Option Insn) → (ℕ → ℕ) → ℕ → Type 0
 IsAdded p q place at = (slot : ℕ) × (to : ℕ) × IsReached p slot × ((edges_at p slot).fall ≡ Some to)
     × ((edges_at q (place slot)).fall ≡ Some at) × IsJumpTo q at (place to) × JumpsBetween p place slot at (place to)
 
 -- q is p laid out anew
 pub record IsLaidOut (p q : List (Option Insn)) : Type 0 where
-  -- where what stood at a slot stands now; what was not reached has a place of its own, where nothing stands
+  -- where what was at a slot is now; what was not reached has a place of its own, where nothing is
   pub place : ℕ → ℕ
   pub first : place 0 ≡ 0
   pub apart : (a b : ℕ) → place a ≡ place b → a ≡ b

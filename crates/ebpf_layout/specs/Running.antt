@@ -22,7 +22,7 @@ first_view subject context = record {
   status = Going;
 }
 
--- a run after so many instructions more, where each call of new or of swap is told what its number says
+-- a run after n instructions more, where each call of new or of swap is answered what its number says
 unfoldable pub run_on : ℕ → (ℕ → CallResult) → RunView → RunView
 run_on zero told v = v
 run_on (suc n) told v = let w = run_on n told v in stepped (told (length w.replies)) w
@@ -31,7 +31,7 @@ run_on (suc n) told v = let w = run_on n told v in stepped (told (length w.repli
 abbrev pub content : ObjectView → Found
 content o = record { kind = o.kind; bytes = o.bytes }
 
--- as much came of one run as of the other: how it stands, with its number or its trap; its output; what its calls were told; and what
+-- as much came of one run as of the other: how it is, with its number or its trap; its output; what its calls were answered; and what
 -- it holds
 pub record IsAsFar (v w : RunView) : Type 0 where
   pub status : w.status ≡ v.status
@@ -44,7 +44,7 @@ pub record IsAsFar (v w : RunView) : Type 0 where
 abbrev pub run_of : List (Option Insn) → Decl → List KindRow → List ℕ → RunView
 run_of p decl rows context = first_view (record { program = p; decl = decl; rows = rows }) context
 
--- whatever is declared, on any context, whatever the calls are told: after so many instructions of the one, the other is as far after
+-- whatever is declared, on any context, whatever the calls are answered: after n instructions of the one, the other is as far after
 -- as many or at most twice as many
 abbrev pub RunAlike : List (Option Insn) → List (Option Insn) → Type 0
 RunAlike p q = (decl : Decl) (rows : List KindRow) (context : List ℕ) (told : ℕ → CallResult) (n : ℕ)

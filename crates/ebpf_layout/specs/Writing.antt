@@ -17,7 +17,7 @@ pub record StandsAt (order places : List ℕ) (slot place : ℕ) : Type 0 where
   pub ordered : slice_get order number ≡ Some slot
   pub placed : slice_get places number ≡ Some place
 
--- a place holds a jump to where what was at a slot stands; places count from the end
+-- a place holds a jump to where what was at a slot is; places count from the end
 pub record JumpsTo (order places : List ℕ) (code : List (Option Insn)) (place slot : ℕ) : Type 0 where
   pub to : ℕ
   pub there : StandsAt order places slot to
@@ -25,18 +25,18 @@ pub record JumpsTo (order places : List ℕ) (code : List (Option Insn)) (place 
   pub here : slice_get code place ≡ Some (Some (insn.Jump (pos way)))
   pub way_is : to + way + 1 ≡ place
 
--- the place right behind an instruction is where what it falls to stands, or holds a jump there
+-- the place right after an instruction is where what it falls to is, or holds a jump there
 abbrev pub FallsRight : List ℕ → List ℕ → List (Option Insn) → Insn → ℕ → ℕ → Type 0
 FallsRight order places code i place slot = (behind : ℕ) × (behind + slots_in i ≡ place) × (StandsAt order places slot behind ⊎ JumpsTo order places code behind slot)
 
--- an instruction stands at a place as it should
+-- an instruction is at a place as it should
 pub record IsWritten (order places : List ℕ) (code : List (Option Insn)) (i : Insn) (slot place : ℕ) : Type 0 where
   pub way : ℕ
   pub here : slice_get code place ≡ Some (Some (moved i (pos way)))
   pub jump : (to : ℕ) → jump_of i slot ≡ Some to → (t : ℕ) × StandsAt order places to t × (t + way + 1 ≡ place)
   pub fall : (to : ℕ) → fall_of i slot ≡ Some to → FallsRight order places code i place to
 
--- the jump at a place was added right behind a branch, to where that one fell, and what the branch jumps to stands between
+-- the jump at a place was added right after a branch, to where that one fell, and what the branch jumps to is between
 pub record IsAddedAt (p : List (Option Insn)) (order places : List ℕ) (code : List (Option Insn)) (place : ℕ) : Type 0 where
   pub slot : ℕ
   pub of : ℕ
@@ -66,7 +66,7 @@ pub record IsCode (code : List (Option Insn)) (count : ℕ) : Type 0 where
   pub defined : AllByRecursion IsDefined (instructions (reverse code))
   pub placed : reverse code ≡ flat_map placed (instructions (reverse code))
 
--- what is done stands at a place of the code
+-- what is done is at a place of the code
 pub record HasPlace (marks : List Mark) (places : List ℕ) (slot place : ℕ) : Type 0 where
   pub number : ℕ
   pub done : mark_at marks slot ≡ Done number
@@ -94,7 +94,7 @@ WritesJump code place new = (way : ℕ) × (place + way + 1 ≡ length code) × 
 abbrev pub NotesLast : List (Option Insn) → List ℕ → List ℕ → Type 0
 NotesLast code old new = (place : ℕ) × (place + 1 ≡ length code) × (new ≡ old ++ place ∷ [])
 
--- what an instruction falls to comes right behind what is written next
+-- what an instruction falls to comes right after what is written next
 abbrev pub LeadsOn : List Mark → List ℕ → List (Option Insn) → Option ℕ → List (Option Insn) → Type 0
 LeadsOn marks places code None new = new ≡ code
 LeadsOn marks places code (Some to) new = (way : ℕ) × IsWayTo marks places code to way × (new ≡ with_jump code way)
@@ -104,7 +104,7 @@ abbrev pub IsMovedTo : List Mark → List ℕ → List (Option Insn) → Insn �
 IsMovedTo marks places code i None new = (new ≡ i) × (displacement_of i ≡ None)
 IsMovedTo marks places code i (Some to) new = (way : ℕ) × IsWayTo marks places code to way × (new ≡ moved i (pos way))
 
--- an instruction was written, and behind it a jump to what it falls to if that stands elsewhere
+-- an instruction was written, and after it a jump to what it falls to if that is elsewhere
 pub record Writes (marks : List Mark) (places : List ℕ) (code : List (Option Insn)) (i : Insn) (fall jump : Option ℕ) (new : List (Option Insn)) : Type 0 where
   pub behind : List (Option Insn)
   pub leads_on : LeadsOn marks places code fall behind

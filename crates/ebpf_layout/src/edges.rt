@@ -10,7 +10,7 @@ use ebpf_flow::edges::{displacement_of, falls};
 use ebpf_insn::insn::Insn;
 use ebpf_insn::program::Program;
 
-// The slot that a jump by so many slots leads to: none below slot 0.
+// The slot that a jump by n slots leads to: none below slot 0.
 pub(crate) fn target_of(slot: usize, displacement: i64) -> Option<usize>
     requires few { slot < MAX_SLOTS }
     requires low { negsuc 2147483647 ≤ℤ displacement }

@@ -12,7 +12,7 @@ pub enum LayoutFault {
     /// An edge of a reached instruction leads to no instruction: `JumpOutside`, `JumpIntoWide` or `FallsOffEnd` at the lowest such slot.
     #[error("slot {slot} is refused with {code:?}")]
     Flow { slot: u16, code: FlowCode },
-    /// Something reached leads to a slot from which a path leads back. Where there is such a loop it is told before anything else.
+    /// Something reached leads to a slot from which a path leads back. Where there is such a loop it is reported before anything else.
     #[error("slot {from} leads back to slot {to}")]
     Loop { from: u16, to: u16 },
     /// Laid out, with the jumps that are added, the program has more than `MAX_SLOTS` slots.

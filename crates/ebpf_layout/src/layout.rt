@@ -17,8 +17,8 @@ use ebpf_flow::fault::FlowFault;
 use ebpf_insn::program::{MAX_SLOTS, Program};
 use std::alloc::{AllocError, Global};
 
-/// The program with its reached instructions in an order in which each stands before those that it leads to. What an instruction
-/// falls to comes right after it; or, after a branch whose target stands in between, a jump there.
+/// The program with its reached instructions in an order in which each comes before those that it leads to. What an instruction
+/// falls to comes right after it; or, after a branch whose target is in between, a jump there.
 ///
 /// # Errors
 /// `Loop` where no such order is; `Flow` where an edge of something reached leads to no instruction; `Slots` where, laid out, it has

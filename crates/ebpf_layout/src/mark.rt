@@ -7,6 +7,6 @@ pub enum Mark {
     New,
     /// It is on the path, as the one of this number.
     Open(usize),
-    /// It is in the order, as the one of this number, behind all that it leads to.
+    /// It is in the order, as the one of this number, after all that it leads to.
     Done(usize),
 }

@@ -66,7 +66,7 @@ fn next(program: &Program, found: &Order, order: &Order, top: usize) -> usize
     highest(program, found, order, top)
 }
 
-// The instruction that stands right before the one that was placed last.
+// The instruction that comes right before the one that was placed last.
 fn before_last(program: &Program, order: &Order) -> Option<usize>
     requires { IsPlacing program.now order.now.marks.items order.now.slots.items }
     ensures inside { IfSome result (λ k. k < length program.now) }
@@ -76,7 +76,7 @@ fn before_last(program: &Program, order: &Order) -> Option<usize>
     before(program, last)
 }
 
-// The instruction that stands right before a slot.
+// The instruction that comes right before a slot.
 fn before(program: &Program, slot: usize) -> Option<usize>
     requires { IsWellFormed program.now }
     ensures lower { IfSome result (λ k. k < slot) }

@@ -62,7 +62,7 @@ fn edge_fault(program: &Program, slot: usize) -> Option<FlowCode>
     }
 }
 
-// The code of a jump by so many slots, if it is one.
+// The code of a jump by n slots, if it is one.
 fn jump_fault(program: &Program, slot: usize, displacement: Option<i64>) -> Option<FlowCode>
     requires few { slot < MAX_SLOTS }
     requires low { IfSome displacement (λ z. negsuc 2147483647 ≤ℤ z) }

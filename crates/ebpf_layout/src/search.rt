@@ -1,7 +1,7 @@
 //! The search for what is reached, and for some order of it.
 //!
 //! It goes from slot 0 along the edges, at each instruction first along the jump and then along the fall, and back where all that
-//! an instruction leads to was done. The path is the way from slot 0 to where it stands. An instruction goes into the order when the
+//! an instruction leads to was done. The path is the way from slot 0 to where it is. An instruction goes into the order when the
 //! search leaves it, after all that it leads to; so the order is read from its end. An edge to an instruction on the path closes a
 //! loop. That there is such an order is what `placing` needs to make that of the new program.
 
@@ -35,7 +35,7 @@ pub(crate) struct Order {
 #[derive(Drop)]
 struct Search {
     marks: Vec<Mark>,
-    // From slot 0 to where the search stands.
+    // From slot 0 to where the search is.
     path: Vec<usize>,
     // What it has left.
     order: Vec<usize>,
@@ -79,7 +79,7 @@ fn begin(alloc: Global, program: &Program) -> Result<Search, LayoutFault>
     Ok(search)
 }
 
-// Where the search stands.
+// Where the search is.
 fn last(search: &Search) -> Option<usize>
     ensures { result ≡ slice_get search.now.path.items (length search.now.path.items - 1) }
 {

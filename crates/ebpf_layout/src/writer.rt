@@ -79,8 +79,8 @@ fn write_slot(
     }
 }
 
-// Writes an instruction that falls and jumps to what is written already, and behind it a jump to what it falls to, if that
-// stands elsewhere.
+// Writes an instruction that falls and jumps to what is written already, and after it a jump to what it falls to, if that
+// is elsewhere.
 fn write_insn(
     writer: &mut Writer,
     order: &Order,
@@ -106,7 +106,7 @@ fn write_insn(
     Ok(())
 }
 
-// Writes a jump to what an instruction that is written next falls to, unless it stands right behind.
+// Writes a jump to what an instruction that is written next falls to, unless it comes right after.
 fn write_fall(writer: &mut Writer, order: &Order, fall: Option<usize>) -> Result<(), AllocError>
     requires code { IsCode writer.old.code.items writer.old.count }
     requires room { length writer.old.code.items < 8192 }
@@ -137,7 +137,7 @@ fn moved_to(writer: &Writer, order: &Order, insn: Insn, jump: Option<usize>) -> 
     }
 }
 
-// Where what was at a slot stands.
+// Where what was at a slot is.
 fn place_of(writer: &Writer, order: &Order, slot: usize) -> usize
     requires { IsPlaced order.now.marks.items writer.now.places.items writer.now.code.items slot }
     ensures has { HasPlace order.now.marks.items writer.now.places.items slot result }
@@ -157,7 +157,7 @@ fn way_to(writer: &Writer, place: usize) -> usize
     writer.code.len() - 1 - place
 }
 
-// Writes a jump to a place, unless what is written next stands right before it.
+// Writes a jump to a place, unless what is written next comes right before it.
 fn write_jump(writer: &mut Writer, place: usize) -> Result<(), AllocError>
     requires code { IsCode writer.old.code.items writer.old.count }
     requires room { length writer.old.code.items < 8192 }

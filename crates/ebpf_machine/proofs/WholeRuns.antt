@@ -1,4 +1,4 @@
--- A whole run over a store: its start, what it is told on its way, and its end.
+-- A whole run over a store: its start, what it is answered on its way, and its end.
 pub mod Turning
 pub mod Told
 pub mod Starts

@@ -26,7 +26,7 @@ pub record Fed : Type 0 where
   pub world : World
   pub answer : Answer
 
--- what stands on a shelf is taken from there, and its slot leaves the ledger
+-- what is on a shelf is taken from there, and its slot leaves the ledger
 abbrev pub cleared_of : Option Owner → ℕ → World → World
 cleared_of None shelf w = w
 cleared_of (Some o) shelf w = with_slot_left shelf o.slot (with_bytes o.slot (image_at w.kinds (kind_in w o.slot)) (without_shelved o.slot shelf w))
@@ -38,12 +38,12 @@ cleared shelf w = cleared_of (standing w shelf) shelf w
 abbrev pub bytes_for : List Kind → ℕ → List ℕ → List ℕ
 bytes_for kinds shelf bytes = take (length (image_at kinds shelf)) (bytes ++ image_at kinds shelf)
 
--- a slot joins the ledger of the shelf's kind, and stands there with these bytes
+-- a slot joins the ledger of the shelf's kind, and is there with these bytes
 abbrev pub shelved : ℕ → ℕ → List ℕ → World → World
 shelved shelf slot bytes w = with_owner slot (Shelf shelf) (with_bytes slot bytes (with_slot_joined shelf slot w))
 
 -- the call of number i that is to get an object gets it in slot i, which joins the ledger just before: any slot that is in no ledger
--- would do. A call of new is granted it; before a call of swap it stands on the shelf, with the bytes that come next, in place of what
+-- would do. A call of new is granted it; before a call of swap it is on the shelf, with the bytes that come next, in place of what
 -- the run left there
 abbrev pub fed : Asking → Option Reply → List ℕ → ℕ → World → Fed
 fed Unasked reply bytes i w = record { world = w; answer = Absent }
@@ -56,7 +56,7 @@ abbrev pub advanced : Result World Illegal → Alone → Alone
 advanced (Ok w) a = record { world = w; peak = max a.peak (holds_of w 0) }
 advanced (Err why) a = a
 
--- what the calls of a run are told, in their order, and the bytes of what they take off shelves, one object after another
+-- what the calls of a run are answered, in their order, and the bytes of what they take off shelves, one object after another
 pub record Replies : Type 0 where
   pub answers : List Reply
   pub taken : List ℕ
@@ -64,7 +64,7 @@ pub record Replies : Type 0 where
 abbrev pub replies_from : List Reply → List ℕ → Replies
 replies_from answers taken = record { answers = answers; taken = taken }
 
--- with more behind them
+-- with more after them
 abbrev pub more_than : Replies → Replies → Replies
 more_than replies more = replies_from (replies.answers ++ more.answers) (replies.taken ++ more.taken)
 
@@ -87,7 +87,7 @@ alone_by (Some r) replies a = let f = fed_to a.world r replies in advanced (exec
 abbrev pub alone_next : Replies → Alone → Alone
 alone_next replies a = alone_by (slice_get a.world.runs 0) replies a
 
--- after so many instructions, with these replies to the calls of new and of swap in their order
+-- after n instructions, with these replies to the calls of new and of swap in their order
 unfoldable pub alone_after : ℕ → Subject → List ℕ → Replies → Alone
 alone_after zero subject context replies = alone_first subject context
 alone_after (suc n) subject context replies = alone_next replies (alone_after n subject context replies)
@@ -110,6 +110,6 @@ outcome_of a = outcome_in (slice_get a.world.runs 0) a.peak
 abbrev pub outcome_alone : Subject → List ℕ → Replies → Outcome
 outcome_alone subject context replies = outcome_of (alone_after (length (instructions subject.program)) subject context replies)
 
--- the outcome that a report tells of a run that exited with this number
+-- the outcome that a report gives of a run that exited with this number
 abbrev pub outcome_in_report : ℕ → Report → Outcome
 outcome_in_report n r = record { status = Exited n; output = r.output; executed = r.executed; peak = r.peak }

@@ -44,11 +44,11 @@ with_bytes slot bytes w = record w { bytes = λ s. if s == slot then bytes else 
 abbrev pub with_owner : ℕ → Holder → World → World
 with_owner slot holder w = record w { owners = w.owners ++ record { slot = slot; holder = holder } ∷ [] }
 
--- the run has the slot by this call no more
+-- the run no longer has the slot by this call
 abbrev pub without_owner : ℕ → Name → World → World
 without_owner run name w = record w { owners = filter (λ o. not ((o.slot == name.slot) && is_call run name.call o.holder)) w.owners }
 
--- the slot stands on the shelf no more
+-- the slot is no longer on the shelf
 abbrev pub without_shelved : (slot shelf : ℕ) → World → World
 without_shelved slot shelf w = record w { owners = filter (λ o. not ((o.slot == slot) && is_shelf shelf o.holder)) w.owners }
 
@@ -73,7 +73,7 @@ ended n r = record r { status = Exited n; executed = r.executed + 1 }
 abbrev pub trapped : Trap → Running → Running
 trapped trap r = record r { status = Trapped trap; executed = r.executed + 1 }
 
--- a call goes on with what it is told, in r0
+-- a call goes on with what it is answered, in r0
 abbrev pub replied : ℕ → Reply → Value Name → ℕ → Frame Name → Running → Running
 replied kind reply v to frame r = record (moved_to to (with_value frame R0 v) r) { calls = r.calls ++ record { at = r.pc; kind = kind; reply = reply } ∷ [] }
 
@@ -95,15 +95,15 @@ abbrev pub put_on : Option Name → (shelf run : ℕ) → World → World
 put_on None shelf run w = w
 put_on (Some name) shelf run w = with_owner name.slot (Shelf shelf) (without_owner run name w)
 
--- what stands on a shelf is the run's, by this call
+-- what is on a shelf is the run's, by this call
 abbrev pub fetched : Owner → (shelf run call : ℕ) → World → World
 fetched o shelf run call w = with_owner o.slot (Run run call) (without_shelved o.slot shelf w)
 
--- a call of swap goes on with the bytes of what stood on the shelf, and a pointer to it
+-- a call of swap goes on with the bytes of what was on the shelf, and a pointer to it
 abbrev pub shelf_told : (slot : ℕ) (bytes : List ℕ) (shelf to : ℕ) → Frame Name → Running → Running
 shelf_told slot bytes shelf to frame r = record (replied shelf reply.Shelf (Pointer (Object (name_of slot r.pc)) (pos 0)) to frame r) { taken = r.taken ++ bytes }
 
--- what stood on the shelf is the run's, unless it holds as many as it declared once what it gives is gone
+-- what was on the shelf is the run's, unless it holds as many as it declared once what it gives is gone
 abbrev pub exchanged : Option Owner → World → ℕ → Running → ℕ → Frame Name → ℕ → Option Name → World
 exchanged None w run r to frame shelf given = put_on given shelf run (with_run w run (replied shelf reply.Empty (Number 0) to frame r))
 exchanged (Some o) w run r to frame shelf given =
@@ -124,7 +124,7 @@ done_by (Ends n) answer w run r = with_run w run (ended n r)
 done_by (Traps trap) answer w run r = with_run w run (trapped trap r)
 
 -- what the instruction at a slot asks for: nothing; an object of no kind that there is, or one of the kind that r1 names, of whoever
--- answers; or what stands on the shelf that r1 names, of the world
+-- answers; or what is on the shelf that r1 names, of the world
 pub data Asking : Type 0 where
   Unasked : Asking
   OfNoKind : Asking

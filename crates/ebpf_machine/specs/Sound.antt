@@ -51,7 +51,7 @@ IsFine (Traps trap) = ⊥
 abbrev pub AreSized : RunView → Type 0
 AreSized v = All (λ o. length o.bytes ≡ length (image_at (kinds_of v.subject.rows) o.kind)) v.objects
 
--- one that goes on is at an instruction, and what is known there speaks of it; its objects are of calls behind it, in the order of
+-- one that goes on is at an instruction, and what is known there speaks of it; its objects are of calls that it has passed, in the order of
 -- their grants
 pub record IsGoing (v : RunView) : Type 0 where
   pub inside : is_none (insn_at v.subject.program v.pc) ≡ false
@@ -85,7 +85,7 @@ abbrev pub IsAlone : RunView → Type 0
 IsAlone v = view_in (alone_after v.executed v.subject v.context (replies_of v)).world 0 ≡ Some v
 
 -- a run as it is kept: whatever bytes its objects have it is sound, its peak is that of the run alone and within what it declared,
--- and no instruction told it more than one reply or added more than one number to its output
+-- and no instruction added more than one reply or added more than one number to its output
 pub record IsRun {H : Type 0} (r : RunState H) : Type 0 where
   pub sound : (bytes : H → List ℕ) → IsSound (seen bytes r)
   pub peak : (alone_after r.executed r.subject r.context (replies_from r.replies r.taken)).peak ≡ r.peak
@@ -114,7 +114,7 @@ pub data HasPointer {N : Type 0} (frame : Frame N) (n : N) : Type 0 where
 abbrev pub HasOneSlot : Frame Name → Type 0
 HasOneSlot frame = (n m : Name) → HasPointer frame n → HasPointer frame m → n.call ≡ m.call → n.slot ≡ m.slot
 
--- a pointer stems from a call behind the run; where the run still holds what that call was granted, it is to that slot
+-- a pointer stems from a call that the run has passed; where the run still holds what that call was granted, it is to that slot
 pub record IsTrue (owners : List Owner) (run : ℕ) (r : Running) (n : Name) : Type 0 where
   pub behind : n.call < r.pc
   pub slot : (o : Owner) → Contains owners o → o.holder ≡ Run run n.call → o.slot ≡ n.slot

@@ -11,9 +11,9 @@ pub use Rattle.ebpf_machine.specs.World.{Shelved}
 
 -- a store in the states S, of objects H: the kinds that there are; the kind and the slot of an object; which objects are out, and
 -- their bytes; what a call of new for a kind, made at a slot of a program, may be answered, with an object in a slot or with none;
--- what may come off a shelf, in which slot and with which bytes, and whether nothing may; what is known to stand on a shelf, for a store
+-- what may come off a shelf, in which slot and with which bytes, and whether nothing may; what is known to be on a shelf, for a store
 -- whose shelves nobody else changes; whether an object may come back; how many objects of each kind are out; and how it goes from a
--- state to a later one by calls of new and of swap that were told these replies: what it keeps, what it counts. It goes from each state to
+-- state to a later one by calls of new and of swap that were answered these replies: what it keeps, what it counts. It goes from each state to
 -- itself by no replies, and where it goes on, by the replies of both ways
 pub record Store (S H : Type 0) : Type 1 where
   pub kinds : List Kind
@@ -32,7 +32,7 @@ pub record Store (S H : Type 0) : Type 1 where
   pub stays : (s : S) → goes s [] s
   pub goes_on : (s t u : S) (told more : List Reply) → goes s told t → goes t more u → goes s (told ++ more) u
 
--- ---- what a call is told
+-- ---- what a call is answered
 
 -- a call of new, by what it was answered
 abbrev pub reply_to_new : {H : Type 0} → Option H → Reply
@@ -73,7 +73,7 @@ AllStay {H = H} o old new = (other : H) → o.is_out old other → Stays o old n
 abbrev pub OthersStayThan : {S H : Type 0} → Option H → Store S H → S → S → Type 0
 OthersStayThan {H = H} given o old new = (other : H) → o.is_out old other → IfSome given (λ g. o.slot_of other ≢ o.slot_of g) → Stays o old new other
 
--- what is known to stand on shelves stays so
+-- what is known to be on shelves stays so
 abbrev pub ShelvesStay : {S H : Type 0} → Store S H → S → S → Type 0
 ShelvesStay o old new = (shelf : ℕ) (what : Option Shelved) → o.stand old shelf what → o.stand new shelf what
 
@@ -81,11 +81,11 @@ ShelvesStay o old new = (shelf : ℕ) (what : Option Shelved) → o.stand old sh
 abbrev pub OtherShelvesStay : {S H : Type 0} → ℕ → Store S H → S → S → Type 0
 OtherShelvesStay shelf o old new = (other : ℕ) (what : Option Shelved) → other ≢ shelf → o.stand old other what → o.stand new other what
 
--- an object as it is to stand on a shelf
+-- an object as it is to be on a shelf
 abbrev pub shelved_as : {S H : Type 0} → Store S H → S → H → Shelved
 shelved_as o s object = record { slot = o.slot_of object; bytes = o.bytes_of s object }
 
--- on a shelf this is known to stand now, or nothing, and on the others what stood there
+-- on a shelf this is known to be now, or nothing, and on the others what was there
 abbrev pub ShelvesExchange : {S H : Type 0} → Option H → (shelf : ℕ) → Store S H → S → S → Type 0
 ShelvesExchange given shelf o old new =
     ((what : Option Shelved) → o.stand old shelf what → o.stand new shelf (option_map (λ g. shelved_as o old g) given)) × OtherShelvesStay shelf o old new
@@ -104,7 +104,7 @@ pub record AreOutBy {H : Type 0} (is_out : H → Type 0) (kind_of slot_of : H �
 abbrev pub AreOut : {S H : Type 0} → Store S H → S → List (Holding H) → Type 0
 AreOut o s held = AreOutBy (o.is_out s) o.kind_of o.slot_of held
 
--- what the run held and holds no more is out no more
+-- what the run held and no longer holds is no longer out
 abbrev pub AreGone : {S H : Type 0} → Store S H → S → (held now : List (Holding H)) → Type 0
 AreGone {H = H} o new held now = (h : Holding H) → Contains held h → All (λ k. o.slot_of k.object ≢ o.slot_of h.object) now → o.is_out new h.object → ⊥
 
@@ -116,6 +116,6 @@ OthersStay {H = H} o old new held = (other : H) → o.is_out old other → All (
 abbrev pub objects_in : {S H : Type 0} → Store S H → S → List (Holding H) → List ObjectView
 objects_in o s held = map (object_seen (o.bytes_of s)) held
 
--- what it meets that has this context beside them, where there are so many kinds
+-- what it meets that has this context beside them, where there are n kinds
 abbrev pub environment_in : {S H : Type 0} → Store S H → S → List (Holding H) → List ℕ → ℕ → Environment ℕ
 environment_in o s held context kinds = environment_with context kinds (objects_in o s held)

@@ -45,12 +45,12 @@ abbrev pub told_to : Option Running → Replies
 told_to None = replies_from [] []
 told_to (Some r) = replies_from (map (λ call. call.reply) r.calls) r.taken
 
--- what the run alone was told by its end: a reply for each call of new and of swap that it made
+-- what the run alone was answered by its end: a reply for each call of new and of swap that it made
 abbrev pub told_alone : Subject → List ℕ → Replies → Replies
 told_alone s context replies = told_to (slice_get (alone_after (length (instructions s.program)) s context replies).world.runs 0)
 
--- the run exited, and reports the outcome of the run alone with the replies of the report: these are what its calls were told, no
--- more and no fewer, so replies behind them would change nothing
+-- the run exited, and reports the outcome of the run alone with the replies of the report: these are what its calls were answered, no
+-- more and no fewer, so replies after them would change nothing
 pub record IsReportOf (s : Subject) (context : List ℕ) (r : Report) : Type 0 where
   pub exit : ℕ
   pub exited : r.exit ≡ Some exit

@@ -24,7 +24,7 @@ pub data Status : Type 0 where
   Exited : (result : ℕ) → Status
   Trapped : (trap : Trap) → Status
 
--- a call that a run made for an object: where, for which kind, and what it was told. A run keeps these, and the bytes of what it took
+-- a call that a run made for an object: where, for which kind, and what it was answered. A run keeps these, and the bytes of what it took
 -- off shelves, and no instruction reads them
 pub record AnsweredCall : Type 0 where
   pub at : ℕ
@@ -138,20 +138,20 @@ abbrev pub is_shelf : ℕ → Holder → Bool
 is_shelf shelf (Run r call) = false
 is_shelf shelf (Shelf s) = s == shelf
 
--- what stands on a shelf
+-- what is on a shelf
 abbrev pub standing : World → ℕ → Option Owner
 standing w shelf = find (λ o. is_shelf shelf o.holder) w.owners
 
--- an object on a shelf, as it stands there: its slot and its bytes
+-- an object on a shelf, as it is there: its slot and its bytes
 pub record Shelved : Type 0 where
   pub slot : ℕ
   pub bytes : List ℕ
 
--- the object of a slot, as it is to stand on a shelf
+-- the object of a slot, as it is to be on a shelf
 abbrev pub shelved_at : World → ℕ → Shelved
 shelved_at w slot = record { slot = slot; bytes = w.bytes slot }
 
--- what a world shows to stand on a shelf
+-- what a world shows to be on a shelf
 abbrev pub shelved_in : World → ℕ → Option Shelved
 shelved_in w shelf = option_map (λ o. shelved_at w o.slot) (standing w shelf)
 
@@ -193,7 +193,7 @@ IsGot reply.Shelf = Unit {0}
 IsGot reply.Null = ⊥
 IsGot reply.Empty = ⊥
 
--- a call of the run, behind it, asked for an object of this kind and got one
+-- a call that the run has passed asked for an object of this kind and got one
 pub record AskedFor (runs : List Running) (run at kind : ℕ) : Type 0 where
   pub asker : Running
   pub there : slice_get runs run ≡ Some asker

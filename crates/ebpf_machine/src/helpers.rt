@@ -114,7 +114,7 @@ fn give_back<O: Objects>(parts: &mut Parts<'_, O::Held>, objects: &mut O)
     answer(parts, Value::Number(0));
 }
 
-// Exchanges what stands on the shelf in r1 for the object in r2, or for nothing.
+// Exchanges what is on the shelf in r1 for the object in r2, or for nothing.
 fn swap<O: Objects>(parts: &mut Parts<'_, O::Held>, objects: &mut O)
     requires kinds { O.store.kinds ≡ kinds_of parts.old.verified.now.rows }
     requires ready { IsReady O.store (state_of parts.old) objects.old }
@@ -161,7 +161,7 @@ fn part_with<H>(parts: &mut Parts<'_, H>) -> Option<H>
     Some(object)
 }
 
-// Keeps the bytes of an object that stood on a shelf.
+// Keeps the bytes of an object that was on a shelf.
 fn keep<H>(parts: &mut Parts<'_, H>, bytes: &[u8])
     requires few { length bytes.now ≤ largest parts.old.verified.now.rows }
     requires called { IsSwapThere (state_of parts.old) }
@@ -174,7 +174,7 @@ fn keep<H>(parts: &mut Parts<'_, H>, bytes: &[u8])
     };
 }
 
-// Goes on behind a call, with its result.
+// Goes on after a call, with its result.
 fn answer<H>(parts: &mut Parts<'_, H>, value: Value<u16>)
     requires few { parts.old.executed < MAX_SLOTS }
     requires inside { parts.old.pc < MAX_SLOTS }

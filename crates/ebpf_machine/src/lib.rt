@@ -1,6 +1,6 @@
 //! Runs of accepted programs.
 //!
-//! A [`run::Run`] does one instruction at each [`run::Run::step`], and so many at each [`run::Run::run`]. Its program is a
+//! A [`run::Run`] does one instruction at each [`run::Run::step`], and up to n at each [`run::Run::run`]. Its program is a
 //! `Verified`, so no instruction of it traps and none is tested at run time. What it computes is defined in specs/ by a
 //! machine that tests every access: the world of many runs, one event of it, and a run alone in a world of its own.
 //!

@@ -17,7 +17,7 @@ use crate::stack::Stack;
 use crate::value::{Base, Value};
 use ebpf_insn::insn::Size;
 
-/// What is loaded: so many bytes, with zeros or with their sign above them, at an offset from an address.
+/// What is loaded: n bytes, with zeros or with their sign above them, at an offset from an address.
 #[derive(Clone, Copy)]
 pub(crate) struct Loaded {
     pub(crate) size: Size,

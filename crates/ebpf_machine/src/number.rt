@@ -36,7 +36,7 @@ fn low_number(bytes: &[u8], place: usize, size: Size) -> u64
     }
 }
 
-// A number of so many bytes, with copies of the highest bit of it above them.
+// A number of n bytes, with copies of the highest bit of it above them.
 fn with_sign(n: u64, size: Size) -> u64
     requires { n < 2 ^ (8 * bytes_in size) }
     ensures { result ≡ extension_at Width.W64 (8 * bytes_in size) n }

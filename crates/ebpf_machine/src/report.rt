@@ -16,20 +16,20 @@ impl Model for Output {
     ghost view = { λ o. o.numbers.items };
 }
 
-/// What a call of `new` or of `swap` was told.
+/// What a call of `new` or of `swap` was answered.
 #[derive(Clone, Copy)]
 pub enum Reply {
     /// A call of `new`: no object.
     Null,
     /// A call of `new`: an object of the kind that it asked for.
     Granted,
-    /// A call of `swap`: nothing stood on the shelf.
+    /// A call of `swap`: nothing was on the shelf.
     Empty,
-    /// A call of `swap`: what stood on the shelf.
+    /// A call of `swap`: what was on the shelf.
     Shelf,
 }
 
-/// What each call of `new` and of `swap` that a run made was told, in order. Contracts see it as the list.
+/// What each call of `new` and of `swap` that a run made was answered, in order. Contracts see it as the list.
 #[derive(Drop)]
 pub struct Answers {
     pub replies: Vec<Reply>,
@@ -67,9 +67,9 @@ pub struct Report {
     pub output: Output,
     /// How many instructions it did.
     pub executed: u64,
-    /// What its calls of `new` and of `swap` were told.
+    /// What its calls of `new` and of `swap` were answered.
     pub answers: Answers,
-    /// The bytes of each object that a call of `swap` was told, as they stood on the shelf.
+    /// The bytes of each object that a call of `swap` was answered, as they were on the shelf.
     pub taken: Taken,
     /// The most objects that it held at one time.
     pub peak: u64,

@@ -217,7 +217,7 @@ fn write(
     }
 }
 
-// Writes so many low bytes of a number, which are set then.
+// Writes n low bytes of a number, which are set then.
 #[inline(always)]
 fn put(
     bytes: &mut [u8; 512],

@@ -4,7 +4,7 @@
 #[derive(Clone, Copy)]
 pub enum Value<N> {
     Number(u64),
-    /// A byte counted from a base, before it or behind it.
+    /// A byte counted from a base, before it or after it.
     Pointer { base: Base<N>, offset: i64 },
 }
 

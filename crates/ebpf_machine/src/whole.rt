@@ -70,7 +70,7 @@ pub fn run_in<O: Objects>(
     ensures unchanged { OnErr result (objects.new ≡ objects.old) }
 {
     let mut run = Run::start_in(alloc, workspace, verified, context)?;
-    // No program has so many instructions: it exits.
+    // No program has that many instructions: it exits.
     run.run(objects, u64::MAX);
     Ok(run.end(objects))
 }

@@ -1,4 +1,4 @@
--- The kind, the slot and the bytes of an object of whatever kind.
+-- The kind, the slot and the bytes of an object of any kind.
 use Rattle.std.specs.Prelude.{◌≡◌, ◌<◌, ℕ, List, length}
 use Rattle.std.proofs.Common.{suc-le-suc, zero-le}
 use Rattle.ebpf_machine.specs.World.{image_at}

@@ -27,7 +27,7 @@ pub record AnswersSo {S H : Type 0} (o : Store S H) (nulls : Bool) (next : ℕ) 
       → what ≡ Some (record { slot = slot; bytes = bytes })
   pub misses : (shelf : ℕ) (what : Option Shelved) → o.can_miss s shelf → o.stand s shelf what → what ≡ None
 
--- the world of one run shows the run over its store: what it holds, what stands on shelves, and that each slot of a ledger was granted
+-- the world of one run shows the run over its store: what it holds, what is on shelves, and that each slot of a ledger was granted
 pub record IsShown {S H : Type 0} (o : Store S H) (s : S) (r : RunState H) (a : Alone) : Type 0 where
   pub owned : IsOwned a.world
   pub view : view_in a.world 0 ≡ Some (seen_in o s r)
@@ -124,7 +124,7 @@ module _ {S H : Type 0} (o : Store S H) (nulls : Bool) (s : S) (r : RunState H) 
     by true e = as_it_is Null shown (ap answer_for (sym is)) (rw (asked, is) refl) (rw asked refl)
     by false e = let none = ample e in let one = ap (λ (x : Served). refused (told_by x)) is in absurd (omega (arith, none, one))
 
-  -- what stands on the shelf is what the store tells
+  -- what is on the shelf is what the store says
   for_shelf : AnswersSo o nulls (granted r.replies) s → IsShown o s r a → (shelf : ℕ) → asking_in v ≡ AtShelf shelf → (x : Served)
       → served ≡ x → MayAnswer (offers_of o s) r.pc (AtShelf shelf) x → IsProvidedFor (AtShelf shelf)
   for_shelf so shown shelf asked x is may = as_it_is Absent shown (absent x is may) (rw asked (stands_so x is may)) (rw asked refl) where

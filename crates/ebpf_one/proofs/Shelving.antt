@@ -25,7 +25,7 @@ out_apart table o shelf slot out on same =
 
 -- ---- where the table changes elsewhere
 
--- what stands on shelves does so still when a slot more is granted, or memory runs out for it
+-- what is on shelves is there still when a slot more is granted, or memory runs out for it
 pub stands_granted : (table : List Entry) (shelves : List (Option Object)) (new : Entry) (done : Bool) (now : List Entry)
     → now ≡ (if done then table ++ new ∷ [] else table) → AreStanding table shelves → AreStanding now shelves
 stands_granted table shelves new done now is standing = subst (λ (entries : List Entry). AreStanding entries shelves) (sym is) (by done) where
@@ -55,7 +55,7 @@ given_off table shelves shelf (Some g) standing out = λ k. away_from (on_shelf 
 
 module _ (table : List Entry) {shelf : ℕ} {given got : Option Object} {old new : List (Option Object)} (e : IsExchanged shelf given got old new)
     (standing : AreStanding table old) (givable : IsGivable table shelf given) where
-  -- what is given is out no longer, and then what stood on the shelf is out
+  -- what is given is out no longer, and then what was on the shelf is out
   abbrev between : List Entry
   between = marked table given false
 
@@ -65,7 +65,7 @@ module _ (table : List Entry) {shelf : ℕ} {given got : Option Object} {old new
   given_is : (o : Object) → given ≡ Some o → IsOut table o × (o.kind ≡ shelf)
   given_is o is = in_some (λ g. IsOut table g × (g.kind ≡ shelf)) given o is givable
 
-  -- what stood there isn't among those that are out
+  -- what was there isn't among those that are out
   pub got_apart : IfSome got (λ h. (other : Object) → IsOut table other → other.slot ≢ h.slot)
   got_apart = some_by (λ h. (other : Object) → IsOut table other → other.slot ≢ h.slot) got (λ h is other out.
       out_apart table other shelf h.slot out (standing shelf h (sym e.was ∙ is)))
@@ -74,7 +74,7 @@ module _ (table : List Entry) {shelf : ℕ} {given got : Option Object} {old new
   got_other other out = some_by (λ h. other.slot ≢ h.slot) got (λ h is.
       in_some (λ x. (o : Object) → IsOut table o → o.slot ≢ x.slot) got h is got_apart other out)
 
-  -- and what is given is in another slot than whatever stands on a shelf
+  -- and what is given is in another slot than whatever is on a shelf
   still : (k slot : ℕ) → Stands table k slot → Stands between k slot
   still k slot on = marked_other table given false slot (some_by (λ g. slot ≢ g.slot) given (λ g is same.
       out_apart table g k slot (given_is g is).0 on (sym same))) ∙ on
@@ -89,7 +89,7 @@ module _ (table : List Entry) {shelf : ℕ} {given got : Option Object} {old new
   pub got_inside : IfSome got (λ h. h.slot < length between)
   got_inside = some_by (λ h. h.slot < length between) got (λ h is. slice_get_within between h.slot _ (at_between h is))
 
-  -- what stood there is out
+  -- what was there is out
   pub got_out : IfSome got (λ h. IsOut after h × (h.kind ≡ shelf))
   got_out = some_by (λ h. IsOut after h × (h.kind ≡ shelf)) got (λ h is.
       let fits = in_some (FitsOn shelf) got h is e.fits in
@@ -103,7 +103,7 @@ module _ (table : List Entry) {shelf : ℕ} {given got : Option Object} {old new
     sized = out.sized;
   }
 
-  -- where what is given stands in the table
+  -- where what is given is in the table
   given_entry : (g : Object) → given ≡ Some g → Stands after g.kind g.slot
   given_entry g is =
       let out = (given_is g is).0 in
@@ -114,7 +114,7 @@ module _ (table : List Entry) {shelf : ℕ} {given got : Option Object} {old new
   pub given_gone : IfSome given (λ g. IsOut after g → ⊥)
   given_gone = some_by (λ g. IsOut after g → ⊥) given (λ g is out. out_apart after g g.kind g.slot out (given_entry g is) refl)
 
-  -- and stands on the shelf; other shelves are as they were
+  -- and is on the shelf; other shelves are as they were
   pub stands_after : AreStanding after new
   stands_after k o on = by (cases_eq k shelf) where
     off : IfSome got (λ h. o.slot ≢ h.slot)

@@ -251,7 +251,7 @@ reports_exit o IsFine nulls first new after subject context r t number n report 
         same = ap (λ (m : ℕ). outcome_of (solo_after m subject context nulls)) all ∙ ap outcome_of stays ∙ outcome x there seen;
       }
 
--- as no program has so many instructions as the run may do, it exits
+-- as no program has as many instructions as the run may do, it exits
 pub report_solo : {S H : Type 0} (o : Store S H) (IsFine : S → Type 0) (limit : ℕ) (first new after : S) (r t : RunState H)
     → AreTurnsWithin o limit r t first new → 4096 < limit → t.executed ≤ length (instructions t.subject.program)
     → (nulls : Bool) (subject : Subject) (context : List ℕ) → IsBegun o IsFine nulls first subject context r

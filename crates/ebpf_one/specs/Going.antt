@@ -1,4 +1,4 @@
--- How the store of one run goes from one state to a later one, by what the run is told.
+-- How the store of one run goes from one state to a later one, by what the run is answered.
 use Rattle.std.specs.Prelude.{◌≡◌, ◌+◌, ℕ, Bool, false, List, [], ◌++◌, length}
 use Rattle.std.proofs.Common.{cond, refl, sym, ap, ◌∙◌, add_assoc, add-zero}
 use Rattle.std.proofs.lemmas.List.Sums.{sum_by-append}

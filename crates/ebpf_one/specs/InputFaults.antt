@@ -1,4 +1,4 @@
--- Why an input or an option can't be used, as the sentence of a line: what it is, what stands there, and what is expected.
+-- Why an input or an option can't be used, as the sentence of a line: what it is, what is there, and what is expected.
 use Rattle.std.specs.Prelude.{ℕ, ◌∷◌, ◌++◌, ◌||◌, Bool, nat_lt, if◌then◌else◌, List, [], length, filter, codes, decimal, Option, Some, None, is_none, unwrap_or, slice_get, nat_eq}
 use Rattle.std.specs.Char.{is_ascii_graphic}
 use Rattle.std.specs.List.{prefix_len, starts_with}
@@ -19,16 +19,16 @@ abbrev pub part_name : Part → List ℕ
 part_name Input = codes "input"
 part_name Context = codes "context"
 
--- hex digits may stand in either, and blanks in the input
+-- hex digits may be in either, and blanks in the input
 abbrev pub may_stand : Part → ℕ → Bool
 may_stand Input byte = is_hex_digit byte || is_blank byte
 may_stand Context byte = is_hex_digit byte
 
--- where the first byte is that may not stand there; the length, where each may
+-- where the first byte is that may not be there; the length, where each may
 abbrev pub place_of_other : Part → List ℕ → ℕ
 place_of_other part text = prefix_len (may_stand part) text
 
--- a byte that prints is told as itself, and any other by its hex digits
+-- a byte that prints is written as itself, and any other by its hex digits
 abbrev pub shown_byte : ℕ → List ℕ
 shown_byte byte = if is_ascii_graphic byte then byte ∷ [] else codes "0x" ++ hex_digits byte
 
@@ -45,7 +45,7 @@ other_byte part place byte =
 abbrev pub odd_digits : Part → ℕ → List ℕ
 odd_digits part digits = codes "the " ++ (part_name part ++ (codes " has an odd number of hex digits, " ++ (decimal digits ++ codes ": two make a byte")))
 
--- by the first byte that may not stand there, if there is one
+-- by the first byte that may not be there, if there is one
 abbrev pub unread_by : Part → List ℕ → Option ℕ → List ℕ
 unread_by part text (Some byte) = other_byte part (place_of_other part text) byte
 unread_by part text None = odd_digits part (length (filter is_hex_digit text))

@@ -21,7 +21,7 @@ abbrev pub IsWantedFault : List ℕ → List ℕ → ObjectFault → Type 0
 IsWantedFault [] file e = IsOnlyFault file e
 IsWantedFault (c ∷ name) file e = IsNamedFault file (c ∷ name) e
 
--- the slots that are asked for; a file that is too long is taken as it is, since each command tells that first
+-- the slots that are asked for; a file that is too long is taken as it is, since each command reports that first
 abbrev pub IsTaken : List ℕ → List ℕ → List ℕ → Type 0
 IsTaken name file bytes =
     ((1048576 < length file) × (bytes ≡ file))

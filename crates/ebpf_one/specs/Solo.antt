@@ -27,7 +27,7 @@ solo_by (Some r) nulls a = let f = provided (asking_of a.world r) nulls (next_sl
 abbrev pub solo_next : Bool → Alone → Alone
 solo_next nulls a = solo_by (slice_get a.world.runs 0) nulls a
 
--- after so many instructions
+-- after n instructions
 unfoldable pub solo_after : ℕ → Subject → List ℕ → Bool → Alone
 solo_after zero s context nulls = alone_first s context
 solo_after (suc n) s context nulls = solo_next nulls (solo_after n s context nulls)

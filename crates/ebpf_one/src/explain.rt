@@ -1,4 +1,4 @@
-//! The command `explain`: what is known before each instruction of one program, and the verdict that stands on it.
+//! The command `explain`: what is known before each instruction of one program, and the verdict that rests on it.
 
 ghost use Rattle.std.specs.Prelude.{◌≡◌, ◌≢◌, ◌++◌, List, Option, IfOk, IfErr, length};
 ghost use Rattle.ebpf_flow.specs.Flow.{flow_fault};

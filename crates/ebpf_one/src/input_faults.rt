@@ -13,7 +13,7 @@ use ebpf_insn::fault::DecodeCode;
 use ebpf_verify::decl::MAX_HELD;
 use std::alloc::{AllocError, Global};
 
-// What is told of an object file.
+// What is said of an object file.
 const OBJECT_WORDS: &str = "the input is an object file: --elf takes a function of it";
 
 /// What is read as hex.
@@ -25,7 +25,7 @@ pub(crate) enum Part {
     Context,
 }
 
-/// Writes behind a text why an input or an option can't be used, as a line: which of them it is, what stands there, and what is
+/// Writes after a text why an input or an option can't be used, as a line: which of them it is, what is there, and what is
 /// expected. The code is the first that applies to them. It fails only where an allocation fails.
 pub(crate) fn write_fault_sentence(
     alloc: Global,
@@ -158,7 +158,7 @@ fn write_unread(text: &mut String, part: Part, bytes: &[u8]) -> Result<(), Alloc
     }
 }
 
-// What the first byte is that may not stand there, and how it is mended.
+// What the first byte is that may not be there, and how it is mended.
 fn write_other_byte(text: &mut String, part: Part, place: usize, byte: u8) -> Result<(), AllocError>
     ensures { OnOk result (string_bytes text.new ≡ string_bytes text.old ++ other_byte part place byte) }
 {
@@ -180,7 +180,7 @@ fn write_byte(text: &mut String, byte: u8) -> Result<(), AllocError>
     }
 }
 
-// Where the first byte is that may not stand there; the length, where each may.
+// Where the first byte is that may not be there; the length, where each may.
 fn place_of_other(part: Part, bytes: &[u8]) -> usize
     ensures { result ≡ place_of_other part bytes.now }
 {
@@ -223,7 +223,7 @@ impl Part {
         }
     }
 
-    // Whether a byte may stand there: blanks may in the input.
+    // Whether a byte may be there: blanks may in the input.
     fn may_stand(self, byte: u8) -> bool
         ensures { result ≡ may_stand self byte }
     {

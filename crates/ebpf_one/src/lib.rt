@@ -1,7 +1,7 @@
 //! The commands over one program: `one` runs it, `list` writes its instructions, and `explain` what is known before each.
 //!
 //! What each writes is a function of what it reads and of its options, errors included, and it writes nothing else: that
-//! is the contract of [`one::one`], of [`list::list`] and of [`explain::explain`], which stand on the contracts of the crates below. This crate adds
+//! is the contract of [`one::one`], of [`list::list`] and of [`explain::explain`], which rest on the contracts of the crates below. This crate adds
 //! what they ask for, the lines of their texts, and the store of objects of a single run.
 //!
 //! To be read in this order: `form`, `program_text`, `request`, `store`, `alone`, `text`, `answer`, `one`, `list`, `input_faults`, `explain`, `lay_out`, `object`,

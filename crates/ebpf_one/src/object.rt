@@ -24,7 +24,7 @@ fn function_of<'a>(name: &str, file: &'a [u8]) -> Result<Function<'a>, ObjectFau
 }
 
 /// The slots of the function that is asked for, as bytes. A file with more bytes than an input may have is given back as it is, since
-/// that is what is told of it then.
+/// that is what is said of it then.
 ///
 /// # Errors
 /// Why the file has no such function, or why that is no program by itself.

@@ -30,7 +30,7 @@ module _ {L : Type 0} where
     pub through : told.ending ≡ Through → Any (λ w. w.ending ≡ Through) done
     pub back : All IsBack left
 
-  -- so many were taken apart
+  -- n were taken apart
   pub done_are : (all left : List (Worker L)) (p : Parts L) (told : Done) (h : AreApart all left p told) → length h.done + length left ≡ length all
   done_are all left p told h =
       let sum = ap length h.split ∙ length-append left (reverse h.done) in

@@ -48,7 +48,7 @@ passed given got word held held' has are fresh = record {
   balance = let l = less_length given held has in let m = more_length got word (less given held) in let e = ap length are in omega (arith, l, m, e);
 }
 
--- what was given up is held no more
+-- what was given up is no longer held
 pub gone : (s word : ℕ) (got : Option ℕ) (held held' : List (ℕ × ℕ)) → Holds s held → Once held → HasPassed (Some s) got word held held' → Holds s held' → ⊥
 gone s word got held held' has once p now = by got p.are p.fresh where
   left_none : Holds s (without s held) → ⊥

@@ -47,7 +47,7 @@ length-without slot (e ∷ es) has = go (λ has. length-without slot es has) (e.
         let r = again (omega arith) in
         omega arith
 
--- each slot stands there once after a claim of one that wasn't held
+-- each slot is there once after a claim of one that wasn't held
 pub once_claimed : (slot word : ℕ) (old new : List (ℕ × ℕ)) → new ≡ (slot, word) ∷ old → (Holds slot old → ⊥) → Once old → Once new
 once_claimed slot word old new is none once x = at (slot == x) refl
   where

@@ -28,7 +28,7 @@ module _ {X : Type 0} (P : X → Type 0) (count done : ℕ) (xs ys : List X) (x 
   pub last_is : P x
   last_is = all_last P ys x (subst (All P) is all)
 
--- one more behind what is made of each
+-- one more after what is made of each
 pub pushed : {X Y : Type 0} (f : X → Y) (done : List X) (w : X) (y : Y) (xs ys : List Y) → xs ≡ map f done → ys ≡ xs ++ y ∷ []
     → f w ≡ y → ys ≡ map f (done ++ w ∷ [])
 pushed f done w y xs ys are is same = is ∙ ap (λ l. l ++ y ∷ []) are ∙ ap (λ v. map f done ++ v ∷ []) (sym same) ∙ sym (map_push f done w)

@@ -43,7 +43,7 @@ pub is_apart : (given : Option ℕ) (got : Option Object) (word : ℕ) (held hel
 is_apart given None word held held' p = tt
 is_apart given (Some h) word held held' p = λ other now same. p.fresh (subst (λ s. Holds s held) same now)
 
--- what was given is held no more
+-- what was given is no longer held
 pub is_gone : (given : Option Object) (got : Option ℕ) (word : ℕ) (held held' : List (ℕ × ℕ))
     → IfSome given (λ g. Holds (slot_of g) held) → Once held → HasPassed (slots given) got word held held'
     → IfSome given (λ g. Holds (slot_of g) held' → ⊥)

@@ -32,7 +32,7 @@ fresh_worker o t w k is hands idle ticket answered = record {
   answered = answered;
 }
 
--- the last goes behind those that were taken before
+-- the last goes after those that were taken before
 pub taken_back : {X Y : Type 0} (f : X → Y) (made : List X) (new : X) (left rest : List Y) (y : Y) (all : List Y)
     → left ≡ rest ++ y ∷ [] → f new ≡ y → map f made ++ reverse left ≡ all → map f (made ++ new ∷ []) ++ reverse rest ≡ all
 taken_back f made new left rest y all is same before =

@@ -60,7 +60,7 @@ all_mapped P g [] h k d l = absurd (omega (arith, l))
 all_mapped P g (x ∷ xs) h zero d l = h 0 x (omega arith)
 all_mapped P g (x ∷ xs) h (suc k) d l = all_mapped P g xs (λ j e m. h (suc j) e (omega (arith, m))) k d (omega (arith, l))
 
--- as many are made as there are, in whatever order
+-- as many are made as there are, in any order
 pub as_many : {X Y : Type 0} (f : X → Y) (xs : List X) (ys : List Y) → map f xs ≡ reverse ys → length xs ≡ length ys
 as_many f xs ys are = sym (length-map xs f) ∙ ap length are ∙ length_turned ys
 

@@ -4,7 +4,7 @@ use Rattle.std.specs.declared.sync.ledger.Blank.{Blank}
 use Rattle.ebpf_pool.specs.declared.supply.KindBlanks.{KindBlanks}
 use Rattle.ebpf_pool.specs.declared.supply.Blanks.{Blanks}
 
--- the blank is the one that a ledger of this name stands for, of 65 parts: a part for each of 64 hands, and one that stays
+-- the blank is the one that a ledger of this name means, of 65 parts: a part for each of 64 hands, and one that stays
 abbrev pub IsFor : Blank → ℕ → Type 0
 IsFor blank name = (blank.name ≡ name) × (blank.parts ≡ 65)
 

@@ -1,4 +1,4 @@
--- Neighbouring jobs that one ticket stands for. Of bundles of a size, bundle b has the jobs from b times the size up to the next
+-- Neighbouring jobs that one ticket means. Of bundles of a size, bundle b has the jobs from b times the size up to the next
 -- bundle's first, as far as there are jobs.
 use Rattle.std.specs.Prelude.{◌≡◌, ◌⊎◌, ◌+◌, ◌*◌, ◌/◌, ◌<◌, ◌≤◌, ◌==◌, ℕ, if◌then◌else◌, List}
 use Rattle.std.specs.Int.{div_ceil}
@@ -11,14 +11,14 @@ use Rattle.ebpf_pool.specs.Places.{times_in}
 abbrev pub bundle_of : (size job : ℕ) → ℕ
 bundle_of size job = job / size
 
--- how many bundles so many jobs make
+-- how many bundles n jobs make
 abbrev pub bundles_in : (size count : ℕ) → ℕ
 bundles_in size count = div_ceil count size
 
 abbrev pub IsBundleSize : ℕ → Type 0
 IsBundleSize size = (0 < size) × (size ≤ MAX_BUNDLE)
 
--- so many jobs make at least that many bundles for each worker, where a bundle has more than one job
+-- n jobs make at least that many bundles for each worker, where a bundle has more than one job
 abbrev pub IsShared : (size workers count : ℕ) → Type 0
 IsShared size workers count = (size ≡ 1) ⊎ (size * (workers * MIN_BUNDLES) ≤ count)
 

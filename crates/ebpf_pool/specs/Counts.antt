@@ -41,7 +41,7 @@ module _ {L : Type 0} where
   gets_of h strays = all_gets h - strays
 
   -- How many objects of a kind are out by its hands' doing, counted from 2^57 on: of frees and of puts there are at most 2^56, and of
-  -- a store's counts only what they grow by is told.
+  -- a store's counts only what they grow by is said.
   abbrev pub out_of : {K : Type 0} → HandPair K L → ℕ
   out_of p = (p.hand.allocs + p.shelf_hand.gets + 2 ^ 57) - (p.hand.frees + p.shelf_hand.puts)
 

@@ -1,4 +1,4 @@
--- How a worker's store goes from one state to a later one, by what its runs were told.
+-- How a worker's store goes from one state to a later one, by what its runs were answered.
 use Rattle.std.specs.Prelude.{◌≡◌, ◌+◌, ◌-◌, ℕ, List, [], ◌∷◌, ◌++◌, All, length}
 use Rattle.std.proofs.Common.{cond, refl, sym, ap, ◌∙◌, add_assoc, add-zero}
 use Rattle.std.proofs.lemmas.List.Sums.{sum_by-append}

@@ -50,7 +50,7 @@ module _ {L : Type 0} where
   abbrev pub reports_of : Parts L → List (List Numbered)
   reports_of p = map (λ l. l.items) p.answered.items
 
-  -- What is left of workers that had these seats. Where they are through together, one was told that there are no more jobs, and each
+  -- What is left of workers that had these seats. Where they are through together, one found no jobs left, and each
   -- job has as many reports as its bundle was drawn.
   pub record AreServed (programs : List Subject) (jobs : List Job) (o : OwnersView) (size : ℕ) (t : TicketsView) (seats : List SeatView)
       (p : Parts L) (done : Done) : Type 0 where

@@ -1,4 +1,4 @@
-//! Who is told how far the workers and the reaper are.
+//! Who learns how far the workers and the reaper are.
 
 /// What a worker or the reaper has come to.
 #[derive(Clone, Copy)]
@@ -11,7 +11,7 @@ pub enum Point {
     Reaped,
 }
 
-/// Is told by each thread how far it is, and may hold it up. No lock is held then. One worker does the jobs of a bundle, one after
+/// Is called by each thread with how far it is, and may hold it up. No lock is held then. One worker does the jobs of a bundle, one after
 /// another: so a gate that holds up a job until a neighbour is done may wait for ever.
 pub trait Gate {
     /// A job of this number is at this point; or, at [`Point::Reaped`], a pass of the reaper.

@@ -7,15 +7,15 @@
 //! next finds its slot owned. The types see to this order (`owned`): no hand and no shelf takes an object of a run.
 //!
 //! A shelf has room for one object, which a run of one worker leaves and a run of another takes. In the table its slot is the
-//! shelf's before it stands there, and the run's that took it after that. Where it is neither, it is a stray: it goes back to the
+//! shelf's before it is there, and the run's that took it after that. Where it is neither, it is a stray: it goes back to the
 //! cache, the call is answered null, and the stray is counted. What the shelves hold at the end goes back too.
 //!
 //! Workers run side by side, with the reaper beside them. Each draws the number of a bundle of neighbouring jobs, runs them over its
-//! store and keeps the reports, until there are no more. [`run_jobs`] makes all this and puts the reports in the order of the jobs.
+//! store and keeps the reports, until there are none left. [`run_jobs`] makes all this and puts the reports in the order of the jobs.
 //!
 //! What it promises: each job is done once, and its report is that of its program alone; what the caches and shelves count is
-//! what the reports say, and all that went out came back. It stands on this: the store keeps the laws of `Objects` of
-//! ebpf_machine, so whatever is proved of a run over some store holds over this one; each bundle is drawn once, and each
+//! what the reports say, and all that went out came back. It rests on this: the store keeps the laws of `Objects` of
+//! ebpf_machine, so all that is proved of a run over any store holds over this one; each bundle is drawn once, and each
 //! job is in one bundle.
 //!
 //! To be read in this order: `ledgers`, `hands`, `supply`, `count`, `client`, `owned`, `stock`, `stocks`, `store`, `jobs`, `gate`, `worker`,

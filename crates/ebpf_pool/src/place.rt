@@ -8,7 +8,7 @@ use crate::ledgers::Puts;
 use ebpf_machine::report::{Answers, Output, Report, Taken};
 use std::alloc::Global;
 
-/// Makes a place for the report of each of so many jobs, for which there is memory. A report that has no exit is none.
+/// Makes a place for the report of each of n jobs, for which there is memory. A report that has no exit is none.
 pub(crate) fn make_places(alloc: Global, count: usize, places: &mut Vec<Report>)
     requires { AreReserved count places.old }
     ensures { ArePlaces count places.new.items }

@@ -55,7 +55,7 @@ impl<'a, K: Kind, L: Names> Stock<'a, K, L> {
         self.pair.hand.give(rt, &self.supply.cache, object);
     }
 
-    /// Exchanges what is given, if anything, for what stands on the shelf.
+    /// Exchanges what is given, if anything, for what is on the shelf.
     pub(crate) fn swap<R: Wait>(
         &mut self,
         rt: &R,

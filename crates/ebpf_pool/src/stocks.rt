@@ -96,7 +96,7 @@ impl<'a, L: Names> Stocks<'a, L> {
         }
     }
 
-    /// Exchanges an object of the shelf's kind, or nothing, for what stands there.
+    /// Exchanges an object of the shelf's kind, or nothing, for what is there.
     pub(crate) fn swap<R: Wait>(
         &mut self,
         rt: &R,

@@ -1,14 +1,14 @@
 //! A worker.
 //!
 //! *The idea.* A worker draws the number of a bundle of neighbouring jobs. It runs the program of each over its own store, and keeps
-//! the report under the job's number. Then it draws again, until it is told that there are no more bundles. One that finds no memory
+//! the report under the job's number. Then it draws again, until it is answered that there are none left bundles. One that finds no memory
 //! to begin with draws none, and leaves all jobs to the others. A bundle saves draws: each is a step on one word that all workers share.
 //!
 //! *The invariant.* Each job has as many reports as its bundle was drawn. Each report is that of its job's program alone, with the
 //! answers that it reports. Of each kind its hands gave back or left on the shelf all that they took or got from there. What they
 //! took, got and were refused is what the reports say, clashes and strays aside.
 //!
-//! *The reason.* A run over whatever store leaves as many objects of each kind out as there were, and its report's answers are
+//! *The reason.* A run over any store leaves as many objects of each kind out as there were, and its report's answers are
 //! what the store counts. Each bundle is drawn once, over all workers, and each job is in one bundle; so each job has one report.
 
 ghost use Rattle.std.specs.Prelude.{◌≡◌, ◌≢◌, ◌⊎◌, ◌≤◌, ◌<◌, [], All, length, false, vec_len, vec_capacity, IfOk, OnOk, OnErr};
@@ -61,7 +61,7 @@ pub(crate) struct Shared<'a, L: Names, G: Gate, R: Wait> {
 /// How a worker ended, or several together.
 #[derive(Clone, Copy)]
 pub(crate) enum Ending {
-    /// It was told that there are no more jobs.
+    /// It found no jobs left.
     Through,
     /// It found no memory to begin with: it drew no job, and left all jobs to the others.
     Unstarted,
@@ -92,7 +92,7 @@ pub(crate) struct Worker<L: Names> {
     pub(crate) ending: Ending,
 }
 
-/// Does jobs until there are no more, or memory runs out.
+/// Does jobs until none is left, or memory runs out.
 pub(crate) fn work<'a, L: Names, G: Gate + 'a, R: Wait + 'a>(
     shared: &Shared<'a, L, G, R>,
     worker: &mut Worker<L>,

@@ -110,7 +110,7 @@ fn after_eq(a: Range, b: Range) -> Option<(Range, Range)>
     Some((both, both))
 }
 
-// A constant is no more in the other range, where it was an end of it.
+// A constant is no longer in the other range, where it was an end of it.
 fn after_ne(a: Range, b: Range) -> Option<(Range, Range)>
     requires left { a.lo ≤ a.hi }
     requires right { b.lo ≤ b.hi }

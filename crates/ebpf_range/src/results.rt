@@ -153,7 +153,7 @@ fn negation_or_any(width: Width, a: Range) -> Range
 }
 
 /// What is known of the low bits of a number with their bytes in another order: the result where the number is constant,
-/// else all numbers of so many bits. Any number of bits but 16 and 32 counts as 64.
+/// else all numbers of n bits. Any number of bits but 16 and 32 counts as 64.
 pub fn swap(order: Order, bits: u8, a: Range) -> Range
     requires { a.lo ≤ a.hi }
     ensures value { result ≡ swap_range order bits a }
@@ -164,7 +164,7 @@ pub fn swap(order: Order, bits: u8, a: Range) -> Range
     swap_or_any(order, bits, a)
 }
 
-// The bytes of a constant in another order, else all numbers of so many bits.
+// The bytes of a constant in another order, else all numbers of n bits.
 fn swap_or_any(order: Order, bits: u8, a: Range) -> Range
     ensures { result ≡ swap_range order bits a }
 {

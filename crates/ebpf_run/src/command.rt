@@ -6,33 +6,33 @@ use crate::source::{Source, elf_option, function_option, raw_option, source_of};
 use clap::{Arg, ArgAction, ArgMatches, Command, value_parser};
 use std::alloc::{AllocError, Global};
 
-// Behind the help of the program and of `one`.
+// After the help of the program and of `one`.
 const ONE_EXAMPLE: &str = "Example: echo 'b700000007000000 9500000000000000' | ebpf_run one";
 
-// Behind the help of `list`.
+// After the help of `list`.
 const LIST_EXAMPLE: &str = "Example: echo 'b700000007000000 9500000000000000' | ebpf_run list";
 
-// Behind the help of `explain`.
+// After the help of `explain`.
 const EXPLAIN_EXAMPLE: &str =
     "Example: echo 'b700000007000000 9500000000000000' | ebpf_run explain";
 
-// Behind the help of `lay-out`.
+// After the help of `lay-out`.
 const LAY_OUT_EXAMPLE: &str =
     "Example: echo '05000100000000009500000000000000b7000000070000000500fdff00000000' | ebpf_run lay-out";
 
-// Behind the help of `assemble`.
+// After the help of `assemble`.
 const ASSEMBLE_EXAMPLE: &str =
     "Example: printf 'mov64 r0, 7\\nexit\\n' | ebpf_run assemble | ebpf_run one";
 
-// Behind the help of `check`.
+// After the help of `check`.
 const CHECK_EXAMPLE: &str =
     "Example: printf '%s\\n' 'program p 0 0 b7000000070000009500000000000000' 'run p -' | ebpf_run check";
 
-// Behind the help of `replay`.
+// After the help of `replay`.
 const REPLAY_EXAMPLE: &str =
     "Example: printf '%s\\n' 'program p 0 0 b7000000070000009500000000000000' 'start p -' 'exec 0' | ebpf_run replay";
 
-// Behind the help of `run`.
+// After the help of `run`.
 const RUN_EXAMPLE: &str =
     "Example: printf '%s\\n' 'program p 0 0 b7000000070000009500000000000000' 'run p -' | ebpf_run run";
 
@@ -78,7 +78,7 @@ pub struct OneOptions<'a> {
 /// The option of `check`.
 #[derive(Clone, Copy)]
 pub struct CheckOptions {
-    /// Whether it is told why each refused program is.
+    /// Whether it says why each refused program is.
     pub explain: bool,
 }
 

@@ -27,7 +27,7 @@ pub record AreExplainedBefore (asked : Bool) (programs left : List Named) (kept 
 append_nil_of : {A : Type 0} (xs : List A) → xs ++ [] ≡ xs
 append_nil_of xs = grind (arith, common_steps)
 
--- ---- what is told of one program
+-- ---- what is said of one program
 
 pub nothing_told : (asked : Bool) (judged : Judged) (bytes : List ℕ) (decl : Decl) (rows : List KindRow) → (asked && is_refused judged) ≡ false
     → IsTold asked judged bytes decl rows []

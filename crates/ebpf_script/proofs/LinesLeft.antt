@@ -1,4 +1,4 @@
--- The lines that are left of a text behind its first bytes.
+-- The lines that are left of a text after its first bytes.
 use Rattle.std.proofs.Common.{◌≡◌, ℕ, zero, suc, ◌+◌, ◌-◌, ◌<◌, ◌≤◌, Bool, true, false, ◌==◌, ◌||◌, cond, nat_le, List, [], ◌∷◌, ◌++◌, length, take, drop, get_or, refl, sym, ap, ◌∙◌, subst, arith, inl, inr, eq-zero-or-pos, length-drop}
 use Rattle.std.specs.List.{slice_split, list_all, All}
 use Rattle.std.proofs.lemmas.Bool.{and_parts, and_from}
@@ -8,7 +8,7 @@ use Rattle.std.proofs.lemmas.List.Folds.{list_all-append}
 use Rattle.std.proofs.lemmas.List.Splits.{slice_split_at, slice_split_none}
 use Rattle.ebpf_script.specs.ScriptLines.{script_lines, is_text_byte, is_text}
 
--- behind all of a text there are none
+-- after all of a text there are none
 abbrev pub lines_from : List ℕ → ℕ → List (List ℕ)
 lines_from text from = cond (nat_le from (length text)) (script_lines (drop from text)) []
 
@@ -55,7 +55,7 @@ lines_from-drop text from n within =
     ] in
     rw (same, drop-drop n from text) refl
 
--- the line that begins here, and those behind it
+-- the line that begins here, and those after it
 pub lines_from-line : (text line : List ℕ) (from : ℕ) → from ≤ length text → IsFirst (drop from text) line
     → lines_from text from ≡ line ∷ lines_from text (from + (length line + 1))
 lines_from-line text line from within first =

@@ -93,6 +93,6 @@ one_pass shape old new adds = omega (arith, passes_with (parsed_script old) shap
 pub line_at : (lines : List (List ℕ)) (line : List ℕ) (n index : ℕ) → n < length lines → line ≡ get_or lines n line → n ≡ index → line ≡ get_or lines index []
 line_at lines line n index inside same is = same ∙ (get_or_default lines n line [] inside ∙ ap (λ (k : ℕ). get_or lines k []) is)
 
--- behind the last there is none
+-- after the last there is none
 pub line_past : (lines : List (List ℕ)) (index : ℕ) → length lines ≤ index → get_or lines index [] ≡ []
 line_past lines index past = get_or_past lines index [] past

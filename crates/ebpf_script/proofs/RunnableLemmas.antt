@@ -24,7 +24,7 @@ use Rattle.ebpf_script.specs.Shapes.{Shape, Passed, Unknown, ProgramLine, StartL
 use Rattle.ebpf_script.specs.Words.{words}
 use Rattle.ebpf_script.proofs.LinesLemmas.{lines_few}
 
--- behind so many lines, each of which adds a program or a job at most
+-- after n lines, each of which adds a program or a job at most
 record IsReady (lines : ℕ) (parsed : ParsedScript) : Type 0 where
   pages : IfSome parsed.pages (λ n. (1 ≤ n) × (n ≤ 256))
   declared : AreDeclared parsed.programs parsed.jobs
@@ -69,7 +69,7 @@ inside_some f [] k lt = absurd (omega (arith, lt))
 inside_some f (x ∷ xs) zero lt = refl
 inside_some f (x ∷ xs) (suc k) lt = inside_some f xs k (omega (arith, lt))
 
--- the first that passes stands at its place
+-- the first that passes is at its place
 found_here : {X : Type 0} (p : X → Bool) (f : X → ℕ) (xs : List X) (len : ℕ) → is_none (position p xs) ≡ false
     → len ≡ unwrap_or (option_map f (find p xs)) 0 → slice_get (map f xs) (unwrap_or (position p xs) 0) ≡ Some len
 found_here p f xs len is same = by (nat_lt (position_or_len p xs) (length xs)) refl is where

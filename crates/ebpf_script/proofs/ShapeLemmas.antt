@@ -21,11 +21,11 @@ pub shaped_refused : {T : Type 0} (r : Result T Stop) (shape which : Shape) (par
     → IfErr r (IsStop (shape_fault parsed which)) → IfErr r (IsStop (shape_fault parsed shape))
 shaped_refused r shape which parsed same h = subst (λ (s : Shape). IfErr r (IsStop (shape_fault parsed s))) (sym same) h
 
--- what a test of the first word told
+-- what a test of the first word gave
 pub tested : (first : List ℕ) {word wanted : List ℕ} {r b : Bool} → word ≡ wanted → r ≡ bytes_eq first word → r ≡ b → bytes_eq first wanted ≡ b
 tested first same is told = ap (bytes_eq first) (sym same) ∙ (sym is ∙ told)
 
--- the words of a line that has one or two behind its first
+-- the words of a line that has one or two after its first
 pub one_word : {X : Type 0} (f : X → List ℕ) (xs : List X) (d : X) → 1 ≤ length xs → length xs < 2 → map f xs ≡ f (get_or xs 0 d) ∷ []
 one_word f [] d least below = absurd (omega arith)
 one_word f (x ∷ []) d least below = refl

@@ -7,7 +7,7 @@ use Rattle.ebpf_script.specs.Scripts.{parsed_text}
 use Rattle.ebpf_script.specs.ScriptText.{Doing, RespondsScript}
 use Rattle.ebpf_script.specs.Verdicts.{verdict_lines}
 
--- nothing behind the verdicts
+-- nothing after the verdicts
 abbrev pub DoesCheck : Doing
 DoesCheck parsed verdicts response = response ≡ clean_response (verdict_lines verdicts)
 

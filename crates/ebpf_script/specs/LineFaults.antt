@@ -17,7 +17,7 @@ use Rattle.ebpf_script.specs.Words.{words}
 abbrev pub is_as_declared : List Named → List ℕ → List ℕ → Bool
 is_as_declared programs name bytes = length bytes == unwrap_or (declared_by programs name) 0
 
--- behind what the lines before say
+-- after what the lines before say
 abbrev pub shape_fault : ParsedScript → Shape → Option FaultCode
 shape_fault parsed Passed = None
 shape_fault parsed Unknown = Some UnknownLine

@@ -12,7 +12,7 @@ value_of digits = fold (λ value digit. 10 * value + (digit - 48)) 0 digits
 abbrev pub is_number : List ℕ → Bool
 is_number word = not (length word == 0) && all_ascii_digits word
 
--- the number that a word writes, if it is no more than this
+-- the number that a word writes, if it is at most this
 unfoldable pub number_to : ℕ → List ℕ → Option ℕ
 number_to most word = if is_number word && nat_le (value_of word) most then Some (value_of word) else None
 

@@ -18,7 +18,7 @@ use Rattle.ebpf_script.specs.WorldLines.{world_lines}
 abbrev pub stopped_line : ℕ → Illegal → List ℕ
 stopped_line index why = codes "stopped " ++ (apply_name (code_of why) ++ (codes " " ++ (decimal index ++ codes "\n")))
 
--- behind the verdicts, the world after the events, or where they stop
+-- after the verdicts, the world after the events, or where they stop
 abbrev pub world_response : List ℕ → Result World (ℕ × Illegal) → Response
 world_response verdicts (Ok w) = clean_response (verdicts ++ world_lines w)
 world_response verdicts (Err stop) = refused_response (verdicts ++ stopped_line stop.0 stop.1)

@@ -21,7 +21,7 @@ pub record MayCome (programs : List Subject) (jobs : List Job) (o : Outcome) : T
   pub unused : All (λ s. (s.notes ≡ []) × (s.fetches ≡ [])) before
   pub is : IsOutcome programs jobs before after o
 
--- behind the verdicts, an outcome of the jobs with the accepted programs
+-- after the verdicts, an outcome of the jobs with the accepted programs
 abbrev pub DoesRun : Doing
 DoesRun parsed verdicts response =
     (o : Outcome) × MayCome (accepted_of verdicts) parsed.jobs o × (response ≡ clean_response (verdict_lines verdicts ++ outcome_lines o))

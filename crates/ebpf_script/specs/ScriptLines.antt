@@ -2,7 +2,7 @@
 use Rattle.std.specs.Prelude.{ℕ, Bool, ◌==◌, ◌||◌, ◌&&◌, nat_le, List}
 use Rattle.std.specs.List.{slice_split, list_all}
 
--- what stands between the newlines; behind a last newline that is a blank line more
+-- what is between the newlines; after a last newline that is a blank line more
 abbrev pub script_lines : List ℕ → List (List ℕ)
 script_lines text = slice_split (λ c. c == 10) text
 

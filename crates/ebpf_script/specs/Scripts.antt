@@ -9,12 +9,12 @@ use Rattle.ebpf_script.specs.ScriptLines.{script_lines}
 use Rattle.ebpf_script.specs.Shapes.{shape_of}
 use Rattle.ebpf_script.specs.Words.{words}
 
--- a line's fault, or else what the lines behind it give
+-- a line's fault, or else what the lines after it give
 abbrev pub unless_fault : ℕ → Option FaultCode → Result ParsedScript (ℕ × FaultCode) → Result ParsedScript (ℕ × FaultCode)
 unless_fault number None behind = behind
 unless_fault number (Some code) behind = Err (number, code)
 
--- the lines from this number on, behind the script of the lines before them
+-- the lines from this number on, after the script of the lines before them
 abbrev pub parsed_lines : Dialect → ℕ → ParsedScript → List (List ℕ) → Result ParsedScript (ℕ × FaultCode)
 parsed_lines dialect number parsed [] = Ok parsed
 parsed_lines dialect number parsed (line ∷ lines) =

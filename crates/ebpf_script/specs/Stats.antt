@@ -1,4 +1,4 @@
--- What is told of an outcome beside its text.
+-- What is said of an outcome beside its text.
 use Rattle.std.specs.Prelude.{◌≡◌, ℕ, List, length, sum_by}
 use Rattle.ebpf_machine.specs.declared.report.Report.{Report}
 use Rattle.ebpf_pool.specs.declared.outcome.Outcome.{Outcome}

@@ -6,6 +6,6 @@ use Rattle.std.specs.List.{slice_split}
 abbrev pub is_gap : ℕ → Bool
 is_gap c = c == 9 || c == 13 || c == 32
 
--- what stands between the gaps, where that is anything
+-- what is between the gaps, where that is anything
 unfoldable pub words : List ℕ → List (List ℕ)
 words line = filter (λ word. not (length word == 0)) (slice_split is_gap line)

@@ -1,4 +1,4 @@
--- The lines of a world: what each run did, then what became of the slots of each kind, and then what stands on the shelves.
+-- The lines of a world: what each run did, then what became of the slots of each kind, and then what is on the shelves.
 use Rattle.std.specs.Prelude.{ℕ, zero, suc, ◌++◌, List, [], length, codes, decimal, count_by, Option, Some, None, is_some}
 use Rattle.std.specs.List.{flat_map}
 use Rattle.ebpf_machine.specs.World.{World}

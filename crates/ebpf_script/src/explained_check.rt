@@ -19,7 +19,7 @@ use ebpf_command::text::fault_line;
 use std::alloc::{AllocError, Global};
 use std::io::{Read, Write};
 
-/// Reads a script of jobs, judges its programs, and writes the verdict on each, and behind it why the program is refused. No job
+/// Reads a script of jobs, judges its programs, and writes the verdict on each, and after it why the program is refused. No job
 /// is done.
 ///
 /// # Errors

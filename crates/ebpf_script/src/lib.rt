@@ -3,7 +3,7 @@
 //!
 //! What `check` and `replay` write is a function of what they read, errors included; of what `run` writes that much is open which
 //! calls of `new` found no object, and what calls of `swap` found on a shelf. They write nothing else: that is the contract of
-//! [`check::check`], of [`explained_check::explained_check`], which tells why programs are refused as well, of [`replay::replay`] and of
+//! [`check::check`], of [`explained_check::explained_check`], which says why programs are refused as well, of [`replay::replay`] and of
 //! [`run::run`].
 //!
 //! To be read in this order: `reader`, `verdicts`, `check`, `script_fault`, `explained_check`, `event_codes`, `world_text`, `replay`,

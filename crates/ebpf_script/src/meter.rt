@@ -1,4 +1,4 @@
-//! Who is told how far `run` is, and what came of its jobs.
+//! Who learns how far `run` is, and what came of its jobs.
 
 use crate::stats::Stats;
 
@@ -15,7 +15,7 @@ pub enum Stage {
     Writing,
 }
 
-/// Is told how far `run` is.
+/// Learns how far `run` is.
 pub trait Meter {
     /// A stage is over. Where there are no jobs to be done, or memory runs out, some stages do not come.
     fn ended(&mut self, stage: Stage);

@@ -10,7 +10,7 @@ use ebpf_pool::{Outcome, ShelfTotals};
 use object_cache::Totals;
 use std::alloc::AllocError;
 
-/// Writes an outcome behind a text: each job in order, then the cache of each kind, and then each shelf that was used. It fails
+/// Writes an outcome after a text: each job in order, then the cache of each kind, and then each shelf that was used. It fails
 /// only where an allocation fails.
 pub(crate) fn write_outcome(text: &mut String, outcome: &Outcome) -> Result<(), AllocError>
     ensures { OnOk result (string_bytes text.new ≡ string_bytes text.old ++ outcome_lines outcome.now) }

@@ -35,7 +35,7 @@ pub fn read_script(alloc: Global, dialect: Dialect, text: &[u8]) -> Result<Scrip
     // So a caller can count passes of its own beside them.
     ensures few { IfOk result (λ script. script.passes ≤ MAX_INPUT + 1) }
     ensures refused { IfErr result (IsScriptStop (parsed_text dialect text.now)) }
-    // A text that is too long is told as such, whatever memory there is.
+    // A text that is too long is reported as such, whatever memory there is.
     ensures long { MAX_INPUT < length text.now → result ≡ Err (ScriptStop.Fault (record { code = FaultCode.InputTooLong; line = 0 })) }
 {
     if text.len() > MAX_INPUT {

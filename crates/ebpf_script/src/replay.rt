@@ -64,7 +64,7 @@ fn answer_script(alloc: Global, script: &Script) -> Result<Answer, AllocError>
     answer_events(alloc, verdicts.text, &verdicts.accepted, &script.events)
 }
 
-// The response to the events, behind the verdicts.
+// The response to the events, after the verdicts.
 fn answer_events(
     alloc: Global,
     text: String,

@@ -28,7 +28,7 @@ use std::thread::Threads;
 use vmem_arena::MAX_PAGES;
 
 /// Reads a script of jobs, judges its programs, has the jobs done by this many workers, and writes what came of each, of the
-/// caches and of the shelves. The reaper makes this many passes beside them, and those of the script's lines. The meter is told how far
+/// caches and of the shelves. The reaper makes this many passes beside them, and those of the script's lines. The meter learns how far
 /// it is, and what the caches and the workers did.
 ///
 /// # Errors

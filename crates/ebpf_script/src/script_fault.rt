@@ -10,7 +10,7 @@ use std::alloc::AllocError;
 // How many bytes of a line are shown.
 const SHOWN: usize = 60;
 
-/// Writes behind a text why a script can't be read, as a line: the script's line as it stands, and what is expected.
+/// Writes after a text why a script can't be read, as a line: the script's line as it is, and what is expected.
 pub(crate) fn write_script_fault(
     text: &mut String,
     script: &[u8],
@@ -86,7 +86,7 @@ fn shown_byte(byte: u8) -> u8
     }
 }
 
-// The line of a number, from 1; nothing behind the last.
+// The line of a number, from 1; nothing after the last.
 fn numbered_line(script: &[u8], number: usize) -> &[u8]
     ensures { result.now ≡ numbered_line script.now number }
 {

@@ -5,7 +5,7 @@ ghost use Rattle.ebpf_pool.specs.Outcomes.{IsEvenTotal};
 
 use object_cache::Totals;
 
-/// What is told of an outcome beside its text. What adds up does so by its type: each cache got back what it gave, and the jobs
+/// What is said of an outcome beside its text. What adds up does so by its type: each cache got back what it gave, and the jobs
 /// that the workers did are all that there were.
 #[derive(Drop)]
 pub struct Stats {

@@ -8,7 +8,7 @@ use crate::watch::Times;
 use object_cache::{DepotCounts, PageCounts, Totals};
 use std::alloc::AllocError;
 
-/// Writes the table behind a text. It fails only where an allocation fails.
+/// Writes the table after a text. It fails only where an allocation fails.
 pub(crate) fn write_table(text: &mut String, stats: &Stats, times: Times) -> Result<(), AllocError>
     ensures { OnOk result (string_bytes text.new ≡ string_bytes text.old ++ table_lines stats.now times) }
 {
@@ -110,7 +110,7 @@ fn write_first_times(text: &mut String, times: Times) -> Result<(), AllocError>
     write_time(text, "judging", times.judging)
 }
 
-// Writes how long the stages with the jobs and behind them took.
+// Writes how long the stages with the jobs and after them took.
 fn write_last_times(text: &mut String, times: Times) -> Result<(), AllocError>
     ensures { OnOk result (string_bytes text.new ≡ string_bytes text.old ++ last_times times) }
 {

@@ -1,4 +1,4 @@
-//! A meter that takes the time of each stage, and makes a table of it and of what it is told.
+//! A meter that takes the time of each stage, and makes a table of it and of what it learns.
 
 ghost use Rattle.std.specs.Prelude.{◌≡◌, ◌++◌, None, Some, string_bytes, OnOk};
 ghost use Rattle.ebpf_script.specs.StatsLines.{table_if};
@@ -50,7 +50,7 @@ impl<'a, C: Clock> Watch<'a, C> {
         }
     }
 
-    /// Writes the table of what the jobs came to and of the times behind a text; nothing where none were done. It fails only where an
+    /// Writes the table of what the jobs came to and of the times after a text; nothing where none were done. It fails only where an
     /// allocation fails, and makes none where the text has room for [`TABLE_BYTES`].
     pub fn write_table(&self, text: &mut String) -> Result<(), AllocError>
         ensures { OnOk result (string_bytes text.new ≡ string_bytes text.old ++ table_if self.now.stats self.now.times) }

@@ -9,7 +9,7 @@ ghost use Rattle.ebpf_world.specs.Readers.{shelf_in};
 use ebpf_world::world::{Status, World};
 use std::alloc::{AllocError, Global};
 
-/// Writes a world behind a text: each run in order, then the slots of each kind, and then what stands on the shelves. It fails
+/// Writes a world after a text: each run in order, then the slots of each kind, and then what is on the shelves. It fails
 /// only where an allocation fails.
 pub(crate) fn write_world(text: &mut String, world: &World<'_>) -> Result<(), AllocError>
     ensures { OnOk result (OfWorld world.now (λ w. string_bytes text.new ≡ string_bytes text.old ++ world_lines w)) }
@@ -88,7 +88,7 @@ fn held_of(world: &World<'_>, kind: u8) -> usize
     held
 }
 
-// Writes what stands on the shelves.
+// Writes what is on the shelves.
 fn write_shelves(text: &mut String, world: &World<'_>) -> Result<(), AllocError>
     ensures { OnOk result (OfWorld world.now (λ w. string_bytes text.new ≡ string_bytes text.old ++ shelf_lines w)) }
 {

@@ -12,7 +12,7 @@ on_shelf shelves shelf = slice_index_or shelves shelf None
 abbrev pub slot_on : List (Option Object) → ℕ → Option ℕ
 slot_on shelves shelf = option_map (λ o. o.slot) (on_shelf shelves shelf)
 
--- an object as it is to stand on a shelf
+-- an object as it is to be on a shelf
 abbrev pub as_shelved : Object → Shelved
 as_shelved o = record { slot = o.slot; bytes = o.bytes.items }
 
@@ -51,7 +51,7 @@ pub record AreShelves (shelves : List (Option Object)) : Type 0 where
 
 -- ---- what a call of swap is answered
 
--- what stands on the shelf, or that nothing does
+-- what is on the shelf, or that nothing is
 abbrev pub StandsThere : List (Option Object) → (shelf slot : ℕ) (bytes : List ℕ) → Type 0
 StandsThere shelves shelf slot bytes = standing_on shelves shelf ≡ Some (record { slot = slot; bytes = bytes })
 

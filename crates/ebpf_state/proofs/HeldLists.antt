@@ -40,7 +40,7 @@ pub lower_first : (n m : ℕ) (ms : List ℕ) → n < m → IsBelowFirst m ms �
 lower_first n m [] lt below = tt
 lower_first n m (k ∷ ms) lt below = omega (arith, lt, below)
 
--- the calls of a list that one more reference may stand before
+-- the calls of a list that one more reference may come before
 abbrev kept_calls : Bool → Held → List Held → List ℕ
 kept_calls keeps x held = calls_of (cond keeps (x ∷ held) held)
 

@@ -40,7 +40,7 @@ with-behind new x held lt = rw (lt-ltb x.call new.call lt, not_below new.call x.
 with-same : (new x : Held) (held : List Held) → x.call ≡ new.call → held_with new (x ∷ held) ≡ held_with new held
 with-same new x held e = rw (not_below x.call new.call (omega (arith, e)), not_below new.call x.call (omega (arith, e))) refl
 
--- ---- where it stands
+-- ---- where it is
 
 -- what is below the first of an ascending list is below all of it
 all_above : (n : ℕ) (held : List Held) → IsBelowFirst n (calls_of held) → IsAscending (calls_of held) → All (λ h. n < h.call) held

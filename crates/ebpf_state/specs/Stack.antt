@@ -33,7 +33,7 @@ place_of offset bytes = if int_le (negsuc 511) offset && int_le (offset +ℤ pos
 abbrev pub is_whole_word : ℕ → ℕ → Bool
 is_whole_word place bytes = bytes == 8 && place % 8 == 0
 
--- the bits of word w that stand for those of the bytes that lie in it
+-- the bits of word w that are for those of the bytes that lie in it
 abbrev pub covered : ℕ → ℕ → ℕ → ℕ
 covered place bytes w = 2 ^ min 8 (place + bytes - 8 * w) - 2 ^ min 8 (place - 8 * w)
 
@@ -74,7 +74,7 @@ read_fault place bytes words = first_of ((
 ) ∷
     [])
 
--- what is known of a number of so many bytes; with its sign above them it may be any
+-- what is known of a number of n bytes; with its sign above them it may be any
 abbrev pub loaded_range : ℕ → Bool → Range
 loaded_range bytes true = all_below (2 ^ 64)
 loaded_range bytes false = all_below (2 ^ (8 * bytes))

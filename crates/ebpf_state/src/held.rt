@@ -48,7 +48,7 @@ pub(crate) fn hold_reference(held: &mut Vec<Held>, new: Held) -> Result<(), Allo
     Ok(())
 }
 
-/// Says of the reference of a call whether it is null: then it is held no more, else it was tested.
+/// Says of the reference of a call whether it is null: then it is no longer held, else it was tested.
 pub(crate) fn settle_held(held: &mut Vec<Held>, call: u16, null: bool)
     requires { IsAscending (map (λ h. h.call) held.old.items) }
     ensures value { held.new.items ≡ settled_held call null held.old.items }
@@ -61,7 +61,7 @@ pub(crate) fn settle_held(held: &mut Vec<Held>, call: u16, null: bool)
     }
 }
 
-/// Holds the reference of a call no more: its answer was null, or its object was given back.
+/// No longer holds the reference of a call: its answer was null, or its object was given back.
 pub(crate) fn forget_held(held: &mut Vec<Held>, call: u16)
     requires { IsAscending (map (λ h. h.call) held.old.items) }
     ensures value { held.new.items ≡ held_without call held.old.items }

@@ -60,7 +60,7 @@ pub fn bytes_in(size: Size) -> usize
     }
 }
 
-/// Where so many bytes at an offset from the frame pointer begin, among the 512 of the stack; `None` where one of them is
+/// Where n bytes at an offset from the frame pointer begin, among the 512 of the stack; `None` where one of them is
 /// outside.
 pub fn place_of(offset: i64, bytes: usize) -> Option<usize>
     requires some { 0 < bytes }
@@ -89,7 +89,7 @@ pub(crate) fn may_point(value: Abs) -> bool
     value.is_pointer() || value.is_may()
 }
 
-// The bits of a word that stand for those of the bytes that lie in it.
+// The bits of a word that are for those of the bytes that lie in it.
 pub(crate) fn covered(place: usize, bytes: usize, word: usize) -> u8
     requires place { place < 512 }
     requires bytes { bytes ≤ 8 }
@@ -127,7 +127,7 @@ fn word_at(words: &[Word], number: usize) -> Word
     }
 }
 
-// What is known of a word of the stack; nothing is of the one behind the last.
+// What is known of a word of the stack; nothing is of the one after the last.
 pub(crate) fn known_word(words: &[Word], number: usize) -> Word
     requires few { length words.now ≤ 64 }
     requires proper { All IsProperWord words.now }
@@ -184,7 +184,7 @@ fn read_fault(place: usize, bytes: usize, words: &[Word]) -> Option<StackFault>
     }
 }
 
-/// What is known of a loaded number of so many bytes, at most 8: with its sign above them it may be any of 64 bits.
+/// What is known of a loaded number of n bytes, at most 8: with its sign above them it may be any of 64 bits.
 pub fn loaded_range(bytes: usize, signed: bool) -> Range
     requires { bytes ≤ 8 }
     ensures value { result ≡ loaded_range bytes signed }

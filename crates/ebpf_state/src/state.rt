@@ -205,7 +205,7 @@ impl State {
     }
 
     /// Says that the object of a call was given back: from now on nothing is known of what points to it, or may, and it is
-    /// held no more.
+    /// no longer held.
     pub fn forget(&mut self, call: u16)
         ensures { self.new ≡ forgotten call self.old }
     {

@@ -14,7 +14,7 @@ use ebpf_range::range::hull;
 pub enum Word {
     /// A value that was stored as a whole.
     Spill(Abs),
-    /// The bytes that are set: bit `j` stands for byte `j` of the word.
+    /// The bytes that are set: bit `j` means byte `j` of the word.
     Bytes(u8),
 }
 

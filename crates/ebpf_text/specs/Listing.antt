@@ -17,11 +17,11 @@ operands_text (text ∷ texts) = codes " " ++ (text ++ later_operands_text texts
 abbrev pub insn_text : Insn → List ℕ
 insn_text i = mnemonic_of i ++ operands_text (operands_of i)
 
--- the line of the instruction that stands at a slot
+-- the line of the instruction that is at a slot
 abbrev pub line_of : ℕ → Insn → List ℕ
 line_of slot i = decimal slot ++ (codes ": " ++ (insn_text i ++ codes "\n"))
 
--- the line of what stands at a slot: the second half of a wide instruction has none
+-- the line of what is at a slot: the second half of a wide instruction has none
 abbrev pub line_at : ℕ → Option Insn → List ℕ
 line_at slot None = []
 line_at slot (Some i) = line_of slot i

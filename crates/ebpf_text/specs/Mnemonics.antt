@@ -1,4 +1,4 @@
--- The word that a line begins with, behind its slot.
+-- The word that a line begins with, after its slot.
 use Rattle.std.specs.Prelude.{ℕ, ◌++◌, List, true, false, codes, decimal}
 use Rattle.ebpf_insn.specs.declared.insn.Source.TheVariants.{Register, Imm}
 use Rattle.ebpf_insn.specs.declared.insn.Insn.{Insn}

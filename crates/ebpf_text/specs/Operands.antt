@@ -1,4 +1,4 @@
--- What stands behind the word of an instruction: its operands, each as a text.
+-- What comes after the word of an instruction: its operands, each as a text.
 use Rattle.std.specs.Prelude.{ℕ, suc, ℤ, pos, negsuc, ◌++◌, List, [], ◌∷◌, codes, decimal}
 use Rattle.std.specs.Fmt.{signed_decimal}
 use Rattle.ebpf_insn.specs.declared.register.Reg.{Reg}

@@ -18,7 +18,7 @@ pub fn line(alloc: Global, slot: usize, insn: &Insn) -> Result<String, AllocErro
     Ok(text)
 }
 
-// Writes the line of an instruction behind a text. It fails only where an allocation fails.
+// Writes the line of an instruction after a text. It fails only where an allocation fails.
 pub(crate) fn write_line(text: &mut String, slot: usize, insn: &Insn) -> Result<(), AllocError>
     ensures { OnOk result (string_bytes text.new ≡ string_bytes text.old ++ line_of slot insn.now) }
 {

@@ -19,7 +19,7 @@ pub fn listing(alloc: Global, program: &Program) -> Result<String, AllocError>
     Ok(text)
 }
 
-// Writes the line of a slot behind a text, if an instruction begins there. It fails only where an allocation fails.
+// Writes the line of a slot after a text, if an instruction begins there. It fails only where an allocation fails.
 fn write_slot(text: &mut String, program: &Program, slot: usize) -> Result<(), AllocError>
     ensures { OnOk result (string_bytes text.new ≡ string_bytes text.old ++ line_at slot (insn_at program.now slot)) }
 {

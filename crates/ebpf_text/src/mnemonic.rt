@@ -1,4 +1,4 @@
-//! The word that a line begins with, behind its slot.
+//! The word that a line begins with, after its slot.
 
 ghost use Rattle.std.specs.Prelude.{◌≡◌, ◌++◌, decimal, string_bytes, OnOk};
 ghost use Rattle.ebpf_text.specs.Mnemonics.{mnemonic_of};
@@ -7,7 +7,7 @@ use crate::names::{alu_name, cond_name, order_name, size_name, width_name};
 use ebpf_insn::insn::{Insn, Source};
 use std::alloc::AllocError;
 
-// Writes the word of an instruction behind a text. It fails only where an allocation fails.
+// Writes the word of an instruction after a text. It fails only where an allocation fails.
 pub(crate) fn write_mnemonic(text: &mut String, insn: &Insn) -> Result<(), AllocError>
     ensures { OnOk result (string_bytes text.new ≡ string_bytes text.old ++ mnemonic_of insn.now) }
 {

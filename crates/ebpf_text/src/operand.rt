@@ -1,4 +1,4 @@
-//! The texts of operands, each written behind a text. They fail only where an allocation fails.
+//! The texts of operands, each written after a text. They fail only where an allocation fails.
 
 ghost use Rattle.std.specs.Prelude.{◌≡◌, ◌++◌, string_bytes, OnOk};
 ghost use Rattle.ebpf_text.specs.Operands.{source_text, offset_text, place_text};

@@ -9,7 +9,7 @@ use ebpf_insn::insn::{Insn, Source};
 use ebpf_insn::register::Reg;
 use std::alloc::AllocError;
 
-// Writes the operands of an instruction behind a text. It fails only where an allocation fails.
+// Writes the operands of an instruction after a text. It fails only where an allocation fails.
 pub(crate) fn write_operands(text: &mut String, insn: &Insn) -> Result<(), AllocError>
     ensures { OnOk result (string_bytes text.new ≡ string_bytes text.old ++ operands_text (operands_of insn.now)) }
 {

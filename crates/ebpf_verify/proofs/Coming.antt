@@ -138,7 +138,7 @@ refusal_below s entries slot to i known h below inside at here =
 
 -- ---- one after another
 
--- behind what was there, what came by the jump and then what came by the fall
+-- after what was there, what came by the jump and then what came by the fall
 pub added_both : {A E : Type 0} (result : Result A E) (before one two jumped fallen x y : List Comer) → one ≡ before ++ jumped
     → OnOk result (two ≡ one ++ fallen) → jumped ≡ x → fallen ≡ y
     → OnOk result (two ≡ before ++ (x ++ y))

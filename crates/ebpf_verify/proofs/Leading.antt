@@ -14,7 +14,7 @@ first_none : {C : Type 0} (first other : Option C) → or_else first other ≡ N
 first_none (Some code) other e = absurd (none-some code (sym e))
 first_none None other e = refl
 
--- a target that is not refused is behind the jump
+-- a target that is not refused is after the jump
 target_there : (p : List (Option Insn)) (k : ℕ) (z : ℤ) (o : Option ℕ) → jump_fault p k (Some z) o ≡ None → (to : ℕ) × (o ≡ Some to) × (k < to)
 target_there p k z None e = absurd (cc)
 target_there p k z (Some to) e =

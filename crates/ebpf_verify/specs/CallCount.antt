@@ -8,7 +8,7 @@ use Rattle.ebpf_operation.specs.declared.helper.Helper.{Helper}
 use Rattle.ebpf_operation.specs.declared.helper.Helper.TheVariants.{Swap}
 use Rattle.ebpf_operation.specs.Helpers.{helper_of}
 
--- whether a call stands at a slot
+-- whether a call is at a slot
 abbrev pub is_call_there : Option Insn → Bool
 is_call_there (Some (Call number)) = true
 is_call_there _ = false
@@ -18,7 +18,7 @@ abbrev pub is_swap : Option Helper → Bool
 is_swap (Some Swap) = true
 is_swap _ = false
 
--- whether a call of swap stands at a slot
+-- whether a call of swap is at a slot
 abbrev pub is_swap_there : Option Insn → Bool
 is_swap_there (Some (Call number)) = is_swap (helper_of number)
 is_swap_there _ = false
@@ -27,7 +27,7 @@ abbrev pub is_counted : Counted → Option Insn → Bool
 is_counted Calls = is_call_there
 is_counted Swaps = is_swap_there
 
--- how many calls stand at the slots from this one on
+-- how many calls are at the slots from this one on
 abbrev pub calls_from : List (Option Insn) → ℕ → ℕ
 calls_from p slot = count_by is_call_there (drop slot p)
 

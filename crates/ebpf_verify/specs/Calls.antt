@@ -107,7 +107,7 @@ abbrev pub after_free : Abs → StateView → Option StateView
 after_free (Ob call low high) s = Some (with_result (Num (constant 0)) (forgotten call s))
 after_free _ s = None
 
--- what went onto the shelf is gone; what stood there is held, and may be null
+-- what went onto the shelf is gone; what was there is held, and may be null
 abbrev pub after_swap : ℕ → Abs → Abs → StateView → Option StateView
 after_swap slot (Num shelf) given s = Some (with_result (May slot) (holding slot shelf.lo (without_given given s)))
 after_swap slot _ given s = None

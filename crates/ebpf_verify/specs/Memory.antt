@@ -32,7 +32,7 @@ abbrev pub refused_access : {X : Type 0} → Result X StackFault → Option Veri
 refused_access (Ok x) = None
 refused_access (Err fault) = Some (stack_code fault)
 
--- so many bytes at an offset from an address lie among those of something of this length, wherever between its ends the address
+-- n bytes at an offset from an address lie among those of something of this length, wherever between its ends the address
 -- is
 abbrev pub is_in_bounds : ℕ → ℤ → ℤ → ℤ → ℕ → Bool
 is_in_bounds len low high offset bytes = int_le (pos 0) (low +ℤ offset) && int_le ((high +ℤ offset) +ℤ pos bytes) (pos len)
@@ -48,7 +48,7 @@ size_held rows call s = size_of rows (kind_held call s)
 
 -- ---- loads
 
--- why bytes behind a pointer can't be loaded
+-- why bytes at a pointer can't be loaded
 abbrev pub reading_refusal : ℕ → List KindRow → Size → Bool → ℤ → Abs → StateView → Option VerifyCode
 reading_refusal context rows size signed offset (Stk k) s = refused_access (loaded s size signed (k +ℤ offset))
 reading_refusal context rows size signed offset (Ctx a b) s = if is_in_bounds context a b offset (bytes_in size) then None else Some OutsideContext
@@ -76,7 +76,7 @@ loaded_value size signed offset _ s = Unset
 
 -- ---- stores
 
--- why a value can't be stored behind a pointer: the context is never written, and objects hold numbers alone
+-- why a value can't be stored through a pointer: the context is never written, and objects hold numbers alone
 abbrev pub writing_refusal : List KindRow → Size → ℤ → Abs → Abs → StateView → Option VerifyCode
 writing_refusal rows size offset (Stk k) value s = refused_access (stored s size (k +ℤ offset) value)
 writing_refusal rows size offset (Ctx a b) value s = Some ContextWritten

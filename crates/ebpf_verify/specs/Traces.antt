@@ -1,4 +1,4 @@
--- What the verdict stands on.
+-- What the verdict rests on.
 use Rattle.std.specs.Prelude.{◌≡◌, ◌<◌, ◌≤◌, ◌++◌, ℕ, zero, suc, List, [], ◌∷◌, length, Option, Some, None}
 use Rattle.ebpf_insn.specs.declared.insn.Insn.{Insn}
 use Rattle.ebpf_verify.specs.declared.entry.EntryState.{EntryState}

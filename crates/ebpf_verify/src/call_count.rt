@@ -30,7 +30,7 @@ pub(crate) fn calls_in(program: &Program, counted: Counted) -> usize
     calls
 }
 
-// Whether a call that is counted stands at a slot.
+// Whether a call that is counted is at a slot.
 fn is_counted(counted: Counted, insn: Option<&Insn>) -> bool
     ensures { result ≡ is_counted counted (option_copied insn.entry) }
 {

@@ -21,7 +21,7 @@ use ebpf_state::state::State;
 use ebpf_state::value::Abs;
 
 /// Says in the state what is known after the call of a helper at a slot, or says why that can't be called.
-// It stands apart from what most slots do.
+// It is kept apart from what most slots do.
 #[inline(never)]
 pub(crate) fn call(
     decl: Decl,
@@ -103,7 +103,7 @@ fn call_emit(slot: usize, state: &mut State) -> Result<(), VerifyFault>
     }
 }
 
-// A call that exchanges what stands on a shelf for an object of its kind, or for nothing.
+// A call that exchanges what is on a shelf for an object of its kind, or for nothing.
 fn call_swap(decl: Decl, kinds: usize, slot: usize, state: &mut State) -> Result<(), VerifyFault>
     requires inside { slot < MAX_SLOTS }
     requires few { kinds ≤ 8 }

@@ -69,7 +69,7 @@ impl EntryState {
         Ok(())
     }
 
-    // Adds one more state to what comes where some came before. It stands apart, so that callers are short for the slots to
+    // Adds one more state to what comes where some came before. It is kept apart, so that callers are short for the slots to
     // which one state comes, as most are.
     #[inline(never)]
     fn join(&mut self, state: &State)

@@ -15,7 +15,7 @@ pub enum VerifyCode {
     UnsetRegister,
     /// `V2`: the frame pointer `r10` is written.
     FramePointerWritten,
-    /// `V3`: a pointer stands where the operation has no meaning for it.
+    /// `V3`: a pointer is where the operation has no meaning for it.
     PointerMisused,
     /// `V4`: a pointer may be moved by an unknown sign, or more than 2^29 bytes from its base.
     MovedTooFar,

@@ -2,7 +2,7 @@
 //!
 //! [`verify::verify`] walks a program once, in the order of its slots, and keeps for each slot what is known of every
 //! run that comes there. It refuses the lowest slot whose rule refuses what is known there; where it refuses none, it
-//! makes a [`verified::Verified`], and no run of that program traps. [`trace::trace_verdict`] tells what the verdict stands on,
+//! makes a [`verified::Verified`], and no run of that program traps. [`trace::trace_verdict`] says what the verdict rests on,
 //! and of a [`looked::Looked`], what a trace looked at, [`comers::comers_to`] says what each state is the join of.
 //!
 //! To be read in this order: `fault`, `decl`, `pointer`, `operations`, `branches`, `memory`, `call_count`, `calls`, `rules`, `entry`,

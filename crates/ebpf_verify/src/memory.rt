@@ -67,7 +67,7 @@ pub(crate) fn load_value(
     }
 }
 
-// What is known of the bytes behind a pointer, or the code that refuses the load of them.
+// What is known of the bytes at a pointer, or the code that refuses the load of them.
 fn read(
     context: u32,
     rows: &[KindRow],
@@ -121,7 +121,7 @@ fn read_stack(load: Load, k: i64, state: &State) -> Result<Abs, VerifyCode>
     }
 }
 
-// The offset from the frame pointer that an instruction goes to. One that is outside the stack is told as the one behind it.
+// The offset from the frame pointer that an instruction goes to. One that is outside the stack is reported as the one after it.
 fn stack_offset(k: i64, offset: i16, size: Size) -> i64
     ensures { place_of result (bytes_in size) ≡ place_of (k +ℤ offset) (bytes_in size) }
 {
@@ -138,7 +138,7 @@ fn address(at: i64, offset: i16) -> i128
     at as i128 + offset as i128
 }
 
-// The end of so many bytes at an address.
+// The end of n bytes at an address.
 fn end(address: i128, bytes: usize) -> i128
     requires low { negsuc (2 ^ 64) ≤ℤ address }
     requires high { address ≤ℤ pos (2 ^ 64) }

@@ -166,7 +166,7 @@ fn branch_on(
     }
 }
 
-// Sends along each edge of a null test whether the answer of the call is null there. It stands apart from what most slots do.
+// Sends along each edge of a null test whether the answer of the call is null there. It is kept apart from what most slots do.
 #[inline(never)]
 fn settle_on(
     call: u16,
@@ -267,7 +267,7 @@ fn fall_goes_first(edges: Edges, entries: &[EntryState]) -> bool
     }
 }
 
-// Sends a state along an edge. Where nothing came to its target that is two stores, so it stands in each caller.
+// Sends a state along an edge. Where nothing came to its target that is two stores, so it is in each caller.
 #[inline(always)]
 fn send(entries: &mut Vec<EntryState>, edge: Option<u16>, state: State)
     requires { IfSome edge (λ to. to < length entries.old.items) }

@@ -1,4 +1,4 @@
-//! What the verdict stands on: what is known before each slot that was looked at.
+//! What the verdict rests on: what is known before each slot that was looked at.
 
 ghost use Rattle.std.specs.Prelude.{◌≡◌, IfOk};
 ghost use Rattle.ebpf_verify.specs.Traces.{IsTrace};
@@ -20,7 +20,7 @@ pub struct Trace {
 }
 
 /// Judges a program as [`crate::verify::verify`] does, and keeps what is known before each slot that it looks at: the states on
-/// which the verdict stands. It takes the memory of a state for each slot, and fails only where an allocation fails.
+/// which the verdict rests. It takes the memory of a state for each slot, and fails only where an allocation fails.
 pub fn trace_verdict(
     alloc: Global,
     flowed: &Flowed,

@@ -78,7 +78,7 @@ pub held_placed : (kept : WorldState) (k : ℕ) (r : RunState Object) (h : Holdi
     → slice_get kept.runs k ≡ Some r → Contains r.held h → place_at kept.places h.object.slot ≡ Some (Held k h.call)
 held_placed kept k r h placed at among = placed.held k r at (name_of h.object.slot h.call) (held_named r h among)
 
--- what stands on a shelf is in another slot than what is kept elsewhere
+-- what is on a shelf is in another slot than what is kept elsewhere
 off_shelves : (kept : WorldState) (slot : ℕ) → ArePlaced kept → ((shelf : ℕ) → place_at kept.places slot ≢ Some (Shelved shelf))
     → (shelf other : ℕ) → slot_on kept.shelves shelf ≡ Some other → slot ≢ other
 off_shelves kept slot placed off shelf other stands same = off shelf (ap (place_at kept.places) same ∙ placed.shelved shelf other stands)
@@ -172,7 +172,7 @@ some_freed (Some o) kind none = by (kind == o.kind) refl none where
 
 -- ---- which exchange an instruction makes
 
--- it reaches no shelf, and what stood there stands there still
+-- it reaches no shelf, and what was there is there still
 pub record LeavesShelves (kept : WorldState) (r : RunState Object) (after : List (Option Object)) : Type 0 where
   pub unreached : reached (asking_in (run_seen r)) ≡ None
   pub same : (shelf : ℕ) → slot_on after shelf ≡ slot_on kept.shelves shelf
@@ -188,7 +188,7 @@ abbrev pub got_by : Option ℕ → ℕ → List Name
 got_by None at = []
 got_by (Some slot) at = name_of slot at ∷ []
 
--- what the run gave stands on the shelf that it reached, and what stood there is the run's
+-- what the run gave is on the shelf that it reached, and what was there is the run's
 pub record PassesShelf (kept : WorldState) (r t : RunState Object) (after : List (Option Object)) (shelf : ℕ) (given : Option Name) : Type 0 where
   pub reached_is : reached (asking_in (run_seen r)) ≡ Some shelf
   pub own : IfSome given (λ n. Contains (slots_of r) n)
@@ -196,7 +196,7 @@ pub record PassesShelf (kept : WorldState) (r t : RunState Object) (after : List
   pub others : (other : ℕ) → other ≢ shelf → slot_on after other ≡ slot_on kept.shelves other
   pub slots_are : slots_of t ≡ slots_without (call_of given) (slots_of r) ++ got_by (slot_on kept.shelves shelf) r.pc
 
--- nothing passes; a run is lent an object; it frees one, which is at home then; or it exchanges what stands on a shelf
+-- nothing passes; a run is lent an object; it frees one, which is at home then; or it exchanges what is on a shelf
 pub data IsExchange (kept : WorldState) (k : ℕ) (answer : Answer) (r t : RunState Object) (freed : Option Object) (after : List (Option Object)) : Type 0 where
   Stays : LeavesShelves kept r after → freed ≡ None
       → ((run at q : ℕ) → place_lent answer run at kept.places q ≡ place_at kept.places q) → slots_of t ≡ slots_of r
@@ -233,9 +233,9 @@ outcome w kept k answer r t freed shows i =
     let state = i.step.state in
     rw (state, after.slots) is
 
--- ---- what stands on the shelves after it
+-- ---- what is on the shelves after it
 
--- a slot there is that of what stands there
+-- a slot there is that of what is there
 slot_standing : (shelves : List (Option Object)) (shelf : ℕ) → slot_on shelves shelf ≡ option_map (λ (x : world.Shelved). x.slot) (standing_on shelves shelf)
 slot_standing shelves shelf = by (on_shelf shelves shelf) where
   by : (o : Option Object) → option_map (λ (p : Object). p.slot) o ≡ option_map (λ (x : world.Shelved). x.slot) (option_map as_shelved o)
@@ -445,7 +445,7 @@ given_of r shelf (Some call) tended going (o, among, is_call, is_kind) = record 
         let same : x ≡ h = sym there ∙ ap (λ (n : ℕ). get_or r.held n h) place ∙ get_or_found in
         ap (λ (y : Holding Object). Some y.object.slot) same
 
--- and what stood there is what it gets
+-- and what was there is what it gets
 got_of : (lent : Option Object) (shelves : List (Option Object)) (at shelf : ℕ) (served : Served)
     → MayAnswer (offers lent shelves) at (AtShelf shelf) served
     → (slots_fetched at served ≡ got_by (slot_on shelves shelf) at) × (whole.fetched (told_by served) + is_bare (on_shelf shelves shelf) ≡ 1)

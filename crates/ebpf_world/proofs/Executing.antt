@@ -146,7 +146,7 @@ answered kept k answer r t freed i = answer_given kept.places kept.shelves r.pc 
   theirs : AreTheirs kept.places
   theirs slot o at = (subst (IsPlaced kept slot) at (i.tended.placed.each slot)).same
 
--- so it is, by what the tests and the step told
+-- so it is, by what the tests and the step said
 abbrev pub instruction : (kept : WorldState) (k : ℕ) (answer : Answer) (r t : RunState Object) (lent freed : Option Object) (wants : Option ℕ)
     (fault : Option ApplyCode)
     → IsTendedWorld kept → slice_get kept.runs k ≡ Some r → r.exit ≡ None
@@ -283,7 +283,7 @@ executed_after w kept k answer r t freed h i = record { after = after; legal = n
           slots_after (effect_of_view (view_of w k here.run)) s here.run.subject.decl.held here.run.pc (slots_in w k)) served ∙ subject
           ∙ ap (slots_after (effect_of_view (run_seen r)) i.step.served r.subject.decl.held r.pc) (h.slots k r i.at)
 
-  -- and of what stands on its shelves
+  -- and of what is on its shelves
   stands : (shelf : ℕ) → shelved_in after shelf ≡ standing_on i.after shelf
   stands shelf =
       happens.2 shelf

@@ -36,7 +36,7 @@ use Rattle.ebpf_machine.proofs.World.Owners.{kind_there, owned_there, shelf_once
 use Rattle.ebpf_world.proofs.OwnedSlots.{unheld}
 use Rattle.ebpf_world.proofs.Runs.{at_number, same_number, get_last, first_alone}
 
--- what every event keeps: the world fits together, each run is sound, is where the run alone is, and was told what the events
+-- what every event keeps: the world fits together, each run is sound, is where the run alone is, and was answered what the events
 -- answered it, which is nothing before it starts
 record IsOwn (v : RunView) (answers : List Reply) : Type 0 where
   sound : IsSound v

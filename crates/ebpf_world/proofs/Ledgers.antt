@@ -104,7 +104,7 @@ absent slot slots place gap = differs slot slots (λ k inside e. elim (cases_lt 
   | inr behind ↦ let above = gap.higher k behind inside in omega (arith, above, e)
 ])
 
--- taken out where it is, it is there no more
+-- taken out where it is, it is no longer there
 pub parted_at : (slot : ℕ) (slots : List ℕ) (place : ℕ) → IsAscending slots → place < length slots → get_or slots place 0 ≡ slot
     → remove slots place ≡ without_slot slot slots
 parted_at slot [] place up inside is = absurd (omega (arith, inside))
@@ -116,7 +116,7 @@ parted_at slot (s ∷ slots) (suc place) up inside is =
     let rest = parted_at slot slots place (tail_ascends s slots up) (omega (arith, inside)) is in
     sym (rw (ne_eqb s slot (λ e. omega (arith, below, is, e))) (ap (λ (l : List ℕ). s ∷ l) (sym rest)))
 
--- ---- what a search tells
+-- ---- what a search gives
 
 -- a slot that is found can be taken out there; one that isn't is not there, and has its place there
 abbrev pub IsPlace : ℕ → List ℕ → Result ℕ ℕ → Type 0

@@ -1,4 +1,4 @@
--- Which answers to a run are legal, by where the answered slot is and by what the run wants, and what it is told by one.
+-- Which answers to a run are legal, by where the answered slot is and by what the run wants, and what it is answered by one.
 use Rattle.std.proofs.Common.{◌≡◌, ℕ, Bool, true, false, cond, not, List, [], ◌∷◌, ◌++◌, append-nil, filter, Option, Some, None, refl, sym, ap, ◌∙◌}
 use Rattle.std.specs.Prelude.{option_map, slice_get, ◌==◌, ◌&&◌}
 use Rattle.std.proofs.lemmas.Bool.{eq-eqb, eqb-true, false_from_ne_true}
@@ -36,7 +36,7 @@ abbrev pub asked_as : Option ℕ → Asking
 asked_as None = Unasked
 asked_as (Some kind) = OfKind kind
 
--- what stands on a shelf is no answer of an event
+-- what is on a shelf is no answer of an event
 same_fault : (w : World) (v : RunView) (answer : world.Answer) → Asks v
     → answer_fault w (asking_in v) answer ≡ answer_fault w (asked_as (wanted (asking_in v))) answer
 same_fault w v answer (ForNothing unasked) = ap (λ (a : Asking). answer_fault w a answer) (unasked ∙ ap (λ (a : Asking). asked_as (wanted a)) (sym unasked))
@@ -105,7 +105,7 @@ code_at w k run places answer owned from there sound going =
     ∙ ap (option_map code_of) (asks_as w v (answer_of answer) sound (sized_in w k run owned there) going)
     ∙ code_is w places answer (wanted (asking_in v)) owned from
 
--- ---- what a legal answer tells
+-- ---- what a legal answer gives
 
 -- there is an answer just where one is asked for
 asked_fits : (w : World) (asked : Asking) (answer : world.Answer) → answer_fault w asked answer ≡ None → is_asked asked ≡ is_answer answer
@@ -120,7 +120,7 @@ asked_fits w asked answer fine = by (is_away w answer) (is_of_another_kind w ask
   by false false true false fine = absurd (cc)
   by false false false true fine = absurd (cc)
 
--- calls of new are told just what a legal answer brings
+-- calls of new are answered just what a legal answer brings
 pub told_next : (w : World) (v : RunView) (answer : Answer) → IsSound v → AreSized v → v.status ≡ Going → answer_fault w (asking_in v) (answer_of answer) ≡ None
     → filter is_to_new (stepped (result_of (served_in w (asking_in v) (answer_of answer))) v).replies ≡ filter is_to_new v.replies ++ reply_by answer
 told_next w v answer sound sized going fine = by (asks_of v (next_of v sound sized going)) answer (asked_fits w (asking_in v) (answer_of answer) fine) where

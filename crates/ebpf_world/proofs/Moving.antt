@@ -65,7 +65,7 @@ run_after kept k run r t x there now = by (same_number run k) where
 abbrev pub reached_slot : List (Option Object) → RunState Object → Option ℕ
 reached_slot shelves r = option_and_then (slot_on shelves) (reached (asking_in (run_seen r)))
 
--- what is known of the places: an object is lent, one comes back, and what stood on the shelf that is reached passes to the run
+-- what is known of the places: an object is lent, one comes back, and what was on the shelf that is reached passes to the run
 pub record IsMoved (kept : WorldState) (k : ℕ) (answer : Answer) (r : RunState Object) (freed : Option Object) (after : List (Option Object))
     (lent back now : Places) : Type 0 where
   pub lent_are : (q : ℕ) → place_at lent q ≡ place_lent answer k r.pc kept.places q
@@ -79,7 +79,7 @@ plainly : (kept : WorldState) (k : ℕ) (answer : Answer) (r : RunState Object) 
 plainly kept k answer r freed after lent back now m leaves q =
     m.now_are q ∙ ap (λ (o : Option ℕ). place_exchanged o (reached_slot kept.shelves r) (reached_slot after r) k r.pc back q) leaves.unreached ∙ m.back_are q
 
--- what stood on a shelf does so still
+-- what was on a shelf is there still
 still : (kept : WorldState) (r : RunState Object) (after : List (Option Object)) → LeavesShelves kept r after → (shelf q : ℕ)
     → slot_on kept.shelves shelf ≡ Some q → slot_on after shelf ≡ Some q
 still kept r after leaves shelf q stands = leaves.same shelf ∙ stands
@@ -130,7 +130,7 @@ lends_placed kept k answer r t freed after lent back now slot o i m leaves none 
     now_is q = plainly kept k answer r freed after lent back now m leaves q ∙ ap (λ (f : Option Object). place_returned f lent q) none ∙ m.lent_are q
         ∙ ap (λ (a : Answer). place_lent a k r.pc kept.places q) is
 
-    -- what stands on a shelf is not the one that was at home
+    -- what is on a shelf is not the one that was at home
     on_shelves : (shelf s : ℕ) → place_at kept.places s ≡ Some (Shelved shelf) → place_at now s ≡ Some (Shelved shelf)
     on_shelves shelf s stands = now_is s ∙ else_or s slot _ _ (λ same. apart (sym stands ∙ ap (place_at kept.places) same ∙ home)) ∙ stands where
       apart : Some (Shelved shelf) ≡ Some (Home o) → ⊥
@@ -202,7 +202,7 @@ frees_placed w kept k answer r t freed after lent back now o call shows i m leav
     was_held : place_at kept.places o.slot ≡ Some (Held k call)
     was_held = i.tended.placed.held k r i.at (name_of o.slot call) among
 
-    -- what stands on a shelf is not what was held
+    -- what is on a shelf is not what was held
     on_shelves : (shelf s : ℕ) → place_at kept.places s ≡ Some (Shelved shelf) → place_at now s ≡ Some (Shelved shelf)
     on_shelves shelf s stands = now_is s ∙ else_or s o.slot _ _ (λ same. apart (sym stands ∙ ap (place_at kept.places) same ∙ was_held)) ∙ stands where
       apart : Some (Shelved shelf) ≡ Some (Held k call) → ⊥

@@ -1,4 +1,4 @@
--- What one instruction does to the objects of a run: nothing, or it is granted one, or it frees one, or it exchanges what stands on a
+-- What one instruction does to the objects of a run: nothing, or it is granted one, or it frees one, or it exchanges what is on a
 -- shelf.
 use Rattle.std.proofs.Common.{◌≡◌, inl, inr, ℕ, ◌+◌, ◌<◌, Bool, true, false, cond, not, List, [], ◌∷◌, ◌++◌, length, map, filter, count_by, Option, Some, None, Result, Ok, refl, sym, ap, ◌∙◌, arith, append-nil}
 use Rattle.std.specs.Prelude.{Contains, ◌==◌, nat_le, if◌then◌else◌, IfSome}
@@ -50,7 +50,7 @@ pub record IsGranted (v u : RunView) (served : Served) (slots now : List Name) :
   pub slots_are : now ≡ slots ++ name_of slot v.pc ∷ []
   pub kinds : (kind : ℕ) → of_kind kind u.objects ≡ of_kind kind v.objects + (if kind == new then 1 else 0)
 
--- one is no more there
+-- one is no longer there
 pub record IsFreed (v u : RunView) (slots now : List Name) : Type 0 where
   pub unasked : asking_in v ≡ Unasked
   pub object : ObjectView
@@ -58,7 +58,7 @@ pub record IsFreed (v u : RunView) (slots now : List Name) : Type 0 where
   pub slots_are : now ≡ filter (λ n. not (n.call == object.call)) slots
   pub fewer : of_kind object.kind u.objects < of_kind object.kind v.objects
 
--- what is given is no more there, and what stood on the shelf is, by the call at the pc
+-- what is given is no longer there, and what was on the shelf is, by the call at the pc
 pub record IsSwapped (v u : RunView) (served : Served) (slots now : List Name) : Type 0 where
   pub shelf : ℕ
   pub given : Option ℕ
@@ -120,7 +120,7 @@ given_there objects call found is = by (find (λ (o : ObjectView). o.call == cal
   by None none is = absurd (cc)
   by (Some o) there is = (o, there.0, eqb-true o.call call there.1)
 
--- and what is given for what stands on a shelf, of the shelf's kind
+-- and what is given for what is on a shelf, of the shelf's kind
 given_of_kind : (objects : List ObjectView) (call shelf : ℕ) (found : Found) → object_at objects call ≡ Ok found
     → found.kind ≡ shelf → (o : ObjectView) × Contains objects o × (o.call ≡ call) × (o.kind ≡ shelf)
 given_of_kind objects call shelf found is kind =
@@ -172,7 +172,7 @@ taken v to after kind (step.Granted slot) slots asked room many quiet =
 asks_for : (v : RunView) (act : Act ℕ) (to : ℕ) (after : Frame ℕ) → GoesOn v act to after → asking_in v ≡ asked_by act
 asks_for v act to after g = asked_goes (insn_at v.subject.program v.pc) v.pc (environment_of_view v) v.frame act to after g.does
 
--- ---- an exchange of what stands on a shelf
+-- ---- an exchange of what is on a shelf
 
 nothing_more : (kind shelf n : ℕ) → n ≡ n + cond (kind == shelf) 0 0
 nothing_more kind shelf n = by (kind == shelf) where

@@ -110,7 +110,7 @@ module _ (w : World) (kept : WorldState) (k : ℕ) (answer : Answer) (r t : RunS
   put_there q is = now_is q ∙ ap (λ (b : Bool).
       cond b (Some (Shelved shelf)) (cond (is_slot (slot_on kept.shelves shelf) q) (Some (Held k r.pc)) (place_at kept.places q))) (is_it (slot_of given) q is)
 
-  -- what stood there is not what is given
+  -- what was there is not what is given
   got_it : (q : ℕ) → slot_on kept.shelves shelf ≡ Some q → place_at now q ≡ Some (Held k r.pc)
   got_it q is =
       now_is q
@@ -121,7 +121,7 @@ module _ (w : World) (kept : WorldState) (k : ℕ) (answer : Answer) (r t : RunS
       apart : slot_of given ≢ Some q
       apart e = let g = given_slot q e in not_both shelf k g.0.call (sym (stood_there q is) ∙ ap (place_at kept.places) (sym g.2) ∙ given_held g.0 g.1)
 
-  -- one that is held is not what stood there, and is what is given only where it is held by its call
+  -- one that is held is not what was there, and is what is given only where it is held by its call
   held_on : (run : ℕ) (n : Name) → place_at kept.places n.slot ≡ Some (Held run n.call)
       → ((g : Name) → given ≡ Some g → (run ≡ k) → n.call ≢ g.call) → place_at now n.slot ≡ Some (Held run n.call)
   held_on run n was ne = elsewhere n.slot off not_stood ∙ was where

@@ -41,14 +41,14 @@ IsKeptOwner kept o =
     ((run at : ℕ) × (place_at kept.places o.slot ≡ Some (Held run at)) × (o ≡ owner_of run (name_of o.slot at)))
     ⊎ ((shelf : ℕ) × (place_at kept.places o.slot ≡ Some (Shelved shelf)) × (o.holder ≡ Shelf shelf))
 
--- what has a slot by a shelf is what stands there
+-- what has a slot by a shelf is what is there
 standing_own : (w : World) (o : Owner) (shelf : ℕ) → IsOwned w → Contains w.owners o → o.holder ≡ Shelf shelf → standing w shelf ≡ Some o
 standing_own w o shelf owned among is = by (standing w shelf) (find_is (λ (p : Owner). is_shelf shelf p.holder) w.owners) where
   by : (f : Option Owner) → IsFound (λ (p : Owner). is_shelf shelf p.holder) w.owners f → f ≡ Some o
   by None none = let away = none o among in let here = ap (is_shelf shelf) is ∙ eq-eqb shelf shelf refl in absurd (cc)
   by (Some p) found = ap Some (owned.holders.one_a_call p o found.0 among (is_shelf-own shelf p.holder found.1 ∙ sym is))
 
--- the slot of what stands on a shelf of the world stands there as it is kept
+-- the slot of what is on a shelf of the world is there as it is kept
 pub shelf_slot : (w : World) (kept : WorldState) (shelf : ℕ) → Shows w kept → option_map (λ (o : Owner). o.slot) (standing w shelf) ≡ slot_on kept.shelves shelf
 shelf_slot w kept shelf h = by (standing w shelf) ∙ ap (option_map (λ (x : world.Shelved). x.slot)) (h.shelves shelf) ∙ on (on_shelf kept.shelves shelf) where
   by : (o : Option Owner)
@@ -60,7 +60,7 @@ shelf_slot w kept shelf h = by (standing w shelf) ∙ ap (option_map (λ (x : wo
   on None = refl
   on (Some o) = refl
 
--- what stands there is an owner
+-- what is there is an owner
 pub record IsStanding (w : World) (shelf slot : ℕ) : Type 0 where
   pub owner : Owner
   pub is : standing w shelf ≡ Some owner

@@ -102,7 +102,7 @@ bytes_home w kept slot o h placed is =
         (at.image ∙ ap (image_at known_kinds) kind ∙ ap (λ (kinds : List Kind). image_at kinds (kind_in w slot)) (sym h.kinds)
         ∙ sym (h.owned.ledgers.imaged slot home.0))
 
--- on a shelf it has those of what stands there
+-- on a shelf it has those of what is there
 bytes_shelved : (w : World) (kept : WorldState) (slot shelf : ℕ) (o : Object) → Shows w kept → ArePlaced kept
     → place_at kept.places slot ≡ Some (Shelved shelf) → on_shelf kept.shelves shelf ≡ Some o → Some o.bytes.items ≡ bytes_in w slot
 bytes_shelved w kept slot shelf o h placed is on =

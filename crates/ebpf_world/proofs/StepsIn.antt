@@ -23,7 +23,7 @@ use Rattle.ebpf_world.specs.Passing.{IsOut, out_of_kind, offers}
 use Rattle.ebpf_world.specs.Shown.{run_seen}
 use Rattle.ebpf_world.specs.Stepping.{IsNewObject, IsStepped}
 
--- the store was lent the object over these shelves, and has what is freed, and what stands there then
+-- the store was lent the object over these shelves, and has what is freed, and what is there then
 pub stepped_in : {S : Type 0} (s : Store S Object) (o : Option ℕ) (lent freed was here : Option Object) (before after stood stand : List (Option Object))
     (r t : RunState Object) (old new : S)
     → was ≡ lent → freed ≡ here → stood ≡ before → after ≡ stand → s.outs old ≡ out_of_kind was stood

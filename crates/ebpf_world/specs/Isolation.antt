@@ -15,7 +15,7 @@ use Rattle.ebpf_world.specs.declared.event.Event.{Event}
 use Rattle.ebpf_world.specs.declared.event.Event.TheVariants.{Start, Exec, Grow, Reap}
 use Rattle.ebpf_world.specs.Replay.{world_after}
 
--- what the calls of a run were told, in order
+-- what the calls of a run were answered, in order
 abbrev pub replies_to : Running → Replies
 replies_to run = replies_from (map (λ c. c.reply) run.calls) run.taken
 

@@ -1,4 +1,4 @@
--- The object that is lent to an instruction, or that came back from it, and what stands on the shelves.
+-- The object that is lent to an instruction, or that came back from it, and what is on the shelves.
 use Rattle.std.specs.Prelude.{◌≡◌, ◌≢◌, ◌+◌, ℕ, ◌==◌, Bool, false, if◌then◌else◌, List, Option, Some, None}
 use Rattle.ebpf_machine.specs.Step.{Offers}
 use Rattle.ebpf_shelves.specs.declared.object.Object.{Object}
@@ -27,7 +27,7 @@ abbrev pub LendsNone : Option Object → ℕ → Type 0
 LendsNone here kind = is_of_kind here kind ≡ false
 
 -- how many objects of a kind are out, beside those that this store never sees: one, but for the kind of the object that is here, and
--- one where none stands on the shelf
+-- one where none is on the shelf
 abbrev pub one_away : Option Object → ℕ → ℕ
 one_away None kind = 1
 one_away (Some o) kind = if kind == o.kind then 0 else 1

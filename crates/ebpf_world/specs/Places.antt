@@ -53,7 +53,7 @@ abbrev pub place_returned : Option Object → Places → ℕ → Option Place
 place_returned (Some o) places q = if q == o.slot then Some (Home o) else place_at places q
 place_returned None places q = place_at places q
 
--- ---- what stood on a shelf passes to a run, and another slot onto the shelf
+-- ---- what was on a shelf passes to a run, and another slot onto the shelf
 
 abbrev pub is_slot : Option ℕ → ℕ → Bool
 is_slot None q = false
@@ -63,7 +63,7 @@ is_slot (Some slot) q = q == slot
 abbrev pub place_set : Place → Option ℕ → Places → ℕ → Option Place
 place_set place slot places q = if is_slot slot q then Some place else place_at places q
 
--- what stood there is with the run, by the call at this place of its program
+-- what was there is with the run, by the call at this place of its program
 abbrev pub place_exchanged : Option ℕ → (stood stands : Option ℕ) → (run at : ℕ) → Places → ℕ → Option Place
 place_exchanged None stood stands run at places q = place_at places q
 place_exchanged (Some shelf) stood stands run at places q = if is_slot stands q then Some (Shelved shelf) else place_set (Held run at) stood places q

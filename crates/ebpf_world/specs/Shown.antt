@@ -66,7 +66,7 @@ pub record ArePlaced (kept : WorldState) : Type 0 where
   pub held : (run : ℕ) (r : RunState Object) → slice_get kept.runs run ≡ Some r → (n : Name) → Contains (slots_of r) n → place_at kept.places n.slot ≡ Some (Held run n.call)
   pub shelved : (shelf slot : ℕ) → slot_on kept.shelves shelf ≡ Some slot → place_at kept.places slot ≡ Some (Shelved shelf)
 
--- the world that is kept shows this one: each run as it sees itself, in the slots that it holds, and what stands on the shelves
+-- the world that is kept shows this one: each run as it sees itself, in the slots that it holds, and what is on the shelves
 pub record Shows (w : World) (kept : WorldState) : Type 0 where
   pub views : (run : ℕ) → view_in w run ≡ option_map run_seen (slice_get kept.runs run)
   pub slots : (run : ℕ) (r : RunState Object) → slice_get kept.runs run ≡ Some r → slots_in w run ≡ slots_of r

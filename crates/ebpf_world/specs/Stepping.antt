@@ -43,7 +43,7 @@ code_by places (Slot slot) wants = slot_code (place_at places slot) wants
 abbrev pub IsNewObject : Object → Type 0
 IsNewObject o = (o.bytes.items ≡ image_at known_kinds o.kind) × (o.kind < length known_kinds)
 
--- an object can be lent to a run: it has its image and is none of the run's own, and the run asks for one; what stands on the shelves is
+-- an object can be lent to a run: it has its image and is none of the run's own, and the run asks for one; what is on the shelves is
 -- neither
 pub record CanLend (lent : Option Object) (shelves : List (Option Object)) (r : RunState Object) : Type 0 where
   pub image : IfSome lent IsNewObject
@@ -51,11 +51,11 @@ pub record CanLend (lent : Option Object) (shelves : List (Option Object)) (r : 
   pub asked : asking_in (run_seen r) ≡ Unasked → lent ≡ None
   pub away : AreAway lent shelves
 
--- what stands on a shelf after its instruction, where these objects stood on the shelves
+-- what is on a shelf after its instruction, where these objects were on the shelves
 abbrev pub standing_next : RunState Object → List (Option Object) → ℕ → Option Shelved
 standing_next r shelves shelf = shelf_done (shelved_from as_shelved r.held) (effect_of_view (run_seen r)) shelf (standing_on shelves shelf)
 
--- what the instruction leaves of a run that was lent this object, what it freed, and what stands on the shelves then
+-- what the instruction leaves of a run that was lent this object, what it freed, and what is on the shelves then
 pub record IsStepped (lent freed : Option Object) (old new : List (Option Object)) (r t : RunState Object) : Type 0 where
   pub served : Served
   pub may : MayAnswer (offers lent old) r.pc (asking_in (run_seen r)) served

@@ -35,7 +35,7 @@ impl Passing {
         Passing { object, shelves }
     }
 
-    /// The object that lies here after the instruction, where one does: it has its kind's image. And what stands on the shelves.
+    /// The object that lies here after the instruction, where one does: it has its kind's image. And what is on the shelves.
     pub(crate) fn into_parts(self) -> (Option<Object>, Shelves)
         ensures same { result ≡ (self.object, self.shelves) }
         ensures image { IfSome result.0 (λ o. o.bytes.items ≡ image_at known_kinds o.kind) }

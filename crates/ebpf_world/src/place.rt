@@ -56,7 +56,7 @@ pub(crate) fn put(places: &mut BTreeMap<u32, Place>, freed: Option<Object>)
     *place = Place::Home(object);
 }
 
-/// What stood on the shelf that an instruction reached is with this run from now on, and what it put there is there. No memory is
+/// What was on the shelf that an instruction reached is with this run from now on, and what it put there is there. No memory is
 /// taken.
 pub(crate) fn exchange(
     places: &mut BTreeMap<u32, Place>,

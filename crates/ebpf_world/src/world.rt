@@ -1,7 +1,7 @@
 //! The world.
 //!
 //! *The idea.* A world is a list of runs, and what they share: of each kind its slots, and where each slot is. An event is
-//! tested against the world as it is: the first cause that makes it illegal is told, and the world stays as it was. A legal
+//! tested against the world as it is: the first cause that makes it illegal is reported, and the world stays as it was. A legal
 //! event changes one run, or one slot, or one shelf. The object that a run asks for or frees passes to or from it through a store
 //! that has no other object in it but those on the shelves.
 //!
@@ -273,7 +273,7 @@ impl<'v> World<'v> {
     }
 
     /// The run that holds a slot, and the place in its program of the call that was granted it; `None` where the slot has
-    /// no owner, or stands on a shelf.
+    /// no owner, or is on a shelf.
     pub fn owner(&self, slot: u32) -> Option<(usize, u16)>
         ensures { OfWorld self.now (λ w. result ≡ owner_in w slot) }
     {
@@ -283,7 +283,7 @@ impl<'v> World<'v> {
         }
     }
 
-    /// The slot on a shelf; `None` where nothing stands there, or there is no such shelf. A shelf's number is that of its kind.
+    /// The slot on a shelf; `None` where nothing is there, or there is no such shelf. A shelf's number is that of its kind.
     pub fn shelf(&self, shelf: u8) -> Option<u32>
         ensures { OfWorld self.now (λ w. result ≡ shelf_in w shelf) }
     {

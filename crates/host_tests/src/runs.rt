@@ -23,13 +23,13 @@ b70100000000000085000000010000001500090000000000bf07000000000000b701000002000000
 1500020000000000bf010000000000008500000002000000bf710000000000008500000002000000b700000003000000\
 9500000000000000";
 
-// Leaves a record with the byte of the context on the shelf of records, and gives back what stood there.
+// Leaves a record with the byte of the context on the shelf of records, and gives back what was there.
 const LEAVE: &str = "\
 7116000000000000b701000001000000850000000100000015000800000000007b60000000000000b701000001000000\
 bf0200000000000085000000040000001500020000000000bf010000000000008500000002000000b700000000000000\
 9500000000000000";
 
-// Takes what stands on the shelf of records, and adds its number to the output.
+// Takes what is on the shelf of records, and adds its number to the output.
 const FETCH: &str = "\
 b701000001000000b70200000000000085000000040000001500050000000000bf060000000000007961000000000000\
 8500000003000000bf610000000000008500000002000000b7000000000000009500000000000000";
@@ -68,7 +68,7 @@ fn lines_of(alloc: Global, report: &Report) -> Result<String, AllocError> {
     Ok(text)
 }
 
-// That a run of a program on a context is told so.
+// That a run of a program on a context is reported so.
 fn runs(
     rt: &impl Abort,
     alloc: Global,

@@ -1,4 +1,4 @@
--- A layer as its callers see it. A round is told by its slot.
+-- A layer as its callers see it. A round is known by its slot.
 use Rattle.std.specs.Prelude.{◌≡◌, ℕ, List, [], ◌∷◌, ◌++◌, length}
 
 -- the rounds of the two magazines, each from the bottom to the top

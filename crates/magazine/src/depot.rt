@@ -8,7 +8,7 @@
 //!
 //! *The reason.* An exchange takes a magazine off one stack and puts one on the other, so there are as many as
 //! before, and there is room for them: only `add_empty` takes memory. Since each magazine is full or empty,
-//! what a depot has is told by the rounds of the full ones and the number of the empty ones.
+//! what a depot has is given by the rounds of the full ones and the number of the empty ones.
 
 ghost use Rattle.std.specs.Prelude.{◌≡◌, ℕ, ◌+◌, ◌<◌, ◌↔◌, [], ◌++◌, length, true, false, IsTrue, IfSome, IfNone, OnOk, OnErr, IfErr, IsPermutation};
 

@@ -4,7 +4,7 @@ use Rattle.vmem_arena.specs.Spans.{Spans, AreFree}
 use Rattle.vmem_arena.specs.Spans.{Pages as SpanPages}
 use Rattle.slab_layer.specs.Slots.{Pages, Has, AddsPage}
 
--- a page that was free is out of the arena now, and its slots, so many of them, are the slabs', who didn't have it
+-- a page that was free is out of the arena now, and its n slots are the slabs', who didn't have it
 pub record GrowsBy (old new : Pages) (before after : Spans) (objects : ℕ) : Type 0 where
   pub page : ℕ
   pub free : AreFree before page 1

@@ -17,7 +17,7 @@ fresh = record { layer = record { loaded = []; previous = [] }; allocs = 0; free
 abbrev pub HasRound : LayerView → Type 0
 HasRound l = (0 < length l.loaded) ⊎ (0 < length l.previous)
 
--- the layer, whose magazines hold so many rounds, has room for one more
+-- the layer, whose magazines hold n rounds, has room for one more
 abbrev pub HasRoom : ℕ → LayerView → Type 0
 HasRoom rounds l = (length l.loaded < rounds) ⊎ (l.previous ≡ [])
 

@@ -72,7 +72,7 @@ impl PageCounts {
         self.most = self.most.max(self.taken.saturating_sub(self.reaped));
     }
 
-    /// A pass of the reaper gave so many back.
+    /// A pass of the reaper gave n pages back.
     pub(crate) fn reap(&mut self, pages: u32) {
         self.reaped = self.reaped.saturating_add(u64::from(pages));
     }

@@ -125,7 +125,7 @@ impl<K: Kind, A: Ledger, B: Ledger> Cache<K, A, B> {
         &self.parts[number % self.parts.len()]
     }
 
-    // Gives a hand whose layer has no round at least one. It stands apart, so that `Hand::take` stays short.
+    // Gives a hand whose layer has no round at least one. It is kept apart, so that `Hand::take` stays short.
     #[inline(never)]
     pub(crate) fn supply<R: Wait>(
         &self,
@@ -190,7 +190,7 @@ impl<K: Kind, A: Ledger, B: Ledger> Cache<K, A, B> {
         }
     }
 
-    // Takes an object back from a hand whose layer has no room. It stands apart, so that `Hand::give` stays short.
+    // Takes an object back from a hand whose layer has no room. It is kept apart, so that `Hand::give` stays short.
     #[inline(never)]
     pub(crate) fn take_back<R: Wait>(
         &self,

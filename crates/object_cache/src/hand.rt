@@ -7,7 +7,7 @@
 //! *The invariant.* The objects that left the inside of the cache for this hand, and those that were given back to it,
 //! are as many as those that it sent in, those that it gave out, and its rounds.
 //!
-//! *The reason.* Each call changes as much on the one side as on the other. What left and what came in stands in the
+//! *The reason.* Each call changes as much on the one side as on the other. What left and what came in is in the
 //! hand's shares of the cache's books, of which the inside knows the totals: so when a cache is closed, the counts of
 //! all hands can be compared with what is out of its slabs.
 

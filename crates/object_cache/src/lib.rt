@@ -21,7 +21,7 @@
 //! neither given back nor lost to another cache is `missing`; one that comes home to slabs which it isn't out of is
 //! `foreign`.
 //!
-//! *Shelves.* A [`Shelf`] has room for one object that a worker leaves for another. Each exchanges what stands there by a
+//! *Shelves.* A [`Shelf`] has room for one object that a worker leaves for another. Each exchanges what is there by a
 //! [`ShelfHand`] of its own, under the shelf's lock, and its totals are exact for the same reason.
 //!
 //! Hands, caches and shelves must be spent by `close`, and can't be dropped.

@@ -11,7 +11,7 @@
 //!
 //! *The reason.* A magazine that goes from a hand to a part, or back, stays among those that left the inside of the cache.
 //! So its rounds move from share to share, and neither the books nor the lock that they lie under are asked. A hand that
-//! only gives has nothing to move. So 2^56 stands in both shares from the start: it changes no sum, and no hand gives more.
+//! only gives has nothing to move. So 2^56 is in both shares from the start: it changes no sum, and no hand gives more.
 //!
 //! What a part held when it was asked can't be named once its lock is free. So a part that has nothing to give answers with
 //! a refusal, which nothing else makes.
@@ -34,7 +34,7 @@ use std::sync::{Mutex, Wait};
 #[derive(Drop)]
 pub struct Refusal(());
 
-/// That parts, so many, were asked one after another, and each had nothing to give. Only refusals add up to it.
+/// That n parts were asked one after another, and each had nothing to give. Only refusals add up to it.
 #[derive(Drop)]
 pub struct Refusals {
     count: usize,

@@ -1,10 +1,10 @@
 //! Shelves, on which workers leave objects of a kind for one another.
 //!
-//! *The idea.* A shelf has room for one object. A worker brings one, or none, and takes what stood there: one exchange under
+//! *The idea.* A shelf has room for one object. A worker brings one, or none, and takes what was there: one exchange under
 //! the shelf's lock, by a hand of its own, so that no object is ever with two workers or with none.
 //!
 //! *The invariant.* Two books count what was put on the shelf and what was got from there. What was put is what was got, and
-//! what stands there.
+//! what is there.
 //!
 //! *The reason.* No clause names what a lock holds between two calls. But each exchange is entered in the books and in the shares
 //! of them that the hand has, so when a shelf is closed with all its hands, what they count is what the books count.
@@ -21,7 +21,7 @@ use std::sync::ledger::{Blank, Book, Ledger, Share};
 use std::sync::{Mutex, Wait};
 use std::{array, mem};
 
-/// What lies under the lock of a shelf: what stands there, and the books, with a part of each that no hand has.
+/// What lies under the lock of a shelf: what is there, and the books, with a part of each that no hand has.
 struct Board<K: Kind, A: Ledger, B: Ledger> {
     object: Option<Obj<K, Held>>,
     puts: Book<A>,
@@ -31,7 +31,7 @@ struct Board<K: Kind, A: Ledger, B: Ledger> {
 }
 
 impl<K: Kind, A: Ledger, B: Ledger> Board<K, A, B> {
-    // What stood there, for what is brought.
+    // What was there, for what is brought.
     fn swap(
         &mut self,
         puts: &mut Share<A>,
@@ -62,7 +62,7 @@ impl<K: Kind, A: Ledger, B: Ledger> Board<K, A, B> {
     }
 }
 
-// The shares of all parts of the books with which no hand was made, where so many hands were.
+// The shares of all parts of the books with which no hand was made, where n hands were.
 fn gathered<A: Ledger, B: Ledger>(
     own: Spare<A, B>,
     mut spares: [Option<Mutex<Spare<A, B>>>; MAX_HANDS as usize],
@@ -85,10 +85,10 @@ fn gathered<A: Ledger, B: Ledger>(
     (all_puts, all_gets)
 }
 
-/// What a shelf was left with, and how often an object was put there and got from there. It must be taken apart: what stands
+/// What a shelf was left with, and how often an object was put there and got from there. It must be taken apart: what is
 /// there is an object of a cache.
 pub struct Left<K: Kind> {
-    /// What stands there.
+    /// What is there.
     pub object: Option<Obj<K, Held>>,
     /// How often an object was put there.
     pub puts: u64,
@@ -136,7 +136,7 @@ impl<K: Kind, A: Ledger, B: Ledger> Model for Shelf<K, A, B> {
 }
 
 impl<K: Kind, A: Ledger, B: Ledger> Shelf<K, A, B> {
-    /// A shelf on which nothing stands, for up to `MAX_HANDS` hands. The blanks become its two books: of what is put there, and of what
+    /// A shelf on which nothing is, for up to `MAX_HANDS` hands. The blanks become its two books: of what is put there, and of what
     /// is got. It takes no memory.
     pub fn new(puts: Blank, gets: Blank) -> Shelf<K, A, B>
         requires names { (puts.name ≡ A.name) × (gets.name ≡ B.name) }
@@ -182,7 +182,7 @@ impl<K: Kind, A: Ledger, B: Ledger> Shelf<K, A, B> {
         }
     }
 
-    /// Exchanges what stands on the shelf for what is given, if anything; the answer is what stood there. Both are as they were,
+    /// Exchanges what is on the shelf for what is given, if anything; the answer is what was there. Both are as they were,
     /// with their bytes. It waits for the shelf's lock, and for ever past 2^56 calls. The shelf is the one that made the hand.
     pub fn swap<R: Wait>(
         &self,
@@ -207,7 +207,7 @@ impl<K: Kind, A: Ledger, B: Ledger> Shelf<K, A, B> {
         got
     }
 
-    /// Ends the shelf with all hands that it made: what stands there, and what they did, added up. What was put there is what was
+    /// Ends the shelf with all hands that it made: what is there, and what they did, added up. What was put there is what was
     /// got, and what is left.
     pub fn close(self, mut hands: Vec<ShelfHand<A, B>>) -> Left<K>
         requires all { vec_len hands ≡ self.hands }

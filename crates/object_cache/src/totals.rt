@@ -23,7 +23,7 @@ pub struct Totals {
     pub depot: DepotCounts,
     /// Which pages the slabs had.
     pub pages: PageCounts,
-    // Only the end of the cache's inside makes it, so no other numbers are told.
+    // Only the end of the cache's inside makes it, so no other numbers are reported.
     remains: Remains,
     ghost told: { (missing ≡ remains.missing) × (foreign ≡ remains.foreign) },
 }

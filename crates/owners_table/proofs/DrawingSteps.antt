@@ -86,7 +86,7 @@ sheets-pass : (v : View) → sum_by passes v ≤ length v
 sheets-pass [] = omega arith
 sheets-pass (t ∷ ts) = let c = sum_by-cons passes t ts in let p = passes-one t in omega (arith, sheets-pass ts)
 
--- no more sheets passed the limit than there are
+-- at most as many sheets passed the limit as there are
 few_pass : (views : List View) (seats : ℕ) → sum_by length views ≡ seats → sum_by (sum_by passes) views ≤ seats
 few_pass [] seats e = omega arith
 few_pass (v ∷ vs) seats e =

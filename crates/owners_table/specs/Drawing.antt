@@ -6,7 +6,7 @@ use Rattle.atomic_table.specs.declared.shared.Seat.{Seat}
 use Rattle.owners_table.specs.declared.drawing.TicketSheet.{TicketSheet}
 use Rattle.owners_table.specs.Sheets.{tally, sheet_count, sheet_of}
 
--- how often x stands in the list
+-- how often x is in the list
 abbrev pub times : ℕ → List ℕ → ℕ
 times x xs = count_by (λ y. y == x) xs
 
@@ -26,7 +26,7 @@ faults limit t = (if t.limit == limit then 0 else 1) + ((late limit t.drawn - pa
 abbrev pub NeverWraps : ℕ → ℕ → Type 0
 NeverWraps limit seats = limit + seats < 2 ^ 64
 
--- The rule of the tickets. There is a sheet for each seat made, and none is at fault. Each number below the word stands once on
+-- The rule of the tickets. There is a sheet for each seat made, and none is at fault. Each number below the word is once on
 -- one sheet, and no other does. The word is at the limit until a sheet passes it, and each that does adds one
 pub record Drawn (limit seats : ℕ) (s : State (Unit {0}) (List TicketSheet)) : Type 0 where
   pub wide : length s.words ≡ 1
@@ -43,7 +43,7 @@ blank limit = record { limit = limit; drawn = []; passed = false }
 abbrev pub after_draw : ℕ → TicketSheet → TicketSheet
 after_draw n t = record { limit = t.limit; drawn = t.drawn ++ n ∷ []; passed = if nat_lt n t.limit then t.passed else true }
 
--- what a draw tells a seat of one sheet
+-- what a draw shows a seat of one sheet
 abbrev pub drew : Step (Unit {0}) → Me (Unit {0}) (List TicketSheet) → ℕ → Me (Unit {0}) (List TicketSheet) → Type 0
 drew st m n m' = (m'.1 ≡ m.1) × ((t : TicketSheet) → m.0 ≡ t ∷ [] → m'.0 ≡ after_draw n t ∷ [])
 

@@ -97,7 +97,7 @@ all_held views = flat_map (λ sheets. flat_map (λ t. t.held) sheets) views
 abbrev pub owner_of : ℕ → ℕ → List (ℕ × ℕ)
 owner_of slot w = if nat_lt w WORDS_OF_A_RUN then [] else (slot, w) ∷ []
 
--- all the entries of the slot, in whatever list, are what its word says
+-- all the entries of the slot, in any list, are what its word says
 abbrev pub HasOneOwner : List ℕ → List (ℕ × ℕ) → ℕ → Type 0
 HasOneOwner words es slot = entries_of slot es ≡ owner_of slot (slice_index words slot)
 
@@ -132,23 +132,23 @@ after_fetch slot from word found t = record { held = gained slot from word found
 abbrev pub IsOwn : ℕ → ℕ → List (ℕ × ℕ) → Type 0
 IsOwn slot found es = Holds slot es → (WORDS_OF_A_RUN ≤ found) × (found ≡ word_at slot es)
 
--- What a claim tells a seat of one sheet: what it found, and that this was the seat's own word where it had the slot
+-- What a claim shows a seat of one sheet: what it found, and that this was the seat's own word where it had the slot
 abbrev pub claimed : Step (Unit {0}) → Me (Unit {0}) (List OwnerSheet) → ℕ → Me (Unit {0}) (List OwnerSheet) → Type 0
 claimed st m found m' = (m'.1 ≡ m.1) × IsSlotWord found × ((t : OwnerSheet) → m.0 ≡ t ∷ [] → (m'.0 ≡ after_claim st.word st.second found t ∷ []) × IsOwn st.word found t.held)
 
--- what a fetch tells a seat of one sheet: the same
+-- what a fetch shows a seat of one sheet: the same
 abbrev pub fetched : Step (Unit {0}) → Me (Unit {0}) (List OwnerSheet) → ℕ → Me (Unit {0}) (List OwnerSheet) → Type 0
 fetched st m found m' = (m'.1 ≡ m.1) × IsSlotWord found × ((t : OwnerSheet) → m.0 ≡ t ∷ [] → (m'.0 ≡ after_fetch st.word st.first st.second found t ∷ []) × IsOwn st.word found t.held)
 
--- what a release tells a seat of one sheet
+-- what a release shows a seat of one sheet
 abbrev pub released : Step (Unit {0}) → Me (Unit {0}) (List OwnerSheet) → ℕ → Me (Unit {0}) (List OwnerSheet) → Type 0
 released st m found m' = (m'.1 ≡ m.1) × ((t : OwnerSheet) → m.0 ≡ t ∷ [] → m'.0 ≡ after_release st.word t ∷ [])
 
--- what shelving tells a seat of one sheet
+-- what shelving shows a seat of one sheet
 abbrev pub was_shelved : Step (Unit {0}) → Me (Unit {0}) (List OwnerSheet) → ℕ → Me (Unit {0}) (List OwnerSheet) → Type 0
 was_shelved st m found m' = (m'.1 ≡ m.1) × ((t : OwnerSheet) → m.0 ≡ t ∷ [] → m'.0 ≡ after_shelve st.word st.first t ∷ [])
 
--- what a look tells a seat of two sheets: their lists have no slot in common
+-- what a look shows a seat of two sheets: their lists have no slot in common
 abbrev pub looked : Step (Unit {0}) → Me (Unit {0}) (List OwnerSheet) → ℕ → Me (Unit {0}) (List OwnerSheet) → Type 0
 looked st m found m' = (m' ≡ m) × ((t u : OwnerSheet) → m.0 ≡ t ∷ u ∷ [] → Apart t.held u.held)
 

@@ -1,4 +1,4 @@
--- A seat has a sheet, on which stands what was done with it. What a seat knows is a list of sheets, one for each seat that was
+-- A seat has a sheet, which has what was done with it. What a seat knows is a list of sheets, one for each seat that was
 -- joined into it.
 use Rattle.std.specs.Prelude.{◌≡◌, ℕ, List, [], ◌∷◌, sum_by, length}
 use Rattle.atomic_table.specs.declared.shared.Seat.{Seat}

@@ -5,8 +5,8 @@
 //! holds. [`tickets::Tickets`] keeps one word, the next number, which one fetch-add draws.
 //!
 //! What it promises: two seats of one table never hold one slot; a claim is granted exactly where its exchange found the
-//! slot free, a fetch exactly where its exchange found the shelf, and each is else told the owner that it found; where limit
-//! and seats add up to less than 2^64, no number is drawn twice, and once a seat was told that there are no more, each was
+//! slot free, a fetch exactly where its exchange found the shelf, and each else reports the owner that it found; where limit
+//! and seats add up to less than 2^64, no number is drawn twice, and once a seat found none left, each was
 //! drawn. No call here waits for another thread, so none takes a handle.
 #![tactic(auto)]
 

@@ -25,7 +25,7 @@ pub struct Mark {
 pub enum Owner {
     /// A run, by a call of its program.
     Run(Mark),
-    /// The shelf of this number, below `SHELVES`: the slot's object stands there, or is on the way to it or from it.
+    /// The shelf of this number, below `SHELVES`: the slot's object is there, or is on the way to it or from it.
     Shelf(u8),
 }
 

@@ -105,10 +105,10 @@ impl Owners {
         ensures tries { seat.new.tries ≡ seat.old.tries + 1 }
         ensures ok { OnOk result (IsClaimed slot (mark_word mark.run mark.at) seat.old seat.new) }
         ensures taken { IfErr result (λ t. IsTaken slot (owner_word t.owner) seat.old seat.new) }
-        // A shelf that is told is one that there is, so the word and its owner tell each other.
+        // A shelf that is reported is one that there is, so the word and its owner determine each other.
         ensures owner { IfErr result (λ t. IsOwner t.owner) }
         ensures rest { (seat.new.fetches ≡ seat.old.fetches) × (seat.new.shelved ≡ seat.old.shelved) × (seat.new.got ≡ seat.old.got) }
-        // A seat that has the slot already is told its own.
+        // A seat that has the slot already is given its own.
         ensures own { Holds slot seat.old.held → IsErrAnd result (λ t. owner_word t.owner ≡ word_at slot seat.old.held) }
     {
         let found = self
@@ -159,10 +159,10 @@ impl Owners {
         ensures tries { seat.new.tries ≡ seat.old.tries + 1 }
         ensures ok { OnOk result (IsFetched slot (shelf + 1) (mark_word mark.run mark.at) seat.old seat.new) }
         ensures other { IfErr result (λ o. IsElsewhere slot (shelf + 1) (found_word o.found) seat.old seat.new) }
-        // A shelf that is told is one that there is, so the word and its owner tell each other.
+        // A shelf that is reported is one that there is, so the word and its owner determine each other.
         ensures found { IfErr result (λ o. IfSome o.found IsOwner) }
         ensures rest { (seat.new.notes ≡ seat.old.notes) × (seat.new.shelved ≡ seat.old.shelved) }
-        // A seat that has the slot already is told its own.
+        // A seat that has the slot already is given its own.
         ensures own { Holds slot seat.old.held → IsErrAnd result (λ o. found_word o.found ≡ word_at slot seat.old.held) }
     {
         let wanted = u64::from(shelf) + 1;
@@ -224,7 +224,7 @@ impl Owners {
 
     /// Ends the table, and gives the words of its slots, in order: 0 for a slot that is free, 1 more than the shelf's number
     /// for one that a shelf owns, else the word of its owner's mark. The slots of a seat that isn't among these stay owned,
-    /// and their words are told as they stand.
+    /// and their words are reported as they are.
     ///
     /// # Errors
     /// There was no memory for the words: the table and the seats are gone.

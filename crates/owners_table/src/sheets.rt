@@ -3,7 +3,7 @@
 use atomic_table::{Join, Split};
 use std::collections::LinkedList;
 
-/// A seat with many sheets gives the first to a new seat, and takes in the sheets of another behind its own.
+/// A seat with many sheets gives the first to a new seat, and takes in the sheets of another after its own.
 pub struct Sheets;
 
 impl<T> Split<LinkedList<T>> for Sheets {

@@ -86,7 +86,7 @@ impl Tickets {
     }
 
     /// Draws the next number, by one fetch-add. `None` where that number is not below the limit, and, with no step, for a
-    /// seat that was told `None` before.
+    /// seat that was answered `None` before.
     pub fn draw(&self, seat: &mut TicketSeat) -> Option<u64>
         requires { IsOf self.now seat.old }
         ensures some { IfSome result (λ n. (n < self.now.limit) × (seat.old.passed ≡ false) ×
@@ -123,7 +123,7 @@ impl Tickets {
     }
 
     /// Ends the tickets. Where the limit and the number of seats add up to less than 2^64, so that the word never wraps, no
-    /// number was drawn twice; and where besides these are all the seats that were made and one of them was told `None`,
+    /// number was drawn twice; and where besides these are all the seats that were made and one of them was answered `None`,
     /// each number below the limit was drawn.
     pub fn close(self, seats: Vec<TicketSeat>)
         requires { All (IsOf self) seats.items }

@@ -96,7 +96,7 @@ popped_each rest last x = sum_by_push (λ y. if y == x then 1 else 0) rest last
 pub popped_here : (rest : List ℕ) (last : ℕ) → 0 < times last (rest ++ last ∷ [])
 popped_here rest last = let e = popped_each rest last last in grind (arith, nat_tests)
 
--- a number that stands at no place isn't in the list
+-- a number that is at no place isn't in the list
 pub times-absent : (xs : List ℕ) (x : ℕ) → ((k : ℕ) → k < length xs → get_or xs k 0 ≢ x) → times x xs ≡ 0
 times-absent [] x none = refl
 times-absent (y ∷ ys) x none =

@@ -47,7 +47,7 @@ pub record Moves (old new : Pages) (slot : ℕ) (place : Place) : Type 0 where
   pub moved : place_of new slot ≡ Some place
   pub others : (x : ℕ) → x ≢ slot → place_of new x ≡ place_of old x
 
--- the page's first slots, so many of them, are there and home, and nothing else changed
+-- the page's first n slots are there and home, and nothing else changed
 pub record AddsPage (old new : Pages) (page objects : ℕ) : Type 0 where
   pub added : (index : ℕ) → index < objects → IsHome new (page * SLOTS_OF_A_PAGE + index)
   pub only : (index : ℕ) → objects ≤ index → index < SLOTS_OF_A_PAGE → place_of new (page * SLOTS_OF_A_PAGE + index) ≡ None

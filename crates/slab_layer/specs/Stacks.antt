@@ -1,7 +1,7 @@
 -- A stack of the numbers at which a list has a mark, in any order.
 use Rattle.std.specs.Prelude.{◌≡◌, ℕ, suc, ◌==◌, Bool, cond, if◌then◌else◌, List, [], ◌∷◌, length, sum_by}
 
--- how often a number stands in a list
+-- how often a number is in a list
 abbrev pub times : ℕ → List ℕ → ℕ
 times x xs = sum_by (λ y. if y == x then 1 else 0) xs
 

@@ -2,7 +2,7 @@
 //!
 //! An [`Obj`] owns its bytes and carries its state in its type: `Home` in a slab, `Ready` with its image,
 //! `Held` by a client. A change of state takes the object and makes one in the other state of it, with the same
-//! slot and the same memory, so none of them can fail. That a ready object's bytes are the kind's image stands
+//! slot and the same memory, so none of them can fail. That a ready object's bytes are the kind's image is
 //! in its type.
 //!
 //! [`Slabs`] are seen from outside as a finite map from slots to home or out. `take` gives an object whose slot

@@ -3,7 +3,7 @@
 //! *The idea* (Bonwick 1994, section 3.2). A slab has objects of one size, as many as fit a page, with a list of
 //! those that are free and a count of those that aren't. To take an object is to take it off the list, to give it
 //! back is to put it on, and a slab whose objects are all on it can go back to the system whole. The objects
-//! at home stand in a stack here, and beside it a table says of each index whether its object is home or out.
+//! at home are in a stack here, and beside it a table says of each index whether its object is home or out.
 //! Their bytes lie in memory of their own: the page bounds how many objects there are, and gives them their slots.
 //!
 //! *The invariant.* The stack has exactly the slots that the table calls home, each once.

@@ -26,7 +26,7 @@ pub outs-without : (ts : List Tag) (at page len : ℕ) → free_len ts page ≡ 
 outs-without ts at page zero free = refl
 outs-without ts at page (suc len) free = outs-free ts at page inside (free_from_some (tag_at ts page).is_out (tag_at ts page).len len free).0 refl
 
--- one span more, whatever stands before it
+-- one span more, whatever comes before it
 adds_past : (b : Bool) (p q : Pages) (xs ys : List Pages) → IsPermutation (p ∷ xs) ys → IsPermutation (p ∷ cond b (q ∷ xs) xs) (cond b (q ∷ ys) ys)
 adds_past true p q xs ys h = IsPermutation-trans _ _ _ (IsPermutation-middle (p ∷ []) q xs) (IsPermutation-cons q _ _ h)
 adds_past false p q xs ys h = h

@@ -1,4 +1,4 @@
--- The arena's table: segments that follow one another from page 0 to the last, as each page tells of them.
+-- The arena's table: segments that follow one another from page 0 to the last, as each page describes them.
 use Rattle.std.specs.Prelude.{◌≡◌, ℕ, zero, suc, ◌+◌, ◌-◌, ◌<◌, Bool, true, false, cond, List, [], ◌∷◌, length, slice_index_or, slice_set, replicate}
 use Rattle.vmem_arena.specs.declared.segment.Tag.{Tag}
 use Rattle.vmem_arena.specs.Spans.{Pages}
@@ -30,19 +30,19 @@ IsTiled (suc left) len out (t ∷ ts) = (t ≡ inside) × IsTiled left len out t
 abbrev pub IsTable : List Tag → Type 0
 IsTable tags = IsTiled 0 0 true tags
 
--- the page of that number has the first of a span that is out, of so many pages
+-- the page of that number has the first of a span that is out, of n pages
 pub record IsOut (tags : List Tag) (first len : ℕ) : Type 0 where
   pub within : first < length tags
   pub out : (tag_at tags first).is_out ≡ true
   pub long : (tag_at tags first).len ≡ len
 
--- the tags, where the segment before a page has so many pages
+-- the tags, where the segment before a page has that many pages
 abbrev pub with_before : List Tag → ℕ → ℕ → List Tag
 with_before [] page len = []
 with_before (t ∷ ts) zero len = record t { before = len } ∷ ts
 with_before (t ∷ ts) (suc page) len = t ∷ with_before ts page len
 
--- the tags of so many pages that are one free segment
+-- the tags of n pages that are one free segment
 abbrev pub whole : ℕ → List Tag
 whole pages = record { len = pages; before = 0; is_out = false } ∷ replicate (pages - 1) inside
 

@@ -8,7 +8,7 @@
 //!
 //! *The reason.* A place is `PLACES_OF_A_CLASS * class + page`, so the next place from a class on lies in the lowest class
 //! that has a segment, and no class is looked at by itself to find it. A segment comes or goes by one bit, with
-//! no list to follow. What the places stand for is the arena's business.
+//! no list to follow. What the places mean is the arena's business.
 
 ghost use Rattle.std.specs.Prelude.{◌≡◌, ◌≢◌, ℕ, ◌+◌, ◌*◌, ◌%◌, ◌<◌, ◌≤◌, IfSome, IfNone};
 ghost use Rattle.vmem_arena.specs.Classes.{bit_of, IsPlace, Relists};

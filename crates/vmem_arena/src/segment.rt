@@ -5,7 +5,7 @@
 //! the segment before it has. So from a segment its two neighbours are found with no walk.
 //!
 //! *The invariant.* A page at which no segment begins has the tag [`INSIDE`]. What the table keeps as a whole
-//! stands in the arena.
+//! is in the arena.
 //!
 //! *The reason.* Since no tag is left over from an earlier segment, a tag answers alone whether a span is out.
 

@@ -114,7 +114,7 @@ counted_not p x xs fails = omega (arith, sum_by-cons (λ y. cond (p y) 1 0) x xs
 pub counted_less : {X : Type 0} (p : X → Bool) (x : X) (xs : List X) → count_by p xs ≤ count_by p (x ∷ xs)
 counted_less p x xs = omega (arith, sum_by-cons (λ y. cond (p y) 1 0) x xs)
 
--- what is dropped is no more counted
+-- what is dropped is no longer counted
 pub fewer_dropped : {X : Type 0} (p q : X → Bool) (xs : List X) (x : X) → Contains xs x → p x ≡ true → q x ≡ false → count_by p (filter q xs) < count_by p xs
 fewer_dropped p q [] x (k, lt, e) counts drops = absurd (omega (arith, lt))
 fewer_dropped {X} p q (y ∷ xs) x (zero, lt, e) counts drops =
@@ -133,7 +133,7 @@ counted p [] k x lt e passes = absurd (omega arith)
 counted p (y ∷ xs) zero x lt e passes = omega (arith, counted_once p y xs (ap p e ∙ passes))
 counted p (y ∷ xs) (suc k) x lt e passes = omega (arith, counted_less p y xs, counted p xs k x (omega arith) e passes)
 
--- an element that passes, where what stands for no element does not
+-- an element that passes, where what means no element does not
 pub counted_at : {X : Type 0} (p : X → Bool) (xs : List X) (k : ℕ) (d : X) → p d ≡ false → p (get_or xs k d) ≡ true → 1 ≤ count_by p xs
 counted_at p [] k d fails passes = absurd (cc)
 counted_at p (x ∷ xs) zero d fails passes = omega (arith, counted_once p x xs passes)

@@ -102,7 +102,7 @@ asked_kind held kinds (Ctx a b) x set names h = absurd (cc)
 asked_kind held kinds (Ob call a b) x set names h = absurd (cc)
 asked_kind held kinds (May call) x set names h = absurd (cc)
 
--- ---- what a call is told
+-- ---- what a call is answered
 
 -- none of the objects is of a call at the run's own slot
 not_yet : (slot : ℕ) (objects : List ObjectView) → All (λ o. o.call < slot) objects → Contains (calls_of objects) slot → ⊥
@@ -124,7 +124,7 @@ record IsAsking (v : RunView) (number : ℤ) (s : StateView) (helper : Helper) (
   left_is : IsParted v t left
   room : length left < v.subject.decl.held
 
--- the run is told that it gets none
+-- the run is answered that it gets none
 none_there : (v : RunView) (number : ℤ) (s : StateView) (helper : Helper) (t : StateView) (left : List ObjectView) (kind : ℕ)
     → IsAsking v number s helper t left kind → IsThere v (v.pc + 1) (with_zero v.frame) left
 none_there v number s helper t left kind h =
@@ -140,7 +140,7 @@ none_there v number s helper t left kind h =
       declared = omega (arith, room);
     }
 
--- the run is told that it gets an object
+-- the run is answered that it gets an object
 object_there : (v : RunView) (number : ℤ) (s : StateView) (helper : Helper) (t : StateView) (left : List ObjectView) (new : ObjectView)
     → new.call ≡ v.pc → IsAsking v number s helper t left new.kind
     → IsThere v (v.pc + 1) (with_value (without_arguments v.frame) R0 (Pointer (Object v.pc) (pos 0))) (left ++ new ∷ [])

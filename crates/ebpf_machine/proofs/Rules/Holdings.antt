@@ -1,4 +1,4 @@
--- What is known where the objects of a run become more or fewer: where a call is granted one or told null, and where one is given
+-- What is known where the objects of a run become more or fewer: where a call is granted one or answered null, and where one is given
 -- back.
 use Rattle.std.proofs.Common.{◌≡◌, ◌≢◌, ℕ, ◌+◌, ◌*◌, ◌<◌, false, not, List, [], ◌∷◌, ◌++◌, get_or, filter, Option, Some, None, sym, ap, ◌∙◌, subst, inl, inr, ◌⊎◌, arith}
 use Rattle.std.specs.Prelude.{All, Contains, ◌==◌}
@@ -74,7 +74,7 @@ held_on : (slot kind : ℕ) (s : StateView) (objects : List ObjectView) → All 
 held_on slot kind s objects behind h o there =
     earlier_kinds o.call (record { call = slot; kind = kind; tested = false }) s.held (All-contains (λ (p : ObjectView). p.call < slot) objects o behind there) ∙ h o there
 
--- the run is told null
+-- the run is answered null
 pub null_state : (slot kind : ℕ) (s : StateView) (frame : Frame ℕ) (objects : List ObjectView) → All (λ o. o.call < slot) objects
     → AreOf s frame objects → AreOf (holding slot kind s) frame objects
 null_state slot kind s frame objects behind h = record { each = h.each; words = h.words; held = held_on slot kind s objects behind h.held }

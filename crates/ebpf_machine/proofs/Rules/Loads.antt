@@ -51,7 +51,7 @@ within_all m x lt le = ((omega arith, omega arith), omega arith)
 low_within : (m n : ℕ) → 0 < m → m ≤ 2 ^ 64 → IsWithin (n % m) (all_below m) × (n % m < 2 ^ 64)
 low_within m n some le = within_all m (n % m) (mod-lt n some) le
 
--- so many bytes are of the range that their rule says
+-- n bytes are of the range that their rule says
 extended_within : (size : Size) (signed : Bool) (n : ℕ)
     → IsWithin (extended (bytes_in size) signed n) (loaded_range (bytes_in size) signed) × (extended (bytes_in size) signed n < 2 ^ 64)
 extended_within size true n = within_all (2 ^ 64) (extension_at W64 (8 * bytes_in size) n) (extension-below W64 (8 * bytes_in size) n) (omega arith)

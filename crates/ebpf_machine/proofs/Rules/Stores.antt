@@ -175,7 +175,7 @@ module _ (place bytes : ℕ) (v : Value ℕ) (stack : List (Cell ℕ)) (w : ℕ)
       let here : (8 * w + j) / 8 ≡ w = omega (arith, less) in
       sym (cell_now j less ∙ cell_outside place bytes v (8 * w + j) (cell_at stack (8 * w + j)) apart (λ e. first (sym here ∙ e)) (λ e. last (sym here ∙ e)))
 
-  -- where no bit stands for one of the bytes the word is as it was
+  -- where no bit is for one of the bytes the word is as it was
   none_written : covered place bytes w ≡ 0 → (j : ℕ) → j < 8 → cell_at stack (8 * w + j) ≡ cell_at (stored_cells place bytes v stack) (8 * w + j)
   none_written none j less = cell_left j less (apart j less)
       (λ e. apart (place % 8) (omega arith) (omega (arith, e)) (omega (arith, e, some)))

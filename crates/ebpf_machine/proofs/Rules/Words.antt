@@ -105,7 +105,7 @@ settled_set call null (Stk k) set = refl
 settled_set call null (Ctx a b) set = refl
 settled_set call null (Ob r a b) set = refl
 
--- A word, once it is known whether an answer is null: what holds of each value is an argument, since the file that has it stands on
+-- A word, once it is known whether an answer is null: what holds of each value is an argument, since the file that has it rests on
 -- this one.
 pub settled_cells : (calls : List ℕ) (call : ℕ) (null : Bool) (word : Word) (cells : ℕ → Cell ℕ)
     → ((a : Abs) (v : Option (Value ℕ)) → IsOf calls a v → IsOf calls (settled_value call null a) v) → IsOfCells calls word cells
@@ -176,7 +176,7 @@ run_only (suc l) (suc h) (suc j) e =
     let rest = run_only l h j (ap (λ (x : ℕ). bit_at x j) (sym half) ∙ sym (bit_at-suc (2 ^ suc h - 2 ^ suc l) j) ∙ e) in
     (omega (arith, rest.0), omega (arith, rest.1))
 
--- a bit of a word stands for one of the bytes where that lies among them
+-- a bit of a word is for one of the bytes where that lies among them
 pub covered_inside : (place bytes w j : ℕ) → j < 8 → place ≤ 8 * w + j → 8 * w + j < place + bytes → bit_at (covered place bytes w) j ≡ 1
 covered_inside place bytes w j lt low high = run_inside (min 8 (place - 8 * w)) (min 8 (place + bytes - 8 * w)) j (omega arith) (omega arith)
 

@@ -1,4 +1,4 @@
--- A run at its first instruction: it holds nothing, was told nothing, and is where the run alone begins.
+-- A run at its first instruction: it holds nothing, was answered nothing, and is where the run alone begins.
 use Rattle.std.proofs.Common.{◌≡◌, ℕ, List, [], refl, sym, ap, subst, arith}
 use Rattle.ebpf_verify.specs.Subject.{Subject}
 use Rattle.ebpf_machine.specs.View.{view_in}

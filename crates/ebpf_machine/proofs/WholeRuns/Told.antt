@@ -1,4 +1,4 @@
--- The store of a run goes by what the run is told.
+-- The store of a run goes by what the run is answered.
 use Rattle.std.proofs.Common.{◌≡◌, ℕ, zero, suc, ◌+◌, ◌≤◌, ◌<◌, List, [], ◌∷◌, ◌++◌, length, get_or, refl, sym, ap, ◌∙◌, subst, arith}
 use Rattle.std.proofs.lemmas.List.{append-nil, append_assoc, length-append}
 use Rattle.std.proofs.lemmas.List.Elements.{All-map}
@@ -23,7 +23,7 @@ use Rattle.ebpf_machine.proofs.World.Steps.{next_of}
 told_nothing : (may : Offers) (at : ℕ) (served : Served) → MayAnswer may at Unasked served → told_by served ≡ []
 told_nothing may at served idle = ap told_by idle
 
--- a call of new, or of swap, is told what it was served
+-- a call of new, or of swap, is answered what it was served
 told_to_new : (may : Offers) (at kind : ℕ) (served : Served) → MayAnswer may at (OfKind kind) served
     → told_by served ≡ reply_in (heard_by_new (result_of served)) ∷ []
 told_to_new may at kind (Granted slot) can = refl
@@ -143,7 +143,7 @@ pub gone_by : {S H : Type 0} (o : Store S H) (old new : S) (number : ℕ) (r t :
     → IsReadyIn o old r → AreTurns o number r t old new → HasGone o r t old new
 gone_by o old new number r t sizes ready turns = (went o old new number r t sizes ready turns).gone
 
--- a run of this program on this context, since the first state of its store: the store went by what the run was told, each reply was to
+-- a run of this program on this context, since the first state of its store: the store went by what the run was answered, each reply was to
 -- an instruction, and of each kind as many more are out as the run holds
 pub record IsUnderWay {S H : Type 0} (o : Store S H) (first now : S) (subject : Subject) (context : List ℕ) (r : RunState H) : Type 0 where
   pub subject_is : r.subject ≡ subject

@@ -45,7 +45,7 @@ asked_by Nothing = Unasked
 asked_by (Write name at bytes) = Unasked
 asked_by (Free name) = Unasked
 
--- an object that is given for what stands on a shelf is found, and is of the shelf's kind
+-- an object that is given for what is on a shelf is found, and is of the shelf's kind
 abbrev pub IsGivenThere : {N : Type 0} → Environment N → ℕ → Option N → Type 0
 IsGivenThere a shelf None = Unit {0}
 IsGivenThere a shelf (Some name) = (found : Found) × (a.object name ≡ Ok found) × (found.kind ≡ shelf)
@@ -273,7 +273,7 @@ pub record AsksNew (v : RunView) (kind : ℕ) : Type 0 where
   pub kind_is : kind < length v.subject.rows
   pub room : length v.objects < v.subject.decl.held
 
--- it asks for what stands on a shelf, and the run has room for it
+-- it asks for what is on a shelf, and the run has room for it
 pub record AsksShelf (v : RunView) (shelf : ℕ) : Type 0 where
   pub given : Option ℕ
   pub to : ℕ

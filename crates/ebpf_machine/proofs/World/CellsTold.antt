@@ -1,4 +1,4 @@
--- What is loaded from the stack and stored to it is, as it is told, what is loaded and stored.
+-- What is loaded from the stack and stored to it is, with names changed, what is loaded and stored.
 use Rattle.std.proofs.Common.{◌≡◌, ℕ, zero, suc, ◌+◌, ◌-◌, ◌/◌, ℤ, Bool, true, false, cond, not, List, [], ◌∷◌, Option, Some, None, Result, Ok, Err, refl, sym, ap, arith}
 use Rattle.std.specs.Prelude.{map, Contains, ◌&&◌, ◌==◌}
 use Rattle.std.specs.List.{enumerate_from}

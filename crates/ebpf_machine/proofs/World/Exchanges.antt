@@ -1,4 +1,4 @@
--- What stands on a shelf is exchanged: what the runs of a world hold then, and what they see of it.
+-- What is on a shelf is exchanged: what the runs of a world hold then, and what they see of it.
 use Rattle.std.proofs.Common.{◌≡◌, ◌≢◌, ◌⊎◌, inl, inr, ℕ, Bool, true, false, cond, not, ◌&&◌, List, [], ◌∷◌, ◌++◌, map, filter, Option, Some, None, option_map, refl, sym, ap, ◌∙◌, subst}
 use Rattle.std.specs.Prelude.{Contains, ◌==◌}
 use Rattle.std.proofs.lemmas.Bool.{eq-eqb, ne_eqb, and_from, not-false, and_parts}
@@ -18,7 +18,7 @@ pub and_false : (t : Bool) → (t && false) ≡ false
 and_false true = refl
 and_false false = refl
 
--- ---- what stands on a shelf
+-- ---- what is on a shelf
 
 shelf_is : (shelf : ℕ) (h : Holder) → h ≡ Shelf shelf → is_shelf shelf h ≡ true
 shelf_is shelf h e = ap (is_shelf shelf) e ∙ eq-eqb shelf shelf refl
@@ -43,7 +43,7 @@ standing_there w shelf o found = record { among = found.0; holder = is_shelf-own
 pub kind_on_shelf : (w : World) (shelf : ℕ) (o : Owner) → IsOwned w → StandsOn w shelf o → shelf ≡ kind_in w o.slot
 kind_on_shelf w shelf o owned on = subst (λ (h : Holder). IsOfKind w.runs h (kind_in w o.slot)) on.holder (owned.runs.asked o on.among)
 
--- all but what stands in this slot on a shelf
+-- all but what is in this slot on a shelf
 abbrev pub stays_off : (slot shelf : ℕ) → Owner → Bool
 stays_off slot shelf p = not ((p.slot == slot) && is_shelf shelf p.holder)
 
@@ -56,7 +56,7 @@ shelf_dropped w shelf o owned on = record {
       owned.holders.one_a_call p o among on.among (is_shelf-own shelf p.holder parts.1 ∙ sym on.holder);
 }
 
--- nothing else stands there
+-- nothing else is there
 pub nothing_else : (w : World) (shelf : ℕ) (o p : Owner) → IsOwned w → StandsOn w shelf o
     → Contains (filter (stays_off o.slot shelf) w.owners) p → p.holder ≢ Shelf shelf
 nothing_else w shelf o p owned on among e =
@@ -86,14 +86,14 @@ pub given_with_run : (w : World) (run shelf : ℕ) (given : Option Name) (now : 
 given_with_run w run shelf None now own = tt
 given_with_run w run shelf (Some name) now own = own
 
--- it still is where the run got what stood on the shelf
+-- it still is where the run got what was on the shelf
 pub given_fetched : (w : World) (run at shelf : ℕ) (o : Owner) (given : Option Name) (now : Running) → IsOwnGiven w run shelf given
     → IsOwnGiven (fetched o shelf run at (with_run w run now)) run shelf given
 given_fetched w run at shelf o None now own = tt
 given_fetched w run at shelf o (Some name) now own =
     (Contains-append_left (filter (stays_off o.slot shelf) w.owners) _ (owner_of run name) (Contains-kept (stays_off o.slot shelf) w.owners (owner_of run name) own.0 (ap not (and_false (name.slot == o.slot)))), own.1)
 
--- nothing stands on the shelf then
+-- nothing is on the shelf then
 pub fetched_off : (w : World) (run at shelf : ℕ) (o p : Owner) → IsOwned w → StandsOn w shelf o
     → Contains (fetched o shelf run at w).owners p → p.holder ≢ Shelf shelf
 fetched_off w run at shelf o p owned on among = by (Contains-push_cases (filter (stays_off o.slot shelf) w.owners) new p among) where
@@ -188,7 +188,7 @@ given_slot_fetched w run at shelf o (Some name) now owned own ne = λ p among e.
   by p (inl old) e = slot_of_call w run name p owned own.0 (Contains-filter (stays_off o.slot shelf) w.owners p old).0 e
   by p (inr same) e = absurd (ne (sym (ap call_of (ap (λ (q : Owner). q.holder) same ∙ e))))
 
--- what a run holds that got what stood on the shelf by this call
+-- what a run holds that got what was on the shelf by this call
 pub held_exchanged : (w : World) (run at shelf : ℕ) (o : Owner) (given : Option Name) (now : Running) → IsOwned w
     → IsOwnGiven w run shelf given → IsNotGiven given at
     → held_by (put_on given shelf run (fetched o shelf run at (with_run w run now))) run ≡ held_without given (held_by w run) ++ owner_of run (name_of o.slot at) ∷ []

@@ -264,7 +264,7 @@ step_event v served held sound going w after run owned shows slots serves does =
     ∙ ap (λ (names : List Name). standing_seen w names (effect_of_view v) shelf) slots in
     subst (λ (u : World). (view_in u run ≡ Some (stepped (result_of served) v)) × (slots_in u run ≡ slots_after (effect_of_view v) served v.subject.decl.held v.pc held) × ((shelf : ℕ) → shelved_in u shelf ≡ standing_seen w held (effect_of_view v) shelf)) same (seen, now, shelves)
 
--- where a store may answer so, the event with this answer serves so, if what stands on the shelf is what the store tells
+-- where a store may answer so, the event with this answer serves so, if what is on the shelf is what the store says
 pub may_serve : (w : World) (may : Offers) (at : ℕ) (asked : Asking) (served : Served) → MayAnswer may at asked served
     → ((shelf : ℕ) → asked ≡ AtShelf shelf → served_from w (standing w shelf) ≡ served)
     → served_in w asked (answer_for served) ≡ served

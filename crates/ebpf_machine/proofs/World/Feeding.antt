@@ -1,5 +1,5 @@
 -- What the run alone is fed before an instruction: its world still fits together, the run sees what it saw, and it is served what it is
--- to be told.
+-- to be answered.
 use Rattle.std.proofs.Common.{◌≡◌, ℕ, ◌+◌, ◌<◌, true, List, [], ◌∷◌, length, Option, Some, None, refl, sym, ap, ◌∙◌, subst, arith, inl, inr, ◌⊎◌}
 use Rattle.std.specs.Prelude.{slice_get, drop}
 use Rattle.std.proofs.lemmas.Bool.{false_from_ne_true}
@@ -41,7 +41,7 @@ there_is a h = ap (λ (rs : List Running). slice_get rs 0) h.only
 
 -- ---- what is fed to it
 
--- what a reply tells a call of new; where there is none, null
+-- what a reply answers a call of new; where there is none, null
 abbrev pub used : Option Reply → CallResult
 used None = view.Null
 used (Some reply.Null) = view.Null
@@ -55,7 +55,7 @@ used_kept view.Granted = refl
 used_kept view.Empty = refl
 used_kept (view.Shelved bytes) = refl
 
--- and what it tells a call of swap, with the bytes that come next
+-- and what it answers a call of swap, with the bytes that come next
 abbrev pub used_at_shelf : List ℕ → Option Reply → CallResult
 used_at_shelf bytes None = view.Empty
 used_at_shelf bytes (Some reply.Null) = view.Empty
@@ -63,14 +63,14 @@ used_at_shelf bytes (Some reply.Granted) = view.Empty
 used_at_shelf bytes (Some reply.Empty) = view.Empty
 used_at_shelf bytes (Some reply.Shelf) = view.Shelved bytes
 
--- what it tells the instruction that asks so
+-- what it answers the instruction that asks so
 abbrev pub used_by : Asking → List Kind → Option Reply → List ℕ → CallResult
 used_by Unasked kinds o bytes = used o
 used_by OfNoKind kinds o bytes = used o
 used_by (OfKind kind) kinds o bytes = used o
 used_by (AtShelf shelf) kinds o bytes = used_at_shelf (bytes_for kinds shelf bytes) o
 
--- the world before the instruction, and the answer, where the run is to be told this reply
+-- the world before the instruction, and the answer, where the run is to be answered this reply
 pub record IsFed (w : World) (r : Running) (told : CallResult) (f : Fed) : Type 0 where
   pub owned : IsOwned f.world
   pub runs : f.world.runs ≡ w.runs
@@ -95,7 +95,7 @@ fed_nothing a h told going unasked =
       below = λ slot there. omega (arith, h.below slot there, kept);
     }
 
--- a call of new tells one reply more
+-- a call of new adds one reply
 one_more : (a : Alone) (h : IsLone a) (told : CallResult) (kind : ℕ) → h.run.status ≡ Going → AsksNew (view_of a.world 0 h.run) kind
     → length (stepped told (view_of a.world 0 h.run)).replies ≡ length h.run.calls + 1
 one_more a h told kind going new =
@@ -138,7 +138,7 @@ fed_slot a h kind going asked new =
 
 -- ---- a shelf
 
--- a call of swap tells one reply more
+-- a call of swap adds one reply
 one_swapped_more : (a : Alone) (h : IsLone a) (told : CallResult) (shelf : ℕ) → h.run.status ≡ Going
     → AsksShelf (view_of a.world 0 h.run) shelf → length (stepped told (view_of a.world 0 h.run)).replies ≡ length h.run.calls + 1
 one_swapped_more a h told shelf going asks =
@@ -161,7 +161,7 @@ asked_in : (w : World) (r : Running) (kinds : List Kind) (shelf : ℕ) → kinds
     → asking (insn_at r.subject.program r.pc) (length kinds) r.frame ≡ AtShelf shelf
 asked_in w r kinds shelf same asked = ap (λ (ks : List Kind). asking (insn_at r.subject.program r.pc) (length ks) r.frame) same ∙ asked
 
--- nothing stands on it
+-- nothing is on it
 fed_cleared : (a : Alone) (h : IsLone a) (shelf : ℕ) → h.run.status ≡ Going → asking_of a.world h.run ≡ AtShelf shelf
     → AsksShelf (view_of a.world 0 h.run) shelf
     → IsFed a.world h.run view.Empty (record { world = cleared shelf a.world; answer = Absent })
@@ -177,7 +177,7 @@ fed_cleared a h shelf going asked asks =
       below = λ s there. omega (arith, h.below s (cleared_ledgers w shelf s h.owned there), one_swapped_more a h view.Empty shelf going asks);
     }
 
--- a new object stands on it
+-- a new object is on it
 fed_shelved : (a : Alone) (h : IsLone a) (shelf : ℕ) (bytes : List ℕ) → length bytes ≡ length (image_at a.world.kinds shelf)
     → h.run.status ≡ Going → asking_of a.world h.run ≡ AtShelf shelf → AsksShelf (view_of a.world 0 h.run) shelf
     → IsFed a.world h.run (view.Shelved bytes) (record { world = shelved shelf (length h.run.calls) bytes (cleared shelf a.world); answer = Absent })
@@ -225,7 +225,7 @@ asking_is a h = asking_seen a.world 0 h.run h.owned (there_is a h)
 abbrev pub bytes_left : Running → Replies → List ℕ
 bytes_left r replies = drop (length r.taken) replies.taken
 
--- what the reply of its number tells it
+-- what the reply of its number answers
 abbrev pub told_now : (a : Alone) → Running → Replies → CallResult
 told_now a r replies = used_by (asking_of a.world r) a.world.kinds (slice_get replies.answers (length r.calls)) (bytes_left r replies)
 

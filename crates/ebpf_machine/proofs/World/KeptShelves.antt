@@ -1,4 +1,4 @@
--- What a run that is kept gives to a shelf is what the world that shows it has in that slot, and what stands on shelves does so where a
+-- What a run that is kept gives to a shelf is what the world that shows it has in that slot, and what is on shelves is there where a
 -- slot joins a ledger.
 use Rattle.std.proofs.Common.{◌≡◌, ◌≢◌, ℕ, Bool, true, false, cond, List, [], ◌∷◌, map, Option, Some, None, option_map, refl, sym, ap, ◌∙◌}
 use Rattle.std.specs.Prelude.{◌==◌}
@@ -78,7 +78,7 @@ module _ {H : Type 0} (bytes : H → List ℕ) (slot_of : H → ℕ) (w : World)
 
 -- ---- a slot joins a ledger
 
--- it is none that stands on a shelf
+-- it is none that is on a shelf
 pub shelved_joined : (w : World) (kind slot shelf : ℕ) → IsOwned w → IsNew w kind slot → shelved_in (with_slot_joined kind slot w) shelf ≡ shelved_in w shelf
 shelved_joined w kind slot shelf owned new = by (standing w shelf) (stands w shelf) where
   by : (f : Option Owner) → IsFound (λ (o : Owner). is_shelf shelf o.holder) w.owners f

@@ -167,7 +167,7 @@ after_none subject context replies = refl
 pub none_more : (replies : Replies) → more_than replies (replies_from [] []) ≡ replies
 none_more replies = λ i. replies_from (append-nil replies.answers i) (append-nil replies.taken i)
 
--- what it was told
+-- what it was answered
 abbrev told_of : Alone → Replies
 told_of a = told_to (slice_get a.world.runs 0)
 
@@ -213,7 +213,7 @@ fed_new asked kind o bytes more i w is = rw is (by o) where
   by (Some reply.Empty) = refl
   by (Some reply.Shelf) = refl
 
--- bytes behind those that a call of swap takes are not read
+-- bytes after those that a call of swap takes are not read
 bytes_unread : (kinds : List Kind) (shelf n : ℕ) (taken more : List ℕ) → n + length (image_at kinds shelf) ≤ length taken
     → bytes_for kinds shelf (drop n (taken ++ more)) ≡ bytes_for kinds shelf (drop n taken)
 bytes_unread kinds shelf n taken more few =
@@ -240,7 +240,7 @@ fed_at_shelf asked shelf o n i taken more w is few = rw is (by o few) where
       let enough : n + length (image_at w.kinds shelf) ≤ length taken = omega (arith, few, bytes_long w.kinds shelf (drop n taken)) in
       ap (λ (bytes : List ℕ). let f : Fed = record { world = shelved shelf i bytes (cleared shelf w); answer = Absent } in f) (bytes_unread w.kinds shelf n taken more enough)
 
--- replies behind those that it was told are not read
+-- replies after those that it was answered are not read
 record IsUnread (a : Alone) (replies more : Replies) : Type 0 where
   within : IsWithin (told_of a) replies
   same : alone_next (more_than replies more) a ≡ alone_next replies a
@@ -261,7 +261,7 @@ unread_next a replies more h going fits = by (asks a h going) where
   same_reply : i < length replies.answers → slice_get (replies.answers ++ more.answers) i ≡ slice_get replies.answers i
   same_reply few = slice_get-append_left replies.answers more.answers i reply.Null few
 
-  -- after the instruction it was told so much more
+  -- after the instruction it was answered that much more
   after : (told : Replies) → replies_of (stepped (told_now a h.run replies) v) ≡ more_than (replies_of v) told
       → IsWithin (more_than (replies_of v) told) replies
   after told is = subst (λ (rs : Replies). IsWithin rs replies) (told_next a replies h going ∙ is) fits
@@ -348,7 +348,7 @@ all_told v alone = told_seen (alone_after v.executed v.subject v.context (replie
 all_within : (v : RunView) → IsAlone v → IsWithin (told_of (alone_after v.executed v.subject v.context (replies_of v))) (replies_of v)
 all_within v alone = subst (λ (rs : Replies). IsWithin rs (replies_of v)) (sym (all_told v alone)) (record { answers = omega arith; taken = omega arith })
 
--- replies behind those of the run change nothing of where it is
+-- replies after those of the run change nothing of where it is
 pub alone_more : (v : RunView) (more : Replies) → IsSound v → IsAlone v
     → view_in (alone_after v.executed v.subject v.context (more_than (replies_of v) more)).world 0 ≡ Some v
 alone_more v more sound alone = ap (λ (a : Alone). view_in a.world 0) (after_unread v.executed v.subject v.context (replies_of v) more sound.accepted sound.context (all_within v alone)) ∙ alone
@@ -445,7 +445,7 @@ stepped_alone v told sound alone going fits = by (asks a h.lone now) where
       ∙ ap (λ (r : CallResult). stepped r v) (used_kept told)
       ∙ stepped_heard v told kind going new
 
-  -- what it takes off the shelf is what it is told
+  -- what it takes off the shelf is what it is answered
   hears_swap : (shelf : ℕ) → asking_in v ≡ AtShelf shelf → AsksShelf v shelf → IsTold (one_swapped told)
   hears_swap shelf asked new =
       let replies = more_than (replies_of v) (one_swapped told) in
@@ -520,7 +520,7 @@ exited_after v n sound alone ended =
     let all : length (instructions v.subject.program) ≡ rest + v.executed = omega (arith, few) in
     ap (λ (m : ℕ). alone_after m v.subject v.context (replies_of v)) all ∙ ended_after rest v.executed v.subject v.context (replies_of v) h.lone n (alone_status v h (Exited n) ended)
 
--- the outcome of the run alone is that of a run that exited, whatever replies are behind those that it was told
+-- the outcome of the run alone is that of a run that exited, whatever replies are after those that it was answered
 pub outcome_exited : (v : RunView) (n : ℕ) → IsSound v → IsAlone v → v.status ≡ Exited n → (more : Replies)
     → outcome_alone v.subject v.context (more_than (replies_of v) more) ≡ record { status = Exited n; output = v.frame.output; executed = v.executed; peak = (alone_after v.executed v.subject v.context (replies_of v)).peak }
 outcome_exited v n sound alone ended more =
@@ -539,7 +539,7 @@ outcome_exited v n sound alone ended more =
         let executed : r.executed ≡ v.executed = ap (λ (u : RunView). u.executed) same in
         rw (only, status, output, executed) refl
 
--- it was told just the replies of that run
+-- it was answered just the replies of that run
 pub told_exited : (v : RunView) (n : ℕ) → IsSound v → IsAlone v → v.status ≡ Exited n → told_alone v.subject v.context (replies_of v) ≡ replies_of v
 told_exited v n sound alone ended =
     let h = seen_alone v sound alone in

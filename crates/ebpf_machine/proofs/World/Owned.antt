@@ -114,7 +114,7 @@ handed w run r now slot frame owned there is later forward fewer = record {
     to_slot n (inl old) e = let behind = (owned.runs.pointers run r there n old).behind in absurd (omega (arith, e))
     to_slot n (inr new) e = ap (λ (m : Name). m.slot) (sym new)
 
--- what it was told is that it got one of this kind
+-- what it was answered is that it got one of this kind
 asked_now : (w : World) (run : ℕ) (r now : Running) (kind : ℕ) (told : Reply) → slice_get w.runs run ≡ Some r → r.pc < now.pc
     → now.calls ≡ r.calls ++ record { at = r.pc; kind = kind; reply = told } ∷ [] → IsGot told
     → AskedFor (with_run w run now).runs run r.pc kind
@@ -162,9 +162,9 @@ owned_taken w run r slot kind to frame owned there home of_kind forward fewer = 
       let asked = subst (λ (k : ℕ). AskedFor (with_run w run now).runs run r.pc k) kind_is (asked_now w run r now kind reply.Granted there forward refl tt) in
       owned_granted (with_run w run now) slot kind (Run run r.pc) (image_at w.kinds kind) next.owned home of_kind refl (may_hold w run r now slot owned there next asked)
 
--- ---- what stands on a shelf is exchanged
+-- ---- what is on a shelf is exchanged
 
--- what a run gives goes onto a shelf on which nothing stands
+-- what a run gives goes onto a shelf on which nothing is
 owned_put : (w : World) (run shelf : ℕ) (given : Option Name) → IsOwned w → IsOwnGiven w run shelf given
     → ((p : Owner) → Contains w.owners p → p.holder ≢ Shelf shelf) → IsOwned (put_on given shelf run w)
 owned_put w run shelf None owned own nobody = owned

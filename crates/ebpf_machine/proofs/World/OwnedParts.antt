@@ -21,7 +21,7 @@ true_fewer owners fewer run r n among h = record { behind = h.behind; slot = λ 
 
 -- ---- a run goes on
 
--- a run is of the same program as another, no earlier in it, and was told as much
+-- a run is of the same program as another, no earlier in it, and was answered as much
 pub record IsLater (r now : Running) : Type 0 where
   pub subject : now.subject ≡ r.subject
   pub pc : r.pc ≤ now.pc

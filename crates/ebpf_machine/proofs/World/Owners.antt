@@ -185,7 +185,7 @@ owned_there w o owned among = by (is_in_ledger w o.slot) refl where
 
 -- ---- no shelf has two slots
 
--- owners that answer alike are one, and it stands in the list once
+-- owners that answer alike are one, and it is in the list once
 once_by : (p : Owner → Bool) (owners : List Owner)
     → ((o q : Owner) → Contains owners o → Contains owners q → p o ≡ true → p q ≡ true → o ≡ q)
     → ((slot : ℕ) → count_by (λ (o : Owner). o.slot == slot) owners ≤ 1) → count_by p owners ≤ 1

@@ -1,4 +1,4 @@
--- An instruction does to a run that is told otherwise, as it is told, what it does to the run.
+-- An instruction does to a run with other names what it does to the run, with these names.
 use Rattle.std.proofs.Common.{◌≡◌, ℕ, zero, suc, ◌+◌, ℤ, pos, ◌+ℤ◌, Bool, true, false, cond, List, [], ◌∷◌, length, get_or, set, Option, Some, None, Result, Ok, Err, refl, sym, ap, ◌∙◌}
 use Rattle.std.specs.Prelude.{map, nat_lt, option_map, ◌&&◌, ◌==◌}
 use Rattle.std.specs.Ordering.{int_eq}

@@ -1,4 +1,4 @@
--- The replies that a run was told: an instruction that asks for an object adds its own, and no other instruction reads or adds one.
+-- The replies that a run was answered: an instruction that asks for an object adds its own, and no other instruction reads or adds one.
 use Rattle.std.proofs.Common.{◌≡◌, ℕ, ◌<◌, false, List, [], ◌∷◌, ◌++◌, length, refl, sym, ap, ◌∙◌, arith}
 use Rattle.std.specs.Prelude.{nat_le}
 use Rattle.std.proofs.lemmas.Bool.Decides.{nat_tests}
@@ -44,7 +44,7 @@ replies_kept v result going unasked = ap replies_of (stepped_going v result goin
 
 -- ---- an instruction that asks for an object
 
--- what a call of new makes of what it is told
+-- what a call of new makes of what it is answered
 abbrev pub heard_by_new : CallResult → CallResult
 heard_by_new Granted = Granted
 heard_by_new Null = Null
@@ -62,7 +62,7 @@ stepped_heard v result kind going new = does (heard_by_new result) ∙ heard res
   heard Empty = refl
   heard (Shelved bytes) = refl
 
--- a reply that is told to new
+-- a reply that is answered to new
 abbrev pub one_told : CallResult → Replies
 one_told result = replies_from (reply_in (heard_by_new result) ∷ []) []
 
@@ -81,23 +81,23 @@ replies_added v result kind going new = ap replies_of (stepped_going v result go
   told (Shelved bytes) = nothing_taken (v.replies ++ reply.Null ∷ [])
   told Granted = let room = few v.subject.decl.held (length v.objects) new.room in rw room (nothing_taken (v.replies ++ reply.Granted ∷ []))
 
--- ---- an instruction that asks for what stands on a shelf
+-- ---- an instruction that asks for what is on a shelf
 
--- what a call of swap makes of what it is told
+-- what a call of swap makes of what it is answered
 abbrev pub heard_by_swap : CallResult → CallResult
 heard_by_swap (Shelved bytes) = Shelved bytes
 heard_by_swap Empty = Empty
 heard_by_swap Null = Empty
 heard_by_swap Granted = Empty
 
--- the bytes that it is told
+-- the bytes that it is answered
 abbrev pub bytes_told : CallResult → List ℕ
 bytes_told (Shelved bytes) = bytes
 bytes_told Empty = []
 bytes_told Null = []
 bytes_told Granted = []
 
--- a reply that is told to swap
+-- a reply that is answered to swap
 abbrev pub one_swapped : CallResult → Replies
 one_swapped result = replies_from (reply_in (heard_by_swap result) ∷ []) (bytes_told result)
 

@@ -22,7 +22,7 @@ use Rattle.ebpf_machine.proofs.World.PartedSlots.{IsReapable, others_in, owned_p
 
 -- ---- a shelf is cleared
 
--- what stood there is nobody's, with its image
+-- what was there is nobody's, with its image
 abbrev emptied : World → ℕ → Owner → World
 emptied w shelf o = with_bytes o.slot (image_at w.kinds (kind_in w o.slot)) (without_shelved o.slot shelf w)
 
@@ -76,7 +76,7 @@ view_cleared w shelf run r owned = by (standing w shelf) (stands w shelf) where
       let on = standing_there w shelf o found in
       view_parted (emptied w shelf o) run shelf o.slot r (owned_emptied w shelf o owned on) (emptied_home w shelf o owned on) ∙ view_emptied w shelf o run r owned on
 
--- nothing stands on it
+-- nothing is on it
 pub none_found : {X : Type 0} (p : X → Bool) (xs : List X) → ((x : X) → Contains xs x → p x ≡ false) → find p xs ≡ None
 none_found p xs none = by (find p xs) (find_is p xs) where
   by : (o : Option _) → IsFound p xs o → o ≡ None
@@ -104,12 +104,12 @@ cleared_ledgers w shelf s owned = by (standing w shelf) (stands w shelf) where
     was (inl e) = ap (is_in_ledger w) e ∙ owned_there w o owned found.0
     was (inr ne) = sym (other_ledger (emptied w shelf o) shelf (without_slot o.slot (ledger_of w shelf)) s (others_in s o.slot (ledger_of w shelf) ne)) ∙ there
 
--- ---- a new object stands on it
+-- ---- a new object is on it
 
 pub bytes_long : (kinds : List Kind) (shelf : ℕ) (bytes : List ℕ) → length (bytes_for kinds shelf bytes) ≡ length (image_at kinds shelf)
 bytes_long kinds shelf bytes = rw (length-take, length-append) (omega arith)
 
--- a shelf on which nothing stands, and a slot that is in no ledger
+-- a shelf on which nothing is, and a slot that is in no ledger
 pub record IsRoom (w : World) (shelf slot : ℕ) : Type 0 where
   pub owned : IsOwned w
   pub off : (p : Owner) → Contains w.owners p → is_shelf shelf p.holder ≡ false

@@ -1,4 +1,4 @@
--- What stands on the shelves of a world after an event: what a run gave, on the shelf of its exchange, and what stood there, on the
+-- What is on the shelves of a world after an event: what a run gave, on the shelf of its exchange, and what was there, on the
 -- others.
 use Rattle.std.proofs.Common.{◌≡◌, ◌≢◌, ◌⊎◌, inl, inr, ℕ, Bool, true, false, cond, not, ◌&&◌, List, [], ◌∷◌, ◌++◌, length, filter, Option, Some, None, option_map, refl, sym, ap, ◌∙◌, arith, pos}
 use Rattle.std.specs.Prelude.{Contains, ◌==◌, nat_le}
@@ -41,7 +41,7 @@ find_filtered {X} p q (x ∷ xs) stays = by (p x) (q x) refl refl (stays x) (fin
   by true false here kept stays rest = let yes = stays here in absurd (cc)
   by false false here kept stays rest = rest
 
--- ---- what stands on a shelf, where owners change elsewhere
+-- ---- what is on a shelf, where owners change elsewhere
 
 standing_granted : (w : World) (run at slot shelf : ℕ) → standing (with_owner slot (Run run at) w) shelf ≡ standing w shelf
 standing_granted w run at slot shelf = find_pushed (λ (o : Owner). is_shelf shelf o.holder) w.owners (owned_by slot (Run run at)) refl
@@ -52,7 +52,7 @@ standing_given w run name shelf = find_filtered (λ (o : Owner). is_shelf shelf 
   stays slot (Run r at) on = absurd (cc)
   stays slot (Shelf s) on = ap not (and_false (slot == name.slot))
 
--- what stands on another shelf stays
+-- what is on another shelf stays
 another_shelf : (shelf k : ℕ) (h : Holder) → shelf ≢ k → is_shelf shelf h ≡ true → is_shelf k h ≡ false
 another_shelf shelf k h ne on = false_from_ne_true (is_shelf k h) (λ there. ne (same h on there)) where
   same : (h : Holder) → is_shelf shelf h ≡ true → is_shelf k h ≡ true → shelf ≡ k
@@ -71,7 +71,7 @@ standing_elsewhere : (w : World) (slot k shelf : ℕ) → shelf ≢ k → standi
 standing_elsewhere w slot k shelf ne =
     find_pushed (λ (o : Owner). is_shelf shelf o.holder) w.owners (owned_by slot (Shelf k)) (ne_eqb k shelf (λ e. ne (sym e)))
 
--- where nothing stands on a shelf, what is put there does
+-- where nothing is on a shelf, what is put there is
 standing_put : (w : World) (slot k : ℕ) → ((p : Owner) → Contains w.owners p → is_shelf k p.holder ≡ false)
     → standing (with_owner slot (Shelf k) w) k ≡ Some (owned_by slot (Shelf k))
 standing_put w slot k off = find_last (λ (o : Owner). is_shelf k o.holder) w.owners (owned_by slot (Shelf k)) off (eq-eqb k k refl)
@@ -90,7 +90,7 @@ shelf_stays w v shelf same kept = ap (option_map (λ (o : Owner). shelved_at v o
       let on = standing_there w shelf o found in
       ap (λ (bytes : List ℕ). Some (record { slot = o.slot; bytes = bytes })) (kept o on.among on.holder)
 
--- what a run has is in another slot than what stands on a shelf
+-- what a run has is in another slot than what is on a shelf
 apart_from_shelf : (w : World) (run : ℕ) (name : Name) (shelf : ℕ) (o : Owner) → IsOwned w → Contains w.owners (owner_of run name)
     → Contains w.owners o → o.holder ≡ Shelf shelf → o.slot ≢ name.slot
 apart_from_shelf w run name shelf o owned own among on e = shelf_is_no_run shelf run name.call (sym on ∙ holder_of_slot w run name o owned own among e)
@@ -119,7 +119,7 @@ shelf_granted w run r slot to kind frame shelf home = by (nat_le r.subject.decl.
 
 -- ---- an exchange
 
--- what is given stands on the shelf, where nothing stood there; other shelves are as they were
+-- what is given is on the shelf, where nothing was there; other shelves are as they were
 shelf_put : (w v : World) (run k : ℕ) (given : Option Name) → ((p : Owner) → Contains v.owners p → p.holder ≢ Shelf k)
     → ((shelf : ℕ) → shelf ≢ k → standing v shelf ≡ standing w shelf) → v.bytes ≡ w.bytes
     → (shelf : ℕ) → shelved_in (put_on given k run v) shelf ≡ cond (shelf == k) (shelved_given w given) (shelved_in w shelf)

@@ -1,4 +1,4 @@
--- How what an instruction does is told where objects have other names.
+-- How what an instruction does is written where objects have other names.
 use Rattle.std.proofs.Common.{ℕ, Bool, true, cond, Result, Ok, Err}
 use Rattle.std.specs.Prelude.{option_map}
 use Rattle.ebpf_machine.specs.Values.{Trap, UseAfterFree, AnotherRunsObject}

@@ -17,7 +17,7 @@ use crate::reader::statement::{
 use ebpf_command::done::{FaultCode, Stop};
 use std::alloc::Global;
 
-/// Reads a line behind those that the script has; whether it is text is looked at unless that is known. Where it stops, nothing is
+/// Reads a line after those that the script has; whether it is text is looked at unless that is known. Where it stops, nothing is
 /// promised of the script.
 pub(crate) fn read_line(
     alloc: Global,
@@ -82,7 +82,7 @@ fn is_comment(word: &[u8]) -> bool
     }
 }
 
-// Reads the words behind `program`.
+// Reads the words after `program`.
 fn read_program_words(alloc: Global, script: &mut Script, rest: &[&[u8]]) -> Result<(), Stop>
     ensures ok { OnOk result (Adds (program_shape (map (λ w. w.now) rest.now)) script.old script.new) }
     ensures refused { IfErr result (IsStop (shape_fault (parsed_script script.old) (program_shape (map (λ w. w.now) rest.now)))) }
@@ -93,7 +93,7 @@ fn read_program_words(alloc: Global, script: &mut Script, rest: &[&[u8]]) -> Res
     }
 }
 
-// Reads a line of events: its first word and those behind it.
+// Reads a line of events: its first word and those after it.
 fn read_event_words(
     alloc: Global,
     script: &mut Script,
@@ -113,7 +113,7 @@ fn read_event_words(
     }
 }
 
-// Reads a line of jobs: its first word and those behind it.
+// Reads a line of jobs: its first word and those after it.
 fn read_job_words(
     alloc: Global,
     script: &mut Script,

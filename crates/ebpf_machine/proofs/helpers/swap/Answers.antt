@@ -41,7 +41,7 @@ left : (g : Over) (c : After-part_with-given g)
     → state_of c.part_with-given.new.parts ≡ record (state_of c.args.parts.now) { held = c.part_with-given.new.parts.held.items }
 left g c = parted_state _ _ _ c.part_with-given.ensures.parted
 
--- the call still stands at its pc
+-- the call still is at its pc
 called : (g : Over) (c : After-part_with-given g)
     → insn_at c.part_with-given.new.parts.verified.now.program c.part_with-given.new.parts.pc ≡ Some (Call c.requires.at.number)
 called g c = ap (λ (x : RunState _). insn_at x.subject.program x.pc) (left g c) ∙ c.requires.at.at

@@ -6,14 +6,14 @@ use Rattle.ebpf_one.specs.declared.input_faults.Part.{Part}
 use Rattle.ebpf_one.specs.InputFaults.{part_name, place_of_other, other_byte, odd_digits, unread, unread_by}
 use Rattle.ebpf_one.proofs.input_faults.write_unread.Goals as goal
 
--- what is told where a byte may not stand
+-- what is written where a byte may not be
 told_byte : (part : Part) (bytes : List ℕ) (place byte : ℕ) → place ≡ place_of_other part bytes → slice_get bytes place ≡ Some byte
     → other_byte part place byte ≡ unread part bytes
 told_byte part bytes place byte is there =
     let found = subst (λ (n : ℕ). slice_get bytes n ≡ Some byte) is there in
     ap (λ (n : ℕ). other_byte part n byte) is ∙ sym (ap (unread_by part bytes) found)
 
--- what is told where each may, by the name of the part and the number of its digits
+-- what is written where each may be, by the name of the part and the number of its digits
 told_digits : (part : Part) (bytes : List ℕ) (place digits : ℕ) (name : List ℕ) → place ≡ place_of_other part bytes → slice_get bytes place ≡ None
     → name ≡ part_name part → digits ≡ length (filter is_hex_digit bytes)
     → codes "the " ++ (name ++ (codes " has an odd number of hex digits, " ++ (decimal digits ++ codes ": two make a byte"))) ≡ unread part bytes

@@ -9,7 +9,7 @@ use Rattle.ebpf_pool.proofs.Answering.{answered_all}
 use Rattle.ebpf_pool.proofs.Bundles.{bundle_below, drawn_more, drawn_past}
 use Rattle.ebpf_pool.proofs.worker.serve.Goals as goal
 
--- what is said of a seat that was not told `None` before
+-- what is said of a seat that was not answered `None` before
 not_passed : (passed : Bool) (A B : Type 0) → passed ≡ false → MatchBool passed A B → B
 not_passed false A B going told = told
 not_passed true A B going told = absurd (cc)

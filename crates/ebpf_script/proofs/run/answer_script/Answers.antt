@@ -23,7 +23,7 @@ outcome_of-requires-clause-fine g c κs within =
     let declared = contexts_kept _ c.in_ok-verdicts.verdicts c.in_ok-verdicts.ensures c.if-verdicts.false in
     rw (c.deref.ensures.value, c.unwrap_or.ensures) (none_due _ c.args.workers c.args.script.jobs.items pages.0 pages.1 c.requires.workers.0 c.requires.workers.1 runnable.few (λ k d lt. rw declared (runnable.declared k d lt)))
 
--- the text behind verdicts that are kept, where an outcome may come of the jobs
+-- the text after verdicts that are kept, where an outcome may come of the jobs
 told : (parsed : ParsedScript) (kept : Verdicts) (k : AreKept parsed.programs kept) (o : Outcome) (text : List ℕ) → kept.refused ≡ false
     → MayCome kept.accepted.items parsed.jobs o → text ≡ string_bytes kept.text ++ outcome_lines o → RespondsScript DoesRun (Ok parsed) (clean_response text)
 told parsed kept k o text fine came is = (

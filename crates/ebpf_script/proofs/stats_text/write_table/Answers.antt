@@ -3,7 +3,7 @@ use Rattle.ebpf_explain.proofs.MeetingLemmas.{behind_two}
 use Rattle.ebpf_script.specs.StatsLines.{workers_from}
 use Rattle.ebpf_script.proofs.stats_text.write_table.Goals as goal
 
--- what is written behind three others
+-- what is written after three others
 behind_three : {A E : Type 0} (result : Result A E) (before one two three new a b c d : List ℕ) → one ≡ before ++ a → two ≡ one ++ b
     → three ≡ two ++ c → OnOk result (new ≡ three ++ d) → OnOk result (new ≡ before ++ (a ++ (b ++ (c ++ d))))
 behind_three result before one two three new a b c d first second third last =

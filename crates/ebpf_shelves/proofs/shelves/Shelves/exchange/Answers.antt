@@ -24,4 +24,4 @@ done c = is_exchanged c.self.inside.rooms c.args.shelf c.args.given (inside c) c
 pub returns : goal.returns
 returns c = rw (← c.self.view_is) (subst (λ (o : Option Object).
     IsExchanged c.args.shelf c.args.given c.replace.result c.self.inside.rooms (slice_set c.self.inside.rooms c.args.shelf o)) (sym c.replace.ensures.after)
-        (done c))
+    (done c))
