@@ -17,10 +17,10 @@ use owners_table::tickets::{TicketSeat, Tickets};
 use std::alloc::{AllocError, Global};
 use std::sync::Wait;
 
-/// The most jobs that one ticket means.
+/// The most jobs of one ticket.
 pub(crate) const MAX_BUNDLE: u64 = 64;
 
-/// How many tickets there are for each worker, at least, where one means more than one job: so workers end together.
+/// How many tickets there are for each worker, at least, where one is of more than one job: so workers end together.
 pub(crate) const MIN_BUNDLES: u64 = 64;
 
 /// The arena and a ticket for each bundle of jobs, and room to say how many jobs each worker did.
