@@ -1,4 +1,4 @@
--- Neighbouring jobs that one ticket means. Of bundles of a size, bundle b has the jobs from b times the size up to the next
+-- Neighbouring jobs of one ticket. Of bundles of a size, bundle b has the jobs from b times the size up to the next
 -- bundle's first, as far as there are jobs.
 use Rattle.std.specs.Prelude.{◌≡◌, ◌⊎◌, ◌+◌, ◌*◌, ◌/◌, ◌<◌, ◌≤◌, ◌==◌, ℕ, if◌then◌else◌, List}
 use Rattle.std.specs.Int.{div_ceil}
