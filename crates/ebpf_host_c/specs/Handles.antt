@@ -1,5 +1,5 @@
 -- What a call by handles does with what they hold.
-use Rattle.std.specs.Prelude.{◌≡◌, ℕ, ⊥, List, Option, None}
+use Rattle.std.specs.Prelude.{◌≡◌, ℕ, List, Option, None}
 use Rattle.std.specs.Option.{MatchOption}
 use Rattle.ebpf_host.specs.declared.program.Program.{Program}
 use Rattle.ebpf_host.specs.declared.stocks.Stocks.{Stocks}
