@@ -89,7 +89,7 @@ words_body : (slot : ℕ) (i : Insn) → slot < 2 ^ 64 → IsDefined i → words
 words_body slot i small d =
     ap kept (whole (body slot i) (inline_body slot i small d))
     ∙ numbered_kept (decimal slot) (mnemonic_of i) (operands_of i) (joined (decimal slot) (codes ":") (of_decimal slot small) refl, kept_numbered slot)
-      (word_mnemonic i d) (word_operands i d)
+    (word_mnemonic i d) (word_operands i d)
 
 -- the lines, one after another
 lines_more : (slot : ℕ) (i : Insn) (rest : List (Option Insn)) → lines_from slot (placed i ++ rest) ≡ line_of slot i ++ lines_from (slot + slots_in i) rest
@@ -125,14 +125,20 @@ unfolding lines_from uncommented
 assembled slot [] small all = inl (refl, refl)
 assembled slot (i ∷ is) small all =
     subst (λ (lines : List (List ℕ)). AreInsns slot lines (i ∷ is)) (sym cut)
-    (inr (i, is, refl, (all.0, inr (words_body slot i (omega (arith, small)) all.0)), assembled (slot + slots_in i) is
-        (omega (arith, small, length-append (placed i) (flat_map placed is))) all.1))
+    (inr (
+      i,
+      is,
+      refl,
+      (all.0, inr (words_body slot i (omega (arith, small)) all.0)),
+      assembled (slot + slots_in i) is
+          (omega (arith, small, length-append (placed i) (flat_map placed is))) all.1,
+    ))
   where
     cut : slice_split is_newline (lines_from slot (placed i ++ flat_map placed is))
         ≡ body slot i ∷ slice_split is_newline (lines_from (slot + slots_in i) (flat_map placed is))
     cut = ap (slice_split is_newline) (lines_more slot i (flat_map placed is) ∙ line_apart slot i (lines_from (slot + slots_in i) (flat_map placed is)))
         ∙ split_at is_inline is_newline no_newline (body slot i) 10 (lines_from (slot + slots_in i) (flat_map placed is))
-          (inline_body slot i (omega (arith, small)) all.0) refl
+        (inline_body slot i (omega (arith, small)) all.0) refl
 
 pub listing_assembled : (p : List (Option Insn)) → IsWellFormed p → IsAssembledPlain (listing_of p) p
 listing_assembled p formed = record {

@@ -33,12 +33,24 @@ with_insn : (slot : ℕ) (lines : List (List ℕ)) (line : List ℕ) (is : List 
     → IsInsnAt (slot + length (flat_map placed is)) (words line) i
     → AreInsns slot (lines ++ line ∷ []) (is ++ i ∷ [])
 with_insn slot [] line is i a at =
-    inr (i, [], ap (λ (js : List Insn). js ++ i ∷ []) a, subst (λ (k : ℕ). IsInsnAt k (words line) i)
-        (omega (arith, ap (λ (js : List Insn). length (flat_map placed js)) a)) at, refl)
+    inr (
+      i,
+      [],
+      ap (λ (js : List Insn). js ++ i ∷ []) a,
+      subst (λ (k : ℕ). IsInsnAt k (words line) i)
+          (omega (arith, ap (λ (js : List Insn). length (flat_map placed js)) a)) at,
+      refl,
+    )
 with_insn slot (l ∷ lines) line is i (inl a) at = inl (a.0, with_insn slot lines line is i a.1 at)
 with_insn slot (l ∷ lines) line is i (inr a) at =
-    inr (a.0, a.1 ++ i ∷ [], ap (λ (js : List Insn). js ++ i ∷ []) a.2, a.3, with_insn (slot + slots_in a.0) lines line a.1 i a.4
-        (subst (λ (k : ℕ). IsInsnAt k (words line) i) further at))
+    inr (
+      a.0,
+      a.1 ++ i ∷ [],
+      ap (λ (js : List Insn). js ++ i ∷ []) a.2,
+      a.3,
+      with_insn (slot + slots_in a.0) lines line a.1 i a.4
+          (subst (λ (k : ℕ). IsInsnAt k (words line) i) further at),
+    )
   where
     further : slot + length (flat_map placed is) ≡ slot + slots_in a.0 + length (flat_map placed a.1)
     further = omega (arith, ap (λ (js : List Insn). length (flat_map placed js)) a.2, length-append (placed a.0) (flat_map placed a.1))
@@ -64,7 +76,7 @@ longer lines n line inside here = take_more lines n line inside ∙ ap (λ (l : 
 parted : (lines : List (List ℕ)) (n : ℕ) (line : List ℕ) → n < length lines → line ≡ get_or lines n line → lines ≡ take n lines ++ line ∷ drop (n + 1) lines
 parted lines n line inside here =
     sym (take-append-drop n lines) ∙ ap (λ (ls : List (List ℕ)). take n lines ++ ls)
-        (rw (add-one, drop-cons lines n line) (ap (λ (l : List ℕ). l ∷ drop (suc n) lines) (sym here)))
+    (rw (add-one, drop-cons lines n line) (ap (λ (l : List ℕ). l ∷ drop (suc n) lines) (sym here)))
 
 pub draft_blank : (lines : List (List ℕ)) (n : ℕ) (line : List ℕ) (slots : List (Option Insn)) (len : ℕ) → n < length lines
     → line ≡ get_or lines n line → words line ≡ []
@@ -121,9 +133,11 @@ none_left (i ∷ is) e = absurd (omega (arith, e))
 
 pub empty_here : (text : List ℕ) (n : ℕ) (slots : List (Option Insn)) (len : ℕ) → n ≡ length (text_lines text) → len ≡ 0
     → IsDraft (take n (text_lines text)) slots len → IsPlainFault text (Empty n)
-empty_here text n slots len all none d =
-    (all, subst (AreInsns 0 (text_lines text)) (none_left (instructions slots) (omega (arith, d.count, none)))
-        (all_read text n (instructions slots) (omega (arith, all)) d.read))
+empty_here text n slots len all none d = (
+  all,
+  subst (AreInsns 0 (text_lines text)) (none_left (instructions slots) (omega (arith, d.count, none)))
+      (all_read text n (instructions slots) (omega (arith, all)) d.read),
+)
 
 pub finished : (text : List ℕ) (n : ℕ) (slots : List (Option Insn)) (len : ℕ) → n ≡ length (text_lines text) → length slots ≤ 4096
     → len ≢ 0 → IsDraft (take n (text_lines text)) slots len → IsAssembledPlain text slots

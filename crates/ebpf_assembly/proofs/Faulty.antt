@@ -67,7 +67,7 @@ no_label (insn.Neg W32 dst) d = low _ 50 refl (omega arith)
 no_label (insn.Neg W64 dst) d = low _ 52 refl (omega arith)
 no_label (insn.Swap o bits dst) d =
     swap_cases (λ (n : ℕ). IsNoLabel (order_name o ++ decimal n)) (swap_no_label o _ (inl (swap_16 o))) (swap_no_label o _ (inr (inl (swap_32 o))))
-        (swap_no_label o _ (inr (inr (swap_64 o)))) bits d
+    (swap_no_label o _ (inr (inr (swap_64 o)))) bits d
 no_label (insn.Wide dst value) d = high _ 119 refl (omega arith)
 no_label (insn.Load size.B false dst base offset) d = high _ 98 refl (omega arith)
 no_label (insn.Load size.H false dst base offset) d = high _ 104 refl (omega arith)
@@ -144,29 +144,42 @@ at_fault slot line after rest NoInstruction small few f (inl a) = f.0 a.0
 at_fault slot line after rest NoInstruction small few f (inr a) = f.2 a.0 a.3
 at_fault slot line after rest TooManySlots small few f (inl a) = blank slot line f.0 a.0 f.1
 at_fault slot line after rest TooManySlots small few f (inr a) =
-    omega (arith, few, f.2, ap slots_in (same slot line f.0 a.0 small f.1 a.3), ap (λ (ks : List Insn). length (flat_map placed ks)) a.2, length-append
-        (placed a.0) (flat_map placed a.1))
+    omega (
+      arith,
+      few,
+      f.2,
+      ap slots_in (same slot line f.0 a.0 small f.1 a.3),
+      ap (λ (ks : List Insn). length (flat_map placed ks)) a.2,
+      length-append
+          (placed a.0) (flat_map placed a.1),
+    )
 
 few_slots : (p : List (Option Insn)) (is rest : List Insn) → IsWellFormed p → instructions p ≡ is ++ rest
     → length (flat_map placed is) + length (flat_map placed rest) ≤ 4096
 few_slots p is rest formed e =
-    omega (arith, formed.few, ap length formed.placed, ap (λ (ks : List Insn). length (flat_map placed ks)) e, ap length (flat_map-append is rest),
-        length-append (flat_map placed is) (flat_map placed rest))
+    omega (
+      arith,
+      formed.few,
+      ap length formed.placed,
+      ap (λ (ks : List Insn). length (flat_map placed ks)) e,
+      ap length (flat_map-append is rest),
+      length-append (flat_map placed is) (flat_map placed rest),
+    )
 
 refuted : (text : List ℕ) (p : List (Option Insn)) (fault : AssemblyFault) → IsAssembledPlain text p → IsPlainFault text fault → fault ≡ NoMemory
 refuted text p NoMemory a f = refl
 refuted text p (Empty number) a f = absurd
     (omega (arith, a.formed.some, ap length a.formed.placed, ap (λ (ks : List Insn). length (flat_map placed ks)) none)) where
-  none : instructions p ≡ []
-  none = unique 0 (text_lines text) (instructions p) [] (short p a.formed) (omega arith) a.lines f.1
+      none : instructions p ≡ []
+      none = unique 0 (text_lines text) (instructions p) [] (short p a.formed) (omega arith) a.lines f.1
 refuted text p (Bad number fault) a (line, is, at, f) =
     absurd (found (from 0 at.before (line ∷ at.after) is (instructions p) (short p a.formed) at.read
     (subst (λ (ls : List (List ℕ)). AreInsns 0 ls (instructions p)) at.lines a.lines))) where
-  found : IsRest 0 (line ∷ at.after) is (instructions p) → ⊥
-  found r =
-      at_fault (length (flat_map placed is)) line at.after r.rest fault (omega (arith, few_slots p is r.rest a.formed r.parted))
+      found : IsRest 0 (line ∷ at.after) is (instructions p) → ⊥
+      found r =
+          at_fault (length (flat_map placed is)) line at.after r.rest fault (omega (arith, few_slots p is r.rest a.formed r.parted))
           (few_slots p is r.rest a.formed r.parted) f
-      (subst (λ (k : ℕ). AreInsns k (line ∷ at.after) r.rest) (omega arith) r.read)
+          (subst (λ (k : ℕ). AreInsns k (line ∷ at.after) r.rest) (omega arith) r.read)
 
 pub only_assembled : (text : List ℕ) (r : Result (List (Option Insn)) AssemblyFault) → IfOk r (IsAssembledPlain text) → IfErr r (IsPlainFault text)
     → (p : List (Option Insn)) → IsAssembledPlain text p → MatchResult r (λ q. q ≡ p) (λ e. e ≡ NoMemory)

@@ -59,4 +59,4 @@ insn_read word ws rest k (Some i) is kinded same h =
     (h.0, is ∙ (ap (λ (w : List ℕ). w ∷ rest) (same ∙ (ap kind_name (sym h.1) ∙ sym (named i))) ∙ ap (λ (ts : List (List ℕ)). mnemonic_of i ∷ ts) h.2))
 insn_read word ws rest k None is kinded same h =
     λ i d e. h i d (kind_unique (kind_of i) k (is_kind i d) kinded (sym (named i) ∙ (sym (ap first_of (sym is ∙ e)) ∙ same)))
-        (ap (λ (ts : List (List ℕ)). drop 1 ts) (sym is ∙ e))
+    (ap (λ (ts : List (List ℕ)). drop 1 ts) (sym is ∙ e))

@@ -50,7 +50,7 @@ pub no_move : (word : List ℕ) → word ≢ codes "movs8_32" → word ≢ codes
     → (w : Width) (bits : ℕ) → is_move_of w bits ≡ true → word ≢ moves (decimal bits) w
 no_move word a b c d e w bits h =
     move_cases (λ (v : Width) (n : ℕ). word ≢ moves (decimal n) v) (λ f. a (f ∙ move_8 W32)) (λ f. b (f ∙ move_16 W32)) (λ f. c (f ∙ move_8 W64))
-        (λ f. d (f ∙ move_16 W64)) (λ f. e (f ∙ move_32 W64)) w bits h
+    (λ f. d (f ∙ move_16 W64)) (λ f. e (f ∙ move_32 W64)) w bits h
 
 -- they are ASCII
 parts : (a b : Bool) → (a && b) ≡ true → (a ≡ true) × (b ≡ true)

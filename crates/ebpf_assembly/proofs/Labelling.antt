@@ -68,7 +68,7 @@ pub label_more : (before after all : List Named) (slot next n : ℕ) (lines : Li
     → after ++ labels_from next (drop (n + 1) lines) ≡ all
 label_more before after all slot next n lines line ws vs inside here same again added stepped h =
     rw (added, stepped, same, again) (append_assoc before (label_of slot (words line)) _
-        ∙ (ap (λ (ls : List Named). before ++ ls) (sym (label_here slot n lines line inside here)) ∙ h))
+    ∙ (ap (λ (ls : List Named). before ++ ls) (sym (label_here slot n lines line inside here)) ∙ h))
 
 pub all_labels : (labels all : List Named) (slot n : ℕ) (lines : List (List ℕ)) → length lines ≤ n
     → labels ++ labels_from slot (drop n lines) ≡ all → labels ≡ all
@@ -79,12 +79,12 @@ all_labels labels all slot n lines past h =
 -- the plain line of a line more
 line_here : (labels : List Named) (slot n : ℕ) (lines : List (List ℕ)) (line : List ℕ) → n < length lines → line ≡ get_or lines n line
     → plain_lines labels slot (drop n lines) ≡ (codes "\n" ++ words_text (plain_words labels slot (words line)))
-      ++ plain_lines labels (slot_after slot (words line)) (drop (n + 1) lines)
+    ++ plain_lines labels (slot_after slot (words line)) (drop (n + 1) lines)
 unfolding plain_lines
 line_here labels slot n lines line inside here =
     at_drop_more (plain_lines labels slot) lines n line inside
     ∙ ap (λ (l : List ℕ). codes "\n" ++ (words_text (plain_words labels slot (words l))
-      ++ plain_lines labels (slot_after slot (words l)) (drop (n + 1) lines))) (sym here)
+    ++ plain_lines labels (slot_after slot (words l)) (drop (n + 1) lines))) (sym here)
 
 pub line_more : (labels : List Named) (before after all : List ℕ) (slot next n : ℕ) (lines : List (List ℕ)) (line : List ℕ) (ws vs : List (List ℕ))
     → n < length lines → line ≡ get_or lines n line → ws ≡ words line → vs ≡ words line
@@ -93,7 +93,7 @@ pub line_more : (labels : List Named) (before after all : List ℕ) (slot next n
     → after ++ plain_lines labels next (drop (n + 1) lines) ≡ all
 line_more labels before after all slot next n lines line ws vs inside here same again added stepped h =
     rw (added, stepped, same, again) (append_assoc before (codes "\n" ++ words_text (plain_words labels slot (words line))) _
-        ∙ (ap (λ (x : List ℕ). before ++ x) (sym (line_here labels slot n lines line inside here)) ∙ h))
+    ∙ (ap (λ (x : List ℕ). before ++ x) (sym (line_here labels slot n lines line inside here)) ∙ h))
 
 pub all_plain : (labels : List Named) (text all : List ℕ) (slot n : ℕ) (lines : List (List ℕ)) → length lines ≤ n
     → text ++ plain_lines labels slot (drop n lines) ≡ all → text ≡ all
@@ -112,7 +112,7 @@ last_target labels slot (w ∷ v ∷ ws) last = ap (λ (xs : List (List ℕ)). w
 -- the slot of a name, among the labels that are left
 name_here : (name : List ℕ) (labels : List Label) (n : ℕ) (d : Label) → n < length labels
     → slot_of name (names_of (drop n labels))
-      ≡ (if bytes_eq (get_or labels n d).name.now name then Some (get_or labels n d).slot else slot_of name (names_of (drop (n + 1) labels)))
+    ≡ (if bytes_eq (get_or labels n d).name.now name then Some (get_or labels n d).slot else slot_of name (names_of (drop (n + 1) labels)))
 unfolding slot_of
 name_here name labels n d inside = at_drop_more (λ (ls : List Label). slot_of name (names_of ls)) labels n d inside
 
@@ -121,14 +121,14 @@ pub name_found : (name : List ℕ) (labels : List Label) (n : ℕ) (d : Label) (
     → slot_of name (names_of (drop n labels)) ≡ all → Some (get_or labels n d).slot ≡ all
 name_found name labels n d r all inside found test h =
     sym (name_here name labels n d inside ∙ ap (λ (b : Bool). if b then Some (get_or labels n d).slot else slot_of name (names_of (drop (n + 1) labels)))
-        (sym test ∙ found)) ∙ h
+    (sym test ∙ found)) ∙ h
 
 pub name_passed : (name : List ℕ) (labels : List Label) (n : ℕ) (d : Label) (r : Bool) (all : Option ℕ) → n < length labels
     → r ≡ false → r ≡ bytes_eq (get_or labels n d).name.now name
     → slot_of name (names_of (drop n labels)) ≡ all → slot_of name (names_of (drop (n + 1) labels)) ≡ all
 name_passed name labels n d r all inside other test h =
     sym (name_here name labels n d inside ∙ ap (λ (b : Bool). if b then Some (get_or labels n d).slot else slot_of name (names_of (drop (n + 1) labels)))
-        (sym test ∙ other)) ∙ h
+    (sym test ∙ other)) ∙ h
 
 pub no_name_left : (name : List ℕ) (labels : List Label) (n : ℕ) (all : Option ℕ) → length labels ≤ n
     → slot_of name (names_of (drop n labels)) ≡ all → None ≡ all
@@ -166,7 +166,7 @@ jump_text labels slot ws others last before mid after jump parts one two =
         ∙ (ap (λ (vs : List (List ℕ)). words_text (with_target labels slot vs)) all
         ∙ (ap words_text (last_target labels slot seen last.now)
         ∙ (several seen (target_text labels slot last.now ∷ [])
-          ∙ ap (λ (t : List ℕ). words_text seen ++ t) (append-nil (target_text labels slot last.now ++ codes " ")))))
+        ∙ ap (λ (t : List ℕ). words_text seen ++ t) (append-nil (target_text labels slot last.now ++ codes " ")))))
 
 -- the first labels
 pub some_first : (n : ℕ) (labels : List Label) → names_of (take n labels) ≡ take n (names_of labels)

@@ -138,8 +138,8 @@ pub of_mnemonic : (i : Insn) → IsDefined i → IsPlain (mnemonic_of i)
 of_mnemonic (insn.Alu width o dst src) d = joined (alu_name o) (width_name width) (of_alu o) (of_width width)
 of_mnemonic (insn.Sext width bits dst src) d =
     joined (codes "movs") (decimal bits ++ (codes "_" ++ width_name width)) refl
-        (joined (decimal bits) (codes "_" ++ width_name width) (of_decimal bits (few_move width bits d))
-        (joined (codes "_") (width_name width) refl (of_width width)))
+    (joined (decimal bits) (codes "_" ++ width_name width) (of_decimal bits (few_move width bits d))
+    (joined (codes "_") (width_name width) refl (of_width width)))
 of_mnemonic (insn.Neg width dst) d = joined (codes "neg") (width_name width) refl (of_width width)
 of_mnemonic (insn.Swap order bits dst) d = joined (order_name order) (decimal bits) (of_order order) (of_decimal bits (few_swap bits d))
 of_mnemonic (insn.Wide dst value) d = refl

@@ -37,7 +37,7 @@ unfolding labels_from
 no_labels slot at [] is small a = refl
 no_labels slot at (line ∷ lines) is small (inl a) =
     ap (λ (ls : List Named). ls ++ labels_from (slot_after at (words line)) lines) (ap (label_of at) a.0)
-        ∙ no_labels slot (slot_after at (words line)) lines is small a.1
+    ∙ no_labels slot (slot_after at (words line)) lines is small a.1
 no_labels slot at (line ∷ lines) is small (inr a) =
     ap (λ (ls : List Named). ls ++ labels_from (slot_after at (words line)) lines) (no_name slot (words line) a.0 at (omega (arith, small)) a.3)
     ∙ no_labels (slot + slots_in a.0) (slot_after at (words line)) lines a.1 (shorter slot a.0 a.1 (subst (IsShort slot) a.2 small)) a.4

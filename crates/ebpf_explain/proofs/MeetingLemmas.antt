@@ -15,4 +15,4 @@ pub behind_two : {A E : Type 0} (result : Result A E) (before one two new a b c 
 behind_two (Err e) before one two new a b c d f g h k = tt
 behind_two (Ok r) before one two new a b c d f g h k =
     k ∙ (ap (λ (xs : List ℕ). two ++ xs) h
-        ∙ (ap (λ (xs : List ℕ). xs ++ d) g ∙ (append_assoc one b d ∙ (ap (λ (xs : List ℕ). xs ++ (b ++ d)) f ∙ append_assoc before a (b ++ d)))))
+    ∙ (ap (λ (xs : List ℕ). xs ++ d) g ∙ (append_assoc one b d ∙ (ap (λ (xs : List ℕ). xs ++ (b ++ d)) f ∙ append_assoc before a (b ++ d)))))

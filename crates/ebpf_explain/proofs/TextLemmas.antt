@@ -40,6 +40,6 @@ pub told_third : {A E : Type 0} (result : Result A E) (before one two new a b sa
     → OnOk result (new ≡ two ++ said) → OnOk result (new ≡ before ++ (a ++ (b ++ wanted)))
 told_third (Ok _) before one two new a b said wanted f g same k =
     k ∙ (ap (λ (xs : List ℕ). xs ++ said) g
-        ∙ (ap (λ (xs : List ℕ). (xs ++ b) ++ said) f ∙ (append_assoc (before ++ a) b said ∙ (append_assoc before a (b ++ said)
+    ∙ (ap (λ (xs : List ℕ). (xs ++ b) ++ said) f ∙ (append_assoc (before ++ a) b said ∙ (append_assoc before a (b ++ said)
     ∙ ap (λ (xs : List ℕ). before ++ (a ++ (b ++ xs))) same))))
 told_third (Err _) before one two new a b said wanted f g same k = tt

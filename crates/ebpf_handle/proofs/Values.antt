@@ -42,7 +42,7 @@ tested : {M : Type 1} {𝓤 : Ura M} (𝓛 : Logic 𝓤) (R : RattleType) (p : P
     → ent 𝓤 (sem 𝓛 (heap_box R p y)) (guard 𝓤 (Testable p) (sem 𝓛 (heap_box R p y)))
 tested {𝓤 = 𝓤} 𝓛 R p y = let B : SProp 𝓤 = sem 𝓛 (heap_box R p y) in let τ = bare (lone R.mir) in
     fact_use 𝓤 (Testable p) (via 𝓤 _ (snd∗ 𝓤 (sem 𝓛 (points_to R p y)) (sem 𝓛 (ghosts.dealloc_token heap τ p))) (dealloc_token-Testable 𝓛 heap τ p))
-        (guard_i 𝓤 (Testable p) B)
+    (guard_i 𝓤 (Testable p) B)
 
 module _ (R : RattleType) where
   abbrev pub Held : RattleType

@@ -92,12 +92,16 @@ module _ (old new : Stocks) (kind : ℕ) (stay : OthersStay old new kind) where
     given_before other held = by (cases_eq (kind_of other) kind) where
       by : (kind_of other ≡ kind) ⊎ (kind_of other ≢ kind) → Holds old other × (number_of other ≢ number_of o)
       by (inl same) =
-          let was = t.before (slot_of other) (subst (λ (k : ℕ). IsHeld (stock_of new k) (slot_of other)) same held) in
-          (subst (λ (k : ℕ). IsHeld (stock_of old k) (slot_of other)) (sym same) was.0, λ e.
-              was.1 (same_slot (kind_of other) (kind_of o) (slot_of other) (slot_of o) (few_kinds other) (few_kinds o) e))
-      by (inr apart) =
-          (subst (λ (s : StockView). IsHeld s (slot_of other)) (stay (kind_of other) apart) held, λ e.
-              apart (same_kind (kind_of other) (kind_of o) (slot_of other) (slot_of o) (few_kinds other) (few_kinds o) e ∙ of_kind))
+          let was = t.before (slot_of other) (subst (λ (k : ℕ). IsHeld (stock_of new k) (slot_of other)) same held) in (
+            subst (λ (k : ℕ). IsHeld (stock_of old k) (slot_of other)) (sym same) was.0,
+            λ e.
+                was.1 (same_slot (kind_of other) (kind_of o) (slot_of other) (slot_of o) (few_kinds other) (few_kinds o) e),
+          )
+      by (inr apart) = (
+        subst (λ (s : StockView). IsHeld s (slot_of other)) (stay (kind_of other) apart) held,
+        λ e.
+            apart (same_kind (kind_of other) (kind_of o) (slot_of other) (slot_of o) (few_kinds other) (few_kinds o) e ∙ of_kind),
+      )
 
     pub given_counted : (k : ℕ) → held_of new k + (if k == kind then 1 else 0) ≡ held_of old k
     given_counted k = let e = counted_by 1 0 (let counts = t.counted in omega (arith, counts)) k in grind (arith, nat_tests, e)

@@ -47,10 +47,10 @@ given_told : {S H : Type 0} (o : Store S H) (s : S) (r : RunState H) (given : Op
 given_told o s r None = refl
 given_told {S} {H} o s r (Some call) = of (find (λ h. h.call == call) r.held)
     ∙ ap (option_map (λ (x : ObjectView). x.bytes)) (sym (find-map (λ (x : ObjectView). x.call == call) (object_seen (o.bytes_of s)) r.held)) where
-  of : (found : Option (Holding H))
-      → bytes_on (option_map (λ h. shelved_as o s h.object) found) ≡ option_map (λ x. x.bytes) (option_map (object_seen (o.bytes_of s)) found)
-  of None = refl
-  of (Some h) = refl
+      of : (found : Option (Holding H))
+          → bytes_on (option_map (λ h. shelved_as o s h.object) found) ≡ option_map (λ x. x.bytes) (option_map (object_seen (o.bytes_of s)) found)
+      of None = refl
+      of (Some h) = refl
 
 -- an instruction of the run alone more
 left_next : (n : ℕ) (s : Subject) (context : List ℕ) (replies : Replies) (shelf : ℕ) (bytes : Option (List ℕ)) (v : RunView)
@@ -119,7 +119,7 @@ module _ {S H : Type 0} (o : Store S H) (first : S) (subject : Subject) (context
 
       bytes : (more : Replies)
           → bytes_on (standing_after o old r.held (effect_of_view v) shelf before.what)
-            ≡ left_after (suc number) subject context (more_than (replies_of (seen_in o new t)) more) shelf (bytes_on stood)
+          ≡ left_after (suc number) subject context (more_than (replies_of (seen_in o new t)) more) shelf (bytes_on stood)
       bytes more =
           let rest = more_than told.0 more in
           done_told bytes_on (shelved_from (shelved_as o old) r.held) (bytes_given v) (given_told o old r) (effect_of_view v) shelf before.what
@@ -131,8 +131,13 @@ module _ {S H : Type 0} (o : Store S H) (first : S) (subject : Subject) (context
       → IsUnderWay o first first subject context r → r.executed ≡ 0 → o.stand first shelf stood → AreTurns o number r t first now
       → IsLeftSoFar number now t
   left_turns zero now r t sizes kinds start none stands turns =
-      rw (turns.0, turns.1) (record { what = stood; stands = stands; executed = none; bytes_are = λ more.
-      sym (left_none subject context (more_than (replies_of (seen_in o first r)) more) shelf (bytes_on stood)) })
+      rw (turns.0, turns.1) (record {
+        what = stood;
+        stands = stands;
+        executed = none;
+        bytes_are = λ more.
+            sym (left_none subject context (more_than (replies_of (seen_in o first r)) more) shelf (bytes_on stood));
+      })
   left_turns (suc number) now r t sizes kinds start none stands turns =
       left_turn number turns.store now turns.run t (sizes turns.store) kinds
       (under_way o first first turns.store subject context number r turns.run sizes kinds start turns.before) turns.last
@@ -166,7 +171,7 @@ same_bytes s shelf = of (stock_of s shelf).shelf where
 -- so what a store of these shelves has there is what the machine has
 pub on_machine : (old new : Stocks) (s : Subject) (context : List ℕ) (r : Report)
     → ((shelf : ℕ) (what : Option Shelved) → what ≡ standing_on old shelf → (now : Option Shelved) × (now ≡ standing_on new shelf)
-      × (bytes_on now ≡ left_in s context r shelf (bytes_on what)))
+    × (bytes_on now ≡ left_in s context r shelf (bytes_on what)))
     → AreLeft old new s context r
 on_machine old new s context r left shelf =
     let is = left shelf (standing_on old shelf) refl in

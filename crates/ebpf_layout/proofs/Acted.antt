@@ -20,7 +20,7 @@ use Rattle.ebpf_layout.proofs.Renamed.{AreApart, placed, object_placed, laid_vie
 abbrev pub Follows : List (Option Insn) → (ℕ → ℕ) → ℕ → ℕ → ℕ → RunView → RunView → RunView → Type 0
 Follows q place executed to there v now new =
     ((now.pc ≡ to) × (now.status ≡ v.status) × (new ≡ record (laid_view q place executed now) { pc = there }))
-        ⊎ ((now.pc ≡ v.pc) × (new ≡ laid_view q place executed now))
+    ⊎ ((now.pc ≡ v.pc) × (new ≡ laid_view q place executed now))
 
 -- ---- the lists of objects
 
@@ -29,7 +29,7 @@ patched_placed : (place : ℕ → ℕ) (call at : ℕ) (bytes : List ℕ) (o : O
 patched_placed place call at bytes o apart = rw (same_names place o.call call apart) (by (o.call == call)) where
   by : (t : Bool)
       → cond t (record (object_placed place o) { bytes = patched o.bytes at bytes }) (object_placed place o)
-        ≡ object_placed place (cond t (record o { bytes = patched o.bytes at bytes }) o)
+      ≡ object_placed place (cond t (record o { bytes = patched o.bytes at bytes }) o)
   by true = refl
   by false = refl
 
@@ -75,12 +75,12 @@ replied_placed : (q : List (Option Insn)) (place : ℕ → ℕ) (executed : ℕ)
 replied_placed q place executed result value to there frame objects new taken v same =
     ap (λ (os : List ObjectView). told_on result (value_renamed place value) there (frame_renamed place frame) os taken (laid_view q place executed v)) same
     ∙ ap (λ (f : Frame ℕ). record (told_on result (value_renamed place value) there (frame_renamed place frame) (map (object_placed place) objects) taken
-      (laid_view q place executed v)) { frame = f })
+    (laid_view q place executed v)) { frame = f })
     (with_value-told (placed place) frame R0 value)
 
 answer_follows : (q : List (Option Insn)) (place : ℕ → ℕ) (executed : ℕ) (result : CallResult) (to there : ℕ) (frame : Frame ℕ) (kind : ℕ) (v : RunView)
     → Follows q place (executed + 1) to there v (answered result to frame kind v)
-      (answered result there (frame_renamed place frame) kind (laid_view q place executed v))
+    (answered result there (frame_renamed place frame) kind (laid_view q place executed v))
 answer_follows q place executed Null to there frame kind v =
     inl (refl, refl, replied_placed q place executed Null (Number 0) to there frame v.objects (map (object_placed place) v.objects) v.taken v refl)
 answer_follows q place executed Empty to there frame kind v =
@@ -89,39 +89,43 @@ answer_follows q place executed (Shelved bytes) to there frame kind v =
     inl (refl, refl, replied_placed q place executed Null (Number 0) to there frame v.objects (map (object_placed place) v.objects) v.taken v refl)
 answer_follows q place executed Granted to there frame kind v =
     rw (length-map v.objects (object_placed place)) (by (nat_le v.subject.decl.held (length v.objects))) where
-  granted : RunView
-  granted = told_on Granted (Pointer (Object v.pc) (pos 0)) to frame (v.objects ++ new_object v kind ∷ []) v.taken v
+      granted : RunView
+      granted = told_on Granted (Pointer (Object v.pc) (pos 0)) to frame (v.objects ++ new_object v kind ∷ []) v.taken v
 
-  laid : RunView
-  laid = laid_view q place executed v
+      laid : RunView
+      laid = laid_view q place executed v
 
-  followed : RunView
-  followed = told_on Granted (Pointer (Object (place v.pc)) (pos 0)) there (frame_renamed place frame) (laid.objects ++ new_object laid kind ∷ []) v.taken laid
+      followed : RunView
+      followed = told_on Granted (Pointer (Object (place v.pc)) (pos 0)) there (frame_renamed place frame) (laid.objects ++ new_object laid kind ∷ []) v.taken laid
 
-  by : (t : Bool) → Follows q place (executed + 1) to there v (cond t (trapped TooManyObjects v) granted) (cond t (trapped TooManyObjects laid) followed)
-  by true = inr (refl, refl)
-  by false = inl (refl, refl, replied_placed q place executed Granted (Pointer (Object v.pc) (pos 0)) to there frame (v.objects ++ new_object v kind ∷ [])
-      (laid.objects ++ new_object laid kind ∷ []) v.taken v (pushed_placed place v.objects (new_object v kind)))
+      by : (t : Bool) → Follows q place (executed + 1) to there v (cond t (trapped TooManyObjects v) granted) (cond t (trapped TooManyObjects laid) followed)
+      by true = inr (refl, refl)
+      by false = inl (
+        refl,
+        refl,
+        replied_placed q place executed Granted (Pointer (Object v.pc) (pos 0)) to there frame (v.objects ++ new_object v kind ∷ [])
+            (laid.objects ++ new_object laid kind ∷ []) v.taken v (pushed_placed place v.objects (new_object v kind)),
+      )
 
 emptied : (q : List (Option Insn)) (place : ℕ → ℕ) (executed to there : ℕ) (frame : Frame ℕ) (given : Option ℕ) (v : RunView) → AreApart place
     → told_on Empty (Number 0) there (frame_renamed place frame) (without_given (option_map place given) (map (object_placed place) v.objects)) v.taken
-      (laid_view q place executed v)
+    (laid_view q place executed v)
     ≡ record (laid_view q place (executed + 1) (told_on Empty (Number 0) to frame (without_given given v.objects) v.taken v)) { pc = there }
 emptied q place executed to there frame given v apart =
     replied_placed q place executed Empty (Number 0) to there frame (without_given given v.objects)
-        (without_given (option_map place given) (map (object_placed place) v.objects)) v.taken v (left_placed place given v.objects apart)
+    (without_given (option_map place given) (map (object_placed place) v.objects)) v.taken v (left_placed place given v.objects apart)
 
 exchange_follows : (q : List (Option Insn)) (place : ℕ → ℕ) (executed : ℕ) (result : CallResult) (to there : ℕ) (frame : Frame ℕ) (shelf : ℕ)
     (given : Option ℕ) (v : RunView)
     → AreApart place
     → Follows q place (executed + 1) to there v (exchanged result to frame shelf given v)
-      (exchanged result there (frame_renamed place frame) shelf (option_map place given) (laid_view q place executed v))
+    (exchanged result there (frame_renamed place frame) shelf (option_map place given) (laid_view q place executed v))
 exchange_follows q place executed Empty to there frame shelf given v apart = inl (refl, refl, emptied q place executed to there frame given v apart)
 exchange_follows q place executed Null to there frame shelf given v apart = inl (refl, refl, emptied q place executed to there frame given v apart)
 exchange_follows q place executed Granted to there frame shelf given v apart = inl (refl, refl, emptied q place executed to there frame given v apart)
 exchange_follows q place executed (Shelved bytes) to there frame shelf given v apart =
     rw (left_placed place given v.objects apart, length-map (without_given given v.objects) (object_placed place))
-        (by (nat_le v.subject.decl.held (length left))) where
+    (by (nat_le v.subject.decl.held (length left))) where
       left : List ObjectView
       left = without_given given v.objects
 
@@ -142,13 +146,13 @@ exchange_follows q place executed (Shelved bytes) to there frame shelf given v a
         refl,
         replied_placed q place executed (Shelved bytes) (Pointer (Object v.pc) (pos 0)) to there frame (left ++ shelved_object v shelf bytes ∷ [])
             (map (object_placed place) left ++ shelved_object laid shelf bytes ∷ []) (v.taken ++ bytes) v
-                (pushed_placed place left (shelved_object v shelf bytes)),
+            (pushed_placed place left (shelved_object v shelf bytes)),
       )
 
 pub act_follows : (q : List (Option Insn)) (place : ℕ → ℕ) (executed : ℕ) (act : Act ℕ) (result : CallResult) (to there : ℕ) (frame : Frame ℕ) (v : RunView)
     → AreApart place
     → Follows q place (executed + 1) to there v (acted act result to frame v)
-      (acted (act_told (placed place) act) result there (frame_renamed place frame) (laid_view q place executed v))
+    (acted (act_told (placed place) act) result there (frame_renamed place frame) (laid_view q place executed v))
 act_follows q place executed Nothing result to there frame v apart = inl (refl, refl, refl)
 act_follows q place executed (Write call at bytes) result to there frame v apart = inl (
   refl,

@@ -39,7 +39,7 @@ first_placed p q place decl rows context first =
     let cells : replicate 512 Unset ≡ map (cell_renamed place) (replicate 512 Unset) = sym (cells_placed place 512) in
     ap (λ (k : ℕ). record (run_of q decl rows context) { pc = k }) (sym first)
     ∙ ap (λ (stack : List (Cell ℕ)). record (run_of q decl rows context)
-      { pc = place 0; frame = record { registers = first_registers; stack = stack; output = [] } }) cells
+    { pc = place 0; frame = record { registers = first_registers; stack = stack; output = [] } }) cells
 
 -- ---- instruction by instruction
 
@@ -131,6 +131,10 @@ as_far q place executed v w same =
 
 pub run_alike : (p q : List (Option Insn)) → IsLaidOut p q → RunAlike p q
 run_alike p q laid decl rows context told n =
-    let h = paired p q laid decl rows context told n in
-    (h.steps, h.least, h.most, as_far q laid.place h.executed (run_on n told (run_of p decl rows context)) (run_on h.steps told (run_of q decl rows context))
-        h.same)
+    let h = paired p q laid decl rows context told n in (
+      h.steps,
+      h.least,
+      h.most,
+      as_far q laid.place h.executed (run_on n told (run_of p decl rows context)) (run_on h.steps told (run_of q decl rows context))
+          h.same,
+    )

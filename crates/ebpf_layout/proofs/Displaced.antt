@@ -38,7 +38,7 @@ written_led there next frame dst (Err trap) = refl
 written_led there next frame dst (Ok v) = by (is_frame_pointer dst) where
   by : (t : Bool)
       → cond t (Traps FramePointerWritten) (Goes Nothing there (with_value frame dst v))
-        ≡ led_to there (cond t (Traps FramePointerWritten) (Goes Nothing next (with_value frame dst v)))
+      ≡ led_to there (cond t (Traps FramePointerWritten) (Goes Nothing next (with_value frame dst v)))
   by true = refl
   by false = refl
 
@@ -209,7 +209,7 @@ displaced (insn.JumpFar offset) z pc at a frame both = let b = both offset refl 
 displaced (insn.Branch width condition left right offset) z pc at a frame both =
     let b = both offset refl in
     branch_alike (insn.Branch width condition left right offset) pc (insn.Branch width condition left right z) at b.0 b.1 frame
-        (is_taken width condition right (read frame left) (source_value frame width right)) refl b.2 b.3
+    (is_taken width condition right (read frame left) (source_value frame width right)) refl b.2 b.3
 displaced insn.Exit z pc at a frame both = exit_alike pc at a.holds (read frame R0)
 displaced (insn.Alu width o dst src) z pc at a frame both = plain (insn.Alu width o dst src) pc at a frame refl refl
 displaced (insn.Sext width bits dst src) z pc at a frame both = plain (insn.Sext width bits dst src) pc at a frame refl refl

@@ -30,15 +30,15 @@ reached_stays q m (suc n) to le e = elim (cases_lt n m) [
   | inr below ↦
       let before = reached_stays q m n to below e in
       subst (λ (k : ℕ). reached_by q k to ≡ true) (add-one n)
-          (sym (reached_by-more q n to (reached_by q n to) refl) ∙ or_right (reached_by q n n && has_edge_to (edges_at q n) to) (reached_by q n to) before)
+      (sym (reached_by-more q n to (reached_by q n to) refl) ∙ or_right (reached_by q n n && has_edge_to (edges_at q n) to) (reached_by q n to) before)
 ]
 
 reached_next : (q : List (Option Insn)) (from to : ℕ) → is_reached q from ≡ true → IsEdge q from to → from < to → is_reached q to ≡ true
 reached_next q from to reached edge lt =
     let here : reached_by q (from + 1) to ≡ true =
     sym (reached_by-more q from to (reached_by q from to) refl)
-        ∙ or_left (reached_by q from from && has_edge_to (edges_at q from) to) (reached_by q from to)
-        (and_from (reached_by q from from) (has_edge_to (edges_at q from) to) reached edge) in
+    ∙ or_left (reached_by q from from && has_edge_to (edges_at q from) to) (reached_by q from to)
+    (and_from (reached_by q from from) (has_edge_to (edges_at q from) to) reached edge) in
     reached_stays q (from + 1) to to (omega arith) here
 
 reached_first : (q : List (Option Insn)) → is_reached q 0 ≡ true
@@ -138,7 +138,7 @@ sound_jump q k i h s = elim s.jumps [
   | inr to ↦
       let edge = jump_is_edge q k to.0 (subst (λ (o : Option Insn). (edges_of o k).jump ≡ Some to.0) (sym s.here) to.1) in
       subst (λ (t : Option ℕ). jump_fault q k (displacement_of i) t ≡ None) (sym to.1)
-          (no_jump_fault q k to.0 (displacement_of i) (forward q k to.0 h edge) to.2)
+      (no_jump_fault q k to.0 (displacement_of i) (forward q k to.0 h edge) to.2)
 ]
 
 no_fall_fault : (q : List (Option Insn)) (k : ℕ) (i : Insn) → (falls i && leb (length q) (k + slots_in i)) ≡ false

@@ -55,7 +55,7 @@ module _ (p : List (Option Insn)) (formed : IsWellFormed p) (fine : flow_fault p
   at_insn slot i at =
       let here = none_below (flow_fault_at p) (length p) fine slot (there_inside p slot (ap is_none at)) in
       let parts = none_of (jump_fault p slot (displacement_of i) (jump_of i slot)) (fall_fault p slot i)
-          (subst (λ (o : Option Insn). insn_fault p slot o ≡ None) at here) in
+      (subst (λ (o : Option Insn). insn_fault p slot o ≡ None) at here) in
       let falls_on = none_first (falls i && nat_le (length p) (slot + slots_in i)) FallsOffEnd _ parts.1 in
       let reached = none_first (not (is_reached p slot)) Unreachable _ falls_on.1 in (
         subst (λ (o : Option Insn). faults.edge_fault p slot o ≡ None) (sym at) (rw (jump_fine p slot (displacement_of i) parts.0, falls_on.0) refl),

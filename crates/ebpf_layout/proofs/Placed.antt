@@ -244,7 +244,7 @@ module _ (p : List (Option Insn)) (search : List Mark) (old : List ℕ) (marks :
   behind =
       let m = may_go p search marks slot next.ready in
       is_behind p marks [] order slot h.marked (placed_in marks (standing p (edges_at p slot).jump) m.jump)
-          (placed_in marks (standing p (edges_at p slot).fall) m.fall)
+      (placed_in marks (standing p (edges_at p slot).fall) m.fall)
 
   there_in : (n to : ℕ) → slice_get (order ++ slot ∷ []) n ≡ Some to → is_none (insn_at p to) ≡ false
   there_in n to e = elim (get_pushed order slot n to e) [

@@ -27,7 +27,7 @@ get_reverse xs k j x sum e =
     let inside : k < length (reverse xs) = omega (arith, length-reverse xs) in
     let at : length xs - 1 - k ≡ j = omega arith in
     slice_get-get_or (reverse xs) k x inside
-        ∙ ap Some (get_or-reverse xs k x (omega arith) ∙ ap (λ (n : ℕ). get_or xs n x) at ∙ get_or_from_slice_get xs j x x e)
+    ∙ ap Some (get_or-reverse xs k x (omega arith) ∙ ap (λ (n : ℕ). get_or xs n x) at ∙ get_or_from_slice_get xs j x x e)
 
 get_back : {X : Type 0} (xs : List X) (k : ℕ) (x : X) → slice_get (reverse xs) k ≡ Some x → (j : ℕ) × (k + j + 1 ≡ length xs) × (slice_get xs j ≡ Some x)
 get_back xs k x e =
@@ -164,7 +164,7 @@ laid_jump p marks order places code count slot to d s e =
     let here = code_at code k s.at (moved s.insn (pos s.written.way)) s.place s.written.here in
     let far : k + 1 + s.written.way ≡ place_in marks places code to = omega (arith, j.2, s.place) in
     jump_edge (reverse code) k (moved s.insn (pos s.written.way)) (place_in marks places code to) here
-        (jump_moved s.insn slot to k s.written.way jumps ∙ ap Some far)
+    (jump_moved s.insn slot to k s.written.way jumps ∙ ap Some far)
 
 laid_fall : (p : List (Option Insn)) (marks : List Mark) (order places : List ℕ) (code : List (Option Insn)) (count slot to : ℕ)
     → IsDone p marks order places code count
@@ -282,9 +282,11 @@ is_laid_out p marks order places code count d = record {
   led = d.fine;
   same = λ slot i reached at.
       let s = stands_if_reached p marks order places code count slot d reached in
-      let one : s.insn ≡ i = same_Some s.insn i (sym s.owned ∙ at) in
-      (pos s.written.way, code_at code (place_in marks places code slot) s.at (moved s.insn (pos s.written.way)) s.place s.written.here
-          ∙ ap (λ (x : Insn). Some (moved x (pos s.written.way))) one);
+      let one : s.insn ≡ i = same_Some s.insn i (sym s.owned ∙ at) in (
+        pos s.written.way,
+        code_at code (place_in marks places code slot) s.at (moved s.insn (pos s.written.way)) s.place s.written.here
+            ∙ ap (λ (x : Insn). Some (moved x (pos s.written.way))) one,
+      );
   jumps = λ slot to reached e. laid_jump p marks order places code count slot to d (stands_if_reached p marks order places code count slot d reached) e;
   falls = λ slot to reached e. laid_fall p marks order places code count slot to d (stands_if_reached p marks order places code count slot d reached) e;
   only = λ k i e. laid_only p marks order places code count k i d e;
@@ -301,8 +303,12 @@ jumps_forward p marks order places code count k i d e =
           let old = ordered_insn p kept.0 (insn_at p kept.0) refl (d.ordered.ordered kept.1.number kept.0 kept.1.ordered).1 in
           let written = d.writing.written.each kept.0 j.0 old.0 kept.1 old.1 in
           (old.0, written.way, same_Some i (moved old.0 (pos written.way)) (same_Some (Some i) (Some (moved old.0 (pos written.way))) (sym j.2 ∙ written.here)))
-      | inr a ↦ (insn.Jump (pos 0), a.jumps.way, same_Some i (insn.Jump (pos a.jumps.way))
-          (same_Some (Some i) (Some (insn.Jump (pos a.jumps.way))) (sym j.2 ∙ a.jumps.here)))
+      | inr a ↦ (
+        insn.Jump (pos 0),
+        a.jumps.way,
+        same_Some i (insn.Jump (pos a.jumps.way))
+            (same_Some (Some i) (Some (insn.Jump (pos a.jumps.way))) (sym j.2 ∙ a.jumps.here)),
+      )
     ]
 
 -- something is written, since slot 0 is reached

@@ -56,7 +56,7 @@ found_placed place call (o ∷ objects) apart = rw (same_names place o.call call
 
   by : (t : Bool) → find (λ x. x.call == place call) (map (object_placed place) objects) ≡ option_map (object_placed place) rest
       → cond t (Some (object_placed place o)) (find (λ x. x.call == place call) (map (object_placed place) objects))
-        ≡ option_map (object_placed place) (cond t (Some o) rest)
+      ≡ option_map (object_placed place) (cond t (Some o) rest)
   by true e = refl
   by false e = e
 

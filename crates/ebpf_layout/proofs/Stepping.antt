@@ -108,7 +108,7 @@ jumps_on q place executed next to now other going jump same =
     let goes : effect_of_view w ≡ Goes Nothing (place to) w.frame =
     ap (λ (o : Option Insn). effect_at o next (environment_of_view w) w.frame) jump.1 ∙ ap (λ (t : Option ℕ). effect_of_jump t w.frame) target in
     stepped_going w other going ∙ ap (λ (e : Effect ℕ). done_by e other w) goes
-        ∙ ap (λ (k : ℕ). record (laid_view q place (executed + 1) now) { pc = place k }) (sym same)
+    ∙ ap (λ (k : ℕ). record (laid_view q place (executed + 1) now) { pc = place k }) (sym same)
 
 -- what follows of an act that goes on at a slot of the new program, if that is the place or a jump there
 followed : (q : List (Option Insn)) (place : ℕ → ℕ) (executed to next : ℕ) (v now new w : RunView) (result other : CallResult)
@@ -174,7 +174,7 @@ by_effect p q laid v executed i z e f result other going reached at there old ne
     stops p q laid.place v executed (Ends n) (ended n) result other going reached (old ∙ was_ended laid.place e n told) (new ∙ is) (λ w. refl) (λ w. refl) refl
 by_effect p q laid v executed i z e f result other going reached at there old new (Trapped trap told is) =
     stops p q laid.place v executed (Traps trap) (trapped trap) result other going reached (old ∙ was_trapped laid.place e trap told) (new ∙ is) (λ w. refl)
-        (λ w. refl) refl
+    (λ w. refl) refl
 by_effect p q laid v executed i z e f result other going reached at there old new (Fell act frame falling told is) =
     let to = v.pc + slots_in i in
     let g = went_on laid.place e act to frame told in
@@ -183,7 +183,7 @@ by_effect p q laid v executed i z e f result other going reached at there old ne
     let way = laid.falls v.pc to reached edge in
     let next : laid.place v.pc + slots_in i ≡ way.0 =
     same_Some (laid.place v.pc + slots_in i) way.0
-        (sym (fall_moved i z v.pc to (laid.place v.pc) falls_to) ∙ fall_of_edge q (laid.place v.pc) (moved i z) way.0 there way.1) in
+    (sym (fall_moved i z v.pc to (laid.place v.pc) falls_to) ∙ fall_of_edge q (laid.place v.pc) (moved i z) way.0 there way.1) in
     let goes = led_alike act (act_told (placed laid.place) g.acts) to way.0 frame (frame_renamed laid.place g.left) g.told in
     goes_along p q laid v executed g.acts g.left to way.0 result other going reached (path_more p 0 v.pc to reached (fall_is_edge p v.pc to edge))
     (old ∙ g.was) (new ∙ is ∙ ap (λ (k : ℕ). Goes act k frame) next ∙ goes) way.2
@@ -191,7 +191,7 @@ by_effect p q laid v executed i z e f result other going reached at there old ne
     let g = went_on laid.place e act to frame told in
     let edge = jump_edge p v.pc i to at jumps in
     let same : next ≡ laid.place to = same_Some next (laid.place to)
-        (sym jumps_there ∙ jump_of_edge q (laid.place v.pc) (moved i z) (laid.place to) there (laid.jumps v.pc to reached edge)) in
+    (sym jumps_there ∙ jump_of_edge q (laid.place v.pc) (moved i z) (laid.place to) there (laid.jumps v.pc to reached edge)) in
     let goes = led_alike act (act_told (placed laid.place) g.acts) to next frame (frame_renamed laid.place g.left) g.told in
     goes_along p q laid v executed g.acts g.left to next result other going reached (path_more p 0 v.pc to reached (jump_is_edge p v.pc to edge))
     (old ∙ g.was) (new ∙ is ∙ goes) (inl same)

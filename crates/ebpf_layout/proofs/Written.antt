@@ -174,9 +174,9 @@ old_or_jump marks places code fall behind k j h e = elim (leads_cases marks plac
   | inl same ↦ inl (rw same at e)
   | inr jump ↦ elim (get_pushed code (Some (insn.Jump (pos jump.way))) k (Some j)
       (subst (λ (xs : List (Option Insn)). slice_get xs k ≡ Some (Some j)) jump.behind_is e)) [
-    | inl old ↦ inl old
-    | inr here ↦ inr (here.0, jump)
-  ]
+        | inl old ↦ inl old
+        | inr here ↦ inr (here.0, jump)
+      ]
 ]
 
 keeps_behind : (marks : List Mark) (places : List ℕ) (code : List (Option Insn)) (fall : Option ℕ) (behind : List (Option Insn))
@@ -219,8 +219,15 @@ pub new_length : (marks : List Mark) (places : List ℕ) (code : List (Option In
     → (w : Writes marks places code i fall jump new)
     → length new ≡ length w.behind + slots_in i
 new_length marks places code i fall jump new w =
-    omega (arith, ap length w.written, length_push (w.behind ++ half_of w.moved) (Some w.moved), length-append w.behind (half_of w.moved), length-half
-        w.moved, moved_size marks places w.behind i jump w.moved w.moved_is)
+    omega (
+      arith,
+      ap length w.written,
+      length_push (w.behind ++ half_of w.moved) (Some w.moved),
+      length-append w.behind (half_of w.moved),
+      length-half
+          w.moved,
+      moved_size marks places w.behind i jump w.moved w.moved_is,
+    )
 
 new_place : (marks : List Mark) (places : List ℕ) (code : List (Option Insn)) (i : Insn) (fall jump : Option ℕ) (new : List (Option Insn)) (place : ℕ)
     → (w : Writes marks places code i fall jump new)
@@ -256,9 +263,12 @@ new_jump p marks order places behind i slot place (Some to) new h e last is =
       is.0,
       is.2,
       λ x jumps.
-          let same : to ≡ x = same_Some to x (e ∙ jumps) in
-          (t.place, subst (λ (y : ℕ). StandsAt order (places ++ place ∷ []) y t.place) same
-              (stands_more order places place to t.place (has_stands p marks order places to t.place h t.has)), omega arith),
+          let same : to ≡ x = same_Some to x (e ∙ jumps) in (
+            t.place,
+            subst (λ (y : ℕ). StandsAt order (places ++ place ∷ []) y t.place) same
+                (stands_more order places place to t.place (has_stands p marks order places to t.place h t.has)),
+            omega arith,
+          ),
     )
 
 new_fall : (p : List (Option Insn)) (marks : List Mark) (order places : List ℕ) (code behind new : List (Option Insn)) (i : Insn) (slot place to : ℕ)
@@ -272,7 +282,7 @@ new_fall p marks order places code behind new i slot place to (Some x) h e last 
     let t = leads.1 in
     let way = t.way_is in
     let there = subst (λ (y : ℕ). StandsAt order (places ++ place ∷ []) y t.place) same
-        (stands_more order places place x t.place (has_stands p marks order places x t.place h t.has)) in
+    (stands_more order places place x t.place (has_stands p marks order places x t.place h t.has)) in
     elim (cases_Bool (eqb leads.0 0)) [
       | inl none ↦
           let zero : leads.0 ≡ 0 = eqb-true leads.0 0 none in

@@ -45,7 +45,7 @@ reaches_none : (file : List ℕ) (p : Place) (r : Relocation) (h : IsReached fil
     → NoneBelow (λ k. reaches p.from p.size (relocation_of (bytes_of file h.table) k)) (length (bytes_of file h.table) / 16) → ⊥
 reaches_none file p r h none =
     true_false (reaches p.from p.size (relocation_of (bytes_of file h.table) h.entry))
-        (subst (λ (x : Relocation). reaches p.from p.size x ≡ true) h.is h.reaches) (none h.entry h.there)
+    (subst (λ (x : Relocation). reaches p.from p.size x ≡ true) h.is h.reaches) (none h.entry h.there)
 
 -- the only section that has them has none that reaches it
 pub none_reaching : (file : List ℕ) (p : Place) (i : ℕ) (bytes : List ℕ) → IsOnly (wanted_in file (RelocationsFor p.section)) (sections_in file) i

@@ -46,13 +46,13 @@ gathered size records from n slot lines l each room same above here k lt =
     elim (eqb_tells k slot) [
       | inl e ↦
           let value : slice_index_or (slice_set lines slot (Some (later (slice_index_or lines slot None) l))) k None
-              ≡ Some (later (slice_index_or lines slot None) l) =
+          ≡ Some (later (slice_index_or lines slot None) l) =
           ap (λ (x : ℕ). slice_index_or (slice_set lines slot (Some (later (slice_index_or lines slot None) l))) x None) e.1
-              ∙ get_or-set_same lines slot (Some (later (slice_index_or lines slot None) l)) None room in
+          ∙ get_or-set_same lines slot (Some (later (slice_index_or lines slot None) l)) None room in
           subst (λ (x : Option Line). Latest (is_at from k) size records (n + 1) x) (sym value)
           (latest_more (is_at from k) size records n (slice_index_or lines slot None) l
           (subst (λ (x : ℕ). Latest (is_at from k) size records n (slice_index_or lines x None)) e.1 (each k inside)) same
-              (at_here from k l above (here ∙ sym e.1)))
+          (at_here from k l above (here ∙ sym e.1)))
       | inr e ↦
           let value : slice_index_or (slice_set lines slot (Some (later (slice_index_or lines slot None) l))) k None ≡ slice_index_or lines k None =
           get_or-set_other lines slot k (Some (later (slice_index_or lines slot None) l)) None e.1 in
@@ -76,7 +76,7 @@ pub passed_after : (size : ℕ) (records : List ℕ) (from n : ℕ) (lines : Lis
 passed_after size records from n lines l each same beyond k lt =
     latest_skip (is_at from k) size records n (slice_index_or lines k None) (each k lt)
     (subst (λ (x : Line). is_at from k x ≡ false) same
-        (isnt _ (λ t. let here : (l.offset - from + 7) / 8 ≡ k = (at_is from k l t).1 in absurd (omega (arith, here, beyond, lt)))))
+    (isnt _ (λ t. let here : (l.offset - from + 7) / 8 ≡ k = (at_is from k l t).1 in absurd (omega (arith, here, beyond, lt)))))
 
 -- two tests that agree on the lines have the same latest line
 latest_same : (test other : Line → Bool) (size : ℕ) (records : List ℕ) (n : ℕ) (best : Option Line)
@@ -125,7 +125,7 @@ begun size records from n m l h =
     let a : from ≤ l.offset = p.0 in
     let b : (l.offset - from + 7) / 8 ≡ m + 1 = p.1 in
     let low : (k : ℕ) → is_between from (from + 8 * (m + 1)) (line_of size records k) ≡ true → (is_at from (m + 1) (line_of size records k) ≡ true)
-        ⊎ ((line_of size records k).offset < l.offset) =
+    ⊎ ((line_of size records k).offset < l.offset) =
     λ k t. let q = between_is from (from + 8 * (m + 1)) (line_of size records k) t in let c : from ≤ (line_of size records k).offset = q.0 in
     let d : (line_of size records k).offset ≤ from + 8 * (m + 1) = q.1 in
     elim (cases_lt (from + 8 * m) (line_of size records k).offset) [
@@ -170,15 +170,15 @@ carried_kept size records from slot lines some room h none = record {
   below = λ k lt low. elim (cases_lt k slot) [
     | inl under ↦ let other : k ≢ slot = λ e. omega (arith, under, e) in
         subst (λ (x : Option Line). Holds size records from (from + 8 * k) (length records / size) x) (sym (get_or-set_other lines slot k value None other))
-            (h.below k (inside k lt) under)
+        (h.below k (inside k lt) under)
     | inr at ↦ let e : k ≡ slot = omega (arith, at, low) in
         subst (λ (x : ℕ). Holds size records from (from + 8 * x) (length records / size) (slice_index_or (slice_set lines slot value) x None)) (sym e)
         (subst (λ (x : Option Line). Holds size records from (from + 8 * slot) (length records / size) x) (sym (get_or-set_same lines slot value None room))
-            here)
+        here)
   ];
   above = λ k lt high. let other : k ≢ slot = λ e. omega (arith, high, e) in
       subst (λ (x : Option Line). Latest (is_at from k) size records (length records / size) x) (sym (get_or-set_other lines slot k value None other))
-          (h.above k (inside k lt) (omega (arith, high)));
+      (h.above k (inside k lt) (omega (arith, high)));
 } where
   value : Option Line
   value = slice_index_or lines (slot - 1) None
@@ -204,7 +204,7 @@ holds_begun size records from slot (Some l) some found h =
     let next : slot - 1 + 1 ≡ slot = omega (arith, some) in
     subst (λ (x : ℕ). Holds size records from (from + 8 * x) (length records / size) (Some l)) next
     (begun size records from (length records / size) (slot - 1) l
-        (subst (λ (x : ℕ). IsLatest (is_at from x) size records (length records / size) l) (sym next) h))
+    (subst (λ (x : ℕ). IsLatest (is_at from x) size records (length records / size) l) (sym next) h))
 
 pub carried_begun : (size : ℕ) (records : List ℕ) (from slot : ℕ) (lines : List (Option Line)) → 0 < slot
     → AreCarried size records from slot lines → (slice_index_or lines slot None ≡ None → ⊥) → AreCarried size records from (slot + 1) lines

@@ -76,7 +76,7 @@ pub writes_as_hex : (Responds : Form → Responding) → AreAlike Responds
     → Writes (Responds form) input old new result → WritesAsHex Responds form input old new result
 writes_as_hex Responds alike form input old new result h hex bytes raw given is =
     of_bytes result (subst (λ (i : Option (List ℕ)). Writes (Responds Raw) i old new result) given
-        (subst (λ (f : Form). Writes (Responds f) input old new result) raw h))
+    (subst (λ (f : Form). Writes (Responds f) input old new result) raw h))
   where
     of_bytes : (r : Result Done EngineFault) → Writes (Responds Raw) (Some bytes) old new r → Writes (Responds Hex) (Some hex) old new r
     of_bytes (Ok done) k = (k.0, alike hex bytes k.0 is k.1, k.2, k.3)

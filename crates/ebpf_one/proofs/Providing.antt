@@ -114,13 +114,13 @@ module _ {S H : Type 0} (o : Store S H) (nulls : Bool) (s : S) (r : RunState H) 
   for_object so shown kind new asked (Granted slot) is may ample =
       let as_next = so.grants kind r.pc slot may in
       subst (λ (b : Bool). IsProvided o s r served
-          (if b then record { world = a.world; answer = Null }
-          else record { world = with_slot_joined kind (granted r.replies) a.world; answer = Slot (granted r.replies) })) (sym as_next.0)
+      (if b then record { world = a.world; answer = Null }
+      else record { world = with_slot_joined kind (granted r.replies) a.world; answer = Slot (granted r.replies) })) (sym as_next.0)
       (slot_joins kind shown new asked (is ∙ ap Granted as_next.1))
   for_object so shown kind new asked Refused is may ample = by nulls refl where
     by : (b : Bool) → nulls ≡ b
         → IsProvided o s r served (if b then record { world = a.world; answer = Null }
-          else record { world = with_slot_joined kind (granted r.replies) a.world; answer = Slot (granted r.replies) })
+        else record { world = with_slot_joined kind (granted r.replies) a.world; answer = Slot (granted r.replies) })
     by true e = as_it_is Null shown (ap answer_for (sym is)) (rw (asked, is) refl) (rw asked refl)
     by false e = let none = ample e in let one = ap (λ (x : Served). refused (told_by x)) is in absurd (omega (arith, none, one))
 

@@ -45,7 +45,7 @@ cuts_at fault Responds is_long same input response long h =
 pub one_cuts : (form : Form) (context : List ℕ) (held : ℕ) (nulls : Bool) → CutsLong (Responds form context held nulls)
 one_cuts form context held nulls =
     cuts_at (λ input. fault_of form input context held) (λ f input response. RespondsAsked f (asked_for form input context held) nulls response)
-        (λ input long. fault_of_long form input context held long) (λ a b response h. h)
+    (λ input long. fault_of_long form input context held long) (λ a b response h. h)
 
 -- and so does `list`
 pub list_cuts : (form : Form) → CutsLong (RespondsList form)
@@ -70,7 +70,7 @@ Responds-asked form input context held nulls a response fine same h =
 pub explain_cuts : (form : Form) (context : List ℕ) (held : ℕ) → CutsLong (ExplainsTo form context held)
 explain_cuts form context held =
     cuts_at (λ input. fault_of form input context held) (λ f input response. ExplainsAsked f form input context held response)
-        (λ input long. fault_of_long form input context held long) (λ a b response h. h)
+    (λ input long. fault_of_long form input context held long) (λ a b response h. h)
 
 -- what the bytes of a request are explained to be
 pub explained_bytes : (a : Asked) (seen : List ℕ) (decl : Decl) (rows : List KindRow) (response : Response) → seen ≡ a.bytes

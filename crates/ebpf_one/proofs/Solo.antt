@@ -51,7 +51,7 @@ module _ {S H : Type 0} (o : Store S H) (s new : S) (r t : RunState H) (a : Alon
   next x there seen =
       let asked : asking_of f.world x ≡ asking_in v = asking_seen f.world 0 x p.owned there ∙ ap asking_in seen in
       next_world f.world 0 x f.answer p.owned there (subst IsSound (sym seen) sound) (ap (λ (u : RunView). u.status) seen ∙ goes)
-          (ap (λ (k : Asking). answer_fault f.world k f.answer) asked ∙ p.fine)
+      (ap (λ (k : Asking). answer_fault f.world k f.answer) asked ∙ p.fine)
 
   fits : FitsShelf v (result_of served)
   fits =
@@ -156,7 +156,7 @@ module _ {S H : Type 0} (o : Store S H) (IsFine : S → Type 0) (nulls : Bool) (
         let same : provided (asking_in v) nulls (granted between.replies) a.world ≡ provided (asking_of a.world x) nulls (next_slot x) a.world =
         λ i. provided (sym asked i) nulls (sym slot i) a.world in
         let after = shows_next o s new between t a turn (provided (asking_of a.world x) nulls (next_slot x) a.world)
-            (subst (IsProvided o s between turn.step.0) same given) was.sound was.alone shown more in
+        (subst (IsProvided o s between turn.step.0) same given) was.sound was.alone shown more in
         subst (λ (running : Option Running). IsShown o new t (solo_by running nulls a)) (sym there) after
 
   pub shows_after : (number : ℕ) (new : S) (t : RunState H) → AreTurns o number r t first new → IsFine new
@@ -165,7 +165,7 @@ module _ {S H : Type 0} (o : Store S H) (IsFine : S → Type 0) (nulls : Bool) (
   shows_after zero new t turns fine =
       let from_first = shows_first o first subject context begun.bare in
       subst (λ (x : RunState H). IsShown o new x (alone_first subject context)) (sym (turns.0 ∙ begun.is))
-          (subst (λ (x : S). IsShown o x (first_state_of subject context) (alone_first subject context)) (sym turns.1) from_first)
+      (subst (λ (x : S). IsShown o x (first_state_of subject context) (alone_first subject context)) (sym turns.1) from_first)
   shows_after (suc number) new t turns fine =
       let before =
       shows_after number turns.store turns.run turns.before (begun.ample turns.store new (told_by turns.last.step.0) turns.last.step.2.store.goes fine).0 in
@@ -219,37 +219,37 @@ reports_exit : {S H : Type 0} (o : Store S H) (IsFine : S → Type 0) (nulls : B
     → IsFine new → t.exit ≡ Some n → IsEnded o t report new after → IsReportWith subject context nulls report
 reports_exit o IsFine nulls first new after subject context r t number n report begun turns counted few fine exited is =
     by (shown_run a.world 0 v shown.view) where
-  was : IsUnderWay o first new subject context t
-  was = under_way o first first new subject context number r t begun.sizes begun.kinds begun.starts turns
+      was : IsUnderWay o first new subject context t
+      was = under_way o first first new subject context number r t begun.sizes begun.kinds begun.starts turns
 
-  v : RunView
-  v = seen_in o new t
+      v : RunView
+      v = seen_in o new t
 
-  a : Alone
-  a = solo_after number subject context nulls
+      a : Alone
+      a = solo_after number subject context nulls
 
-  shown : IsShown o new t a
-  shown = shows_after o IsFine nulls first subject context r begun number new t turns fine
+      shown : IsShown o new t a
+      shown = shows_after o IsFine nulls first subject context r begun number new t turns fine
 
-  outcome : (x : Running) → slice_get a.world.runs 0 ≡ Some x → view_of a.world 0 x ≡ v
-      → outcome_of a ≡ record { status = Exited n; output = report.output; executed = report.executed; peak = report.peak }
-  outcome x there seen =
-      let status : x.status ≡ Exited n = ap (λ (u : RunView). u.status) seen ∙ ap status_of exited in
-      let output : x.frame.output ≡ report.output = ap (λ (u : RunView). u.frame.output) seen ∙ sym is.output in
-      let executed : x.executed ≡ report.executed = ap (λ (u : RunView). u.executed) seen ∙ sym is.executed in
-      let peak : a.peak ≡ report.peak = shown.peak ∙ sym (reported_peak o new after t n report exited is was.sound was.alone) in
-      rw (there, status, output, executed, peak) refl
+      outcome : (x : Running) → slice_get a.world.runs 0 ≡ Some x → view_of a.world 0 x ≡ v
+          → outcome_of a ≡ record { status = Exited n; output = report.output; executed = report.executed; peak = report.peak }
+      outcome x there seen =
+          let status : x.status ≡ Exited n = ap (λ (u : RunView). u.status) seen ∙ ap status_of exited in
+          let output : x.frame.output ≡ report.output = ap (λ (u : RunView). u.frame.output) seen ∙ sym is.output in
+          let executed : x.executed ≡ report.executed = ap (λ (u : RunView). u.executed) seen ∙ sym is.executed in
+          let peak : a.peak ≡ report.peak = shown.peak ∙ sym (reported_peak o new after t n report exited is was.sound was.alone) in
+          rw (there, status, output, executed, peak) refl
 
-  by : (x : Running) × (slice_get a.world.runs 0 ≡ Some x) × (view_of a.world 0 x ≡ v) → IsReportWith subject context nulls report
-  by (x, there, seen) =
-      let rest = length (instructions subject.program) - number in
-      let all : length (instructions subject.program) ≡ rest + number = omega (arith, few) in
-      let stays = stays_after rest number subject context nulls x n there (ap (λ (u : RunView). u.status) seen ∙ ap status_of exited) in
-      record {
-        exit = n;
-        exited = is.exit ∙ exited;
-        same = ap (λ (m : ℕ). outcome_of (solo_after m subject context nulls)) all ∙ ap outcome_of stays ∙ outcome x there seen;
-      }
+      by : (x : Running) × (slice_get a.world.runs 0 ≡ Some x) × (view_of a.world 0 x ≡ v) → IsReportWith subject context nulls report
+      by (x, there, seen) =
+          let rest = length (instructions subject.program) - number in
+          let all : length (instructions subject.program) ≡ rest + number = omega (arith, few) in
+          let stays = stays_after rest number subject context nulls x n there (ap (λ (u : RunView). u.status) seen ∙ ap status_of exited) in
+          record {
+            exit = n;
+            exited = is.exit ∙ exited;
+            same = ap (λ (m : ℕ). outcome_of (solo_after m subject context nulls)) all ∙ ap outcome_of stays ∙ outcome x there seen;
+          }
 
 -- as no program has as many instructions as the run may do, it exits
 pub report_solo : {S H : Type 0} (o : Store S H) (IsFine : S → Type 0) (limit : ℕ) (first new after : S) (r t : RunState H)
@@ -263,4 +263,4 @@ report_solo o IsFine limit first new after r t within many bounded nulls subject
     let counted : t.executed ≡ within.number = omega (arith, within.counted, none) in
     let same = ap (λ (s : Subject). length (instructions s.program)) was.subject_is in
     reports_exit o IsFine nulls first new after subject context r t within.number exited.0 report begun within.turns counted
-        (omega (arith, bounded, counted, same)) fine exited.1 is
+    (omega (arith, bounded, counted, same)) fine exited.1 is

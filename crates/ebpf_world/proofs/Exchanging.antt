@@ -155,7 +155,7 @@ counts_seen kind [] = refl
 counts_seen kind (h ∷ held) =
     let here = sum_by-cons (λ (x : Holding Object). cond {A = ℕ} (kind == x.kind) 1 0) h held in
     let there = sum_by-cons (λ (o : ObjectView). cond {A = ℕ} (kind == o.kind) 1 0) (object_seen (λ (o : Object). o.bytes.items) h)
-        (map (object_seen (λ (o : Object). o.bytes.items)) held) in
+    (map (object_seen (λ (o : Object). o.bytes.items)) held) in
     omega (arith, here, there, counts_seen kind held)
 
 none_freed : (freed : Option Object) → ((kind : ℕ) → one_away freed kind ≡ 1) → freed ≡ None
@@ -221,7 +221,7 @@ left_many r call =
     ∙ length-map (others_held call r.held) _
     ∙ sym (length-map (others_held call r.held) (object_seen (λ (o : Object). o.bytes.items)))
     ∙ sym (ap (λ (os : List ObjectView). length os)
-      (filter-map (λ (o : ObjectView). not (o.call == call)) (object_seen (λ (o : Object). o.bytes.items)) r.held))
+    (filter-map (λ (o : ObjectView). not (o.call == call)) (object_seen (λ (o : Object). o.bytes.items)) r.held))
 
 -- what becomes of the objects of the run
 outcome : (w : World) (kept : WorldState) (k : ℕ) (answer : Answer) (r t : RunState Object) (freed : Option Object) → Shows w kept
@@ -259,7 +259,7 @@ quiet_leaves kept k answer r t freed i quiet = record {
   same = λ shelf.
       slot_standing i.after shelf
       ∙ ap (option_map (λ (x : world.Shelved). x.slot))
-        (i.step.shelves shelf ∙ quiet.leaves (shelved_from as_shelved r.held) shelf (standing_on kept.shelves shelf))
+      (i.step.shelves shelf ∙ quiet.leaves (shelved_from as_shelved r.held) shelf (standing_on kept.shelves shelf))
       ∙ sym (slot_standing kept.shelves shelf);
 }
 
@@ -267,7 +267,7 @@ quiet_leaves kept k answer r t freed i quiet = record {
 counted_all : (kept : WorldState) (k : ℕ) (answer : Answer) (r t : RunState Object) (freed : Option Object) (i : IsInstruction kept k answer r t freed)
     (kind : ℕ)
     → one_away freed kind + is_bare (on_shelf i.after kind) + of_kind kind (run_seen r).objects
-      ≡ one_away (lent_by answer kept.places) kind + is_bare (on_shelf kept.shelves kind) + of_kind kind (run_seen t).objects
+    ≡ one_away (lent_by answer kept.places) kind + is_bare (on_shelf kept.shelves kind) + of_kind kind (run_seen t).objects
 counted_all kept k answer r t freed i kind = omega (arith, i.step.of_kind kind, counts_seen kind r.held, counts_seen kind t.held)
 
 counted : (kept : WorldState) (k : ℕ) (answer : Answer) (r t : RunState Object) (freed : Option Object) (i : IsInstruction kept k answer r t freed)
@@ -287,7 +287,7 @@ freed_its kept k answer r t freed o h i leaves is among slots = by (cases_eq o.s
   others : (x : Holding Object) → Contains t.held x → x.object.slot ≢ h.object.slot
   others x there same =
       let left = Contains-filter (λ (n : Name). not (n.call == h.call)) (slots_of r) (name_of x.object.slot x.call)
-          (subst (λ (ns : List Name). Contains ns (name_of x.object.slot x.call)) slots (held_named t x there)) in
+      (subst (λ (ns : List Name). Contains ns (name_of x.object.slot x.call)) slots (held_named t x there)) in
       let mine = i.tended.placed.held k r i.at (name_of x.object.slot x.call) left.0 in
       let its = held_placed kept k r h i.tended.placed i.at among in
       let both : Some (Held k x.call) ≡ Some (Held k h.call) = sym mine ∙ ap (place_at kept.places) same ∙ its in
@@ -303,11 +303,15 @@ freed_its kept k answer r t freed o h i leaves is among slots = by (cases_eq o.s
   by (inr ne) =
       let out = All-contains (λ x. IsOut None [] x.object × (x.object.kind ≡ x.kind)) r.held h i.run.out.out among in
       let there : IsOut freed i.after h.object =
-          subst (λ (f : Option Object). IsOut f i.after h.object) (sym is)
-          (record { sized = out.0.sized; away = λ e. ne (sym e); off = λ shelf.
-          away_from (on_shelf i.after shelf) h.object.slot
-          (λ other stands. off_shelves kept h.object.slot i.tended.placed (held_off kept k r h i.tended.placed i.at among) shelf other
-          (sym (leaves.same shelf) ∙ stands)) }) in
+      subst (λ (f : Option Object). IsOut f i.after h.object) (sym is)
+      (record {
+        sized = out.0.sized;
+        away = λ e. ne (sym e);
+        off = λ shelf.
+            away_from (on_shelf i.after shelf) h.object.slot
+            (λ other stands. off_shelves kept h.object.slot i.tended.placed (held_off kept k r h i.tended.placed i.at among) shelf other
+            (sym (leaves.same shelf) ∙ stands));
+      }) in
       absurd (i.step.gone h among (All-by_contains (λ x. x.object.slot ≢ h.object.slot) t.held others) there)
 
 frees : (w : World) (kept : WorldState) (k : ℕ) (answer : Answer) (r t : RunState Object) (freed : Option Object) → Shows w kept
@@ -392,11 +396,11 @@ given_of : (r : RunState Object) (shelf : ℕ) (given : Option ℕ) → IsTended
     → IsGivenOf r shelf given
 given_of r shelf None tended going there =
     record { name = None; call = refl; own = tt; stands = refl; kinds = λ kind. nothing_more kind shelf (of_kind kind (run_seen r).objects) } where
-  nothing_more : (kind shelf n : ℕ) → n + cond (kind == shelf) 0 0 ≡ n
-  nothing_more kind shelf n = by (kind == shelf) where
-    by : (t : Bool) → n + cond t 0 0 ≡ n
-    by true = omega arith
-    by false = omega arith
+      nothing_more : (kind shelf n : ℕ) → n + cond (kind == shelf) 0 0 ≡ n
+      nothing_more kind shelf n = by (kind == shelf) where
+        by : (t : Bool) → n + cond t 0 0 ≡ n
+        by true = omega arith
+        by false = omega arith
 given_of r shelf (Some call) tended going (o, among, is_call, is_kind) = record {
   name = Some (name_of h.object.slot h.call);
   call = ap Some called;
@@ -441,7 +445,7 @@ given_of r shelf (Some call) tended going (o, among, is_call, is_kind) = record 
     found (Some x) it =
         let there : get_or r.held it.0.0 h ≡ x = get_or_default r.held it.0.0 h x it.0.1 ∙ it.0.2 in
         let place = one_place r.held it.0.0 one.1.0 h up it.0.1 one.1.1
-            (ap (λ (y : Holding Object). y.call) there ∙ eqb-true x.call call it.1 ∙ sym called ∙ sym (ap (λ (y : Holding Object). y.call) get_or_found)) in
+        (ap (λ (y : Holding Object). y.call) there ∙ eqb-true x.call call it.1 ∙ sym called ∙ sym (ap (λ (y : Holding Object). y.call) get_or_found)) in
         let same : x ≡ h = sym there ∙ ap (λ (n : ℕ). get_or r.held n h) place ∙ get_or_found in
         ap (λ (y : Holding Object). Some y.object.slot) same
 
@@ -480,7 +484,7 @@ swaps kept k answer r t freed i none stays s = Swaps s.shelf its.name (none_free
 
     leaves : (shelf : ℕ)
         → slot_on i.after shelf ≡ option_map (λ (x : world.Shelved). x.slot)
-          (if shelf == s.shelf then shelved_from as_shelved r.held s.given else standing_on kept.shelves shelf)
+        (if shelf == s.shelf then shelved_from as_shelved r.held s.given else standing_on kept.shelves shelf)
     leaves shelf = slot_standing i.after shelf
         ∙ ap (option_map (λ (x : world.Shelved). x.slot))
         (i.step.shelves shelf ∙ s.leaves (shelved_from as_shelved r.held) shelf (standing_on kept.shelves shelf))
@@ -525,35 +529,35 @@ pub exchange : (w : World) (kept : WorldState) (k : ℕ) (answer : Answer) (r t 
     → Shows w kept → (i : IsInstruction kept k answer r t freed) → IsExchange kept k answer r t freed i.after
 exchange w kept k answer r t freed shows i =
     by (loan kept.places answer (wanted (asking_in (run_seen r))) i.fine) (outcome w kept k answer r t freed shows i) where
-  leaves : IsQuiet (run_seen r) → LeavesShelves kept r i.after
-  leaves quiet = quiet_leaves kept k answer r t freed i quiet
+      leaves : IsQuiet (run_seen r) → LeavesShelves kept r i.after
+      leaves quiet = quiet_leaves kept k answer r t freed i quiet
 
-  slot_answered : (slot : ℕ) → i.step.served ≡ step.Granted slot → answer_of answer ≡ world.Slot slot
-  slot_answered slot e = sym (answered kept k answer r t freed i) ∙ ap answer_for e
+      slot_answered : (slot : ℕ) → i.step.served ≡ step.Granted slot → answer_of answer ≡ world.Slot slot
+      slot_answered slot e = sym (answered kept k answer r t freed i) ∙ ap answer_for e
 
-  -- only a slot that is granted makes an event that answers one
-  answered_slot : (slot : ℕ) → answer ≡ Slot slot → i.step.served ≡ step.Granted slot
-  answered_slot slot is = by_served i.step.served (answered kept k answer r t freed i ∙ ap answer_of is) where
-    by_served : (s : Served) → answer_for s ≡ world.Slot slot → s ≡ step.Granted slot
-    by_served step.Idle e = absurd (cc)
-    by_served step.Refused e = absurd (cc)
-    by_served (step.Granted other) e = ap step.Granted (cc)
-    by_served step.Empty e = absurd (cc)
-    by_served (step.Fetched other bytes) e = absurd (cc)
+      -- only a slot that is granted makes an event that answers one
+      answered_slot : (slot : ℕ) → answer ≡ Slot slot → i.step.served ≡ step.Granted slot
+      answered_slot slot is = by_served i.step.served (answered kept k answer r t freed i ∙ ap answer_of is) where
+        by_served : (s : Served) → answer_for s ≡ world.Slot slot → s ≡ step.Granted slot
+        by_served step.Idle e = absurd (cc)
+        by_served step.Refused e = absurd (cc)
+        by_served (step.Granted other) e = ap step.Granted (cc)
+        by_served step.Empty e = absurd (cc)
+        by_served (step.Fetched other bytes) e = absurd (cc)
 
-  by : IsLoan kept.places answer (wanted (asking_in (run_seen r)))
-      → IsOutcome (run_seen r) (run_seen t) i.step.served (slots_of r) (slots_of t) → IsExchange kept k answer r t freed i.after
-  by (Nothing unanswered none stays) (Kept quiet o) =
-      Stays (leaves quiet) (none_freed freed
-      (λ kind. omega (arith, counted kept k answer r t freed i (leaves quiet) kind, lent_none kept answer kind none, o.kinds kind))) stays o.slots_are
-  by (Nothing unanswered none stays) (Granted quiet g) = absurd (not_slot answer unanswered g.slot (slot_answered g.slot g.answered)) where
-    not_slot : (a : Answer) → ((slot : ℕ) → a ≢ Slot slot) → (slot : ℕ) → answer_of a ≢ world.Slot slot
-    not_slot Absent un slot e = absurd (cc)
-    not_slot Null un slot e = absurd (cc)
-    not_slot (Slot s) un slot e = un s refl
-  by (Nothing unanswered none stays) (Freed quiet f) = frees w kept k answer r t freed shows i (leaves quiet) none stays f
-  by (Nothing unanswered none stays) (Swapped s) = swaps kept k answer r t freed i none stays s
-  by (Loan slot o is home wants) (Kept quiet kept_o) = let unasked = ap wanted (kept_o.unasked slot (answered_slot slot is)) in absurd (cc)
-  by (Loan slot o is home wants) (Granted quiet g) = lends kept k answer r t freed slot o i (leaves quiet) is home wants g
-  by (Loan slot o is home wants) (Freed quiet f) = let unasked = ap wanted f.unasked in absurd (cc)
-  by (Loan slot o is home wants) (Swapped s) = let unasked = ap wanted s.asked in absurd (cc)
+      by : IsLoan kept.places answer (wanted (asking_in (run_seen r)))
+          → IsOutcome (run_seen r) (run_seen t) i.step.served (slots_of r) (slots_of t) → IsExchange kept k answer r t freed i.after
+      by (Nothing unanswered none stays) (Kept quiet o) =
+          Stays (leaves quiet) (none_freed freed
+          (λ kind. omega (arith, counted kept k answer r t freed i (leaves quiet) kind, lent_none kept answer kind none, o.kinds kind))) stays o.slots_are
+      by (Nothing unanswered none stays) (Granted quiet g) = absurd (not_slot answer unanswered g.slot (slot_answered g.slot g.answered)) where
+        not_slot : (a : Answer) → ((slot : ℕ) → a ≢ Slot slot) → (slot : ℕ) → answer_of a ≢ world.Slot slot
+        not_slot Absent un slot e = absurd (cc)
+        not_slot Null un slot e = absurd (cc)
+        not_slot (Slot s) un slot e = un s refl
+      by (Nothing unanswered none stays) (Freed quiet f) = frees w kept k answer r t freed shows i (leaves quiet) none stays f
+      by (Nothing unanswered none stays) (Swapped s) = swaps kept k answer r t freed i none stays s
+      by (Loan slot o is home wants) (Kept quiet kept_o) = let unasked = ap wanted (kept_o.unasked slot (answered_slot slot is)) in absurd (cc)
+      by (Loan slot o is home wants) (Granted quiet g) = lends kept k answer r t freed slot o i (leaves quiet) is home wants g
+      by (Loan slot o is home wants) (Freed quiet f) = let unasked = ap wanted f.unasked in absurd (cc)
+      by (Loan slot o is home wants) (Swapped s) = let unasked = ap wanted s.asked in absurd (cc)

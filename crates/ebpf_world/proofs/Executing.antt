@@ -253,7 +253,7 @@ executed_after w kept k answer r t freed h i = record { after = after; legal = n
   serves : served_in w (asking_in (run_seen r)) (answer_for i.step.served) ≡ i.step.served
   serves = may_serve w (offers (lent_by answer kept.places) kept.shelves) r.pc (asking_in (run_seen r)) i.step.served i.step.may
       (λ shelf asked. shelf_serves w (lent_by answer kept.places) kept.shelves r.pc shelf i.step.served (h.shelves shelf)
-          (subst (λ (a : Asking). MayAnswer (offers (lent_by answer kept.places) kept.shelves) r.pc a i.step.served) asked i.step.may))
+      (subst (λ (a : Asking). MayAnswer (offers (lent_by answer kept.places) kept.shelves) r.pc a i.step.served) asked i.step.may))
 
   given : answer_for i.step.served ≡ answer_of answer
   given = answered kept k answer r t freed i
@@ -280,8 +280,8 @@ executed_after w kept k answer r t freed h i = record { after = after; legal = n
   slots =
       let subject = ap (λ (v : RunView). slots_after (effect_of_view v) i.step.served v.subject.decl.held v.pc (slots_in w k)) here.seen in
       sym event.1 ∙ next.1.slots ∙ ap (λ (s : Served).
-          slots_after (effect_of_view (view_of w k here.run)) s here.run.subject.decl.held here.run.pc (slots_in w k)) served ∙ subject
-          ∙ ap (slots_after (effect_of_view (run_seen r)) i.step.served r.subject.decl.held r.pc) (h.slots k r i.at)
+      slots_after (effect_of_view (view_of w k here.run)) s here.run.subject.decl.held here.run.pc (slots_in w k)) served ∙ subject
+      ∙ ap (slots_after (effect_of_view (run_seen r)) i.step.served r.subject.decl.held r.pc) (h.slots k r i.at)
 
   -- and of what is on its shelves
   stands : (shelf : ℕ) → shelved_in after shelf ≡ standing_on i.after shelf

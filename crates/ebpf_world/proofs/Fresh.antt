@@ -28,7 +28,11 @@ pub tended_fresh : (programs : List Subject) → AreKnown programs → IsTendedW
 tended_fresh programs known = record {
   known = known;
   runs = λ k d lt. absurd (omega (arith, lt));
-  placed = record { each = λ slot. refl; held = λ run r there. absurd (cc); shelved = λ shelf slot stands. let none =
-      ap (option_map (λ (o : Object). o.slot)) (bare_none shelf) in absurd (cc) };
+  placed = record {
+    each = λ slot. refl;
+    held = λ run r there. absurd (cc);
+    shelved = λ shelf slot stands. let none =
+        ap (option_map (λ (o : Object). o.slot)) (bare_none shelf) in absurd (cc);
+  };
   shown = (first_world, fresh_shows programs);
 }

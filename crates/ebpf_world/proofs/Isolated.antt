@@ -82,7 +82,7 @@ own_left w v events e k run h next ne there =
     let seen : view_in v k ≡ Some (view_of v k run) = rw there refl in
     let before = shown_run w k (view_of v k run) (sym (next.left k ne).view ∙ seen) in
     subst (IsOwn (view_of v k run)) (sym (answers_same k events e (answer_other w k e ne)))
-        (subst (λ (x : RunView). IsOwn x (answers_to k events)) before.2 (h.runs k before.0 before.1))
+    (subst (λ (x : RunView). IsOwn x (answers_to k events)) before.2 (h.runs k before.0 before.1))
 
 -- there is no run then either where there was none
 none_left : (w v : World) (events : List Event) (e : Event) (k : ℕ) → IsKept w events → IsEventOf w v (own_run w e)
@@ -103,7 +103,7 @@ own_first w s context k accepted long owned none =
     let v : RunView = run_seen (first_state_of s context) in
     let same : v ≡ view_of w k (first_run s context) = rw (unheld w k owned none) refl in
     subst (λ (u : RunView). IsOwn u []) same
-        (record { sound = first_sound {H = Object} (λ o. o.bytes.items) s context accepted long; alone = first_alone s context; told = refl })
+    (record { sound = first_sound {H = Object} (λ o. o.bytes.items) s context accepted long; alone = first_alone s context; told = refl })
 
 started_own : (w : World) (events : List Event) (s : Subject) (context bytes : List ℕ) (program : ℕ) (run : Running) → IsAccepted s
     → length context ≡ s.decl.context → IsKept w events
@@ -115,7 +115,7 @@ started_own w events s context bytes program run accepted long h there =
     let same : first_run s context ≡ run = same_of _ _ _ (get_last w.runs (first_run s context)) there in
     let silent = answers_same k events (Start program bytes) refl ∙ h.unanswered k none in
     subst (IsOwn (view_of (started s context w) k run)) (sym silent)
-        (subst (λ (r : Running). IsOwn (view_of w k r) []) same (own_first w s context k accepted long h.owned none))
+    (subst (λ (r : Running). IsOwn (view_of w k r) []) same (own_first w s context k accepted long h.owned none))
 
 -- ---- a run does an instruction
 
@@ -139,11 +139,11 @@ stepped_own w v events number answer run h exec there =
     let fine = subst (λ (asked : Asking). answer_fault w asked (answer_of answer) ≡ None) asks exec.fine in
     let served = ap (λ (asked : Asking). Some (stepped (result_of (served_in w asked (answer_of answer))) u)) asks in
     let next = own_next w u (answers_to number events) answer (h.runs number exec.r exec.there) (sized_in w number exec.r h.owned exec.there) exec.going fine
-        (served_fits_shelf w u (answer_of answer) h.owned (h.owned.runs.kinds_are number exec.r exec.there)) in
+    (served_fits_shelf w u (answer_of answer) h.owned (h.owned.runs.kinds_are number exec.r exec.there)) in
     let answers : answers_to number events ++ reply_by answer ≡ answers_to number (events ++ Exec number answer ∷ []) =
     ap (λ (more : List Reply). answers_to number events ++ more) (sym (answer_own number answer)) ∙ sym (answers_more number events (Exec number answer)) in
     subst (IsOwn (view_of v number run)) answers
-        (subst (λ (x : RunView). IsOwn x (answers_to number events ++ reply_by answer)) (same_of _ _ _ (exec.next.seen ∙ served) seen) next)
+    (subst (λ (x : RunView). IsOwn x (answers_to number events ++ reply_by answer)) (same_of _ _ _ (exec.next.seen ∙ served) seen) next)
 
 -- ---- every event
 
@@ -157,14 +157,14 @@ own_event programs (Start program context) w v events k run all h is own there =
     let there_now = ap (λ (u : World). slice_get u.runs k) start.is ∙ there in
     subst (λ (u : World). IsOwn (view_of u k run) (answers_to k (events ++ Start program context ∷ []))) start.is
     (subst (λ (i : ℕ). slice_get (started start.subject context w).runs i ≡ Some run
-        → IsOwn (view_of (started start.subject context w) i run) (answers_to i (events ++ Start program context ∷ []))) same
+    → IsOwn (view_of (started start.subject context w) i run) (answers_to i (events ++ Start program context ∷ []))) same
     (λ at. started_own w events start.subject context context program run (at_number IsAccepted programs program start.subject all start.there) start.long h
-        at) there_now)
+    at) there_now)
 own_event programs (Exec number answer) w v events k run all h is own there =
     let exec = exec_next w v number (answer_of answer) h.owned (sound_kept w events h) is in
     let same : number ≡ k = cc in
     subst (λ (i : ℕ). slice_get v.runs i ≡ Some run → IsOwn (view_of v i run) (answers_to i (events ++ Exec number answer ∷ []))) same
-        (λ at. stepped_own w v events number answer run h exec at) there
+    (λ at. stepped_own w v events number answer run h exec at) there
 own_event programs (Grow kind slot) w v events k run all h is own there = absurd (cc)
 own_event programs (Reap kind slot) w v events k run all h is own there = absurd (cc)
 
@@ -234,7 +234,7 @@ world_after_kept programs [] events index w v all known h e =
     rw whole (subst (λ (u : World). IsKept u events) same h)
 world_after_kept programs (x ∷ rest) events index w v all known h e =
     subst (IsKept v) (append_assoc events (x ∷ []) rest)
-        (next (happened programs x w) refl e (λ u k f. world_after_kept programs rest (events ++ x ∷ []) (index + 1) u v all known k f))
+    (next (happened programs x w) refl e (λ u k f. world_after_kept programs rest (events ++ x ∷ []) (index + 1) u v all known k f))
   where
     next : (r : Result World Illegal) → happened programs x w ≡ r
         → and_then r index (world_after_from programs rest (index + 1)) ≡ Ok v
@@ -268,7 +268,7 @@ outcome_of_run : (w : World) (k : ℕ) (run : Running) (answers : List Reply) (n
     → run.status ≡ Exited n → IsOutcomeOf run n (outcome_alone run.subject run.context (replies_to run))
 outcome_of_run w k run answers n own ended =
     let is = ap (outcome_alone run.subject run.context) (sym (none_more (replies_to run)))
-        ∙ outcome_exited (view_of w k run) n own.sound own.alone ended (replies_from [] []) in
+    ∙ outcome_exited (view_of w k run) n own.sound own.alone ended (replies_from [] []) in
     record { status = ap (λ (o : Outcome). o.status) is; output = ap (λ (o : Outcome). o.output) is; executed = ap (λ (o : Outcome). o.executed) is }
 
 -- a run that exited holds nothing, and any other no more than it declared
@@ -303,8 +303,12 @@ safe_kept w events h = record {
   runs = λ k run at. isolated w events k run h at;
   held_once = h.owned.holders.once;
   shelved_once = λ shelf. shelf_once w shelf h.owned;
-  in_ledger = λ o among. record { once = h.owned.holders.in_ledger o among; there = kind_there w o.slot (owned_there w o h.owned among); asked =
-      h.owned.runs.asked o among };
+  in_ledger = λ o among. record {
+    once = h.owned.holders.in_ledger o among;
+    there = kind_there w o.slot (owned_there w o h.owned among);
+    asked =
+        h.owned.runs.asked o among;
+  };
   imaged = h.owned.ledgers.imaged;
 }
 

@@ -43,10 +43,10 @@ same_fault w v answer (ForNothing unasked) = ap (λ (a : Asking). answer_fault w
 same_fault w v answer (ForObject kind asked new) = ap (λ (a : Asking). answer_fault w a answer) (asked ∙ ap (λ (a : Asking). asked_as (wanted a)) (sym asked))
 same_fault w v answer (ForShelf shelf asked new) = ap (λ (a : Asking). answer_fault w a answer) asked ∙ unasked answer
     ∙ ap (λ (a : Asking). answer_fault w (asked_as (wanted a)) answer) (sym asked) where
-  unasked : (answer : world.Answer) → answer_fault w (AtShelf shelf) answer ≡ answer_fault w Unasked answer
-  unasked world.Absent = refl
-  unasked world.Null = refl
-  unasked (world.Slot slot) = refl
+      unasked : (answer : world.Answer) → answer_fault w (AtShelf shelf) answer ≡ answer_fault w Unasked answer
+      unasked world.Absent = refl
+      unasked world.Null = refl
+      unasked (world.Slot slot) = refl
 
 pub asks_as : (w : World) (v : RunView) (answer : world.Answer) → IsSound v → AreSized v → v.status ≡ Going
     → answer_fault w (asking_in v) answer ≡ answer_fault w (asked_as (wanted (asking_in v))) answer
@@ -81,11 +81,11 @@ slot_fault w slot (Some (Shelved shelf)) wants owned kept = rw kept refl
 slot_fault w slot (Some (Home o)) None owned kept = let home = kept.0 in rw home refl
 slot_fault w slot (Some (Home o)) (Some kind) owned kept = let home = kept.0 in let which = in_which w slot o.kind kind owned kept.1 in
     rw (home, which) (by (o.kind == kind)) where
-  by : (t : Bool)
-      → option_map code_of (first_of ((false, SlotNotHome) ∷ (not t, SlotOfAnotherKind) ∷ (false, AnswerUnasked) ∷ (false, AnswerMissing) ∷ []))
-        ≡ cond t None (Some apply.SlotOfAnotherKind)
-  by true = refl
-  by false = refl
+      by : (t : Bool)
+          → option_map code_of (first_of ((false, SlotNotHome) ∷ (not t, SlotOfAnotherKind) ∷ (false, AnswerUnasked) ∷ (false, AnswerMissing) ∷ []))
+          ≡ cond t None (Some apply.SlotOfAnotherKind)
+      by true = refl
+      by false = refl
 
 code_is : (w : World) (places : Places) (answer : Answer) (wants : Option ℕ) → IsOwned w → AnswersFrom w places answer
     → option_map code_of (answer_fault w (asked_as wants) (answer_of answer)) ≡ code_by places answer wants
@@ -151,6 +151,6 @@ told_next w v answer sound sized going fine = by (asks_of v (next_of v sound siz
   by (ForShelf shelf asked new) Absent fits =
       let result = result_of (served_in w (asking_in v) world.Absent) in
       more [] (replies_of (stepped result v)) (reply_in (heard_by_swap result)) (to_swap result)
-          (ap (λ (rs : Replies). rs.answers) (replies_swapped v result shelf going new))
+      (ap (λ (rs : Replies). rs.answers) (replies_swapped v result shelf going new))
   by (ForShelf shelf asked new) Null fits = let bad = ap is_asked asked in absurd (cc)
   by (ForShelf shelf asked new) (Slot slot) fits = let bad = ap is_asked asked in absurd (cc)

@@ -42,10 +42,13 @@ moved kept k q r t now after (Some (Home o)) there keeps stands placed =
 moved kept k q r t now after (Some (Held run at)) there keeps stands placed = by (same_number run k) where
   by : (run ≡ k) ⊎ (run ≢ k) → IsPlaced (stepped_to kept k t now after) q (Some (Held run at))
   by (inl same) =
-      let mine : placed.0 ≡ r = some_same (sym placed.1 ∙ ap (slice_get kept.runs) same ∙ there) in
-      (t, ap (slice_get (slice_set kept.runs k t)) same
-          ∙ get_set_same kept.runs k r t there, keeps at (ap (λ (n : ℕ). Some (Held n at)) same)
-          (subst (λ (x : RunState Object). Contains (slots_of x) (name_of q at)) mine placed.2))
+      let mine : placed.0 ≡ r = some_same (sym placed.1 ∙ ap (slice_get kept.runs) same ∙ there) in (
+        t,
+        ap (slice_get (slice_set kept.runs k t)) same
+            ∙ get_set_same kept.runs k r t there,
+        keeps at (ap (λ (n : ℕ). Some (Held n at)) same)
+            (subst (λ (x : RunState Object). Contains (slots_of x) (name_of q at)) mine placed.2),
+      )
     where
       some_same : {a b : RunState Object} → Some a ≡ Some b → a ≡ b
       some_same e = cc
@@ -144,9 +147,9 @@ lends_placed kept k answer r t freed after lent back now slot o i m leaves none 
         (t, get_set_same kept.runs k r t i.at, subst (λ (s : ℕ). Contains (slots_of t) (name_of s r.pc)) (sym same) newest)
     each q (inr ne) = subst (IsPlaced (stepped_to kept k t now after) q) (sym (now_is q ∙ else_or q slot _ _ ne))
         (moved kept k q r t now after (place_at kept.places q) i.at
-            (λ at is_ among. subst (λ (ns : List Name). Contains ns (name_of q at)) (sym slots)
-            (Contains-append_left (slots_of r) (name_of slot r.pc ∷ []) (name_of q at) among)) (λ shelf is_. still kept r after leaves shelf q)
-            (i.tended.placed.each q))
+        (λ at is_ among. subst (λ (ns : List Name). Contains ns (name_of q at)) (sym slots)
+        (Contains-append_left (slots_of r) (name_of slot r.pc ∷ []) (name_of q at) among)) (λ shelf is_. still kept r after leaves shelf q)
+        (i.tended.placed.each q))
 
     -- a slot that is held is not the one that was at home
     elsewhere : (run : ℕ) (n : Name) → place_at kept.places n.slot ≡ Some (Held run n.call) → place_at now n.slot ≡ Some (Held run n.call)
@@ -177,7 +180,7 @@ pub one_a_call : (w : World) (kept : WorldState) (k : ℕ) (r : RunState Object)
 one_a_call w kept k r call q slot shows at too among =
     let owns = λ (n : Name) (inside : Contains (slots_of r) n). held_owns w k n (subst (λ (ns : List Name). Contains ns n) (sym (shows.slots k r at)) inside) in
     ap (λ (p : Owner). p.slot) (shows.owned.holders.one_a_call (owner_of k (name_of q call)) (owner_of k (name_of slot call)) (owns (name_of q call) too)
-        (owns (name_of slot call) among) refl)
+    (owns (name_of slot call) among) refl)
 
 pub frees_placed : (w : World) (kept : WorldState) (k : ℕ) (answer : Answer) (r t : RunState Object) (freed : Option Object) (after : List (Option Object))
     (lent back now : Places) (o : Object) (call : ℕ)
@@ -215,12 +218,12 @@ frees_placed w kept k answer r t freed after lent back now o call shows i m leav
     keeps q ne at inside =
         let other : (at == call) ≡ false = ne_eqb at call (λ same. ne (one_slot q (subst (λ (a : ℕ). Contains (slots_of r) (name_of q a)) same inside))) in
         subst (λ (ns : List Name). Contains ns (name_of q at)) (sym slots)
-            (Contains-kept (λ (n : Name). not (n.call == call)) (slots_of r) (name_of q at) inside (ap not other))
+        (Contains-kept (λ (n : Name). not (n.call == call)) (slots_of r) (name_of q at) inside (ap not other))
 
     each : (q : ℕ) → (q ≡ o.slot) ⊎ (q ≢ o.slot) → IsPlaced (stepped_to kept k t now after) q (place_at now q)
     each q (inl same) = subst (IsPlaced (stepped_to kept k t now after) q) (sym (now_is q ∙ here_or q o.slot _ _ same))
         (subst (λ (s : ℕ). IsAtHome (stepped_to kept k t now after) s o) (sym same)
-            (record { same = refl; its = home.its; known = home.known; image = home.image }))
+        (record { same = refl; its = home.its; known = home.known; image = home.image }))
     each q (inr ne) = subst (IsPlaced (stepped_to kept k t now after) q) (sym (now_is q ∙ else_or q o.slot _ _ ne))
         (moved kept k q r t now after (place_at kept.places q) i.at (λ at is_. keeps q ne at) (λ shelf is_. still kept r after leaves shelf q)
         (i.tended.placed.each q))
@@ -233,15 +236,15 @@ frees_placed w kept k answer r t freed after lent back now o call shows i m leav
         → place_at now n.slot ≡ Some (Held run n.call)
     elsewhere run n was apart = now_is n.slot
         ∙ else_or n.slot o.slot _ _ (λ same. moved_off (same_place (sym was ∙ ap (place_at kept.places) same ∙ was_held))) ∙ was where
-      moved_off : (run ≡ k) × (n.call ≡ call) → ⊥
-      moved_off (same_run, same_call) = apart same_run same_call
+          moved_off : (run ≡ k) × (n.call ≡ call) → ⊥
+          moved_off (same_run, same_call) = apart same_run same_call
 
     held : (run : ℕ) (x : RunState Object) (n : Name) → Contains (slots_of x) n
         → ((run ≡ k) × (t ≡ x)) ⊎ ((run ≢ k) × (slice_get kept.runs run ≡ Some x)) → place_at now n.slot ≡ Some (Held run n.call)
     held run x n inside (inl (same, is_t)) =
         let left = Contains-filter (λ (y : Name). not (y.call == call)) (slots_of r) n
-            (subst (λ (ns : List Name). Contains ns n) slots (subst (λ (y : RunState Object). Contains (slots_of y) n) (sym is_t) inside)) in
+        (subst (λ (ns : List Name). Contains ns n) slots (subst (λ (y : RunState Object). Contains (slots_of y) n) (sym is_t) inside)) in
         let was = i.tended.placed.held k r i.at n left.0 in
         elsewhere k n was (λ mine same_call. let equal = eq-eqb n.call call same_call in let unequal = not-true (n.call == call) left.1 in absurd (cc))
-            ∙ ap (λ (j : ℕ). Some (Held j n.call)) (sym same)
+        ∙ ap (λ (j : ℕ). Some (Held j n.call)) (sym same)
     held run x n inside (inr (ne, there)) = elsewhere run n (i.tended.placed.held run x there n inside) (λ mine. absurd (ne mine))

@@ -125,13 +125,18 @@ given_of_kind : (objects : List ObjectView) (call shelf : ℕ) (found : Found) �
     → found.kind ≡ shelf → (o : ObjectView) × Contains objects o × (o.call ≡ call) × (o.kind ≡ shelf)
 given_of_kind objects call shelf found is kind =
     by (find (λ (o : ObjectView). o.call == call) objects) (find_is (λ (o : ObjectView). o.call == call) objects) is where
-  by : (f : Option ObjectView) → IsFound (λ (o : ObjectView). o.call == call) objects f → found_in f ≡ Ok found
-      → (o : ObjectView) × Contains objects o × (o.call ≡ call) × (o.kind ≡ shelf)
-  by None none is = absurd (cc)
-  by (Some o) there is = (o, there.0, eqb-true o.call call there.1, ap (λ (f : Found). f.kind)
-      (same (record { kind = o.kind; bytes = o.bytes }) found (found_in (Some o)) refl is) ∙ kind) where
-    same : (a b : Found) (the : Result Found Trap) → the ≡ Ok a → the ≡ Ok b → a ≡ b
-    same a b the e f = cc
+      by : (f : Option ObjectView) → IsFound (λ (o : ObjectView). o.call == call) objects f → found_in f ≡ Ok found
+          → (o : ObjectView) × Contains objects o × (o.call ≡ call) × (o.kind ≡ shelf)
+      by None none is = absurd (cc)
+      by (Some o) there is = (
+        o,
+        there.0,
+        eqb-true o.call call there.1,
+        ap (λ (f : Found). f.kind)
+            (same (record { kind = o.kind; bytes = o.bytes }) found (found_in (Some o)) refl is) ∙ kind,
+      ) where
+        same : (a b : Found) (the : Result Found Trap) → the ≡ Ok a → the ≡ Ok b → a ≡ b
+        same a b the e f = cc
 
 freed : (v : RunView) (to : ℕ) (after : Frame ℕ) (call : ℕ) (served : Served) (slots : List Name) (o : ObjectView)
     → asking_in v ≡ Unasked → Contains v.objects o → o.call ≡ call
@@ -185,7 +190,7 @@ swapped_got : (v : RunView) (to : ℕ) (after : Frame ℕ) (shelf : ℕ) (given 
     → length (slots_without given slots) ≡ length (without_given given v.objects)
     → (slots_exchanged served v.subject.decl.held v.pc given slots ≡ slots_without given slots ++ slots_fetched v.pc served)
     × ((kind : ℕ) → of_kind kind (exchanged (result_of served) to after shelf given v).objects
-        ≡ of_kind kind (without_given given v.objects) + cond (kind == shelf) (whole.fetched (told_by served)) 0)
+    ≡ of_kind kind (without_given given v.objects) + cond (kind == shelf) (whole.fetched (told_by served)) 0)
 swapped_got v to after shelf given (step.Fetched slot bytes) slots room many =
     let few = room_for v.subject.decl.held (length (without_given given v.objects)) room in
     let few_slots = ap (nat_le v.subject.decl.held) many ∙ few in
@@ -202,7 +207,7 @@ swapped_got v to after shelf given (step.Granted slot) slots room many =
 swapped : (v : RunView) (to : ℕ) (after : Frame ℕ) (shelf : ℕ) (given : Option ℕ) (served : Served) (slots : List Name)
     → GoesOn v (Exchange shelf given) to after → length (slots_without given slots) ≡ length (without_given given v.objects)
     → IsSwapped v (acted (Exchange shelf given) (result_of served) to after v) served slots
-      (slots_acted (Exchange shelf given) served v.subject.decl.held v.pc slots)
+    (slots_acted (Exchange shelf given) served v.subject.decl.held v.pc slots)
 swapped v to after shelf given served slots g many =
     let there = there_goes (insn_at v.subject.program v.pc) v.pc (environment_of_view v) v.frame (Exchange shelf given) to after g.does in
     let got = swapped_got v to after shelf given served slots g.room.1 many in
@@ -249,7 +254,7 @@ outcome_acted v (Free call) to after served slots g sound going many left =
     let there = there_goes (insn_at v.subject.program v.pc) v.pc (environment_of_view v) v.frame (Free call) to after g.does in
     let o = given_there v.objects call there.0 there.1 in
     Freed (quiet v (Free call) to after g refl (λ given_is shelf what. refl))
-        (freed v to after call served slots o.0 (asks_for v (Free call) to after g) o.1 o.2)
+    (freed v to after call served slots o.0 (asks_for v (Free call) to after g) o.1 o.2)
 
 -- ---- each instruction
 
@@ -265,8 +270,11 @@ outcome_of v served slots sound sized going many left = by (next_of v sound size
   by (inl (act, to, after, g)) =
       rw (stepped_goes v (result_of served) act to after going g, g.does) (outcome_acted v act to after served slots g sound going many left)
   by (inr (n, ends)) = rw (stepped_ends v (result_of served) n going ends, ends.does)
-      (Kept (silent n ends) (record { unasked = λ slot e. asked_ends (insn_at v.subject.program v.pc) v.pc (environment_of_view v) v.frame n ends.does;
-      slots_are = refl; kinds = λ k. refl }))
+      (Kept (silent n ends) (record {
+        unasked = λ slot e. asked_ends (insn_at v.subject.program v.pc) v.pc (environment_of_view v) v.frame n ends.does;
+        slots_are = refl;
+        kinds = λ k. refl;
+      }))
     where
       silent : (n : ℕ) → EndsRun v n → IsQuiet v
       silent n ends = record {

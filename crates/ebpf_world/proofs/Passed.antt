@@ -76,12 +76,12 @@ module _ (w : World) (kept : WorldState) (k : ℕ) (answer : Answer) (r t : RunS
 
   now_is : (q : ℕ)
       → place_at now q ≡ cond (is_slot (slot_of given) q) (Some (Shelved shelf))
-        (cond (is_slot (slot_on kept.shelves shelf) q) (Some (Held k r.pc)) (place_at kept.places q))
+      (cond (is_slot (slot_on kept.shelves shelf) q) (Some (Held k r.pc)) (place_at kept.places q))
   now_is q =
       m.now_are q
       ∙ (λ j. place_exchanged (passes.reached_is j) (at_shelf kept.shelves j) ((at_shelf after ∙ passes.stands) j) k r.pc back q)
       ∙ ap (λ (p : Option Place). cond (is_slot (slot_of given) q) (Some (Shelved shelf))
-        (cond (is_slot (slot_on kept.shelves shelf) q) (Some (Held k r.pc)) p)) (before q)
+      (cond (is_slot (slot_on kept.shelves shelf) q) (Some (Held k r.pc)) p)) (before q)
 
   -- what is given was the run's
   given_held : (g : Name) → given ≡ Some g → place_at kept.places g.slot ≡ Some (Held k g.call)
@@ -103,7 +103,7 @@ module _ (w : World) (kept : WorldState) (k : ℕ) (answer : Answer) (r t : RunS
   elsewhere q off not_stood =
       now_is q
       ∙ ap (λ (b : Bool). cond b (Some (Shelved shelf)) (cond (is_slot (slot_on kept.shelves shelf) q) (Some (Held k r.pc)) (place_at kept.places q)))
-        (is_not (slot_of given) q off)
+      (is_not (slot_of given) q off)
       ∙ ap (λ (b : Bool). cond b (Some (Held k r.pc)) (place_at kept.places q)) (is_not (slot_on kept.shelves shelf) q not_stood)
 
   put_there : (q : ℕ) → slot_of given ≡ Some q → place_at now q ≡ Some (Shelved shelf)
@@ -115,7 +115,7 @@ module _ (w : World) (kept : WorldState) (k : ℕ) (answer : Answer) (r t : RunS
   got_it q is =
       now_is q
       ∙ ap (λ (b : Bool). cond b (Some (Shelved shelf)) (cond (is_slot (slot_on kept.shelves shelf) q) (Some (Held k r.pc)) (place_at kept.places q)))
-        (is_not (slot_of given) q apart)
+      (is_not (slot_of given) q apart)
       ∙ ap (λ (b : Bool). cond b (Some (Held k r.pc)) (place_at kept.places q)) (is_it (slot_on kept.shelves shelf) q is)
     where
       apart : slot_of given ≢ Some q
@@ -143,7 +143,7 @@ module _ (w : World) (kept : WorldState) (k : ℕ) (answer : Answer) (r t : RunS
   newest : (slot : ℕ) → slot_on kept.shelves shelf ≡ Some slot → Contains (slots_of t) (name_of slot r.pc)
   newest slot is =
       subst (λ (ns : List Name). Contains ns (name_of slot r.pc))
-          (sym (passes.slots_are ∙ ap (λ (o : Option ℕ). slots_without (call_of given) (slots_of r) ++ got_by o r.pc) is))
+      (sym (passes.slots_are ∙ ap (λ (o : Option ℕ). slots_without (call_of given) (slots_of r) ++ got_by o r.pc) is))
       (Contains-push (slots_without (call_of given) (slots_of r)) (name_of slot r.pc))
 
   each : (q : ℕ) → (slot_of given ≡ Some q) ⊎ (slot_of given ≢ Some q)
@@ -153,21 +153,21 @@ module _ (w : World) (kept : WorldState) (k : ℕ) (answer : Answer) (r t : RunS
   each q (inr off) (inl is) = subst (IsPlaced (stepped_to kept k t now after) q) (sym (got_it q is)) (t, get_set_same kept.runs k r t i.at, newest q is)
   each q (inr off) (inr not_stood) = subst (IsPlaced (stepped_to kept k t now after) q) (sym (elsewhere q off not_stood))
       (moved kept k q r t now after (place_at kept.places q) i.at keeps stands (i.tended.placed.each q)) where
-    keeps : (at : ℕ) → place_at kept.places q ≡ Some (Held k at) → Contains (slots_of r) (name_of q at) → Contains (slots_of t) (name_of q at)
-    keeps at is among =
-        subst (λ (ns : List Name). Contains ns (name_of q at)) (sym passes.slots_are)
-        (Contains-append_left (slots_without (call_of given) (slots_of r)) (got_by (slot_on kept.shelves shelf) r.pc) (name_of q at)
+        keeps : (at : ℕ) → place_at kept.places q ≡ Some (Held k at) → Contains (slots_of r) (name_of q at) → Contains (slots_of t) (name_of q at)
+        keeps at is among =
+            subst (λ (ns : List Name). Contains ns (name_of q at)) (sym passes.slots_are)
+            (Contains-append_left (slots_without (call_of given) (slots_of r)) (got_by (slot_on kept.shelves shelf) r.pc) (name_of q at)
             (kept_without given (slots_of r) (name_of q at) among other))
-      where
-        other : (g : Name) → given ≡ Some g → at ≢ g.call
-        other g given_is same =
-            let own : Contains (slots_of r) (name_of g.slot g.call) =
-            subst (λ (o : Option Name). IfSome o (λ n. Contains (slots_of r) n)) given_is passes.own in
-            let slot = one_a_call w kept k r g.call q g.slot shows i.at (subst (λ (a : ℕ). Contains (slots_of r) (name_of q a)) same among) own in
-            off (ap slot_of given_is ∙ ap Some (sym slot))
+          where
+            other : (g : Name) → given ≡ Some g → at ≢ g.call
+            other g given_is same =
+                let own : Contains (slots_of r) (name_of g.slot g.call) =
+                subst (λ (o : Option Name). IfSome o (λ n. Contains (slots_of r) n)) given_is passes.own in
+                let slot = one_a_call w kept k r g.call q g.slot shows i.at (subst (λ (a : ℕ). Contains (slots_of r) (name_of q a)) same among) own in
+                off (ap slot_of given_is ∙ ap Some (sym slot))
 
-    stands : (other : ℕ) → place_at kept.places q ≡ Some (Shelved other) → slot_on kept.shelves other ≡ Some q → slot_on after other ≡ Some q
-    stands other is there = passes.others other (λ same. not_stood (sym (ap (slot_on kept.shelves) same) ∙ there)) ∙ there
+        stands : (other : ℕ) → place_at kept.places q ≡ Some (Shelved other) → slot_on kept.shelves other ≡ Some q → slot_on after other ≡ Some q
+        stands other is there = passes.others other (λ same. not_stood (sym (ap (slot_on kept.shelves) same) ∙ there)) ∙ there
 
   mine : (n : Name)
       → Contains (slots_without (call_of given) (slots_of r)) n ⊎ Contains (got_by (slot_on kept.shelves shelf) r.pc) n
@@ -184,7 +184,7 @@ module _ (w : World) (kept : WorldState) (k : ℕ) (answer : Answer) (r t : RunS
   held_then run x n among (inl (same, is_t)) =
       let there = subst (λ (ns : List Name). Contains ns n) passes.slots_are (subst (λ (y : RunState Object). Contains (slots_of y) n) (sym is_t) among) in
       mine n (Contains-append_cases (slots_without (call_of given) (slots_of r)) (got_by (slot_on kept.shelves shelf) r.pc) n there)
-          ∙ ap (λ (j : ℕ). Some (Held j n.call)) (sym same)
+      ∙ ap (λ (j : ℕ). Some (Held j n.call)) (sym same)
   held_then run x n among (inr (ne, there)) = held_on run n (i.tended.placed.held run x there n among) (λ g is same. absurd (ne same))
 
   shelved_then : (other slot : ℕ) → slot_on after other ≡ Some slot → (other ≡ shelf) ⊎ (other ≢ shelf) → place_at now slot ≡ Some (Shelved other)

@@ -93,8 +93,12 @@ owner_kept w kept o h placed among = by o.holder refl where
       let here : Contains (slots_of kept_run.0) (name_of o.slot at) =
       subst (λ (ns : List Name). Contains ns (name_of o.slot at)) (h.slots run kept_run.0 kept_run.1) held in
       inl (run, at, placed.held run kept_run.0 kept_run.1 (name_of o.slot at) here, is)
-  by (Shelf shelf) e = inr (shelf, placed.shelved shelf o.slot
-      (sym (shelf_slot w kept shelf h) ∙ ap (option_map (λ (p : Owner). p.slot)) (standing_own w o shelf h.owned among e)), e)
+  by (Shelf shelf) e = inr (
+    shelf,
+    placed.shelved shelf o.slot
+        (sym (shelf_slot w kept shelf h) ∙ ap (option_map (λ (p : Owner). p.slot)) (standing_own w o shelf h.owned among e)),
+    e,
+  )
 
 -- and one that is kept as held is owned
 pub held_kept : (w : World) (kept : WorldState) (slot run at : ℕ) → Shows w kept → ArePlaced kept
@@ -107,18 +111,18 @@ held_kept w kept slot run at h placed is =
 pub object_kept : (w : World) (kept : WorldState) (k : ℕ) (r : RunState Object) (h : Holding Object) → Shows w kept
     → slice_get kept.runs k ≡ Some r → Contains r.held h
     → Contains w.owners (owner_of k (name_of h.object.slot h.call))
-      × (object_in w (owner_of k (name_of h.object.slot h.call)) ≡ object_seen (λ o. o.bytes.items) h)
+    × (object_in w (owner_of k (name_of h.object.slot h.call)) ≡ object_seen (λ o. o.bytes.items) h)
 object_kept w kept k r h shows at among =
     let run = run_shown w kept k r shows at in
     let objects : map (object_in w) (held_by w k) ≡ map (object_seen (λ (o : Object). o.bytes.items)) r.held = ap (λ (v : RunView). v.objects) run.2 in
     let seen = Contains-mapped (object_seen (λ (o : Object). o.bytes.items)) r.held h among in
     let one = Contains-unmapped (object_in w) (held_by w k) (object_seen (λ (o : Object). o.bytes.items) h)
-        (subst (λ (os : List ObjectView). Contains os (object_seen (λ (o : Object). o.bytes.items) h)) (sym objects) seen) in
+    (subst (λ (os : List ObjectView). Contains os (object_seen (λ (o : Object). o.bytes.items) h)) (sym objects) seen) in
     let its = held_owner w k one.0 one.1 in
     let call : call_of one.0.holder ≡ h.call = ap (λ (v : ObjectView). v.call) one.2 in
     let slots = Contains-mapped {Y = Name} (λ (x : Holding Object). name_of x.object.slot x.call) r.held h among in
     let owns = held_owns w k (name_of h.object.slot h.call)
-        (subst (λ (ns : List Name). Contains ns (name_of h.object.slot h.call)) (sym (shows.slots k r at)) slots) in
+    (subst (λ (ns : List Name). Contains ns (name_of h.object.slot h.call)) (sym (shows.slots k r at)) slots) in
     let same = shows.owned.holders.one_a_call one.0 (owner_of k (name_of h.object.slot h.call)) its.0 owns (its.1 ∙ ap (λ (c : ℕ). Run k c) call) in
     (owns, ap (object_in w) (sym same) ∙ one.2)
 

@@ -99,8 +99,8 @@ bytes_home w kept slot o h placed is =
     let there = (and_parts (is_in_ledger w slot) (not (is_owned w slot)) home.0).0 in
     let kind : o.kind ≡ kind_in w slot = sym (kind_in-ledger w o.kind slot h.owned home.1) in
     there_bytes w slot o.bytes.items there
-        (at.image ∙ ap (image_at known_kinds) kind ∙ ap (λ (kinds : List Kind). image_at kinds (kind_in w slot)) (sym h.kinds)
-        ∙ sym (h.owned.ledgers.imaged slot home.0))
+    (at.image ∙ ap (image_at known_kinds) kind ∙ ap (λ (kinds : List Kind). image_at kinds (kind_in w slot)) (sym h.kinds)
+    ∙ sym (h.owned.ledgers.imaged slot home.0))
 
 -- on a shelf it has those of what is there
 bytes_shelved : (w : World) (kept : WorldState) (slot shelf : ℕ) (o : Object) → Shows w kept → ArePlaced kept
@@ -139,28 +139,28 @@ bytes_held w kept slot run at r held h owns there among call =
     let same = h.owned.holders.one_a_call (owner_of run (name_of held.object.slot held.call)) (owner_of run (name_of slot at)) its.0 owns (ap (Run run) call) in
     let bytes : w.bytes held.object.slot ≡ held.object.bytes.items = ap (λ (v : ObjectView). v.bytes) its.1 in
     there_bytes w slot held.object.bytes.items (owned_there w (owner_of run (name_of slot at)) h.owned owns)
-        (sym bytes ∙ ap (λ (o : Owner). w.bytes o.slot) same)
+    (sym bytes ∙ ap (λ (o : Owner). w.bytes o.slot) same)
 
 object_held : (w : World) (kept : WorldState) (slot run at : ℕ) (r : RunState Object) → Shows w kept → ArePlaced kept
     → place_at kept.places slot ≡ Some (Held run at) → slice_get kept.runs run ≡ Some r
     → (held : Holding Object) × (find (λ (held : Holding Object). held.call == at) r.held ≡ Some held) × (Some held.object.bytes.items ≡ bytes_in w slot)
 object_held w kept slot run at r h placed is there =
     by (find (λ (held : Holding Object). held.call == at) r.held) refl (find_is (λ (held : Holding Object). held.call == at) r.held) where
-  owns : Contains w.owners (owner_of run (name_of slot at))
-  owns = held_kept w kept slot run at h placed is
+      owns : Contains w.owners (owner_of run (name_of slot at))
+      owns = held_kept w kept slot run at h placed is
 
-  among : Contains (slots_of r) (name_of slot at)
-  among = subst (λ (ns : List Name). Contains ns (name_of slot at)) (h.slots run r there) (owns_held w run (name_of slot at) owns)
+      among : Contains (slots_of r) (name_of slot at)
+      among = subst (λ (ns : List Name). Contains ns (name_of slot at)) (h.slots run r there) (owns_held w run (name_of slot at) owns)
 
-  by : (f : Option (Holding Object)) → find (λ (held : Holding Object). held.call == at) r.held ≡ f
-      → IsFound (λ (held : Holding Object). held.call == at) r.held f
-      → (held : Holding Object) × (find (λ (held : Holding Object). held.call == at) r.held ≡ Some held) × (Some held.object.bytes.items ≡ bytes_in w slot)
-  by None e none =
-      let one = call_held r slot at among in
-      let away = none one.0 one.1 in
-      let here = eq-eqb one.0.call at one.2 in
-      absurd (cc)
-  by (Some held) e found = (held, e, bytes_held w kept slot run at r held h owns there found.0 (eqb-true held.call at found.1))
+      by : (f : Option (Holding Object)) → find (λ (held : Holding Object). held.call == at) r.held ≡ f
+          → IsFound (λ (held : Holding Object). held.call == at) r.held f
+          → (held : Holding Object) × (find (λ (held : Holding Object). held.call == at) r.held ≡ Some held) × (Some held.object.bytes.items ≡ bytes_in w slot)
+      by None e none =
+          let one = call_held r slot at among in
+          let away = none one.0 one.1 in
+          let here = eq-eqb one.0.call at one.2 in
+          absurd (cc)
+      by (Some held) e found = (held, e, bytes_held w kept slot run at r held h owns there found.0 (eqb-true held.call at found.1))
 
 -- o is what the run of this number has for that call
 pub bytes_with : (w : World) (kept : WorldState) (slot run at : ℕ) (r : RunState Object) (o : Option Object) → Shows w kept

@@ -67,37 +67,41 @@ answers-set p (x ∷ xs) (suc k) (suc j) y d e = answers-set p xs k j y d e
 placed_moved : (kept : WorldState) (kind slot : ℕ) (slots : List ℕ) (place : Option Place) (places : Places) → ArePlaced kept
     → IsMoved kept kind slot slots place places → ArePlaced (with_slots kept kind slots places)
 placed_moved kept kind slot slots place places placed moved =
-    record { each = λ s. each s (cases_eq s slot); held = λ run r there n among. held run r there n among (cases_eq n.slot slot); shelved = λ shelf s stands.
-    shelved shelf s stands (cases_eq s slot) } where
-  after : WorldState
-  after = with_slots kept kind slots places
+    record {
+      each = λ s. each s (cases_eq s slot);
+      held = λ run r there n among. held run r there n among (cases_eq n.slot slot);
+      shelved = λ shelf s stands.
+          shelved shelf s stands (cases_eq s slot);
+    } where
+      after : WorldState
+      after = with_slots kept kind slots places
 
-  there : (s : ℕ) → s ≢ slot → place_at places s ≡ place_at kept.places s
-  there s ne = moved.places_are s ∙ ap (λ (t : Bool). cond t place (place_at kept.places s)) (ne_eqb s slot ne)
+      there : (s : ℕ) → s ≢ slot → place_at places s ≡ place_at kept.places s
+      there s ne = moved.places_are s ∙ ap (λ (t : Bool). cond t place (place_at kept.places s)) (ne_eqb s slot ne)
 
-  here : place_at places slot ≡ place
-  here = moved.places_are slot ∙ ap (λ (t : Bool). cond t place (place_at kept.places slot)) (eq-eqb slot slot refl)
+      here : place_at places slot ≡ place
+      here = moved.places_are slot ∙ ap (λ (t : Bool). cond t place (place_at kept.places slot)) (eq-eqb slot slot refl)
 
-  other : (s : ℕ) (p : Option Place) → s ≢ slot → IsPlaced kept s p → IsPlaced (with_slots kept kind slots places) s p
-  other s None ne is = any-set (is_in s) kept.ledgers kind slots [] (moved.others s ne) ∙ is
-  other s (Some (Home o)) ne is = record
-      { same = is.same; its = answers-set (is_in s) kept.ledgers kind o.kind slots [] (moved.others s ne) ∙ is.its; known = is.known; image = is.image }
-  other s (Some (Held run at)) ne is = is
-  other s (Some (Shelved shelf)) ne is = is
+      other : (s : ℕ) (p : Option Place) → s ≢ slot → IsPlaced kept s p → IsPlaced (with_slots kept kind slots places) s p
+      other s None ne is = any-set (is_in s) kept.ledgers kind slots [] (moved.others s ne) ∙ is
+      other s (Some (Home o)) ne is = record
+          { same = is.same; its = answers-set (is_in s) kept.ledgers kind o.kind slots [] (moved.others s ne) ∙ is.its; known = is.known; image = is.image }
+      other s (Some (Held run at)) ne is = is
+      other s (Some (Shelved shelf)) ne is = is
 
-  each : (s : ℕ) → (s ≡ slot) ⊎ (s ≢ slot) → IsPlaced (with_slots kept kind slots places) s (place_at places s)
-  each s (inl e) = subst (λ (k : ℕ). IsPlaced (with_slots kept kind slots places) k (place_at places k)) (sym e)
-      (subst (IsPlaced (with_slots kept kind slots places) slot) (sym here) moved.fits)
-  each s (inr ne) = subst (IsPlaced (with_slots kept kind slots places) s) (sym (there s ne)) (other s (place_at kept.places s) ne (placed.each s))
+      each : (s : ℕ) → (s ≡ slot) ⊎ (s ≢ slot) → IsPlaced (with_slots kept kind slots places) s (place_at places s)
+      each s (inl e) = subst (λ (k : ℕ). IsPlaced (with_slots kept kind slots places) k (place_at places k)) (sym e)
+          (subst (IsPlaced (with_slots kept kind slots places) slot) (sym here) moved.fits)
+      each s (inr ne) = subst (IsPlaced (with_slots kept kind slots places) s) (sym (there s ne)) (other s (place_at kept.places s) ne (placed.each s))
 
-  held : (run : ℕ) (r : RunState Object) → slice_get kept.runs run ≡ Some r → (n : Name) → Contains (slots_of r) n
-      → (n.slot ≡ slot) ⊎ (n.slot ≢ slot) → place_at places n.slot ≡ Some (Held run n.call)
-  held run r at n among (inl e) = absurd (moved.unheld run n.call (ap (place_at kept.places) (sym e) ∙ placed.held run r at n among))
-  held run r at n among (inr ne) = there n.slot ne ∙ placed.held run r at n among
+      held : (run : ℕ) (r : RunState Object) → slice_get kept.runs run ≡ Some r → (n : Name) → Contains (slots_of r) n
+          → (n.slot ≡ slot) ⊎ (n.slot ≢ slot) → place_at places n.slot ≡ Some (Held run n.call)
+      held run r at n among (inl e) = absurd (moved.unheld run n.call (ap (place_at kept.places) (sym e) ∙ placed.held run r at n among))
+      held run r at n among (inr ne) = there n.slot ne ∙ placed.held run r at n among
 
-  shelved : (shelf s : ℕ) → slot_on kept.shelves shelf ≡ Some s → (s ≡ slot) ⊎ (s ≢ slot) → place_at places s ≡ Some (Shelved shelf)
-  shelved shelf s stands (inl e) = absurd (moved.unshelved shelf (ap (place_at kept.places) (sym e) ∙ placed.shelved shelf s stands))
-  shelved shelf s stands (inr ne) = there s ne ∙ placed.shelved shelf s stands
+      shelved : (shelf s : ℕ) → slot_on kept.shelves shelf ≡ Some s → (s ≡ slot) ⊎ (s ≢ slot) → place_at places s ≡ Some (Shelved shelf)
+      shelved shelf s stands (inl e) = absurd (moved.unshelved shelf (ap (place_at kept.places) (sym e) ∙ placed.shelved shelf s stands))
+      shelved shelf s stands (inr ne) = there s ne ∙ placed.shelved shelf s stands
 
 -- ---- a kind that there isn't
 
@@ -179,10 +183,13 @@ pub grow_done : (w : World) (kept : WorldState) (kind slot : ℕ) (o : Object) (
 grow_done w kept kind slot o ledgers places h placed grown =
     let new = is_new w kept kind slot h placed grown.known grown.free in
     let is_known = lt-ltb kind (length w.kinds) new.kind_is in
-    let fresh = new.fresh in
-    (with_slot_joined kind slot w, rw (is_known, fresh) refl, subst
-        (λ (ls : List (List ℕ)). Shows (with_slot_joined kind slot w) (record kept { ledgers = ls; places = places })) (sym grown.ledgers_are)
-        (joined_shows w kept kind slot places h new))
+    let fresh = new.fresh in (
+      with_slot_joined kind slot w,
+      rw (is_known, fresh) refl,
+      subst
+          (λ (ls : List (List ℕ)). Shows (with_slot_joined kind slot w) (record kept { ledgers = ls; places = places })) (sym grown.ledgers_are)
+          (joined_shows w kept kind slot places h new),
+    )
 
 grown_moved : (w : World) (kept : WorldState) (kind slot : ℕ) (o : Object) (ledgers : List (List ℕ)) (places : Places)
     → Shows w kept → ArePlaced kept → IsGrown kept kind slot o ledgers places
@@ -192,8 +199,13 @@ grown_moved w kept kind slot o ledgers places h placed grown = record {
   unheld = λ run at e. let free = grown.free in let some = ap is_some e in absurd (cc);
   unshelved = λ shelf e. let free = grown.free in let some = ap is_some e in absurd (cc);
   places_are = grown.places_are;
-  fits = record { same = same; its = its; known = subst (λ (k : ℕ). k < length known_kinds) (sym of_kind) grown.known; image =
-      image ∙ ap (image_at known_kinds) (sym of_kind) };
+  fits = record {
+    same = same;
+    its = its;
+    known = subst (λ (k : ℕ). k < length known_kinds) (sym of_kind) grown.known;
+    image =
+        image ∙ ap (image_at known_kinds) (sym of_kind);
+  };
 }
   where
     same : o.slot ≡ slot
@@ -219,7 +231,7 @@ grow_tended kept kind slot o ledgers places tended grown =
     let h = tended.shown.1 in
     let next = grow_done w kept kind slot o ledgers places h tended.placed grown in
     let moved = placed_moved kept kind slot (with_slot slot (kept_of kept kind)) (Some (Home o)) places tended.placed
-        (grown_moved w kept kind slot o ledgers places h tended.placed grown) in
+    (grown_moved w kept kind slot o ledgers places h tended.placed grown) in
     record {
       known = tended.known;
       runs = tended.runs;
@@ -235,7 +247,7 @@ not_in_one (slots ∷ ledgers) (suc kind) slot none = not_in_one ledgers kind sl
 
 parted_again : (ledgers : List (List ℕ)) (kind slot : ℕ) → is_in slot (slice_index_or ledgers kind []) ≡ false
     → slice_set (slice_set ledgers kind (with_slot slot (slice_index_or ledgers kind []))) kind
-      (without_slot slot (slice_index_or (slice_set ledgers kind (with_slot slot (slice_index_or ledgers kind []))) kind [])) ≡ ledgers
+    (without_slot slot (slice_index_or (slice_set ledgers kind (with_slot slot (slice_index_or ledgers kind []))) kind [])) ≡ ledgers
 parted_again [] kind slot new = refl
 parted_again (slots ∷ ledgers) zero slot new = ap (λ (l : List ℕ). l ∷ ledgers) (parted_joined slot slots new)
 parted_again (slots ∷ ledgers) (suc kind) slot new = ap (λ (ls : List (List ℕ)). slots ∷ ls) (parted_again ledgers kind slot new)
@@ -309,10 +321,13 @@ pub reap_done : (w : World) (kept : WorldState) (kind slot : ℕ) (ledgers : Lis
 reap_done w kept kind slot ledgers places h placed reaped =
     let reapable = is_reapable w kept kind slot h placed reaped.home in
     let is_known = lt-ltb kind (length w.kinds) (known w kept kind h reaped.known) in
-    let its = and_from (is_home w slot) (is_in slot (ledger_of w kind)) reapable.home reapable.its in
-    (with_slot_left kind slot w, rw (is_known, its) refl, subst
-        (λ (ls : List (List ℕ)). Shows (with_slot_left kind slot w) (record kept { ledgers = ls; places = places })) (sym reaped.ledgers_are)
-        (parted_shows w kept kind slot places h reapable))
+    let its = and_from (is_home w slot) (is_in slot (ledger_of w kind)) reapable.home reapable.its in (
+      with_slot_left kind slot w,
+      rw (is_known, its) refl,
+      subst
+          (λ (ls : List (List ℕ)). Shows (with_slot_left kind slot w) (record kept { ledgers = ls; places = places })) (sym reaped.ledgers_are)
+          (parted_shows w kept kind slot places h reapable),
+    )
 
 reaped_moved : (w : World) (kept : WorldState) (kind slot : ℕ) (ledgers : List (List ℕ)) (places : Places) → Shows w kept
     → ArePlaced kept → IsReaped kept kind slot ledgers places
@@ -333,7 +348,7 @@ reap_tended kept kind slot ledgers places tended reaped =
     let h = tended.shown.1 in
     let next = reap_done w kept kind slot ledgers places h tended.placed reaped in
     let moved = placed_moved kept kind slot (without_slot slot (kept_of kept kind)) None places tended.placed
-        (reaped_moved w kept kind slot ledgers places h tended.placed reaped) in
+    (reaped_moved w kept kind slot ledgers places h tended.placed reaped) in
     record {
       known = tended.known;
       runs = tended.runs;

@@ -143,9 +143,12 @@ starting_pushed programs program s context w kept r runs kinds h at fits first p
 -- ---- what always holds
 
 placed_started : (kept : WorldState) (r : RunState Object) → slots_of r ≡ [] → ArePlaced kept → ArePlaced (with_started kept r)
-placed_started kept r none placed = record
-    { each = λ slot. by (place_at kept.places slot) slot (placed.each slot); held = λ run t at n among.
-    held run t n among (get_push_cases kept.runs run t r at) at; shelved = placed.shelved } where
+placed_started kept r none placed = record {
+  each = λ slot. by (place_at kept.places slot) slot (placed.each slot);
+  held = λ run t at n among.
+      held run t n among (get_push_cases kept.runs run t r at) at;
+  shelved = placed.shelved;
+} where
   by : (p : Option Place) (slot : ℕ) → IsPlaced kept slot p → IsPlaced (with_started kept r) slot p
   by None slot is = is
   by (Some (Home o)) slot is = record { same = is.same; its = is.its; known = is.known; image = is.image }

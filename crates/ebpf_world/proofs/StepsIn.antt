@@ -29,9 +29,9 @@ pub stepped_in : {S : Type 0} (s : Store S Object) (o : Option ℕ) (lent freed 
     → was ≡ lent → freed ≡ here → stood ≡ before → after ≡ stand → s.outs old ≡ out_of_kind was stood
     → s.outs new ≡ out_of_kind here stand → s.slot_of ≡ (λ x. x.slot)
     → IfNone o ((served : Served) × MayAnswer (offers was stood) r.pc (asking_in (run_seen r)) served
-      × IsStep s served (run_seen r) (run_seen t) r.held t.held old new
+    × IsStep s served (run_seen r) (run_seen t) r.held t.held old new
     × ((shelf : ℕ) (what : Option Shelved) → what ≡ standing_on stood shelf
-        → shelf_done (shelved_from as_shelved r.held) (effect_of_view (run_seen r)) shelf what ≡ standing_on stand shelf))
+    → shelf_done (shelved_from as_shelved r.held) (effect_of_view (run_seen r)) shelf what ≡ standing_on stand shelf))
     → ((h : Holding Object) → Contains r.held h → All (λ k. k.object.slot ≢ h.object.slot) t.held → IsOut here stand h.object → ⊥)
     → IfSome freed IsNewObject → IfNone o (IsStepped lent freed before after r t)
 stepped_in s (Some n) lent freed was here before after stood stand r t old new l f b a outs outs_new slots step gone image = tt
@@ -43,11 +43,11 @@ stepped_in s None lent freed was here before after stood stand r t old new l f b
   event = subst (λ (slot_of : Object → ℕ). IsEvent served (run_seen r) (run_seen t) (slots_kept slot_of r.held) (slots_kept slot_of t.held)) slots step.event;
   of_kind = λ kind.
       let freed_is = ap (λ (x : Option Object). out_of_kind x after kind + held_of_kind r.held kind) f
-          ∙ ap (λ (xs : List (Option Object)). out_of_kind here xs kind + held_of_kind r.held kind) a in
+      ∙ ap (λ (xs : List (Option Object)). out_of_kind here xs kind + held_of_kind r.held kind) a in
       let new_is = ap (λ (g : ℕ → ℕ). g kind + held_of_kind r.held kind) (sym outs_new) in
       let old_is = ap (λ (g : ℕ → ℕ). g kind + held_of_kind t.held kind) outs in
       let lent_is = ap (λ (x : Option Object). out_of_kind x stood kind + held_of_kind t.held kind) l
-          ∙ ap (λ (xs : List (Option Object)). out_of_kind lent xs kind + held_of_kind t.held kind) b in
+      ∙ ap (λ (xs : List (Option Object)). out_of_kind lent xs kind + held_of_kind t.held kind) b in
       freed_is ∙ new_is ∙ step.store.outs kind ∙ old_is ∙ lent_is;
   gone = λ h among all out. gone h among all
       (subst (λ (x : Option Object). IsOut x stand h.object) f (subst (λ (xs : List (Option Object)). IsOut freed xs h.object) a out));

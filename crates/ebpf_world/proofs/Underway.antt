@@ -42,7 +42,7 @@ underway_next programs events index old new e lt at h done same =
     let left : drop index events ≡ e ∷ drop (index + 1) events = next_event events index e lt ∙ ap (λ (x : Event). x ∷ drop (index + 1) events) (sym at) in
     let led : world_after_from programs (e ∷ drop (index + 1) events) index h.world ≡ world_after_from programs (drop (index + 1) events) (index + 1) after.0 =
     world_after_next programs e (drop (index + 1) events) index h.world
-        ∙ ap (λ (r : Result World Illegal). and_then r index (world_after_from programs (drop (index + 1) events) (index + 1))) goes in
+    ∙ ap (λ (r : Result World Illegal). and_then r index (world_after_from programs (drop (index + 1) events) (index + 1))) goes in
     record {
       world = after.0;
       shows = after.2;
@@ -60,7 +60,7 @@ underway_refused programs events index old e code lt at h refused =
     let left : drop index events ≡ e ∷ drop (index + 1) events = next_event events index e lt ∙ ap (λ (x : Event). x ∷ drop (index + 1) events) (sym at) in
     let led : world_after_from programs (e ∷ drop (index + 1) events) index h.world ≡ Err (index, why.0) =
     world_after_next programs e (drop (index + 1) events) index h.world
-        ∙ ap (λ (r : Result World Illegal). and_then r index (world_after_from programs (drop (index + 1) events) (index + 1))) bad in
+    ∙ ap (λ (r : Result World Illegal). and_then r index (world_after_from programs (drop (index + 1) events) (index + 1))) bad in
     (why.0, sym h.rest ∙ ap (λ (es : List Event). world_after_from programs es index h.world) left ∙ led, why.2)
 
 -- all events took place

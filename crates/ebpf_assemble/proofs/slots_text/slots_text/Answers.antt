@@ -7,7 +7,7 @@ loop-slot-preserved c =
     let steps = c.in-Some.ensures.steps in
     let size = c.loop-slot.invariant.2 in
     let written = line_of_digits _ _ _ _ c.in-Some.slot.now (c.deref.ensures ∙ c.in_ok-digits.ensures) c.in_ok-push_str.ensures.bytes
-        c.in_ok-push_str-2.ensures.bytes in (
+    c.in_ok-push_str-2.ensures.bytes in (
       search rules,
       tt,
       steps.0 ∙ size,

@@ -11,9 +11,9 @@ returns-in_err-number c =
 pub returns-then-first-eq45 : goal.returns-then-first-eq45
 returns-then-first-eq45 c =
     minus_read _ _ _ c.in_ok-number.field-0 c.negative.result c.in_ok-first.ensures.cases.0 c.if-first-eq45.true c.in_ok-number.ensures.0
-        c.in_ok-number.ensures.1 c.negative.ensures
+    c.in_ok-number.ensures.1 c.negative.ensures
 
 pub returns : goal.returns
 returns c =
     plain_read _ _ _ c.in_ok-number-2.field-0 c.positive.result c.in_ok-first.ensures.cases.0 c.if-first-eq45.false c.in_ok-number-2.ensures.0
-        c.in_ok-number-2.ensures.1 c.positive.ensures
+    c.in_ok-number-2.ensures.1 c.positive.ensures

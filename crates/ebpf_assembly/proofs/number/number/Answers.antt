@@ -22,4 +22,4 @@ returns-in_default c = λ n small. no_bytes _ n c.in_default.ensures.cases.0 sma
 pub returns : goal.returns
 returns c =
     rw c.ok.ensures.value (parsed _ _ _ c.parse.result c.in_ok-first.ensures.cases.0 c.if-first-eq43.false c.if-first-eq48.false
-        (rw c.in-Ok.ensures.cases.0 at c.parse.ensures.value.0))
+    (rw c.in-Ok.ensures.cases.0 at c.parse.ensures.value.0))

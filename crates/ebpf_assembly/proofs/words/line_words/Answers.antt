@@ -10,6 +10,6 @@ pub returns : goal.returns
 returns c =
     rw (ap (λ (line : List ℕ). filter is_word (slice_split is_gap line)) (sym c.uncommented.ensures))
     (map_from_collect _ c.collect.ensures.ran
-        (YieldsList-from_filter _ _ (YieldsList-at c.filter.ensures.source
-        (YieldsList-from_slice_split _ _ c.uncommented.result.now c.split.ensures.rest c.split.ensures.done c.split.ensures.closure
-        (λ x r q k. search (rules, tests)))) c.filter.ensures.closure (λ x r q k. search (rules, tests))))
+    (YieldsList-from_filter _ _ (YieldsList-at c.filter.ensures.source
+    (YieldsList-from_slice_split _ _ c.uncommented.result.now c.split.ensures.rest c.split.ensures.done c.split.ensures.closure
+    (λ x r q k. search (rules, tests)))) c.filter.ensures.closure (λ x r q k. search (rules, tests))))

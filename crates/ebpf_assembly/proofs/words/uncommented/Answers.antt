@@ -7,11 +7,11 @@ use Rattle.ebpf_assembly.proofs.words.uncommented.Goals as goal
 pub returns-in-Some : goal.returns-in-Some
 returns-in-Some c =
     cut c.args.line.now c.in-Some.end (sym c.in-Some.is
-        ∙ position_from_yields_List is_semicolon _ _ c.position.result c.position.ensures.ran (YieldsList-from_slice c.args.line.now c.iter.ensures.rest)
-        (λ x b q k. search (rules, tests)))
+    ∙ position_from_yields_List is_semicolon _ _ c.position.result c.position.ensures.ran (YieldsList-from_slice c.args.line.now c.iter.ensures.rest)
+    (λ x b q k. search (rules, tests)))
 
 pub returns-in-None : goal.returns-in-None
 returns-in-None c =
     whole_line c.args.line.now (sym c.in-None.is
-        ∙ position_from_yields_List is_semicolon _ _ c.position.result c.position.ensures.ran (YieldsList-from_slice c.args.line.now c.iter.ensures.rest)
-        (λ x b q k. search (rules, tests)))
+    ∙ position_from_yields_List is_semicolon _ _ c.position.result c.position.ensures.ran (YieldsList-from_slice c.args.line.now c.iter.ensures.rest)
+    (λ x b q k. search (rules, tests)))

@@ -8,7 +8,7 @@ use Rattle.ebpf_explain.proofs.decode_sentence.write_words.Goals as goal
 pub returns-in_ok-write_byte-in-UnknownOpcode : goal.returns-in_ok-write_byte-in-UnknownOpcode
 returns-in_ok-write_byte-in-UnknownOpcode c =
     rw c.in-UnknownOpcode.is (pushed_behind_number _ _ _ _ _ (codes "slot ") (decimal c.args.slot) (codes " has the opcode 0x") _ _
-        c.in_ok-write-in-UnknownOpcode.ensures.bytes
+    c.in_ok-write-in-UnknownOpcode.ensures.bytes
     c.in_ok-write_byte-in-UnknownOpcode.ensures c.push_str.ensures.bytes)
 
 pub returns-in-ProgramTooLong : goal.returns-in-ProgramTooLong

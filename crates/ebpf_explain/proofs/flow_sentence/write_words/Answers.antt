@@ -7,7 +7,7 @@ use Rattle.ebpf_explain.proofs.flow_sentence.write_words.Goals as goal
 pub returns-in_ok-write_jump-in-JumpBackward : goal.returns-in_ok-write_jump-in-JumpBackward
 returns-in_ok-write_jump-in-JumpBackward c =
     rw c.in-JumpBackward.is (pushed_third _ _ _ _ _ _ _ _ c.in_ok-push_str-in-JumpBackward.ensures.bytes c.in_ok-write_jump-in-JumpBackward.ensures
-        c.push_str-in-JumpBackward-2.ensures.bytes)
+    c.push_str-in-JumpBackward-2.ensures.bytes)
 
 pub returns-in-FallsOffEnd : goal.returns-in-FallsOffEnd
 returns-in-FallsOffEnd c = rw c.in-FallsOffEnd.is

@@ -49,7 +49,7 @@ pub returns-in-OutsideObject : goal.returns-in-OutsideObject
 returns-in-OutsideObject c =
     told _ _ _ c.args.insn.now c.args.state.now _ _ c.args.decl c.args.rows.now c.in-OutsideObject.is (subst (λ (a : Access). OnOk c.write_outside_object.result
     (string_bytes c.write_outside_object.new.text ≡ string_bytes c.args.text.now
-        ++ outside_object a c.args.state.now (codes ", and the object has ") c.args.rows.now))
+    ++ outside_object a c.args.state.now (codes ", and the object has ") c.args.rows.now))
     c.access_of-in-OutsideObject.ensures c.write_outside_object.ensures)
 
 pub returns-in-UntestedAnswer : goal.returns-in-UntestedAnswer

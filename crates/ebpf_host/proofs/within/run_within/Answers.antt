@@ -24,7 +24,7 @@ ran g c =
     let o = g.O.Objects.store in
     let start = starts o c.args.objects.now _ _ c.in_ok-run.run' c.in_ok-run.ensures.started (c.in_ok-run.ensures.sound _) in
     under_way o _ _ _ _ _ _ c.in_ok-run.run' c.run.new.self g.met.O.Objects.has_size (c.requires.kinds ∙ sym c.args.program.now.kinds) start
-        c.run.ensures.turns.turns
+    c.run.ensures.turns.turns
 
 pub returns-clause-goes : goal.returns-clause-goes
 returns-clause-goes g c = goes_last g.O.Objects.store _ _ _ c.run.new.self _ (ran g c).told c.end.ensures.goes c.end.ensures.answers
@@ -40,7 +40,7 @@ returns-clause-shelves g c =
     let end = c.end.ensures in
     let started = c.in_ok-run.ensures.started in
     leaves o c.args.objects.now c.run.new.objects _ _ _ c.run.ensures.turns.number c.in_ok-run.run' c.run.new.self c.end.result.0 g.met.O.Objects.has_size
-        (c.requires.kinds ∙ sym c.args.program.now.kinds)
+    (c.requires.kinds ∙ sym c.args.program.now.kinds)
     (starts o c.args.objects.now _ _ c.in_ok-run.run' started (c.in_ok-run.ensures.sound _)) (ap (λ (r : RunState _). r.executed) started)
-        c.run.ensures.turns.turns end.shelves end.executed
+    c.run.ensures.turns.turns end.shelves end.executed
     (λ i. replies_from (end.answers i) (end.taken i))

@@ -17,10 +17,15 @@ new-requires-clause-formed c =
     let o = c.in_ok-order.order in
     let w = c.in_ok-code.field-0 in
     let done : IsDone p o.marks.items o.slots.items w.places.items w.code.items w.count =
-    record { ordered = c.in_ok-order.ensures.ordered; fine = c.in_ok-check_edges.ensures.fine; writing = c.in_ok-code.ensures.written; all =
-        c.in_ok-code.ensures.all } in
+    record {
+      ordered = c.in_ok-order.ensures.ordered;
+      fine = c.in_ok-check_edges.ensures.fine;
+      writing = c.in_ok-code.ensures.written;
+      all =
+          c.in_ok-code.ensures.all;
+    } in
     rw c.reverse.ensures.items (well_formed w.code.items w.count done.writing.coded
-        (some_code p o.marks.items o.slots.items w.places.items w.code.items w.count done)
+    (some_code p o.marks.items o.slots.items w.places.items w.code.items w.count done)
     (omega (arith, c.len.ensures, c.if-len-gt-MAX_SLOTS.false, w.code.ok.0)))
 
 pub returns-then-len-gt-MAX_SLOTS-clause-refused : goal.returns-then-len-gt-MAX_SLOTS-clause-refused
@@ -29,10 +34,18 @@ returns-then-len-gt-MAX_SLOTS-clause-refused c =
     let o = c.in_ok-order.order in
     let w = c.in_ok-code.field-0 in
     let done : IsDone p o.marks.items o.slots.items w.places.items w.code.items w.count =
-    record { ordered = c.in_ok-order.ensures.ordered; fine = c.in_ok-check_edges.ensures.fine; writing = c.in_ok-code.ensures.written; all =
-        c.in_ok-code.ensures.all } in
-    (reverse w.code.items, is_laid_out p o.marks.items o.slots.items w.places.items w.code.items w.count done, omega
-        (arith, length-reverse w.code.items, c.len.ensures, c.if-len-gt-MAX_SLOTS.true, w.code.ok.0))
+    record {
+      ordered = c.in_ok-order.ensures.ordered;
+      fine = c.in_ok-check_edges.ensures.fine;
+      writing = c.in_ok-code.ensures.written;
+      all =
+          c.in_ok-code.ensures.all;
+    } in (
+      reverse w.code.items,
+      is_laid_out p o.marks.items o.slots.items w.places.items w.code.items w.count done,
+      omega
+          (arith, length-reverse w.code.items, c.len.ensures, c.if-len-gt-MAX_SLOTS.true, w.code.ok.0),
+    )
 
 pub returns-clause-laid_out : goal.returns-clause-laid_out
 returns-clause-laid_out c =
@@ -40,8 +53,13 @@ returns-clause-laid_out c =
     let o = c.in_ok-order.order in
     let w = c.in_ok-code.field-0 in
     let done : IsDone p o.marks.items o.slots.items w.places.items w.code.items w.count =
-    record { ordered = c.in_ok-order.ensures.ordered; fine = c.in_ok-check_edges.ensures.fine; writing = c.in_ok-code.ensures.written; all =
-        c.in_ok-code.ensures.all } in
+    record {
+      ordered = c.in_ok-order.ensures.ordered;
+      fine = c.in_ok-check_edges.ensures.fine;
+      writing = c.in_ok-code.ensures.written;
+      all =
+          c.in_ok-code.ensures.all;
+    } in
     rw (c.new.ensures, c.reverse.ensures.items) (is_laid_out p o.marks.items o.slots.items w.places.items w.code.items w.count done)
 
 pub returns-clause-alike : goal.returns-clause-alike
@@ -50,8 +68,13 @@ returns-clause-alike c =
     let o = c.in_ok-order.order in
     let w = c.in_ok-code.field-0 in
     let done : IsDone p o.marks.items o.slots.items w.places.items w.code.items w.count =
-    record { ordered = c.in_ok-order.ensures.ordered; fine = c.in_ok-check_edges.ensures.fine; writing = c.in_ok-code.ensures.written; all =
-        c.in_ok-code.ensures.all } in
+    record {
+      ordered = c.in_ok-order.ensures.ordered;
+      fine = c.in_ok-check_edges.ensures.fine;
+      writing = c.in_ok-code.ensures.written;
+      all =
+          c.in_ok-code.ensures.all;
+    } in
     rw (c.new.ensures, c.reverse.ensures.items) (run_alike p _ (is_laid_out p o.marks.items o.slots.items w.places.items w.code.items w.count done))
 
 pub returns-clause-fine : goal.returns-clause-fine
@@ -60,8 +83,13 @@ returns-clause-fine c =
     let o = c.in_ok-order.order in
     let w = c.in_ok-code.field-0 in
     let done : IsDone p o.marks.items o.slots.items w.places.items w.code.items w.count =
-    record { ordered = c.in_ok-order.ensures.ordered; fine = c.in_ok-check_edges.ensures.fine; writing = c.in_ok-code.ensures.written; all =
-        c.in_ok-code.ensures.all } in
+    record {
+      ordered = c.in_ok-order.ensures.ordered;
+      fine = c.in_ok-check_edges.ensures.fine;
+      writing = c.in_ok-code.ensures.written;
+      all =
+          c.in_ok-code.ensures.all;
+    } in
     rw (c.new.ensures, c.reverse.ensures.items)
     (flow_is_fine p _ (is_laid_out p o.marks.items o.slots.items w.places.items w.code.items w.count done) done.ordered.formed done.fine
     (λ k i e. jumps_forward p o.marks.items o.slots.items w.places.items w.code.items w.count k i done e))
@@ -70,7 +98,7 @@ pub returns-then-branch-clause-laid_out : goal.returns-then-branch-clause-laid_o
 returns-then-branch-clause-laid_out c =
     let p = c.args.program.now in
     subst (λ (q : List (Option Insn)). IsLaidOut p q) (sym c.in_ok-copy_of.ensures)
-        (kept p c.slots.ensures.formed (c.in_ok-is_in_order.ensures.yes c.if-branch.true))
+    (kept p c.slots.ensures.formed (c.in_ok-is_in_order.ensures.yes c.if-branch.true))
 
 pub returns-then-branch-clause-fine : goal.returns-then-branch-clause-fine
 returns-then-branch-clause-fine c =
@@ -80,4 +108,4 @@ pub returns-then-branch-clause-alike : goal.returns-then-branch-clause-alike
 returns-then-branch-clause-alike c =
     let p = c.args.program.now in
     run_alike p _ (subst (λ (q : List (Option Insn)). IsLaidOut p q) (sym c.in_ok-copy_of.ensures)
-        (kept p c.slots.ensures.formed (c.in_ok-is_in_order.ensures.yes c.if-branch.true)))
+    (kept p c.slots.ensures.formed (c.in_ok-is_in_order.ensures.yes c.if-branch.true)))

@@ -19,7 +19,7 @@ lowered-top-requires c k le =
     let i = c.loop-slot.invariant in
     let inside = slot_inside p f.marks.items f.slots.items o.marks.items o.slots.items c.loop-slot.slot c.requires i.placing i.next in
     rw c.in_ok-push.ensures.marks (left_none f.marks.items o.marks.items c.loop-slot.slot (length o.slots.items) k (omega (arith, i.placing.all))
-        (i.above k le))
+    (i.above k le))
 
 pub loop-slot-smaller : goal.loop-slot-smaller
 loop-slot-smaller c =
@@ -30,7 +30,7 @@ loop-slot-smaller c =
     let inside = slot_inside p f.marks.items f.slots.items o.marks.items o.slots.items c.loop-slot.slot c.requires i.placing i.next in
     rw c.in_ok-push.ensures.marks
     (smaller_done o.marks.items c.loop-slot.slot (length o.slots.items) (omega (arith, i.placing.all))
-        (may_go p f.marks.items o.marks.items c.loop-slot.slot i.next.ready).left)
+    (may_go p f.marks.items o.marks.items c.loop-slot.slot i.next.ready).left)
 
 pub loop-slot-preserved : goal.loop-slot-preserved
 loop-slot-preserved c =
@@ -56,7 +56,7 @@ returns-clause-ordered c =
     let zero : c.loop-slot.slot ≡ 0 = omega arith in
     rw (c.in_ok-push-2.ensures.marks, c.in_ok-push-2.ensures.slots)
     (all_placed p _ o.slots.items c.loop-slot.slot zero
-        (placed_more p f.marks.items f.slots.items o.marks.items o.slots.items c.loop-slot.slot c.requires i.placing i.next))
+    (placed_more p f.marks.items f.slots.items o.marks.items o.slots.items c.loop-slot.slot c.requires i.placing i.next))
 
 pub returns-clause-neighbours : goal.returns-clause-neighbours
 returns-clause-neighbours c =

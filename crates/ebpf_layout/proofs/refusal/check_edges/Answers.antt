@@ -12,11 +12,11 @@ pub returns-in-Some-clause-refused : goal.returns-in-Some-clause-refused
 returns-in-Some-clause-refused c =
     let found = c.in-Some.ensures.found in
     lowest_fault c.args.program.now c.args.order.now.marks.items c.args.order.now.slots.items c.loop-slot.slot c.in-Some.code c.requires c.loop-slot.invariant
-        found.0 found.1
+    found.0 found.1
 
 pub returns-clause-fine : goal.returns-clause-fine
 returns-clause-fine c slot reached =
     let p = c.args.program.now in
     let all : c.loop-slot.slot ≡ length p = omega (arith, c.slots-slot-end.ensures.value) in
     all_fine p c.args.order.now.marks.items c.args.order.now.slots.items slot c.requires
-        (subst (AreFine p c.args.order.now.marks.items) all c.loop-slot.invariant) reached
+    (subst (AreFine p c.args.order.now.marks.items) all c.loop-slot.invariant) reached

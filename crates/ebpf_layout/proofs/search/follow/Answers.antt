@@ -17,7 +17,7 @@ returns-in_err-to-clause-refused c =
     let s = c.args.search.now in
     let p = err_from_is_err_and c.from_residual.result c.from_residual.ensures.1 in
     rw (p.1, p.2) (follow_refused c.args.program.now s.marks.items s.path.items s.order.items c.args.slot c.args.edge c.in_err-to.field-0.0 c.requires.so_far
-        c.requires.last c.requires.edge c.in_err-to.ensures.closes)
+    c.requires.last c.requires.edge c.in_err-to.ensures.closes)
 
 pub enter-requires : goal.enter-requires
 enter-requires c =
@@ -31,7 +31,7 @@ returns-in_ok-enter-in-Some-clause-so_far c on =
     let found = some_at c.in_ok-to.field-0 c.in-Some.to _ c.in-Some.is c.in_ok-to.ensures.found in
     rw (c.in_ok-enter-in-Some.ensures.marks, c.in_ok-enter-in-Some.ensures.path, c.in_ok-enter-in-Some.ensures.order)
     (follow_enters c.args.program.now s.marks.items s.path.items s.order.items c.args.slot c.args.edge c.in-Some.to c.requires.so_far c.requires.last
-        c.requires.edge found.0 found.1)
+    c.requires.edge found.0 found.1)
 
 pub returns-in_ok-enter-in-Some-clause-smaller : goal.returns-in_ok-enter-in-Some-clause-smaller
 returns-in_ok-enter-in-Some-clause-smaller c on =

@@ -16,5 +16,5 @@ returns-clause-code c =
     let i = c.args.insn in
     let written : c.push.new.self.items ≡ code ++ reverse (placed i) =
     c.in_ok-push.ensures.items ∙ ap (λ (x : List (Option Insn)). x ++ Some i ∷ []) c.in_ok-push_half.ensures ∙ append_assoc code (half_of i) (Some i ∷ [])
-        ∙ ap (λ (x : List (Option Insn)). code ++ x) (halves i) in
+    ∙ ap (λ (x : List (Option Insn)). code ++ x) (halves i) in
     rw written (code_more code c.args.writer.now.count i c.requires.code c.requires.defined c.requires.room)

@@ -11,11 +11,11 @@ pub returns-in-Some-clause-refused : goal.returns-in-Some-clause-refused
 returns-in-Some-clause-refused c =
     let f = c.args.functions in
     let calls = subst (λ (x : List ℕ). IsCalling f.symbols.now f.strings.now f.header.sections c.in-Ok.function.place x c.calling-outside.result)
-        c.in-Ok.ensures.found.code c.calling-outside.ensures in
+    c.in-Ok.ensures.found.code c.calling-outside.ensures in
     let none : HasNone f.file.now c.in-Ok.function.place = rw c.in-Ok-None.field-0-is at c.in-Ok-None.ensures.found in
     inr (c.in-Ok.function.place, c.in-Ok.ensures.found.place, inr (c.calling-outside.result, refl, inr (none, calls)))
 
 pub relocated-outside-requires-clause-section : goal.relocated-outside-requires-clause-section
 relocated-outside-requires-clause-section c =
     place_section c.args.functions.file.now c.args.functions.symbols.now c.args.number c.in-Ok.function.place c.args.functions.header
-        c.requires.functions.header c.requires.function c.in-Ok.ensures.found.place
+    c.requires.functions.header c.requires.function c.in-Ok.ensures.found.place

@@ -16,7 +16,7 @@ returns-in-Some-clause-found c =
     let f = c.in-Ok.functions in
     let are = c.in-Ok.ensures.found in
     let first = found_named c.args.file.now f.symbols.now f.strings.now c.args.name.now f.header.sections _ (Some c.in-Some.number)
-        (count_of c.args.file.now f are) c.in-Some.ensures in
+    (count_of c.args.file.now f are) c.in-Some.ensures in
     named_found c.args.file.now c.args.name.now f c.in-Some.number c.function_at.result are first c.function_at.ensures.found
 
 pub returns-in-Some-clause-refused : goal.returns-in-Some-clause-refused
@@ -24,5 +24,5 @@ returns-in-Some-clause-refused c =
     let f = c.in-Ok.functions in
     let are = c.in-Ok.ensures.found in
     let first = found_named c.args.file.now f.symbols.now f.strings.now c.args.name.now f.header.sections _ (Some c.in-Some.number)
-        (count_of c.args.file.now f are) c.in-Some.ensures in
+    (count_of c.args.file.now f are) c.in-Some.ensures in
     named_refused c.args.file.now c.args.name.now f c.in-Some.number c.function_at.result are c.if-name-gt-MOST_NAME.false first c.function_at.ensures.refused

@@ -9,7 +9,7 @@ returns-in-None-clause-refused c =
 pub returns-in-Some-next-clause-refused : goal.returns-in-Some-next-clause-refused
 returns-in-Some-next-clause-refused c =
     let two = are_two c.args.file.now c.in-Ok.functions c.in-Some.first.number c.in-Some-next.field-0.number c.in-Ok.ensures.found c.in-Some.ensures.0
-        c.in-Some-next.ensures.0 in
+    c.in-Some-next.ensures.0 in
     inr (c.in-Ok.functions, c.in-Ok.ensures.found, inr (inl (refl, two)))
 
 pub returns-in-None-next-clause-found : goal.returns-in-None-next-clause-found

@@ -20,7 +20,7 @@ loop-index-preserved c =
     let test = named_is c.args.file.now c.args.name.now c.bytes_of-names.result.now c.args.header c.section_of.result c.loop-index.index
     c.bytes_of-names.ensures (ap (λ (h : Header). h.names) c.requires.header) c.section_of.ensures in
     none_more (named_section c.args.file.now c.args.name.now) c.loop-index.index c.loop-index.invariant
-        (sym test ∙ sym c.is_named.ensures ∙ c.if-is_named.false)
+    (sym test ∙ sym c.is_named.ensures ∙ c.if-is_named.false)
 
 pub returns-then-is_named : goal.returns-then-is_named
 returns-then-is_named c =

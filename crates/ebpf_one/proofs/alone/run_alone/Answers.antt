@@ -19,7 +19,7 @@ returns c =
     let between = granting ran.nulls ran.short ran.table.items in
     let went = told_on began between ended _ [] c.run.ensures.gone.goes c.finish-report.ensures.goes in
     report_solo _ (λ s. IsFine c.args.nulls (granting s.nulls s.short s.table.items)) _ _ _ _ _ _ c.run.ensures.turns (omega arith)
-        c.run.ensures.after.bounded c.args.nulls _ _ (record {
+    c.run.ensures.after.bounded c.args.nulls _ _ (record {
       so = λ told s went. record {
         grants = λ kind at slot can. (sym first.nulls ∙ sym went.nulls ∙ can.0, next_slot _ _ _ told can.1 went.slots first.none);
         fetches = λ shelf slot bytes what can stands. stands ∙ can;
@@ -32,4 +32,4 @@ returns c =
       is = c.in-Ok.ensures.started;
       starts = starts _ _ _ _ c.in-Ok.run' c.in-Ok.ensures.started (c.in-Ok.ensures.sound _);
     }) (fine_before c.args.nulls between ended [] c.finish-report.ensures.goes
-        (fine_last c.args.nulls began ended _ first.nulls went (sym c.if-is_short.ensures))).0 _ c.finish-report.ensures
+    (fine_last c.args.nulls began ended _ first.nulls went (sym c.if-is_short.ensures))).0 _ c.finish-report.ensures

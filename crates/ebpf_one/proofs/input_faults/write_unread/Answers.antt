@@ -35,5 +35,5 @@ returns-in-None c =
     let past = slice_get_past c.args.bytes.now c.place_of_other-place.result found.3 in
     subst (λ (words : List ℕ). OnOk c.write.result (string_bytes c.write.new.self ≡ string_bytes c.args.text.now ++ words))
     (told_digits c.args.part c.args.bytes.now c.place_of_other-place.result c.digits_in-digits.result c.name-name.result.now c.place_of_other-place.ensures
-        past c.name-name.ensures c.digits_in-digits.ensures)
+    past c.name-name.ensures c.digits_in-digits.ensures)
     c.write.ensures.bytes

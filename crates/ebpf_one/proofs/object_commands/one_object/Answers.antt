@@ -13,7 +13,7 @@ returns-clause-text g c =
     let name = c.args.function.now in
     answers_by P name _ _ _ _ c.respond.ensures.response c.respond.ensures.beginning (λ all response k.
     response_of_shown (RespondsObject P name) (object_cuts P (one_cuts Raw c.args.context.now c.args.held c.args.nulls) name) all response k.0 k.2
-        (let h = k.1 in search rules))
+    (let h = k.1 in search rules))
 
 pub returns-clause-consumed : goal.returns-clause-consumed
 returns-clause-consumed g c = c.respond.ensures.consumed

@@ -31,10 +31,10 @@ of_held_spec 𝓤 𝓛 𝓜 𝓡 wired =
     let hs : Stays ended.signature.params ended.kept = (stay_dropped (plain (λ _. From)) no, tt) in
     proved_at 𝓛 ended hs c 𝓜 𝓡 (Goes-dropped 𝓛 0 (plain (λ _. From)) no (λ κs x f. refl), tt) #self fn (code.unfolded 𝓤 H 𝓜 𝓡 wired) (λ z are.
     let κs = z.0.0 in let d = z.0.3.0 in let p = d.at in let Post : Val → SProp 𝓤 = (walk_of 𝓛 ended hs c).post z in
-        let Run : List Val → SProp 𝓤 = λ ws. WpFn 𝓤 H 𝓣.C 𝓣.Λ fn ws Post in
+    let Run : List Val → SProp 𝓤 = λ ws. WpFn 𝓤 H 𝓣.C 𝓣.Λ fn ws Post in
     let made : To.Denot = record { at = p; value = d.value } in
     qed 𝓛 ((‵ ftrue ⊛ ‵ (owns (types_at ended.signature.params κs) z.0.3 z.0.4)) ∷ raw ((c κs z.0.3).requires z.1) ∷ []) ∵ split ! $ move ! (1 ∷ []) $
-        fsplit ! $
+    fsplit ! $
     held_out Program ! d z.0.4.0 (λ ws. held_in Program ! p d.value $ use1 𝓛 (‵ (To.own_val made (word p ∷ []))) (id⊢ 𝓤 _) $
     -- [what the other struct owns; true; the tokens; what is asked]
     suffices ! (Run (word p ∷ [])) (subst (λ (us : List Val). ent 𝓤 (Run (word p ∷ [])) (Run us)) (sym (λ i. ws i ++ [])) (id⊢ 𝓤 (Run (word p ∷ [])))) $

@@ -18,7 +18,7 @@ pub invariant_of-result : goal.invariant_of-result
 invariant_of-result c = record {
   kinds =
       ap kinds_of (accepted_rows c.args.bytes.now c.in-Some.decl c.kinds-rows.result c.in_ok-verified.field-0 c.in-Accepted.verified c.in_ok-verified.ensures
-          c.in-Accepted.is)
+      c.in-Accepted.is)
       ∙ kinds_known c.kinds-rows.result c.kinds-rows.ensures;
 }
 

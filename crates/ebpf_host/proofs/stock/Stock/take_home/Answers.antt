@@ -12,7 +12,7 @@ invariant_of-self-2 g c =
     let taken = c.in-Some-take in
     stands_taken (λ o. o.slot) c.self.inside.shelf c.self.inside.slabs c.take-2.new.self taken.object.slot
     (takes_grown c.self.inside.slabs c.take.new.self c.grow.new.slabs c.take-2.new.self grown.page (4096 / g.K.Kind.SIZE) taken.object.slot
-        c.in_default.ensures.unchanged grown.not_had grown.added taken.ensures.was_home taken.ensures.moved)
+    c.in_default.ensures.unchanged grown.not_had grown.added taken.ensures.was_home taken.ensures.moved)
     c.self.invariant
 
 pub returns-clause-taken : goal.returns-clause-taken
@@ -20,8 +20,8 @@ returns-clause-taken g c =
     let grown = c.if-not-grow.ensures.grown refl in
     let taken = c.in-Some-take in
     let out : TakesOut c.self.inside.slabs c.take-2.new.self taken.object.slot =
-        takes_grown c.self.inside.slabs c.take.new.self c.grow.new.slabs c.take-2.new.self grown.page (4096 / g.K.Kind.SIZE) taken.object.slot
-        c.in_default.ensures.unchanged grown.not_had grown.added taken.ensures.was_home taken.ensures.moved in
+    takes_grown c.self.inside.slabs c.take.new.self c.grow.new.slabs c.take-2.new.self grown.page (4096 / g.K.Kind.SIZE) taken.object.slot
+    c.in_default.ensures.unchanged grown.not_had grown.added taken.ensures.was_home taken.ensures.moved in
     let more = c.if-not-grow.ensures.counted refl in
     let same = ap out_count c.in_default.ensures.unchanged in
     let one = taken.ensures.counted in
@@ -30,4 +30,4 @@ returns-clause-taken g c =
     let now : StockView = record { pages = c.take-2.new.self; shelf = shelf } in
     subst (λ (v : StockView). Takes v now taken.object.slot) c.self.view_is
     (takes_as (record { pages = c.self.inside.slabs; shelf = shelf }) now taken.object.slot
-        (told c.self.inside.shelf (λ o. shelved_at o.slot o.bytes.items) (IsOut c.self.inside.slabs) c.self.invariant) refl out counts)
+    (told c.self.inside.shelf (λ o. shelved_at o.slot o.bytes.items) (IsOut c.self.inside.slabs) c.self.invariant) refl out counts)

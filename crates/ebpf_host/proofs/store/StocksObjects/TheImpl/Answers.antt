@@ -19,7 +19,10 @@ swap-tells c =
       goes = e.pages;
       outs = exchanged_counted old new kind e.others given got e.exchanged;
       gone = given_gone old new kind e.others given got giving e.exchanged;
-      shelves = (λ what stood. given_stands old new kind e.others given got giving e.exchanged, λ other what apart stood.
-          shelves_stay old new kind e.others what other apart stood);
+      shelves = (
+        λ what stood. given_stands old new kind e.others given got giving e.exchanged,
+        λ other what apart stood.
+            shelves_stay old new kind e.others what other apart stood,
+      );
       others = λ other now apart. (exchanged_others old new kind e.others given got giving e.exchanged other now apart, refl);
     }

@@ -7,8 +7,8 @@ pub returns-in_err-object-in-Held : goal.returns-in_err-object-in-Held
 returns-in_err-object-in-Held c = rw (← c.self.view_is) (λ w h.
     let at = sym c.get.ensures.value ∙ ap option_copied c.in_ok-object.was ∙ ap Some c.in-Held.is in
     ap (option_map _) c.from_residual-in_err-object-in-Held.ensures
-        ∙ bytes_with w _ c.args.slot c.in-Held.run' c.in-Held.at c.index.result.now _ h c.self.invariant.placed at c.index.ensures
-        c.in_err-object-in-Held.ensures)
+    ∙ bytes_with w _ c.args.slot c.in-Held.run' c.in-Held.at c.index.result.now _ h c.self.invariant.placed at c.index.ensures
+    c.in_err-object-in-Held.ensures)
 
 pub returns-in-Home : goal.returns-in-Home
 returns-in-Home c = rw (← c.self.view_is)
@@ -20,7 +20,7 @@ pub returns-in_ok-object-in-Held : goal.returns-in_ok-object-in-Held
 returns-in_ok-object-in-Held c = rw (← c.self.view_is) (λ w h.
     let at = sym c.get.ensures.value ∙ ap option_copied c.in_ok-object.was ∙ ap Some c.in-Held.is in
     ap Some c.deref-in-Held.ensures.value ∙ bytes_with w _ c.args.slot c.in-Held.run' c.in-Held.at c.index.result.now _ h c.self.invariant.placed at
-        c.index.ensures c.in_ok-object-in-Held.ensures)
+    c.index.ensures c.in_ok-object-in-Held.ensures)
 
 pub returns-in-Shelved : goal.returns-in-Shelved
 returns-in-Shelved c = rw (← c.self.view_is) (λ w h.

@@ -46,8 +46,8 @@ step_in-freed-requires-clause-lends c =
     let tended = at_number IsTended c.self.inside.runs.items c.args.run r c.self.invariant.runs at in
     let fine = ap (code_by c.self.inside.places.entries c.args.answer) (sym c.wants.ensures) ∙ sym c.answer_fault.ensures ∙ c.in_default.is in
     subst (λ (l : Option Object). CanLend l c.replace-shelves.result r) (sym c.lend-lent.ensures.object)
-        (subst (λ (s : List (Option Object)). CanLend (lent_by c.args.answer c.self.inside.places.entries) s r) (sym c.replace-shelves.ensures.value)
-        (can_lend _ c.args.run c.args.answer r c.self.invariant.placed tended at fine))
+    (subst (λ (s : List (Option Object)). CanLend (lent_by c.args.answer c.self.inside.places.entries) s r) (sym c.replace-shelves.ensures.value)
+    (can_lend _ c.args.run c.args.answer r c.self.invariant.placed tended at fine))
 
 -- it is one instruction of this run, in the world that is kept
 pub put-requires : goal.put-requires
@@ -56,8 +56,8 @@ put-requires c =
     let t = c.step_in-freed.new.run in
     let at = slice_get_read c.self.inside.runs.items _ c.args.run r refl (omega arith) c.index_mut-run.ensures.value in
     let i = instruction _ c.args.run c.args.answer r t c.lend-lent.result c.step_in-freed.result.0 c.wants.result c.answer_fault.result c.self.invariant at
-        (going r.exit (search rules)) c.answer_fault.ensures c.in_default.is c.wants.ensures c.lend-lent.ensures.object c.replace-shelves.result
-        c.step_in-freed.result.1 c.replace-shelves.ensures.value c.step_in-freed.ensures.stepped in
+    (going r.exit (search rules)) c.answer_fault.ensures c.in_default.is c.wants.ensures c.lend-lent.ensures.object c.replace-shelves.result
+    c.step_in-freed.result.1 c.replace-shelves.ensures.value c.step_in-freed.ensures.stepped in
     let lent =
     λ (q : ℕ). c.lend-lent.ensures.places q ∙ ap (λ (n : ℕ). place_lent c.args.answer c.args.run n c.self.inside.places.entries q) c.pc-at.ensures.value in
     record { known = freed_known c.self.invariant.shown.0 _ c.args.run c.args.answer r t c.step_in-freed.result.0 _ c.self.invariant.shown.1 i lent }
@@ -68,14 +68,14 @@ exchange-requires c =
     let t = c.step_in-freed.new.run in
     let at = slice_get_read c.self.inside.runs.items _ c.args.run r refl (omega arith) c.index_mut-run.ensures.value in
     let i = instruction _ c.args.run c.args.answer r t c.lend-lent.result c.step_in-freed.result.0 c.wants.result c.answer_fault.result c.self.invariant at
-        (going r.exit (search rules)) c.answer_fault.ensures c.in_default.is c.wants.ensures c.lend-lent.ensures.object c.replace-shelves.result
-        c.step_in-freed.result.1 c.replace-shelves.ensures.value c.step_in-freed.ensures.stepped in
+    (going r.exit (search rules)) c.answer_fault.ensures c.in_default.is c.wants.ensures c.lend-lent.ensures.object c.replace-shelves.result
+    c.step_in-freed.result.1 c.replace-shelves.ensures.value c.step_in-freed.ensures.stepped in
     let lent =
     λ (q : ℕ). c.lend-lent.ensures.places q ∙ ap (λ (n : ℕ). place_lent c.args.answer c.args.run n c.self.inside.places.entries q) c.pc-at.ensures.value in
     let known = shelves_known c.self.invariant.shown.0 _ c.args.run c.args.answer r t c.step_in-freed.result.0 _ c.put.new.places.entries
-        c.self.invariant.shown.1 i lent c.put.ensures.places in
+    c.self.invariant.shown.1 i lent c.put.ensures.places in
     let are = known_by c.self.inside.shelves r c.step_in-freed.result.1 c.put.new.places.entries c.reaches-reached.result c.slot_reached-stood.result
-        c.slot_reached-stands.result c.reaches-reached.ensures c.slot_reached-stood.ensures c.slot_reached-stands.ensures known in
+    c.slot_reached-stands.result c.reaches-reached.ensures c.slot_reached-stood.ensures c.slot_reached-stands.ensures known in
     record { stood = are.stood_has; stands = are.stands_has }
 
 pub invariant_of-self-2 : goal.invariant_of-self-2
@@ -84,13 +84,13 @@ invariant_of-self-2 c =
     let t = c.step_in-freed.new.run in
     let at = slice_get_read c.self.inside.runs.items _ c.args.run r refl (omega arith) c.index_mut-run.ensures.value in
     let i = instruction _ c.args.run c.args.answer r t c.lend-lent.result c.step_in-freed.result.0 c.wants.result c.answer_fault.result c.self.invariant at
-        (going r.exit (search rules)) c.answer_fault.ensures c.in_default.is c.wants.ensures c.lend-lent.ensures.object c.replace-shelves.result
-        c.step_in-freed.result.1 c.replace-shelves.ensures.value c.step_in-freed.ensures.stepped in
+    (going r.exit (search rules)) c.answer_fault.ensures c.in_default.is c.wants.ensures c.lend-lent.ensures.object c.replace-shelves.result
+    c.step_in-freed.result.1 c.replace-shelves.ensures.value c.step_in-freed.ensures.stepped in
     let w = c.self.invariant.shown in
     let after = executed_after w.0 _ c.args.run c.args.answer r t c.step_in-freed.result.0 w.1 i in
     let m = moved_by _ c.args.run c.args.answer r c.step_in-freed.result.0 c.step_in-freed.result.1 _ c.put.new.places.entries c.exchange.new.places.entries
-        c.reaches-reached.result c.slot_reached-stood.result c.slot_reached-stands.result c.pc-at.result c.pc-at.ensures.value c.reaches-reached.ensures
-        c.slot_reached-stood.ensures c.slot_reached-stands.ensures c.lend-lent.ensures.places c.put.ensures.places c.exchange.ensures.places in
+    c.reaches-reached.result c.slot_reached-stood.result c.slot_reached-stands.result c.pc-at.result c.pc-at.ensures.value c.reaches-reached.ensures
+    c.slot_reached-stood.ensures c.slot_reached-stands.ensures c.lend-lent.ensures.places c.put.ensures.places c.exchange.ensures.places in
     record {
       known = c.self.invariant.known;
       runs = All-set IsTended c.self.inside.runs.items c.args.run t c.step_in-freed.ensures.tended c.self.invariant.runs;
@@ -104,7 +104,7 @@ returns-clause-done c = rw (← c.self.view_is) (λ w h.
     let t = c.step_in-freed.new.run in
     let at = slice_get_read c.self.inside.runs.items _ c.args.run r refl (omega arith) c.index_mut-run.ensures.value in
     let i = instruction _ c.args.run c.args.answer r t c.lend-lent.result c.step_in-freed.result.0 c.wants.result c.answer_fault.result c.self.invariant at
-        (going r.exit (search rules)) c.answer_fault.ensures c.in_default.is c.wants.ensures c.lend-lent.ensures.object c.replace-shelves.result
-        c.step_in-freed.result.1 c.replace-shelves.ensures.value c.step_in-freed.ensures.stepped in
+    (going r.exit (search rules)) c.answer_fault.ensures c.in_default.is c.wants.ensures c.lend-lent.ensures.object c.replace-shelves.result
+    c.step_in-freed.result.1 c.replace-shelves.ensures.value c.step_in-freed.ensures.stepped in
     let after = executed_after w _ c.args.run c.args.answer r t c.step_in-freed.result.0 h i in
     (after.after, after.legal, after.shows c.exchange.new.places.entries))

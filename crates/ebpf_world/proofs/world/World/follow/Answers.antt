@@ -10,7 +10,7 @@ returns-in-Some-clause-refused c = rw (c.in-Start.is, ← c.self.view_is, ← c.
     let program = slice_get c.self.inside.programs.now c.in-Start.program in
     let long : length c.context.inside.bytes.items ≡ vec_len c.context.inside.bytes = search rules in
     start_refused program c.context.inside.bytes.items w c.in-Some.code
-        (ap (start_code program) (long ∙ sym c.len.ensures) ∙ sym c.start_fault.ensures ∙ c.in-Some.is))
+    (ap (start_code program) (long ∙ sym c.len.ensures) ∙ sym c.start_fault.ensures ∙ c.in-Some.is))
 
 pub returns-in_default-to_vec-clause-refused : goal.returns-in_default-to_vec-clause-refused
 returns-in_default-to_vec-clause-refused c = rw (c.in-Start.is, ← c.self.view_is, ← c.context.view_is) (λ w h.

@@ -13,7 +13,7 @@ pub returns-in_default : goal.returns-in_default
 returns-in_default c =
     let home : (run at : ℕ) → c.in_default.field-0.now ≢ Held run at = search rules in
     rw (← c.self.view_is) (λ w h. owner_none w _ c.args.slot h c.self.invariant.placed
-        (λ run at e. let is = sym e ∙ sym c.get.ensures.value ∙ ap option_copied c.in_default.is in absurd (home run at cc)))
+    (λ run at e. let is = sym e ∙ sym c.get.ensures.value ∙ ap option_copied c.in_default.is in absurd (home run at cc)))
 
 pub returns-in_default-2 : goal.returns-in_default-2
 returns-in_default-2 c = rw (← c.self.view_is)

@@ -10,34 +10,37 @@ use Rattle.ebpf_world.proofs.Starting.{starting_none, starting_long, starting_fi
 use Rattle.ebpf_world.proofs.world.World.start.Goals as goal
 
 pub returns-then-program-programs-clause-refused : goal.returns-then-program-programs-clause-refused
-returns-then-program-programs-clause-refused c = rw (← c.self.view_is) (λ w h.
-    (NoSuchProgramOrKind, starting_none c.self.inside.programs.now c.args.program c.args.context w
-        (slice_get_past c.self.inside.programs.now c.args.program (omega arith)), refl))
+returns-then-program-programs-clause-refused c = rw (← c.self.view_is) (λ w h. (
+  NoSuchProgramOrKind,
+  starting_none c.self.inside.programs.now c.args.program c.args.context w
+      (slice_get_past c.self.inside.programs.now c.args.program (omega arith)),
+  refl,
+))
 
 pub returns-in-Err-ContextLength-clause-refused : goal.returns-in-Err-ContextLength-clause-refused
 returns-in-Err-ContextLength-clause-refused c = rw (← c.self.view_is, ← c.context.view_is) (λ w h.
     let at = slice_get_read c.self.inside.programs.now _ c.args.program c.index-programs-program.result refl (omega arith) c.index-programs-program.is in
     let long = subst (IsStartFault (length c.context.inside.bytes.items) c.index-programs-program.result.decl.context) c.in-Err-ContextLength.field-0-is
-        c.in-Err-ContextLength.ensures.refused in
+    c.in-Err-ContextLength.ensures.refused in
     (WrongContext, starting_long c.self.inside.programs.now c.args.program c.index-programs-program.result c.context.inside.bytes.items w at long, refl))
 
 pub returns-else-is_err-clause-done : goal.returns-else-is_err-clause-done
 returns-else-is_err-clause-done c = rw (← c.self.view_is, ← c.context.view_is) (λ w h.
     let at = slice_get_read c.self.inside.programs.now _ c.args.program c.index-programs-program.result refl (omega arith) c.index-programs-program.is in
     let known = at_number (λ (s : Subject). kinds_of s.rows ≡ known_kinds) c.self.inside.programs.now c.args.program c.index-programs-program.result
-        c.self.invariant.known at in
+    c.self.invariant.known at in
     let pushed : c.push.new.self.items ≡ c.self.inside.runs.items ++ c.in-Ok.run' ∷ [] = search rules in
     starting_pushed c.self.inside.programs.now c.args.program c.index-programs-program.result c.context.inside.bytes.items w _ c.in-Ok.run'
-        c.push.new.self.items known h at c.in-Ok.ensures.length c.in-Ok.ensures.started pushed)
+    c.push.new.self.items known h at c.in-Ok.ensures.length c.in-Ok.ensures.started pushed)
 
 pub invariant_of-self-in-Ok : goal.invariant_of-self-in-Ok
 invariant_of-self-in-Ok c =
     let at = slice_get_read c.self.inside.programs.now _ c.args.program c.index-programs-program.result refl (omega arith) c.index-programs-program.is in
     let known = at_number (λ (s : Subject). kinds_of s.rows ≡ known_kinds) c.self.inside.programs.now c.args.program c.index-programs-program.result
-        c.self.invariant.known at in
+    c.self.invariant.known at in
     let pushed : c.push.new.self.items ≡ c.self.inside.runs.items ++ c.in-Ok.run' ∷ [] = search rules in
     pushed_tended _ c.index-programs-program.result c.context.inside.bytes.items c.in-Ok.run' c.push.new.self.items known c.in-Ok.ensures.started
-        (c.in-Ok.ensures.sound (λ o. o.bytes.items)) c.self.invariant pushed
+    (c.in-Ok.ensures.sound (λ o. o.bytes.items)) c.self.invariant pushed
 
 pub returns-then-is_err-clause-refused : goal.returns-then-is_err-clause-refused
 returns-then-is_err-clause-refused c = rw (← c.self.view_is, ← c.context.view_is) (λ w h.
@@ -48,5 +51,5 @@ pub returns-in-Err-NoMemory-clause-refused : goal.returns-in-Err-NoMemory-clause
 returns-in-Err-NoMemory-clause-refused c = rw (← c.self.view_is, ← c.context.view_is) (λ w h.
     let at = slice_get_read c.self.inside.programs.now _ c.args.program c.index-programs-program.result refl (omega arith) c.index-programs-program.is in
     let fits = subst (IsStartFault (length c.context.inside.bytes.items) c.index-programs-program.result.decl.context) c.in-Err-NoMemory.field-0-is
-        c.in-Err-NoMemory.ensures.refused in
+    c.in-Err-NoMemory.ensures.refused in
     starting_fits c.self.inside.programs.now c.args.program c.index-programs-program.result c.context.inside.bytes.items w at fits)
