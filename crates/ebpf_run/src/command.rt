@@ -109,6 +109,7 @@ pub fn command<'a>(alloc: Global) -> Result<Command<'a>, AllocError> {
         .version("0.1.0")
         .after_help(ONE_EXAMPLE)
         .subcommand_required(true)
+        .arg_required_else_help(true)
         .subcommand(one)?;
     all.subcommand(list)?
         .subcommand(explain)?
