@@ -20,8 +20,8 @@ from pathlib import Path
 from typing import NamedTuple
 
 TOP = Path(__file__).resolve().parents[2]
-NEEDED = {'gcc', 'g++', 'perl', 'valgrind'}  # each is the name of Debian's package too
-USEFUL = {'parallel'}  # what needs it is left out where it isn't there
+NEEDED = {'gcc', 'g++', 'valgrind'}  # each is the name of Debian's package too
+USEFUL = {'parallel', 'perl'}  # what needs it is left out where it isn't there
 
 
 class Test(NamedTuple):
