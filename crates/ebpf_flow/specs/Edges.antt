@@ -19,7 +19,7 @@ displacement_of (insn.JumpFar offset) = Some offset
 displacement_of (insn.Branch width cond left right offset) = Some offset
 displacement_of _ = None
 
--- a number of no slot means none
+-- a negative number is no slot
 abbrev pub slot_of : ℤ → Option ℕ
 slot_of (pos n) = Some n
 slot_of (negsuc n) = None

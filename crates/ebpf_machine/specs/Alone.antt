@@ -44,7 +44,7 @@ shelved shelf slot bytes w = with_owner slot (Shelf shelf) (with_bytes slot byte
 
 -- the call of number i that is to get an object gets it in slot i, which joins the ledger just before: any slot that is in no ledger
 -- would do. A call of new is granted it; before a call of swap it is on the shelf, with the bytes that come next, in place of what
--- the run left there
+-- the run left there. Any other call of new is answered null; one of no kind traps, whatever it is answered
 abbrev pub fed : Asking → Option Reply → List ℕ → ℕ → World → Fed
 fed Unasked reply bytes i w = record { world = w; answer = Absent }
 fed (OfKind kind) (Some reply.Granted) bytes i w = record { world = with_slot_joined kind i w; answer = Slot i }

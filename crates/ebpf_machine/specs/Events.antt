@@ -123,8 +123,8 @@ done_by (Goes act to frame) answer w run r = acted act answer w run r to frame
 done_by (Ends n) answer w run r = with_run w run (ended n r)
 done_by (Traps trap) answer w run r = with_run w run (trapped trap r)
 
--- what the instruction at a slot asks for: nothing; an object of no kind that there is, or one of the kind that r1 names, of whoever
--- answers; or what is on the shelf that r1 names, of the world
+-- what the instruction at a slot asks for: nothing; an object, of the kind that r1 names or of none that there is, from the event; or what
+-- is on the shelf that r1 names, from the world
 pub data Asking : Type 0 where
   Unasked : Asking
   OfNoKind : Asking

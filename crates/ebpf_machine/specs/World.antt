@@ -11,7 +11,7 @@ use Rattle.ebpf_machine.specs.declared.report.Reply.TheVariants as reply
 use Rattle.ebpf_machine.specs.Values.{Trap, UseAfterFree, AnotherRunsObject, Frame, empty_stack}
 use Rattle.ebpf_machine.specs.Effect.{Environment, Found}
 
--- how the world names an object: its slot, and the call that was granted it
+-- how the world names an object: the number of the object, and the slot of the program's call that was granted it
 pub record Name : Type 0 where
   pub slot : ℕ
   pub call : ℕ
@@ -24,8 +24,8 @@ pub data Status : Type 0 where
   Exited : (result : ℕ) → Status
   Trapped : (trap : Trap) → Status
 
--- a call that a run made for an object: where, for which kind, and what it was answered. A run keeps these, and the bytes of what it took
--- off shelves, and no instruction reads them
+-- a call that a run made for an object: where, for which kind, and what it was answered. They are the history of a
+-- run, of which the theorem speaks, as are the bytes of what it took off shelves: no instruction reads them
 pub record AnsweredCall : Type 0 where
   pub at : ℕ
   pub kind : ℕ
@@ -74,7 +74,7 @@ pub record World : Type 0 where
   pub bytes : ℕ → List ℕ
   pub runs : List Running
 
--- the answer that an event brings to a call of new
+-- the answer that an event brings to a call of new; an event of ebpf_world has its own, of which answer_of makes this one
 pub data Answer : Type 0 where
   Absent : Answer
   Null : Answer

@@ -1,17 +1,18 @@
 -- Every legal list of events leaves each run to itself.
-use Rattle.std.proofs.Common.{◌≡◌, ◌≢◌, ◌⊎◌, inl, inr, ℕ, ◌+◌, ◌≤◌, All, List, [], ◌∷◌, ◌++◌, filter, length, Option, Some, None, Result, Ok, Err, refl, sym, ap, ◌∙◌, subst, append_assoc, append-nil, take, arith}
+use Rattle.std.proofs.Common.{◌≡◌, ◌≢◌, ◌⊎◌, inl, inr, ℕ, ◌+◌, ◌≤◌, All, List, [], ◌∷◌, ◌++◌, filter, length, map, Option, Some, None, Result, Ok, Err, refl, sym, ap, ◌∙◌, subst, append_assoc, append-nil, take, arith}
 use Rattle.std.specs.Prelude.{slice_get}
 use Rattle.std.proofs.lemmas.Bool.{eq-eqb, ne_eqb}
 use Rattle.std.proofs.lemmas.Grind.{common_steps}
 use Rattle.std.proofs.lemmas.List.{length-map}
 use Rattle.std.proofs.lemmas.Option.{slice_get_past}
+use Rattle.std.proofs.lemmas.Simd.{map-map}
 use Rattle.ebpf_verify.specs.Subject.{Subject}
 use Rattle.ebpf_verify.specs.Verdict.{IsAccepted}
 use Rattle.ebpf_machine.specs.declared.report.Reply.{Reply}
 use Rattle.ebpf_machine.specs.World.{World, Running, Going, Exited, Trapped, Status, held_by, first_run}
 use Rattle.ebpf_machine.specs.Kinds.{known_kinds}
 use Rattle.ebpf_machine.specs.Events.{Illegal, Asking, answer_fault, started}
-use Rattle.ebpf_machine.specs.Alone.{Outcome, outcome_alone, replies_from}
+use Rattle.ebpf_machine.specs.Alone.{Outcome, alone_after, outcome_alone, replies_from}
 use Rattle.ebpf_machine.specs.View.{ObjectView, RunView, object_in, view_of, view_in, stepped}
 use Rattle.ebpf_machine.specs.RunState.{first_state_of}
 use Rattle.ebpf_machine.specs.Step.{FitsShelf, result_of, served_in, asking_in}
@@ -252,14 +253,18 @@ untrapped v sound = by_status v.status sound.stated where
   by_status (Exited n) h = tt
   by_status (Trapped trap) h = h
 
-alone_of : (w : World) (k : ℕ) (run : Running) (answers : List Reply) → IsOwn (view_of w k run) answers → IsWhereAlone run
+alone_of : (w : World) (k : ℕ) (run : Running) (answers : List Reply) → IsOwn (view_of w k run) answers → IsWhereAlone w k run
 alone_of w k run answers own =
     let h = seen_alone (view_of w k run) own.sound own.alone in
+    let bytes_of : ObjectView → List ℕ = λ x. x.bytes in
+    let world : World = (alone_after run.executed run.subject run.context (replies_to run)).world in
     record {
       alone = h.lone.run;
       only = h.lone.only;
       pc = sym (ap (λ (v : RunView). v.pc) h.seen);
       output = sym (ap (λ (v : RunView). v.frame.output) h.seen);
+      objects = sym (map-map bytes_of (object_in w) (held_by w k)) ∙ (sym (ap (λ (v : RunView). map bytes_of v.objects) h.seen)
+          ∙ map-map bytes_of (object_in world) (held_by world 0));
       executed = sym (ap (λ (v : RunView). v.executed) h.seen);
       status = sym (ap (λ (v : RunView). v.status) h.seen);
     }

@@ -7,7 +7,7 @@ use Rattle.ebpf_insn.specs.Program.{instructions}
 use Rattle.ebpf_verify.specs.Subject.{Subject}
 use Rattle.ebpf_machine.specs.declared.report.Reply.{Reply}
 use Rattle.ebpf_machine.specs.declared.report.Reply.TheVariants as reply
-use Rattle.ebpf_machine.specs.World.{World, Running, Owner, IsOfKind, Going, Exited, Trapped, Status, is_in, is_home, is_shelf, ledger_of, kind_in, image_at, holds_of}
+use Rattle.ebpf_machine.specs.World.{World, Running, Owner, IsOfKind, Going, Exited, Trapped, Status, is_in, is_home, is_shelf, ledger_of, kind_in, image_at, held_by, holds_of}
 use Rattle.ebpf_machine.specs.Alone.{Replies, Outcome, replies_from, alone_after, outcome_alone}
 use Rattle.ebpf_world.specs.declared.event.Answer.{Answer}
 use Rattle.ebpf_world.specs.declared.event.Answer.TheVariants.{Absent, Null, Slot}
@@ -15,7 +15,7 @@ use Rattle.ebpf_world.specs.declared.event.Event.{Event}
 use Rattle.ebpf_world.specs.declared.event.Event.TheVariants.{Start, Exec, Grow, Reap}
 use Rattle.ebpf_world.specs.Replay.{world_after}
 
--- what the calls of a run were answered, in order
+-- what the calls of a run were answered, in order, and the bytes of what they took off shelves
 abbrev pub replies_to : Running → Replies
 replies_to run = replies_from (map (λ c. c.reply) run.calls) run.taken
 
@@ -50,13 +50,19 @@ IsUntrapped Going = Unit {0}
 IsUntrapped (Exited n) = Unit {0}
 IsUntrapped (Trapped trap) = ⊥
 
--- a run is where the run alone is after as many instructions with the same replies: at the same pc, with the same output,
--- going on or ended alike; and it did as many: the run alone stays where it is once it ended
-pub record IsWhereAlone (run : Running) : Type 0 where
+-- the bytes of the objects that a run holds
+abbrev pub held_bytes : World → ℕ → List (List ℕ)
+held_bytes w k = map (λ o. w.bytes o.slot) (held_by w k)
+
+-- a run of the world, by its number, is where the run alone is after as many instructions with the same replies: at the same pc, with
+-- the same output, with the same bytes in the objects that it holds, going on or ended alike; and it did as many: the run alone stays
+-- where it is once it ended
+pub record IsWhereAlone (w : World) (k : ℕ) (run : Running) : Type 0 where
   pub alone : Running
   pub only : (alone_after run.executed run.subject run.context (replies_to run)).world.runs ≡ alone ∷ []
   pub pc : run.pc ≡ alone.pc
   pub output : run.frame.output ≡ alone.frame.output
+  pub objects : held_bytes w k ≡ held_bytes (alone_after run.executed run.subject run.context (replies_to run)).world 0
   pub executed : run.executed ≡ alone.executed
   pub status : run.status ≡ alone.status
 
@@ -70,7 +76,7 @@ pub record IsOutcomeOf (run : Running) (n : ℕ) (o : Outcome) : Type 0 where
 pub record IsIsolated (w : World) (k : ℕ) (run : Running) (answers : List Reply) : Type 0 where
   pub untrapped : IsUntrapped run.status
   pub told : replies_to_new run ≡ answers
-  pub alone : IsWhereAlone run
+  pub alone : IsWhereAlone w k run
   pub ended : (n : ℕ) → run.status ≡ Exited n → IsOutcomeOf run n (outcome_alone run.subject run.context (replies_to run))
   pub bounded : run.executed ≤ length (instructions run.subject.program)
   pub declared : holds_of w k ≤ run.subject.decl.held

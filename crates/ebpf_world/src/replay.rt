@@ -42,8 +42,8 @@ pub fn replay<'v>(
     Ok(world)
 }
 
-// The main theorem: every list of events over accepted programs is safe. That a program was accepted is in its type, and is
-// known of the one that is read: so each is read once, and nothing is done with it.
+// The main theorem: every list of events over accepted programs is safe. That a program was accepted is in its type, and
+// the check knows this only of a value that the code reads: so each is read once, and nothing is done with it.
 fn accept(programs: &[Verified])
     requires { AreKnown programs.now }
     ensures { (events : List Event) → IsAlwaysSafe programs.now events }
