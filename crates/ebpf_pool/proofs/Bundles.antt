@@ -35,7 +35,7 @@ module _ (size count : ℕ) (some : 0 < size) where
       let step : suc bundle * size ≡ bundle * size + size = suc-mul bundle size in
       omega (arith, next, step, not_past)
 
-  -- there are none left bundles than jobs
+  -- there are at most as many bundles as jobs
   pub bundles_few : bundles_in size count ≤ count
   bundles_few = by (nat_lt count (bundles_in size count)) refl where
     by : (b : Bool) → nat_lt count (bundles_in size count) ≡ b → bundles_in size count ≤ count

@@ -1,7 +1,7 @@
 //! A worker.
 //!
 //! *The idea.* A worker draws the number of a bundle of neighbouring jobs. It runs the program of each over its own store, and keeps
-//! the report under the job's number. Then it draws again, until it is answered that there are none left bundles. One that finds no memory
+//! the report under the job's number. Then it draws again, until no bundle is left. One that finds no memory
 //! to begin with draws none, and leaves all jobs to the others. A bundle saves draws: each is a step on one word that all workers share.
 //!
 //! *The invariant.* Each job has as many reports as its bundle was drawn. Each report is that of its job's program alone, with the
