@@ -9,11 +9,11 @@ ghost use denote.Param.Send.{IsSync};
 
 use crate::gate::{Gate, Point};
 use crate::hands::{FreeHands, Tools};
+use crate::job_report::JobReport;
 use crate::jobs::Numbered;
 use crate::ledgers::Names;
 use crate::place::make_places;
 use crate::worker::{Ending, Shared, Worker, work};
-use ebpf_machine::report::Report;
 use owners_table::owners::OwnerSeat;
 use owners_table::tickets::TicketSeat;
 use std::sync::Wait;
@@ -83,12 +83,12 @@ fn work_all<'a, L: Names + Send + Sync, G: Gate + Sync + 'a, R: Threads + Wait +
 fn reap<'a, L: Names, G: Gate + 'a, R: Wait + 'a>(
     shared: &Shared<'a, L, G, R>,
     reaps: u32,
-    places: &mut Vec<Report>,
+    places: &mut Vec<JobReport>,
 )
     requires { AreReserved (length shared.now.jobs.now) places.old }
     ensures { ArePlaces (length shared.now.jobs.now) places.new.items }
 {
-    make_places(shared.alloc, shared.jobs.len(), places);
+    make_places(shared.jobs.len(), places);
     for pass in 0..reaps {
         shared.supplies.reap(shared.rt, shared.arena);
         shared.gate.at(u64::from(pass), Point::Reaped);
@@ -102,7 +102,7 @@ pub(crate) fn work_and_reap<
     L: Names + Send + Sync,
     G: Gate + Sync + 'a,
     R: Threads + Wait + Sync + 'a,
->(shared: &Shared<'a, L, G, R>, reaps: u32, places: &mut Vec<Report>, workers: &mut [Worker<L>])
+>(shared: &Shared<'a, L, G, R>, reaps: u32, places: &mut Vec<JobReport>, workers: &mut [Worker<L>])
     requires workers { CanBeginWith shared.now workers.old }
     requires places { AreReserved (length shared.now.jobs.now) places.old }
     ensures workers { AreDoneWith shared.now workers.old workers.new }

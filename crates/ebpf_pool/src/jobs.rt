@@ -1,7 +1,7 @@
 //! Jobs and their reports.
 
+use crate::job_report::JobReport;
 use ebpf_machine::context::Context;
-use ebpf_machine::report::Report;
 
 /// A program to be run, by its place in a list, and the context that it is run on.
 #[derive(Drop)]
@@ -14,5 +14,5 @@ pub struct Job {
 #[derive(Drop)]
 pub(crate) struct Numbered {
     pub(crate) job: u64,
-    pub(crate) report: Report,
+    pub(crate) report: JobReport,
 }

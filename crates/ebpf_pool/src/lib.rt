@@ -18,7 +18,7 @@
 //! ebpf_machine, so all that is proved of a run over any store holds over this one; each bundle is drawn once, and each
 //! job is in one bundle.
 //!
-//! To be read in this order: `ledgers`, `hands`, `supply`, `count`, `client`, `owned`, `stock`, `stocks`, `store`, `jobs`, `gate`, `worker`,
+//! To be read in this order: `ledgers`, `hands`, `supply`, `count`, `client`, `owned`, `stock`, `stocks`, `store`, `job_report`, `jobs`, `gate`, `worker`,
 //! `crew`, `outcome`, `admission`, `setup`, `place`, `pool`.
 #![tactic(auto)]
 
@@ -28,6 +28,7 @@ mod count;
 mod crew;
 mod gate;
 mod hands;
+mod job_report;
 mod jobs;
 mod ledgers;
 mod outcome;
@@ -43,6 +44,7 @@ mod worker;
 
 pub use admission::PoolFault;
 pub use gate::{Gate, NoGate, Point};
+pub use job_report::JobReport;
 pub use jobs::Job;
 pub use outcome::{Host, MAX_JOBS, MAX_WORKERS, Outcome, Reports, ShelfTotals};
 pub use pool::run_jobs;

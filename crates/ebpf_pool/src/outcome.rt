@@ -1,6 +1,6 @@
 //! What jobs are run with, and what comes of them.
 
-use ebpf_machine::report::Report;
+use crate::job_report::JobReport;
 use ebpf_verify::verified::Verified;
 use object_cache::Totals;
 use std::marker::Model;
@@ -21,7 +21,7 @@ pub struct Host {
 /// A report for each job, in the order of the jobs. Contracts see it as the list.
 #[derive(Drop)]
 pub struct Reports {
-    pub reports: Vec<Report>,
+    pub reports: Vec<JobReport>,
 }
 
 impl Model for Reports {

@@ -1,33 +1,21 @@
 //! Reports, counted by their workers, and each in the place of its job.
 
 ghost use Rattle.std.specs.Prelude.{◌≡◌, Contains, map, ◌≤◌, ◌<◌, ◌+◌, ℕ, [], All, length, vec_len, vec_capacity, sum_by};
+ghost use Rattle.ebpf_machine.specs.declared.report.Report.{Report};
 ghost use Rattle.ebpf_pool.specs.Places.{AreReserved, ArePlaces, HasExit, filled, times_in, weight, weight_of, AreFrom, IsIn};
 
+use crate::job_report::JobReport;
 use crate::jobs::Numbered;
 use crate::ledgers::Puts;
-use ebpf_machine::report::{Answers, Output, Report, Taken};
-use std::alloc::Global;
+use std::mem;
 
 /// Makes a place for the report of each of n jobs, for which there is memory. A report that has no exit is none.
-pub(crate) fn make_places(alloc: Global, count: usize, places: &mut Vec<Report>)
+pub(crate) fn make_places(count: usize, places: &mut Vec<JobReport>)
     requires { AreReserved count places.old }
     ensures { ArePlaces count places.new.items }
 {
     for _place in 0..count {
-        places.push_reserved(Report {
-            exit: None,
-            output: Output {
-                numbers: Vec::new(alloc),
-            },
-            executed: 0,
-            answers: Answers {
-                replies: Vec::new(alloc),
-            },
-            taken: Taken {
-                bytes: Vec::new(alloc),
-            },
-            peak: 0,
-        });
+        places.push_reserved(JobReport::none());
     }
 }
 
@@ -43,7 +31,7 @@ pub(crate) fn count_all(answered: &[Vec<Numbered>], counts: &mut Vec<u64>)
 }
 
 /// Puts all reports in the places of their jobs, which have none.
-pub(crate) fn place_all(places: &mut Vec<Report>, answered: Vec<Vec<Numbered>>)
+pub(crate) fn place_all(places: &mut Vec<JobReport>, answered: Vec<Vec<Numbered>>)
     requires inside { All (All (λ n. n.job < vec_len places.old)) (map (λ l. l.items) answered.items) }
     requires exited { All (All (λ n. HasExit n.report)) (map (λ l. l.items) answered.items) }
     requires once { (x : ℕ) → filled places.old.items x + sum_by (times_in x) (map (λ l. l.items) answered.items) ≤ 1 }
@@ -59,7 +47,7 @@ pub(crate) fn place_all(places: &mut Vec<Report>, answered: Vec<Vec<Numbered>>)
 }
 
 // Puts the reports of one worker in the places of their jobs.
-fn place(places: &mut Vec<Report>, answered: Vec<Numbered>)
+fn place(places: &mut Vec<JobReport>, answered: Vec<Numbered>)
     requires inside { All (λ n. n.job < vec_len places.old) answered.items }
     requires exited { All (λ n. HasExit n.report) answered.items }
     requires once { (x : ℕ) → filled places.old.items x + times_in x answered.items ≤ 1 }
@@ -71,6 +59,6 @@ fn place(places: &mut Vec<Report>, answered: Vec<Numbered>)
     let mut answered = answered;
     while let Some(numbered) = answered.pop() {
         let Numbered { job, report } = numbered;
-        places[job as usize] = report;
+        let _none = mem::replace(&mut places[job as usize], report);
     }
 }

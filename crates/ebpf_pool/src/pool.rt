@@ -22,6 +22,7 @@ ghost use Rattle.ebpf_pool.specs.Working.{AreReady};
 use crate::admission::{PoolFault, pool_fault};
 use crate::crew::{Done, Parts, dismiss, recruit, work_and_reap};
 use crate::gate::Gate;
+use crate::job_report::JobReport;
 use crate::jobs::Job;
 use crate::ledgers::Names;
 use crate::outcome::{Host, Outcome, Reports};
@@ -29,7 +30,6 @@ use crate::place::{count_all, place_all};
 use crate::setup::{Room, Setup};
 use crate::supply::{Blanks, Closing, Supplies};
 use crate::worker::{Ending, Shared, Worker};
-use ebpf_machine::report::Report;
 use owners_table::owners::{OwnerSeat, Owners};
 use std::alloc::{AllocError, Global};
 use std::marker::Brand;
@@ -154,7 +154,7 @@ fn serve_all<L: Names + Send + Sync, G: Gate + Sync, R: Threads + Wait + Sync>(
     supplies: &Supplies<L>,
     parts: &mut Parts<L>,
     workers: &mut Vec<Worker<L>>,
-    places: &mut Vec<Report>,
+    places: &mut Vec<JobReport>,
 ) -> Done
     requires ready { AreReady given.now.host.now.programs.items given.now.jobs.now }
     requires size { IsBundleSize room.now.size }
@@ -191,7 +191,7 @@ fn settle<L: Names, G: Gate, R: Wait>(
     mut room: Room,
     supplies: Supplies<L>,
     parts: Parts<L>,
-    places: Vec<Report>,
+    places: Vec<JobReport>,
     done: Done,
 ) -> (Vec<OwnerSeat>, Result<Outcome, AllocError>)
     requires left { AreLeftIn given.now.host.now given.now.jobs.now given.now.owners.now room supplies parts places.items done }

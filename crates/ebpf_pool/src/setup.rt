@@ -7,11 +7,11 @@ ghost use Rattle.ebpf_pool.specs.Books.{AreAllFor};
 ghost use Rattle.ebpf_pool.specs.Crews.{IsPrepared};
 
 use crate::hands::FreeHands;
+use crate::job_report::JobReport;
 use crate::jobs::Numbered;
 use crate::ledgers::Names;
 use crate::supply::{Blanks, Supplies};
 use crate::worker::Worker;
-use ebpf_machine::report::Report;
 use object_cache::ArenaLock;
 use owners_table::tickets::{TicketSeat, Tickets};
 use std::alloc::{AllocError, Global};
@@ -88,7 +88,7 @@ pub(crate) struct Setup<L: Names> {
     pub(crate) room: Room,
     pub(crate) drawers: Vec<TicketSeat>,
     pub(crate) answered: Vec<Vec<Numbered>>,
-    pub(crate) places: Vec<Report>,
+    pub(crate) places: Vec<JobReport>,
     pub(crate) workers: Vec<Worker<L>>,
     pub(crate) supplies: Supplies<L>,
     pub(crate) hands: FreeHands<L>,

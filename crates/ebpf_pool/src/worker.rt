@@ -11,7 +11,7 @@
 //! *The reason.* A run over any store leaves as many objects of each kind out as there were, and its report's answers are
 //! what the store counts. Each bundle is drawn once, over all workers, and each job is in one bundle; so each job has one report.
 
-ghost use Rattle.std.specs.Prelude.{◌≡◌, ◌≢◌, ◌⊎◌, ◌≤◌, ◌<◌, [], All, length, false, vec_len, vec_capacity, IfOk, OnOk, OnErr};
+ghost use Rattle.std.specs.Prelude.{◌≡◌, ◌≢◌, ◌⊎◌, ◌≤◌, ◌<◌, [], All, length, true, false, is_some, vec_len, vec_capacity, IfOk, OnOk, OnErr};
 ghost use Rattle.owners_table.specs.Drawing.{IsOf};
 ghost use Rattle.ebpf_pool.specs.declared.worker.Ending.TheVariants.{Through, OutOfMemory};
 ghost use Rattle.ebpf_pool.specs.Bundles.{IsBundleAdded, IsBundleSize, bundles_in};
@@ -22,6 +22,7 @@ ghost use Rattle.ebpf_pool.specs.Working.{IsFresh, IsUnused, IsEven, IsDone, IsS
 use crate::client::Client;
 use crate::gate::{Gate, Point};
 use crate::hands::Tools;
+use crate::job_report::{JobReport, Lists};
 use crate::jobs::{Job, Numbered};
 use crate::ledgers::Names;
 use crate::owned::Owned;
@@ -162,12 +163,13 @@ fn serve<'a, L: Names, G: Gate + 'a, R: Wait + 'a>(
     let Ok(mut workspace) = Workspace::new(shared.alloc) else {
         return Ending::Unstarted;
     };
+    let mut spare = None;
     for _ in shared.rt.forever() {
         let Some(bundle) = shared.tickets.draw(ticket) else {
             workspace.free();
             return Ending::Through;
         };
-        let Ok(left) = answer_bundle(shared, bundle, store, answered, workspace) else {
+        let Ok(left) = answer_bundle(shared, bundle, store, answered, &mut spare, workspace) else {
             return Ending::OutOfMemory;
         };
         workspace = left;
@@ -181,6 +183,7 @@ fn answer_bundle<'a, L: Names, G: Gate + 'a, R: Wait + 'a>(
     bundle: u64,
     store: &mut Store<'a, L, R>,
     answered: &mut Vec<Numbered>,
+    spare: &mut Option<Box<Lists>>,
     workspace: Workspace<Owned>,
 ) -> Result<Workspace<Owned>, AllocError>
     requires ready { AreReady shared.now.programs.now shared.now.jobs.now }
@@ -195,7 +198,7 @@ fn answer_bundle<'a, L: Names, G: Gate + 'a, R: Wait + 'a>(
     let end = (first + shared.size).min(shared.jobs.len() as u64);
     let mut workspace = workspace;
     for number in first..end {
-        workspace = answer(shared, number, store, answered, workspace)?;
+        workspace = answer(shared, number, store, answered, spare, workspace)?;
     }
     Ok(workspace)
 }
@@ -206,7 +209,8 @@ fn answer<'a, L: Names, G: Gate + 'a, R: Wait + 'a>(
     number: u64,
     store: &mut Store<'a, L, R>,
     answered: &mut Vec<Numbered>,
-    workspace: Workspace<Owned>,
+    spare: &mut Option<Box<Lists>>,
+    mut workspace: Workspace<Owned>,
 ) -> Result<Workspace<Owned>, AllocError>
     requires ready { AreReady shared.now.programs.now shared.now.jobs.now }
     requires number { number < length shared.now.jobs.now }
@@ -218,7 +222,13 @@ fn answer<'a, L: Names, G: Gate + 'a, R: Wait + 'a>(
         answered.old.items answered.new.items) }
 {
     let job = &shared.jobs[number as usize];
-    let Ok(context) = room_for(shared.alloc, answered, &job.context.bytes) else {
+    let Ok(context) = room_for(
+        shared.alloc,
+        answered,
+        spare,
+        &mut workspace,
+        &job.context.bytes,
+    ) else {
         workspace.free();
         return Err(AllocError);
     };
@@ -235,22 +245,28 @@ fn answer<'a, L: Names, G: Gate + 'a, R: Wait + 'a>(
     };
     answered.push_reserved(Numbered {
         job: number,
-        report,
+        report: JobReport::of(report, spare),
     });
     shared.gate.at(number, Point::Answered);
     Ok(workspace)
 }
 
-// Room for a report, and a context of these bytes.
+// Room for a report, a box for its lists, and a context of these bytes.
 fn room_for(
     alloc: Global,
     answered: &mut Vec<Numbered>,
+    spare: &mut Option<Box<Lists>>,
+    workspace: &mut Workspace<Owned>,
     bytes: &[u8],
 ) -> Result<Vec<u8>, AllocError>
     ensures same { answered.new.items ≡ answered.old.items }
     ensures context { IfOk result (λ v. v.items ≡ bytes.now) }
     ensures room { OnOk result (vec_len answered.new < vec_capacity answered.new) }
+    ensures spare { OnOk result (is_some spare.new ≡ true) }
 {
     answered.reserve(1)?;
-    bytes.to_vec(alloc)
+    if spare.is_none() {
+        *spare = Some(Lists::boxed(alloc)?);
+    }
+    workspace.context(alloc, bytes)
 }

@@ -5,8 +5,7 @@ ghost use Rattle.ebpf_pool.specs.Outcomes.{IsEvenTotal};
 ghost use Rattle.ebpf_script.specs.Stats.{AreStatsOf, steps_in};
 
 use crate::stats::Stats;
-use ebpf_machine::report::Report;
-use ebpf_pool::Outcome;
+use ebpf_pool::{JobReport, Outcome};
 
 /// The stats of an outcome that adds up.
 pub(crate) fn stats_of(outcome: Outcome) -> Stats
@@ -33,12 +32,12 @@ pub(crate) fn stats_of(outcome: Outcome) -> Stats
 }
 
 // How many instructions the reports tell.
-fn steps_in(reports: &[Report]) -> u128
+fn steps_in(reports: &[JobReport]) -> u128
     ensures { result ≡ steps_in reports.now }
 {
     let mut steps = 0;
     for report in reports {
-        steps += u128::from(report.executed);
+        steps += u128::from(report.executed());
     }
     steps
 }

@@ -5,8 +5,7 @@ ghost use Rattle.std.specs.List.{flat_map};
 ghost use Rattle.ebpf_script.specs.OutcomeLines.{job_emit_line, report_lines, reports_from, cache_line, cache_lines, shelf_line, shelf_lines, outcome_lines};
 
 use crate::text_line::TextLine;
-use ebpf_machine::report::Report;
-use ebpf_pool::{Outcome, ShelfTotals};
+use ebpf_pool::{JobReport, Outcome, ShelfTotals};
 use object_cache::Totals;
 use std::alloc::AllocError;
 
@@ -21,7 +20,7 @@ pub(crate) fn write_outcome(text: &mut String, outcome: &Outcome) -> Result<(), 
 }
 
 // Writes what each job did.
-fn write_reports(text: &mut String, reports: &[Report]) -> Result<(), AllocError>
+fn write_reports(text: &mut String, reports: &[JobReport]) -> Result<(), AllocError>
     ensures { OnOk result (string_bytes text.new ≡ string_bytes text.old ++ reports_from 0 reports.now) }
 {
     for job in 0..reports.len() {
@@ -31,17 +30,17 @@ fn write_reports(text: &mut String, reports: &[Report]) -> Result<(), AllocError
 }
 
 // Writes what a job did: what it added to its output, and how it ended.
-fn write_report(text: &mut String, job: usize, report: &Report) -> Result<(), AllocError>
+fn write_report(text: &mut String, job: usize, report: &JobReport) -> Result<(), AllocError>
     ensures { OnOk result (string_bytes text.new ≡ string_bytes text.old ++ report_lines job report.now) }
 {
-    write_output(text, job, &report.output.numbers)?;
-    let Some(exit) = report.exit else {
+    write_output(text, job, report.output())?;
+    let Some(exit) = report.exit() else {
         return Ok(());
     };
     let mut line = TextLine::end();
-    line.number(report.peak);
+    line.number(report.peak());
     line.words(b" peak ");
-    line.number(report.executed);
+    line.number(report.executed());
     line.words(b" executed ");
     line.number(exit);
     line.words(b" exit ");

@@ -3,6 +3,7 @@
 use crate::store::{Given, Store, Sums};
 use ebpf_machine::report::{Reply, Report};
 use ebpf_machine::whole::run_to_exit;
+use ebpf_pool::JobReport;
 use ebpf_verify::verified::Verified;
 use std::alloc::{AllocError, Global};
 use std::marker::Brand;
@@ -35,15 +36,31 @@ fn alone_in<L: Ledger>(
     Ok((report, sums))
 }
 
-// A report in words: its answers are a letter each.
+// A report of a run alone in words.
 pub(crate) fn tell(alloc: Global, report: &Report) -> Result<String, AllocError> {
-    let exit = report.exit.unwrap_or(0);
-    let output = report.output.numbers.as_slice();
+    let numbers = (report.exit, report.executed, report.peak);
+    in_words(alloc, numbers, &report.output.numbers, &report.answers.replies)
+}
+
+// A report of a job in words.
+pub(crate) fn tell_job(alloc: Global, report: &JobReport) -> Result<String, AllocError> {
+    let numbers = (report.exit(), report.executed(), report.peak());
+    in_words(alloc, numbers, report.output(), report.answers())
+}
+
+// What is reported in words: the exit, the instructions and the most objects, the output, and the answers, a letter each.
+fn in_words(
+    alloc: Global,
+    numbers: (Option<u64>, u64, u64),
+    output: &[u64],
+    answers: &[Reply],
+) -> Result<String, AllocError> {
+    let (exit, executed, peak) = numbers;
+    let exit = exit.unwrap_or(0);
     let mut told = format!(in alloc;
-        "exit {exit} executed {} peak {} output {output:?} answers ",
-        report.executed, report.peak
+        "exit {exit} executed {executed} peak {peak} output {output:?} answers "
     )?;
-    for reply in report.answers.replies.iter() {
+    for reply in answers {
         told.push(match reply {
             Reply::Granted => 'g',
             Reply::Null => 'n',

@@ -1,11 +1,10 @@
 //! Jobs that are done, and what comes of them.
 
-use crate::alone::{alone, tell};
+use crate::alone::{alone, tell, tell_job};
 use crate::facts::holds;
 use crate::jobs::{Setting, jobs_of};
 use crate::store::{Given, Sums};
 use crate::table::{are_free, claim_first, table_of};
-use ebpf_machine::report::Report;
 use ebpf_verify::verified::Verified;
 use object_cache::Totals;
 use std::alloc::{AllocError, Global};
@@ -80,11 +79,11 @@ fn compared(
         let verified = programs.get(job.program).ok_or(AllocError)?;
         let context = job.context.bytes.to_vec(alloc)?;
         let given = Given {
-            answers: report.answers.replies.to_vec(alloc)?,
-            taken: report.taken.bytes.to_vec(alloc)?,
+            answers: report.answers().to_vec(alloc)?,
+            taken: report.taken().to_vec(alloc)?,
         };
         let (expected, sums) = alone(alloc, verified, context, given)?;
-        let is_same = tell(alloc, report)? == tell(alloc, &expected)?;
+        let is_same = tell_job(alloc, report)? == tell(alloc, &expected)?;
         holds(rt, "a job is done as its program alone", is_same);
         add(&mut all.granted, &sums.granted);
         add(&mut all.refused, &sums.refused);
@@ -146,7 +145,7 @@ fn reports_told(alloc: Global, outcome: &Outcome) -> Result<String, AllocError> 
     let mut last = String::new(alloc);
     let mut count: u64 = 0;
     for report in outcome.reports.reports.iter() {
-        let next = tell(alloc, report)?;
+        let next = tell_job(alloc, report)?;
         if count > 0 && next != last {
             write!(told, "{count} of {last}; ")?;
             count = 0;

@@ -4,6 +4,7 @@ use Rattle.std.proofs.lemmas.Option.{slice_get_read}
 use Rattle.ebpf_verify.specs.Subject.{Subject}
 use Rattle.ebpf_pool.specs.declared.jobs.Job.{Job}
 use Rattle.ebpf_pool.specs.declared.jobs.Numbered.{Numbered}
+use Rattle.ebpf_machine.specs.declared.report.Report.{Report}
 use Rattle.ebpf_machine.specs.Whole.{IsReportOf}
 use Rattle.ebpf_pool.specs.Working.{Answers}
 use Rattle.ebpf_pool.proofs.Evens.{evens}
@@ -18,7 +19,9 @@ returns-clause-answered g c = record { made = n; job = refl; good = answered; ke
   n = record { job = c.args.number; report = c.in-Ok-run_in.report }
 
   items : c.push_reserved.new.self.items ≡ c.args.answered.now.items ++ n ∷ []
-  items = c.push_reserved.ensures.items ∙ ap (λ (l : List Numbered). l ++ n ∷ []) c.in-Ok.ensures.same
+  items =
+      let numbered = λ (r : Report). c.room_for.new.answered.items ++ record { job = c.args.number; report = r } ∷ [] in
+      c.push_reserved.ensures.items ∙ ap numbered c.of.ensures ∙ ap (λ (l : List Numbered). l ++ n ∷ []) c.in-Ok.ensures.same
 
   -- the job that is read is the one of the number
   program : c.job.inside.0.0 ≡ c.index-shared-number.result.program
