@@ -23,21 +23,27 @@ pub(crate) fn write_outcome(text: &mut String, outcome: &Outcome) -> Result<(), 
 fn write_reports(text: &mut String, reports: &[JobReport]) -> Result<(), AllocError>
     ensures { OnOk result (string_bytes text.new ≡ string_bytes text.old ++ reports_from 0 reports.now) }
 {
+    let mut line = TextLine::end();
     for job in 0..reports.len() {
-        write_report(text, job, &reports[job])?;
+        write_report(text, &mut line, job, &reports[job])?;
     }
     Ok(())
 }
 
 // Writes what a job did: what it added to its output, and how it ended.
-fn write_report(text: &mut String, job: usize, report: &JobReport) -> Result<(), AllocError>
+fn write_report(
+    text: &mut String,
+    line: &mut TextLine,
+    job: usize,
+    report: &JobReport,
+) -> Result<(), AllocError>
     ensures { OnOk result (string_bytes text.new ≡ string_bytes text.old ++ report_lines job report.now) }
 {
-    write_output(text, job, report.output())?;
+    write_output(text, line, job, report.output())?;
     let Some(exit) = report.exit() else {
         return Ok(());
     };
-    let mut line = TextLine::end();
+    line.restart();
     line.number(report.peak());
     line.words(b" peak ");
     line.number(report.executed());
@@ -50,20 +56,30 @@ fn write_report(text: &mut String, job: usize, report: &JobReport) -> Result<(),
 }
 
 // Writes the output of a job.
-fn write_output(text: &mut String, job: usize, output: &[u64]) -> Result<(), AllocError>
+fn write_output(
+    text: &mut String,
+    line: &mut TextLine,
+    job: usize,
+    output: &[u64],
+) -> Result<(), AllocError>
     ensures { OnOk result (string_bytes text.new ≡ string_bytes text.old ++ flat_map (job_emit_line job) output.now) }
 {
     for value in output {
-        write_emit(text, job, *value)?;
+        write_emit(text, line, job, *value)?;
     }
     Ok(())
 }
 
 // Writes a number of the output of a job.
-fn write_emit(text: &mut String, job: usize, value: u64) -> Result<(), AllocError>
+fn write_emit(
+    text: &mut String,
+    line: &mut TextLine,
+    job: usize,
+    value: u64,
+) -> Result<(), AllocError>
     ensures { OnOk result (string_bytes text.new ≡ string_bytes text.old ++ job_emit_line job value) }
 {
-    let mut line = TextLine::end();
+    line.restart();
     line.number(value);
     line.words(b" ");
     line.number(job as u64);

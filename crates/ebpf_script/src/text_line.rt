@@ -17,13 +17,14 @@ pub(crate) struct TextLine {
 }
 
 impl Model for TextLine {
-    ghost use Rattle.std.specs.Prelude.{ℕ, List, ◌≤◌, IsAscii, drop};
+    ghost use Rattle.std.specs.Prelude.{◌≡◌, ◌≤◌, ◌∷◌, [], ℕ, List, IsAscii, drop};
 
     ghost Value = { List ℕ };
 
     ghost view = { λ l. drop l.start l.bytes };
 
-    ghost invariant = { λ l. (l.start ≤ 112) × IsAscii (drop l.start l.bytes) };
+    // The last byte stays the newline.
+    ghost invariant = { λ l. (l.start ≤ 111) × (drop 111 l.bytes ≡ 10 ∷ []) × IsAscii (drop l.start l.bytes) };
 }
 
 impl TextLine {
@@ -36,6 +37,14 @@ impl TextLine {
             bytes: [b'\n'; ROOM],
             start: ROOM - 1,
         }
+    }
+
+    /// Begins another line, in the same memory.
+    #[inline]
+    pub(crate) fn restart(&mut self)
+        ensures { self.new ≡ codes "\n" }
+    {
+        self.start = ROOM - 1;
     }
 
     /// Writes a number before the rest.
