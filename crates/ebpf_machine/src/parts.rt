@@ -4,12 +4,10 @@ use crate::holding::Holding;
 use crate::registers::Registers;
 use crate::report::Reply;
 use crate::stack::Stack;
-use ebpf_verify::verified::Verified;
 
-/// A run's own, of which nothing is promised: `crate::run::Run` says what always holds of it.
+/// A run's own, but for its program, of which nothing is promised: `crate::run::Run` says what always holds of both.
 #[derive(Drop)]
-pub(crate) struct Parts<'v, H> {
-    pub(crate) verified: &'v Verified,
+pub(crate) struct Parts<H> {
     pub(crate) context: Vec<u8>,
     pub(crate) pc: usize,
     pub(crate) registers: Registers,
