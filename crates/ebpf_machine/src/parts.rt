@@ -1,5 +1,7 @@
 //! What a run is made of.
 
+ghost use Rattle.std.specs.Prelude.{◌≡◌, []};
+
 use crate::holding::Holding;
 use crate::registers::Registers;
 use crate::report::Reply;
@@ -19,4 +21,14 @@ pub(crate) struct Parts<H> {
     pub(crate) exit: Option<u64>,
     pub(crate) executed: u64,
     pub(crate) peak: u64,
+}
+
+impl<H> Parts<H> {
+    /// Frees the memory of a run that holds nothing.
+    pub(crate) fn free(self)
+        requires { self.held.items ≡ [] }
+    {
+        let Parts { held, .. } = self;
+        held.destroy_empty();
+    }
 }
