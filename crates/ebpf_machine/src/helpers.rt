@@ -4,6 +4,7 @@
 ghost use Rattle.std.specs.Prelude.{◌≡◌, ◌≤◌, ◌<◌, ◌+◌, ◌++◌, ◌∷◌, ℕ, ℤ, pos, max, map, Contains, List, [], length, None, Some, IfSome, slice_index_or};
 ghost use Rattle.ebpf_insn.specs.declared.program.TheConstants.{MAX_SLOTS};
 ghost use Rattle.ebpf_operation.specs.declared.helper.Helper.{Helper};
+ghost use Rattle.ebpf_verify.specs.Subject.{Subject};
 ghost use Rattle.ebpf_machine.specs.Burst.{moved};
 ghost use Rattle.ebpf_machine.specs.Flows.{HoldsNumber, object_in};
 ghost use Rattle.ebpf_machine.specs.RunState.{Calls, IsCallThere, IsSwapThere, gone_on, emitted, holding_too, with_taken};
@@ -20,35 +21,41 @@ use crate::report::Reply;
 use crate::value::{Base, Value};
 use ebpf_insn::register::Reg;
 use ebpf_operation::helper::Helper;
+use ebpf_verify::verified::Verified;
 
 /// Does a call of a helper, but of `emit`.
-pub(crate) fn call<O: Objects>(parts: &mut Parts<'_, O::Held>, helper: Helper, objects: &mut O)
-    requires kinds { O.store.kinds ≡ kinds_of parts.old.verified.now.rows }
-    requires ready { IsReady O.store (state_of parts.old) objects.old }
-    requires at { Calls (state_of parts.old) helper }
+pub(crate) fn call<O: Objects>(
+    verified: &Verified,
+    parts: &mut Parts<O::Held>,
+    helper: Helper,
+    objects: &mut O,
+)
+    requires kinds { O.store.kinds ≡ kinds_of verified.now.rows }
+    requires ready { IsReady O.store (state_of verified.now parts.old) objects.old }
+    requires at { Calls (state_of verified.now parts.old) helper }
     requires another { helper ≡ Helper.Emit → ⊥ }
     requires can_give { IsFree (Some helper) → O.store.can_give objects.old }
-    requires room { HasCapacity parts.old }
-    ensures advanced { IsAdvanced O.store (state_of parts.old) (state_of parts.new) objects.old objects.new }
+    requires room { HasCapacity verified.now parts.old }
+    ensures advanced { IsAdvanced O.store (state_of verified.now parts.old) (state_of verified.now parts.new) objects.old objects.new }
     ensures next { (parts.new.pc ≡ parts.old.pc + 1) × (parts.new.exit ≡ None) }
-    ensures room { HasCapacity parts.new }
+    ensures room { HasCapacity verified.now parts.new }
 {
     match helper {
-        Helper::New => ask(parts, objects),
-        Helper::Free => give_back(parts, objects),
+        Helper::New => ask(verified, parts, objects),
+        Helper::Free => give_back(verified, parts, objects),
         Helper::Emit => unreachable!(),
-        Helper::Swap => swap(parts, objects),
+        Helper::Swap => swap(verified, parts, objects),
     }
 }
 
 /// Adds the number in r1 to the output. The run's pc and its count are left.
 #[inline(always)]
-pub(crate) fn emit<H>(parts: &mut Parts<'_, H>)
-    requires called { (pc : ℕ) × IsCallThere (moved pc 0 (state_of parts.old)) × HasRoomAt pc parts.old }
+pub(crate) fn emit<H>(parts: &mut Parts<H>)
+    requires called { (subject : Subject) × (pc : ℕ) × IsCallThere (moved pc 0 (state_of subject parts.old)) × HasRoomAt subject pc parts.old }
     requires found { HoldsNumber (slice_index_or parts.old.registers 1 None) }
-    ensures state { (n : ℕ) → slice_index_or parts.old.registers 1 None ≡ Some (Value.Number n) → state_of parts.new ≡ emitted n (state_of parts.old) }
+    ensures state { (subject : Subject) (n : ℕ) → slice_index_or parts.old.registers 1 None ≡ Some (Value.Number n) → state_of subject parts.new ≡ emitted n (state_of subject parts.old) }
     ensures kept { parts.new.exit ≡ parts.old.exit }
-    ensures room { (pc : ℕ) → IsCallThere (moved pc 0 (state_of parts.old)) → HasRoomAt pc parts.old → HasRoomAt (pc + 1) parts.new }
+    ensures room { (subject : Subject) (pc : ℕ) → IsCallThere (moved pc 0 (state_of subject parts.old)) → HasRoomAt subject pc parts.old → HasRoomAt subject (pc + 1) parts.new }
 {
     let number = parts.registers.number(Reg::R1);
     parts.output.push_reserved(number);
@@ -56,37 +63,38 @@ pub(crate) fn emit<H>(parts: &mut Parts<'_, H>)
 }
 
 // Asks for an object of the kind in r1.
-fn ask<O: Objects>(parts: &mut Parts<'_, O::Held>, objects: &mut O)
-    requires kinds { O.store.kinds ≡ kinds_of parts.old.verified.now.rows }
-    requires ready { IsReady O.store (state_of parts.old) objects.old }
-    requires at { Calls (state_of parts.old) Helper.New }
-    requires room { HasCapacity parts.old }
-    ensures advanced { IsAdvanced O.store (state_of parts.old) (state_of parts.new) objects.old objects.new }
+fn ask<O: Objects>(verified: &Verified, parts: &mut Parts<O::Held>, objects: &mut O)
+    requires kinds { O.store.kinds ≡ kinds_of verified.now.rows }
+    requires ready { IsReady O.store (state_of verified.now parts.old) objects.old }
+    requires at { Calls (state_of verified.now parts.old) Helper.New }
+    requires room { HasCapacity verified.now parts.old }
+    ensures advanced { IsAdvanced O.store (state_of verified.now parts.old) (state_of verified.now parts.new) objects.old objects.new }
     ensures next { (parts.new.pc ≡ parts.old.pc + 1) × (parts.new.exit ≡ None) }
-    ensures room { HasCapacity parts.new }
+    ensures room { HasCapacity verified.now parts.new }
 {
     let call = parts.pc as u16;
     let kind = parts.registers.number(Reg::R1) as u8;
     match objects.take(kind, call) {
         Some(object) => {
-            hold(parts, Holding { call, kind, object }, Reply::Granted);
+            let holding = Holding { call, kind, object };
+            hold(verified, parts, holding, Reply::Granted);
             let base = Base::Object(call);
-            answer(parts, Value::Pointer { base, offset: 0 });
+            answer(verified, parts, Value::Pointer { base, offset: 0 });
         }
         None => {
             parts.replies.push_reserved(Reply::Null);
-            answer(parts, Value::Number(0));
+            answer(verified, parts, Value::Number(0));
         }
     }
 }
 
 // Holds an object that a call got with this reply.
-fn hold<H>(parts: &mut Parts<'_, H>, holding: Holding<H>, reply: Reply)
-    requires held { length parts.old.held.items < parts.old.verified.now.decl.held }
-    requires called { IsCallThere (state_of parts.old) }
-    requires room { HasRoomFrom parts.old.pc (parts.old.pc + 1) parts.old }
-    ensures state { state_of parts.new ≡ holding_too holding reply (state_of parts.old) }
-    ensures room { HasRoomAt (parts.new.pc + 1) parts.new }
+fn hold<H>(verified: &Verified, parts: &mut Parts<H>, holding: Holding<H>, reply: Reply)
+    requires held { length parts.old.held.items < verified.now.decl.held }
+    requires called { IsCallThere (state_of verified.now parts.old) }
+    requires room { HasRoomFrom verified.now parts.old.pc (parts.old.pc + 1) parts.old }
+    ensures state { state_of verified.now parts.new ≡ holding_too holding reply (state_of verified.now parts.old) }
+    ensures room { HasRoomAt verified.now (parts.new.pc + 1) parts.new }
 {
     parts.held.push_reserved(holding);
     parts.replies.push_reserved(reply);
@@ -94,15 +102,15 @@ fn hold<H>(parts: &mut Parts<'_, H>, holding: Holding<H>, reply: Reply)
 }
 
 // Gives back the object in r1.
-fn give_back<O: Objects>(parts: &mut Parts<'_, O::Held>, objects: &mut O)
-    requires kinds { O.store.kinds ≡ kinds_of parts.old.verified.now.rows }
-    requires ready { IsReady O.store (state_of parts.old) objects.old }
-    requires at { Calls (state_of parts.old) Helper.Free }
+fn give_back<O: Objects>(verified: &Verified, parts: &mut Parts<O::Held>, objects: &mut O)
+    requires kinds { O.store.kinds ≡ kinds_of verified.now.rows }
+    requires ready { IsReady O.store (state_of verified.now parts.old) objects.old }
+    requires at { Calls (state_of verified.now parts.old) Helper.Free }
     requires can_give { O.store.can_give objects.old }
-    requires room { HasCapacity parts.old }
-    ensures advanced { IsAdvanced O.store (state_of parts.old) (state_of parts.new) objects.old objects.new }
+    requires room { HasCapacity verified.now parts.old }
+    ensures advanced { IsAdvanced O.store (state_of verified.now parts.old) (state_of verified.now parts.new) objects.old objects.new }
     ensures next { (parts.new.pc ≡ parts.old.pc + 1) × (parts.new.exit ≡ None) }
-    ensures room { HasCapacity parts.new }
+    ensures room { HasCapacity verified.now parts.new }
 {
     let place = place_of(&parts.held, object(parts.registers.get(Reg::R1)));
     let Holding {
@@ -111,43 +119,44 @@ fn give_back<O: Objects>(parts: &mut Parts<'_, O::Held>, objects: &mut O)
         object,
     } = parts.held.remove(place);
     objects.give(kind, object);
-    answer(parts, Value::Number(0));
+    answer(verified, parts, Value::Number(0));
 }
 
 // Exchanges what is on the shelf in r1 for the object in r2, or for nothing.
-fn swap<O: Objects>(parts: &mut Parts<'_, O::Held>, objects: &mut O)
-    requires kinds { O.store.kinds ≡ kinds_of parts.old.verified.now.rows }
-    requires ready { IsReady O.store (state_of parts.old) objects.old }
-    requires at { Calls (state_of parts.old) Helper.Swap }
-    requires room { HasCapacity parts.old }
-    ensures advanced { IsAdvanced O.store (state_of parts.old) (state_of parts.new) objects.old objects.new }
+fn swap<O: Objects>(verified: &Verified, parts: &mut Parts<O::Held>, objects: &mut O)
+    requires kinds { O.store.kinds ≡ kinds_of verified.now.rows }
+    requires ready { IsReady O.store (state_of verified.now parts.old) objects.old }
+    requires at { Calls (state_of verified.now parts.old) Helper.Swap }
+    requires room { HasCapacity verified.now parts.old }
+    ensures advanced { IsAdvanced O.store (state_of verified.now parts.old) (state_of verified.now parts.new) objects.old objects.new }
     ensures next { (parts.new.pc ≡ parts.old.pc + 1) × (parts.new.exit ≡ None) }
-    ensures room { HasCapacity parts.new }
+    ensures room { HasCapacity verified.now parts.new }
 {
     let call = parts.pc as u16;
     let shelf = parts.registers.number(Reg::R1) as u8;
-    let given = part_with(parts);
+    let given = part_with(verified, parts);
     match objects.swap(shelf, given, call) {
         Some(object) => {
-            keep(parts, objects.bytes(&object));
+            keep(verified, parts, objects.bytes(&object));
             let kind = shelf;
-            hold(parts, Holding { call, kind, object }, Reply::Shelf);
+            let holding = Holding { call, kind, object };
+            hold(verified, parts, holding, Reply::Shelf);
             let base = Base::Object(call);
-            answer(parts, Value::Pointer { base, offset: 0 });
+            answer(verified, parts, Value::Pointer { base, offset: 0 });
         }
         None => {
             parts.replies.push_reserved(Reply::Empty);
-            answer(parts, Value::Number(0));
+            answer(verified, parts, Value::Number(0));
         }
     }
 }
 
 // Takes the object in r2 from the run, where there is one.
-fn part_with<H>(parts: &mut Parts<'_, H>) -> Option<H>
+fn part_with<H>(verified: &Verified, parts: &mut Parts<H>) -> Option<H>
     requires held { IfSome (object_in (slice_index_or parts.old.registers 2 None)) (λ call. Contains (map (λ h. h.call) parts.old.held.items) call) }
-    requires room { HasCapacity parts.old }
-    ensures parted { HasParted result (state_of parts.old) (state_of parts.new) }
-    ensures room { HasCapacity parts.new }
+    requires room { HasCapacity verified.now parts.old }
+    ensures parted { HasParted result (state_of verified.now parts.old) (state_of verified.now parts.new) }
+    ensures room { HasCapacity verified.now parts.new }
 {
     let Some(call) = object_at(parts.registers.get(Reg::R2)) else {
         return None;
@@ -162,12 +171,12 @@ fn part_with<H>(parts: &mut Parts<'_, H>) -> Option<H>
 }
 
 // Keeps the bytes of an object that was on a shelf.
-fn keep<H>(parts: &mut Parts<'_, H>, bytes: &[u8])
-    requires few { length bytes.now ≤ largest parts.old.verified.now.rows }
-    requires called { IsSwapThere (state_of parts.old) }
-    requires room { HasCapacity parts.old }
-    ensures state { state_of parts.new ≡ with_taken bytes.now (state_of parts.old) }
-    ensures room { HasRoomFrom parts.new.pc (parts.new.pc + 1) parts.new }
+fn keep<H>(verified: &Verified, parts: &mut Parts<H>, bytes: &[u8])
+    requires few { length bytes.now ≤ largest verified.now.rows }
+    requires called { IsSwapThere (state_of verified.now parts.old) }
+    requires room { HasCapacity verified.now parts.old }
+    ensures state { state_of verified.now parts.new ≡ with_taken bytes.now (state_of verified.now parts.old) }
+    ensures room { HasRoomFrom verified.now parts.new.pc (parts.new.pc + 1) parts.new }
 {
     let Ok(()) = parts.taken.extend_from_slice(bytes) else {
         unreachable!()
@@ -175,12 +184,12 @@ fn keep<H>(parts: &mut Parts<'_, H>, bytes: &[u8])
 }
 
 // Goes on after a call, with its result.
-fn answer<H>(parts: &mut Parts<'_, H>, value: Value<u16>)
+fn answer<H>(verified: &Verified, parts: &mut Parts<H>, value: Value<u16>)
     requires few { parts.old.executed < MAX_SLOTS }
     requires inside { parts.old.pc < MAX_SLOTS }
-    requires room { HasRoomAt (parts.old.pc + 1) parts.old }
-    ensures state { state_of parts.new ≡ gone_on value (state_of parts.old) }
-    ensures room { HasCapacity parts.new }
+    requires room { HasRoomAt verified.now (parts.old.pc + 1) parts.old }
+    ensures state { state_of verified.now parts.new ≡ gone_on value (state_of verified.now parts.old) }
+    ensures room { HasCapacity verified.now parts.new }
 {
     parts.registers.answer(value);
     parts.pc += 1;

@@ -1,15 +1,15 @@
 //! What a run is made of.
 
+ghost use Rattle.std.specs.Prelude.{◌≡◌, []};
+
 use crate::holding::Holding;
 use crate::registers::Registers;
 use crate::report::Reply;
 use crate::stack::Stack;
-use ebpf_verify::verified::Verified;
 
-/// A run's own, of which nothing is promised: `crate::run::Run` says what always holds of it.
+/// A run's own, but for its program, of which nothing is promised: `crate::run::Run` says what always holds of both.
 #[derive(Drop)]
-pub(crate) struct Parts<'v, H> {
-    pub(crate) verified: &'v Verified,
+pub(crate) struct Parts<H> {
     pub(crate) context: Vec<u8>,
     pub(crate) pc: usize,
     pub(crate) registers: Registers,
@@ -21,4 +21,14 @@ pub(crate) struct Parts<'v, H> {
     pub(crate) exit: Option<u64>,
     pub(crate) executed: u64,
     pub(crate) peak: u64,
+}
+
+impl<H> Parts<H> {
+    /// Frees the memory of a run that holds nothing.
+    pub(crate) fn free(self)
+        requires { self.held.items ≡ [] }
+    {
+        let Parts { held, .. } = self;
+        held.destroy_empty();
+    }
 }

@@ -2,30 +2,46 @@
 
 ghost use Rattle.std.specs.Prelude.{◌≡◌, [], IfOk};
 
-use crate::holding::Holding;
+use crate::parts::Parts;
+use crate::registers::Registers;
 use crate::stack::Stack;
 use std::alloc::{AllocError, Global};
 use std::mem;
 
-/// A run's stack, room for the objects that it holds, and for its context: the memory that is the same for all runs. A run gives it back
-/// at its end, so that the next one needs none. It must be freed.
+/// The memory of a run: what is the same for all runs, its registers and its stack, and room for the objects that it holds and for its
+/// context. A run gives it back at its end, so that the next one needs none. It must be freed.
 pub struct Workspace<H> {
-    pub(crate) stack: Box<Stack>,
-    pub(crate) held: Vec<Holding<H>>,
-    // What bytes are in it doesn't matter.
-    pub(crate) context: Vec<u8>,
-    ghost none: { held.items ≡ [] },
+    // What is not empty in it doesn't matter.
+    pub(crate) parts: Box<Parts<H>>,
+    ghost held: { parts.value.held.items ≡ [] },
+    ghost output: { parts.value.output.items ≡ [] },
+    ghost replies: { parts.value.replies.items ≡ [] },
+    ghost taken: { parts.value.taken.items ≡ [] },
 }
 
 impl<H> Workspace<H> {
     /// The memory of one run. It fails only where an allocation fails.
     pub fn new(alloc: Global) -> Result<Workspace<H>, AllocError> {
-        let stack = Box::new(alloc, Stack::new())?;
-        Ok(Workspace {
-            stack,
-            held: Vec::new(alloc),
+        let parts = Parts {
             context: Vec::new(alloc),
-        })
+            pc: 0,
+            registers: Registers::new(),
+            stack: Box::new(alloc, Stack::new())?,
+            output: Vec::new(alloc),
+            held: Vec::new(alloc),
+            replies: Vec::new(alloc),
+            taken: Vec::new(alloc),
+            exit: None,
+            executed: 0,
+            peak: 0,
+        };
+        match Box::new(alloc, parts) {
+            Ok(parts) => Ok(Workspace { parts }),
+            Err(failed) => {
+                failed.value.free();
+                Err(AllocError)
+            }
+        }
     }
 
     /// The context of a run, with these bytes, in the memory of the last run's. It fails only where that has no room for them and an
@@ -33,7 +49,7 @@ impl<H> Workspace<H> {
     pub fn context(&mut self, alloc: Global, bytes: &[u8]) -> Result<Vec<u8>, AllocError>
         ensures { IfOk result (λ context. context.items ≡ bytes.now) }
     {
-        let mut context = mem::replace(&mut self.context, Vec::new(alloc));
+        let mut context = mem::replace(&mut self.parts.context, Vec::new(alloc));
         context.clear();
         context.extend_from_slice(bytes)?;
         Ok(context)
@@ -41,11 +57,7 @@ impl<H> Workspace<H> {
 
     /// Frees the memory.
     pub fn free(self) {
-        let Workspace {
-            stack: _,
-            held,
-            context: _,
-        } = self;
-        held.destroy_empty();
+        let Workspace { parts } = self;
+        Box::into_inner(parts).free();
     }
 }

@@ -31,7 +31,7 @@ hold-requires-clause-held g c =
 pub hold-requires-clause-room : goal.hold-requires-clause-room
 hold-requires-clause-room g c =
     let room = c.requires.room in
-    record { output = room.output; replies = room.replies; taken = taken_behind c.args.parts.now.verified.now.program c.args.parts.now.pc _ _ _ room.taken; held = room.held }
+    record { output = room.output; replies = room.replies; taken = taken_behind c.args.verified.now.program c.args.parts.now.pc _ _ _ room.taken; held = room.held }
 
 pub hold-requires-clause-called : goal.hold-requires-clause-called
 hold-requires-clause-called g c = ap is_call_there c.requires.at.at
@@ -46,7 +46,7 @@ answer-requires-clause-inside g c =
 
 pub push_reserved-requires : goal.push_reserved-requires
 push_reserved-requires g c =
-    let fits = one_fits c.args.parts.now.verified.now.program c.args.parts.now.pc _ _ (ap is_call_there c.requires.at.at) c.requires.room.replies in
+    let fits = one_fits c.args.verified.now.program c.args.parts.now.pc _ _ (ap is_call_there c.requires.at.at) c.requires.room.replies in
     let long : length c.args.parts.now.replies.items ≡ vec_len c.args.parts.now.replies = search rules in
     omega (arith, fits, long)
 
@@ -59,7 +59,7 @@ answer-requires-in-None-clause-inside g c = ready_inside _ _ _ c.requires.ready
 pub returns-in-Some-clause-advanced : goal.returns-in-Some-clause-advanced
 returns-in-Some-clause-advanced g c =
     let asks = asking _ _ _ _ c.requires.ready c.requires.at c.number-kind.ensures in
-    rw (granted_state (state_of c.args.parts.now) (state_of c.hold.new.parts) (state_of c.answer.new.parts) _ _ refl c.hold.ensures.state c.answer.ensures.state)
+    rw (granted_state (state_of c.args.verified.now c.args.parts.now) (state_of c.args.verified.now c.hold.new.parts) (state_of c.args.verified.now c.answer.new.parts) _ _ refl c.hold.ensures.state c.answer.ensures.state)
     (grant_advanced _ _ _ _ _ asks (ask_known _ _ _ _ asks) refl (record { can = c.in-Some.ensures.granted; out = c.in-Some.ensures.out; apart = c.in-Some.ensures.apart; image = c.in-Some.ensures.image ∙ ap (λ (ks : List Kind). image_at ks c.number-kind.result) c.requires.kinds; goes = c.in-Some.ensures.goes; outs = c.in-Some.ensures.outs; kept = c.take.ensures.others; shelves = c.take.ensures.shelves }))
 
 pub returns-in-None-clause-advanced : goal.returns-in-None-clause-advanced
@@ -71,9 +71,9 @@ returns-in-None-clause-advanced g c =
 pub answer-requires-in-None-clause-room : goal.answer-requires-in-None-clause-room
 answer-requires-in-None-clause-room g c =
     let room = c.requires.room in
-    let added = one_added c.args.parts.now.verified.now.program c.args.parts.now.pc _ _ (ap is_call_there c.requires.at.at) room.replies in
+    let added = one_added c.args.verified.now.program c.args.parts.now.pc _ _ (ap is_call_there c.requires.at.at) room.replies in
     let long : length c.push_reserved.new.self.items ≡ length c.args.parts.now.replies.items + 1 = search rules in
-    record { output = behind c.args.parts.now.verified.now.program c.args.parts.now.pc _ _ room.output; replies = omega (arith, added, long, c.push_reserved.ensures.capacity); taken = taken_behind c.args.parts.now.verified.now.program c.args.parts.now.pc _ _ _ room.taken; held = room.held }
+    record { output = behind c.args.verified.now.program c.args.parts.now.pc _ _ room.output; replies = omega (arith, added, long, c.push_reserved.ensures.capacity); taken = taken_behind c.args.verified.now.program c.args.parts.now.pc _ _ _ room.taken; held = room.held }
 
 pub returns-in-Some-clause-next : goal.returns-in-Some-clause-next
 returns-in-Some-clause-next g c = (

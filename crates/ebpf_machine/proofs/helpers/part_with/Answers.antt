@@ -20,6 +20,6 @@ returns-clause-parted g c =
         place = place;
         inside = inside;
         is = sym c.remove-object.ensures.value;
-        left = ap (λ (hs : List (Holding _)). record (state_of c.args.parts.now) { held = hs }) c.remove-object.ensures.items;
+        left = ap (λ (hs : List (Holding _)). record (state_of c.args.verified.now c.args.parts.now) { held = hs }) c.remove-object.ensures.items;
       },
     )
