@@ -6,6 +6,10 @@ from built import TESTS, TOP
 
 FILES = [*sorted(TESTS.glob('objects/*.o')), *sorted(TOP.glob('examples/*.o'))]
 
+# those of other compilers; of each one, a file that is damaged too
+KEPT = sorted(TESTS.glob('objects/kept/*.o'))
+DAMAGED = [*FILES, *(path for path in KEPT if path.name.startswith('section-O2-g.'))]
+
 # the fields of each header: the offset and the size of a number
 HEADER = [(4, 1), (5, 1), (6, 1), (16, 2), (18, 2), (20, 4), (32, 8), (40, 8), (52, 2), (58, 2), (60, 2), (62, 2)]
 SECTION = [(0, 4), (4, 4), (8, 8), (24, 8), (32, 8), (40, 4), (44, 4), (56, 8)]
