@@ -87,9 +87,7 @@ impl Machine {
         }
         let (workspace, context) = self.take_workspace(context)?;
         let stocks = &mut *self.stocks;
-        let (report, workspace) = run_within(
-            self.alloc, workspace, program, context, stocks, limit,
-        )?;
+        let (report, workspace) = run_within(workspace, program, context, stocks, limit)?;
         self.put_workspace(workspace);
         Ok(report)
     }

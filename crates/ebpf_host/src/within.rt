@@ -11,7 +11,6 @@ use ebpf_machine::objects::Objects;
 use ebpf_machine::report::Report;
 use ebpf_machine::run::{Run, StartFault};
 use ebpf_machine::workspace::Workspace;
-use std::alloc::Global;
 
 /// Runs a program on a context, with the objects of a store, in the memory of a run that has ended, which is left for the next one. After
 /// `limit` instructions the run is given up, and what it holds goes back.
@@ -19,7 +18,6 @@ use std::alloc::Global;
 /// # Errors
 /// `ContextLength` where the context doesn't have the declared length; `NoMemory` where an allocation failed. The memory is freed then.
 pub(crate) fn run_within<O: Objects>(
-    alloc: Global,
     workspace: Workspace<O::Held>,
     program: &Program,
     context: Vec<u8>,
@@ -36,7 +34,7 @@ pub(crate) fn run_within<O: Objects>(
     ensures refused { IfErr result (IsStartFault (length context.items) program.now.verified.decl.context) }
     ensures unchanged { OnErr result (objects.new ≡ objects.old) }
 {
-    let mut run = Run::start_in(alloc, workspace, &program.verified, context)?;
+    let mut run = Run::start_in(workspace, &program.verified, context)?;
     run.run(objects, limit);
     Ok(run.end(objects))
 }

@@ -41,7 +41,7 @@ pub fn run_to_exit<O: Objects>(
         return Err(StartFault::ContextLength);
     }
     let workspace = Workspace::new(alloc)?;
-    let (report, workspace) = run_in(alloc, workspace, verified, context, objects)?;
+    let (report, workspace) = run_in(workspace, verified, context, objects)?;
     workspace.free();
     Ok(report)
 }
@@ -51,7 +51,6 @@ pub fn run_to_exit<O: Objects>(
 /// # Errors
 /// As [`run_to_exit`]. The memory is freed then.
 pub fn run_in<O: Objects>(
-    alloc: Global,
     workspace: Workspace<O::Held>,
     verified: &Verified,
     context: Vec<u8>,
@@ -69,7 +68,7 @@ pub fn run_in<O: Objects>(
     ensures refused { IfErr result (IsStartFault (length context.items) verified.now.decl.context) }
     ensures unchanged { OnErr result (objects.new ≡ objects.old) }
 {
-    let mut run = Run::start_in(alloc, workspace, verified, context)?;
+    let mut run = Run::start_in(workspace, verified, context)?;
     // No program has that many instructions: it exits.
     run.run(objects, u64::MAX);
     Ok(run.end(objects))

@@ -1,7 +1,7 @@
 //! The report of a job, as it is kept until all jobs are done.
 //!
 //! A short job takes mostly the time of memory that is touched for the first time. So a report keeps its lists in a box, and has no box
-//! where all of them are empty: it takes 40 bytes in place of 104.
+//! where all of them are empty: it takes 48 bytes in place of 104.
 
 ghost use Rattle.std.specs.Prelude.{◌≡◌, true, None, is_some};
 ghost use Rattle.ebpf_pool.specs.JobReports.{lists_in, no_lists};

@@ -234,13 +234,8 @@ fn answer<'a, L: Names, G: Gate + 'a, R: Wait + 'a>(
     };
     shared.gate.at(number, Point::Begin);
     store.client.job = number as u32;
-    let Ok((report, workspace)) = run_in(
-        shared.alloc,
-        workspace,
-        &shared.programs[job.program],
-        context,
-        store,
-    ) else {
+    let Ok((report, workspace)) = run_in(workspace, &shared.programs[job.program], context, store)
+    else {
         return Err(AllocError);
     };
     answered.push_reserved(Numbered {
