@@ -80,10 +80,10 @@ replied kind reply v to frame r = record (moved_to to (with_value frame R0 v) r)
 -- a slot is granted, with its image, unless the run holds as many as it declared
 abbrev pub granted : ℕ → World → ℕ → Running → ℕ → Frame Name → ℕ → World
 granted slot w run r to frame kind =
-    let pointer = Pointer (Object (name_of slot r.pc)) (pos 0) in
-    let imaged = with_bytes slot (image_at w.kinds kind) (with_run w run (replied kind reply.Granted pointer to frame r)) in
     if nat_le r.subject.decl.held (holds_of w run) then with_run w run (trapped TooManyObjects r) else
-    with_owner slot (Run run r.pc) imaged
+    let pointer = Pointer (Object (name_of slot r.pc)) (pos 0) in
+    let told = with_run w run (replied kind reply.Granted pointer to frame r) in
+    with_owner slot (Run run r.pc) (with_bytes slot (image_at w.kinds kind) told)
 
 abbrev pub answered : Answer → World → ℕ → Running → ℕ → Frame Name → ℕ → World
 answered (Slot slot) w run r to frame kind = granted slot w run r to frame kind
