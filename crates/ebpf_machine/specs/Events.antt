@@ -17,7 +17,9 @@ use Rattle.ebpf_machine.specs.Layout.{helper_of}
 use Rattle.ebpf_machine.specs.Bytes.{patched}
 use Rattle.ebpf_machine.specs.Values.{Trap, TooManyObjects, Frame, read}
 use Rattle.ebpf_machine.specs.Effect.{Act, Nothing, Write, Ask, Free, Exchange, Effect, Goes, Ends, Traps, effect_at, with_value}
-use Rattle.ebpf_machine.specs.World.{Name, World, Running, Status, Going, Exited, Trapped, Owner, Holder, Run, Shelf, Answer, Absent, Null, Slot, is_in, is_in_ledger, is_home, is_call, is_shelf, standing, ledger_of, kind_in, image_at, holds_of, environment, first_run, name_of}
+use Rattle.ebpf_machine.specs.declared.answer.Answer.{Answer}
+use Rattle.ebpf_machine.specs.declared.answer.Answer.TheVariants.{Absent, Null, Slot}
+use Rattle.ebpf_machine.specs.World.{Name, World, Running, Status, Going, Exited, Trapped, Owner, Holder, Run, Shelf, is_in, is_in_ledger, is_home, is_call, is_shelf, standing, ledger_of, kind_in, image_at, holds_of, environment, first_run, name_of}
 
 -- why an event is not legal. The causes are tested in this order, but for an event that names a kind: there an unknown one
 -- goes before what is wrong with the slot.

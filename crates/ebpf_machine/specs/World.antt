@@ -76,12 +76,6 @@ pub record World : Type 0 where
   pub bytes : ℕ → List ℕ
   pub runs : List Running
 
--- the answer that an event brings to a call of new; an event of ebpf_world has its own, of which answer_of makes this one
-pub data Answer : Type 0 where
-  Absent : Answer
-  Null : Answer
-  Slot : (slot : ℕ) → Answer
-
 -- ---- what the world says of a slot
 
 abbrev pub is_in : ℕ → List ℕ → Bool

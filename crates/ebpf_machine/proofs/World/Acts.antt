@@ -10,7 +10,9 @@ use Rattle.ebpf_machine.specs.declared.report.Reply.TheVariants as reply
 use Rattle.ebpf_machine.specs.Bytes.{patched}
 use Rattle.ebpf_machine.specs.Values.{TooManyObjects, Frame}
 use Rattle.ebpf_machine.specs.Effect.{Act, Nothing, Write, Ask, Free, Exchange, Effect, Goes, Ends, Traps, with_value}
-use Rattle.ebpf_machine.specs.World.{Name, World, Running, Owner, Run, AnsweredCall, Answer, Absent, Null, Slot, is_in, is_home, is_shelf, standing, held_by, holds_of, ledger_of, kinds_of, image_at, kind_in, name_of}
+use Rattle.ebpf_machine.specs.declared.answer.Answer.{Answer}
+use Rattle.ebpf_machine.specs.declared.answer.Answer.TheVariants.{Absent, Null, Slot}
+use Rattle.ebpf_machine.specs.World.{Name, World, Running, Owner, Run, AnsweredCall, is_in, is_home, is_shelf, standing, held_by, holds_of, ledger_of, kinds_of, image_at, kind_in, name_of}
 use Rattle.ebpf_machine.specs.Events.{with_run, with_bytes, with_owner, put_on, fetched, shelf_told, exchanged, moved_to, ended, trapped, replied, granted, done_by}
 use Rattle.ebpf_machine.specs.Renaming.{value_renamed, register_renamed}
 use Rattle.ebpf_machine.specs.View.{RunView, ObjectView, frame_seen, object_in, view_of, view_in, slots_in, new_object, shelved_object, without_given, CallResult, reply_in}

@@ -14,7 +14,9 @@ use Rattle.ebpf_machine.specs.declared.report.Reply.TheVariants as reply
 use Rattle.ebpf_machine.specs.Bytes.{patched}
 use Rattle.ebpf_machine.specs.Values.{Frame, TooManyObjects}
 use Rattle.ebpf_machine.specs.Effect.{Effect, Goes, Ends, Traps, Nothing, Write, Ask, Free, Exchange, with_value}
-use Rattle.ebpf_machine.specs.World.{Name, Kind, World, Running, AnsweredCall, Owner, Run, Shelf, Answer, Absent, Null, Slot, is_in, is_home, holds_of, ledger_of, kind_in, kinds_of, image_at, is_call, is_shelf, standing, first_run, name_of, IsGot, IsOfKind, AskedFor}
+use Rattle.ebpf_machine.specs.declared.answer.Answer.{Answer}
+use Rattle.ebpf_machine.specs.declared.answer.Answer.TheVariants.{Absent, Null, Slot}
+use Rattle.ebpf_machine.specs.World.{Name, Kind, World, Running, AnsweredCall, Owner, Run, Shelf, is_in, is_home, holds_of, ledger_of, kind_in, kinds_of, image_at, is_call, is_shelf, standing, first_run, name_of, IsGot, IsOfKind, AskedFor}
 use Rattle.ebpf_machine.specs.Events.{with_run, with_bytes, with_owner, moved_to, ended, trapped, replied, granted, put_on, fetched, shelf_told, exchanged, done_by, started}
 use Rattle.ebpf_machine.specs.Alone.{alone_first}
 use Rattle.ebpf_machine.specs.View.{call_of}

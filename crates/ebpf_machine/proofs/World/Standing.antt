@@ -12,7 +12,9 @@ use Rattle.ebpf_machine.specs.declared.report.Reply.TheVariants as reply
 use Rattle.ebpf_machine.specs.Bytes.{patched}
 use Rattle.ebpf_machine.specs.Values.{TooManyObjects, Frame}
 use Rattle.ebpf_machine.specs.Effect.{Nothing, Write, Ask, Free, Exchange, Effect, Goes, Ends, Traps}
-use Rattle.ebpf_machine.specs.World.{Name, World, Running, Owner, Holder, Run, Shelf, Shelved, Answer, Absent, Null, Slot, is_home, is_run, is_call, is_shelf, standing, shelved_at, shelved_in, held_by, holds_of, image_at, kind_in, name_of}
+use Rattle.ebpf_machine.specs.declared.answer.Answer.{Answer}
+use Rattle.ebpf_machine.specs.declared.answer.Answer.TheVariants.{Absent, Null, Slot}
+use Rattle.ebpf_machine.specs.World.{Name, World, Running, Owner, Holder, Run, Shelf, Shelved, is_home, is_run, is_call, is_shelf, standing, shelved_at, shelved_in, held_by, holds_of, image_at, kind_in, name_of}
 use Rattle.ebpf_machine.specs.Events.{with_run, with_bytes, with_owner, without_owner, without_shelved, put_on, fetched, shelf_told, exchanged, moved_to, trapped, replied, granted, done_by}
 use Rattle.ebpf_machine.specs.View.{ObjectView, call_of, object_in, view_of, slots_in, without_given}
 use Rattle.ebpf_machine.specs.Step.{shelved_given, standing_then, name_given, standing_seen}
