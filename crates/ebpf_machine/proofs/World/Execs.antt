@@ -12,9 +12,9 @@ use Rattle.ebpf_machine.specs.Values.{Frame}
 use Rattle.ebpf_machine.specs.Effect.{Act, Nothing, Write, Ask, Free, Exchange, Effect, Goes, Ends, Traps}
 use Rattle.ebpf_machine.specs.declared.answer.Answer.{Answer}
 use Rattle.ebpf_machine.specs.declared.answer.Answer.TheVariants.{Absent, Slot}
-use Rattle.ebpf_machine.specs.World.{Name, Kind, World, Running, Owner, Run, Going, is_by_run, standing, shelved_in, environment, holds_of, held_by, is_home, is_in, kind_in, kinds_of, image_at, ledger_of}
+use Rattle.ebpf_machine.specs.World.{Name, Kind, World, Running, Owner, Going, standing, shelved_in, environment, holds_of, held_by, is_home, is_in, kind_in, kinds_of, image_at, ledger_of}
 use Rattle.ebpf_machine.specs.declared.answer.Answer.TheVariants as brought
-use Rattle.ebpf_machine.specs.Events.{Illegal, SlotNotHome, SlotOfAnotherKind, Asking, Unasked, OfNoKind, OfKind, AtShelf, put_on, fetched, with_run, exchanged, granted, done_by, effect_of_run, asking_of, answer_fault, exec}
+use Rattle.ebpf_machine.specs.Events.{under_way, Illegal, SlotNotHome, SlotOfAnotherKind, Asking, Unasked, OfNoKind, OfKind, AtShelf, put_on, fetched, with_run, exchanged, granted, done_by, effect_of_run, asking_of, answer_fault, exec}
 use Rattle.ebpf_machine.specs.View.{ObjectView, RunView, object_in, view_of, view_in, slots_in, environment_of_view, effect_of_view, stepped}
 use Rattle.ebpf_machine.specs.Step.{IsEvent, Offers, MayAnswer, Served, Idle, Refused, Granted, Empty, Fetched, served_by, served_from, served_in, answer_for, result_of, asking_in, standing_then, standing_seen}
 use Rattle.ebpf_machine.specs.Advance.{slots_after}
@@ -58,7 +58,7 @@ record IsSteady (w after : World) : Type 0 where
   kinds : after.kinds ≡ w.kinds
   ledgers : after.ledgers ≡ w.ledgers
 
-steady_granted : (w : World) (run : ℕ) (r : Running) (slot to kind : ℕ) (frame : Frame Name) → IsSteady w (granted slot w run r to frame kind)
+steady_granted : (w : World) (run : ℕ) (r : Running) (slot to kind : ℕ) (frame : Frame Name) → IsSteady w (granted slot w (under_way run r to frame) kind)
 steady_granted w run r slot to kind frame =
     cond_both (nat_le r.subject.decl.held (holds_of w run)) _ _ (IsSteady w) (λ e. record { as_many = length-set w.runs run _; kinds = refl; ledgers = refl }) (λ e. record { as_many = length-set w.runs run _; kinds = refl; ledgers = refl })
 
@@ -67,9 +67,9 @@ steady_put w v run shelf None same = same
 steady_put w v run shelf (Some name) same = record { as_many = same.as_many; kinds = same.kinds; ledgers = same.ledgers }
 
 steady_exchanged : (w : World) (run : ℕ) (r : Running) (shelf to : ℕ) (given : Option Name) (frame : Frame Name)
-    → IsSteady w (exchanged (standing w shelf) w run r to frame shelf given)
+    → IsSteady w (exchanged (standing w shelf) w (under_way run r to frame) shelf given)
 steady_exchanged w run r shelf to given frame = by (standing w shelf) where
-  by : (o : Option Owner) → IsSteady w (exchanged o w run r to frame shelf given)
+  by : (o : Option Owner) → IsSteady w (exchanged o w (under_way run r to frame) shelf given)
   by None = steady_put w (with_run w run _) run shelf given (record { as_many = length-set w.runs run _; kinds = refl; ledgers = refl })
   by (Some o) =
       cond_both (nat_le r.subject.decl.held (holds_of (put_on given shelf run w) run)) _ _ (IsSteady w) (λ e. record { as_many = length-set w.runs run _; kinds = refl; ledgers = refl })
