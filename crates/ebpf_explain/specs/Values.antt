@@ -1,14 +1,21 @@
 -- What is known of a value, as text.
-use Rattle.std.specs.Prelude.{ℕ, ℤ, ◌==◌, if◌then◌else◌, List, [], ◌++◌, codes, decimal}
+use Rattle.std.specs.Prelude.{ℕ, ℤ, ◌-◌, ◌^◌, ◌==◌, Bool, ◌&&◌, if◌then◌else◌, List, [], ◌++◌, codes, decimal}
 use Rattle.std.specs.Ordering.{int_eq}
 use Rattle.ebpf_text.specs.Operands.{offset_text}
 use Rattle.ebpf_range.specs.declared.range.Range.{Range}
 use Rattle.ebpf_state.specs.declared.value.Abs.{Abs}
 use Rattle.ebpf_state.specs.declared.value.Abs.TheVariants.{Unset, Num, Stk, Ctx, Ob, May}
 
--- a number, or the ends of the range that it is of
+-- nothing is known of a number that may be any of 64 bits
+abbrev pub is_any : Range → Bool
+is_any r = (r.lo == 0) && (r.hi == 2 ^ 64 - 1)
+
+-- the number, or the ends of the range that it is of
+abbrev pub known_range : Range → List ℕ
+known_range r = if r.lo == r.hi then decimal r.lo else decimal r.lo ++ (codes ".." ++ decimal r.hi)
+
 abbrev pub range_text : Range → List ℕ
-range_text r = if r.lo == r.hi then decimal r.lo else decimal r.lo ++ (codes ".." ++ decimal r.hi)
+range_text r = if is_any r then codes "any number" else known_range r
 
 -- an offset, or the ends that it is between
 abbrev pub offsets_text : ℤ → ℤ → List ℕ

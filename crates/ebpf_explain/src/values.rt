@@ -2,7 +2,7 @@
 
 ghost use Rattle.std.specs.Prelude.{◌≡◌, ◌++◌, string_bytes, OnOk};
 ghost use Rattle.ebpf_text.specs.Operands.{offset_text};
-ghost use Rattle.ebpf_explain.specs.Values.{range_text, offsets_text, value_text};
+ghost use Rattle.ebpf_explain.specs.Values.{known_range, range_text, offsets_text, value_text};
 
 use ebpf_range::range::Range;
 use ebpf_state::value::Abs;
@@ -31,9 +31,20 @@ pub(crate) fn write_value(text: &mut String, value: Abs) -> Result<(), AllocErro
     }
 }
 
-// A number, or the least and the greatest that it can be.
+// A number, or that nothing is known of it.
 fn write_range(text: &mut String, range: Range) -> Result<(), AllocError>
     ensures { OnOk result (string_bytes text.new ≡ string_bytes text.old ++ range_text range) }
+{
+    if range.lo == 0 && range.hi == u64::MAX {
+        text.push_str("any number")
+    } else {
+        write_known_range(text, range)
+    }
+}
+
+// A number, or the least and the greatest that it can be.
+fn write_known_range(text: &mut String, range: Range) -> Result<(), AllocError>
+    ensures { OnOk result (string_bytes text.new ≡ string_bytes text.old ++ known_range range) }
 {
     let Range { lo, hi } = range;
     if lo == hi {

@@ -6,7 +6,9 @@ use Rattle.ebpf_machine.specs.declared.report.Reply.{Reply}
 use Rattle.ebpf_machine.specs.declared.report.Reply.TheVariants as reply
 use Rattle.ebpf_machine.specs.declared.report.Report.{Report}
 use Rattle.ebpf_machine.specs.View.{RunView}
-use Rattle.ebpf_machine.specs.World.{World, Running, Status, Going, Exited, Owner, Shelf, Kind, Answer, Absent, Null, Slot, kinds_of, image_at, kind_in, standing, first_run, holds_of}
+use Rattle.ebpf_machine.specs.declared.answer.Answer.{Answer}
+use Rattle.ebpf_machine.specs.declared.answer.Answer.TheVariants.{Absent, Null, Slot}
+use Rattle.ebpf_machine.specs.World.{World, Running, Status, Going, Exited, Owner, Shelf, Kind, kinds_of, image_at, kind_in, standing, first_run, holds_of}
 use Rattle.ebpf_machine.specs.Events.{Illegal, Asking, Unasked, OfKind, AtShelf, asking_of, with_bytes, with_owner, without_shelved, with_slot_joined, with_slot_left, exec}
 
 -- the world of one run, and the most objects that it held at one time

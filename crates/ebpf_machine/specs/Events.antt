@@ -17,7 +17,9 @@ use Rattle.ebpf_machine.specs.Layout.{helper_of}
 use Rattle.ebpf_machine.specs.Bytes.{patched}
 use Rattle.ebpf_machine.specs.Values.{Trap, TooManyObjects, Frame, read}
 use Rattle.ebpf_machine.specs.Effect.{Act, Nothing, Write, Ask, Free, Exchange, Effect, Goes, Ends, Traps, effect_at, with_value}
-use Rattle.ebpf_machine.specs.World.{Name, World, Running, Status, Going, Exited, Trapped, Owner, Holder, Run, Shelf, Answer, Absent, Null, Slot, is_in, is_in_ledger, is_home, is_call, is_shelf, standing, ledger_of, kind_in, image_at, holds_of, environment, first_run, name_of}
+use Rattle.ebpf_machine.specs.declared.answer.Answer.{Answer}
+use Rattle.ebpf_machine.specs.declared.answer.Answer.TheVariants.{Absent, Null, Slot}
+use Rattle.ebpf_machine.specs.World.{Name, World, Running, Status, Going, Exited, Trapped, Owner, Holder, Run, Shelf, is_in, is_in_ledger, is_home, is_call, is_shelf, standing, ledger_of, kind_in, image_at, holds_of, environment, first_run, name_of}
 
 -- why an event is not legal. The causes are tested in this order, but for an event that names a kind: there an unknown one
 -- goes before what is wrong with the slot.
@@ -77,18 +79,35 @@ trapped trap r = record r { status = Trapped trap; executed = r.executed + 1 }
 abbrev pub replied : ℕ → Reply → Value Name → ℕ → Frame Name → Running → Running
 replied kind reply v to frame r = record (moved_to to (with_value frame R0 v) r) { calls = r.calls ++ record { at = r.pc; kind = kind; reply = reply } ∷ [] }
 
--- a slot is granted, with its image, unless the run holds as many as it declared
-abbrev pub granted : ℕ → World → ℕ → Running → ℕ → Frame Name → ℕ → World
-granted slot w run r to frame kind =
-    let pointer = Pointer (Object (name_of slot r.pc)) (pos 0) in
-    let imaged = with_bytes slot (image_at w.kinds kind) (with_run w run (replied kind reply.Granted pointer to frame r)) in
-    if nat_le r.subject.decl.held (holds_of w run) then with_run w run (trapped TooManyObjects r) else
-    with_owner slot (Run run r.pc) imaged
+-- an instruction under way: the number of the run that does it, the run before it, the slot at which it goes on, and the frame then
+pub record UnderWay : Type 0 where
+  pub run : ℕ
+  pub before : Running
+  pub to : ℕ
+  pub frame : Frame Name
 
-abbrev pub answered : Answer → World → ℕ → Running → ℕ → Frame Name → ℕ → World
-answered (Slot slot) w run r to frame kind = granted slot w run r to frame kind
-answered Null w run r to frame kind = with_run w run (replied kind reply.Null (Number 0) to frame r)
-answered Absent w run r to frame kind = with_run w run (replied kind reply.Null (Number 0) to frame r)
+abbrev pub under_way : ℕ → Running → ℕ → Frame Name → UnderWay
+under_way run r to frame = record { run = run; before = r; to = to; frame = frame }
+
+-- the run goes on
+abbrev pub gone_on : World → UnderWay → World
+gone_on w u = with_run w u.run (moved_to u.to u.frame u.before)
+
+-- a call of the run is answered
+abbrev pub with_answer : World → UnderWay → ℕ → Reply → Value Name → World
+with_answer w u kind reply v = with_run w u.run (replied kind reply v u.to u.frame u.before)
+
+-- a slot is granted, with its image, unless the run holds as many as it declared
+abbrev pub granted : ℕ → World → UnderWay → ℕ → World
+granted slot w u kind =
+    if nat_le u.before.subject.decl.held (holds_of w u.run) then with_run w u.run (trapped TooManyObjects u.before) else
+    let pointer = Pointer (Object (name_of slot u.before.pc)) (pos 0) in
+    with_owner slot (Run u.run u.before.pc) (with_bytes slot (image_at w.kinds kind) (with_answer w u kind reply.Granted pointer))
+
+abbrev pub answered : Answer → World → UnderWay → ℕ → World
+answered (Slot slot) w u kind = granted slot w u kind
+answered Null w u kind = with_answer w u kind reply.Null (Number 0)
+answered Absent w u kind = with_answer w u kind reply.Null (Number 0)
 
 -- what a run gives goes onto the shelf, with its bytes as they are
 abbrev pub put_on : Option Name → (shelf run : ℕ) → World → World
@@ -104,22 +123,23 @@ abbrev pub shelf_told : (slot : ℕ) (bytes : List ℕ) (shelf to : ℕ) → Fra
 shelf_told slot bytes shelf to frame r = record (replied shelf reply.Shelf (Pointer (Object (name_of slot r.pc)) (pos 0)) to frame r) { taken = r.taken ++ bytes }
 
 -- what was on the shelf is the run's, unless it holds as many as it declared once what it gives is gone
-abbrev pub exchanged : Option Owner → World → ℕ → Running → ℕ → Frame Name → ℕ → Option Name → World
-exchanged None w run r to frame shelf given = put_on given shelf run (with_run w run (replied shelf reply.Empty (Number 0) to frame r))
-exchanged (Some o) w run r to frame shelf given =
-    if nat_le r.subject.decl.held (holds_of (put_on given shelf run w) run) then with_run w run (trapped TooManyObjects r) else
-    put_on given shelf run (fetched o shelf run r.pc (with_run w run (shelf_told o.slot (w.bytes o.slot) shelf to frame r)))
+abbrev pub exchanged : Option Owner → World → UnderWay → ℕ → Option Name → World
+exchanged None w u shelf given = put_on given shelf u.run (with_answer w u shelf reply.Empty (Number 0))
+exchanged (Some o) w u shelf given =
+    if nat_le u.before.subject.decl.held (holds_of (put_on given shelf u.run w) u.run) then with_run w u.run (trapped TooManyObjects u.before) else
+    let fetching = with_run w u.run (shelf_told o.slot (w.bytes o.slot) shelf u.to u.frame u.before) in
+    put_on given shelf u.run (fetched o shelf u.run u.before.pc fetching)
 
 -- what an instruction that goes on asks of the world; an object that is freed gets its image
-abbrev pub acted : Act Name → Answer → World → ℕ → Running → ℕ → Frame Name → World
-acted Nothing answer w run r to frame = with_run w run (moved_to to frame r)
-acted (Write name at bytes) answer w run r to frame = with_bytes name.slot (patched (w.bytes name.slot) at bytes) (with_run w run (moved_to to frame r))
-acted (Ask kind) answer w run r to frame = answered answer w run r to frame kind
-acted (Free name) answer w run r to frame = with_bytes name.slot (image_at w.kinds (kind_in w name.slot)) (without_owner run name (with_run w run (moved_to to frame r)))
-acted (Exchange shelf given) answer w run r to frame = exchanged (standing w shelf) w run r to frame shelf given
+abbrev pub acted : Act Name → Answer → World → UnderWay → World
+acted Nothing answer w u = gone_on w u
+acted (Write name at bytes) answer w u = with_bytes name.slot (patched (w.bytes name.slot) at bytes) (gone_on w u)
+acted (Ask kind) answer w u = answered answer w u kind
+acted (Free name) answer w u = with_bytes name.slot (image_at w.kinds (kind_in w name.slot)) (without_owner u.run name (gone_on w u))
+acted (Exchange shelf given) answer w u = exchanged (standing w shelf) w u shelf given
 
 abbrev pub done_by : Effect Name → Answer → World → ℕ → Running → World
-done_by (Goes act to frame) answer w run r = acted act answer w run r to frame
+done_by (Goes act to frame) answer w run r = acted act answer w (under_way run r to frame)
 done_by (Ends n) answer w run r = with_run w run (ended n r)
 done_by (Traps trap) answer w run r = with_run w run (trapped trap r)
 

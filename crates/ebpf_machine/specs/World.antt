@@ -1,6 +1,8 @@
 -- The world: ledgers, owners, object bytes and runs, and what it says of a slot.
 use Rattle.std.specs.Prelude.{◌≡◌, ◌<◌, ℕ, suc, ◌==◌, Bool, true, false, not, ◌&&◌, if◌then◌else◌, List, [], ◌∷◌, length, filter, map, replicate, pos, Option, Some, None, option_map, Result, Ok, Err, Contains, slice_get, slice_index_or}
 use Rattle.std.specs.List.{list_any, find}
+use Rattle.ebpf_insn.specs.declared.register.Reg.{Reg}
+use Rattle.ebpf_insn.specs.declared.register.Reg.TheVariants.{R0, R1, R2, R3, R4, R5, R6, R7, R8, R9, R10}
 use Rattle.ebpf_state.specs.declared.kinds.KindRow.{KindRow}
 use Rattle.ebpf_verify.specs.Subject.{Subject}
 use Rattle.ebpf_machine.specs.declared.value.Value.{Value}
@@ -73,12 +75,6 @@ pub record World : Type 0 where
   pub owners : List Owner
   pub bytes : ℕ → List ℕ
   pub runs : List Running
-
--- the answer that an event brings to a call of new; an event of ebpf_world has its own, of which answer_of makes this one
-pub data Answer : Type 0 where
-  Absent : Answer
-  Null : Answer
-  Slot : (slot : ℕ) → Answer
 
 -- ---- what the world says of a slot
 
@@ -175,8 +171,15 @@ environment w run r = record { context = r.context; kinds = length w.kinds; hold
 
 -- ---- a run before its first instruction
 
+abbrev pub first_value : {N : Type 0} → Reg → Option (Value N)
+first_value R1 = Some (Pointer Context (pos 0))
+first_value R10 = Some (Pointer Stack (pos 0))
+first_value _ = None
+
 abbrev pub first_registers : {N : Type 0} → List (Option (Value N))
-first_registers = None ∷ Some (Pointer Context (pos 0)) ∷ None ∷ None ∷ None ∷ None ∷ None ∷ None ∷ None ∷ None ∷ Some (Pointer Stack (pos 0)) ∷ []
+first_registers =
+    first_value R0 ∷ first_value R1 ∷ first_value R2 ∷ first_value R3 ∷ first_value R4 ∷ first_value R5 ∷ first_value R6 ∷ first_value R7 ∷
+    first_value R8 ∷ first_value R9 ∷ first_value R10 ∷ []
 
 abbrev pub first_frame : {N : Type 0} → Frame N
 first_frame = record { registers = first_registers; stack = empty_stack; output = [] }

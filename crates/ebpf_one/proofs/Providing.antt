@@ -3,7 +3,9 @@
 use Rattle.std.proofs.Common.{◌≡◌, ◌⊎◌, inl, inr, ℕ, ◌+◌, ◌<◌, Bool, true, false, List, length, Option, Some, None, refl, sym, ap, ◌∙◌, subst, arith}
 use Rattle.std.specs.Prelude.{slice_get, option_map, if◌then◌else◌}
 use Rattle.std.proofs.lemmas.Bool.{false_from_ne_true}
-use Rattle.ebpf_machine.specs.World.{Owner, Answer, Absent, Null, Slot, Shelved, Going, standing, shelved_at, shelved_in, is_in_ledger}
+use Rattle.ebpf_machine.specs.declared.answer.Answer.{Answer}
+use Rattle.ebpf_machine.specs.declared.answer.Answer.TheVariants.{Absent, Null, Slot}
+use Rattle.ebpf_machine.specs.World.{Owner, Shelved, Going, standing, shelved_at, shelved_in, is_in_ledger}
 use Rattle.ebpf_machine.specs.Events.{Asking, Unasked, OfKind, AtShelf, answer_fault, with_slot_joined}
 use Rattle.ebpf_machine.specs.Alone.{Alone, Fed, alone_after, replies_from}
 use Rattle.ebpf_machine.specs.View.{RunView, view_in, slots_in}

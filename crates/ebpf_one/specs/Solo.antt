@@ -2,7 +2,8 @@
 use Rattle.std.specs.Prelude.{ℕ, zero, suc, Bool, if◌then◌else◌, List, length, map, Option, Some, None, slice_get}
 use Rattle.ebpf_insn.specs.Program.{instructions}
 use Rattle.ebpf_verify.specs.Subject.{Subject}
-use Rattle.ebpf_machine.specs.World.{World, Running, Absent, Null, Slot}
+use Rattle.ebpf_machine.specs.declared.answer.Answer.TheVariants.{Absent, Null, Slot}
+use Rattle.ebpf_machine.specs.World.{World, Running}
 use Rattle.ebpf_machine.specs.Events.{Asking, Unasked, OfNoKind, OfKind, AtShelf, asking_of, with_slot_joined, exec}
 use Rattle.ebpf_machine.specs.Alone.{Alone, Fed, Outcome, alone_first, advanced, outcome_of}
 use Rattle.ebpf_machine.specs.Whole.{granted}

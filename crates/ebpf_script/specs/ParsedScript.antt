@@ -1,8 +1,8 @@
 -- A parsed script: its programs in the order of their lines, and its events, or its jobs and what they run with.
 use Rattle.std.specs.Prelude.{ℕ, ◌+◌, ◌++◌, List, [], ◌∷◌, codes, find, position, Option, Some, None, option_map, unwrap_or, if◌then◌else◌}
 use Rattle.std.specs.Str.{bytes_eq}
-use Rattle.ebpf_world.specs.declared.event.Answer.{Answer}
-use Rattle.ebpf_world.specs.declared.event.Answer.TheVariants.{Absent, Null, Slot}
+use Rattle.ebpf_machine.specs.declared.answer.Answer.{Answer}
+use Rattle.ebpf_machine.specs.declared.answer.Answer.TheVariants.{Absent, Null, Slot}
 use Rattle.ebpf_world.specs.declared.event.Event.{Event}
 use Rattle.ebpf_world.specs.declared.event.Event.TheVariants.{Start, Exec, Grow, Reap}
 use Rattle.ebpf_pool.specs.declared.jobs.Job.{Job}

@@ -25,13 +25,12 @@ use Rattle.ebpf_machine.proofs.World.Steps.{going_of}
 use Rattle.ebpf_machine.proofs.Lists.ListLemmas.{IsFound, All-by_contains, Contains-filter, filter-map, find_is}
 use Rattle.ebpf_machine.proofs.Lists.Mapped.{Contains-mapped, Contains-unmapped}
 use Rattle.ebpf_machine.proofs.World.Owners.{owner_of}
-use Rattle.ebpf_world.specs.declared.event.Answer.{Answer}
-use Rattle.ebpf_world.specs.declared.event.Answer.TheVariants.{Absent, Null, Slot}
+use Rattle.ebpf_machine.specs.declared.answer.Answer.{Answer}
+use Rattle.ebpf_machine.specs.declared.answer.Answer.TheVariants.{Absent, Null, Slot}
 use Rattle.ebpf_world.specs.declared.fault.ApplyCode.TheVariants.{SlotOfAnotherKind}
 use Rattle.ebpf_shelves.specs.declared.object.Object.{Object}
 use Rattle.ebpf_world.specs.declared.place.Place.{Place}
 use Rattle.ebpf_world.specs.declared.place.Place.TheVariants.{Home, Held, Shelved}
-use Rattle.ebpf_world.specs.Events.{answer_of}
 use Rattle.ebpf_shelves.specs.Shelves.{IsAway, as_shelved, on_shelf, slot_on, standing_on}
 use Rattle.ebpf_world.specs.Passing.{IsOut, is_bare, one_away, offers}
 use Rattle.ebpf_world.specs.Places.{Places, place_at, object_home, lent_by, place_lent}
@@ -351,14 +350,14 @@ lends : (kept : WorldState) (k : ℕ) (answer : Answer) (r t : RunState Object) 
     → IsGranted (run_seen r) (run_seen t) i.step.served (slots_of r) (slots_of t) → IsExchange kept k answer r t freed i.after
 lends kept k answer r t freed slot o i leaves is home wants g =
     let new : g.new ≡ o.kind = number_same (sym (ap wanted g.asked) ∙ wants) in
-    let same : g.slot ≡ slot = slot_same (sym (ap answer_for g.answered) ∙ answered kept k answer r t freed i ∙ ap answer_of is) in
+    let same : g.slot ≡ slot = slot_same (sym (ap answer_for g.answered) ∙ answered kept k answer r t freed i ∙ is) in
     let lent = lent_loan kept.places answer slot o is home in
     Lends leaves slot o (none_freed freed (λ kind. one lent new kind)) is home (g.slots_are ∙ ap (λ (s : ℕ). slots_of r ++ name_of s r.pc ∷ []) same)
   where
     number_same : {a b : ℕ} → Some a ≡ Some b → a ≡ b
     number_same e = cc
 
-    slot_same : {a b : ℕ} → world.Slot a ≡ world.Slot b → a ≡ b
+    slot_same : {a b : ℕ} → Slot a ≡ Slot b → a ≡ b
     slot_same e = cc
 
     one : lent_by answer kept.places ≡ Some o → g.new ≡ o.kind → (kind : ℕ) → one_away freed kind ≡ 1
@@ -532,13 +531,13 @@ exchange w kept k answer r t freed shows i =
       leaves : IsQuiet (run_seen r) → LeavesShelves kept r i.after
       leaves quiet = quiet_leaves kept k answer r t freed i quiet
 
-      slot_answered : (slot : ℕ) → i.step.served ≡ step.Granted slot → answer_of answer ≡ world.Slot slot
+      slot_answered : (slot : ℕ) → i.step.served ≡ step.Granted slot → answer ≡ Slot slot
       slot_answered slot e = sym (answered kept k answer r t freed i) ∙ ap answer_for e
 
       -- only a slot that is granted makes an event that answers one
       answered_slot : (slot : ℕ) → answer ≡ Slot slot → i.step.served ≡ step.Granted slot
-      answered_slot slot is = by_served i.step.served (answered kept k answer r t freed i ∙ ap answer_of is) where
-        by_served : (s : Served) → answer_for s ≡ world.Slot slot → s ≡ step.Granted slot
+      answered_slot slot is = by_served i.step.served (answered kept k answer r t freed i ∙ is) where
+        by_served : (s : Served) → answer_for s ≡ Slot slot → s ≡ step.Granted slot
         by_served step.Idle e = absurd (cc)
         by_served step.Refused e = absurd (cc)
         by_served (step.Granted other) e = ap step.Granted (cc)
@@ -551,7 +550,7 @@ exchange w kept k answer r t freed shows i =
           Stays (leaves quiet) (none_freed freed
           (λ kind. omega (arith, counted kept k answer r t freed i (leaves quiet) kind, lent_none kept answer kind none, o.kinds kind))) stays o.slots_are
       by (Nothing unanswered none stays) (Granted quiet g) = absurd (not_slot answer unanswered g.slot (slot_answered g.slot g.answered)) where
-        not_slot : (a : Answer) → ((slot : ℕ) → a ≢ Slot slot) → (slot : ℕ) → answer_of a ≢ world.Slot slot
+        not_slot : (a : Answer) → ((slot : ℕ) → a ≢ Slot slot) → (slot : ℕ) → a ≢ Slot slot
         not_slot Absent un slot e = absurd (cc)
         not_slot Null un slot e = absurd (cc)
         not_slot (Slot s) un slot e = un s refl

@@ -4,7 +4,6 @@ use Rattle.std.specs.Prelude.{slice_get, slice_set, option_map, IfNone, ◌==◌
 use Rattle.std.proofs.lemmas.List.Elements.{All-map}
 use Rattle.ebpf_machine.specs.declared.holding.Holding.{Holding}
 use Rattle.ebpf_machine.specs.World.{Name, Kind, World, Running, Owner, Shelved, Going, Exited, kinds_of, image_at, standing, shelved_at, shelved_in}
-use Rattle.ebpf_machine.specs.World as world
 use Rattle.ebpf_machine.specs.Events.{Illegal, NoSuchRun, RunEnded, Asking, Unasked, OfNoKind, OfKind, AtShelf, answer_fault, asking_of, exec}
 use Rattle.ebpf_machine.specs.Kinds.{known_kinds}
 use Rattle.ebpf_machine.specs.View.{ObjectView, RunView, view_of, view_in, slots_in, effect_of_view}
@@ -17,15 +16,14 @@ use Rattle.ebpf_machine.proofs.Lists.ListLemmas.{get_set_same, get_set_other}
 use Rattle.ebpf_machine.proofs.World.Asking.{asking_seen}
 use Rattle.ebpf_machine.proofs.World.KeptShelves.{standing_kept}
 use Rattle.ebpf_machine.proofs.World.Execs.{IsNextWorld, served_to, next_world, may_serve}
-use Rattle.ebpf_world.specs.declared.event.Answer.{Answer}
-use Rattle.ebpf_world.specs.declared.event.Answer.TheVariants.{Absent, Null, Slot}
+use Rattle.ebpf_machine.specs.declared.answer.Answer.{Answer}
+use Rattle.ebpf_machine.specs.declared.answer.Answer.TheVariants.{Absent, Null, Slot}
 use Rattle.ebpf_world.specs.declared.fault.ApplyCode.{ApplyCode}
 use Rattle.ebpf_world.specs.declared.fault.ApplyCode.TheVariants.{SlotOfAnotherKind}
 use Rattle.ebpf_shelves.specs.declared.object.Object.{Object}
 use Rattle.ebpf_world.specs.declared.place.Place.{Place}
 use Rattle.ebpf_world.specs.declared.place.Place.TheVariants as place
 use Rattle.ebpf_world.specs.declared.place.Place.TheVariants.{Home, Held}
-use Rattle.ebpf_world.specs.Events.{answer_of}
 use Rattle.ebpf_world.specs.Faults.{code_of}
 use Rattle.ebpf_shelves.specs.Shelves.{as_shelved, standing_on}
 use Rattle.ebpf_world.specs.Passing.{IsOut, offers}
@@ -69,7 +67,7 @@ module _ (places : Places) (shelves : List (Option Object)) (at : ℕ) where
   May answer asked given = MayAnswer (offers (lent_by answer places) shelves) at asked given
 
   answer_wanted : (answer : Answer) (kind : ℕ) (given : Served) → AreTheirs places → code_by places answer (Some kind) ≡ None
-      → May answer (OfKind kind) given → answer_for given ≡ answer_of answer
+      → May answer (OfKind kind) given → answer_for given ≡ answer
   answer_wanted Absent kind given theirs fine may = absurd (cc)
   answer_wanted Null kind Idle theirs fine may = absurd may
   answer_wanted Null kind Refused theirs fine may = refl
@@ -79,16 +77,16 @@ module _ (places : Places) (shelves : List (Option Object)) (at : ℕ) where
   answer_wanted (Slot slot) kind given theirs fine may = by_place (place_at places slot) refl fine may where
     of_kind : (o : Object) (given : Served) (t : Bool) → (o.kind == kind) ≡ t → place_at places slot ≡ Some (Home o)
         → cond t None (Some SlotOfAnotherKind) ≡ None → MayAnswer (offers (Some o) shelves) at (OfKind kind) given
-        → answer_for given ≡ world.Slot slot
+        → answer_for given ≡ Slot slot
     of_kind o given false is there fine may = absurd (cc)
     of_kind o Idle true is there fine may = absurd may
     of_kind o Refused true is there fine may = absurd (cc)
     of_kind o Empty true is there fine may = absurd may
     of_kind o (Fetched other bytes) true is there fine may = absurd may
-    of_kind o (Granted s) true is there fine may = ap world.Slot (sym may.1 ∙ theirs slot o there)
+    of_kind o (Granted s) true is there fine may = ap Slot (sym may.1 ∙ theirs slot o there)
 
     by_place : (p : Option Place) → place_at places slot ≡ p → slot_code p (Some kind) ≡ None
-        → MayAnswer (offers (object_home p) shelves) at (OfKind kind) given → answer_for given ≡ world.Slot slot
+        → MayAnswer (offers (object_home p) shelves) at (OfKind kind) given → answer_for given ≡ Slot slot
     by_place None there fine may = absurd (cc)
     by_place (Some (Held run place)) there fine may = absurd (cc)
     by_place (Some (place.Shelved shelf)) there fine may = absurd (cc)
@@ -96,12 +94,12 @@ module _ (places : Places) (shelves : List (Option Object)) (at : ℕ) where
 
   -- the event that it makes is the event
   answer_given : (answer : Answer) (asked : Asking) (given : Served) → AreTheirs places
-      → code_by places answer (wanted asked) ≡ None → May answer asked given → answer_for given ≡ answer_of answer
-  answer_given answer Unasked given theirs fine may = ap answer_for may ∙ sym (ap answer_of (absent_answer places answer fine))
+      → code_by places answer (wanted asked) ≡ None → May answer asked given → answer_for given ≡ answer
+  answer_given answer Unasked given theirs fine may = ap answer_for may ∙ sym (absent_answer places answer fine)
   answer_given answer OfNoKind given theirs fine may = absurd may
   answer_given answer (OfKind kind) given theirs fine may = answer_wanted answer kind given theirs fine may
-  answer_given answer (AtShelf shelf) Empty theirs fine may = sym (ap answer_of (absent_answer places answer fine))
-  answer_given answer (AtShelf shelf) (Fetched slot bytes) theirs fine may = sym (ap answer_of (absent_answer places answer fine))
+  answer_given answer (AtShelf shelf) Empty theirs fine may = sym (absent_answer places answer fine)
+  answer_given answer (AtShelf shelf) (Fetched slot bytes) theirs fine may = sym (absent_answer places answer fine)
   answer_given answer (AtShelf shelf) Idle theirs fine may = absurd may
   answer_given answer (AtShelf shelf) Refused theirs fine may = absurd may
   answer_given answer (AtShelf shelf) (Granted slot) theirs fine may = absurd may
@@ -141,7 +139,7 @@ pub going_seen : (r : RunState Object) → r.exit ≡ None → (run_seen r).stat
 going_seen r going = ap status_of going
 
 pub answered : (kept : WorldState) (k : ℕ) (answer : Answer) (r t : RunState Object) (freed : Option Object) (i : IsInstruction kept k answer r t freed)
-    → answer_for i.step.served ≡ answer_of answer
+    → answer_for i.step.served ≡ answer
 answered kept k answer r t freed i = answer_given kept.places kept.shelves r.pc answer (asking_in (run_seen r)) i.step.served theirs i.fine i.step.may where
   theirs : AreTheirs kept.places
   theirs slot o at = (subst (IsPlaced kept slot) at (i.tended.placed.each slot)).same
@@ -178,7 +176,7 @@ pub record IsAt (w : World) (places : Places) (k : ℕ) (r : RunState Object) : 
   pub goes : run.status ≡ Going
   pub sound : IsSound (view_of w k run)
   pub code : (answer : Answer)
-      → option_map code_of (answer_fault w (asking_of w run) (answer_of answer)) ≡ code_by places answer (wanted (asking_in (run_seen r)))
+      → option_map code_of (answer_fault w (asking_of w run) answer) ≡ code_by places answer (wanted (asking_in (run_seen r)))
 
 pub going_at : (w : World) (kept : WorldState) (k : ℕ) (r : RunState Object) → Shows w kept → ArePlaced kept
     → slice_get kept.runs k ≡ Some r → IsSound (run_seen r) → r.exit ≡ None → IsAt w kept.places k r
@@ -197,12 +195,12 @@ going_at w kept k r h placed at sound going =
     }
 
 -- there is no such run
-pub executed_none : (w : World) (kept : WorldState) (k : ℕ) (answer : world.Answer) → Shows w kept → slice_get kept.runs k ≡ None
+pub executed_none : (w : World) (kept : WorldState) (k : ℕ) (answer : Answer) → Shows w kept → slice_get kept.runs k ≡ None
     → exec w k answer ≡ Err NoSuchRun
 executed_none w kept k answer h at = rw (none_shown w kept k h at) refl
 
 -- the run has ended
-pub executed_ended : (w : World) (kept : WorldState) (k n : ℕ) (answer : world.Answer) (r : RunState Object) → Shows w kept
+pub executed_ended : (w : World) (kept : WorldState) (k n : ℕ) (answer : Answer) (r : RunState Object) → Shows w kept
     → slice_get kept.runs k ≡ Some r → r.exit ≡ Some n → exec w k answer ≡ Err RunEnded
 executed_ended w kept k n answer r h at ended =
     let run = run_shown w kept k r h at in
@@ -213,13 +211,13 @@ executed_ended w kept k n answer r h at ended =
 pub executed_bad : (w : World) (kept : WorldState) (k : ℕ) (answer : Answer) (code : ApplyCode) (r : RunState Object) → Shows w kept
     → ArePlaced kept → slice_get kept.runs k ≡ Some r → IsSound (run_seen r) → r.exit ≡ None
     → code_by kept.places answer (wanted (asking_in (run_seen r))) ≡ Some code
-    → (why : Illegal) × (exec w k (answer_of answer) ≡ Err why) × (code ≡ code_of why)
-executed_bad w kept k answer code r h placed at sound going bad = by (answer_fault w (asking_of w here.run) (answer_of answer)) refl where
+    → (why : Illegal) × (exec w k answer ≡ Err why) × (code ≡ code_of why)
+executed_bad w kept k answer code r h placed at sound going bad = by (answer_fault w (asking_of w here.run) answer) refl where
   here : IsAt w kept.places k r
   here = going_at w kept k r h placed at sound going
 
-  by : (o : Option Illegal) → answer_fault w (asking_of w here.run) (answer_of answer) ≡ o
-      → (why : Illegal) × (exec w k (answer_of answer) ≡ Err why) × (code ≡ code_of why)
+  by : (o : Option Illegal) → answer_fault w (asking_of w here.run) answer ≡ o
+      → (why : Illegal) × (exec w k answer ≡ Err why) × (code ≡ code_of why)
   by None fault = let none = ap (option_map code_of) (sym fault) ∙ here.code answer ∙ bad in absurd (cc)
   by (Some why) fault = let same = ap (option_map code_of) (sym fault) ∙ here.code answer ∙ bad in (why, rw (here.there, here.goes, fault) refl, cc)
 
@@ -228,7 +226,7 @@ executed_bad w kept k answer code r h placed at sound going bad = by (answer_fau
 pub record IsAfter (w : World) (kept : WorldState) (k : ℕ) (answer : Answer) (r t : RunState Object) (served : Served) (stands : List (Option Object)) : Type
     0 where
   pub after : World
-  pub legal : exec w k (answer_of answer) ≡ Ok after
+  pub legal : exec w k answer ≡ Ok after
   pub shows : (places : Places) → Shows after (record kept { runs = slice_set kept.runs k t; places = places; shelves = stands })
   pub slots : slots_of t ≡ slots_after (effect_of_view (run_seen r)) served r.subject.decl.held r.pc (slots_of r)
 
@@ -242,9 +240,9 @@ executed_after w kept k answer r t freed h i = record { after = after; legal = n
   here : IsAt w kept.places k r
   here = going_at w kept k r h i.tended.placed i.at i.run.sound i.going
 
-  next : (after : World) × IsNextWorld w k here.run (answer_of answer) after
-  next = next_world w k here.run (answer_of answer) h.owned here.there here.sound here.goes
-      (no_fault (answer_fault w (asking_of w here.run) (answer_of answer)) (here.code answer ∙ i.fine))
+  next : (after : World) × IsNextWorld w k here.run answer after
+  next = next_world w k here.run answer h.owned here.there here.sound here.goes
+      (no_fault (answer_fault w (asking_of w here.run) answer) (here.code answer ∙ i.fine))
 
   after : World
   after = next.0
@@ -255,13 +253,13 @@ executed_after w kept k answer r t freed h i = record { after = after; legal = n
       (λ shelf asked. shelf_serves w (lent_by answer kept.places) kept.shelves r.pc shelf i.step.served (h.shelves shelf)
       (subst (λ (a : Asking). MayAnswer (offers (lent_by answer kept.places) kept.shelves) r.pc a i.step.served) asked i.step.may))
 
-  given : answer_for i.step.served ≡ answer_of answer
+  given : answer_for i.step.served ≡ answer
   given = answered kept k answer r t freed i
 
   -- which is what the answer serves
-  served : served_to w here.run (answer_of answer) ≡ i.step.served
+  served : served_to w here.run answer ≡ i.step.served
   served =
-      ap (λ (asked : Asking). served_in w asked (answer_of answer)) (asking_seen w k here.run h.owned here.there ∙ ap asking_in here.seen)
+      ap (λ (asked : Asking). served_in w asked answer) (asking_seen w k here.run h.owned here.there ∙ ap asking_in here.seen)
       ∙ ap (served_in w (asking_in (run_seen r))) (sym given)
       ∙ serves
 

@@ -23,10 +23,10 @@ use Rattle.ebpf_machine.proofs.World.Steps.{going_of, bounded, first_sound, soun
 use Rattle.ebpf_machine.proofs.World.Execs.{sized_in, shown_run}
 use Rattle.ebpf_machine.proofs.World.Lone.{served_fits_shelf, none_more, alone_stepped, seen_alone, outcome_exited}
 use Rattle.ebpf_shelves.specs.declared.object.Object.{Object}
-use Rattle.ebpf_world.specs.declared.event.Answer.{Answer}
+use Rattle.ebpf_machine.specs.declared.answer.Answer.{Answer}
 use Rattle.ebpf_world.specs.declared.event.Event.{Event}
 use Rattle.ebpf_world.specs.declared.event.Event.TheVariants.{Start, Exec, Grow, Reap}
-use Rattle.ebpf_world.specs.Events.{first_world, answer_of, happened}
+use Rattle.ebpf_world.specs.Events.{first_world, happened}
 use Rattle.ebpf_world.specs.Shown.{run_seen}
 use Rattle.ebpf_machine.specs.Kinds.{AreKnown}
 use Rattle.ebpf_world.specs.Replay.{and_then, world_after_from}
@@ -121,26 +121,26 @@ started_own w events s context bytes program run accepted long h there =
 -- ---- a run does an instruction
 
 own_next : (w : World) (v : RunView) (answers : List Reply) (answer : Answer) → IsOwn v answers → AreSized v → v.status ≡ Going
-    → answer_fault w (asking_in v) (answer_of answer) ≡ None
-    → FitsShelf v (result_of (served_in w (asking_in v) (answer_of answer)))
-    → IsOwn (stepped (result_of (served_in w (asking_in v) (answer_of answer))) v) (answers ++ reply_by answer)
+    → answer_fault w (asking_in v) answer ≡ None
+    → FitsShelf v (result_of (served_in w (asking_in v) answer))
+    → IsOwn (stepped (result_of (served_in w (asking_in v) answer)) v) (answers ++ reply_by answer)
 own_next w v answers answer own sized going fine fits = record {
-  sound = sound_stepped v (result_of (served_in w (asking_in v) (answer_of answer))) own.sound sized going;
-  alone = alone_stepped v (result_of (served_in w (asking_in v) (answer_of answer))) own.sound own.alone going fits;
+  sound = sound_stepped v (result_of (served_in w (asking_in v) answer)) own.sound sized going;
+  alone = alone_stepped v (result_of (served_in w (asking_in v) answer)) own.sound own.alone going fits;
   told = told_next w v answer own.sound sized going fine ∙ ap (λ (rs : List Reply). rs ++ reply_by answer) own.told;
 }
 
 stepped_own : (w v : World) (events : List Event) (number : ℕ) (answer : Answer) (run : Running) → IsKept w events
-    → IsExec w number (answer_of answer) v → slice_get v.runs number ≡ Some run
+    → IsExec w number answer v → slice_get v.runs number ≡ Some run
     → IsOwn (view_of v number run) (answers_to number (events ++ Exec number answer ∷ []))
 stepped_own w v events number answer run h exec there =
     let u = view_of w number exec.r in
     let seen : view_in v number ≡ Some (view_of v number run) = rw there refl in
     let asks = asking_seen w number exec.r h.owned exec.there in
-    let fine = subst (λ (asked : Asking). answer_fault w asked (answer_of answer) ≡ None) asks exec.fine in
-    let served = ap (λ (asked : Asking). Some (stepped (result_of (served_in w asked (answer_of answer))) u)) asks in
+    let fine = subst (λ (asked : Asking). answer_fault w asked answer ≡ None) asks exec.fine in
+    let served = ap (λ (asked : Asking). Some (stepped (result_of (served_in w asked answer)) u)) asks in
     let next = own_next w u (answers_to number events) answer (h.runs number exec.r exec.there) (sized_in w number exec.r h.owned exec.there) exec.going fine
-    (served_fits_shelf w u (answer_of answer) h.owned (h.owned.runs.kinds_are number exec.r exec.there)) in
+    (served_fits_shelf w u answer h.owned (h.owned.runs.kinds_are number exec.r exec.there)) in
     let answers : answers_to number events ++ reply_by answer ≡ answers_to number (events ++ Exec number answer ∷ []) =
     ap (λ (more : List Reply). answers_to number events ++ more) (sym (answer_own number answer)) ∙ sym (answers_more number events (Exec number answer)) in
     subst (IsOwn (view_of v number run)) answers
@@ -162,7 +162,7 @@ own_event programs (Start program context) w v events k run all h is own there =
     (λ at. started_own w events start.subject context context program run (at_number IsAccepted programs program start.subject all start.there) start.long h
     at) there_now)
 own_event programs (Exec number answer) w v events k run all h is own there =
-    let exec = exec_next w v number (answer_of answer) h.owned (sound_kept w events h) is in
+    let exec = exec_next w v number answer h.owned (sound_kept w events h) is in
     let same : number ≡ k = cc in
     subst (λ (i : ℕ). slice_get v.runs i ≡ Some run → IsOwn (view_of v i run) (answers_to i (events ++ Exec number answer ∷ []))) same
     (λ at. stepped_own w v events number answer run h exec at) there
@@ -180,7 +180,7 @@ own_there programs (Start program context) w v events k h is own none =
     let there_now = ap (λ (u : World). slice_get u.runs k) start.is ∙ none in
     absurd (cc)
 own_there programs (Exec number answer) w v events k h is own none =
-    let exec = exec_next w v number (answer_of answer) h.owned (sound_kept w events h) is in
+    let exec = exec_next w v number answer h.owned (sound_kept w events h) is in
     let same : number ≡ k = cc in
     let unseen : view_in v k ≡ None = rw none refl in
     let seen = ap (view_in v) (sym same) ∙ exec.next.seen in

@@ -10,8 +10,8 @@ use Rattle.ebpf_machine.specs.Step.{asking_in, reached}
 use Rattle.ebpf_machine.proofs.Lists.ListLemmas.{Contains-filter, get_set_same, get_set_other}
 use Rattle.ebpf_machine.proofs.Lists.Mapped.{Contains-kept}
 use Rattle.ebpf_machine.proofs.World.Owners.{owner_of}
-use Rattle.ebpf_world.specs.declared.event.Answer.{Answer}
-use Rattle.ebpf_world.specs.declared.event.Answer.TheVariants.{Slot}
+use Rattle.ebpf_machine.specs.declared.answer.Answer.{Answer}
+use Rattle.ebpf_machine.specs.declared.answer.Answer.TheVariants.{Slot}
 use Rattle.ebpf_shelves.specs.declared.object.Object.{Object}
 use Rattle.ebpf_world.specs.declared.place.Place.{Place}
 use Rattle.ebpf_world.specs.declared.place.Place.TheVariants.{Home, Held, Shelved}

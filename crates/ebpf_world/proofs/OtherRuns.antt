@@ -4,7 +4,6 @@ use Rattle.std.specs.Prelude.{slice_get, option_map, nat_lt, ◌&&◌}
 use Rattle.std.proofs.lemmas.Bool.{ltb-true, eqb-true, and_parts}
 use Rattle.ebpf_verify.specs.Subject.{Subject}
 use Rattle.ebpf_machine.specs.World.{World, Running, Owner, Holder, Run, Going, Exited, Trapped, Status, kinds_of, first_run, held_by, is_home, is_in, is_in_ledger, ledger_of}
-use Rattle.ebpf_machine.specs.World as world
 use Rattle.ebpf_machine.specs.Kinds.{known_kinds}
 use Rattle.ebpf_machine.specs.Events.{Illegal, SlotInLedger, SlotNotReapable, NoSuchProgramOrKind, WrongContext, answer_fault, asking_of, started, starting, exec_going, exec_by, exec, with_slot_joined, growing, with_slot_left, reaping}
 use Rattle.ebpf_machine.specs.View.{view_of, view_in, slots_in}
@@ -13,9 +12,10 @@ use Rattle.ebpf_machine.proofs.World.Owned.{owned_started}
 use Rattle.ebpf_machine.proofs.World.NewSlots.{IsNew, owned_joined, view_joined}
 use Rattle.ebpf_machine.proofs.World.PartedSlots.{IsReapable, owned_parted, view_parted}
 use Rattle.ebpf_machine.proofs.World.Execs.{IsNextWorld, next_world, ok_same}
+use Rattle.ebpf_machine.specs.declared.answer.Answer.{Answer}
 use Rattle.ebpf_world.specs.declared.event.Event.{Event}
 use Rattle.ebpf_world.specs.declared.event.Event.TheVariants.{Start, Exec, Grow, Reap}
-use Rattle.ebpf_world.specs.Events.{answer_of, happened}
+use Rattle.ebpf_world.specs.Events.{happened}
 use Rattle.ebpf_machine.specs.Kinds.{AreKnown}
 use Rattle.ebpf_world.proofs.Runs.{at_number, get_past}
 
@@ -71,14 +71,14 @@ start_left w s context k ne = record {
 
 -- ---- a run does an instruction
 
-pub record IsExec (w : World) (run : ℕ) (answer : world.Answer) (after : World) : Type 0 where
+pub record IsExec (w : World) (run : ℕ) (answer : Answer) (after : World) : Type 0 where
   pub r : Running
   pub there : slice_get w.runs run ≡ Some r
   pub going : r.status ≡ Going
   pub fine : answer_fault w (asking_of w r) answer ≡ None
   pub next : IsNextWorld w run r answer after
 
-pub exec_next : (w after : World) (run : ℕ) (answer : world.Answer) → IsOwned w → AreSound w → exec w run answer ≡ Ok after → IsExec w run answer after
+pub exec_next : (w after : World) (run : ℕ) (answer : Answer) → IsOwned w → AreSound w → exec w run answer ≡ Ok after → IsExec w run answer after
 exec_next w after run answer owned sound e = by_run (slice_get w.runs run) refl e where
   by_fault : (r : Running) → slice_get w.runs run ≡ Some r → r.status ≡ Going → (o : Option Illegal)
       → answer_fault w (asking_of w r) answer ≡ o → IsExec w run answer after
@@ -146,7 +146,7 @@ event_next programs (Start program context) w after known owned kinds sound is =
       left = λ k ne. start_left w start.subject context k ne;
     })
 event_next programs (Exec run answer) w after known owned kinds sound is =
-    let next = (exec_next w after run (answer_of answer) owned sound is).next in
+    let next = (exec_next w after run answer owned sound is).next in
     record {
       owned = next.owned;
       kinds = next.kinds;

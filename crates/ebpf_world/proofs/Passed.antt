@@ -10,7 +10,7 @@ use Rattle.ebpf_machine.specs.Advance.{slots_without}
 use Rattle.ebpf_machine.specs.Step.{asking_in, reached}
 use Rattle.ebpf_machine.proofs.Lists.ListLemmas.{Contains-filter, get_set_same}
 use Rattle.ebpf_machine.proofs.Lists.Mapped.{Contains-kept}
-use Rattle.ebpf_world.specs.declared.event.Answer.{Answer}
+use Rattle.ebpf_machine.specs.declared.answer.Answer.{Answer}
 use Rattle.ebpf_shelves.specs.declared.object.Object.{Object}
 use Rattle.ebpf_world.specs.declared.place.Place.{Place}
 use Rattle.ebpf_world.specs.declared.place.Place.TheVariants.{Held, Shelved}

@@ -12,8 +12,8 @@ use Rattle.ebpf_machine.specs.RunState.{RunState, object_seen}
 use Rattle.ebpf_machine.proofs.Lists.ListLemmas.{IsFound, any_from, any_one, find_is}
 use Rattle.ebpf_machine.proofs.Lists.Mapped.{Contains-mapped, Contains-unmapped}
 use Rattle.ebpf_machine.proofs.World.Owners.{owner_of, is_shelf-own, held_owner}
-use Rattle.ebpf_world.specs.declared.event.Answer.{Answer}
-use Rattle.ebpf_world.specs.declared.event.Answer.TheVariants.{Absent, Null, Slot}
+use Rattle.ebpf_machine.specs.declared.answer.Answer.{Answer}
+use Rattle.ebpf_machine.specs.declared.answer.Answer.TheVariants.{Absent, Null, Slot}
 use Rattle.ebpf_shelves.specs.declared.object.Object.{Object}
 use Rattle.ebpf_world.specs.declared.place.Place.{Place}
 use Rattle.ebpf_world.specs.declared.place.Place.TheVariants.{Home, Held, Shelved}

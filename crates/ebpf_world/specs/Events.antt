@@ -3,9 +3,6 @@ use Rattle.std.specs.Prelude.{List, [], map, Result, slice_get}
 use Rattle.ebpf_verify.specs.Subject.{Subject}
 use Rattle.ebpf_machine.specs.World.{World}
 use Rattle.ebpf_machine.specs.Events.{Illegal, starting, exec, growing, reaping}
-use Rattle.ebpf_machine.specs.World as world
-use Rattle.ebpf_world.specs.declared.event.Answer.{Answer}
-use Rattle.ebpf_world.specs.declared.event.Answer.TheVariants.{Absent, Null, Slot}
 use Rattle.ebpf_world.specs.declared.event.Event.{Event}
 use Rattle.ebpf_world.specs.declared.event.Event.TheVariants.{Start, Exec, Grow, Reap}
 use Rattle.ebpf_machine.specs.Kinds.{known_kinds}
@@ -14,14 +11,9 @@ use Rattle.ebpf_machine.specs.Kinds.{known_kinds}
 abbrev pub first_world : World
 first_world = record { kinds = known_kinds; ledgers = map (λ kind. []) known_kinds; owners = []; bytes = λ slot. []; runs = [] }
 
-abbrev pub answer_of : Answer → world.Answer
-answer_of Absent = world.Absent
-answer_of Null = world.Null
-answer_of (Slot slot) = world.Slot slot
-
 -- the world after an event, or why the event is not legal
 abbrev pub happened : List Subject → Event → World → Result World Illegal
 happened programs (Start program context) w = starting (slice_get programs program) context w
-happened programs (Exec run answer) w = exec w run (answer_of answer)
+happened programs (Exec run answer) w = exec w run answer
 happened programs (Grow kind slot) w = growing kind slot w
 happened programs (Reap kind slot) w = reaping kind slot w

@@ -9,8 +9,8 @@ use Rattle.ebpf_machine.specs.declared.report.Reply.{Reply}
 use Rattle.ebpf_machine.specs.declared.report.Reply.TheVariants as reply
 use Rattle.ebpf_machine.specs.World.{World, Running, Owner, IsOfKind, Going, Exited, Trapped, Status, is_in, is_home, is_shelf, ledger_of, kind_in, image_at, held_by, holds_of}
 use Rattle.ebpf_machine.specs.Alone.{Replies, Outcome, replies_from, alone_after, outcome_alone}
-use Rattle.ebpf_world.specs.declared.event.Answer.{Answer}
-use Rattle.ebpf_world.specs.declared.event.Answer.TheVariants.{Absent, Null, Slot}
+use Rattle.ebpf_machine.specs.declared.answer.Answer.{Answer}
+use Rattle.ebpf_machine.specs.declared.answer.Answer.TheVariants.{Absent, Null, Slot}
 use Rattle.ebpf_world.specs.declared.event.Event.{Event}
 use Rattle.ebpf_world.specs.declared.event.Event.TheVariants.{Start, Exec, Grow, Reap}
 use Rattle.ebpf_world.specs.Replay.{world_after}

@@ -10,8 +10,8 @@ use Rattle.ebpf_machine.specs.RunState.{RunState}
 use Rattle.ebpf_machine.specs.Step.{Served, MayAnswer, IsEvent, asking_in, result_of}
 use Rattle.ebpf_machine.specs.Store.{AreOutBy, held_of_kind}
 use Rattle.ebpf_machine.specs.Shelves.{shelf_done, shelved_from}
-use Rattle.ebpf_world.specs.declared.event.Answer.{Answer}
-use Rattle.ebpf_world.specs.declared.event.Answer.TheVariants.{Absent, Null, Slot}
+use Rattle.ebpf_machine.specs.declared.answer.Answer.{Answer}
+use Rattle.ebpf_machine.specs.declared.answer.Answer.TheVariants.{Absent, Null, Slot}
 use Rattle.ebpf_world.specs.declared.fault.ApplyCode.{ApplyCode}
 use Rattle.ebpf_world.specs.declared.fault.ApplyCode.TheVariants.{SlotNotHome, SlotOfAnotherKind, AnswerUnasked, AnswerMissing, NoSuchProgramOrKind, WrongContext}
 use Rattle.ebpf_shelves.specs.declared.object.Object.{Object}

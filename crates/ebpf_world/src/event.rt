@@ -1,17 +1,8 @@
 //! What can happen in the world.
 
-use ebpf_machine::context::Context;
+pub use ebpf_machine::answer::Answer;
 
-/// What an event brings to a call of `new`.
-#[derive(Clone, Copy)]
-pub enum Answer {
-    /// Nothing: the instruction is no call of `new`.
-    Absent,
-    /// The call is refused.
-    Null,
-    /// The call is granted this slot.
-    Slot(u32),
-}
+use ebpf_machine::context::Context;
 
 /// One atomic step of the world.
 #[derive(Drop)]

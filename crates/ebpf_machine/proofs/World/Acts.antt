@@ -10,8 +10,10 @@ use Rattle.ebpf_machine.specs.declared.report.Reply.TheVariants as reply
 use Rattle.ebpf_machine.specs.Bytes.{patched}
 use Rattle.ebpf_machine.specs.Values.{TooManyObjects, Frame}
 use Rattle.ebpf_machine.specs.Effect.{Act, Nothing, Write, Ask, Free, Exchange, Effect, Goes, Ends, Traps, with_value}
-use Rattle.ebpf_machine.specs.World.{Name, World, Running, Owner, Run, AnsweredCall, Answer, Absent, Null, Slot, is_in, is_home, is_shelf, standing, held_by, holds_of, ledger_of, kinds_of, image_at, kind_in, name_of}
-use Rattle.ebpf_machine.specs.Events.{with_run, with_bytes, with_owner, put_on, fetched, shelf_told, exchanged, moved_to, ended, trapped, replied, granted, done_by}
+use Rattle.ebpf_machine.specs.declared.answer.Answer.{Answer}
+use Rattle.ebpf_machine.specs.declared.answer.Answer.TheVariants.{Absent, Null, Slot}
+use Rattle.ebpf_machine.specs.World.{Name, World, Running, Owner, Run, AnsweredCall, is_in, is_home, is_shelf, standing, held_by, holds_of, ledger_of, kinds_of, image_at, kind_in, name_of}
+use Rattle.ebpf_machine.specs.Events.{under_way, with_run, with_bytes, with_owner, put_on, fetched, shelf_told, exchanged, moved_to, ended, trapped, replied, granted, done_by}
 use Rattle.ebpf_machine.specs.Renaming.{value_renamed, register_renamed}
 use Rattle.ebpf_machine.specs.View.{RunView, ObjectView, frame_seen, object_in, view_of, view_in, slots_in, new_object, shelved_object, without_given, CallResult, reply_in}
 use Rattle.ebpf_machine.specs.View as view
@@ -102,7 +104,7 @@ null_seen w run r to kind frame there =
 
 granted_seen : (w : World) (run : ℕ) (r : Running) (slot to kind : ℕ) (frame : Frame Name) → IsOwned w
     → slice_get w.runs run ≡ Some r → is_home w slot ≡ true → is_in slot (ledger_of w kind) ≡ true
-    → view_in (granted slot w run r to frame kind) run ≡ Some (view.answered view.Granted to (frame_seen frame) kind (view_of w run r))
+    → view_in (granted slot w (under_way run r to frame) kind) run ≡ Some (view.answered view.Granted to (frame_seen frame) kind (view_of w run r))
 granted_seen w run r slot to kind frame owned there home kind_is =
     by (nat_le r.subject.decl.held (holds_of w run)) ∙ ap (λ (n : ℕ). Some (seen_by (nat_le r.subject.decl.held n))) (sym (length-map (held_by w run) (object_in w)))
   where
@@ -151,7 +153,7 @@ not_now w run shelf r (Some name) owned there own = λ e. nothing_yet w run r (o
 
 exchanged_seen : (w : World) (run : ℕ) (r : Running) (to shelf : ℕ) (frame : Frame Name) (given : Option Name) → IsOwned w
     → slice_get w.runs run ≡ Some r → IsOwnGiven w run shelf given
-    → view_in (exchanged (standing w shelf) w run r to frame shelf given) run ≡ Some (view.exchanged (result_of (served_from w (standing w shelf))) to (frame_seen frame) shelf (call_given given) (view_of w run r))
+    → view_in (exchanged (standing w shelf) w (under_way run r to frame) shelf given) run ≡ Some (view.exchanged (result_of (served_from w (standing w shelf))) to (frame_seen frame) shelf (call_given given) (view_of w run r))
 exchanged_seen w run r to shelf frame given owned there own = by (standing w shelf) (stands w shelf) where
   left : List ObjectView
   left = without_given (call_given given) (objects_of w run)
@@ -160,7 +162,7 @@ exchanged_seen w run r to shelf frame given owned there own = by (standing w she
   left_is = objects_left w given (held_by w run)
 
   by : (o : Option Owner) → IsFound (λ (p : Owner). is_shelf shelf p.holder) w.owners o
-      → view_in (exchanged o w run r to frame shelf given) run ≡ Some (view.exchanged (result_of (served_from w o)) to (frame_seen frame) shelf (call_given given) (view_of w run r))
+      → view_in (exchanged o w (under_way run r to frame) shelf given) run ≡ Some (view.exchanged (result_of (served_from w o)) to (frame_seen frame) shelf (call_given given) (view_of w run r))
   by None none =
       let now = replied shelf reply.Empty (Number 0) to frame r in
       let v = put_on given shelf run (with_run w run now) in
@@ -232,7 +234,7 @@ own_view w run r (Goes (Ask kind) to frame) (Slot slot) owned there own = grante
 -- ---- the other runs
 
 others_taken : (w : World) (run other : ℕ) (r : Running) (slot to kind : ℕ) (frame : Frame Name) → is_home w slot ≡ true
-    → other ≢ run → view_in (granted slot w run r to frame kind) other ≡ view_in w other
+    → other ≢ run → view_in (granted slot w (under_way run r to frame) kind) other ≡ view_in w other
 others_taken w run other r slot to kind frame home ne = by (nat_le r.subject.decl.held (holds_of w run)) where
   now : Running
   now = replied kind reply.Granted (Pointer (Object (name_of slot r.pc)) (pos 0)) to frame r
@@ -245,9 +247,9 @@ others_taken w run other r slot to kind frame home ne = by (nat_le r.subject.dec
   by false = other_seen after w run other now ne refl (others_unchanged w run other r.pc slot (image_at w.kinds kind) home ne)
 
 others_exchanged : (w : World) (run other : ℕ) (r : Running) (to shelf : ℕ) (frame : Frame Name) (given : Option Name) → other ≢ run
-    → view_in (exchanged (standing w shelf) w run r to frame shelf given) other ≡ view_in w other
+    → view_in (exchanged (standing w shelf) w (under_way run r to frame) shelf given) other ≡ view_in w other
 others_exchanged w run other r to shelf frame given ne = by (standing w shelf) where
-  by : (o : Option Owner) → view_in (exchanged o w run r to frame shelf given) other ≡ view_in w other
+  by : (o : Option Owner) → view_in (exchanged o w (under_way run r to frame) shelf given) other ≡ view_in w other
   by None =
       let now = replied shelf reply.Empty (Number 0) to frame r in
       other_seen (put_on given shelf run (with_run w run now)) w run other now ne (runs_put given shelf run (with_run w run now)) (others_objects w (with_run w run now) run other shelf given ne refl refl refl)
@@ -283,7 +285,7 @@ others_view w run other r (Goes (Ask kind) to frame) (Slot slot) owned own ne = 
 -- ---- the slots that a run holds
 
 others_held : (w : World) (run other : ℕ) (r : Running) (slot to kind : ℕ) (frame : Frame Name) → other ≢ run
-    → held_by (granted slot w run r to frame kind) other ≡ held_by w other
+    → held_by (granted slot w (under_way run r to frame) kind) other ≡ held_by w other
 others_held w run other r slot to kind frame ne = by (nat_le r.subject.decl.held (holds_of w run)) where
   now : Running
   now = replied kind reply.Granted (Pointer (Object (name_of slot r.pc)) (pos 0)) to frame r
@@ -294,9 +296,9 @@ others_held w run other r slot to kind frame ne = by (nat_le r.subject.decl.held
   by false = others_granted w run other r.pc slot ne
 
 others_hold : (w : World) (run other : ℕ) (r : Running) (to shelf : ℕ) (frame : Frame Name) (given : Option Name) → other ≢ run
-    → held_by (exchanged (standing w shelf) w run r to frame shelf given) other ≡ held_by w other
+    → held_by (exchanged (standing w shelf) w (under_way run r to frame) shelf given) other ≡ held_by w other
 others_hold w run other r to shelf frame given ne = by (standing w shelf) where
-  by : (o : Option Owner) → held_by (exchanged o w run r to frame shelf given) other ≡ held_by w other
+  by : (o : Option Owner) → held_by (exchanged o w (under_way run r to frame) shelf given) other ≡ held_by w other
   by None = others_put (with_run w run (replied shelf reply.Empty (Number 0) to frame r)) run other shelf given ne
   by (Some o) = by_room (nat_le r.subject.decl.held (holds_of (put_on given shelf run w) run)) where
     got : World
@@ -320,7 +322,7 @@ others_slots w run other r (Goes (Ask kind) to frame) Null owned own ne = refl
 others_slots w run other r (Goes (Ask kind) to frame) (Slot slot) owned own ne = ap (map slot_held) (others_held w run other r slot to kind frame ne)
 
 slots_granted : (w : World) (run : ℕ) (r : Running) (slot to kind : ℕ) (frame : Frame Name)
-    → slots_in (granted slot w run r to frame kind) run ≡ slots_acted (Ask kind) (Granted slot) r.subject.decl.held r.pc (slots_in w run)
+    → slots_in (granted slot w (under_way run r to frame) kind) run ≡ slots_acted (Ask kind) (Granted slot) r.subject.decl.held r.pc (slots_in w run)
 slots_granted w run r slot to kind frame = by (nat_le r.subject.decl.held (holds_of w run)) ∙ ap (λ (n : ℕ). slots_by (nat_le r.subject.decl.held n)) (sym (length-map (held_by w run) slot_held)) where
   now : Running
   now = replied kind reply.Granted (Pointer (Object (name_of slot r.pc)) (pos 0)) to frame r
@@ -335,7 +337,7 @@ slots_granted w run r slot to kind frame = by (nat_le r.subject.decl.held (holds
 
 slots_after_exchange : (w : World) (run : ℕ) (r : Running) (to shelf : ℕ) (frame : Frame Name) (given : Option Name) → IsOwned w
     → slice_get w.runs run ≡ Some r → IsOwnGiven w run shelf given
-    → slots_in (exchanged (standing w shelf) w run r to frame shelf given) run ≡ slots_exchanged (served_from w (standing w shelf)) r.subject.decl.held r.pc (call_given given) (slots_in w run)
+    → slots_in (exchanged (standing w shelf) w (under_way run r to frame) shelf given) run ≡ slots_exchanged (served_from w (standing w shelf)) r.subject.decl.held r.pc (call_given given) (slots_in w run)
 slots_after_exchange w run r to shelf frame given owned there own = by (standing w shelf) where
   left : List Name
   left = slots_without (call_given given) (slots_in w run)
@@ -344,7 +346,7 @@ slots_after_exchange w run r to shelf frame given owned there own = by (standing
   left_is = slots_left given (held_by w run)
 
   by : (o : Option Owner)
-      → slots_in (exchanged o w run r to frame shelf given) run ≡ slots_exchanged (served_from w o) r.subject.decl.held r.pc (call_given given) (slots_in w run)
+      → slots_in (exchanged o w (under_way run r to frame) shelf given) run ≡ slots_exchanged (served_from w o) r.subject.decl.held r.pc (call_given given) (slots_in w run)
   by None = ap (map slot_held) (held_put (with_run w run (replied shelf reply.Empty (Number 0) to frame r)) run shelf given (given_slot w run shelf given owned own)) ∙ left_is
   by (Some o) =
       by_room (nat_le r.subject.decl.held (holds_of (put_on given shelf run w) run))

@@ -10,9 +10,11 @@ use Rattle.ebpf_insn.specs.Program.{insn_at}
 use Rattle.ebpf_insn.specs.Faults.{first_of}
 use Rattle.ebpf_machine.specs.Values.{Frame}
 use Rattle.ebpf_machine.specs.Effect.{Act, Nothing, Write, Ask, Free, Exchange, Effect, Goes, Ends, Traps}
-use Rattle.ebpf_machine.specs.World.{Name, Kind, World, Running, Owner, Run, Going, Answer, Absent, Slot, is_by_run, standing, shelved_in, environment, holds_of, held_by, is_home, is_in, kind_in, kinds_of, image_at, ledger_of}
-use Rattle.ebpf_machine.specs.World as world
-use Rattle.ebpf_machine.specs.Events.{Illegal, SlotNotHome, SlotOfAnotherKind, Asking, Unasked, OfNoKind, OfKind, AtShelf, put_on, fetched, with_run, exchanged, granted, done_by, effect_of_run, asking_of, answer_fault, exec}
+use Rattle.ebpf_machine.specs.declared.answer.Answer.{Answer}
+use Rattle.ebpf_machine.specs.declared.answer.Answer.TheVariants.{Absent, Slot}
+use Rattle.ebpf_machine.specs.World.{Name, Kind, World, Running, Owner, Going, standing, shelved_in, environment, holds_of, held_by, is_home, is_in, kind_in, kinds_of, image_at, ledger_of}
+use Rattle.ebpf_machine.specs.declared.answer.Answer.TheVariants as brought
+use Rattle.ebpf_machine.specs.Events.{under_way, Illegal, SlotNotHome, SlotOfAnotherKind, Asking, Unasked, OfNoKind, OfKind, AtShelf, put_on, fetched, with_run, exchanged, granted, done_by, effect_of_run, asking_of, answer_fault, exec}
 use Rattle.ebpf_machine.specs.View.{ObjectView, RunView, object_in, view_of, view_in, slots_in, environment_of_view, effect_of_view, stepped}
 use Rattle.ebpf_machine.specs.Step.{IsEvent, Offers, MayAnswer, Served, Idle, Refused, Granted, Empty, Fetched, served_by, served_from, served_in, answer_for, result_of, asking_in, standing_then, standing_seen}
 use Rattle.ebpf_machine.specs.Advance.{slots_after}
@@ -56,7 +58,7 @@ record IsSteady (w after : World) : Type 0 where
   kinds : after.kinds ≡ w.kinds
   ledgers : after.ledgers ≡ w.ledgers
 
-steady_granted : (w : World) (run : ℕ) (r : Running) (slot to kind : ℕ) (frame : Frame Name) → IsSteady w (granted slot w run r to frame kind)
+steady_granted : (w : World) (run : ℕ) (r : Running) (slot to kind : ℕ) (frame : Frame Name) → IsSteady w (granted slot w (under_way run r to frame) kind)
 steady_granted w run r slot to kind frame =
     cond_both (nat_le r.subject.decl.held (holds_of w run)) _ _ (IsSteady w) (λ e. record { as_many = length-set w.runs run _; kinds = refl; ledgers = refl }) (λ e. record { as_many = length-set w.runs run _; kinds = refl; ledgers = refl })
 
@@ -65,9 +67,9 @@ steady_put w v run shelf None same = same
 steady_put w v run shelf (Some name) same = record { as_many = same.as_many; kinds = same.kinds; ledgers = same.ledgers }
 
 steady_exchanged : (w : World) (run : ℕ) (r : Running) (shelf to : ℕ) (given : Option Name) (frame : Frame Name)
-    → IsSteady w (exchanged (standing w shelf) w run r to frame shelf given)
+    → IsSteady w (exchanged (standing w shelf) w (under_way run r to frame) shelf given)
 steady_exchanged w run r shelf to given frame = by (standing w shelf) where
-  by : (o : Option Owner) → IsSteady w (exchanged o w run r to frame shelf given)
+  by : (o : Option Owner) → IsSteady w (exchanged o w (under_way run r to frame) shelf given)
   by None = steady_put w (with_run w run _) run shelf given (record { as_many = length-set w.runs run _; kinds = refl; ledgers = refl })
   by (Some o) =
       cond_both (nat_le r.subject.decl.held (holds_of (put_on given shelf run w) run)) _ _ (IsSteady w) (λ e. record { as_many = length-set w.runs run _; kinds = refl; ledgers = refl })
@@ -81,7 +83,7 @@ steady_done w run r (Goes (Write name at bytes) to frame) answer = record { as_m
 steady_done w run r (Goes (Free name) to frame) answer = record { as_many = length-set w.runs run _; kinds = refl; ledgers = refl }
 steady_done w run r (Goes (Exchange shelf given) to frame) answer = steady_exchanged w run r shelf to given frame
 steady_done w run r (Goes (Ask kind) to frame) Absent = record { as_many = length-set w.runs run _; kinds = refl; ledgers = refl }
-steady_done w run r (Goes (Ask kind) to frame) world.Null = record { as_many = length-set w.runs run _; kinds = refl; ledgers = refl }
+steady_done w run r (Goes (Ask kind) to frame) brought.Null = record { as_many = length-set w.runs run _; kinds = refl; ledgers = refl }
 steady_done w run r (Goes (Ask kind) to frame) (Slot slot) = steady_granted w run r slot to kind frame
 
 -- ---- the effect in the world and the effect that is seen
@@ -133,7 +135,7 @@ sized_in w run r owned there = All-map IsSized (object_in w) (held_by w run) (Al
 -- a slot that is answered is one that may be granted
 grantable : (w : World) (kind : ℕ) (answer : Answer) → answer_fault w (OfKind kind) answer ≡ None → IsGrantable w kind answer
 grantable w kind Absent fine = tt
-grantable w kind world.Null fine = tt
+grantable w kind brought.Null fine = tt
 grantable w kind (Slot slot) fine = by (is_home w slot) (is_in slot (ledger_of w kind)) refl refl fine where
   by : (t u : Bool) → is_home w slot ≡ t → is_in slot (ledger_of w kind) ≡ u
       → first_of ((not t, SlotNotHome) ∷ (not u, SlotOfAnotherKind) ∷ []) ≡ None

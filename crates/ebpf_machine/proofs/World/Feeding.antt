@@ -7,7 +7,8 @@ use Rattle.std.proofs.lemmas.List.{length-map, length_push}
 use Rattle.ebpf_insn.specs.Program.{insn_at}
 use Rattle.ebpf_machine.specs.declared.report.Reply.{Reply}
 use Rattle.ebpf_machine.specs.declared.report.Reply.TheVariants as reply
-use Rattle.ebpf_machine.specs.World.{Absent, Null, Slot, World, Running, Kind, AnsweredCall, Owner, Going, standing, is_in_ledger, image_at}
+use Rattle.ebpf_machine.specs.declared.answer.Answer.TheVariants.{Absent, Null, Slot}
+use Rattle.ebpf_machine.specs.World.{World, Running, Kind, AnsweredCall, Owner, Going, standing, is_in_ledger, image_at}
 use Rattle.ebpf_machine.specs.Events.{Asking, Unasked, OfNoKind, OfKind, AtShelf, answer_fault, asking, asking_of, with_slot_joined}
 use Rattle.ebpf_machine.specs.Alone.{Alone, Fed, cleared_of, cleared, bytes_for, shelved, fed, fed_to, Replies}
 use Rattle.ebpf_machine.specs.View as view

@@ -12,7 +12,9 @@ use Rattle.ebpf_verify.specs.Verdict.{IsAccepted}
 use Rattle.ebpf_machine.specs.declared.report.Reply.{Reply}
 use Rattle.ebpf_machine.specs.declared.report.Reply.TheVariants as reply
 use Rattle.ebpf_machine.specs.Effect.{Nothing, Write, Ask, Free, Exchange, Effect, Goes, Ends, Traps}
-use Rattle.ebpf_machine.specs.World.{Answer, Absent, Null, Slot, World, Running, Kind, AnsweredCall, Owner, Status, Going, Exited, Trapped, standing, is_shelf, is_in, held_by, holds_of, first_run, image_at, kinds_of}
+use Rattle.ebpf_machine.specs.declared.answer.Answer.{Answer}
+use Rattle.ebpf_machine.specs.declared.answer.Answer.TheVariants.{Absent, Null, Slot}
+use Rattle.ebpf_machine.specs.World.{World, Running, Kind, AnsweredCall, Owner, Status, Going, Exited, Trapped, standing, is_shelf, is_in, held_by, holds_of, first_run, image_at, kinds_of}
 use Rattle.ebpf_machine.specs.Events.{Asking, Unasked, OfNoKind, OfKind, AtShelf, asking_of, exec}
 use Rattle.ebpf_machine.specs.Alone.{Alone, Fed, cleared, bytes_for, shelved, fed, fed_to, advanced, alone_first, alone_by, alone_next, alone_after, outcome_of, outcome_alone, Replies, replies_from, replies_of, more_than}
 use Rattle.ebpf_machine.specs.Whole.{told_to, told_alone}

@@ -14,8 +14,10 @@ use Rattle.ebpf_machine.specs.declared.report.Reply.TheVariants as reply
 use Rattle.ebpf_machine.specs.Bytes.{patched}
 use Rattle.ebpf_machine.specs.Values.{Frame, TooManyObjects}
 use Rattle.ebpf_machine.specs.Effect.{Effect, Goes, Ends, Traps, Nothing, Write, Ask, Free, Exchange, with_value}
-use Rattle.ebpf_machine.specs.World.{Name, Kind, World, Running, AnsweredCall, Owner, Run, Shelf, Answer, Absent, Null, Slot, is_in, is_home, holds_of, ledger_of, kind_in, kinds_of, image_at, is_call, is_shelf, standing, first_run, name_of, IsGot, IsOfKind, AskedFor}
-use Rattle.ebpf_machine.specs.Events.{with_run, with_bytes, with_owner, moved_to, ended, trapped, replied, granted, put_on, fetched, shelf_told, exchanged, done_by, started}
+use Rattle.ebpf_machine.specs.declared.answer.Answer.{Answer}
+use Rattle.ebpf_machine.specs.declared.answer.Answer.TheVariants.{Absent, Null, Slot}
+use Rattle.ebpf_machine.specs.World.{Name, Kind, World, Running, AnsweredCall, Owner, Run, Shelf, is_in, is_home, holds_of, ledger_of, kind_in, kinds_of, image_at, is_call, is_shelf, standing, first_run, name_of, IsGot, IsOfKind, AskedFor}
+use Rattle.ebpf_machine.specs.Events.{under_way, with_run, with_bytes, with_owner, moved_to, ended, trapped, replied, granted, put_on, fetched, shelf_told, exchanged, done_by, started}
 use Rattle.ebpf_machine.specs.Alone.{alone_first}
 use Rattle.ebpf_machine.specs.View.{call_of}
 use Rattle.ebpf_machine.specs.Sound.{IsOwned, Names, HasPointer, HasOneSlot, IsTrue}
@@ -143,7 +145,7 @@ may_hold w run r now slot owned there next asked = record {
 owned_taken : (w : World) (run : ℕ) (r : Running) (slot kind to : ℕ) (frame : Frame Name) → IsOwned w
     → slice_get w.runs run ≡ Some r → is_home w slot ≡ true → is_in slot (ledger_of w kind) ≡ true → r.pc < to
     → ((n : Name) → HasPointer frame n → HasPointer r.frame n)
-    → IsOwned (granted slot w run r to frame kind)
+    → IsOwned (granted slot w (under_way run r to frame) kind)
 owned_taken w run r slot kind to frame owned there home of_kind forward fewer = by (nat_le r.subject.decl.held (holds_of w run)) where
   pointer : Value Name
   pointer = Pointer (Object (name_of slot r.pc)) (pos 0)
@@ -174,9 +176,9 @@ owned_put w run shelf (Some name) owned own nobody =
 owned_exchanged : (w : World) (run : ℕ) (r : Running) (to : ℕ) (frame : Frame Name) (shelf : ℕ) (given : Option Name) → IsOwned w
     → slice_get w.runs run ≡ Some r → IsOwnGiven w run shelf given → r.pc < to
     → ((n : Name) → HasPointer frame n → HasPointer r.frame n)
-    → IsOwned (exchanged (standing w shelf) w run r to frame shelf given)
+    → IsOwned (exchanged (standing w shelf) w (under_way run r to frame) shelf given)
 owned_exchanged w run r to frame shelf given owned there own forward fewer = by (standing w shelf) (stands w shelf) where
-  by : (o : Option Owner) → IsFound (λ p. is_shelf shelf p.holder) w.owners o → IsOwned (exchanged o w run r to frame shelf given)
+  by : (o : Option Owner) → IsFound (λ p. is_shelf shelf p.holder) w.owners o → IsOwned (exchanged o w (under_way run r to frame) shelf given)
   by None none = owned_put (with_run w run (replied shelf reply.Empty (Number 0) to frame r)) run shelf given (owned_told w run r reply.Empty shelf to frame owned there forward fewer) (given_with_run w run shelf given (replied shelf reply.Empty (Number 0) to frame r) own) (λ p among. off_shelf shelf p (none p among))
   by (Some o) found = chosen (nat_le r.subject.decl.held (holds_of (put_on given shelf run w) run)) where
     on : StandsOn w shelf o

@@ -12,8 +12,10 @@ use Rattle.ebpf_machine.specs.declared.report.Reply.TheVariants as reply
 use Rattle.ebpf_machine.specs.Bytes.{patched}
 use Rattle.ebpf_machine.specs.Values.{TooManyObjects, Frame}
 use Rattle.ebpf_machine.specs.Effect.{Nothing, Write, Ask, Free, Exchange, Effect, Goes, Ends, Traps}
-use Rattle.ebpf_machine.specs.World.{Name, World, Running, Owner, Holder, Run, Shelf, Shelved, Answer, Absent, Null, Slot, is_home, is_run, is_call, is_shelf, standing, shelved_at, shelved_in, held_by, holds_of, image_at, kind_in, name_of}
-use Rattle.ebpf_machine.specs.Events.{with_run, with_bytes, with_owner, without_owner, without_shelved, put_on, fetched, shelf_told, exchanged, moved_to, trapped, replied, granted, done_by}
+use Rattle.ebpf_machine.specs.declared.answer.Answer.{Answer}
+use Rattle.ebpf_machine.specs.declared.answer.Answer.TheVariants.{Absent, Null, Slot}
+use Rattle.ebpf_machine.specs.World.{Name, World, Running, Owner, Holder, Run, Shelf, Shelved, is_home, is_run, is_call, is_shelf, standing, shelved_at, shelved_in, held_by, holds_of, image_at, kind_in, name_of}
+use Rattle.ebpf_machine.specs.Events.{under_way, with_run, with_bytes, with_owner, without_owner, without_shelved, put_on, fetched, shelf_told, exchanged, moved_to, trapped, replied, granted, done_by}
 use Rattle.ebpf_machine.specs.View.{ObjectView, call_of, object_in, view_of, slots_in, without_given}
 use Rattle.ebpf_machine.specs.Step.{shelved_given, standing_then, name_given, standing_seen}
 use Rattle.ebpf_machine.specs.Sound.{IsOwned}
@@ -108,7 +110,7 @@ shelf_written w v run name bytes shelf owned own same old =
     (λ o among on. bytes_elsewhere v name.slot bytes o.slot (apart_from_shelf w run name shelf o owned own among on) ∙ ap (λ (f : ℕ → List ℕ). f o.slot) old)
 
 shelf_granted : (w : World) (run : ℕ) (r : Running) (slot to kind : ℕ) (frame : Frame Name) (shelf : ℕ) → is_home w slot ≡ true
-    → shelved_in (granted slot w run r to frame kind) shelf ≡ shelved_in w shelf
+    → shelved_in (granted slot w (under_way run r to frame) kind) shelf ≡ shelved_in w shelf
 shelf_granted w run r slot to kind frame shelf home = by (nat_le r.subject.decl.held (holds_of w run)) where
   by : (t : Bool)
       → shelved_in (cond t (with_run w run (trapped TooManyObjects r)) (with_owner slot (Run run r.pc) (with_bytes slot (image_at w.kinds kind) (with_run w run (replied kind reply.Granted (Pointer (Object (name_of slot r.pc)) (pos 0)) to frame r))))) shelf ≡ shelved_in w shelf
@@ -157,10 +159,10 @@ has_room w run r k given owned own room =
 
 shelf_exchanged : (w : World) (run : ℕ) (r : Running) (to k : ℕ) (frame : Frame Name) (given : Option Name) → IsOwned w
     → IsOwnGiven w run k given → HasRoom (view_of w run r) (Exchange k (call_given given))
-    → (shelf : ℕ) → shelved_in (exchanged (standing w k) w run r to frame k given) shelf ≡ cond (shelf == k) (shelved_given w given) (shelved_in w shelf)
+    → (shelf : ℕ) → shelved_in (exchanged (standing w k) w (under_way run r to frame) k given) shelf ≡ cond (shelf == k) (shelved_given w given) (shelved_in w shelf)
 shelf_exchanged w run r to k frame given owned own room shelf = by (standing w k) (stands w k) where
   by : (o : Option Owner) → IsFound (λ (p : Owner). is_shelf k p.holder) w.owners o
-      → shelved_in (exchanged o w run r to frame k given) shelf ≡ cond (shelf == k) (shelved_given w given) (shelved_in w shelf)
+      → shelved_in (exchanged o w (under_way run r to frame) k given) shelf ≡ cond (shelf == k) (shelved_given w given) (shelved_in w shelf)
   by None none =
       shelf_put w (with_run w run (replied k reply.Empty (Number 0) to frame r)) run k given (λ p among. off_shelf k p (none p among)) (λ s ne. refl) refl shelf
   by (Some o) found =

@@ -55,8 +55,10 @@ fn each_sort_of_value_has_its_words(rt: HostRuntime) {
     state.set(Reg::R5, Abs::Ctx(0, 255));
     state.set(Reg::R6, Abs::Ob(4, 8, 8));
     state.set(Reg::R7, Abs::Ob(4, -1, 8));
+    state.set(Reg::R8, Abs::Num(Range { lo: 0, hi: u64::MAX }));
+    state.set(Reg::R9, Abs::Num(Range { lo: 1, hi: u64::MAX }));
     let words =
-        "  r0 answer of 4095  r1 18446744073709551615  r2 0..255  r3 stack-512  r4 context+4  r5 context+0..+255  r6 object of 4+8  r7 object of 4-1..+8  r10 stack+0";
+        "  r0 answer of 4095  r1 18446744073709551615  r2 0..255  r3 stack-512  r4 context+4  r5 context+0..+255  r6 object of 4+8  r7 object of 4-1..+8  r8 any number  r9 1..18446744073709551615  r10 stack+0";
     is_known(&rt, rt.alloc(), "values", &state, words);
 }
 
