@@ -1,5 +1,5 @@
 //! Calls of helpers (RFC 9669, section 4.3.1): each takes its arguments in r1 and r2 and leaves its result in r0, and r1 to r5 are
-//! lost.
+//! lost. The accepted program that is passed to each is there for its contract, and is not read.
 
 ghost use Rattle.std.specs.Prelude.{◌≡◌, ◌≤◌, ◌<◌, ◌+◌, ◌++◌, ◌∷◌, ℕ, ℤ, pos, max, map, Contains, List, [], length, None, Some, IfSome, slice_index_or};
 ghost use Rattle.ebpf_insn.specs.declared.program.TheConstants.{MAX_SLOTS};

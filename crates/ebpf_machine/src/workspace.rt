@@ -8,10 +8,10 @@ use crate::stack::Stack;
 use std::alloc::{AllocError, Global};
 use std::mem;
 
-/// The memory of a run: what is the same for all runs, its registers and its stack, and room for the objects that it holds and for its
-/// context. A run gives it back at its end, so that the next one needs none. It must be freed.
+/// The memory of a run, in one box: its registers, its stack, and room for the objects that it holds and for its context. A run takes
+/// the box, and gives it back at its end, so that the next one needs none. It must be freed.
 pub struct Workspace<H> {
-    // What is not empty in it doesn't matter.
+    // What the last run left in it doesn't matter, but for these lists.
     pub(crate) parts: Box<Parts<H>>,
     ghost held: { parts.value.held.items ≡ [] },
     ghost output: { parts.value.output.items ≡ [] },

@@ -218,7 +218,8 @@ fn answer<'a, L: Names, G: Gate + 'a, R: Wait + 'a>(
         answered.old.items answered.new.items) }
 {
     let job = &shared.jobs[number as usize];
-    let Ok(context) = room_for(shared.alloc, answered, &job.context.bytes) else {
+    let mut workspace = workspace;
+    let Ok(context) = room_for(shared.alloc, &mut workspace, answered, &job.context.bytes) else {
         workspace.free();
         return Err(AllocError);
     };
@@ -241,9 +242,10 @@ fn answer<'a, L: Names, G: Gate + 'a, R: Wait + 'a>(
     Ok(workspace)
 }
 
-// Room for a report, and a context of these bytes.
+// Room for a report, and a context of these bytes in the memory of the last run's.
 fn room_for(
     alloc: Global,
+    workspace: &mut Workspace<Owned>,
     answered: &mut Vec<Numbered>,
     bytes: &[u8],
 ) -> Result<Vec<u8>, AllocError>
@@ -252,5 +254,5 @@ fn room_for(
     ensures room { OnOk result (vec_len answered.new < vec_capacity answered.new) }
 {
     answered.reserve(1)?;
-    bytes.to_vec(alloc)
+    workspace.context(alloc, bytes)
 }
