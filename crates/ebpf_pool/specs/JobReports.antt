@@ -1,17 +1,15 @@
 -- The report of a job, by how it is kept.
-use Rattle.std.proofs.Common.{Box, Global}
-use Rattle.std.specs.Prelude.{ℕ, [], Option, Some, None}
+use Rattle.std.specs.Prelude.{ℕ, [], Option}
 use Rattle.ebpf_machine.specs.declared.report.Report.{Report}
+use Rattle.ebpf_pool.specs.declared.job_report.Kept.{Kept}
+use Rattle.ebpf_pool.specs.declared.job_report.Kept.TheVariants.{Empty, Answered, All}
 use Rattle.ebpf_pool.specs.declared.job_report.Lists.{Lists}
 
--- all of them empty
-abbrev pub no_lists : Lists
-no_lists = record { output = []; answers = []; taken = [] }
-
--- the lists that are in a box; without one all of them are empty
-abbrev pub lists_in : Option (Box Lists Global) → Lists
-lists_in None = no_lists
-lists_in (Some b) = b.value
+-- the lists that are kept: those that are not are empty
+abbrev pub lists_in : Kept → Lists
+lists_in Empty = record { output = []; answers = []; taken = [] }
+lists_in (Answered answers) = record { output = []; answers = answers; taken = [] }
+lists_in (All lists) = lists.value
 
 abbrev pub report_of : (exit : Option ℕ) → (executed peak : ℕ) → Lists → Report
 report_of exit executed peak lists = record {

@@ -1,10 +1,10 @@
 //! The report of a job, as it is kept until all jobs are done.
 //!
-//! A short job takes mostly the time of memory that is touched for the first time. So a report keeps its lists in a box, and has no box
-//! where all of them are empty: it takes 48 bytes in place of 104.
+//! A short job takes mostly the time of memory that is touched for the first time. So a report has its lists in a box, and none where
+//! only calls were answered, or nothing was: it takes 64 bytes in place of 104.
 
-ghost use Rattle.std.specs.Prelude.{◌≡◌, true, None, is_some};
-ghost use Rattle.ebpf_pool.specs.JobReports.{lists_in, no_lists};
+ghost use Rattle.std.specs.Prelude.{◌≡◌, [], true, None, is_some};
+ghost use Rattle.ebpf_pool.specs.JobReports.{lists_in};
 
 use ebpf_machine::report::{Answers, Output, Reply, Report, Taken};
 use std::alloc::{AllocError, Global};
@@ -34,15 +34,16 @@ impl Lists {
         };
         Ok(Box::new(alloc, lists)?)
     }
+}
 
-    // Whether all of them are empty.
-    fn are_empty(&self) -> bool
-        ensures { result ≡ true → self.now ≡ no_lists }
-    {
-        self.output.numbers.is_empty()
-            && self.answers.replies.is_empty()
-            && self.taken.bytes.is_empty()
-    }
+/// How the lists of a report are kept.
+#[derive(Drop)]
+pub(crate) enum Kept {
+    /// All of them are empty.
+    Empty,
+    /// Nothing was added to the output, and nothing was taken off a shelf.
+    Answered(Answers),
+    All(Box<Lists>),
 }
 
 /// The report of a job. Contracts see it as the [`Report`] of its run.
@@ -51,7 +52,7 @@ pub struct JobReport {
     exit: Option<u64>,
     executed: u64,
     peak: u64,
-    lists: Option<Box<Lists>>,
+    lists: Kept,
 }
 
 impl Model for JobReport {
@@ -72,11 +73,11 @@ impl JobReport {
             exit: None,
             executed: 0,
             peak: 0,
-            lists: None,
+            lists: Kept::Empty,
         }
     }
 
-    /// A report, which takes the spare box for its lists unless all of them are empty.
+    /// A report, which takes the spare box where its lists need one.
     pub(crate) fn of(report: Report, spare: &mut Option<Box<Lists>>) -> JobReport
         requires { is_some spare.old ≡ true }
         ensures { result ≡ report }
@@ -98,7 +99,7 @@ impl JobReport {
             exit,
             executed,
             peak,
-            lists: kept(lists, spare),
+            lists: lists_kept(lists, spare),
         }
     }
 
@@ -128,8 +129,8 @@ impl JobReport {
         ensures { result.now ≡ self.now.output }
     {
         match &self.lists {
-            None => &[],
-            Some(lists) => &lists.output.numbers,
+            Kept::All(lists) => &lists.output.numbers,
+            _ => &[],
         }
     }
 
@@ -138,8 +139,9 @@ impl JobReport {
         ensures { result.now ≡ self.now.answers }
     {
         match &self.lists {
-            None => &[],
-            Some(lists) => &lists.answers.replies,
+            Kept::Empty => &[],
+            Kept::Answered(answers) => &answers.replies,
+            Kept::All(lists) => &lists.answers.replies,
         }
     }
 
@@ -148,23 +150,34 @@ impl JobReport {
         ensures { result.now ≡ self.now.taken }
     {
         match &self.lists {
-            None => &[],
-            Some(lists) => &lists.taken.bytes,
+            Kept::All(lists) => &lists.taken.bytes,
+            _ => &[],
         }
     }
 }
 
-// Lists in the spare box, unless all of them are empty.
-fn kept(lists: Lists, spare: &mut Option<Box<Lists>>) -> Option<Box<Lists>>
+// How these lists are kept: in the spare box where they need one.
+fn lists_kept(lists: Lists, spare: &mut Option<Box<Lists>>) -> Kept
     requires { is_some spare.old ≡ true }
     ensures { lists_in result ≡ lists }
 {
-    if lists.are_empty() {
-        return None;
+    if lists.output.numbers.is_empty() && lists.taken.bytes.is_empty() {
+        return without_box(lists.answers);
     }
-    let Some(mut kept) = spare.take() else {
+    let Some(mut room) = spare.take() else {
         unreachable!()
     };
-    *kept = lists;
-    Some(kept)
+    *room = lists;
+    Kept::All(room)
+}
+
+// How answers alone are kept.
+fn without_box(answers: Answers) -> Kept
+    ensures { lists_in result ≡ record { output = []; answers = answers; taken = [] } }
+{
+    if answers.replies.is_empty() {
+        Kept::Empty
+    } else {
+        Kept::Answered(answers)
+    }
 }
