@@ -1,6 +1,6 @@
 //! Reports, counted by their workers, and each in the place of its job.
 
-ghost use Rattle.std.specs.Prelude.{◌≡◌, Contains, map, ◌≤◌, ◌<◌, ◌+◌, ℕ, [], All, length, vec_len, vec_capacity, sum_by};
+ghost use Rattle.std.specs.Prelude.{◌≡◌, Contains, map, ◌≤◌, ◌<◌, ◌+◌, ℕ, [], All, length, slice_set, vec_len, vec_capacity, sum_by};
 ghost use Rattle.ebpf_machine.specs.declared.report.Report.{Report};
 ghost use Rattle.ebpf_pool.specs.Places.{AreReserved, ArePlaces, HasExit, filled, times_in, weight, weight_of, AreFrom, IsIn};
 
@@ -59,6 +59,14 @@ fn place(places: &mut Vec<JobReport>, answered: Vec<Numbered>)
     let mut answered = answered;
     while let Some(numbered) = answered.pop() {
         let Numbered { job, report } = numbered;
-        let _none = mem::replace(&mut places[job as usize], report);
+        put(places, job as usize, report);
     }
+}
+
+// Puts a report in its place. What was there is none.
+fn put(places: &mut Vec<JobReport>, job: usize, report: JobReport)
+    requires { job < vec_len places.old }
+    ensures { places.new.items ≡ slice_set places.old.items job report }
+{
+    let _none = mem::replace(&mut places[job], report);
 }
