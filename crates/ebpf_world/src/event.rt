@@ -1,7 +1,6 @@
 //! What can happen in the world.
 
 pub use ebpf_machine::answer::Answer;
-
 use ebpf_machine::context::Context;
 
 /// One atomic step of the world.
