@@ -85,8 +85,8 @@ def explained_branches():
         objects = [f'may hold {3 * at - 1} (cell)' for at in range(1, held + 1)]
         lines.append('  '.join(['', *registers, 'r10 stack+0', *stack, *objects]) + f'\n{number}: {instruction}\n')
     lines.append(f'refused V17 {SLOTS - 1}\n')
-    lines.append('  '.join([f'  slot {SLOTS - 1} exits while objects are held,', *objects]))
-    return ''.join(lines) + ': free each, or put it onto a shelf, on every path to this slot\n'
+    lines.append('  '.join([f'  slot {SLOTS - 1} exits while holding objects,', *objects]))
+    return ''.join(lines) + ': free each, or put it on a shelf, on every path here\n'
 
 
 def explained_straight():
@@ -127,7 +127,7 @@ WORST = [
           b'', lambda at: slot(0x65, 9, 0, -30000, -2**31).hex().encode() if at < SLOTS else b'#' * MOST,
           0, each('{}: jsgt64 r9, -2147483648, -30000\n')),
     Worst('assemble: jumps to no label, among many', ['assemble'], each('a{:04}: exit\n')(256).encode(), lambda _: b'ja a0256\n',
-          2, lambda _: 'fault A2 line 257\n  no instruction is written like this\n'),
+          2, lambda _: 'fault A2 line 257\n  this is not an instruction\n'),
     Worst('check: branches over a full stack', ['check'], b'', lambda at: line_of(at, 1, 64, BRANCHES),
           2, each(f'{{}} refused V17 {SLOTS - 1}\n')),
     Worst('check: names that look alike', ['check'], b'', lambda at: line_of(f'{ALIKE}{at:08x}', 0, 0, b''),

@@ -14,7 +14,7 @@ line_fault_name TooManySlots = codes "A3"
 
 abbrev pub line_fault_words : LineFault → List ℕ
 line_fault_words WrongSlot = codes "the line begins with the slot or the label of another instruction"
-line_fault_words NoInstruction = codes "no instruction is written like this"
+line_fault_words NoInstruction = codes "this is not an instruction"
 line_fault_words TooManySlots = codes "with this instruction the program has more than 4096 slots"
 
 abbrev pub assembly_fault_lines : AssemblyFault → List ℕ

@@ -40,7 +40,7 @@ fn line_fault_words(fault: LineFault) -> &'static str
 {
     match fault {
         LineFault::WrongSlot => "the line begins with the slot or the label of another instruction",
-        LineFault::NoInstruction => "no instruction is written like this",
+        LineFault::NoInstruction => "this is not an instruction",
         LineFault::TooManySlots => "with this instruction the program has more than 4096 slots",
     }
 }

@@ -7,10 +7,10 @@ use thiserror::Error;
 #[derive(Clone, Copy, Debug, Error)]
 pub enum LineFault {
     /// The line begins with the slot of another instruction, or with a label that means another slot.
-    #[error("the slot or the label is that of another instruction")]
+    #[error("the slot or the label belongs to another instruction")]
     WrongSlot,
     /// No instruction has these words.
-    #[error("no instruction is written like this")]
+    #[error("this is not an instruction")]
     NoInstruction,
     /// The instruction doesn't fit into a program with those before it.
     #[error("a program has at most 4096 slots")]

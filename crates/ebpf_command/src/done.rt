@@ -19,13 +19,13 @@ pub enum Done {
 #[derive(Clone, Copy, Debug, Error)]
 pub enum EngineFault {
     /// A read failed. Nothing was written.
-    #[error("input")]
+    #[error("the input can't be read")]
     Input,
     /// A write failed, or took nothing. What was written is a beginning of the text.
-    #[error("output")]
+    #[error("the output can't be written")]
     Output,
     /// An allocation failed. Nothing was written.
-    #[error("no memory")]
+    #[error("out of memory")]
     NoMemory,
 }
 

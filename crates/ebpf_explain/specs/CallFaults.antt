@@ -1,5 +1,5 @@
 -- What a call or an exit does that it may not, as text.
-use Rattle.std.specs.Prelude.{ℕ, ℤ, List, ◌++◌, codes, decimal, if◌then◌else◌, ◌==◌}
+use Rattle.std.specs.Prelude.{ℕ, ℤ, List, ◌++◌, codes, decimal}
 use Rattle.std.specs.List.{flat_map}
 use Rattle.std.specs.Fmt.{signed_decimal}
 use Rattle.ebpf_insn.specs.declared.register.Reg.{Reg}
@@ -15,18 +15,17 @@ abbrev pub helper_text : ℤ → List ℕ
 helper_text number = codes "calls helper " ++ signed_decimal number
 
 abbrev pub no_helper : ℤ → List ℕ
-no_helper number = helper_text number ++ codes ", which there is none of"
+no_helper number = helper_text number ++ codes ", which does not exist"
 
 -- a call, and what is wrong with the registers that it reads
 abbrev pub call_with : ℤ → List ℕ → StateView → List Reg → List ℕ
 call_with number fault s arguments = helper_text number ++ fault_with_reads fault s arguments
 
 abbrev pub too_many_held : ℕ → List ℕ
-too_many_held held =
-    codes "asks for an object while " ++ (decimal held ++ (if held == 1 then codes " is held, as many as the program declares" else codes " are held, as many as the program declares"))
+too_many_held held = codes "asks for an object while holding " ++ (decimal held ++ codes ", the most the program declares")
 
 abbrev pub held_at_exit : List Held → List KindRow → List ℕ
-held_at_exit held rows = codes "exits while objects are held," ++ flat_map (held_word rows) held
+held_at_exit held rows = codes "exits while holding objects," ++ flat_map (held_word rows) held
 
 abbrev pub no_number_at_exit : StateView → List ℕ
-no_number_at_exit s = codes "exits with" ++ (known_register s R0 ++ codes ", which is no number")
+no_number_at_exit s = codes "exits with" ++ (known_register s R0 ++ codes ", which is not a number")

@@ -17,12 +17,12 @@ jump_text i = distance_text (displacement_of i)
 -- what is wrong with an instruction of a program that has that many slots, and how it is mended
 abbrev pub flow_words : Insn → ℕ → FlowCode → List ℕ
 flow_words i slots JumpOutside =
-    codes "jumps " ++ (jump_text i ++ (codes " slots on, and the program has " ++ (decimal slots ++ codes " slots: let it lead to one of them")))
-flow_words i slots JumpIntoWide = codes "jumps " ++ (jump_text i ++ codes " slots on, to the second half of a wide instruction: let it lead to an instruction")
+    codes "jumps " ++ (jump_text i ++ (codes " slots from the next one, but the program has " ++ (decimal slots ++ codes " slots: make it lead to one of them")))
+flow_words i slots JumpIntoWide = codes "jumps " ++ (jump_text i ++ codes " slots from the next one, into the second half of a wide instruction: make it lead to an instruction")
 flow_words i slots JumpBackward =
-    codes "jumps back, by " ++ (jump_text i ++ codes " slots: programs go forward only, so unroll a loop, and lay blocks out in the order in which they are run")
-flow_words i slots FallsOffEnd = codes "goes on behind the last slot: end the program with exit"
-flow_words i slots Unreachable = codes "is reached by no path from slot 0 that goes forward: leave it out, or let a jump before it lead to it"
+    codes "jumps back by " ++ (jump_text i ++ codes " slots: programs only go forward, so unroll loops, and lay blocks out in the order in which they run")
+flow_words i slots FallsOffEnd = codes "continues past the last slot: end the program with exit"
+flow_words i slots Unreachable = codes "cannot be reached from slot 0 by going forward: remove it, or make an earlier jump lead to it"
 
 abbrev pub flow_sentence : ℕ → Insn → ℕ → FlowCode → List ℕ
 flow_sentence slot i slots code = codes "  slot " ++ (decimal slot ++ (codes " " ++ (flow_words i slots code ++ codes "\n")))

@@ -24,7 +24,7 @@ holds_other held cs = position (λ c. not (is_same_held held c.state.held)) cs
 
 -- where no two are found that differ, which can't be
 abbrev pub unknown_paths : List ℕ
-unknown_paths = codes "paths meet that hold different objects, or of which one has compared an answer"
+unknown_paths = codes "paths meet that hold different objects, or of which only one has compared an answer"
 
 abbrev pub pair_text : List KindRow → Comer → Comer → List ℕ
 pair_text rows a b = coming rows a ++ (codes ", and " ++ (coming rows b ++ codes ", meet"))
@@ -49,4 +49,4 @@ paths_from rows (Some a) cs = paths_after rows a cs
 abbrev pub meeting_sentence : ℕ → List Comer → List KindRow → List ℕ
 meeting_sentence slot cs rows =
     codes "  slot " ++ (decimal slot ++ (codes " is where " ++ (paths_from rows (slice_get cs 0) cs ++
-    codes ": free what one path holds and the other does not, before they meet\n")))
+    codes ": before they meet, free what only one of them holds\n")))

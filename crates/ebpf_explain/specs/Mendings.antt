@@ -25,33 +25,33 @@ number_called _ = pos 0
 
 -- what a helper asks of its arguments
 abbrev pub asked_of : Option Helper → List ℕ
-asked_of (Some New) = codes "r1 is to be a constant 0, 1 or 2"
-asked_of (Some Free) = codes "r1 is to be an object at its first byte"
-asked_of (Some Emit) = codes "r1 is to be a number"
-asked_of (Some Swap) = codes "r1 is to be a constant 0, 1 or 2, and r2 either 0 or an object of that kind at its first byte"
-asked_of None = codes "look at its arguments"
+asked_of (Some New) = codes "r1 must be the constant 0, 1 or 2"
+asked_of (Some Free) = codes "r1 must point to the first byte of an object"
+asked_of (Some Emit) = codes "r1 must be a number"
+asked_of (Some Swap) = codes "r1 must be the constant 0, 1 or 2, and r2 must be 0 or point to the first byte of an object of that kind"
+asked_of None = codes "check its arguments"
 
 -- by the code, and of arguments by the helper
 abbrev pub plain_mending : Insn → VerifyCode → List ℕ
-plain_mending i UnsetRegister = codes "set it first (a call unsets r1 to r5, and free what points to its object)"
+plain_mending i UnsetRegister = codes "set it first (a call unsets r1 to r5, and free unsets every pointer to its object)"
 plain_mending i FramePointerWritten = codes "copy it to another register first"
-plain_mending i PointerMisused = codes "move pointers by 64-bit sums with a number, and a stack pointer by a constant"
-plain_mending i MovedTooFar = codes "bound the number, and keep within 2^29 bytes of the base"
-plain_mending i PointerCompared = codes "compare numbers, and an answer with 0 alone, by jeq or jne at 64 bits"
+plain_mending i PointerMisused = codes "move pointers with add64 or sub64 by a number, and a stack pointer by a constant"
+plain_mending i MovedTooFar = codes "bound the number, and stay within 2^29 bytes of the base"
+plain_mending i PointerCompared = codes "compare only numbers, or an answer with 0 by jeq64 or jne64"
 plain_mending i OutsideStack = codes "keep within it"
 plain_mending i UnsetStack = codes "store to each of them first"
 plain_mending i OutsideContext = codes "keep within it"
 plain_mending i ContextWritten = codes "copy it to the stack first"
 plain_mending i OutsideObject = codes "keep within it"
-plain_mending i UntestedAnswer = codes "compare it first, and use it where it is not 0"
-plain_mending i PartialPointer = codes "store it as eight bytes at a multiple of 8 from r10, and load it so"
-plain_mending i NumberAsAddress = codes "load and store through r10, r1, an object or a pointer made of them"
+plain_mending i UntestedAnswer = codes "compare it first, and use it only where it is not 0"
+plain_mending i PartialPointer = codes "store it as 8 bytes at a multiple of 8 from r10, and load it the same way"
+plain_mending i NumberAsAddress = codes "load and store through r10, the context, an object, or a pointer derived from one of these"
 plain_mending i UnknownHelper = codes "call 1 (new), 2 (free), 3 (emit) or 4 (swap)"
 plain_mending i WrongArgument = asked_of (helper_of (number_called i))
-plain_mending i TooManyHeld = codes "free one, put one onto a shelf, or declare more"
-plain_mending i HeldAtExit = codes "free each, or put it onto a shelf, on every path to this slot"
+plain_mending i TooManyHeld = codes "free one, put one on a shelf, or declare more"
+plain_mending i HeldAtExit = codes "free each, or put it on a shelf, on every path here"
 plain_mending i NoNumberReturned = codes "return a number"
-plain_mending i PathsDiffer = codes "free what one path holds and the other does not, before they meet"
+plain_mending i PathsDiffer = codes "before they meet, free what only one of them holds"
 
 -- the bytes of the stack, from the frame pointer
 abbrev pub stack_ends : Ends

@@ -22,7 +22,7 @@ pub(crate) fn write_no_helper(text: &mut String, number: i32) -> Result<(), Allo
     ensures { OnOk result (string_bytes text.new ≡ string_bytes text.old ++ no_helper number) }
 {
     write_helper(text, number)?;
-    text.push_str(", which there is none of")
+    text.push_str(", which does not exist")
 }
 
 // The number of a helper that is called.
@@ -49,17 +49,10 @@ pub(crate) fn write_call_with(
 pub(crate) fn write_too_many_held(text: &mut String, held: usize) -> Result<(), AllocError>
     ensures { OnOk result (string_bytes text.new ≡ string_bytes text.old ++ too_many_held held) }
 {
-    if held == 1 {
-        write!(
-            text,
-            "asks for an object while {held} is held, as many as the program declares"
-        )
-    } else {
-        write!(
-            text,
-            "asks for an object while {held} are held, as many as the program declares"
-        )
-    }
+    write!(
+        text,
+        "asks for an object while holding {held}, the most the program declares"
+    )
 }
 
 // An object is held at the exit.
@@ -70,7 +63,7 @@ pub(crate) fn write_held_at_exit(
 ) -> Result<(), AllocError>
     ensures { OnOk result (string_bytes text.new ≡ string_bytes text.old ++ held_at_exit held.now rows.now) }
 {
-    text.push_str("exits while objects are held,")?;
+    text.push_str("exits while holding objects,")?;
     write_references(text, held, rows)
 }
 
@@ -80,5 +73,5 @@ pub(crate) fn write_no_number_at_exit(text: &mut String, state: &State) -> Resul
 {
     text.push_str("exits with")?;
     write_register(text, Reg::R0, state.reg(Reg::R0))?;
-    text.push_str(", which is no number")
+    text.push_str(", which is not a number")
 }

@@ -39,7 +39,7 @@ fn write_words(
         DecodeCode::UnknownOpcode => {
             write!(text, "slot {slot} has the opcode 0x")?;
             write_byte(text, bytes, slot, 0)?;
-            text.push_str(", which is no instruction")
+            text.push_str(", which no instruction has")
         }
         DecodeCode::UnknownRegister => {
             write!(text, "slot {slot} names a register above 10: 0x")?;
@@ -48,7 +48,7 @@ fn write_words(
         DecodeCode::UnusedFieldSet => {
             write!(
                 text,
-                "slot {slot} has something in a field that its instruction does not use: "
+                "slot {slot} sets a field that its instruction does not use: "
             )?;
             write_eight(text, bytes, slot, 0)
         }
@@ -59,23 +59,21 @@ fn write_words(
         DecodeCode::BadSecondSlot => {
             write!(
                 text,
-                "slot {slot} is a wide load whose second slot has more than a number: "
+                "slot {slot} is a wide load whose second slot has more than the upper half of a number: "
             )?;
             write_eight(text, bytes, slot, 8)
         }
         DecodeCode::UndefinedField => {
             write!(
                 text,
-                "slot {slot} has an offset or an immediate that its operation does not have: "
+                "slot {slot} has an offset or an immediate that its operation does not allow: "
             )?;
             write_eight(text, bytes, slot, 0)
         }
         DecodeCode::UnsupportedForm => {
-            write!(text, "slot {slot} is a form that is left out: ")?;
+            write!(text, "slot {slot} is a form that is not supported: ")?;
             write_eight(text, bytes, slot, 0)?;
-            text.push_str(
-                " (an atomic operation, a call of a function, or a load of a map's address)",
-            )
+            text.push_str(" (an atomic operation, a function call, or a load of a map's address)")
         }
         DecodeCode::ProgramTooLong => text.push_str("the program has more than 4096 slots"),
     }
@@ -88,12 +86,12 @@ fn write_count(text: &mut String, count: usize) -> Result<(), AllocError>
     if count == 1 {
         write!(
             text,
-            "there is {count} byte: a program has whole slots of 8 bytes, and one at least"
+            "there is {count} byte: a program is one or more whole slots of 8 bytes"
         )
     } else {
         write!(
             text,
-            "there are {count} bytes: a program has whole slots of 8 bytes, and one at least"
+            "there are {count} bytes: a program is one or more whole slots of 8 bytes"
         )
     }
 }

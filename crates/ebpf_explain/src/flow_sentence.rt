@@ -42,28 +42,28 @@ fn write_words(
             write_jump(text, insn)?;
             write!(
                 text,
-                " slots on, and the program has {slots} slots: let it lead to one of them"
+                " slots from the next one, but the program has {slots} slots: make it lead to one of them"
             )
         }
         FlowCode::JumpIntoWide => {
             text.push_str("jumps ")?;
             write_jump(text, insn)?;
             text.push_str(
-                " slots on, to the second half of a wide instruction: let it lead to an instruction",
+                " slots from the next one, into the second half of a wide instruction: make it lead to an instruction",
             )
         }
         FlowCode::JumpBackward => {
-            text.push_str("jumps back, by ")?;
+            text.push_str("jumps back by ")?;
             write_jump(text, insn)?;
             text.push_str(
-                " slots: programs go forward only, so unroll a loop, and lay blocks out in the order in which they are run",
+                " slots: programs only go forward, so unroll loops, and lay blocks out in the order in which they run",
             )
         }
         FlowCode::FallsOffEnd => text.push_str(
-            "goes on behind the last slot: end the program with exit",
+            "continues past the last slot: end the program with exit",
         ),
         FlowCode::Unreachable => text.push_str(
-            "is reached by no path from slot 0 that goes forward: leave it out, or let a jump before it lead to it",
+            "cannot be reached from slot 0 by going forward: remove it, or make an earlier jump lead to it",
         ),
     }
 }

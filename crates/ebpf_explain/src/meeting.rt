@@ -14,7 +14,7 @@ use std::alloc::AllocError;
 
 // No two are found that differ.
 const UNKNOWN: &str =
-    "paths meet that hold different objects, or of which one has compared an answer";
+    "paths meet that hold different objects, or of which only one has compared an answer";
 
 // The sentence: which two paths meet, and what each of them holds.
 pub(crate) fn write_meeting(
@@ -27,7 +27,7 @@ pub(crate) fn write_meeting(
 {
     write!(text, "  slot {slot} is where ")?;
     write_paths(text, comers, rows)?;
-    text.push_str(": free what one path holds and the other does not, before they meet\n")
+    text.push_str(": before they meet, free what only one of them holds\n")
 }
 
 // The first that comes, and the first that doesn't hold the same.

@@ -68,30 +68,29 @@ fn plain_mending(insn: &Insn, code: VerifyCode) -> &'static str
 {
     match code {
         VerifyCode::UnsetRegister =>
-            "set it first (a call unsets r1 to r5, and free what points to its object)",
+            "set it first (a call unsets r1 to r5, and free unsets every pointer to its object)",
         VerifyCode::FramePointerWritten => "copy it to another register first",
         VerifyCode::PointerMisused => {
-            "move pointers by 64-bit sums with a number, and a stack pointer by a constant"
+            "move pointers with add64 or sub64 by a number, and a stack pointer by a constant"
         }
-        VerifyCode::MovedTooFar => "bound the number, and keep within 2^29 bytes of the base",
+        VerifyCode::MovedTooFar => "bound the number, and stay within 2^29 bytes of the base",
         VerifyCode::PointerCompared =>
-            "compare numbers, and an answer with 0 alone, by jeq or jne at 64 bits",
+            "compare only numbers, or an answer with 0 by jeq64 or jne64",
         VerifyCode::OutsideStack | VerifyCode::OutsideContext | VerifyCode::OutsideObject =>
             "keep within it",
         VerifyCode::UnsetStack => "store to each of them first",
         VerifyCode::ContextWritten => "copy it to the stack first",
-        VerifyCode::UntestedAnswer => "compare it first, and use it where it is not 0",
+        VerifyCode::UntestedAnswer => "compare it first, and use it only where it is not 0",
         VerifyCode::PartialPointer =>
-            "store it as eight bytes at a multiple of 8 from r10, and load it so",
+            "store it as 8 bytes at a multiple of 8 from r10, and load it the same way",
         VerifyCode::NumberAsAddress =>
-            "load and store through r10, r1, an object or a pointer made of them",
+            "load and store through r10, the context, an object, or a pointer derived from one of these",
         VerifyCode::UnknownHelper => "call 1 (new), 2 (free), 3 (emit) or 4 (swap)",
         VerifyCode::WrongArgument => asked_of(helper_of(number_called(insn))),
-        VerifyCode::TooManyHeld => "free one, put one onto a shelf, or declare more",
-        VerifyCode::HeldAtExit => "free each, or put it onto a shelf, on every path to this slot",
+        VerifyCode::TooManyHeld => "free one, put one on a shelf, or declare more",
+        VerifyCode::HeldAtExit => "free each, or put it on a shelf, on every path here",
         VerifyCode::NoNumberReturned => "return a number",
-        VerifyCode::PathsDiffer =>
-            "free what one path holds and the other does not, before they meet",
+        VerifyCode::PathsDiffer => "before they meet, free what only one of them holds",
     }
 }
 
@@ -110,12 +109,12 @@ fn asked_of(helper: Option<Helper>) -> &'static str
     ensures { result.now ≡ asked_of helper }
 {
     match helper {
-        Some(Helper::New) => "r1 is to be a constant 0, 1 or 2",
-        Some(Helper::Free) => "r1 is to be an object at its first byte",
-        Some(Helper::Emit) => "r1 is to be a number",
+        Some(Helper::New) => "r1 must be the constant 0, 1 or 2",
+        Some(Helper::Free) => "r1 must point to the first byte of an object",
+        Some(Helper::Emit) => "r1 must be a number",
         Some(Helper::Swap) => {
-            "r1 is to be a constant 0, 1 or 2, and r2 either 0 or an object of that kind at its first byte"
+            "r1 must be the constant 0, 1 or 2, and r2 must be 0 or point to the first byte of an object of that kind"
         }
-        None => "look at its arguments",
+        None => "check its arguments",
     }
 }

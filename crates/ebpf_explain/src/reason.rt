@@ -34,9 +34,9 @@ pub fn write_misled(
     }
 }
 
-/// Writes after a text why an instruction is refused, by what comes to its slot, as [`write_verify_sentence`] does; where paths
-/// meet that hold different objects, which two those are, and what each holds; nothing, where no instruction begins there, nothing
-/// comes or the slot was not looked at.
+/// Writes after a text why an instruction is refused, by what comes to its slot, as [`write_verify_sentence`] does. Where paths
+/// meet that hold different objects, it writes which two those are, and what each holds. It writes nothing where no instruction begins
+/// there, nothing comes or the slot was not looked at.
 ///
 /// # Errors
 /// It fails only where an allocation fails, and a part of the line may be written then.

@@ -64,17 +64,17 @@ fn write_fault(
         ),
         VerifyCode::FramePointerWritten => text.push_str("writes r10, the frame pointer"),
         VerifyCode::PointerMisused => {
-            write_with_reads(text, "has no meaning for what it is given", state, insn)
+            write_with_reads(text, "is not defined for these operands", state, insn)
         }
         VerifyCode::MovedTooFar => write_with_reads(
             text,
-            "moves a pointer by a number of either sign, or too far",
+            "moves a pointer too far, or by a number that may have either sign",
             state,
             insn,
         ),
         VerifyCode::PointerCompared => write_with_reads(
             text,
-            "compares what is no number",
+            "compares something that is not a number",
             state,
             insn,
         ),
@@ -82,19 +82,19 @@ fn write_fault(
             text,
             access_of(insn),
             state,
-            ", and the stack has the 512 bytes below r10",
+            ", but the stack is the 512 bytes below r10",
         ),
         VerifyCode::UnsetStack => write_access_with(
             text,
             access_of(insn),
             state,
-            ", some of which are not set on every path to it",
+            ", some of which are not set on every path here",
         ),
         VerifyCode::OutsideContext => write_outside(
             text,
             access_of(insn),
             state,
-            ", and the context has ",
+            ", but the context has ",
             Some(decl.context),
         ),
         VerifyCode::ContextWritten => write_context_written(text, access_of(insn)),
@@ -102,7 +102,7 @@ fn write_fault(
             text,
             access_of(insn),
             state,
-            ", and the object has ",
+            ", but the object has ",
             rows,
         ),
         VerifyCode::UntestedAnswer => write_unknown_answer(
@@ -111,7 +111,7 @@ fn write_fault(
         ),
         VerifyCode::PartialPointer => write_with_reads(
             text,
-            "moves a pointer or an answer other than as a whole aligned word of the stack",
+            "moves a pointer or an answer as something other than an aligned 8-byte word of the stack",
             state,
             insn,
         ),
@@ -119,7 +119,7 @@ fn write_fault(
         VerifyCode::UnknownHelper => write_no_helper(text, number_called(insn)),
         VerifyCode::WrongArgument => write_call_with(
             text,
-            " with arguments that it does not take",
+            " with arguments that it does not accept",
             state,
             insn,
         ),
@@ -127,7 +127,7 @@ fn write_fault(
         VerifyCode::HeldAtExit => write_held_at_exit(text, state.references(), rows),
         VerifyCode::NoNumberReturned => write_no_number_at_exit(text, state),
         VerifyCode::PathsDiffer => text.push_str(
-            "is where paths meet that hold different objects, or of which one has compared an answer",
+            "is where paths meet that hold different objects, or of which only one has compared an answer",
         ),
     }
 }
@@ -138,7 +138,7 @@ fn write_unset_register(text: &mut String, register: Option<Reg>) -> Result<(), 
 {
     text.push_str("reads ")?;
     write_name(text, register)?;
-    text.push_str(", which is not set on every path to it")
+    text.push_str(", which is not set on every path here")
 }
 
 // The name of a register, where it is known which.
@@ -157,7 +157,7 @@ fn write_unknown_answer(text: &mut String, call: Option<u16>) -> Result<(), Allo
 {
     text.push_str("uses ")?;
     write_answer(text, call)?;
-    text.push_str(", which was not compared with 0")
+    text.push_str(", which has not been compared with 0")
 }
 
 // The call that answered, where it is known which.

@@ -4,9 +4,9 @@
 //! the objects that programs take. Nothing here starts a thread or takes a lock: a host that wants several runs at a time has a
 //! machine for each.
 //!
-//! What it promises: a loaded program is one that the verifier accepts, and a refusal is the verdict with its sentence; a report is that
-//! of the program alone with the answers that its calls got, whatever ran on the machine before; a run within a limit does as many
-//! instructions as it says; and what is on the shelves afterwards is what the program alone leaves there. It rests on
+//! What it promises: a loaded program is one that the verifier accepts, and a refusal is the verdict with its sentence. A report is that
+//! of the program alone with the answers that its calls got, no matter what ran on the machine before. A run within a limit does as
+//! many instructions as it says. What is on the shelves afterwards is what the program alone leaves there. It rests on
 //! this: the store of a machine keeps the laws of `Objects` of ebpf_machine.
 //!
 //! To be read in this order: `refusal`, `program`, `stock`, `stocks`, `store`, `within`, `machine`.

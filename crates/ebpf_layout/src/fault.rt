@@ -16,7 +16,7 @@ pub enum LayoutFault {
     #[error("slot {from} leads back to slot {to}")]
     Loop { from: u16, to: u16 },
     /// Laid out, with the jumps that are added, the program has more than `MAX_SLOTS` slots.
-    #[error("it would have more than 4096 slots")]
+    #[error("the program would have more than 4096 slots")]
     Slots,
     /// An allocation failed.
     #[error("out of memory")]

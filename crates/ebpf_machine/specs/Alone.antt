@@ -36,7 +36,8 @@ cleared_of (Some o) shelf w = with_slot_left shelf o.slot (with_bytes o.slot (im
 abbrev pub cleared : ℕ → World → World
 cleared shelf w = cleared_of (standing w shelf) shelf w
 
--- the first of these bytes, as many as an object of the shelf's kind has; where there are too few, those of its image go on
+-- the first of these bytes, as many as an object of the shelf's kind has; where there are too few, those of its image follow, so that an
+-- object always has its kind's size
 abbrev pub bytes_for : List Kind → ℕ → List ℕ → List ℕ
 bytes_for kinds shelf bytes = take (length (image_at kinds shelf)) (bytes ++ image_at kinds shelf)
 

@@ -9,12 +9,12 @@ use Rattle.ebpf_machine.specs.View.{ObjectView, environment_with}
 use Rattle.ebpf_machine.specs.RunState.{object_seen}
 pub use Rattle.ebpf_machine.specs.World.{Shelved}
 
--- a store in the states S, of objects H: the kinds that there are; the kind and the slot of an object; which objects are out, and
--- their bytes; what a call of new for a kind, made at a slot of a program, may be answered, with an object in a slot or with none;
--- what may come off a shelf, in which slot and with which bytes, and whether nothing may; what is known to be on a shelf, for a store
--- whose shelves nobody else changes; whether an object may come back; how many objects of each kind are out; and how it goes from a
--- state to a later one by calls of new and of swap that were answered these replies: what it keeps, what it counts. It goes from each state to
--- itself by no replies, and where it goes on, by the replies of both ways
+-- A store in the states S, of objects H. It says which kinds there are, the kind and the slot of an object, which objects are out, and
+-- their bytes. It says what a call of new for a kind, made at a slot of a program, may be answered: an object in a slot, or none. It says
+-- what may come off a shelf, in which slot and with which bytes, and whether nothing may. Where nobody else changes its shelves, it says
+-- what is on each. It says whether an object may come back, and how many objects of each kind are out. And it says how it goes from a
+-- state to a later one by calls of new and of swap that were answered these replies: what it keeps, what it counts. It goes from each
+-- state to itself by no replies, and where it goes on, by the replies of both ways
 pub record Store (S H : Type 0) : Type 1 where
   pub kinds : List Kind
   pub kind_of : H → ℕ

@@ -151,7 +151,7 @@ shelved_at w slot = record { slot = slot; bytes = w.bytes slot }
 abbrev pub shelved_in : World → ℕ → Option Shelved
 shelved_in w shelf = option_map (λ o. shelved_at w o.slot) (standing w shelf)
 
--- another run has the slot, and this one has not
+-- another run has the slot, and this one has not; what is on a shelf is nobody's here
 abbrev pub is_anothers : World → ℕ → ℕ → Bool
 is_anothers w run slot = list_any (λ o. (o.slot == slot) && is_by_run o.holder) w.owners && not (list_any (λ o. o.slot == slot) (held_by w run))
 

@@ -85,9 +85,9 @@ pub struct CheckOptions {
 /// The options of `run`.
 #[derive(Clone, Copy)]
 pub struct RunOptions {
-    /// How many workers do the jobs, 1 to 64.
+    /// How many workers run the jobs, 1 to 64.
     pub workers: u32,
-    /// How many passes the reaper makes beside those of the script, 0 to 1000.
+    /// How many passes the reaper makes in addition to the script's, 0 to 1000.
     pub reaps: u32,
     /// Whether a table of what the caches and the workers did is printed.
     pub stats: bool,
@@ -130,7 +130,7 @@ fn one_command<'a>(alloc: Global) -> Result<Command<'a>, AllocError> {
 fn explain_command<'a>(alloc: Global) -> Result<Command<'a>, AllocError> {
     let explain = Command::new(alloc, "explain")
         .about(
-            "Tells what is known before each instruction of the program whose hex is in FILE or on standard input, and why it is refused",
+            "Describes what is known before each instruction of the program whose hex is in FILE or on standard input, and why it is refused",
         )
         .after_help(EXPLAIN_EXAMPLE);
     with_options_of_one(alloc, explain)
@@ -155,7 +155,7 @@ fn with_program<'a>(alloc: Global, command: Command<'a>) -> Result<Command<'a>, 
 
 fn file_argument<'a>(alloc: Global) -> Arg<'a> {
     Arg::new(alloc, "file").value_name("FILE").help(
-        "The file to read, or - for standard input, as where there is none",
+        "The file to read; standard input where it is - or not given",
     )
 }
 
@@ -193,7 +193,7 @@ fn list_command<'a>(alloc: Global) -> Result<Command<'a>, AllocError> {
 fn lay_out_command<'a>(alloc: Global) -> Result<Command<'a>, AllocError> {
     let lay_out = Command::new(alloc, "lay-out")
         .about(
-            "Writes the program whose hex is in FILE or on standard input in an order in which every jump leads forward",
+            "Reorders the program whose hex is in FILE or on standard input so that every jump goes forward",
         )
         .after_help(LAY_OUT_EXAMPLE);
     with_program(alloc, lay_out)
@@ -202,7 +202,7 @@ fn lay_out_command<'a>(alloc: Global) -> Result<Command<'a>, AllocError> {
 fn assemble_command<'a>(alloc: Global) -> Result<Command<'a>, AllocError> {
     Command::new(alloc, "assemble")
         .about(
-            "Writes the slots of the program whose instructions are in FILE or on standard input, as list writes them, as hex",
+            "Assembles the instructions in FILE or on standard input, in the words that list writes, to hex",
         )
         .after_help(ASSEMBLE_EXAMPLE)
         .arg(file_argument(alloc))
@@ -220,13 +220,13 @@ fn explain_option<'a>(alloc: Global) -> Arg<'a> {
     Arg::new(alloc, "explain")
         .long("explain")
         .action(ArgAction::SetTrue)
-        .help("Writes why, under each refused program")
+        .help("Explains each refused program")
 }
 
 fn replay_command<'a>(alloc: Global) -> Result<Command<'a>, AllocError> {
     Command::new(alloc, "replay")
         .about(
-            "Replays the script in FILE or on standard input: programs, and events over runs of them",
+            "Replays the script in FILE or on standard input: programs, and events in their runs",
         )
         .after_help(REPLAY_EXAMPLE)
         .arg(file_argument(alloc))
@@ -235,7 +235,7 @@ fn replay_command<'a>(alloc: Global) -> Result<Command<'a>, AllocError> {
 fn run_command<'a>(alloc: Global) -> Result<Command<'a>, AllocError> {
     let run = Command::new(alloc, "run")
         .about(
-            "Runs the script in FILE or on standard input: programs, and jobs that workers do with them",
+            "Runs the script in FILE or on standard input: programs, and jobs for workers to run",
         )
         .after_help(RUN_EXAMPLE);
     run.arg(workers_option(alloc))?
@@ -250,7 +250,7 @@ fn workers_option<'a>(alloc: Global) -> Arg<'a> {
         .value_name("N")
         .value_parser(value_parser!(u32).range(1..=64))
         .default_value("1")
-        .help("How many workers do the jobs, 1 to 64")
+        .help("How many workers run the jobs, 1 to 64")
 }
 
 fn reaps_option<'a>(alloc: Global) -> Arg<'a> {
@@ -259,14 +259,14 @@ fn reaps_option<'a>(alloc: Global) -> Arg<'a> {
         .value_name("N")
         .value_parser(value_parser!(u32).range(0..=1000))
         .default_value("0")
-        .help("How many passes the reaper makes beside those of the script, 0 to 1000")
+        .help("How many passes the reaper makes in addition to the script's, 0 to 1000")
 }
 
 fn stats_option<'a>(alloc: Global) -> Arg<'a> {
     Arg::new(alloc, "stats")
         .long("stats")
         .action(ArgAction::SetTrue)
-        .help("Writes what the caches and the workers did to standard error")
+        .help("Writes to standard error what the caches and the workers did")
 }
 
 /// What the words of the command line ask for, where they are a command.

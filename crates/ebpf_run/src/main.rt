@@ -1,7 +1,7 @@
 //! Runs small eBPF programs from the command line.
 //!
 //! This crate reads the command line, opens the file that is named and has the standard streams. What a command writes is a function of what it reads and
-//! of its options, errors included, and it writes nothing else: that is the contract of [`ebpf_one::one::one`],
+//! of its options, errors included, and it writes nothing else. That is the contract of [`ebpf_one::one::one`],
 //! [`ebpf_one::list::list`], [`ebpf_one::explain::explain`] and [`ebpf_one::lay_out::lay_out`], of the same over an object file
 //! ([`ebpf_one::object_commands`]), of [`ebpf_assemble::assemble::assemble`], of [`ebpf_script::check::check`],
 //! [`ebpf_script::explained_check::explained_check`] and [`ebpf_script::replay::replay`]. What `run` writes is such a

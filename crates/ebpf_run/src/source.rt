@@ -18,7 +18,7 @@ pub fn raw_option<'a>(alloc: Global) -> Arg<'a> {
     Arg::new(alloc, "raw")
         .long("raw")
         .action(ArgAction::SetTrue)
-        .help("Reads the program's bytes as they are, and not as hex")
+        .help("Reads the program as raw bytes instead of hex")
 }
 
 /// The option of object files.
@@ -26,7 +26,7 @@ pub fn elf_option<'a>(alloc: Global) -> Result<Arg<'a>, AllocError> {
     Arg::new(alloc, "elf")
         .long("elf")
         .action(ArgAction::SetTrue)
-        .help("Reads an object file that a compiler made, and takes a function of it")
+        .help("Reads a compiled object file, and takes a function from it")
         .conflicts_with("raw")
 }
 
@@ -35,7 +35,7 @@ pub fn function_option<'a>(alloc: Global) -> Result<Arg<'a>, AllocError> {
     Arg::new(alloc, "function")
         .long("function")
         .value_name("NAME")
-        .help("The function of the object file, where it has more than one")
+        .help("The function to take, where the object file has more than one")
         .requires_arg("elf")
 }
 

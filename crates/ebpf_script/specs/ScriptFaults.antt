@@ -15,14 +15,14 @@ shown_line line = map shown_byte (take 60 line) ++ (if nat_lt 60 (length line) t
 -- a text that is too long is no line's fault
 abbrev pub expected : FaultCode → List ℕ
 expected InputTooLong = []
-expected UnprintableByte = codes "a line has printable ASCII and tabs alone"
-expected UnknownLine = codes "no line of this command has this first word and so many words"
-expected BadNumber = codes "a number is out of its range, or has other than digits"
-expected BadHex = codes "hex is an even number of digits, or -"
-expected BadName = codes "a name has 1 to 32 letters, digits, _ or -, and one program line"
-expected UndefinedName = codes "its program line is to stand before it"
-expected SecondArena = codes "one arena line is enough"
-expected WrongContextLength = codes "the context is to be as long as its program declares"
+expected UnprintableByte = codes "a line may have only printable ASCII and tabs"
+expected UnknownLine = codes "no line of this command has this first word and this many words"
+expected BadNumber = codes "a number is out of range, or is not all digits"
+expected BadHex = codes "hex must be an even number of digits, or -"
+expected BadName = codes "a name must have 1 to 32 letters, digits, _ or -, and only one program line"
+expected UndefinedName = codes "its program line must come before it"
+expected SecondArena = codes "there may be only one arena line"
+expected WrongContextLength = codes "the context must be as long as its program declares"
 
 abbrev pub line_sentence : List ℕ → ℕ → FaultCode → List ℕ
 line_sentence line number code = codes "  line " ++ (decimal number ++ (codes " is " ++ (shown_line line ++ (codes ": " ++ (expected code ++ codes "\n")))))

@@ -107,13 +107,14 @@ fn expected(code: FaultCode) -> &'static str
 {
     match code {
         FaultCode::InputTooLong => "",
-        FaultCode::UnprintableByte => "a line has printable ASCII and tabs alone",
-        FaultCode::UnknownLine => "no line of this command has this first word and so many words",
-        FaultCode::BadNumber => "a number is out of its range, or has other than digits",
-        FaultCode::BadHex => "hex is an even number of digits, or -",
-        FaultCode::BadName => "a name has 1 to 32 letters, digits, _ or -, and one program line",
-        FaultCode::UndefinedName => "its program line is to stand before it",
-        FaultCode::SecondArena => "one arena line is enough",
-        FaultCode::WrongContextLength => "the context is to be as long as its program declares",
+        FaultCode::UnprintableByte => "a line may have only printable ASCII and tabs",
+        FaultCode::UnknownLine => "no line of this command has this first word and this many words",
+        FaultCode::BadNumber => "a number is out of range, or is not all digits",
+        FaultCode::BadHex => "hex must be an even number of digits, or -",
+        FaultCode::BadName =>
+            "a name must have 1 to 32 letters, digits, _ or -, and only one program line",
+        FaultCode::UndefinedName => "its program line must come before it",
+        FaultCode::SecondArena => "there may be only one arena line",
+        FaultCode::WrongContextLength => "the context must be as long as its program declares",
     }
 }

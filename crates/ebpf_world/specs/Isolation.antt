@@ -54,9 +54,9 @@ IsUntrapped (Trapped trap) = ⊥
 abbrev pub held_bytes : World → ℕ → List (List ℕ)
 held_bytes w k = map (λ o. w.bytes o.slot) (held_by w k)
 
--- a run of the world, by its number, is where the run alone is after as many instructions with the same replies: at the same pc, with
--- the same output, with the same bytes in the objects that it holds, going on or ended alike; and it did as many: the run alone stays
--- where it is once it ended
+-- A run of the world, by its number, is where the run alone is after as many instructions with the same replies. It is at the same pc,
+-- with the same output, with the same bytes in the objects that it holds, going on or ended alike. And it did as many: the run alone
+-- stays where it is once it ended
 pub record IsWhereAlone (w : World) (k : ℕ) (run : Running) : Type 0 where
   pub alone : Running
   pub only : (alone_after run.executed run.subject run.context (replies_to run)).world.runs ≡ alone ∷ []

@@ -5,7 +5,7 @@ use std::alloc::Global;
 use std::process::Abort;
 use vmem_arena::{Arena, ArenaFault, NoSpan, Span};
 
-// An arena of so many pages, 1 to 256.
+// An arena of this many pages, 1 to 256.
 pub(crate) fn arena_of(rt: &impl Abort, alloc: Global, pages: u32) -> Arena {
     match Arena::new(alloc, pages) {
         Ok(arena) => arena,
@@ -13,7 +13,7 @@ pub(crate) fn arena_of(rt: &impl Abort, alloc: Global, pages: u32) -> Arena {
     }
 }
 
-// So many pages of an arena that has them.
+// This many pages of an arena that has them.
 pub(crate) fn taken(rt: &impl Abort, arena: &mut Arena, n: u32) -> Span {
     match arena.take(n) {
         Ok(span) => span,

@@ -29,7 +29,7 @@ fn cache_of<K: Kind, A: Ledger, B: Ledger>(
     }
 }
 
-// So many hands of a cache that made none.
+// This many hands of a cache that made none.
 fn hands_of<K: Kind, A: Ledger, B: Ledger>(
     rt: &impl Abort,
     alloc: Global,
@@ -48,7 +48,7 @@ fn hands_of<K: Kind, A: Ledger, B: Ledger>(
     hands
 }
 
-// Takes so many objects, each of which is there.
+// Takes this many objects, each of which is there.
 fn take_all<K: Kind, A: Ledger, B: Ledger, R: Wait + Abort>(
     rt: &R,
     cache: &Cache<K, A, B>,
@@ -162,7 +162,7 @@ fn give_each<K: Kind, A: Ledger, B: Ledger, R: Wait>(
     }
 }
 
-// So many hands more.
+// This many hands more.
 fn more_hands<K: Kind, A: Ledger, B: Ledger>(
     rt: &impl Abort,
     alloc: Global,
@@ -317,7 +317,7 @@ fn a_closed_cache_tells_what_strayed_and_gives_its_pages_back(rt: HostRuntime) {
     );
 }
 
-// Takes so many objects, or fewer where memory is refused, which is told as such.
+// Takes this many objects, or fewer where memory is refused, which is reported as such.
 fn take_some<K: Kind, A: Ledger, B: Ledger, R: Wait + Abort>(
     rt: &R,
     cache: &Cache<K, A, B>,
@@ -435,7 +435,7 @@ fn team<A: Ledger + Send + Sync, B: Ledger + Send + Sync, R: Threads + Wait + Ab
     );
 }
 
-// So many passes of the reaper.
+// This many passes of the reaper.
 fn reap<K: Kind, A: Ledger, B: Ledger, R: Wait>(
     rt: &R,
     cache: &Cache<K, A, B>,
@@ -463,7 +463,7 @@ fn crew<'a, A: Ledger + Send + Sync, B: Ledger + Send + Sync, R: Threads + Wait 
     );
 }
 
-// So many hands take 17 cells each and give them back, so often: so many pairs in all.
+// This many hands take 17 cells each and give them back, so often: this many pairs in all.
 fn crowd<A: Ledger + Send + Sync, B: Ledger + Send + Sync, R: Threads + Wait + Abort + Sync>(
     rt: &R,
     alloc: Global,

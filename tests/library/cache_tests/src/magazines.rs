@@ -105,7 +105,7 @@ fn unloaded<K: Kind>(rt: &impl Abort, slabs: &mut Slabs<K>, mut magazine: Magazi
     panic!(rt; "a magazine has too many rounds");
 }
 
-// Ends the depot, each of whose full magazines has so many rounds; the answer is how many full ones it had.
+// Ends the depot, each of whose full magazines has this many rounds; the answer is how many full ones it had.
 fn closed<K: Kind>(rt: &impl Abort, slabs: &mut Slabs<K>, mut depot: Depot<K>, rounds: u32) -> u32 {
     for fulls in 0..MANY {
         let Some(magazine) = depot.drain_full() else {
@@ -117,7 +117,7 @@ fn closed<K: Kind>(rt: &impl Abort, slabs: &mut Slabs<K>, mut depot: Depot<K>, r
     panic!(rt; "a depot has too many magazines");
 }
 
-// A layer of the kind takes so many objects and no more, and gives them again and no more.
+// A layer of the kind takes this many objects and no more, and gives them again and no more.
 fn holds<K: Kind>(rt: &impl Abort, alloc: Global, count: u32) {
     let mut arena = arena_of(rt, alloc, 1);
     let mut slabs = grown::<K>(rt, alloc, &mut arena);
@@ -192,8 +192,8 @@ fn walk<K: Kind>(
     }
 }
 
-// The ways of blocks, of which a magazine holds two, as the depot has empty magazines or full ones: into both
-// magazines and home; by an exchange for an empty one; out of both, and by an exchange for a full one, which leaves
+// The ways of blocks, of which a magazine holds two, as the depot has empty magazines or full ones. Into both
+// magazines and home; by an exchange for an empty one. Out of both, and by an exchange for a full one, which leaves
 // an empty one there for the next.
 const WAYS: &[u8] = b"nggggh mGgh mGg tttt TtTtn ggggGg ttttTtn";
 

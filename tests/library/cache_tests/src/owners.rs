@@ -8,7 +8,7 @@ use std::alloc::{AllocError, Global};
 use std::process::Abort;
 use std::thread::{Threads, join};
 
-// A table of so many slots, with its two seats.
+// A table of this many slots, with its two seats.
 fn table_of(rt: &impl Abort, alloc: Global, slots: u32) -> (Owners, OwnerSeat, OwnerSeat) {
     let Ok((owners, mut seats)) = Owners::new(alloc, slots, 2) else {
         panic!(rt; "no memory")

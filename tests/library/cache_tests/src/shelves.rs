@@ -17,7 +17,7 @@ struct Trader<A: Ledger, B: Ledger, C: Ledger, D: Ledger> {
     number: u64,
 }
 
-// The number in a cell, which stands there twice.
+// The number in a cell, which is there twice.
 fn number_in(rt: &impl Abort, cell: &Obj<CellKind, Held>) -> u64 {
     let bytes = cell.bytes();
     let mut first = [0; 8];
@@ -44,7 +44,7 @@ fn numbered<A: Ledger, B: Ledger, R: Wait + Abort>(
     cell
 }
 
-// So many exchanges of a cell with this thread's number for what stands there, and then for that. The number is that of the cell that
+// This many exchanges of a cell with this thread's number for what is there, and then for that. The number is that of the cell that
 // the thread has at the end, or 0 where it has none.
 fn trade<A: Ledger, B: Ledger, C: Ledger, D: Ledger, R: Wait + Abort>(
     rt: &R,
@@ -96,7 +96,7 @@ fn team<
     );
 }
 
-// So many traders, each with a bit of its own.
+// This many traders, each with a bit of its own.
 fn traders_of<A: Ledger, B: Ledger, C: Ledger, D: Ledger>(
     rt: &impl Abort,
     alloc: Global,
@@ -158,7 +158,7 @@ fn add_up<A: Ledger, B: Ledger, C: Ledger, D: Ledger>(
     }
 }
 
-// So many traders exchange over one shelf, so often each. Each cell is with one of them then, or left there.
+// This many traders exchange over one shelf, so often each. Each cell is with one of them then, or left there.
 fn crowd<
     A: Ledger + Send + Sync,
     B: Ledger + Send + Sync,
@@ -226,7 +226,7 @@ fn opened<
     crowd(rt, alloc, cache, shelf, count, turns);
 }
 
-// With so many threads, and this many exchanges by each.
+// With this many threads, and this many exchanges by each.
 fn exchange<R: Threads + Wait + Abort + Sync>(rt: &R, alloc: Global, count: u32, turns: u32) {
     opened::<Brand, Brand, Brand, Brand, R>(
         rt,

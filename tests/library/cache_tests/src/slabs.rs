@@ -15,7 +15,7 @@ pub(crate) fn grown<K: Kind>(rt: &impl Abort, alloc: Global, arena: &mut Arena) 
     slabs
 }
 
-// Takes every object of the slabs, of which there are so many.
+// Takes every object of the slabs, of which there are this many.
 fn take_all<K: Kind>(
     rt: &impl Abort,
     slabs: &mut Slabs<K>,
@@ -49,7 +49,7 @@ fn give_all<K: Kind>(rt: &impl Abort, slabs: &mut Slabs<K>, mut held: Vec<Obj<K,
     holds(rt, slabs.out() == 0);
 }
 
-// A page of the kind is filled and emptied; it has so many objects.
+// A page of the kind is filled and emptied; it has this many objects.
 fn fills_and_empties<K: Kind>(rt: &impl Abort, alloc: Global, count: u32) {
     let mut arena = arena_of(rt, alloc, 1);
     let mut slabs = grown::<K>(rt, alloc, &mut arena);

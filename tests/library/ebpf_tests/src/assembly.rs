@@ -50,85 +50,85 @@ b7000000070000009500000000000000 | start: /  / mov64 r0, 7 / end: / exit
 b700000000000080b4000000ffffff7f | mov64 r0, -2147483648 / mov32 r0, 2147483647
 1800000000000000000000000000000018000000ffffffff00000000ffffffff | lddw r0, 0 / lddw r0, 18446744073709551615";
 
-// What is told of texts that are no programs.
+// What is reported of texts that are no programs.
 const REFUSED: &str = "\
 # there are no such words
-line 1: no instruction is written like this | mov r0, 7
-line 1: no instruction is written like this | MOV64 r0, 7
-line 2: no instruction is written like this | exit / halt
-line 3: no instruction is written like this | exit / ; halt / halt / halt
-line 1: no instruction is written like this | 0:
-line 1: no instruction is written like this | 0:exit
-line 1: no instruction is written like this | 0 : exit
-line 1: no instruction is written like this | 0: 0: exit
-line 1: no instruction is written like this | 0: a: exit
-line 1: no instruction is written like this | exit exit
-line 1: no instruction is written like this | movs32_32 r0, r1
-line 1: no instruction is written like this | le8 r0
-line 1: no instruction is written like this | ldxsdw r0, [r1+0]
+line 1: this is not an instruction | mov r0, 7
+line 1: this is not an instruction | MOV64 r0, 7
+line 2: this is not an instruction | exit / halt
+line 3: this is not an instruction | exit / ; halt / halt / halt
+line 1: this is not an instruction | 0:
+line 1: this is not an instruction | 0:exit
+line 1: this is not an instruction | 0 : exit
+line 1: this is not an instruction | 0: 0: exit
+line 1: this is not an instruction | 0: a: exit
+line 1: this is not an instruction | exit exit
+line 1: this is not an instruction | movs32_32 r0, r1
+line 1: this is not an instruction | le8 r0
+line 1: this is not an instruction | ldxsdw r0, [r1+0]
 # there are too many operands, or too few, or others
-line 1: no instruction is written like this | exit r0
-line 1: no instruction is written like this | mov64 r0
-line 1: no instruction is written like this | mov64 r0, 7, 8
-line 1: no instruction is written like this | mov64 7, r0
-line 1: no instruction is written like this | neg64 7
-line 1: no instruction is written like this | call r1
-line 1: no instruction is written like this | stw [r1+0], r2
-line 1: no instruction is written like this | stxw [r1+0], 2
-line 1: no instruction is written like this | jeq64 r0, +1
+line 1: this is not an instruction | exit r0
+line 1: this is not an instruction | mov64 r0
+line 1: this is not an instruction | mov64 r0, 7, 8
+line 1: this is not an instruction | mov64 7, r0
+line 1: this is not an instruction | neg64 7
+line 1: this is not an instruction | call r1
+line 1: this is not an instruction | stw [r1+0], r2
+line 1: this is not an instruction | stxw [r1+0], 2
+line 1: this is not an instruction | jeq64 r0, +1
 # registers are r0 to r10
-line 1: no instruction is written like this | mov64 r11, 7
-line 1: no instruction is written like this | mov64 r, 7
-line 1: no instruction is written like this | mov64 r01, 7
-line 1: no instruction is written like this | mov64 R1, 7
+line 1: this is not an instruction | mov64 r11, 7
+line 1: this is not an instruction | mov64 r, 7
+line 1: this is not an instruction | mov64 r01, 7
+line 1: this is not an instruction | mov64 R1, 7
 # immediates are decimal, with no sign but a minus
-line 1: no instruction is written like this | mov64 r0, +7
-line 1: no instruction is written like this | mov64 r0, 07
-line 1: no instruction is written like this | mov64 r0, -0
-line 1: no instruction is written like this | mov64 r0, -
-line 1: no instruction is written like this | mov64 r0, --7
-line 1: no instruction is written like this | mov64 r0, 0x10
-line 1: no instruction is written like this | mov64 r0, 2147483648
-line 1: no instruction is written like this | mov64 r0, -2147483649
-line 1: no instruction is written like this | lddw r0, -1
-line 1: no instruction is written like this | lddw r0, 18446744073709551616
+line 1: this is not an instruction | mov64 r0, +7
+line 1: this is not an instruction | mov64 r0, 07
+line 1: this is not an instruction | mov64 r0, -0
+line 1: this is not an instruction | mov64 r0, -
+line 1: this is not an instruction | mov64 r0, --7
+line 1: this is not an instruction | mov64 r0, 0x10
+line 1: this is not an instruction | mov64 r0, 2147483648
+line 1: this is not an instruction | mov64 r0, -2147483649
+line 1: this is not an instruction | lddw r0, -1
+line 1: this is not an instruction | lddw r0, 18446744073709551616
 # offsets have a sign
-line 1: no instruction is written like this | ja 5
-line 1: no instruction is written like this | ja -0
-line 1: no instruction is written like this | ja +05
-line 1: no instruction is written like this | ja +
-line 1: no instruction is written like this | ja +32768
-line 1: no instruction is written like this | ja -32769
-line 1: no instruction is written like this | ja32 +2147483648
+line 1: this is not an instruction | ja 5
+line 1: this is not an instruction | ja -0
+line 1: this is not an instruction | ja +05
+line 1: this is not an instruction | ja +
+line 1: this is not an instruction | ja +32768
+line 1: this is not an instruction | ja -32769
+line 1: this is not an instruction | ja32 +2147483648
 # a place is one word
-line 1: no instruction is written like this | ldxw r0, [r1]
-line 1: no instruction is written like this | ldxw r0, [r1 +4]
-line 1: no instruction is written like this | ldxw r0, [r1+4
-line 1: no instruction is written like this | ldxw r0, r1+4
-line 1: no instruction is written like this | ldxw r0, [r11+4]
-line 1: no instruction is written like this | ldxw r0, [r1+32768]
-line 1: no instruction is written like this | ldxw r0, []
-line 1: no instruction is written like this | ldxw r0, [
+line 1: this is not an instruction | ldxw r0, [r1]
+line 1: this is not an instruction | ldxw r0, [r1 +4]
+line 1: this is not an instruction | ldxw r0, [r1+4
+line 1: this is not an instruction | ldxw r0, r1+4
+line 1: this is not an instruction | ldxw r0, [r11+4]
+line 1: this is not an instruction | ldxw r0, [r1+32768]
+line 1: this is not an instruction | ldxw r0, []
+line 1: this is not an instruction | ldxw r0, [
 # the slot is that of another instruction
-line 1: the slot or the label is that of another instruction | 1: exit
-line 1: the slot or the label is that of another instruction | 00: exit
-line 1: the slot or the label is that of another instruction | : exit
-line 1: the slot or the label is that of another instruction | 1st: exit
-line 1: the slot or the label is that of another instruction | a: b: exit
-line 1: the slot or the label is that of another instruction | 1: halt
-line 2: the slot or the label is that of another instruction | lddw r1, 1 / 1: exit
-line 3: the slot or the label is that of another instruction | mov64 r0, 7 /  / 2: exit
+line 1: the slot or the label belongs to another instruction | 1: exit
+line 1: the slot or the label belongs to another instruction | 00: exit
+line 1: the slot or the label belongs to another instruction | : exit
+line 1: the slot or the label belongs to another instruction | 1st: exit
+line 1: the slot or the label belongs to another instruction | a: b: exit
+line 1: the slot or the label belongs to another instruction | 1: halt
+line 2: the slot or the label belongs to another instruction | lddw r1, 1 / 1: exit
+line 3: the slot or the label belongs to another instruction | mov64 r0, 7 /  / 2: exit
 # the label is that of another
-line 2: the slot or the label is that of another instruction | a: exit / a: exit
-line 3: the slot or the label is that of another instruction | ja a / a: exit / a: exit
+line 2: the slot or the label belongs to another instruction | a: exit / a: exit
+line 3: the slot or the label belongs to another instruction | ja a / a: exit / a: exit
 # there is no such label, or no jump
-line 1: no instruction is written like this | ja end / exit
-line 1: no instruction is written like this | ja END / end: exit
-line 1: no instruction is written like this | ja end: / end: exit
-line 1: no instruction is written like this | mov64 r0, end / end: exit
-line 1: no instruction is written like this | call end / end: exit
-line 1: no instruction is written like this | jeq64 end, 0, end / end: exit
-line 2: no instruction is written like this | end: / exit end
+line 1: this is not an instruction | ja end / exit
+line 1: this is not an instruction | ja END / end: exit
+line 1: this is not an instruction | ja end: / end: exit
+line 1: this is not an instruction | mov64 r0, end / end: exit
+line 1: this is not an instruction | call end / end: exit
+line 1: this is not an instruction | jeq64 end, 0, end / end: exit
+line 2: this is not an instruction | end: / exit end
 # there is none
 line 1: there is no instruction | ;
 line 3: there is no instruction | ; nothing /  / \u{20}
@@ -229,7 +229,7 @@ fn bytes_of_a_comment_are_any(rt: HostRuntime) {
         &rt,
         "a word",
         words.as_str(),
-        "line 2: no instruction is written like this",
+        "line 2: this is not an instruction",
     );
     let fault = fault_of(&rt, rt.alloc(), b"");
     let words = fault.to_string(rt.alloc()).expect(&rt, "out of memory");

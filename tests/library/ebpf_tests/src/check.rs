@@ -8,7 +8,7 @@ use std::alloc::Global;
 use std::process::Abort;
 use std::test::*;
 
-// A script, whose lines `;` ends, and what is told of it.
+// A script, whose lines `;` ends, and what is reported of it.
 const SCRIPTS: &str = "\
 # the verdicts, in the order of the programs
 program a 0 1 b7000000070000009500000000000000; | a accepted 2;
@@ -69,9 +69,9 @@ program a 0 0 -;program a 0 0 - | fault S6 line 2;";
 // The same of scripts whose refusals are explained.
 const EXPLAINED: &str = "\
 program a 0 0 b7000000070000009500000000000000; | a accepted 2;
-program a 0 0 95;program b 0 0 b7000000070000009500000000000000;program c 4 0 71100400000000009500000000000000;program d 0 0 05000100000000009500000000000000; | a refused I1 0;  there is 1 byte: a program has whole slots of 8 bytes, and one at least;b accepted 2;c refused V8 0;  slot 0 reads 1 byte at [r1+4],  r1 context+0, and the context has 4 bytes: use an offset of 0..3 from r1, or declare a context of 5 bytes;d refused F1 0;  slot 0 jumps +1 slots on, and the program has 2 slots: let it lead to one of them;
-program a 0 0 b7010000000000008500000001000000b7000000000000009500000000000000;run a - | a refused V16 1;  slot 1 asks for an object while 0 are held, as many as the program declares: free one, put one onto a shelf, or declare more;
-program a 0 1 b7010000000000008500000001000000b7000000000000009500000000000000;run a - | a refused V17 3;  slot 3 exits while objects are held,  may hold 1 (cell): free each, or put it onto a shelf, on every path to this slot;";
+program a 0 0 95;program b 0 0 b7000000070000009500000000000000;program c 4 0 71100400000000009500000000000000;program d 0 0 05000100000000009500000000000000; | a refused I1 0;  there is 1 byte: a program is one or more whole slots of 8 bytes;b accepted 2;c refused V8 0;  slot 0 reads 1 byte at [r1+4],  r1 context+0, but the context has 4 bytes: use an offset of 0..3 from r1, or declare a context of 5 bytes;d refused F1 0;  slot 0 jumps +1 slots from the next one, but the program has 2 slots: make it lead to one of them;
+program a 0 0 b7010000000000008500000001000000b7000000000000009500000000000000;run a - | a refused V16 1;  slot 1 asks for an object while holding 0, the most the program declares: free one, put one on a shelf, or declare more;
+program a 0 1 b7010000000000008500000001000000b7000000000000009500000000000000;run a - | a refused V17 3;  slot 3 exits while holding objects,  may hold 1 (cell): free each, or put it on a shelf, on every path here;";
 
 // Tries a row.
 fn is_checked(rt: &impl Abort, alloc: Global, row: &str, explains: bool) {

@@ -23,7 +23,7 @@ pub(crate) fn tell_event(told: &mut String, event: &Event) -> Result<(), AllocEr
     }
 }
 
-// Tries a row: what happens, events behind these programs, and what is told of them behind the verdicts, a `;` for each end
+// Tries a row: what happens, events after these programs, and what is reported of them after the verdicts, a `;` for each end
 // of a line.
 pub(crate) fn is_replayed(
     rt: &impl Abort,

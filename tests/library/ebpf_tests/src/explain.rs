@@ -19,7 +19,7 @@ fn first(rt: &impl Abort, alloc: Global) -> State {
     State::start(alloc).expect(rt, "out of memory")
 }
 
-// That a state is told by these words.
+// That a state is reported by these words.
 fn is_known(rt: &impl Abort, alloc: Global, what: &str, state: &State, expected: &str) {
     let mut text = String::new(alloc);
     write_known(&mut text, state, &kinds()).expect(rt, "out of memory");

@@ -9,7 +9,7 @@ use std::alloc::Global;
 use std::process::Abort;
 use std::test::*;
 
-// The options, or `-` for none, the program, and what is told, a `;` for each end of a line.
+// The options, or `-` for none, the program, and what is reported, a `;` for each end of a line.
 const PROGRAMS: &str = "\
 # no helper has this number
 - | 85000000090000009500000000000000 | refused V14 0;
@@ -81,7 +81,7 @@ const ASKS: &str = "\
 program p 0 1 b701000000000000850000000100000015000500000000007a000000050000007906000000000000bf010000000000008500000002000000bf600000000000009500000000000000
 ";
 
-// What is answered, the events behind `ASKS`, a `;` for each end of a line, and what is told of them.
+// What is answered, the events after `ASKS`, a `;` for each end of a line, and what is reported of them.
 const ANSWERS: &str = "\
 the answer is null | start p -;exec 0;exec 0 null;exec 0;exec 0; | run 0 exit 0 executed 4;kind 0 slots 0 held 0;kind 1 slots 0 held 0;kind 2 slots 0 held 0;
 the answer is a slot of no ledger | start p -;exec 0;exec 0 0; | stopped E3 2;

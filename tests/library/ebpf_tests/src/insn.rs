@@ -18,7 +18,7 @@ use std::test::*;
 
 const EXIT: [u8; 8] = [0x95, 0, 0, 0, 0, 0, 0, 0];
 
-// So many exits, and more bytes behind them.
+// This many exits, and more bytes after them.
 fn exits_and(alloc: Global, exits: usize, more: &[u8]) -> Result<Vec<u8>, AllocError> {
     let mut bytes = Vec::new(alloc);
     for _ in 0..exits {

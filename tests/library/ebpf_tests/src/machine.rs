@@ -32,7 +32,7 @@ fn set(rt: &impl Abort, bytes: &mut Vec<u8>, register: u8, n: u64) {
     put(rt, bytes, 0, 0, 0, low_half(n >> 32));
 }
 
-// That a program is told so.
+// That a program is reported so.
 fn is_told_so(rt: &impl Abort, alloc: Global, program: Vec<u8>, told: &str) {
     let text = hex::encode(alloc, program).expect(rt, "out of memory");
     let mut reader = text.as_bytes();
@@ -58,7 +58,7 @@ fn class(width: Width) -> u8 {
     }
 }
 
-// Tries an instruction, as the slot that it stands in: it makes this number of a in r0 and b in r1.
+// Tries an instruction, as the slot that it is in: it makes this number of a in r0 and b in r1.
 fn makes(
     rt: &impl Abort,
     alloc: Global,
@@ -162,7 +162,7 @@ fn one_number_gives_what_rust_gives(rt: HostRuntime) {
     }
 }
 
-// Tries a branch, as the slot that it stands in, with a in r1 and b in r2: it goes over the slot that sets r0 to 0 or not.
+// Tries a branch, as the slot that it is in, with a in r1 and b in r2: it goes over the slot that sets r0 to 0 or not.
 fn goes(
     rt: &impl Abort,
     alloc: Global,
@@ -232,7 +232,7 @@ fn every_branch_goes_where_rust_says(rt: HostRuntime) {
     }
 }
 
-// Tries a jump, as the slot that it stands in, over the slot that sets r0 to 0, to which a branch leads that isn't taken.
+// Tries a jump, as the slot that it is in, over the slot that sets r0 to 0, to which a branch leads that isn't taken.
 fn jumps(rt: &impl Abort, alloc: Global, (opcode, offset, imm): (u8, u8, u32)) {
     let mut program = Vec::new(alloc);
     put(rt, &mut program, 0xb7, 0, 0, 7);

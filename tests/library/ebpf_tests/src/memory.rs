@@ -6,7 +6,7 @@ use ebpf_one::one::one;
 use std::alloc::Global;
 use std::process::Abort;
 
-// The context's text, the input, and what is told, a `;` for each end of a line.
+// The context's text, the input, and what is reported, a `;` for each end of a line.
 const ROWS: &str = "\
 2a | 7b1af8ff0000000079a2f8ff0000000071200000000000009500000000000000 | accepted 4;exit 42 executed 4 peak 0;
 2a | 7b1af8ff0000000061a2f8ff0000000071200000000000009500000000000000 | refused V12 1;

@@ -17,7 +17,7 @@ program q 0 1 b7010000010000008500000001000000150004000000000079060000000000\
 00bf010000000000008500000002000000bf600000000000009500000000000000
 ";
 
-// What happens, the events behind `PROGRAMS`, a `;` for each end of a line, and what is told of them behind the verdicts.
+// What happens, the events after `PROGRAMS`, a `;` for each end of a line, and what is reported of them after the verdicts.
 const TOLD: &str = "\
 a slot that is held is granted | grow 1 0;start p -;start q -;exec 0;exec 1;exec 0 0;exec 1 0; | stopped E3 6;
 a slot that was freed is granted, with its image | grow 1 0;start p -;start q -;exec 0;exec 1;exec 0 0;exec 0;exec 0;exec 0;exec 0;exec 0;exec 1 0;exec 1;exec 1;exec 1;exec 1;exec 1;exec 1;exec 0;exec 0; | run 0 exit 5 executed 9;run 1 exit 18446744073709551615 executed 8;kind 0 slots 0 held 0;kind 1 slots 1 held 0;kind 2 slots 0 held 0;
@@ -80,7 +80,7 @@ exec 3
 ";
 
 // After each event the cells and the records, who has slots 7 and 9, how many bytes slot 7 has, with the first of them, and which
-// record stands on its shelf.
+// record is on its shelf.
 const READ: &str = "\
 [] [9] None None None None
 [] [7, 9] None None Some((64, 255)) None

@@ -12,7 +12,7 @@ use std::alloc::Global;
 use std::process::Abort;
 use std::test::*;
 
-// The input, the context's text, how many objects to hold, and what is told.
+// The input, the context's text, how many objects to hold, and what is reported.
 static HELD: [(&str, &str, u8, &str); 4] = [
     (
         "b7000000 07000000  95000000 00000000\n",
@@ -27,7 +27,7 @@ static HELD: [(&str, &str, u8, &str); 4] = [
     ("b70", "-", 65, "fault S5 line 0\n"),
 ];
 
-// The same, and what is told by `explain`.
+// The same, and what is reported by `explain`.
 static EXPLAINED: [(&str, &str, u8, &str); 3] = [
     (
         "9500000000000000",

@@ -23,12 +23,12 @@ pub(crate) fn program_of(rt: &impl Abort, alloc: Global, digits: &str) -> Progra
     decode(alloc, &bytes).expect(rt, "these bytes are no program")
 }
 
-// That a fact holds. An assertion is a path of its own wherever it stands, so it stands here.
+// That a fact holds. An assertion is a path of its own wherever it is, so it is here.
 pub(crate) fn holds(rt: &impl Abort, what: &str, fact: bool) {
     assert!(rt; fact, "{what}");
 }
 
-// That a row is told as it says.
+// That a row is reported as it says.
 pub(crate) fn is_told(rt: &impl Abort, row: &str, told: &str, expected: &str) {
     assert!(rt; told == expected, "{row}: {told}");
 }

@@ -1,5 +1,5 @@
 //! Calls whose memory may be refused: each leaves what was there, and then does when it is made again what it would have done at
-//! once. The script tests/want-of-memory refuses one allocation after another, and looks for each line that is told here.
+//! once. The script tests/want-of-memory refuses one allocation after another, and looks for each line that is reported here.
 
 use crate::accepted::{accepted, accepted_once, script_of};
 use crate::programs::holds;

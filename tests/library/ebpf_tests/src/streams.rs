@@ -19,7 +19,7 @@ use std::sync::Wait;
 use std::test::*;
 use std::thread::Threads;
 
-// Gives a text and then a byte over and over, up to so many bytes a call. Then it ends, or fails for a cause. One that
+// Gives a text and then a byte over and over, up to this many bytes a call. Then it ends, or fails for a cause. One that
 // stumbles fails at its first call alone.
 #[derive(Drop)]
 struct Source<'a> {
@@ -56,7 +56,7 @@ impl Read for Source<'_> {
     }
 }
 
-// Takes up to so many bytes a call, up to its room. Then it takes nothing, or fails. One that stumbles fails at its first
+// Takes up to this many bytes a call, up to its room. Then it takes nothing, or fails. One that stumbles fails at its first
 // call alone. It knows whether all that it took was flushed.
 #[derive(Drop)]
 struct Sink {
@@ -94,7 +94,7 @@ impl Write for Sink {
 // As many bytes as a command asks for at once, and more than any of the texts has.
 const MANY: usize = 4096;
 
-// Gives a byte so many times, and then ends or fails for a cause.
+// Gives a byte this many times, and then ends or fails for a cause.
 fn flood<'a>(byte: u8, times: usize, fails: Option<io::ErrorKind>) -> Source<'a> {
     Source {
         text: b"",
@@ -294,7 +294,7 @@ fn a_reader_gives_what_it_can(rt: HostRuntime) {
     }
 }
 
-// Calls a command with room for so many bytes, where the writer then fails or takes nothing.
+// Calls a command with room for this many bytes, where the writer then fails or takes nothing.
 fn writes_with_room<R: Abort + Threads + Wait + Sync>(
     rt: &R,
     alloc: Global,
@@ -331,7 +331,7 @@ fn a_failed_write_leaves_a_beginning(rt: HostRuntime) {
     }
 }
 
-// Gives a command 16 MiB of a byte, behind which the reader fails: it is told off after the first byte too many.
+// Gives a command 16 MiB of a byte, after which the reader fails: it is refused after the first byte too many.
 fn reads_no_further<R: Abort + Threads + Wait + Sync>(
     rt: &R,
     alloc: Global,

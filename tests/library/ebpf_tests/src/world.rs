@@ -140,7 +140,7 @@ fn a_number_that_is_emitted_is_output(rt: HostRuntime) {
     holds(&rt, "5", matches!(world.output(0), Some([5])));
 }
 
-// What is wrong, its code, and a sixth event behind those of `SEVEN`.
+// What is wrong, its code, and a sixth event after those of `SEVEN`.
 const ILLEGAL: &str = "\
 of no run | NoSuchRun | exec 2
 of a run that has ended | RunEnded | exec 0
@@ -159,7 +159,7 @@ fn fault_of(alloc: Global, programs: &[Verified], events: &[Event]) -> Result<St
     }
 }
 
-// Tries an event behind others: it is refused with a code, and the world is as it was.
+// Tries an event after others: it is refused with a code, and the world is as it was.
 fn is_refused(
     rt: &impl Abort,
     alloc: Global,

@@ -11,8 +11,8 @@ use std::sync::atomic::{AtomicU64, Ordering};
 use std::thread::{Threads, yield_now};
 use ebpf_pool::{Gate, Point};
 
-// Who waits: the job or the pass of this number. For what: that job 0 has begun; that so many jobs after it were answered, from job
-// 1 on; and that so many passes were told.
+// Who waits: the job or the pass of this number. For what: that job 0 has begun; that this many jobs after it were answered, from job
+// 1 on; and that this many passes were reported.
 #[derive(Clone, Copy)]
 struct Hold {
     is_pass: bool,
@@ -21,7 +21,7 @@ struct Hold {
     passes: u64,
 }
 
-// A gate that counts how often each job was told each point, and lets two wait for so many turns at most.
+// A gate that counts how often each point of each job was reported, and lets two wait for this many turns at most.
 #[derive(Drop)]
 struct Watch {
     begun: Vec<AtomicU64>,
@@ -61,7 +61,7 @@ impl Watch {
         }
     }
 
-    // It comes within so many turns.
+    // It comes within this many turns.
     fn is_in_time(&self, hold: &Hold) -> bool {
         for _ in 0..self.turns {
             if self.has_come(hold) {
@@ -72,7 +72,7 @@ impl Watch {
         false
     }
 
-    // Nobody waited too long, each job was told both points once, and so many passes were told.
+    // Nobody waited too long, both points of each job were reported once, and this many passes were reported.
     fn is_passed(&self, passes: u64) -> bool {
         self.late.load(Ordering::SeqCst) == 0
             && self.begun.iter().all(is_once)
@@ -81,7 +81,7 @@ impl Watch {
     }
 }
 
-// So many counts.
+// This many counts.
 fn zeros(alloc: Global, count: u32) -> Result<Vec<AtomicU64>, AllocError> {
     let mut zeros = Vec::with_capacity(alloc, count as usize)?;
     for _ in 0..count {

@@ -1,9 +1,8 @@
 //! Tests of the pool of workers, as its user calls it.
 //!
-//! What `run_jobs` promises is proved where it stands. What is tried here is what no contract says: that jobs are done where
-//! memory is there, by workers that really run side by side; that what a job leaves on a shelf is taken by another once, and whole;
-//! that the promises mean the numbers that a person expects; which fault is told where there are several; and that every want of
-//! memory is answered. Where there are many cases they are rows of one text. What a job reports is compared with its program run
+//! What `run_jobs` promises is proved where it is. Tried here is what no contract says. Jobs are done where memory is there, by workers
+//! that really run side by side. What a job leaves on a shelf is taken by another once, and whole. The promises mean the numbers that a
+//! person expects. One fault of several is reported, and every want of memory is answered. Where there are many cases they are rows of one text. What a job reports is compared with its program run
 //! alone, over a store of the tests' own.
 //!
 //! The store is no test, since the definitions that speak of it are read without the tests too.

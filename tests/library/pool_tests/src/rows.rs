@@ -11,7 +11,7 @@ use std::thread::Threads;
 use ebpf_pool::NoGate;
 
 // A row: what it shows; the workers, the pages, the passes of the reaper, the slots that another seat claimed, and how many
-// jobs there are, of which programs; and what is told. A total says what was given, what came back and what was refused.
+// jobs there are, of which programs; and what is reported. A total says what was given, what came back and what was refused.
 const ROWS: &str = "\
 each of a hundred jobs is granted a cell | 2 16 10 0 100 a | 100 of exit 5 executed 9 peak 1 output [] answers g; 100/100/0 0/0/0 0/0/0 clashes 0
 the one page is the cells' | 1 1 0 0 1 b | 1 of exit 3 executed 11 peak 1 output [] answers gn; 1/1/0 0/0/0 0/0/1 clashes 0
@@ -83,7 +83,7 @@ fn mixed<R: Threads + Wait + Abort + Sync>(
     Ok(())
 }
 
-// The same by so many workers, with arenas and lists of all sizes.
+// The same by this many workers, with arenas and lists of all sizes.
 fn mixed_by<R: Threads + Wait + Abort + Sync>(
     rt: &R,
     alloc: Global,

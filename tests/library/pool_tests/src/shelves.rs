@@ -46,7 +46,7 @@ fn one_job_of_a_hundred_finds_its_shelf_empty(rt: HostRuntime) -> Result<(), All
     Ok(())
 }
 
-// The number that a job read in what it took off a shelf, if it took anything: it stands at both ends.
+// The number that a job read in what it took off a shelf, if it took anything: it is at both ends.
 fn number_in(rt: &impl Abort, report: &JobReport) -> Option<u64> {
     match report.output() {
         [first, last] => {
@@ -130,7 +130,7 @@ fn is_handed_over(
     Ok(())
 }
 
-// A row: what it shows; the setting of its jobs, whose programs are of so many kinds, in turn; that many; and the totals, where
+// A row: what it shows; the setting of its jobs, whose programs are of this many kinds, in turn; that many; and the totals, where
 // they are the same each time.
 const ROWS: &str = "\
 eight workers leave cells on a shelf | 8 16 100 0 4000 j | 1 | 4000/4000/0 0/0/0 0/0/0 clashes 0 shelf 0 4000/3999/1

@@ -97,7 +97,7 @@ impl<L: Ledger> Store<L> {
         if self.is_short { None } else { Some(self.sums) }
     }
 
-    // Takes what is given to a shelf: it is out no more.
+    // Takes what is given to a shelf: it is no longer out.
     fn leave(&mut self, shelf: u8, given: Option<Object>) {
         if let Some(object) = given {
             count(&mut self.sums.puts, shelf);
@@ -105,7 +105,7 @@ impl<L: Ledger> Store<L> {
         }
     }
 
-    // Takes an object of a kind back: it is out no more.
+    // Takes an object of a kind back: it is no longer out.
     fn close(&mut self, kind: u8, object: Object) {
         let Object {
             slot,
@@ -158,7 +158,7 @@ impl<L: Ledger> Store<L> {
     }
 }
 
-// So many bytes from a place on; 0 for each that isn't there.
+// This many bytes from a place on; 0 for each that isn't there.
 fn bytes_at(alloc: Global, all: &[u8], place: usize, size: usize) -> Result<Vec<u8>, AllocError> {
     let mut bytes = vec![in alloc; 0; size]?;
     for (byte, from) in bytes.iter_mut().zip(all.iter().skip(place)) {

@@ -54,7 +54,7 @@ impl<'a> Outsider<'a> {
     }
 }
 
-// A gate at which the outsider fetches what stands on the shelf of cells, when job 0 was answered.
+// A gate at which the outsider fetches what is on the shelf of cells, when job 0 was answered.
 #[derive(Drop)]
 struct Thief<'a, R: Wait> {
     rt: &'a R,
@@ -123,7 +123,7 @@ fn stolen<R: Threads + Wait + Abort + Sync>(
     format!(in alloc; "{told} runs {runs} shelves {shelves}")
 }
 
-// A row: what it shows; the setting of its jobs; what the outsider does with the slot of what job 0 left; and what is told.
+// A row: what it shows; the setting of its jobs; what the outsider does with the slot of what job 0 left; and what is reported.
 const ROWS: &str = "\
 the slot is another run's | 1 1 0 0 2 hi | keeps | 1 of exit 1 executed 10 peak 1 output [] answers ge; 1 of exit 0 executed 5 peak 0 output [] answers e; 1/1/0 0/0/0 0/0/0 clashes 0 shelf 0 1/1/0 strays 1 runs 1 shelves 0
 the slot is free | 1 1 0 0 2 hi | releases | 1 of exit 1 executed 10 peak 1 output [] answers ge; 1 of exit 0 executed 5 peak 0 output [] answers e; 1/1/0 0/0/0 0/0/0 clashes 0 shelf 0 1/1/0 strays 1 runs 0 shelves 0

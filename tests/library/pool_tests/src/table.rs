@@ -9,7 +9,7 @@ use std::process::Abort;
 // A slot for each object of any arena.
 const SLOTS: u32 = 65_536;
 
-// A table with so many seats, 65 at most, and another one.
+// A table with this many seats, 65 at most, and another one.
 pub(crate) fn table_of(
     alloc: Global,
     count: u32,
@@ -21,7 +21,7 @@ pub(crate) fn table_of(
     Ok((owners, seats, other))
 }
 
-// The seat claims so many of the first slots.
+// The seat claims this many of the first slots.
 pub(crate) fn claim_first(rt: &impl Abort, owners: &Owners, seat: &mut OwnerSeat, count: u32) {
     for slot in 0..count.min(SLOTS) {
         let claim = owners.claim(seat, slot, Mark { run: 0, at: 0 });
@@ -29,7 +29,7 @@ pub(crate) fn claim_first(rt: &impl Abort, owners: &Owners, seat: &mut OwnerSeat
     }
 }
 
-// That runs have so many of the first slots, and no others, and that no shelf has one, once the table is closed.
+// That runs have this many of the first slots, and no others, and that no shelf has one, once the table is closed.
 pub(crate) fn are_free(
     rt: &impl Abort,
     alloc: Global,

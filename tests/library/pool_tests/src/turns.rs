@@ -1,4 +1,4 @@
-//! A run by single steps, and the same so many instructions at a time.
+//! A run by single steps, and the same this many instructions at a time.
 
 use crate::alone::tell;
 use crate::facts::is_told;
@@ -16,7 +16,7 @@ use std::sync::ledger::{Blank, Ledger};
 // The most instructions that a program has.
 const MOST: u64 = 4096;
 
-// Does so many instructions at most, by one call or by a step each.
+// Does this many instructions at most, by one call or by a step each.
 fn go<O: Objects>(run: &mut Run<'_, O::Held>, objects: &mut O, limit: u64, by_steps: bool) -> Turn {
     if !by_steps {
         return run.run(objects, limit);
@@ -38,7 +38,7 @@ fn read<H>(rt: &impl Abort, told: &mut String, turn: Turn, run: &Run<'_, H>) {
     write!(told, "{turn:?} {exit:?} {pc} {executed} {output:?}; ").expect(rt, "out of memory");
 }
 
-// Runs a program, so many instructions at a time, as often as it has instructions: what is read each time, and its report. The
+// Runs a program, this many instructions at a time, as often as it has instructions: what is read each time, and its report. The
 // bytes of the context are 5.
 fn trace_over<O: Objects>(
     rt: &impl Abort,
@@ -125,7 +125,7 @@ fn a_run_is_its_steps(rt: HostRuntime) {
     }
 }
 
-// A row: the place of a program, how many instructions at a time, and what is told.
+// A row: the place of a program, how many instructions at a time, and what is reported.
 const ROWS: [(usize, u64, &str); 4] = [
     (
         4,

@@ -29,16 +29,16 @@ returns-in-PointerCompared c =
 
 pub returns-in-OutsideStack : goal.returns-in-OutsideStack
 returns-in-OutsideStack c = told_as _ _ _ _ c.args.insn.now c.args.state.now _ _ c.args.decl c.args.rows.now c.in-OutsideStack.is
-    (ap (λ (a : Access). access_with a c.args.state.now (codes ", and the stack has the 512 bytes below r10")) c.access_of.ensures) c.write_access_with.ensures
+    (ap (λ (a : Access). access_with a c.args.state.now (codes ", but the stack is the 512 bytes below r10")) c.access_of.ensures) c.write_access_with.ensures
 
 pub returns-in-UnsetStack : goal.returns-in-UnsetStack
 returns-in-UnsetStack c = told_as _ _ _ _ c.args.insn.now c.args.state.now _ _ c.args.decl c.args.rows.now c.in-UnsetStack.is
-    (ap (λ (a : Access). access_with a c.args.state.now (codes ", some of which are not set on every path to it")) c.access_of-in-UnsetStack.ensures)
+    (ap (λ (a : Access). access_with a c.args.state.now (codes ", some of which are not set on every path here")) c.access_of-in-UnsetStack.ensures)
     c.write_access_with-in-UnsetStack.ensures
 
 pub returns-in-OutsideContext : goal.returns-in-OutsideContext
 returns-in-OutsideContext c = told_as _ _ _ _ c.args.insn.now c.args.state.now _ _ c.args.decl c.args.rows.now c.in-OutsideContext.is
-    (ap (λ (a : Access). outside a c.args.state.now (codes ", and the context has ") (Some c.args.decl.context)) c.access_of-in-OutsideContext.ensures)
+    (ap (λ (a : Access). outside a c.args.state.now (codes ", but the context has ") (Some c.args.decl.context)) c.access_of-in-OutsideContext.ensures)
     c.write_outside.ensures
 
 pub returns-in-ContextWritten : goal.returns-in-ContextWritten
@@ -49,7 +49,7 @@ pub returns-in-OutsideObject : goal.returns-in-OutsideObject
 returns-in-OutsideObject c =
     told _ _ _ c.args.insn.now c.args.state.now _ _ c.args.decl c.args.rows.now c.in-OutsideObject.is (subst (λ (a : Access). OnOk c.write_outside_object.result
     (string_bytes c.write_outside_object.new.text ≡ string_bytes c.args.text.now
-    ++ outside_object a c.args.state.now (codes ", and the object has ") c.args.rows.now))
+    ++ outside_object a c.args.state.now (codes ", but the object has ") c.args.rows.now))
     c.access_of-in-OutsideObject.ensures c.write_outside_object.ensures)
 
 pub returns-in-UntestedAnswer : goal.returns-in-UntestedAnswer

@@ -14,30 +14,30 @@ use std::alloc::Global;
 use std::process::Abort;
 use std::test::*;
 
-// What a row shows, the bytes, and the line that is told of them.
+// What a row shows, the bytes, and the line that is reported of them.
 const BYTES: &str = "\
-no bytes |  |   there are 0 bytes: a program has whole slots of 8 bytes, and one at least
-half a slot | 95000000 |   there are 4 bytes: a program has whole slots of 8 bytes, and one at least
-no opcode | 0d00000000000000 |   slot 0 has the opcode 0x0d, which is no instruction
-no opcode in the second slot | 9500000000000000ff00000000000000 |   slot 1 has the opcode 0xff, which is no instruction
+no bytes |  |   there are 0 bytes: a program is one or more whole slots of 8 bytes
+half a slot | 95000000 |   there are 4 bytes: a program is one or more whole slots of 8 bytes
+no opcode | 0d00000000000000 |   slot 0 has the opcode 0x0d, which no instruction has
+no opcode in the second slot | 9500000000000000ff00000000000000 |   slot 1 has the opcode 0xff, which no instruction has
 a low nibble of 11 | b70b000000000000 |   slot 0 names a register above 10: 0x0b
 a high nibble of 11 | b7b0000000000000 |   slot 0 names a register above 10: 0xb0
-an exit with an immediate | 9500000000000000950000000100afff |   slot 1 has something in a field that its instruction does not use: 950000000100afff
+an exit with an immediate | 9500000000000000950000000100afff |   slot 1 sets a field that its instruction does not use: 950000000100afff
 a wide load at the end | 1801000001000000 |   slot 0 is a wide load without its second slot
-a wide load and another | 950000000000000018010000010000001861000001000000 |   slot 1 is a wide load whose second slot has more than a number: 1861000001000000
-a move of 32 bits at 32 bits | bc10200000000000 |   slot 0 has an offset or an immediate that its operation does not have: bc10200000000000
-an atomic operation | c300000000000000 |   slot 0 is a form that is left out: c300000000000000 (an atomic operation, a call of a function, or a load of a map's address)";
+a wide load and another | 950000000000000018010000010000001861000001000000 |   slot 1 is a wide load whose second slot has more than the upper half of a number: 1861000001000000
+a move of 32 bits at 32 bits | bc10200000000000 |   slot 0 has an offset or an immediate that its operation does not allow: bc10200000000000
+an atomic operation | c300000000000000 |   slot 0 is a form that is not supported: c300000000000000 (an atomic operation, a function call, or a load of a map's address)";
 
-// What a row shows, the program, and the line that is told of it.
+// What a row shows, the program, and the line that is reported of it.
 const PROGRAMS: &str = "\
-a jump past the last slot | 05000500000000009500000000000000 |   slot 0 jumps +5 slots on, and the program has 2 slots: let it lead to one of them
-a jump below slot 0 | 0500fdff000000009500000000000000 |   slot 0 jumps -3 slots on, and the program has 2 slots: let it lead to one of them
-a jump into a wide load | 0500010000000000180000000100000000000000000000009500000000000000 |   slot 0 jumps +1 slots on, to the second half of a wide instruction: let it lead to an instruction
-a jump to itself | 0500ffff00000000 |   slot 0 jumps back, by -1 slots: programs go forward only, so unroll a loop, and lay blocks out in the order in which they are run
-a far jump to itself | 06000000ffffffff |   slot 0 jumps back, by -1 slots: programs go forward only, so unroll a loop, and lay blocks out in the order in which they are run
-a branch back | b7000000070000001500feff000000009500000000000000 |   slot 1 jumps back, by -2 slots: programs go forward only, so unroll a loop, and lay blocks out in the order in which they are run
-a move at the end | b700000007000000 |   slot 0 goes on behind the last slot: end the program with exit
-an exit after an exit | 95000000000000009500000000000000 |   slot 1 is reached by no path from slot 0 that goes forward: leave it out, or let a jump before it lead to it";
+a jump past the last slot | 05000500000000009500000000000000 |   slot 0 jumps +5 slots from the next one, but the program has 2 slots: make it lead to one of them
+a jump below slot 0 | 0500fdff000000009500000000000000 |   slot 0 jumps -3 slots from the next one, but the program has 2 slots: make it lead to one of them
+a jump into a wide load | 0500010000000000180000000100000000000000000000009500000000000000 |   slot 0 jumps +1 slots from the next one, into the second half of a wide instruction: make it lead to an instruction
+a jump to itself | 0500ffff00000000 |   slot 0 jumps back by -1 slots: programs only go forward, so unroll loops, and lay blocks out in the order in which they run
+a far jump to itself | 06000000ffffffff |   slot 0 jumps back by -1 slots: programs only go forward, so unroll loops, and lay blocks out in the order in which they run
+a branch back | b7000000070000001500feff000000009500000000000000 |   slot 1 jumps back by -2 slots: programs only go forward, so unroll loops, and lay blocks out in the order in which they run
+a move at the end | b700000007000000 |   slot 0 continues past the last slot: end the program with exit
+an exit after an exit | 95000000000000009500000000000000 |   slot 1 cannot be reached from slot 0 by going forward: remove it, or make an earlier jump lead to it";
 
 // The line of bytes that are no program.
 fn line_of_bytes(rt: &impl Abort, alloc: Global, digits: &str) -> String {
@@ -76,7 +76,7 @@ fn why(rt: &impl Abort, alloc: Global, digits: &str) -> String {
     text
 }
 
-// That a line is told, with a newline behind it.
+// That a line is reported, with a newline after it.
 fn is_line(rt: &impl Abort, row: &str, told: &str, expected: &str) {
     let line = told.strip_suffix("\n").expect(rt, "there is no newline");
     is_told(rt, row, line, expected);
@@ -109,7 +109,7 @@ fn each_code_of_the_flow_has_its_sentence(rt: HostRuntime) {
 fn why_tells_of_the_verifier_too(rt: HostRuntime) {
     let told = why(&rt, rt.alloc(), "9500000000000000");
     let expected =
-        "  slot 0 reads r0, which is not set on every path to it: set it first (a call unsets r1 to r5, and free what points to its object)";
+        "  slot 0 reads r0, which is not set on every path here: set it first (a call unsets r1 to r5, and free unsets every pointer to its object)";
     is_line(&rt, "r0 is unset", told.as_str(), expected);
     let told = why(&rt, rt.alloc(), "b7000000070000009500000000000000");
     is_told(&rt, "an accepted program", told.as_str(), "");
@@ -125,8 +125,8 @@ fn a_byte_that_is_not_there_is_zero(rt: HostRuntime) {
     );
     write_decode_sentence(&mut text, &[], 4096, DecodeCode::ProgramTooLong).expect(&rt, "out of memory");
     let expected =
-        "  slot 0 has something in a field that its instruction does not use: 9501000000000000
-  slot 18446744073709551615 is a wide load whose second slot has more than a number: 0000000000000000
+        "  slot 0 sets a field that its instruction does not use: 9501000000000000
+  slot 18446744073709551615 is a wide load whose second slot has more than the upper half of a number: 0000000000000000
   the program has more than 4096 slots
 ";
     is_told(&rt, "bytes that are not there", text.as_str(), expected);

@@ -1,6 +1,6 @@
 //! Bytes and their outcomes: the table of `super`.
 
-// What a row shows, how many exits stand first, the bytes behind them, and how many instructions all of it is or why it is
+// What a row shows, how many exits stand first, the bytes after them, and how many instructions all of it is or why it is
 // no program.
 pub(crate) const CASES: &str = "\
 # an exit has its opcode alone
