@@ -43,21 +43,21 @@ impl FileFault {
     {
         match self {
             FileFault::NoHeader => "the file has fewer than the 64 bytes of an ELF header",
-            FileFault::NotElf => "the file is no ELF file",
+            FileFault::NotElf => "the file is not an ELF file",
             FileFault::NotLittle64 => {
-                "the file is no 64-bit little-endian ELF file: compile with -target bpfel"
+                "the file is not a 64-bit little-endian ELF file: compile with -target bpfel"
             }
-            FileFault::NotRelocatable => "the file is no relocatable file: compile with -c",
+            FileFault::NotRelocatable => "the file is not relocatable: compile with -c",
             FileFault::NotBpf => {
-                "the file is for another machine than eBPF: compile with -target bpfel"
+                "the file is for a machine other than eBPF: compile with -target bpfel"
             }
             FileFault::HeaderSize => "the file's section headers do not have 64 bytes each",
             FileFault::SectionsOutside => "the section headers reach beyond the end of the file",
-            FileFault::NoNames => "the section of the sections' names is none of the file's",
+            FileFault::NoNames => "the section of section names is not in the file",
             FileFault::ContentsOutside => "a section reaches beyond the end of the file",
             FileFault::NoSymbols => "the file has no symbol table",
             FileFault::SymbolsTwice => "the file has more than one symbol table",
-            FileFault::NoStrings => "the section of the symbols' names is none of the file's",
+            FileFault::NoStrings => "the section of symbol names is not in the file",
             FileFault::LongName => "the function's name has more than 255 bytes",
             FileFault::NoFunctions => "the file has no function",
             FileFault::NotCode => "the function's bytes are not whole slots of its section",

@@ -63,8 +63,8 @@ fn mending(target: Target) -> &'static str
 {
     match target {
         Target::Table =>
-            "a table outside of the function: pass it in the context, or pack it into a number",
-        Target::Variable => "a variable outside of the function: pass it in the context",
+            "a table outside the function: pass it in the context, or pack it into a number",
+        Target::Variable => "a variable outside the function: pass it in the context",
         Target::Function => {
             "a function of the file: make it static inline, and compile with -O2"
         }

@@ -22,9 +22,9 @@ call | twice | 2 80 40 | bf200000000000002f1000000000000077010000030000000f10000
 
 // The object, the function, `-` for the only one, and why it is no program by itself.
 const REFUSED: &str = "\
-table | weigh | slot 3 uses weights, a table outside of the function: pass it in the context, or pack it into a number
-table | - | slot 3 uses weights, a table outside of the function: pass it in the context, or pack it into a number
-section | first | slot 0 uses counter, a variable outside of the function: pass it in the context
+table | weigh | slot 3 uses weights, a table outside the function: pass it in the context, or pack it into a number
+table | - | slot 3 uses weights, a table outside the function: pass it in the context, or pack it into a number
+section | first | slot 0 uses counter, a variable outside the function: pass it in the context
 call | entry | slot 3 calls twice, a function of the file: make it static inline, and compile with -O2
 call | far | slot 1 uses outside, which is not in the file: define it as static inline, and compile with -O2
 two | - | the file has more than one function: name one of checksum, largest
@@ -35,23 +35,23 @@ call | outside | the file has no function of that name; it has twice, entry, far
 // What is changed in the object two: an offset and the bytes that are written there, with a comma between several; and why there
 // is then no function largest, or no only one where the row begins with `-`.
 const DAMAGED: &str = "\
-0 00 | the file is no ELF file
-4 01 | the file is no 64-bit little-endian ELF file: compile with -target bpfel
-5 02 | the file is no 64-bit little-endian ELF file: compile with -target bpfel
-6 00 | the file is no 64-bit little-endian ELF file: compile with -target bpfel
-16 0200 | the file is no relocatable file: compile with -c
-18 3e00 | the file is for another machine than eBPF: compile with -target bpfel
+0 00 | the file is not an ELF file
+4 01 | the file is not a 64-bit little-endian ELF file: compile with -target bpfel
+5 02 | the file is not a 64-bit little-endian ELF file: compile with -target bpfel
+6 00 | the file is not a 64-bit little-endian ELF file: compile with -target bpfel
+16 0200 | the file is not relocatable: compile with -c
+18 3e00 | the file is for a machine other than eBPF: compile with -target bpfel
 58 4100 | the file's section headers do not have 64 bytes each
 40 ffffffffffffffff | the section headers reach beyond the end of the file
 60 ffff | the section headers reach beyond the end of the file
-60 0000 | the section of the sections' names is none of the file's
-62 0800 | the section of the sections' names is none of the file's
+60 0000 | the section of section names is not in the file
+62 0800 | the section of section names is not in the file
 1544 ffffffffffffffff | a section reaches beyond the end of the file
 1552 31070000 | a section reaches beyond the end of the file
 1844 00000000 | the file has no symbol table
 1780 02000000 | the file has more than one symbol table
-1880 08000000 | the section of the symbols' names is none of the file's
-1880 ffffffff | the section of the symbols' names is none of the file's
+1880 08000000 | the section of symbol names is not in the file
+1880 ffffffff | the section of symbol names is not in the file
 1016 5700000000000000 | the function's bytes are not whole slots of its section
 1016 6000000000000000 | the function's bytes are not whole slots of its section
 1016 0000000000000000 | the function's bytes are not whole slots of its section
@@ -81,7 +81,7 @@ section | third | 32 | ./section.c:14:2: return ctx[2] ? 7 : 9;";
 
 // What is changed in the object two, a section, and why its lines can't be read.
 const NO_LINES: &str = "\
-0 00 | 2 | the file is no ELF file
+0 00 | 2 | the file is not an ELF file
 0 7f | 8 | the file has no section of that number
 216 00 | 2 | the strings of .BTF cannot be read
 236 ffffffff | 2 | the strings of .BTF cannot be read
