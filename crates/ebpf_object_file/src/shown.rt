@@ -1,9 +1,9 @@
 //! A line of C as it is shown.
 
 ghost use Rattle.std.specs.Prelude.{◌≡◌, ◌<◌};
-ghost use Rattle.ebpf_object_file.specs.Shown.{visible_byte};
+ghost use Rattle.ebpf_object_file.specs.Shown.{visible_byte, is_one_line};
 
-use crate::lines::SourceLine;
+use crate::lines::{Line, SourceLine};
 use std::fmt;
 
 // The byte, where it is a visible character of ASCII or a blank, and else `?`.
@@ -15,6 +15,15 @@ fn visible_byte(byte: u8) -> u8
         byte
     } else {
         b'?'
+    }
+}
+
+impl Line {
+    /// Whether it is the same line of the same file as another.
+    pub fn is_one_line(&self, other: Line) -> bool
+        ensures { result ≡ is_one_line self.now other }
+    {
+        self.file == other.file && self.line == other.line
     }
 }
 
