@@ -13,3 +13,4 @@ pub mod Function
 pub mod Lines
 pub mod Source
 pub mod Sentences
+pub mod Shown

@@ -7,7 +7,7 @@
 //! linear in the size of the file: names have at most 255 bytes, and no table is read more than a few times.
 //!
 //! To be read in this order: `fault`, `field`, `header`, `section`, `text`, `symbol`, `relocation`, `call`, `functions`, `symbol_name`, `outside`,
-//! `object_fault`, `function`, `lines`, `slot_lines`, `source`.
+//! `object_fault`, `function`, `lines`, `shown`, `slot_lines`, `source`.
 #![tactic(auto)]
 
 mod call;
@@ -21,6 +21,7 @@ pub mod object_fault;
 pub mod outside;
 mod relocation;
 mod section;
+mod shown;
 pub mod slot_lines;
 pub mod source;
 mod symbol;

@@ -12,7 +12,7 @@ use Rattle.ebpf_command.specs.Writing.{Responding, Writes, WritesBeginning}
 use Rattle.ebpf_command.proofs.Written.{CutsLong, response_through, begun_through}
 use Rattle.ebpf_one.specs.ObjectText.{IsWantedFault, IsTaken, IsTakenFault, RespondsObject, Answers, object_fault_lines}
 
-read_long : (file : List ℕ) → 1048577 < length file → length (read_of file) ≡ 1048577
+pub read_long : (file : List ℕ) → 1048577 < length file → length (read_of file) ≡ 1048577
 read_long file long = length-take-le 1048577 file (omega (arith, long))
 
 -- so its beginning is taken as it is

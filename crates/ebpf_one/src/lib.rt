@@ -5,7 +5,7 @@
 //! what they ask for, the lines of their texts, and the store of objects of a single run.
 //!
 //! To be read in this order: `form`, `program_text`, `request`, `store`, `alone`, `text`, `answer`, `one`, `list`, `input_faults`, `explain`, `lay_out`, `object`,
-//! `object_commands`.
+//! `object_commands`, `source_list`.
 #![tactic(auto)]
 
 mod alone;
@@ -20,5 +20,6 @@ pub mod object_commands;
 pub mod one;
 mod program_text;
 mod request;
+pub mod source_list;
 mod store;
 mod text;

@@ -12,7 +12,7 @@ use ebpf_object_file::object_fault::ObjectFault;
 use std::alloc::{AllocError, Global};
 
 // The function of a name, or the file's only one where the name is empty.
-fn function_of<'a>(name: &str, file: &'a [u8]) -> Result<Function<'a>, ObjectFault<'a>>
+pub(crate) fn function_of<'a>(name: &str, file: &'a [u8]) -> Result<Function<'a>, ObjectFault<'a>>
     ensures found { IfOk result (λ f. IsWanted name.now file.now f) }
     ensures refused { IfErr result (λ e. IsWantedFault name.now file.now e) }
 {

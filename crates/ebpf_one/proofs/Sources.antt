@@ -1,0 +1,59 @@
+-- The listing with the lines of C, a slot at a time, and of an object file that is too long.
+use Rattle.std.proofs.Common.{◌≡◌, ◌+◌, inl, inr, ℕ, List, [], ◌++◌, Option, refl, ap, subst, ◌∙◌, add-one, append_assoc, arith}
+use Rattle.std.specs.Prelude.{None, Some, slice_index_or}
+use Rattle.std.specs.Option.{MatchOption}
+use Rattle.ebpf_insn.specs.declared.insn.Insn.{Insn}
+use Rattle.ebpf_insn.specs.Program.{insn_at}
+use Rattle.ebpf_insn.specs.Decoding.{decode_fault}
+use Rattle.ebpf_object_file.specs.declared.function.Function.{Function}
+use Rattle.ebpf_object_file.specs.declared.lines.Line.{Line}
+use Rattle.ebpf_object_file.specs.declared.lines.Lines.{Lines}
+use Rattle.ebpf_object_file.specs.Source.{AreLinesOf, HasNoLinesOf}
+use Rattle.ebpf_text.specs.Listing.{line_at}
+use Rattle.ebpf_command.specs.Response.{Response}
+use Rattle.ebpf_command.proofs.Written.{CutsLong}
+use Rattle.ebpf_one.specs.declared.form.Form.TheVariants.{Raw}
+use Rattle.ebpf_one.specs.ListText.{RespondsList}
+use Rattle.ebpf_one.specs.SourceText.{heading, held_before, sourced_below, SourcesDecoded, SourcesFunction, RespondsSource}
+use Rattle.ebpf_one.proofs.ObjectResponses.{read_long}
+use Rattle.ebpf_one.proofs.Responses.{list_cuts}
+
+pub sourced_none : (l : Lines) (holding : List (Option Line)) (p : List (Option Insn)) → [] ≡ sourced_below l holding p 0
+unfolding sourced_below
+sourced_none l holding p = refl
+
+-- the line of C and that of the instruction are written
+pub sourced_more : (l : Lines) (holding : List (Option Line)) (p : List (Option Insn)) (n : ℕ) (before : Option Line) (text headed written : List ℕ)
+    → text ≡ sourced_below l holding p n
+    → before ≡ held_before holding n
+    → headed ≡ text ++ heading l before (slice_index_or holding n None)
+    → written ≡ headed ++ line_at n (insn_at p n)
+    → written ≡ sourced_below l holding p (n + 1)
+unfolding sourced_below
+sourced_more l holding p n before text headed written was same first second =
+    let row : List ℕ = line_at n (insn_at p n) in
+    let now : Option Line = slice_index_or holding n None in
+    let head : List ℕ = heading l (held_before holding n) now in
+    let here : headed ≡ text ++ head = first ∙ ap (λ (o : Option Line). text ++ heading l o now) same in
+    rw (add-one) (second ∙ (ap (λ (x : List ℕ). x ++ row) here ∙ (append_assoc text head row ∙ ap (λ (x : List ℕ). x ++ (head ++ row)) was)))
+
+-- of a file that is too long the beginning is answered
+pub source_cuts : (name : List ℕ) → CutsLong (RespondsSource name)
+source_cuts name file response long (inl k) = inl (omega (arith, long), list_cuts Raw file response long k.1)
+source_cuts name file response long (inr (inl k)) =
+    let short = k.0 in let read = read_long file long in absurd (omega (arith, short, read))
+source_cuts name file response long (inr (inr k)) =
+    let short = k.1.0 in let read = read_long file long in absurd (omega (arith, short, read))
+
+-- what is known of a function's lines
+abbrev LinesKnown : List ℕ → Function → Option Lines → Type 0
+LinesKnown file f r = MatchOption r (HasNoLinesOf file f.place.section) (λ l. AreLinesOf file f.place.section l)
+
+-- the response to a function without lines, and with them
+pub of_no_lines : (file : List ℕ) (f : Function) (r : Option Lines) (response : Response) → r ≡ None → LinesKnown file f r
+    → RespondsList Raw f.code.now response → SourcesFunction file f response
+of_no_lines file f r response e known h = let is : HasNoLinesOf file f.place.section = subst (LinesKnown file f) e known in inl (is, h)
+
+pub of_lines : (file : List ℕ) (f : Function) (r : Option Lines) (l : Lines) (response : Response) → r ≡ Some l → LinesKnown file f r
+    → SourcesDecoded (decode_fault f.code.now) f.code.now l f.place.from response → SourcesFunction file f response
+of_lines file f r l response e known h = let are : AreLinesOf file f.place.section l = subst (LinesKnown file f) e known in inr (inl (l, are, h))

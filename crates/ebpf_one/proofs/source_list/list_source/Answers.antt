@@ -1,0 +1,16 @@
+use Rattle.std.proofs.Common.{rules}
+use Rattle.ebpf_command.proofs.Written.{response_through, begun_through, response_of_shown}
+use Rattle.ebpf_one.specs.SourceText.{RespondsSource}
+use Rattle.ebpf_one.proofs.Sources.{source_cuts}
+use Rattle.ebpf_one.proofs.source_list.list_source.Goals as goal
+
+pub returns-clause-response : goal.returns-clause-response
+returns-clause-response g c = response_through (RespondsSource c.args.function.now) _ _ _ _ c.respond.ensures.response
+    (λ all response k. response_of_shown (RespondsSource c.args.function.now) (source_cuts c.args.function.now) all response k.0 k.2 (let h = k.1 in search rules))
+
+pub returns-clause-beginning : goal.returns-clause-beginning
+returns-clause-beginning g c = begun_through (RespondsSource c.args.function.now) _ _ _ _ c.respond.ensures.beginning
+    (λ all response k. response_of_shown (RespondsSource c.args.function.now) (source_cuts c.args.function.now) all response k.0 k.2 (let h = k.1 in search rules))
+
+pub returns-clause-consumed : goal.returns-clause-consumed
+returns-clause-consumed g c = c.respond.ensures.consumed

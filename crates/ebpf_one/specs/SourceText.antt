@@ -1,0 +1,71 @@
+-- The response of `list --source` to an object file: the instructions of the function that is asked for, with the lines of C between.
+use Rattle.std.specs.Prelude.{◌≡◌, ◌≤◌, ◌<◌, ◌⊎◌, ℕ, zero, suc, ◌++◌, List, [], length, codes, Option, Some, None, cond, slice_index_or}
+use Rattle.ebpf_insn.specs.declared.insn.Insn.{Insn}
+use Rattle.ebpf_insn.specs.declared.fault.DecodeCode.{DecodeCode}
+use Rattle.ebpf_insn.specs.Decoding.{decode_fault}
+use Rattle.ebpf_insn.specs.Encoding.{IsProgram}
+use Rattle.ebpf_insn.specs.Program.{insn_at}
+use Rattle.ebpf_object_file.specs.declared.fault.FileFault.{FileFault}
+use Rattle.ebpf_object_file.specs.declared.function.Function.{Function}
+use Rattle.ebpf_object_file.specs.declared.lines.Line.{Line}
+use Rattle.ebpf_object_file.specs.declared.lines.Lines.{Lines}
+use Rattle.ebpf_object_file.specs.declared.object_fault.ObjectFault.{ObjectFault}
+use Rattle.ebpf_object_file.specs.declared.object_fault.ObjectFault.TheVariants.{File}
+use Rattle.ebpf_object_file.specs.Shown.{shown_of, AreHolding, is_one_line}
+use Rattle.ebpf_object_file.specs.Source.{AreLinesOf, HasNoLinesOf, IsLinesOfFault}
+use Rattle.ebpf_text.specs.Listing.{line_at}
+use Rattle.ebpf_command.specs.Codes.{decode_name}
+use Rattle.ebpf_command.specs.Response.{Response, refused_response, clean_response}
+use Rattle.ebpf_command.specs.Writing.{Responding}
+use Rattle.ebpf_one.specs.declared.form.Form.TheVariants.{Raw}
+use Rattle.ebpf_one.specs.Lines.{refused_line}
+use Rattle.ebpf_one.specs.ListText.{RespondsList}
+use Rattle.ebpf_one.specs.ObjectText.{IsWanted, IsTakenFault, object_fault_lines}
+
+abbrev pub source_row : Lines → Line → List ℕ
+source_row l n = codes "; " ++ (shown_of l n ++ codes "\n")
+
+-- what is written before a slot where one line holds, and another at the slot before it: nothing where they are one line
+abbrev pub heading : Lines → Option Line → Option Line → List ℕ
+heading l before None = []
+heading l None (Some n) = source_row l n
+heading l (Some b) (Some n) = cond (is_one_line b n) [] (source_row l n)
+
+-- the line that holds at the slot before a slot
+abbrev pub held_before : List (Option Line) → ℕ → Option Line
+held_before holding zero = None
+held_before holding (suc k) = slice_index_or holding k None
+
+abbrev pub slot_text : Lines → List (Option Line) → List (Option Insn) → ℕ → List ℕ
+slot_text l holding p slot = heading l (held_before holding slot) (slice_index_or holding slot None) ++ line_at slot (insn_at p slot)
+
+-- the text of the slots below one
+unfoldable pub sourced_below : Lines → List (Option Line) → List (Option Insn) → ℕ → List ℕ
+sourced_below l holding p zero = []
+sourced_below l holding p (suc n) = sourced_below l holding p n ++ slot_text l holding p n
+
+-- the program is written, with the line of C that holds at each slot, where the function begins at a byte of its section
+pub record IsSourced (l : Lines) (from : ℕ) (p : List (Option Insn)) (response : Response) : Type 0 where
+  pub holding : List (Option Line)
+  pub whole : length holding ≡ length p
+  pub are : AreHolding l from holding
+  pub told : response ≡ clean_response (sourced_below l holding p (length p))
+
+-- bytes are refused as no program, or are the program that they encode
+abbrev pub SourcesDecoded : Option (ℕ × DecodeCode) → List ℕ → Lines → ℕ → Response → Type 0
+SourcesDecoded (Some refusal) bytes l from response = response ≡ refused_response (refused_line (decode_name refusal.1) refusal.0)
+SourcesDecoded None bytes l from response = (p : List (Option Insn)) × IsProgram bytes p × IsSourced l from p response
+
+-- the file says nothing of the function's lines, or says what they are, or its lines can't be read
+abbrev pub SourcesFunction : List ℕ → Function → Response → Type 0
+SourcesFunction file f response =
+    (HasNoLinesOf file f.place.section × RespondsList Raw f.code.now response)
+    ⊎ ((l : Lines) × AreLinesOf file f.place.section l × SourcesDecoded (decode_fault f.code.now) f.code.now l f.place.from response)
+    ⊎ ((e : FileFault) × IsLinesOfFault file f.place.section e × (response ≡ refused_response (object_fault_lines (File e))))
+
+-- the file is too long, which `list` says of it, or has the function that is asked for, or hasn't
+abbrev pub RespondsSource : List ℕ → Responding
+RespondsSource name file response =
+    ((1048576 < length file) × RespondsList Raw file response)
+    ⊎ ((length file ≤ 1048576) × (f : Function) × IsWanted name file f × SourcesFunction file f response)
+    ⊎ ((e : ObjectFault) × IsTakenFault name file e × (response ≡ refused_response (object_fault_lines e)))

@@ -1,0 +1,175 @@
+//! The command `list --source`: the instructions of a function of an object file, with the lines of C between.
+
+ghost use Rattle.std.specs.Prelude.{◌≡◌, ◌≢◌, ◌≤◌, ◌<◌, ◌++◌, None, IfOk, IfErr, OnOk, length, slice_index_or, string_bytes};
+ghost use Rattle.ebpf_insn.specs.Decoding.{decode_fault};
+ghost use Rattle.ebpf_insn.specs.Program.{insn_at};
+ghost use Rattle.ebpf_text.specs.Listing.{line_at};
+ghost use Rattle.ebpf_command.specs.declared.done.EngineFault.TheVariants.{Output};
+ghost use Rattle.ebpf_command.specs.Writing.{Writes, WritesBeginning, Reads};
+ghost use Rattle.ebpf_one.specs.SourceText.{heading, held_before, slot_text, sourced_below, IsSourced, SourcesDecoded, SourcesFunction, RespondsSource};
+
+use crate::form::Form;
+use crate::list::list_input;
+use crate::object::{answer_object_fault, function_of};
+use crate::text::refused_line;
+use ebpf_command::answer::{Answer, respond};
+use ebpf_command::codes::RefusalCode;
+use ebpf_command::done::{Done, EngineFault};
+use ebpf_command::input::MAX_INPUT;
+use ebpf_insn::decode::decode;
+use ebpf_insn::fault::DecodeFault;
+use ebpf_insn::program::Program;
+use ebpf_object_file::function::Function;
+use ebpf_object_file::lines::{Line, Lines};
+use ebpf_object_file::object_fault::ObjectFault;
+use ebpf_object_file::source::lines_of;
+use ebpf_text::line::line;
+use std::alloc::{AllocError, Global};
+use std::io::{Read, Write};
+
+// Writes a line of C, where one holds and the line before it is another.
+fn write_heading(
+    text: &mut String,
+    lines: Lines<'_>,
+    before: Option<Line>,
+    now: Option<Line>,
+) -> Result<(), AllocError>
+    ensures { OnOk result (string_bytes text.new ≡ string_bytes text.old ++ heading lines.entry before now) }
+{
+    match (before, now) {
+        (_, None) => Ok(()),
+        (Some(last), Some(next)) if last.is_one_line(next) => Ok(()),
+        (_, Some(next)) => {
+            let source = lines.source(next);
+            write!(text, "; {source}\n")
+        }
+    }
+}
+
+// The line that holds at the slot before a slot.
+fn held_before(holding: &[Option<Line>], slot: usize) -> Option<Line>
+    requires { slot < length holding.now }
+    ensures { result ≡ held_before holding.now slot }
+{
+    if slot == 0 { None } else { holding[slot - 1] }
+}
+
+// Writes the line of the instruction at a slot, if one begins there.
+fn write_slot(
+    alloc: Global,
+    text: &mut String,
+    program: &Program,
+    slot: usize,
+) -> Result<(), AllocError>
+    ensures { OnOk result (string_bytes text.new ≡ string_bytes text.old ++ line_at slot (insn_at program.now slot)) }
+{
+    match program.at(slot) {
+        Some(insn) => {
+            let row = line(alloc, slot, insn)?;
+            text.push_str(&row)
+        }
+        None => Ok(()),
+    }
+}
+
+// The lines of a program's instructions, with the line of C before those of which it holds.
+fn sourced(
+    alloc: Global,
+    program: &Program,
+    lines: Lines<'_>,
+    holding: &[Option<Line>],
+) -> Result<String, AllocError>
+    requires { length holding.now ≡ length program.now }
+    ensures { IfOk result (λ text. string_bytes text ≡ sourced_below lines.entry holding.now program.now (length program.now)) }
+{
+    let mut text = String::new(alloc);
+    for slot in 0..program.slots() {
+        let before = held_before(holding, slot);
+        write_heading(&mut text, lines, before, holding[slot])?;
+        write_slot(alloc, &mut text, program, slot)?;
+    }
+    Ok(text)
+}
+
+// The response to a program of a function that begins at a byte of its section.
+fn source_program(
+    alloc: Global,
+    program: &Program,
+    lines: Lines<'_>,
+    from: u64,
+) -> Result<Answer, AllocError>
+    ensures { IfOk result (IsSourced lines.entry from program.now) }
+{
+    let mut holding: Vec<Option<Line>> = vec![in alloc; None; program.slots()]?;
+    lines.at_slots(from, &mut holding);
+    Ok(Answer {
+        text: sourced(alloc, program, lines, &holding)?,
+        done: Done::Clean,
+    })
+}
+
+// The response to the bytes of a function with lines.
+fn source_bytes(
+    alloc: Global,
+    bytes: &[u8],
+    lines: Lines<'_>,
+    from: u64,
+) -> Result<Answer, AllocError>
+    ensures { IfOk result (SourcesDecoded (decode_fault bytes.now) bytes.now lines.entry from) }
+{
+    match decode(alloc, bytes) {
+        Ok(program) => source_program(alloc, &program, lines, from),
+        Err(DecodeFault::Bad { slot, code }) => Ok(Answer {
+            text: refused_line(alloc, RefusalCode::Decode(code).name(), slot)?,
+            done: Done::Refused,
+        }),
+        Err(DecodeFault::NoMemory) => Err(AllocError),
+    }
+}
+
+// The response to a function of a file.
+fn source_function(alloc: Global, file: &[u8], function: Function<'_>) -> Result<Answer, AllocError>
+    ensures { IfOk result (SourcesFunction file.now function.entry) }
+{
+    match lines_of(file, function.place.section) {
+        Ok(None) => list_input(alloc, Form::Raw, function.code),
+        Ok(Some(lines)) => source_bytes(alloc, function.code, lines, function.place.from),
+        Err(fault) => answer_object_fault(alloc, ObjectFault::File(fault)),
+    }
+}
+
+// The response to a file.
+fn source_input(alloc: Global, file: &[u8], name: &str) -> Result<Answer, AllocError>
+    ensures { IfOk result (RespondsSource name.now file.now) }
+{
+    if file.len() > MAX_INPUT {
+        return list_input(alloc, Form::Raw, file);
+    }
+    match function_of(name, file) {
+        Ok(function) => source_function(alloc, file, function),
+        Err(fault) => answer_object_fault(alloc, fault),
+    }
+}
+
+/// Reads an object file and writes the instructions of a function of it, as [`crate::list::list`] does, with a line `; FILE:LINE: TEXT`
+/// before those of each line of C. Where the file has no lines, the instructions are written alone. Where the name is empty, it is the
+/// file's only function.
+///
+/// # Errors
+/// Those of [`crate::list::list`].
+pub fn list_source<R: Read, W: Write>(
+    alloc: Global,
+    reader: &mut R,
+    writer: &mut W,
+    function: &str,
+) -> Result<Done, EngineFault>
+    // The instructions and the lines of the function are written, or the fault of the file, and nothing else.
+    ensures response { Writes (RespondsSource function.now) (R.remaining reader.old) (W.contents writer.old) (W.contents writer.new) result }
+    ensures consumed { Reads (R.remaining reader.old) (R.remaining reader.new) result }
+    ensures untouched { IfErr result (λ fault. fault ≢ Output → writer.new ≡ writer.old) }
+    ensures beginning { WritesBeginning (RespondsSource function.now) (R.remaining reader.old) (W.contents writer.old) (W.contents writer.new) result }
+{
+    respond(alloc, reader, writer, |file| {
+        source_input(alloc, file, function)
+    })
+}
