@@ -53,9 +53,11 @@ pub(crate) fn call<O: Objects>(
 pub(crate) fn emit<H>(parts: &mut Parts<H>)
     requires called { (subject : Subject) × (pc : ℕ) × IsCallThere (moved pc 0 (state_of subject parts.old)) × HasRoomAt subject pc parts.old }
     requires found { HoldsNumber (slice_index_or parts.old.registers 1 None) }
-    ensures state { (subject : Subject) (n : ℕ) → slice_index_or parts.old.registers 1 None ≡ Some (Value.Number n) → state_of subject parts.new ≡ emitted n (state_of subject parts.old) }
+    ensures state { (subject : Subject) (n : ℕ) → slice_index_or parts.old.registers 1 None ≡ Some (Value.Number n) →
+        state_of subject parts.new ≡ emitted n (state_of subject parts.old) }
     ensures kept { parts.new.exit ≡ parts.old.exit }
-    ensures room { (subject : Subject) (pc : ℕ) → IsCallThere (moved pc 0 (state_of subject parts.old)) → HasRoomAt subject pc parts.old → HasRoomAt subject (pc + 1) parts.new }
+    ensures room { (subject : Subject) (pc : ℕ) → IsCallThere (moved pc 0 (state_of subject parts.old)) →
+        HasRoomAt subject pc parts.old → HasRoomAt subject (pc + 1) parts.new }
 {
     let number = parts.registers.number(Reg::R1);
     parts.output.push_reserved(number);

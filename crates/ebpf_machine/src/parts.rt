@@ -13,7 +13,7 @@ pub(crate) struct Parts<H> {
     pub(crate) context: Vec<u8>,
     pub(crate) pc: usize,
     pub(crate) registers: Registers,
-    pub(crate) stack: Box<Stack>,
+    pub(crate) stack: Stack,
     pub(crate) output: Vec<u64>,
     pub(crate) held: Vec<Holding<H>>,
     pub(crate) replies: Vec<Reply>,

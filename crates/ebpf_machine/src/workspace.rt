@@ -26,7 +26,7 @@ impl<H> Workspace<H> {
             context: Vec::new(alloc),
             pc: 0,
             registers: Registers::new(),
-            stack: Box::new(alloc, Stack::new())?,
+            stack: Stack::new(),
             output: Vec::new(alloc),
             held: Vec::new(alloc),
             replies: Vec::new(alloc),
