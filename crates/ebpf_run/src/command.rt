@@ -2,7 +2,7 @@
 
 ghost use Rattle.std.specs.Prelude.{◌≤◌};
 
-use crate::source::{Source, elf_option, function_option, raw_option, source_of};
+use crate::source::{Source, elf_option, function_option, lines_option, raw_option, source_of};
 use clap::{Arg, ArgAction, ArgMatches, Command, value_parser};
 use std::alloc::{AllocError, Global};
 
@@ -53,7 +53,7 @@ pub struct Request<'a> {
 #[derive(Clone, Copy)]
 pub enum Task<'a> {
     One(OneOptions<'a>),
-    List(Source<'a>),
+    List(ListOptions<'a>),
     Explain(OneOptions<'a>),
     LayOut(Source<'a>),
     Assemble,
@@ -73,6 +73,15 @@ pub struct OneOptions<'a> {
     pub held: u8,
     /// Whether each call of `new` is answered null.
     pub nulls: bool,
+}
+
+/// The options of `list`.
+#[derive(Clone, Copy)]
+pub struct ListOptions<'a> {
+    /// What the input is.
+    pub source: Source<'a>,
+    /// Whether the lines of C of an object file are written too.
+    pub lines: bool,
 }
 
 /// The option of `check`.
@@ -186,7 +195,8 @@ fn nulls_option<'a>(alloc: Global) -> Arg<'a> {
 fn list_command<'a>(alloc: Global) -> Result<Command<'a>, AllocError> {
     let list = Command::new(alloc, "list")
         .about("Lists the instructions of the program whose hex is in FILE or on standard input")
-        .after_help(LIST_EXAMPLE);
+        .after_help(LIST_EXAMPLE)
+        .arg(lines_option(alloc)?)?;
     with_program(alloc, list)
 }
 
@@ -282,7 +292,7 @@ pub fn request_of<'a>(matches: &ArgMatches<'a>) -> Option<Request<'a>> {
 fn task_of<'a>(name: &str, given: &ArgMatches<'a>) -> Option<Task<'a>> {
     match name {
         "one" => Some(Task::One(one_options(given))),
-        "list" => Some(Task::List(source_of(given))),
+        "list" => Some(Task::List(list_options(given))),
         "explain" => Some(Task::Explain(one_options(given))),
         "lay-out" => Some(Task::LayOut(source_of(given))),
         "assemble" => Some(Task::Assemble),
@@ -308,6 +318,14 @@ fn one_options<'a>(given: &ArgMatches<'a>) -> OneOptions<'a> {
         context: given.get_str("context").unwrap_or("-"),
         held: given.get_one::<u8>("held").unwrap_or(0),
         nulls: given.get_flag("nulls"),
+    }
+}
+
+// The options of `list`.
+fn list_options<'a>(given: &ArgMatches<'a>) -> ListOptions<'a> {
+    ListOptions {
+        source: source_of(given),
+        lines: given.get_flag("source"),
     }
 }
 

@@ -1,6 +1,6 @@
 //! The commands over one program, by what their input is.
 
-use crate::command::OneOptions;
+use crate::command::{ListOptions, OneOptions};
 use crate::source::Source;
 use ebpf_command::done::{Done, EngineFault};
 use ebpf_one::explain::explain;
@@ -8,6 +8,7 @@ use ebpf_one::lay_out::lay_out;
 use ebpf_one::list::list;
 use ebpf_one::object_commands::{explain_object, lay_out_object, list_object, one_object};
 use ebpf_one::one::one;
+use ebpf_one::source_list::list_source;
 use std::alloc::Global;
 use std::io::{Read, Write};
 
@@ -35,10 +36,11 @@ pub fn perform_list<R: Read, W: Write>(
     alloc: Global,
     reader: &mut R,
     writer: &mut W,
-    source: Source<'_>,
+    options: ListOptions<'_>,
 ) -> Result<Done, EngineFault> {
-    match source {
+    match options.source {
         Source::Program(form) => list(alloc, reader, writer, form),
+        Source::Object(name) if options.lines => list_source(alloc, reader, writer, name),
         Source::Object(name) => list_object(alloc, reader, writer, name),
     }
 }

@@ -39,6 +39,15 @@ pub fn function_option<'a>(alloc: Global) -> Result<Arg<'a>, AllocError> {
         .requires_arg("elf")
 }
 
+/// The option of lines of C.
+pub fn lines_option<'a>(alloc: Global) -> Result<Arg<'a>, AllocError> {
+    Arg::new(alloc, "source")
+        .long("source")
+        .action(ArgAction::SetTrue)
+        .help("Writes each line of C before its instructions, where the object file has lines")
+        .requires_arg("elf")
+}
+
 /// What the options say that the input is.
 pub fn source_of<'a>(given: &ArgMatches<'a>) -> Source<'a> {
     if given.get_flag("elf") {
