@@ -1,5 +1,6 @@
-"""What the tests of the built program know of object files: those that are kept, their functions, and the numbers in them."""
+"""What the tests of the built program know of object files: those that are kept, their functions, the numbers in them, and how one is made."""
 
+import struct
 from typing import NamedTuple
 
 from built import TESTS, TOP
@@ -15,6 +16,10 @@ HEADER = [(4, 1), (5, 1), (6, 1), (16, 2), (18, 2), (20, 4), (32, 8), (40, 8), (
 SECTION = [(0, 4), (4, 4), (8, 8), (24, 8), (32, 8), (40, 4), (44, 4), (56, 8)]
 SYMBOL = [(0, 4), (4, 1), (6, 2), (8, 8), (16, 8)]
 RELOCATION = [(0, 8), (8, 4), (12, 4)]
+
+# of .BTF and .BTF.ext; and of the table of lines the size of a line, the first section's name and count, and its first line
+TABLE = [(0, 2), (2, 1), (4, 4), (16, 4), (20, 4)]
+LINES = [(at, 4) for at in range(0, 28, 4)]
 
 
 class Function(NamedTuple):
@@ -84,6 +89,19 @@ def numbers_of(data):
     return [(start + at, size) for start, fields in places for at, size in fields]
 
 
+def numbers_of_lines(data):
+    """The same of what says which line of C a slot has."""
+    headers, found = sections_of(data), []
+    names = contents(data, headers[number(data, 62, 2)])[0]
+    for header in headers:
+        name, start = text_at(data, names + number(data, header, 4)), contents(data, header)[0]
+        if name in ('.BTF', '.BTF.ext'):
+            found += [(start + at, size) for at, size in TABLE]
+        if name == '.BTF.ext':
+            found += [(start + number(data, start + 4, 4) + number(data, start + 16, 4) + at, size) for at, size in LINES]
+    return found
+
+
 def values_of(data, size):
     """What a number of so many bytes is changed to: 0, 1, the greatest, the length of the file, and one less and more."""
     return [0, 1, 256 ** size - 1, len(data) - 1, len(data), len(data) + 1]
@@ -92,3 +110,36 @@ def values_of(data, size):
 def with_number(data, at, size, value):
     """The file with a number of so many bytes in another's place."""
     return data[:at] + (value % 256 ** size).to_bytes(size, 'little') + data[at + size:]
+
+
+class Section(NamedTuple):
+    """A section to be written: its name, its type, what it has, and the fields link and info of its header."""
+    name: bytes
+    kind: int
+    data: bytes
+    link: int = 0
+    info: int = 0
+
+
+def object_of(sections):
+    """An object file of these sections, after the null section, with their names as the last one."""
+    names = [it.name for it in sections] + [b'.shstrtab']
+    sections = [*sections, Section(names[-1], 3, b'\0' + b'\0'.join(names) + b'\0')]
+    headers, data, start = [bytes(64)], b'', 64 * (len(sections) + 2)
+    for at, it in enumerate(sections):
+        name = 1 + sum(len(before) + 1 for before in names[:at])
+        flags = 6 if it.name == b'.text' else 0
+        headers.append(struct.pack('<IIQQQQIIQQ', name, it.kind, flags, 0, start + len(data), len(it.data), it.link, it.info, 1, 0))
+        data += it.data
+    head = b'\x7fELF\2\1\1' + bytes(9) + struct.pack('<HHIQQQIHHHHHH', 1, 247, 1, 0, 0, 64, 0, 64, 0, 0, 64, len(headers), len(headers) - 1)
+    return head + b''.join(headers) + data
+
+
+def symbol_of(name, start, size, section=1):
+    """A symbol of a function, whose name begins at a byte of the names."""
+    return struct.pack('<IBBHQQ', name, 0x12, 0, section, start, size)
+
+
+def table_of(data):
+    """The bytes of `.BTF` with these strings, or of `.BTF.ext` with these lines: both headers have their place and length at 16 and 20."""
+    return struct.pack('<HBBIIIII', 60319, 1, 0, 24, 0, 0, 0, len(data)) + data

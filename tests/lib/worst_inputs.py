@@ -1,9 +1,11 @@
 """The inputs that were found to take the commands longest, or the most memory, for their size, and what the commands must write of them:
 each at most as long as an input may be, 1 MiB, and its programs at most 4096 slots."""
 
+import struct
 from typing import Callable, NamedTuple
 
 from assembly import slot
+from object_files import Section, object_of, symbol_of, table_of
 
 MOST = 1_048_576
 SLOTS = 4096
@@ -102,6 +104,36 @@ def each(line, first='', last=''):
     return lambda parts: first + ''.join(line.format(at) for at in range(parts)) + last
 
 
+def of_symbols(count):
+    """An object file with that many symbols of functions, of which the last is `b`, with names of 255 bytes that differ in the last."""
+    other = b'a' * 254 + b'c'
+    symbols = symbol_of(3, 0, 16) * (count - 1) + symbol_of(1, 0, 16)
+    return object_of([Section(b'.text', 1, ZERO + EXIT), Section(b'.strtab', 3, b'\0b\0' + other + b'\0'), Section(b'.symtab', 2, symbols, 2)])
+
+
+def of_relocations(count):
+    """An object file with two functions, `a` and after it `b`, and that many relocations of `b`."""
+    symbols = symbol_of(1, 0, 16) + symbol_of(3, 16, 16)
+    return object_of([Section(b'.text', 1, (ZERO + EXIT) * 2), Section(b'.strtab', 3, b'\0a\0b\0'), Section(b'.symtab', 2, symbols, 2),
+                      Section(b'.rel.text', 9, struct.pack('<QII', 16, 1, 1) * count, 3, 1)])
+
+
+def of_lines(count):
+    """An object file with a function of as many slots as a program may have, and that many lines of C, each at a slot of its own in turn. The
+    name of their file is longer than what is shown of it."""
+    rows = b''.join(struct.pack('<IIII', 8 * (at % SLOTS), 7, 7, (at + 1) << 10) for at in range(count))
+    part = struct.pack('<III', 16, 1, count) + rows
+    return object_of([Section(b'.text', 1, padded(b'')), Section(b'.strtab', 3, b'\0a\0'), Section(b'.symtab', 2, symbol_of(1, 0, 8 * SLOTS), 2),
+                      Section(b'.BTF', 1, table_of(b'\0.text\0' + b'f' * 5000 + b'\0')), Section(b'.BTF.ext', 1, table_of(part))])
+
+
+def sourced(count):
+    """What `list --source` writes of that file: before each slot the last of its lines."""
+    instructions = ['mov64 r2, 0'] * (SLOTS - 2) + ['mov64 r0, 0', 'exit']
+    last = [count - (count - 1 - at) % SLOTS for at in range(SLOTS)]
+    return ''.join(f'; {"f" * 4096}:{last[at]}: {"f" * 255}\n{at}: {it}\n' for at, it in enumerate(instructions))
+
+
 def ledgers(records=0):
     """The last lines of `replay`, where so many records have joined."""
     return ''.join(f'kind {kind} slots {slots} held 0\n' for kind, slots in enumerate((0, records, 0)))
@@ -145,6 +177,12 @@ WORST = [
           0, each('job {} exit 0 executed 4096 peak 0\n', 'a accepted 4096\n', CACHES)),
     Worst('run: jobs with room for blocks', ['run'], line_of('a', 0, 1, SWAPS), lambda _: b'run a -\n',
           0, each('job {} exit 0 executed 2730 peak 0\n', 'a accepted 4094\n', CACHES)),
+    Worst('one: an object file with many symbols', ['one', '--elf', '--function', 'b'], of_symbols(43_000), NO_PART,
+          0, lambda _: 'accepted 2\nexit 0 executed 2 peak 0\n'),
+    Worst('one: an object file with many relocations', ['one', '--elf', '--function', 'a'], of_relocations(65_000), NO_PART,
+          0, lambda _: 'accepted 2\nexit 0 executed 2 peak 0\n'),
+    Worst('list: an object file with many lines', ['list', '--elf', '--source'], of_lines(62_000), NO_PART,
+          0, lambda _: sourced(62_000)),
     Worst('run: jobs with much output', ['run', '--workers', '2'], line_of('a', 0, 0, EMITS), lambda _: b'run a -\n',
           1, lambda _: ''),
 ]
