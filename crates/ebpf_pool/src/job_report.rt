@@ -1,11 +1,12 @@
 //! The report of a job, as it is kept until all jobs are done.
 //!
-//! A short job takes mostly the time of memory that is touched for the first time. So a report has its lists in a box, and none where
-//! only calls were answered, or nothing was: it takes 64 bytes in place of 104.
+//! A short job takes mostly the time of memory that is touched for the first time. So a report takes 32 bytes: its numbers have the
+//! size that a program's bounds leave them, a few answers are in it, and longer lists are in a box.
 
-ghost use Rattle.std.specs.Prelude.{◌≡◌, [], true, None, is_some};
+ghost use Rattle.std.specs.Prelude.{◌≡◌, ◌<◌, true, None, is_some};
 ghost use Rattle.ebpf_pool.specs.JobReports.{lists_in};
 
+use crate::few_answers::{FEW, FewAnswers};
 use ebpf_machine::report::{Answers, Output, Reply, Report, Taken};
 use std::alloc::{AllocError, Global};
 use std::marker::Model;
@@ -39,29 +40,28 @@ impl Lists {
 /// How the lists of a report are kept.
 #[derive(Drop)]
 pub(crate) enum Kept {
-    /// All of them are empty.
-    Empty,
     /// Nothing was added to the output, and nothing was taken off a shelf.
-    Answered(Answers),
+    Answered(FewAnswers),
     All(Box<Lists>),
 }
 
 /// The report of a job. Contracts see it as the [`Report`] of its run.
 #[derive(Drop)]
 pub struct JobReport {
-    exit: Option<u64>,
-    executed: u64,
-    peak: u64,
+    exit: u64,
+    exited: bool,
+    peak: u8,
+    executed: u16,
     lists: Kept,
 }
 
 impl Model for JobReport {
     ghost use Rattle.ebpf_machine.specs.declared.report.Report.{Report};
-    ghost use Rattle.ebpf_pool.specs.JobReports.{report_of, lists_in};
+    ghost use Rattle.ebpf_pool.specs.JobReports.{exit_of, report_of, lists_in};
 
     ghost Value = { Report };
 
-    ghost view = { λ r. report_of r.exit r.executed r.peak (lists_in r.lists) };
+    ghost view = { λ r. report_of (exit_of r.exited r.exit) r.executed r.peak (lists_in r.lists) };
 }
 
 impl JobReport {
@@ -70,16 +70,19 @@ impl JobReport {
         ensures { result.exit ≡ None }
     {
         JobReport {
-            exit: None,
-            executed: 0,
+            exit: 0,
+            exited: false,
             peak: 0,
-            lists: Kept::Empty,
+            executed: 0,
+            lists: Kept::Answered(FewAnswers::of(&[])),
         }
     }
 
     /// A report, which takes the spare box where its lists need one.
     pub(crate) fn of(report: Report, spare: &mut Option<Box<Lists>>) -> JobReport
-        requires { is_some spare.old ≡ true }
+        requires spare { is_some spare.old ≡ true }
+        requires executed { report.executed < 65536 }
+        requires peak { report.peak < 256 }
         ensures { result ≡ report }
     {
         let Report {
@@ -96,9 +99,10 @@ impl JobReport {
             taken,
         };
         JobReport {
-            exit,
-            executed,
-            peak,
+            exit: exit.unwrap_or(0),
+            exited: exit.is_some(),
+            peak: peak as u8,
+            executed: executed as u16,
             lists: lists_kept(lists, spare),
         }
     }
@@ -107,21 +111,21 @@ impl JobReport {
     pub fn exit(&self) -> Option<u64>
         ensures { result ≡ self.now.exit }
     {
-        self.exit
+        if self.exited { Some(self.exit) } else { None }
     }
 
     /// How many instructions the run did.
     pub fn executed(&self) -> u64
         ensures { result ≡ self.now.executed }
     {
-        self.executed
+        u64::from(self.executed)
     }
 
     /// The most objects that the run held at one time.
     pub fn peak(&self) -> u64
         ensures { result ≡ self.now.peak }
     {
-        self.peak
+        u64::from(self.peak)
     }
 
     /// What the run added to its output.
@@ -130,7 +134,7 @@ impl JobReport {
     {
         match &self.lists {
             Kept::All(lists) => &lists.output.numbers,
-            _ => &[],
+            Kept::Answered(_) => &[],
         }
     }
 
@@ -139,8 +143,7 @@ impl JobReport {
         ensures { result.now ≡ self.now.answers }
     {
         match &self.lists {
-            Kept::Empty => &[],
-            Kept::Answered(answers) => &answers.replies,
+            Kept::Answered(few) => few.replies(),
             Kept::All(lists) => &lists.answers.replies,
         }
     }
@@ -151,7 +154,7 @@ impl JobReport {
     {
         match &self.lists {
             Kept::All(lists) => &lists.taken.bytes,
-            _ => &[],
+            Kept::Answered(_) => &[],
         }
     }
 }
@@ -161,23 +164,13 @@ fn lists_kept(lists: Lists, spare: &mut Option<Box<Lists>>) -> Kept
     requires { is_some spare.old ≡ true }
     ensures { lists_in result ≡ lists }
 {
-    if lists.output.numbers.is_empty() && lists.taken.bytes.is_empty() {
-        return without_box(lists.answers);
+    let replies = &lists.answers.replies;
+    if lists.output.numbers.is_empty() && lists.taken.bytes.is_empty() && replies.len() <= FEW {
+        return Kept::Answered(FewAnswers::of(replies));
     }
     let Some(mut room) = spare.take() else {
         unreachable!()
     };
     *room = lists;
     Kept::All(room)
-}
-
-// How answers alone are kept.
-fn without_box(answers: Answers) -> Kept
-    ensures { lists_in result ≡ record { output = []; answers = answers; taken = [] } }
-{
-    if answers.replies.is_empty() {
-        Kept::Empty
-    } else {
-        Kept::Answered(answers)
-    }
 }

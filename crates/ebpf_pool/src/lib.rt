@@ -18,14 +18,15 @@
 //! ebpf_machine, so all that is proved of a run over any store holds over this one; each bundle is drawn once, and each
 //! job is in one bundle.
 //!
-//! To be read in this order: `ledgers`, `hands`, `supply`, `count`, `client`, `owned`, `stock`, `stocks`, `store`, `job_report`, `jobs`, `gate`, `worker`,
-//! `crew`, `outcome`, `admission`, `setup`, `place`, `pool`.
+//! To be read in this order: `ledgers`, `hands`, `supply`, `count`, `client`, `owned`, `stock`, `stocks`, `store`, `few_answers`,
+//! `job_report`, `jobs`, `gate`, `worker`, `crew`, `outcome`, `admission`, `setup`, `place`, `pool`.
 #![tactic(auto)]
 
 mod admission;
 mod client;
 mod count;
 mod crew;
+mod few_answers;
 mod gate;
 mod hands;
 mod job_report;
