@@ -35,7 +35,10 @@ impl FewAnswers {
         ensures { result ≡ answers.now }
     {
         let mut replies = [Reply::Null; FEW];
-        replies[..answers.len()].copy_from_slice(answers);
+        // Most runs were answered nothing, and a copy is a call.
+        if !answers.is_empty() {
+            replies[..answers.len()].copy_from_slice(answers);
+        }
         FewAnswers {
             count: answers.len() as u8,
             replies,
