@@ -47,7 +47,7 @@ typedef struct ebpf_machine { void *word; } ebpf_machine;
 
 /* Why bytes are refused. */
 typedef struct ebpf_refusal {
-    char code[4];    /* the code, as "V8", with zeros behind it */
+    char code[4];    /* the code, as "V8", followed by zeros */
     uint32_t slot;   /* the lowest slot of eight bytes that is at fault */
     uint64_t length; /* how many bytes the sentence has */
 } ebpf_refusal;
@@ -65,18 +65,18 @@ typedef struct ebpf_report {
     bool exited;       /* whether it exited within the limit */
 } ebpf_report;
 
-/* Loads a program: its raw instruction slots, eight bytes each, as its text section has them. It is to be run on contexts of this many
- * bytes, 0 to 4096, and may hold so many objects at one time, 0 to 64. What the handle held before is freed.
+/* Loads a program: its raw instruction slots, eight bytes each, as its text section has them. It is to be run on contexts of context
+ * bytes, 0 to 4096, and may hold at most held objects at one time, 0 to 64. What the handle held before is freed.
  *
  * EBPF_REFUSED: the bytes are refused; *refusal says by which code and where, and text begins with a sentence that says why, a line indented by
- * two blanks, as far as text_length bytes have room, with no zero behind it. 1,024 bytes are mostly enough. EBPF_DECLARATION, EBPF_NO_MEMORY. */
+ * two blanks, as far as text_length bytes have room; no zero ends it. 1,024 bytes are mostly enough. EBPF_DECLARATION, EBPF_NO_MEMORY. */
 ebpf_status ebpf_program_load(ebpf_program *program, const uint8_t *bytes, size_t length, uint32_t context, uint8_t held,
                               char *text, size_t text_length, ebpf_refusal *refusal);
 
 /* Frees a program. The handle is empty then. */
 void ebpf_program_free(ebpf_program *program);
 
-/* Makes a machine, whose objects lie on up to so many pages of 4,096 bytes, 1 to 256; a page is allocated when it is first needed. What
+/* Makes a machine, whose objects are on at most that many pages of 4,096 bytes, 1 to 256; a page is allocated when it is first needed. What
  * the handle held before is freed. EBPF_PAGES, EBPF_NO_MEMORY. */
 ebpf_status ebpf_machine_new(ebpf_machine *machine, uint32_t pages);
 

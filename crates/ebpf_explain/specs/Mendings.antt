@@ -1,5 +1,5 @@
 -- What would mend a refused slot, as text.
-use Rattle.std.specs.Prelude.{ℕ, ℤ, pos, negsuc, List, codes, Option, Some, None, unwrap_or}
+use Rattle.std.specs.Prelude.{ℕ, ℤ, pos, ◌-ℤ◌, List, codes, Option, Some, None, unwrap_or}
 use Rattle.ebpf_insn.specs.declared.insn.Insn.{Insn}
 use Rattle.ebpf_insn.specs.declared.insn.Insn.TheVariants as insn
 use Rattle.ebpf_state.specs.declared.kinds.KindRow.{KindRow}
@@ -55,7 +55,7 @@ plain_mending i PathsDiffer = codes "before they meet, free what only one of the
 
 -- the bytes of the stack, from the frame pointer
 abbrev pub stack_ends : Ends
-stack_ends = record { low = negsuc 511; high = pos 0 }
+stack_ends = record { low = pos 0 -ℤ pos 512; high = pos 0 }
 
 -- n bytes, from the first of them
 abbrev pub ends_of : ℕ → Ends

@@ -4,7 +4,8 @@ use Rattle.std.specs.Prelude.{List, IfSome, IfNone}
 use Rattle.ebpf_insn.specs.Program.{instructions}
 use Rattle.ebpf_verify.specs.Subject.{Subject}
 use Rattle.ebpf_machine.specs.declared.report.Report.{Report}
-use Rattle.ebpf_machine.specs.Alone.{Replies, alone_after, replies_in}
+use Rattle.ebpf_machine.specs.Alone.{Replies, alone_after}
+use Rattle.ebpf_machine.specs.Replies.{replies_in}
 use Rattle.ebpf_machine.specs.RunState.{RunState, first_state_of, status_of}
 use Rattle.ebpf_machine.specs.Step.{IsGivenUp, seen_in}
 use Rattle.ebpf_machine.specs.Store.{Store}

@@ -5,7 +5,8 @@ use Rattle.std.specs.List.{find}
 use Rattle.ebpf_verify.specs.Subject.{Subject}
 use Rattle.ebpf_machine.specs.declared.holding.Holding.{Holding}
 use Rattle.ebpf_machine.specs.declared.report.Report.{Report}
-use Rattle.ebpf_machine.specs.Alone.{Replies, alone_after, more_than, replies_from, replies_in, replies_of}
+use Rattle.ebpf_machine.specs.Alone.{Replies, alone_after, replies_from}
+use Rattle.ebpf_machine.specs.Replies.{more_than, replies_in, replies_of}
 use Rattle.ebpf_machine.specs.Effect.{Nothing, Write, Ask, Free, Exchange, Effect, Goes, Ends, Traps}
 use Rattle.ebpf_machine.specs.RunState.{RunState, object_seen, status_of}
 use Rattle.ebpf_machine.specs.Shelves.{shelf_done, shelved_from, standing_after}

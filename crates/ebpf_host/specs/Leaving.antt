@@ -3,7 +3,8 @@ use Rattle.std.specs.Prelude.{◌≡◌, ◌==◌, ℕ, zero, suc, List, Option,
 use Rattle.std.specs.List.{find}
 use Rattle.ebpf_verify.specs.Subject.{Subject}
 use Rattle.ebpf_machine.specs.declared.report.Report.{Report}
-use Rattle.ebpf_machine.specs.Alone.{Replies, alone_after, replies_in}
+use Rattle.ebpf_machine.specs.Alone.{Replies, alone_after}
+use Rattle.ebpf_machine.specs.Replies.{replies_in}
 use Rattle.ebpf_machine.specs.Shelves.{shelf_done}
 use Rattle.ebpf_machine.specs.Store.{Store, Shelved}
 use Rattle.ebpf_machine.specs.View.{RunView, view_in, effect_of_view}

@@ -3,7 +3,8 @@ use Rattle.std.specs.Prelude.{◌≡◌, ◌≤◌, ℕ, List, length, Some, IfS
 use Rattle.ebpf_insn.specs.Program.{instructions}
 use Rattle.ebpf_verify.specs.Subject.{Subject}
 use Rattle.ebpf_machine.specs.declared.report.Report.{Report}
-use Rattle.ebpf_machine.specs.Alone.{alone_after, replies_in}
+use Rattle.ebpf_machine.specs.Alone.{alone_after}
+use Rattle.ebpf_machine.specs.Replies.{replies_in}
 use Rattle.ebpf_machine.specs.View.{RunView, view_in}
 use Rattle.ebpf_machine.specs.World.{Going}
 use Rattle.ebpf_machine.specs.Whole.{IsReportOf}

@@ -4,11 +4,9 @@ use Rattle.ebpf_insn.specs.Program.{instructions}
 use Rattle.ebpf_verify.specs.Subject.{Subject}
 use Rattle.ebpf_machine.specs.declared.report.Reply.{Reply}
 use Rattle.ebpf_machine.specs.declared.report.Reply.TheVariants as reply
-use Rattle.ebpf_machine.specs.declared.report.Report.{Report}
-use Rattle.ebpf_machine.specs.View.{RunView}
 use Rattle.ebpf_machine.specs.declared.answer.Answer.{Answer}
 use Rattle.ebpf_machine.specs.declared.answer.Answer.TheVariants.{Absent, Null, Slot}
-use Rattle.ebpf_machine.specs.World.{World, Running, Status, Going, Exited, Owner, Shelf, Kind, kinds_of, image_at, kind_in, standing, first_run, holds_of}
+use Rattle.ebpf_machine.specs.World.{World, Running, Status, Going, Owner, Shelf, Kind, kinds_of, image_at, kind_in, standing, first_run, holds_of}
 use Rattle.ebpf_machine.specs.Events.{Illegal, Asking, Unasked, OfKind, AtShelf, asking_of, with_bytes, with_owner, without_shelved, with_slot_joined, with_slot_left, exec}
 
 -- the world of one run, and the most objects that it held at one time
@@ -67,17 +65,6 @@ pub record Replies : Type 0 where
 abbrev pub replies_from : List Reply → List ℕ → Replies
 replies_from answers taken = record { answers = answers; taken = taken }
 
--- with more after them
-abbrev pub more_than : Replies → Replies → Replies
-more_than replies more = replies_from (replies.answers ++ more.answers) (replies.taken ++ more.taken)
-
--- a run's own, and those of a report
-abbrev pub replies_of : RunView → Replies
-replies_of v = replies_from v.replies v.taken
-
-abbrev pub replies_in : Report → Replies
-replies_in r = replies_from r.answers r.taken
-
 -- they are read by index: as many were used as the run made calls, and as many bytes as it took off shelves
 abbrev pub fed_to : World → Running → Replies → Fed
 fed_to w r replies = fed (asking_of w r) (slice_get replies.answers (length r.calls)) (drop (length r.taken) replies.taken) (length r.calls) w
@@ -112,7 +99,3 @@ outcome_of a = outcome_in (slice_get a.world.runs 0) a.peak
 -- the outcome of the run alone: no run goes on for longer than its program has instructions
 abbrev pub outcome_alone : Subject → List ℕ → Replies → Outcome
 outcome_alone subject context replies = outcome_of (alone_after (length (instructions subject.program)) subject context replies)
-
--- the outcome that a report gives of a run that exited with this number
-abbrev pub outcome_in_report : ℕ → Report → Outcome
-outcome_in_report n r = record { status = Exited n; output = r.output; executed = r.executed; peak = r.peak }

@@ -11,6 +11,7 @@ pub mod Kinds
 pub mod Events
 pub mod View
 pub mod Alone
+pub mod Replies
 pub mod RunState
 pub mod Store
 pub mod Shelves

@@ -15,7 +15,8 @@ use Rattle.ebpf_machine.specs.declared.value.Cell.TheVariants.{Part}
 use Rattle.ebpf_machine.specs.Values.{Frame, read}
 use Rattle.ebpf_machine.specs.Effect.{Effect, Goes, Ends, Traps}
 use Rattle.ebpf_machine.specs.World.{Name, Status, Going, Exited, Trapped, World, Running, Owner, Run, IsOfKind, kinds_of, image_at, is_in, Kind, is_home_in, kind_from}
-use Rattle.ebpf_machine.specs.Alone.{replies_from, replies_of, alone_after}
+use Rattle.ebpf_machine.specs.Alone.{replies_from, alone_after}
+use Rattle.ebpf_machine.specs.Replies.{replies_of}
 use Rattle.ebpf_machine.specs.View.{RunView, view_in}
 use Rattle.ebpf_machine.specs.RunState.{RunState, seen}
 use Rattle.ebpf_machine.specs.Concretization.{Arrives, calls_of}

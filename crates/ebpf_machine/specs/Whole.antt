@@ -6,7 +6,8 @@ use Rattle.ebpf_machine.specs.declared.report.Reply.{Reply}
 use Rattle.ebpf_machine.specs.declared.report.Reply.TheVariants.{Null, Granted, Empty, Shelf}
 use Rattle.ebpf_machine.specs.declared.report.Report.{Report}
 use Rattle.ebpf_machine.specs.World.{Running}
-use Rattle.ebpf_machine.specs.Alone.{Replies, alone_after, more_than, outcome_alone, outcome_in_report, replies_from, replies_in}
+use Rattle.ebpf_machine.specs.Alone.{Replies, alone_after, outcome_alone, replies_from}
+use Rattle.ebpf_machine.specs.Replies.{more_than, outcome_in_report, replies_in}
 
 -- ---- what a store counts
 

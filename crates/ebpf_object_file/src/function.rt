@@ -118,8 +118,8 @@ fn function_at<'a>(functions: Functions<'a>, number: usize) -> Result<Function<'
 ///
 /// # Errors
 /// The first fault: a name of more than 255 bytes, then those of [`functions_of`], no such function, and those of the
-/// function itself: bytes that aren't whole slots, the faults of its relocations, the first relocation that reaches it, and the first
-/// call of another function.
+/// function itself. These are bytes that aren't whole slots, the faults of its relocations, the first relocation that reaches it, and
+/// the first call of another function.
 pub fn function_named<'a>(file: &'a [u8], name: &[u8]) -> Result<Function<'a>, ObjectFault<'a>>
     ensures found { IfOk result (λ f. IsNamed file.now name.now f × IsAlone file.now f) }
     ensures refused { IfErr result (λ e. IsNamedFault file.now name.now e) }

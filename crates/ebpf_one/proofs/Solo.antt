@@ -11,7 +11,8 @@ use Rattle.ebpf_machine.specs.declared.report.Reply.{Reply}
 use Rattle.ebpf_machine.specs.declared.report.Report.{Report}
 use Rattle.ebpf_machine.specs.World.{World, Running, Going, Exited, kinds_of, held_by, holds_of, is_in, shelved_in}
 use Rattle.ebpf_machine.specs.Events.{Illegal, RunEnded, Asking, Unasked, OfNoKind, OfKind, AtShelf, answer_fault, asking_of, exec}
-use Rattle.ebpf_machine.specs.Alone.{Alone, Fed, Outcome, advanced, alone_after, alone_first, outcome_alone, outcome_in_report, outcome_of, replies_from, replies_in, replies_of}
+use Rattle.ebpf_machine.specs.Alone.{Alone, Fed, Outcome, advanced, alone_after, alone_first, outcome_alone, outcome_of, replies_from}
+use Rattle.ebpf_machine.specs.Replies.{outcome_in_report, replies_in, replies_of}
 use Rattle.ebpf_machine.specs.View.{RunView, object_in, view_of, view_in, effect_of_view, stepped}
 use Rattle.ebpf_machine.specs.RunState.{RunState, first_state_of, seen, status_of}
 use Rattle.ebpf_machine.specs.Store.{Store}

@@ -35,12 +35,12 @@ shown_byte byte = if is_ascii_graphic byte then byte ∷ [] else codes "0x" ++ h
 -- how it is mended: bytes that don't print are likely to be those of the program
 abbrev pub mending_of : Part → ℕ → List ℕ
 mending_of Context byte = codes "leave out 0x, commas and blanks"
-mending_of Input byte = if is_ascii_graphic byte then codes "leave out 0x and commas" else codes "--raw reads the bytes of a program, and xxd -p makes hex of them"
+mending_of Input byte = if is_ascii_graphic byte then codes "leave out 0x and commas" else codes "use --raw for raw bytes, or xxd -p to turn them into hex"
 
 abbrev pub other_byte : Part → ℕ → ℕ → List ℕ
 other_byte part place byte =
     codes "byte " ++ (decimal place ++ (codes " of the " ++ (part_name part ++ (codes " is "
-    ++ (shown_byte byte ++ (codes ", and no hex digit: " ++ mending_of part byte))))))
+    ++ (shown_byte byte ++ (codes ", not a hex digit: " ++ mending_of part byte))))))
 
 abbrev pub odd_digits : Part → ℕ → List ℕ
 odd_digits part digits = codes "the " ++ (part_name part ++ (codes " has an odd number of hex digits, " ++ (decimal digits ++ codes ": two make a byte")))
@@ -69,7 +69,7 @@ abbrev pub is_object : List ℕ → Bool
 is_object bytes = starts_with nat_eq bytes (127 ∷ 69 ∷ 76 ∷ 70 ∷ [])
 
 abbrev pub object_words : List ℕ
-object_words = codes "the input is an object file: --elf takes a function of it"
+object_words = codes "the input is an object file: --elf reads a function from it"
 
 -- the input is an object file or no hex, or else the context is no hex
 abbrev pub unread_of : Form → (input context : List ℕ) → List ℕ

@@ -14,7 +14,7 @@ use ebpf_verify::decl::MAX_HELD;
 use std::alloc::{AllocError, Global};
 
 // What is said of an object file.
-const OBJECT_WORDS: &str = "the input is an object file: --elf takes a function of it";
+const OBJECT_WORDS: &str = "the input is an object file: --elf reads a function from it";
 
 /// What is read as hex.
 #[derive(Clone, Copy)]
@@ -165,7 +165,7 @@ fn write_other_byte(text: &mut String, part: Part, place: usize, byte: u8) -> Re
     let name = part.name();
     write!(text, "byte {place} of the {name} is ")?;
     write_byte(text, byte)?;
-    text.push_str(", and no hex digit: ")?;
+    text.push_str(", not a hex digit: ")?;
     text.push_str(part.mending_of(byte))
 }
 
@@ -240,7 +240,7 @@ impl Part {
         match self {
             Part::Context => "leave out 0x, commas and blanks",
             Part::Input if byte.is_ascii_graphic() => "leave out 0x and commas",
-            Part::Input => "--raw reads the bytes of a program, and xxd -p makes hex of them",
+            Part::Input => "use --raw for raw bytes, or xxd -p to turn them into hex",
         }
     }
 }

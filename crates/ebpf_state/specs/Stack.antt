@@ -1,5 +1,5 @@
 -- What a load from the stack reads and what a store to it leaves, by what is known of its words.
-use Rattle.std.specs.Prelude.{◌≡◌, is_ok, ℕ, ◌+◌, ◌-◌, ◌*◌, ◌/◌, ◌%◌, ◌^◌, min, ℤ, pos, negsuc, ◌+ℤ◌, int_le, nat_abs, Bool, true, false, not, ◌&&◌, ◌||◌}
+use Rattle.std.specs.Prelude.{◌≡◌, is_ok, ℕ, ◌+◌, ◌-◌, ◌*◌, ◌/◌, ◌%◌, ◌^◌, min, ℤ, pos, ◌+ℤ◌, ◌-ℤ◌, int_le, nat_abs, Bool, true, false, not, ◌&&◌, ◌||◌}
 use Rattle.std.specs.Prelude.{◌==◌, if◌then◌else◌, bit_and, bit_or, List, [], ◌∷◌, slice_index_or, slice_set, Option, Some, None, Result, Ok, Err}
 use Rattle.ebpf_insn.specs.declared.insn.Size.{Size}
 use Rattle.ebpf_insn.specs.declared.insn.Size.TheVariants as size
@@ -27,7 +27,7 @@ bytes_in size.D = 8
 
 -- where the bytes at an offset from the frame pointer begin, among the 512 of the stack; nowhere where one of them is outside
 abbrev pub place_of : ℤ → ℕ → Option ℕ
-place_of offset bytes = if int_le (negsuc 511) offset && int_le (offset +ℤ pos bytes) (pos 0) then Some (nat_abs (offset +ℤ pos 512)) else None
+place_of offset bytes = if int_le (pos 0 -ℤ pos 512) offset && int_le (offset +ℤ pos bytes) (pos 0) then Some (nat_abs (offset +ℤ pos 512)) else None
 
 -- the bytes are an aligned word
 abbrev pub is_whole_word : ℕ → ℕ → Bool

@@ -1,6 +1,6 @@
--- The main theorem: for every legal list of events no run traps, each computes what it computes alone with the same
--- answers and executes at most as many instructions as its program has, none holds more objects than it declared or exits
--- holding one, and no object is held twice, no shelf has two, and none is missing from the ledger of its kind.
+-- The main theorem, for every legal list of events. No run traps. Each computes what it computes alone with the same
+-- answers, and executes at most as many instructions as its program has. None holds more objects than it declared, or
+-- exits holding one. No object is held twice, no shelf has two, and none is missing from the ledger of its kind.
 use Rattle.std.specs.Prelude.{◌≡◌, ◌≤◌, ℕ, ◌==◌, if◌then◌else◌, Bool, false, true, List, [], ◌∷◌, length, map, filter, take, count_by, Contains, Some, Ok, slice_get}
 use Rattle.std.specs.List.{flat_map}
 use Rattle.ebpf_insn.specs.Program.{instructions}

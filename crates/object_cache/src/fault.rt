@@ -9,6 +9,6 @@ pub enum TakeFault {
     #[error("no page is free")]
     NoSpan,
     /// The objects of one more page found no memory, and the page went back.
-    #[error("no memory")]
+    #[error("out of memory")]
     NoMemory,
 }

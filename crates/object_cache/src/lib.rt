@@ -2,8 +2,8 @@
 //!
 //! *The idea.* An allocator with Bonwick's slabs below and Bonwick and Adams' magazines above (1994; 2001). Each worker
 //! takes and gives objects by a [`Hand`] of its own, which keeps some ready objects in a layer of two magazines, and asks
-//! nobody. Where the layer can't serve, the hand goes to the [`Cache`]: there lies a depot of magazines, in parts, of which
-//! one is the hand's home; and below it, under one lock, the slabs, whose pages come from an arena under a lock of its own,
+//! nobody. Where the layer can't serve, the hand goes to the [`Cache`]. That has a depot of magazines, in parts, of which
+//! one is the hand's home, and below it the slabs, under one lock. Their pages come from an arena under a lock of its own,
 //! the [`ArenaLock`], which several caches share. A reaper gives pages with nothing out back to it.
 //!
 //! *The order.* To take: a round of the layer; else a full magazine of the depot; else an object of the slabs, which grow

@@ -123,8 +123,8 @@ impl Tickets {
     }
 
     /// Ends the tickets. Where the limit and the number of seats add up to less than 2^64, so that the word never wraps, no
-    /// number was drawn twice; and where besides these are all the seats that were made and one of them was answered `None`,
-    /// each number below the limit was drawn.
+    /// number was drawn twice. If these are also all the seats that were made, and one of them was answered `None`, then each
+    /// number below the limit was drawn.
     pub fn close(self, seats: Vec<TicketSeat>)
         requires { All (IsOf self) seats.items }
         ensures once { NeverWraps self.limit self.seats → (x : ℕ) → times_drawn x seats.items ≤ 1 }

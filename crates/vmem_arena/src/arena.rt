@@ -2,7 +2,7 @@
 //!
 //! *The idea* (Bonwick and Adams 2001, "Vmem"). A resource of numbered pages is cut into segments: runs of
 //! pages that are all free, or that one span has. To take a span is to cut it off the lower end of a free
-//! segment, found by its size; to give one back is to mark its segment as free and to merge it with the
+//! segment, found by its size. To give one back is to mark its segment as free and to merge it with the
 //! neighbours that are free, found by the tags at its ends.
 //!
 //! *The invariant.* The segments tile the arena: the first begins at page 0, each next one where the one

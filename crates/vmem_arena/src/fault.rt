@@ -12,7 +12,7 @@ pub enum ArenaFault {
     #[error("an arena has 1 to 256 pages")]
     Pages,
     /// The table of segments found no memory.
-    #[error("no memory")]
+    #[error("out of memory")]
     NoMemory,
 }
 

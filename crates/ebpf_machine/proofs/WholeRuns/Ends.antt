@@ -5,7 +5,8 @@ use Rattle.std.proofs.lemmas.List.{append-nil}
 use Rattle.ebpf_verify.specs.Subject.{Subject}
 use Rattle.ebpf_machine.specs.declared.report.Reply.{Reply}
 use Rattle.ebpf_machine.specs.declared.report.Report.{Report}
-use Rattle.ebpf_machine.specs.Alone.{Replies, outcome_alone, outcome_in_report, more_than, replies_from, replies_in, replies_of}
+use Rattle.ebpf_machine.specs.Alone.{Replies, outcome_alone, replies_from}
+use Rattle.ebpf_machine.specs.Replies.{outcome_in_report, more_than, replies_in, replies_of}
 use Rattle.ebpf_machine.specs.World.{Exited}
 use Rattle.ebpf_machine.specs.View.{RunView}
 use Rattle.ebpf_machine.specs.RunState.{RunState, status_of}

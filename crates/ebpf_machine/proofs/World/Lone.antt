@@ -16,7 +16,8 @@ use Rattle.ebpf_machine.specs.declared.answer.Answer.{Answer}
 use Rattle.ebpf_machine.specs.declared.answer.Answer.TheVariants.{Absent, Null, Slot}
 use Rattle.ebpf_machine.specs.World.{World, Running, Kind, AnsweredCall, Owner, Status, Going, Exited, Trapped, standing, is_shelf, is_in, held_by, holds_of, first_run, image_at, kinds_of}
 use Rattle.ebpf_machine.specs.Events.{Asking, Unasked, OfNoKind, OfKind, AtShelf, asking_of, exec}
-use Rattle.ebpf_machine.specs.Alone.{Alone, Fed, cleared, bytes_for, shelved, fed, fed_to, advanced, alone_first, alone_by, alone_next, alone_after, outcome_of, outcome_alone, Replies, replies_from, replies_of, more_than}
+use Rattle.ebpf_machine.specs.Alone.{Alone, Fed, cleared, bytes_for, shelved, fed, fed_to, advanced, alone_first, alone_by, alone_next, alone_after, outcome_of, outcome_alone, Replies, replies_from}
+use Rattle.ebpf_machine.specs.Replies.{replies_of, more_than}
 use Rattle.ebpf_machine.specs.Whole.{told_to, told_alone}
 use Rattle.ebpf_machine.specs.View as view
 use Rattle.ebpf_machine.specs.View.{RunView, object_in, view_of, view_in, without_given, done_by, effect_of_view, stepped, CallResult, reply_in}

@@ -9,7 +9,8 @@ use Rattle.ebpf_machine.specs.declared.report.Reply.TheVariants as reply
 use Rattle.ebpf_machine.specs.Effect.{Nothing, Write, Ask, Free, Exchange, Effect, Goes, Ends, Traps}
 use Rattle.ebpf_machine.specs.World.{Status, Going}
 use Rattle.ebpf_machine.specs.Events.{Unasked}
-use Rattle.ebpf_machine.specs.Alone.{Replies, replies_from, replies_of, more_than}
+use Rattle.ebpf_machine.specs.Alone.{Replies, replies_from}
+use Rattle.ebpf_machine.specs.Replies.{replies_of, more_than}
 use Rattle.ebpf_machine.specs.View.{RunView, environment_of_view, done_by, effect_of_view, stepped_from, stepped, answered, exchanged, without_given, CallResult, Null, Granted, Empty, Shelved, reply_in}
 use Rattle.ebpf_machine.specs.Step.{asking_in}
 use Rattle.ebpf_machine.proofs.World.Asking.{AsksNew, AsksShelf, asked_goes}
