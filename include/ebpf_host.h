@@ -23,7 +23,7 @@
 #include <stddef.h>
 #include <stdint.h>
 
-/* The version that this header is of. */
+/* The version of this header, and of the library that it is for. */
 #define EBPF_HOST_VERSION "0.1.0"
 #define EBPF_HOST_VERSION_MAJOR 0
 #define EBPF_HOST_VERSION_MINOR 1
