@@ -23,6 +23,12 @@
 #include <stddef.h>
 #include <stdint.h>
 
+/* The version of this header, and of the library that it is for. */
+#define EBPF_HOST_VERSION "0.1.0"
+#define EBPF_HOST_VERSION_MAJOR 0
+#define EBPF_HOST_VERSION_MINOR 1
+#define EBPF_HOST_VERSION_PATCH 0
+
 #ifdef __cplusplus
 extern "C" {
 #endif

@@ -8,7 +8,7 @@
 #include <stdlib.h>
 #include <string.h>
 
-#include "../../include/ebpf_host.h"
+#include <ebpf_host.h>
 
 enum { CONTEXT = 24, LONGEST = 65535, MAX_PROGRAM = 32768 };
 

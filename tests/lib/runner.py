@@ -20,8 +20,9 @@ from pathlib import Path
 from typing import NamedTuple
 
 TOP = Path(__file__).resolve().parents[2]
-NEEDED = {'gcc', 'g++', 'valgrind'}  # each is the name of Debian's package too
-USEFUL = {'parallel', 'perl'}  # what needs it is left out where it isn't there
+NEEDED = {'gcc', 'g++', 'valgrind'}
+USEFUL = {'parallel', 'perl', 'pkg-config', 'man', 'bwrap', 'dh', 'lintian'}  # what needs it is left out where it isn't there
+PACKAGES = {'man': 'man-db', 'bwrap': 'bubblewrap', 'dh': 'debhelper'}  # of Debian; each other has the tool's name
 
 
 class Test(NamedTuple):
@@ -44,7 +45,7 @@ TESTS = [
     *[script(name, True) for name in ('command-line', 'docs', 'commands', 'examples', 'steps', 'lay-out', 'compiled', 'object-files', 'orders', 'streams')],
     script('want-of-memory'),
     *[script(name, True) for name in ('large-inputs', 'worst', 'fuzz', 'stats', 'run-many')],
-    script('host'), script('unproved'), script('first-call'), script('benches'), script('reading-list'),
+    script('host'), script('install'), script('unproved'), script('first-call'), script('benches'), script('reading-list'),
 ]
 
 
@@ -79,13 +80,18 @@ def install(packages):
     subprocess.run(words, env=os.environ | {'DEBIAN_FRONTEND': 'noninteractive'}, stdin=subprocess.DEVNULL, capture_output=True, check=False)
 
 
+def packages_of(tools):
+    """The packages that have these tools."""
+    return [PACKAGES.get(tool, tool) for tool in tools]
+
+
 def has_tools():
     """Whether the tools that the tests need are there, or could be installed."""
     if missing():
-        install(missing())
+        install(packages_of(missing()))
     lacking = missing()
     if lacking:
-        print(f'test: there is no {", ".join(lacking)}: sudo apt-get install -y {" ".join(lacking)}', file=sys.stderr)
+        print(f'test: there is no {", ".join(lacking)}: sudo apt-get install -y {" ".join(packages_of(lacking))}', file=sys.stderr)
     return not NEEDED & set(lacking)
 
 
