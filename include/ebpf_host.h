@@ -37,7 +37,7 @@ extern "C" {
 typedef uint32_t ebpf_status;
 enum {
     EBPF_DONE = 0,        /* it did what it says */
-    EBPF_REFUSED = 1,     /* the bytes are no program that can be run: see ebpf_refusal */
+    EBPF_REFUSED = 1,     /* the bytes are or have no program that can be run: see ebpf_refusal */
     EBPF_DECLARATION = 2, /* more than 4,096 bytes of context, or more than 64 objects, are declared */
     EBPF_PAGES = 3,       /* a machine has 1 to 256 pages */
     EBPF_CONTEXT = 4,     /* the context doesn't have the length that the program declares */
@@ -53,8 +53,13 @@ typedef struct ebpf_machine { void *word; } ebpf_machine;
 
 /* Why bytes are refused. */
 typedef struct ebpf_refusal {
+<<<<<<< HEAD
     char code[4];    /* the code, as "V8", followed by zeros */
     uint32_t slot;   /* the lowest slot of eight bytes that is at fault */
+=======
+    char code[4];    /* the code, as "V8" or "O1", with zeros behind it */
+    uint32_t slot;   /* the lowest slot of eight bytes that is at fault, 0 for O1 to O3 */
+>>>>>>> h1
     uint64_t length; /* how many bytes the sentence has */
 } ebpf_refusal;
 
@@ -78,6 +83,15 @@ typedef struct ebpf_report {
  * two blanks, as far as text_length bytes have room; no zero ends it. 1,024 bytes are mostly enough. EBPF_DECLARATION, EBPF_NO_MEMORY. */
 ebpf_status ebpf_program_load(ebpf_program *program, const uint8_t *bytes, size_t length, uint32_t context, uint8_t held,
                               char *text, size_t text_length, ebpf_refusal *refusal);
+
+/* Loads a function of an object file that a compiler made (clang -target bpfel -c), whose bytes are given: the function of that name, or
+ * the file's only function where name_length is 0. Its slots are loaded as by ebpf_program_load.
+ *
+ * EBPF_REFUSED also where the file has no such program, with the code O1 where the file can't be read, O2 where no function has the name, O3
+ * where no name is given and there are several functions, and O4 where a slot needs another part of the file. The file is judged before
+ * the declaration. */
+ebpf_status ebpf_program_load_elf(ebpf_program *program, const uint8_t *bytes, size_t length, const char *name, size_t name_length,
+                                  uint32_t context, uint8_t held, char *text, size_t text_length, ebpf_refusal *refusal);
 
 /* Frees a program. The handle is empty then. */
 void ebpf_program_free(ebpf_program *program);

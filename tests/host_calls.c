@@ -1,6 +1,6 @@
 /* Each function of include/ebpf_host.h with each of its statuses; programs that are refused, each with its code, from the file that is the
- * argument; handles that go from one thread to another; and each allocation refused in turn: malloc and realloc are those below, by the
- * linker's --wrap. */
+ * first argument; functions of the object files that are the others; handles that go from one thread to another; and each allocation
+ * refused in turn: malloc and realloc are those below, by the linker's --wrap. */
 #include <assert.h>
 #include <pthread.h>
 #include <stdio.h>
@@ -141,6 +141,76 @@ static void a_short_text(void) {
     assert(!memcmp(room, "  sl..", 6));
 }
 
+static uint8_t object[1 << 14];
+static size_t object_length;
+
+static void read_object(const char *path) {
+    FILE *file = fopen(path, "rb");
+    assert(file);
+    object_length = fread(object, 1, sizeof object, file);
+    assert(feof(file));
+    fclose(file);
+}
+
+static ebpf_status load_function(const char *name, uint32_t context, uint8_t held) {
+    memset(&refusal, 0xff, sizeof refusal);
+    return ebpf_program_load_elf(&program, object, object_length, name, strlen(name), context, held, text, sizeof text, &refusal);
+}
+
+/* whether a function is refused with a code, at a slot, with a line that begins so */
+static int refuses(const char *name, uint32_t context, const char *code, uint32_t slot, const char *line) {
+    return load_function(name, context, 0) == EBPF_REFUSED && !strncmp(refusal.code, code, 4) && refusal.slot == slot &&
+           refusal.length < sizeof text && text[refusal.length - 1] == '\n' && !strncmp(text, line, strlen(line));
+}
+
+/* functions with a name and without, the faults of a file, and those of its slots; the files are two.o, table.o, call.o and checksum.o */
+static void each_object(char **paths) {
+    const char *numbers = "01000000050000000300000004000000";
+    assert(ebpf_machine_new(&machine, 1) == EBPF_DONE);
+    read_object(paths[0]);
+    assert(load_function("checksum", 16, 0) == EBPF_DONE && run(numbers, 100) == EBPF_DONE && report.exit == 13);
+    assert(load_function("largest", 16, 64) == EBPF_DONE && run(numbers, 100) == EBPF_DONE && report.exit == 5);
+    assert(load_function("checksum", 4097, 0) == EBPF_DECLARATION && load_function("checksum", 16, 65) == EBPF_DECLARATION);
+    assert(refuses("", 16, "O3", 0, "  the file has more than one function: name one of checksum, largest\n"));
+    assert(refuses("larges", 4097, "O2", 0, "  the file has no function of that name; it has checksum, largest\n"));
+    assert(refuses("largest", 15, "V8", 7, "  slot 7 reads 4 bytes"));
+    object_length = 63;
+    assert(refuses("largest", 16, "O1", 0, "  the file has fewer than the 64 bytes of an ELF header\n"));
+    object_length = 0;
+    assert(refuses("", 16, "O1", 0, "  the file has fewer than the 64 bytes of an ELF header\n"));
+    char room[6] = "......";
+    assert(ebpf_program_load_elf(&program, object, 0, "", 0, 16, 0, room, 4, &refusal) == EBPF_REFUSED && !memcmp(room, "  th..", 6));
+    read_object(paths[1]);
+    assert(refuses("", 1, "O4", 3, "  slot 3 uses weights, a table outside the function: "));
+    read_object(paths[2]);
+    assert(refuses("entry", 12, "O4", 3, "  slot 3 calls twice, a function of the file: "));
+    assert(run(numbers, 100) == EBPF_DONE && report.exit == 5); /* what was loaded last is kept */
+    read_object(paths[3]);
+    assert(load_function("", 20, 0) == EBPF_DONE && run(numbers, 100) == EBPF_CONTEXT);
+    ebpf_machine_free(&machine);
+    ebpf_program_free(&program);
+}
+
+/* The load of a function with n allocations served answers want of memory and leaves the handle empty, or answers this. Whether one
+ * was refused. */
+static int function_served(const char *name, long allocations, ebpf_status status) {
+    refused = 0;
+    left = allocations;
+    ebpf_status loaded = load_function(name, 16, 0);
+    left = -1;
+    assert(refused ? loaded == EBPF_NO_MEMORY : loaded == status);
+    assert((loaded == EBPF_DONE) == !!program.word);
+    ebpf_program_free(&program);
+    return refused;
+}
+
+/* The allocations of the load of a function, one after another, are refused. How many there are. */
+static long each_allocation(const char *name, ebpf_status status) {
+    long allocations = 0;
+    while (function_served(name, allocations, status)) allocations++;
+    return allocations;
+}
+
 static void *on_another_thread(void *unused) {
     (void)unused;
     assert(run("", 100) == EBPF_DONE && report.exit == 5);
@@ -175,14 +245,19 @@ static int served(long allocations) {
 }
 
 int main(int count, char **words) {
-    assert(count == 2);
+    assert(count == 6);
     each_status();
     unsigned refusals = each_refusal(words[1]);
     a_short_text();
+    each_object(words + 2);
     one_thread_after_another();
     long allocations = 0;
     while (served(allocations)) allocations++;
     assert(allocations > 10);
+    read_object(words[2]);
+    long loads = each_allocation("largest", EBPF_DONE), faults = each_allocation("", EBPF_REFUSED);
+    assert(loads > 5 && faults > 0);
+    allocations += loads + faults;
     printf("host: %u refused programs, %ld refused allocations\n", refusals, allocations);
     return 0;
 }

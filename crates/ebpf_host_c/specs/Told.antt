@@ -25,14 +25,18 @@ is_empty Granted = false
 abbrev pub copied : {X : Type 0} → List X → List X → List X
 copied items room = take (length room) items ++ drop (length items) room
 
--- a refusal, with its sentence as far as there is room
+-- a code, a slot and a sentence, as far as there is room
+pub record IsTold (code : List ℕ) (slot : ℕ) (sentence room text : List ℕ) (told : Refused) : Type 0 where
+  pub code_is : told.code ≡ copied code (0 ∷ 0 ∷ 0 ∷ 0 ∷ [])
+  pub slot_is : told.slot ≡ slot
+  pub length_is : told.length ≡ length sentence
+  pub text_is : text ≡ copied sentence room
+
+-- a refusal
 pub record IsRefusalTold (bytes : List ℕ) (context held : ℕ) (room text : List ℕ) (told : Refused) : Type 0 where
   pub refusal : Refusal
   pub is : IsRefusedAs bytes context held refusal
-  pub code : told.code ≡ copied (refusal_name refusal.code) (0 ∷ 0 ∷ 0 ∷ 0 ∷ [])
-  pub slot : told.slot ≡ refusal.slot
-  pub length_is : told.length ≡ length (string_bytes refusal.sentence)
-  pub sentence : text ≡ copied (string_bytes refusal.sentence) room
+  pub told_as : IsTold (refusal_name refusal.code) refusal.slot (string_bytes refusal.sentence) room text told
 
 -- a report of a run on a machine, with the output as far as there is room
 pub record IsReportTold (old new : Stocks) (s : Subject) (context : List ℕ) (limit : ℕ) (room output : List ℕ) (told : Reported) : Type 0 where

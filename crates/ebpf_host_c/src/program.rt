@@ -3,14 +3,16 @@
 ghost use Rattle.std.specs.Prelude.{◌≡◌, ◌≢◌, ◌⊎◌, ◌<◌, None};
 ghost use Rattle.std.specs.Option.{MatchOption};
 ghost use Rattle.ebpf_host.specs.Loading.{IsLoaded};
+ghost use Rattle.ebpf_host_c.specs.Objects.{IsFunctionLoaded, IsFunctionRefused};
 ghost use Rattle.ebpf_host_c.specs.Told.{IsRefusalTold};
 
 use crate::status::{DECLARATION, DONE, NO_MEMORY, REFUSED};
-use crate::told::{Refused, tell_refusal};
+use crate::told::{Refused, tell_fault, tell_refusal};
 use ebpf_handle::program::ProgramHandle;
 use ebpf_host::program::Program;
 use ebpf_host::refusal::LoadFault;
-use std::alloc::Global;
+use ebpf_object_file::function::wanted_function;
+use std::alloc::{AllocError, Global};
 
 /// Loads a program, and frees what the handle held before. A refusal is reported by `refused`, and its sentence by `text`, as far as there
 /// is room.
@@ -44,6 +46,36 @@ pub extern "C" fn ebpf_program_load(
         }
         Err(LoadFault::Declaration) => DECLARATION,
         Err(LoadFault::NoMemory) => NO_MEMORY,
+    }
+}
+
+/// Loads a function of an object file, that of a name or the file's only one where the name is empty, and otherwise does what
+/// [`ebpf_program_load`] does. A fault of the file is reported as a refusal is.
+#[unsafe(no_mangle)]
+pub extern "C" fn ebpf_program_load_elf(
+    alloc: Global,
+    program: &mut ProgramHandle,
+    bytes: &[u8],
+    name: &[u8],
+    context: u32,
+    held: u8,
+    text: &mut [u8],
+    refused: &mut Refused,
+) -> u32
+    ensures loaded { result ≡ 0 → MatchOption program.new.value ⊥ (λ p. IsFunctionLoaded bytes.now name.now context held p.verified) }
+    ensures refused { result ≡ 1 → IsFunctionRefused bytes.now name.now context held text.old text.new refused.new }
+    ensures declaration { result ≡ 2 → (4096 < context) ⊎ (64 < held) }
+    ensures statuses { (result ≡ 0) ⊎ (result ≡ 1) ⊎ (result ≡ 2) ⊎ (result ≡ 6) }
+    ensures kept { result ≢ 0 → program.new.value ≡ program.old.value }
+{
+    match wanted_function(bytes, name) {
+        Ok(function) => {
+            ebpf_program_load(alloc, program, function.code, context, held, text, refused)
+        }
+        Err(fault) => match tell_fault(alloc, fault, text, refused) {
+            Ok(()) => REFUSED,
+            Err(AllocError) => NO_MEMORY,
+        },
     }
 }
 

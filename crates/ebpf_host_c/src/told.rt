@@ -1,20 +1,25 @@
 //! What C is given: why bytes are refused, and what a run did.
 
-ghost use Rattle.std.specs.Prelude.{◌≡◌, [], ◌∷◌, filter, is_some, length, string_bytes, unwrap_or};
+ghost use Rattle.std.specs.Prelude.{◌≡◌, OnOk, filter, is_some, length, string_bytes, unwrap_or};
 ghost use Rattle.ebpf_machine.specs.Whole.{is_granted, is_null, is_fetched};
 ghost use Rattle.ebpf_command.specs.Codes.{refusal_name};
-ghost use Rattle.ebpf_host_c.specs.Told.{copied, is_empty};
+ghost use Rattle.ebpf_object_file.specs.Sentences.{object_code};
+ghost use Rattle.ebpf_host_c.specs.Objects.{fault_line, fault_slot};
+ghost use Rattle.ebpf_host_c.specs.Told.{IsTold, copied, is_empty};
 
 use ebpf_host::refusal::Refusal;
 use ebpf_machine::report::{Reply, Report};
+use ebpf_object_file::object_fault::ObjectFault;
+use std::alloc::{AllocError, Global};
 
 /// Why bytes are refused.
 #[repr(C)]
 #[derive(Drop)]
 pub struct Refused {
-    /// The letter of the stage that refuses them, `I`, `F` or `V`, and the digits after it; zero where there is none.
+    /// The letter of the stage that refuses them, `I`, `F` or `V`, or `O` for an object file, and the digits after it; zero where there
+    /// is none.
     pub code: [u8; 4],
-    /// The lowest slot that is at fault.
+    /// The lowest slot that is at fault, 0 where the file is.
     pub slot: u32,
     /// How many bytes the sentence has.
     pub length: u64,
@@ -55,23 +60,57 @@ fn copy<T: Copy>(items: &[T], room: &mut [T])
     }
 }
 
-/// Tells a refusal.
-pub(crate) fn tell_refusal(refusal: Refusal, text: &mut [u8], refused: &mut Refused)
-    ensures code { refused.new.code ≡ copied (refusal_name refusal.code) (0 ∷ 0 ∷ 0 ∷ 0 ∷ []) }
-    ensures slot { refused.new.slot ≡ refusal.slot }
-    ensures length { refused.new.length ≡ length (string_bytes refusal.sentence) }
-    ensures sentence { text.new ≡ copied (string_bytes refusal.sentence) text.old }
+// Tells a code, a slot and a sentence.
+fn tell(code: &str, slot: u32, sentence: &[u8], text: &mut [u8], refused: &mut Refused)
+    ensures { IsTold code.now slot sentence.now text.old text.new refused.new }
 {
-    let name = refusal.code.name().as_bytes();
-    let mut code = [0; 4];
-    copy(name, &mut code);
-    let sentence = refusal.sentence.as_bytes();
+    let mut letters = [0; 4];
+    copy(code.as_bytes(), &mut letters);
     copy(sentence, text);
     *refused = Refused {
-        code,
-        slot: u32::from(refusal.slot),
+        code: letters,
+        slot,
         length: sentence.len() as u64,
     };
+}
+
+/// Tells a refusal.
+pub(crate) fn tell_refusal(refusal: Refusal, text: &mut [u8], refused: &mut Refused)
+    ensures { IsTold (refusal_name refusal.code) refusal.slot (string_bytes refusal.sentence) text.old text.new refused.new }
+{
+    let code = refusal.code.name();
+    let slot = u32::from(refusal.slot);
+    tell(code, slot, refusal.sentence.as_bytes(), text, refused);
+}
+
+// The slot of a fault.
+fn slot_of(fault: ObjectFault<'_>) -> u32
+    ensures { result ≡ fault_slot fault.entry }
+{
+    match fault {
+        ObjectFault::Outside(outside) => {
+            if outside.slot < 4_294_967_296 {
+                outside.slot as u32
+            } else {
+                u32::MAX
+            }
+        }
+        _ => 0,
+    }
+}
+
+/// Tells a fault of an object file. It fails only where an allocation fails.
+pub(crate) fn tell_fault(
+    alloc: Global,
+    fault: ObjectFault<'_>,
+    text: &mut [u8],
+    refused: &mut Refused,
+) -> Result<(), AllocError>
+    ensures { OnOk result (IsTold (object_code fault.entry) (fault_slot fault.entry) (fault_line fault.entry) text.old text.new refused.new) }
+{
+    let line = format!(in alloc; "  {fault}\n")?;
+    tell(fault.code(), slot_of(fault), line.as_bytes(), text, refused);
+    Ok(())
 }
 
 // How many replies there are of each kind.

@@ -4,6 +4,7 @@ ghost use Rattle.std.specs.Prelude.{◌≡◌, [], IfOk};
 
 use crate::parts::Parts;
 use crate::registers::Registers;
+use crate::report::Answers;
 use crate::stack::Stack;
 use std::alloc::{AllocError, Global};
 use std::mem;
@@ -53,6 +54,16 @@ impl<H> Workspace<H> {
         context.clear();
         context.extend_from_slice(bytes)?;
         Ok(context)
+    }
+
+    /// Takes the memory of the answers of a run that has ended, for the next one: its report can be kept in less. What is in it is
+    /// forgotten.
+    pub fn reuse(&mut self, answers: Answers) {
+        let Answers { mut replies } = answers;
+        if self.parts.replies.capacity() < replies.capacity() {
+            replies.clear();
+            self.parts.replies = replies;
+        }
     }
 
     /// Frees the memory.

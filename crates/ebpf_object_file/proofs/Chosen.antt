@@ -1,5 +1,5 @@
 -- The function that is meant, in the words of the definitions.
-use Rattle.std.proofs.Common.{◌≡◌, ◌≤◌, ◌+◌, ◌/◌, ℕ, Bool, false, true, ◌&&◌, List, length, Result, Ok, Err, ap, subst, arith, inl, inr}
+use Rattle.std.proofs.Common.{◌≡◌, ◌≤◌, ◌+◌, ◌/◌, ℕ, Bool, false, true, ◌&&◌, ◌==◌, List, [], ◌∷◌, length, Result, Ok, Err, ap, subst, arith, inl, inr}
 use Rattle.std.specs.Prelude.{nat_le, IfOk, IfErr}
 use Rattle.std.proofs.lemmas.Result.{IfOk-weaker}
 use Rattle.std.proofs.lemmas.Bool.{cases_lt}
@@ -12,7 +12,7 @@ use Rattle.ebpf_object_file.specs.First.{NoneBelow, IsFirst, IsOnly, AreTwo}
 use Rattle.ebpf_object_file.specs.Section.{sections_in}
 use Rattle.ebpf_object_file.specs.Symbol.{symbol_of, is_function, function_from}
 use Rattle.ebpf_object_file.specs.File.{AreFunctions, function_in, named_in, name_limit}
-use Rattle.ebpf_object_file.specs.Function.{IsAt, IsAlone, IsNamed, IsOnlyOne, IsFunctionFault, IsNamedFault, IsOnlyFault}
+use Rattle.ebpf_object_file.specs.Function.{IsAt, IsAlone, IsNamed, IsOnlyOne, IsFunctionFault, IsNamedFault, IsOnlyFault, IsWantedFault}
 
 -- what holds of an error holds of it in other words
 pub err_more : {T E : Type 0} (r : Result T E) (P Q : E → Type 0) → ((e : E) → P e → Q e) → IfErr r P → IfErr r Q
@@ -110,3 +110,9 @@ pub only_refused : (file : List ℕ) (f : Functions) (number : ℕ) (r : Result 
     → IfErr r (λ e. IsFunctionFault f number e) → IfErr r (λ e. IsOnlyFault file e)
 only_refused file f number r are only h =
     err_more r (λ e. IsFunctionFault f number e) (λ e. IsOnlyFault file e) (λ e there. inr (f, are, inr (inr (number, only, there)))) h
+
+-- why a name that is not empty has no function
+pub wanted_refused : {A : Type 0} (r : Result A ObjectFault) (file name : List ℕ) → false ≡ (length name == 0)
+    → IfErr r (λ e. IsNamedFault file name e) → IfErr r (λ e. IsWantedFault file name e)
+wanted_refused r file [] some h = absurd cc
+wanted_refused r file (c ∷ name) some h = h

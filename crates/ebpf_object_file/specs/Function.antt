@@ -1,5 +1,5 @@
 -- A function that is a program by itself, and why a file has none.
-use Rattle.std.specs.Prelude.{ℕ, Bool, ◌⊎◌, ◌≡◌, ◌≤◌, ◌<◌, ◌+◌, ◌/◌, ◌%◌, true, false, List, length, take, drop, ◌==◌, ◌&&◌, nat_le}
+use Rattle.std.specs.Prelude.{ℕ, Bool, ◌⊎◌, ◌≡◌, ◌≤◌, ◌<◌, ◌+◌, ◌/◌, ◌%◌, true, false, List, [], ◌∷◌, length, take, drop, ◌==◌, ◌&&◌, nat_le}
 use Rattle.ebpf_object_file.specs.declared.symbol.Symbol.{Symbol}
 use Rattle.ebpf_object_file.specs.declared.outside.Place.{Place}
 use Rattle.ebpf_object_file.specs.declared.outside.Outside.{Outside}
@@ -97,3 +97,13 @@ IsOnlyFault file e =
     × ((e ≡ object.File fault.NoFunctions) × NoneBelow (function_in file f.symbols.now) (length f.symbols.now / 24)
     ⊎ (e ≡ object.SeveralFunctions f) × AreTwo (function_in file f.symbols.now) (length f.symbols.now / 24)
     ⊎ ((number : ℕ) × IsOnly (function_in file f.symbols.now) (length f.symbols.now / 24) number × IsFunctionFault f number e)))
+
+-- the function of a name, or where the name is empty the file's only one, and it is a program by itself
+abbrev pub IsWanted : List ℕ → List ℕ → Function → Type 0
+IsWanted file [] f = IsOnlyOne file f × IsAlone file f
+IsWanted file (c ∷ name) f = IsNamed file (c ∷ name) f × IsAlone file f
+
+-- why there is none
+abbrev pub IsWantedFault : List ℕ → List ℕ → ObjectFault → Type 0
+IsWantedFault file [] e = IsOnlyFault file e
+IsWantedFault file (c ∷ name) e = IsNamedFault file (c ∷ name) e

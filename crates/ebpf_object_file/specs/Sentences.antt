@@ -90,3 +90,9 @@ object_sentence (object.File e) = file_sentence e
 object_sentence (object.NoFunction f) = codes "the file has no function of that name; it has " ++ names_of f
 object_sentence (object.SeveralFunctions f) = codes "the file has more than one function: name one of " ++ names_of f
 object_sentence (object.Outside o) = outside_sentence o
+
+abbrev pub object_code : ObjectFault → List ℕ
+object_code (object.File e) = codes "O1"
+object_code (object.NoFunction f) = codes "O2"
+object_code (object.SeveralFunctions f) = codes "O3"
+object_code (object.Outside o) = codes "O4"

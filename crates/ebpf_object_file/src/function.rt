@@ -5,7 +5,7 @@ ghost use Rattle.ebpf_object_file.specs.Section.{sections_in, bytes_of as bytes_
 ghost use Rattle.ebpf_object_file.specs.Header.{header_of};
 ghost use Rattle.ebpf_object_file.specs.Symbol.{symbol_of as nth_symbol, is_function};
 ghost use Rattle.ebpf_object_file.specs.File.{IsOpen, AreFunctions};
-ghost use Rattle.ebpf_object_file.specs.Function.{is_code, code_of, IsAt, IsAlone, IsNamed, IsOnlyOne, IsCodeFault, IsFunctionFault, IsNamedFault, IsOnlyFault};
+ghost use Rattle.ebpf_object_file.specs.Function.{is_code, code_of, IsAt, IsAlone, IsNamed, IsOnlyOne, IsCodeFault, IsFunctionFault, IsNamedFault, IsOnlyFault, IsWanted, IsWantedFault};
 
 use crate::call::find_call;
 use crate::fault::FileFault;
@@ -157,5 +157,20 @@ pub fn only_function(file: &[u8]) -> Result<Function<'_>, ObjectFault<'_>>
     match functions.next(first + 1) {
         None => function_at(functions, first),
         Some(_) => Err(ObjectFault::SeveralFunctions(functions)),
+    }
+}
+
+/// The function of a name, or the file's only one where the name is empty.
+///
+/// # Errors
+/// Those of [`function_named`] or of [`only_function`].
+pub fn wanted_function<'a>(file: &'a [u8], name: &[u8]) -> Result<Function<'a>, ObjectFault<'a>>
+    ensures found { IfOk result (λ f. IsWanted file.now name.now f) }
+    ensures refused { IfErr result (λ e. IsWantedFault file.now name.now e) }
+{
+    if name.is_empty() {
+        only_function(file)
+    } else {
+        function_named(file, name)
     }
 }

@@ -1,7 +1,7 @@
 //! Why a file has no program of the name that was asked for, in a sentence.
 
 ghost use Rattle.std.specs.Prelude.{◌≡◌};
-ghost use Rattle.ebpf_object_file.specs.Sentences.{verb, mending};
+ghost use Rattle.ebpf_object_file.specs.Sentences.{object_code, verb, mending};
 
 use crate::fault::FileFault;
 use crate::functions::Functions;
@@ -19,6 +19,20 @@ pub enum ObjectFault<'a> {
     SeveralFunctions(Functions<'a>),
     /// The function needs another part of the file.
     Outside(Outside<'a>),
+}
+
+impl ObjectFault<'_> {
+    /// The code of the fault, as a command or a host reports it.
+    pub fn code(self) -> &'static str
+        ensures { result.now ≡ object_code self.entry }
+    {
+        match self {
+            ObjectFault::File(_) => "O1",
+            ObjectFault::NoFunction(_) => "O2",
+            ObjectFault::SeveralFunctions(_) => "O3",
+            ObjectFault::Outside(_) => "O4",
+        }
+    }
 }
 
 impl fmt::Display for ObjectFault<'_> {

@@ -1,16 +1,14 @@
 -- A command responds to an object file that is too long as to its beginning.
-use Rattle.std.proofs.Common.{◌≡◌, ◌==◌, false, inl, inr, ℕ, ◌<◌, List, [], ◌∷◌, Option, Result, length, refl, subst, arith}
+use Rattle.std.proofs.Common.{◌≡◌, inl, inr, ℕ, ◌<◌, List, Option, Result, length, refl, subst, arith}
 use Rattle.std.proofs.lemmas.List.{length-take-le}
 use Rattle.ebpf_object_file.specs.declared.object_fault.ObjectFault.{ObjectFault}
-use Rattle.std.specs.Prelude.{IfErr}
-use Rattle.ebpf_object_file.specs.Function.{IsNamedFault}
 use Rattle.ebpf_command.specs.declared.done.Done.{Done}
 use Rattle.ebpf_command.specs.declared.done.EngineFault.{EngineFault}
 use Rattle.ebpf_command.specs.Input.{read_of}
 use Rattle.ebpf_command.specs.Response.{Response, refused_response}
 use Rattle.ebpf_command.specs.Writing.{Responding, Writes, WritesBeginning}
 use Rattle.ebpf_command.proofs.Written.{CutsLong, response_through, begun_through}
-use Rattle.ebpf_one.specs.ObjectText.{IsWantedFault, IsTaken, IsTakenFault, RespondsObject, Answers, object_fault_lines}
+use Rattle.ebpf_one.specs.ObjectText.{IsTaken, IsTakenFault, RespondsObject, Answers, object_fault_lines}
 
 pub read_long : (file : List ℕ) → 1048577 < length file → length (read_of file) ≡ 1048577
 read_long file long = length-take-le 1048577 file (omega (arith, long))
@@ -46,9 +44,3 @@ answers_by P name input old new result wrote began responds = record {
   response = response_through (RespondsObject P name) input old new result wrote responds;
   beginning = begun_through (RespondsObject P name) input old new result began responds;
 }
-
--- why a name that is not empty has no function
-pub named_refused : {A : Type 0} (r : Result A ObjectFault) (name given file : List ℕ) → given ≡ name → false ≡ (length name == 0)
-    → IfErr r (λ e. IsNamedFault file given e) → IfErr r (λ e. IsWantedFault name file e)
-named_refused r [] given file same some h = absurd cc
-named_refused r (c ∷ cs) given file same some h = subst (λ (n : List ℕ). IfErr r (λ e. IsNamedFault file n e)) same h

@@ -1,45 +1,28 @@
 -- The response of a command to an object file: its response to the slots of the function that is asked for, as raw bytes, or why the file has
 -- no such program.
-use Rattle.std.specs.Prelude.{◌≡◌, ◌≤◌, ◌<◌, ◌⊎◌, ℕ, ◌++◌, ◌∷◌, List, [], length, codes, Option, Result}
+use Rattle.std.specs.Prelude.{◌≡◌, ◌≤◌, ◌<◌, ◌⊎◌, ℕ, ◌++◌, List, length, codes, Option, Result}
 use Rattle.ebpf_object_file.specs.declared.function.Function.{Function}
 use Rattle.ebpf_object_file.specs.declared.object_fault.ObjectFault.{ObjectFault}
-use Rattle.ebpf_object_file.specs.declared.object_fault.ObjectFault.TheVariants.{File, NoFunction, SeveralFunctions, Outside}
-use Rattle.ebpf_object_file.specs.Function.{IsAlone, IsNamed, IsOnlyOne, IsNamedFault, IsOnlyFault}
-use Rattle.ebpf_object_file.specs.Sentences.{object_sentence}
+use Rattle.ebpf_object_file.specs.Function.{IsWanted, IsWantedFault}
+use Rattle.ebpf_object_file.specs.Sentences.{object_code, object_sentence}
 use Rattle.ebpf_command.specs.declared.done.Done.{Done}
 use Rattle.ebpf_command.specs.declared.done.EngineFault.{EngineFault}
 use Rattle.ebpf_command.specs.Response.{refused_response}
 use Rattle.ebpf_command.specs.Writing.{Responding, Writes, WritesBeginning}
 
--- the function of a name, or where no name is given the file's only one, and it is a program by itself
-abbrev pub IsWanted : List ℕ → List ℕ → Function → Type 0
-IsWanted [] file f = IsOnlyOne file f × IsAlone file f
-IsWanted (c ∷ name) file f = IsNamed file (c ∷ name) f × IsAlone file f
-
--- why there is none
-abbrev pub IsWantedFault : List ℕ → List ℕ → ObjectFault → Type 0
-IsWantedFault [] file e = IsOnlyFault file e
-IsWantedFault (c ∷ name) file e = IsNamedFault file (c ∷ name) e
-
 -- the slots that are asked for; a file that is too long is taken as it is, since each command reports that first
 abbrev pub IsTaken : List ℕ → List ℕ → List ℕ → Type 0
 IsTaken name file bytes =
     ((1048576 < length file) × (bytes ≡ file))
-    ⊎ ((length file ≤ 1048576) × (f : Function) × IsWanted name file f × (bytes ≡ f.code.now))
+    ⊎ ((length file ≤ 1048576) × (f : Function) × IsWanted file name f × (bytes ≡ f.code.now))
 
 -- why none are
 abbrev pub IsTakenFault : List ℕ → List ℕ → ObjectFault → Type 0
-IsTakenFault name file e = (length file ≤ 1048576) × IsWantedFault name file e
-
-abbrev pub object_fault_name : ObjectFault → List ℕ
-object_fault_name (File e) = codes "O1"
-object_fault_name (NoFunction f) = codes "O2"
-object_fault_name (SeveralFunctions f) = codes "O3"
-object_fault_name (Outside o) = codes "O4"
+IsTakenFault name file e = (length file ≤ 1048576) × IsWantedFault file name e
 
 -- the line of the fault, and its sentence
 abbrev pub object_fault_lines : ObjectFault → List ℕ
-object_fault_lines e = codes "fault " ++ (object_fault_name e ++ (codes " line 0\n  " ++ (object_sentence e ++ codes "\n")))
+object_fault_lines e = codes "fault " ++ (object_code e ++ (codes " line 0\n  " ++ (object_sentence e ++ codes "\n")))
 
 -- by a command's response to raw bytes
 abbrev pub RespondsObject : Responding → List ℕ → Responding

@@ -11,6 +11,7 @@ use Rattle.ebpf_object_file.specs.declared.lines.Line.{Line}
 use Rattle.ebpf_object_file.specs.declared.lines.Lines.{Lines}
 use Rattle.ebpf_object_file.specs.declared.object_fault.ObjectFault.{ObjectFault}
 use Rattle.ebpf_object_file.specs.declared.object_fault.ObjectFault.TheVariants.{File}
+use Rattle.ebpf_object_file.specs.Function.{IsWanted}
 use Rattle.ebpf_object_file.specs.Shown.{shown_of, AreHolding, is_one_line}
 use Rattle.ebpf_object_file.specs.Source.{AreLinesOf, HasNoLinesOf, IsLinesOfFault}
 use Rattle.ebpf_text.specs.Listing.{line_at}
@@ -20,7 +21,7 @@ use Rattle.ebpf_command.specs.Writing.{Responding}
 use Rattle.ebpf_one.specs.declared.form.Form.TheVariants.{Raw}
 use Rattle.ebpf_one.specs.Lines.{refused_line}
 use Rattle.ebpf_one.specs.ListText.{RespondsList}
-use Rattle.ebpf_one.specs.ObjectText.{IsWanted, IsTakenFault, object_fault_lines}
+use Rattle.ebpf_one.specs.ObjectText.{IsTakenFault, object_fault_lines}
 
 abbrev pub source_row : Lines → Line → List ℕ
 source_row l n = codes "; " ++ (shown_of l n ++ codes "\n")
@@ -67,5 +68,5 @@ SourcesFunction file f response =
 abbrev pub RespondsSource : List ℕ → Responding
 RespondsSource name file response =
     ((1048576 < length file) × RespondsList Raw file response)
-    ⊎ ((length file ≤ 1048576) × (f : Function) × IsWanted name file f × SourcesFunction file f response)
+    ⊎ ((length file ≤ 1048576) × (f : Function) × IsWanted file name f × SourcesFunction file f response)
     ⊎ ((e : ObjectFault) × IsTakenFault name file e × (response ≡ refused_response (object_fault_lines e)))

@@ -2,26 +2,14 @@
 
 ghost use Rattle.std.specs.Prelude.{◌≡◌, IfOk, IfErr};
 ghost use Rattle.ebpf_command.specs.Response.{refused_response};
-ghost use Rattle.ebpf_one.specs.ObjectText.{IsWanted, IsWantedFault, IsTaken, IsTakenFault, object_fault_name, object_fault_lines};
+ghost use Rattle.ebpf_one.specs.ObjectText.{IsTaken, IsTakenFault, object_fault_lines};
 
 use ebpf_command::answer::Answer;
 use ebpf_command::done::Done;
 use ebpf_command::input::MAX_INPUT;
-use ebpf_object_file::function::{Function, function_named, only_function};
+use ebpf_object_file::function::wanted_function;
 use ebpf_object_file::object_fault::ObjectFault;
 use std::alloc::{AllocError, Global};
-
-// The function of a name, or the file's only one where the name is empty.
-pub(crate) fn function_of<'a>(name: &str, file: &'a [u8]) -> Result<Function<'a>, ObjectFault<'a>>
-    ensures found { IfOk result (λ f. IsWanted name.now file.now f) }
-    ensures refused { IfErr result (λ e. IsWantedFault name.now file.now e) }
-{
-    if name.is_empty() {
-        only_function(file)
-    } else {
-        function_named(file, name.as_bytes())
-    }
-}
 
 /// The slots of the function that is asked for, as bytes. A file with more bytes than an input may have is given back as it is, since
 /// that is what is said of it then.
@@ -35,21 +23,9 @@ pub(crate) fn taken<'a>(name: &str, file: &'a [u8]) -> Result<&'a [u8], ObjectFa
     if file.len() > MAX_INPUT {
         return Ok(file);
     }
-    match function_of(name, file) {
+    match wanted_function(file, name.as_bytes()) {
         Ok(function) => Ok(function.code),
         Err(fault) => Err(fault),
-    }
-}
-
-// The code of a fault.
-fn fault_name(fault: ObjectFault<'_>) -> &'static str
-    ensures { result.now ≡ object_fault_name fault.entry }
-{
-    match fault {
-        ObjectFault::File(_) => "O1",
-        ObjectFault::NoFunction(_) => "O2",
-        ObjectFault::SeveralFunctions(_) => "O3",
-        ObjectFault::Outside(_) => "O4",
     }
 }
 
@@ -60,7 +36,7 @@ pub(crate) fn answer_object_fault(
 ) -> Result<Answer, AllocError>
     ensures { IfOk result (λ answer. answer ≡ refused_response (object_fault_lines fault.entry)) }
 {
-    let name = fault_name(fault);
+    let name = fault.code();
     Ok(Answer {
         text: format!(in alloc; "fault {name} line 0\n  {fault}\n")?,
         done: Done::Refused,

@@ -10,7 +10,7 @@ ghost use Rattle.ebpf_one.specs.SourceText.{heading, held_before, slot_text, sou
 
 use crate::form::Form;
 use crate::list::list_input;
-use crate::object::{answer_object_fault, function_of};
+use crate::object::answer_object_fault;
 use crate::text::refused_line;
 use ebpf_command::answer::{Answer, respond};
 use ebpf_command::codes::RefusalCode;
@@ -19,7 +19,7 @@ use ebpf_command::input::MAX_INPUT;
 use ebpf_insn::decode::decode;
 use ebpf_insn::fault::DecodeFault;
 use ebpf_insn::program::Program;
-use ebpf_object_file::function::Function;
+use ebpf_object_file::function::{Function, wanted_function};
 use ebpf_object_file::lines::{Line, Lines};
 use ebpf_object_file::object_fault::ObjectFault;
 use ebpf_object_file::source::lines_of;
@@ -145,7 +145,7 @@ fn source_input(alloc: Global, file: &[u8], name: &str) -> Result<Answer, AllocE
     if file.len() > MAX_INPUT {
         return list_input(alloc, Form::Raw, file);
     }
-    match function_of(name, file) {
+    match wanted_function(file, name.as_bytes()) {
         Ok(function) => source_function(alloc, file, function),
         Err(fault) => answer_object_fault(alloc, fault),
     }

@@ -10,6 +10,7 @@ use crate::few_answers::{FEW, FewAnswers};
 use ebpf_machine::report::{Answers, Output, Reply, Report, Taken};
 use std::alloc::{AllocError, Global};
 use std::marker::Model;
+use std::mem;
 
 /// The lists of a report.
 #[derive(Drop)]
@@ -78,12 +79,12 @@ impl JobReport {
         }
     }
 
-    /// A report, which takes the spare box where its lists need one.
-    pub(crate) fn of(report: Report, spare: &mut Option<Box<Lists>>) -> JobReport
+    /// A report, which takes the spare box where its lists need one, and the memory of answers that it doesn't keep.
+    pub(crate) fn of(report: Report, spare: &mut Option<Box<Lists>>) -> (JobReport, Answers)
         requires spare { is_some spare.old ≡ true }
         requires executed { report.executed < 65536 }
         requires peak { report.peak < 256 }
-        ensures { result ≡ report }
+        ensures { result.0 ≡ report }
     {
         let Report {
             exit,
@@ -98,13 +99,15 @@ impl JobReport {
             answers,
             taken,
         };
-        JobReport {
+        let (lists, left) = lists_kept(lists, spare);
+        let report = JobReport {
             exit: exit.unwrap_or(0),
             exited: exit.is_some(),
             peak: peak as u8,
             executed: executed as u16,
-            lists: lists_kept(lists, spare),
-        }
+            lists,
+        };
+        (report, left)
     }
 
     /// The number that the run returned.
@@ -159,18 +162,19 @@ impl JobReport {
     }
 }
 
-// How these lists are kept: in the spare box where they need one.
-fn lists_kept(lists: Lists, spare: &mut Option<Box<Lists>>) -> Kept
+// How these lists are kept, in the spare box where they need one, and the memory of answers that are not.
+fn lists_kept(lists: Lists, spare: &mut Option<Box<Lists>>) -> (Kept, Answers)
     requires { is_some spare.old ≡ true }
-    ensures { lists_in result ≡ lists }
+    ensures { lists_in result.0 ≡ lists }
 {
     let replies = &lists.answers.replies;
     if lists.output.numbers.is_empty() && lists.taken.bytes.is_empty() && replies.len() <= FEW {
-        return Kept::Answered(FewAnswers::of(replies));
+        let few = FewAnswers::of(replies);
+        return (Kept::Answered(few), lists.answers);
     }
     let Some(mut room) = spare.take() else {
         unreachable!()
     };
-    *room = lists;
-    Kept::All(room)
+    let emptied = mem::replace(&mut *room, lists);
+    (Kept::All(room), emptied.answers)
 }

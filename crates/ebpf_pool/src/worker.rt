@@ -235,14 +235,16 @@ fn answer<'a, L: Names, G: Gate + 'a, R: Wait + 'a>(
     shared.gate.at(number, Point::Begin);
     store.client.job = number as u32;
     let verified = &shared.programs[job.program];
-    let Ok((report, workspace)) = run_in(workspace, verified, context, store) else {
+    let Ok((report, mut workspace)) = run_in(workspace, verified, context, store) else {
         return Err(AllocError);
     };
     // Read for what they promise: a report's numbers are small.
     let _ = (verified.program().len(), verified.decl());
+    let (report, left) = JobReport::of(report, spare);
+    workspace.reuse(left);
     answered.push_reserved(Numbered {
         job: number,
-        report: JobReport::of(report, spare),
+        report,
     });
     shared.gate.at(number, Point::Answered);
     Ok(workspace)
