@@ -21,7 +21,7 @@ returns-clause-answered g c = record { made = n; job = refl; good = answered; ke
   items : c.push_reserved.new.self.items ≡ c.args.answered.now.items ++ n ∷ []
   items =
       let numbered = λ (r : Report). c.room_for.new.answered.items ++ record { job = c.args.number; report = r } ∷ [] in
-      c.push_reserved.ensures.items ∙ ap numbered c.of.ensures ∙ ap (λ (l : List Numbered). l ++ n ∷ []) c.in-Ok.ensures.same
+      c.push_reserved.ensures.items ∙ ap numbered c.of-report.ensures ∙ ap (λ (l : List Numbered). l ++ n ∷ []) c.in-Ok.ensures.same
 
   -- the job that is read is the one of the number
   program : c.job.inside.0.0 ≡ c.index-shared-number.result.program
