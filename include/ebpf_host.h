@@ -1,6 +1,6 @@
 /* Programs of eBPF (RFC 9669) in a host's own process: loaded and verified once, run any number of times.
  *
- * A program that is loaded never traps: whatever the context, it reads and writes nothing outside its own frame, its context and its
+ * A program that is loaded never traps: on any context, it reads and writes nothing outside its own frame, its context and its
  * objects, does at most as many instructions as it has, holds at most as many objects as it declared, and gives each of them back or
  * leaves it on a shelf of the machine.
  *
@@ -32,7 +32,7 @@ extern "C" {
 typedef uint32_t ebpf_status;
 enum {
     EBPF_DONE = 0,        /* it did what it says */
-    EBPF_REFUSED = 1,     /* the bytes are no program that can be run: see ebpf_refusal */
+    EBPF_REFUSED = 1,     /* the bytes are not a program that can be run: see ebpf_refusal */
     EBPF_DECLARATION = 2, /* more than 4,096 bytes of context, or more than 64 objects, are declared */
     EBPF_PAGES = 3,       /* a machine has 1 to 256 pages */
     EBPF_CONTEXT = 4,     /* the context doesn't have the length that the program declares */
@@ -57,7 +57,7 @@ static inline const char *ebpf_status_text(ebpf_status status) {
 /* A program that was accepted. */
 typedef struct ebpf_program { void *word; } ebpf_program;
 
-/* The memory of runs, and the objects that they take, give back and leave on shelves: one run at a time, of whatever program. */
+/* The memory of runs, and the objects that they take, give back and leave on shelves: one run at a time, of any program. */
 typedef struct ebpf_machine { void *word; } ebpf_machine;
 
 /* Why bytes are refused. */
@@ -83,13 +83,14 @@ typedef struct ebpf_report {
 /* Loads a program: its raw instruction slots, eight bytes each, as its text section has them. It is to be run on contexts of `context`
  * bytes, 0 to 4096, and may hold at most `held` objects at one time, 0 to 64. What the handle held before is freed.
  *
- * EBPF_REFUSED: the bytes are refused; *refusal says by which code and where, and text begins with a sentence that says why, a line indented by
- * two blanks, as far as text_length bytes have room; no zero ends it. 1,024 bytes are mostly enough. EBPF_DECLARATION, EBPF_NO_MEMORY. */
+ * EBPF_REFUSED: the bytes are refused; *refusal says by which code and where, and text begins with a sentence that says why, a line
+ * indented by two blanks, as far as text_length bytes have room; no zero ends it. 1,024 bytes are mostly enough. EBPF_DECLARATION,
+ * EBPF_NO_MEMORY. */
 ebpf_status ebpf_program_load(ebpf_program *program, const uint8_t *bytes, size_t length, uint32_t context, uint8_t held,
                               char *text, size_t text_length, ebpf_refusal *refusal);
 
-/* Makes `other` a second handle of the same program, which is not verified again. What it held before is freed. Both handles are written, so
- * neither may be in another call meanwhile, and the two must differ. EBPF_EMPTY: `program` holds nothing. EBPF_NO_MEMORY. */
+/* Makes `other` a second handle of the same program, which is not verified again. What it held before is freed. Both handles are
+ * written: neither may be in another call meanwhile, and the two must differ. EBPF_EMPTY: `program` holds nothing. EBPF_NO_MEMORY. */
 ebpf_status ebpf_program_share(ebpf_program *other, ebpf_program *program);
 
 /* Frees a handle, which is empty then, and with the last one its program. */
@@ -106,8 +107,8 @@ void ebpf_machine_free(ebpf_machine *machine);
 ebpf_status ebpf_machine_reap(ebpf_machine *machine);
 
 /* Runs a program on a context, limit instructions at most; no program does more than 4,096. A run that has not exited by then is given
- * up, which is no error. Its numbers of output are written to output, as far as output_length of them have room; report->outputs says
- * how many there were. A call of new that finds no page or no memory is answered null, which is no error. What the run leaves on a
+ * up, which is not an error. Its numbers of output are written to output, as far as output_length of them have room; report->outputs says
+ * how many there were. A call of new that finds no page or no memory is answered null, which is not an error. What the run leaves on a
  * shelf is there for the next run on the machine. EBPF_CONTEXT, EBPF_EMPTY, EBPF_NO_MEMORY: nothing was run. */
 ebpf_status ebpf_machine_run(ebpf_machine *machine, ebpf_program *program, const uint8_t *context, size_t context_length,
                              uint64_t limit, uint64_t *output, size_t output_length, ebpf_report *report);
