@@ -1,18 +1,19 @@
 /* Programs of eBPF (RFC 9669) in a host's own process: loaded and verified once, run any number of times.
  *
- * A program that is loaded never traps: whatever the context, it reads and writes nothing outside its own frame, its context and its
+ * A program that is loaded never traps: on any context, it reads and writes nothing outside its own frame, its context and its
  * objects, does at most as many instructions as it has, holds at most as many objects as it declared, and gives each of them back or
  * leaves it on a shelf of the machine.
  *
  * Handles. A handle is a struct of one word. Set it to zero before its first call ("ebpf_program p = {0};"), pass it by address, never
- * copy it, and free it at the end. An empty handle may be passed to every function: it is told by EBPF_EMPTY, and freeing it does
+ * copy it, and free it at the end. An empty handle may be passed to every function: the call returns EBPF_EMPTY, and freeing it does
  * nothing. A call that fails leaves a handle as it was.
  *
- * Pointers. A pointer with a length has to point to as many items, which nothing else touches during the call; with length 0 it has to be
- * a pointer all the same, not null. No two of the pointers of one call may overlap, but for two that are only read.
+ * Pointers. A pointer with a length has to point to that many items, which nothing else touches during the call; with length 0 it may be
+ * null. No two of the pointers of one call may overlap, but for two that are only read.
  *
  * Threads. Nothing here starts a thread, takes a lock or keeps a global. A handle is used by one thread, which may differ from call to
- * call where something orders the calls (a lock, a join). Threads that run at the same time have handles of their own.
+ * call where something orders the calls (a lock, a join). Threads that run at the same time have handles of their own: a machine each,
+ * and by ebpf_program_share a handle each of one program.
  *
  * Memory comes from malloc, realloc and free. Where there is none, the call answers EBPF_NO_MEMORY. Not to be called from a signal
  * handler, nor between fork and exec in a process with threads. */
@@ -45,21 +46,30 @@ enum {
     EBPF_NO_MEMORY = 6    /* an allocation failed */
 };
 
+/* A status in words. */
+static inline const char *ebpf_status_text(ebpf_status status) {
+    switch (status) {
+    case EBPF_DONE: return "done";
+    case EBPF_REFUSED: return "refused";
+    case EBPF_DECLARATION: return "declaration out of range";
+    case EBPF_PAGES: return "number of pages out of range";
+    case EBPF_CONTEXT: return "context of another length";
+    case EBPF_EMPTY: return "empty handle";
+    case EBPF_NO_MEMORY: return "out of memory";
+    default: return "unknown status";
+    }
+}
+
 /* A program that was accepted. */
 typedef struct ebpf_program { void *word; } ebpf_program;
 
-/* The memory of runs, and the objects that they take, give back and leave on shelves: one run at a time, of whatever program. */
+/* The memory of runs, and the objects that they take, give back and leave on shelves: one run at a time, of any program. */
 typedef struct ebpf_machine { void *word; } ebpf_machine;
 
 /* Why bytes are refused. */
 typedef struct ebpf_refusal {
-<<<<<<< HEAD
-    char code[4];    /* the code, as "V8", followed by zeros */
-    uint32_t slot;   /* the lowest slot of eight bytes that is at fault */
-=======
-    char code[4];    /* the code, as "V8" or "O1", with zeros behind it */
+    char code[4];    /* the code, as "V8" or "O1", followed by zeros */
     uint32_t slot;   /* the lowest slot of eight bytes that is at fault, 0 for O1 to O3 */
->>>>>>> h1
     uint64_t length; /* how many bytes the sentence has */
 } ebpf_refusal;
 
@@ -76,11 +86,12 @@ typedef struct ebpf_report {
     bool exited;       /* whether it exited within the limit */
 } ebpf_report;
 
-/* Loads a program: its raw instruction slots, eight bytes each, as its text section has them. It is to be run on contexts of context
- * bytes, 0 to 4096, and may hold at most held objects at one time, 0 to 64. What the handle held before is freed.
+/* Loads a program: its raw instruction slots, eight bytes each, as its text section has them. It is to be run on contexts of `context`
+ * bytes, 0 to 4096, and may hold at most `held` objects at one time, 0 to 64. What the handle held before is freed.
  *
- * EBPF_REFUSED: the bytes are refused; *refusal says by which code and where, and text begins with a sentence that says why, a line indented by
- * two blanks, as far as text_length bytes have room; no zero ends it. 1,024 bytes are mostly enough. EBPF_DECLARATION, EBPF_NO_MEMORY. */
+ * EBPF_REFUSED: the bytes are refused; *refusal says by which code and where, and text begins with a sentence that says why, a line
+ * indented by two blanks, as far as text_length bytes have room; no zero ends it. 1,024 bytes are mostly enough. EBPF_DECLARATION,
+ * EBPF_NO_MEMORY. */
 ebpf_status ebpf_program_load(ebpf_program *program, const uint8_t *bytes, size_t length, uint32_t context, uint8_t held,
                               char *text, size_t text_length, ebpf_refusal *refusal);
 
@@ -93,26 +104,60 @@ ebpf_status ebpf_program_load(ebpf_program *program, const uint8_t *bytes, size_
 ebpf_status ebpf_program_load_elf(ebpf_program *program, const uint8_t *bytes, size_t length, const char *name, size_t name_length,
                                   uint32_t context, uint8_t held, char *text, size_t text_length, ebpf_refusal *refusal);
 
-/* Frees a program. The handle is empty then. */
+/* Makes `other` a second handle of the same program, which is not verified again. What it held before is freed. Both handles are
+ * written: neither may be in another call meanwhile, and the two must differ. EBPF_EMPTY: `program` holds nothing. EBPF_NO_MEMORY. */
+ebpf_status ebpf_program_share(ebpf_program *other, ebpf_program *program);
+
+/* Frees a handle, which is empty then, and with the last one its program. */
 void ebpf_program_free(ebpf_program *program);
 
-/* Makes a machine, whose objects are on at most that many pages of 4,096 bytes, 1 to 256; a page is allocated when it is first needed. What
+/* Makes a machine, whose objects are on at most `pages` pages of 4,096 bytes, 1 to 256; a page is allocated when it is first needed. What
  * the handle held before is freed. EBPF_PAGES, EBPF_NO_MEMORY. */
 ebpf_status ebpf_machine_new(ebpf_machine *machine, uint32_t pages);
 
 /* Frees a machine with its objects. The handle is empty then. */
 void ebpf_machine_free(ebpf_machine *machine);
 
-/* Gives back the pages of a machine on which nothing is held and nothing stands on a shelf, so that objects of any kind may lie there.
- * EBPF_EMPTY. */
+/* Gives back each page of a machine on which no object is held or left on a shelf, so that objects of any kind may be there. EBPF_EMPTY. */
 ebpf_status ebpf_machine_reap(ebpf_machine *machine);
 
 /* Runs a program on a context, limit instructions at most; no program does more than 4,096. A run that has not exited by then is given
- * up, which is no error. Its numbers of output are written to output, as far as output_length of them have room; report->outputs says
- * how many there were. A call of new that finds no page or no memory is answered null, which is no error. What the run leaves on a
+ * up, which is not an error. Its numbers of output are written to output, as far as output_length of them have room; report->outputs says
+ * how many there were. A call of new that finds no page or no memory is answered null, which is not an error. What the run leaves on a
  * shelf is there for the next run on the machine. EBPF_CONTEXT, EBPF_EMPTY, EBPF_NO_MEMORY: nothing was run. */
 ebpf_status ebpf_machine_run(ebpf_machine *machine, ebpf_program *program, const uint8_t *context, size_t context_length,
                              uint64_t limit, uint64_t *output, size_t output_length, ebpf_report *report);
+
+/* The library's own functions take no null pointer. The names of those with a length mean these from here on, which pass one that isn't
+ * null where the length is 0. A caller that doesn't compile this header, as from Python, has to do so itself. */
+static inline ebpf_status ebpf_program_load_or_null(ebpf_program *program, const uint8_t *bytes, size_t length, uint32_t context,
+                                                    uint8_t held, char *text, size_t text_length, ebpf_refusal *refusal) {
+    uint8_t no_bytes = 0;
+    char no_text = 0;
+    return ebpf_program_load(program, bytes || length ? bytes : &no_bytes, length, context, held,
+                             text || text_length ? text : &no_text, text_length, refusal);
+}
+#define ebpf_program_load ebpf_program_load_or_null
+
+static inline ebpf_status ebpf_program_load_elf_or_null(ebpf_program *program, const uint8_t *bytes, size_t length, const char *name,
+                                                        size_t name_length, uint32_t context, uint8_t held, char *text, size_t text_length,
+                                                        ebpf_refusal *refusal) {
+    uint8_t no_bytes = 0;
+    char no_text = 0;
+    return ebpf_program_load_elf(program, bytes || length ? bytes : &no_bytes, length, name || name_length ? name : "", name_length, context,
+                                 held, text || text_length ? text : &no_text, text_length, refusal);
+}
+#define ebpf_program_load_elf ebpf_program_load_elf_or_null
+
+static inline ebpf_status ebpf_machine_run_or_null(ebpf_machine *machine, ebpf_program *program, const uint8_t *context,
+                                                   size_t context_length, uint64_t limit, uint64_t *output, size_t output_length,
+                                                   ebpf_report *report) {
+    uint8_t no_context = 0;
+    uint64_t no_output = 0;
+    return ebpf_machine_run(machine, program, context || context_length ? context : &no_context, context_length, limit,
+                            output || output_length ? output : &no_output, output_length, report);
+}
+#define ebpf_machine_run ebpf_machine_run_or_null
 
 #ifdef __cplusplus
 }

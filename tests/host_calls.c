@@ -60,7 +60,7 @@ static ebpf_status run(const char *context, uint64_t limit) {
              "7906000000000000bf010000000000008500000002000000bf600000000000009500000000000000"
 /* emits the byte of the context and returns 7 */
 #define EMIT "71110000000000008500000003000000b7000000070000009500000000000000"
-/* takes what stands on the shelf of records, and gives it back */
+/* takes what is on the shelf of records, and gives it back */
 #define FETCH "b701000001000000b70200000000000085000000040000001500020000000000" \
               "bf010000000000008500000002000000b7000000000000009500000000000000"
 /* reads four bytes of the context */
@@ -105,7 +105,7 @@ static void each_status(void) {
     ebpf_program_free(&program);
 }
 
-/* a program of the file, which comes behind its row */
+/* a program of the file, which comes after its row */
 struct row {
     char code[4];
     uint32_t slot;
@@ -132,7 +132,7 @@ static unsigned each_refusal(const char *path) {
     return rows;
 }
 
-/* a sentence is cut where there is no more room, and nothing behind is written */
+/* a sentence is cut where there is no more room, and nothing after it is written */
 static void a_short_text(void) {
     uint8_t bytes[16];
     size_t length = bytes_of(READ, bytes);
@@ -211,6 +211,65 @@ static long each_allocation(const char *name, ebpf_status status) {
     return allocations;
 }
 
+/* two handles of one program, freed in either order; a full handle lets go of what it held */
+static void shares(void) {
+    ebpf_program other = {0}, none = {0};
+    assert(ebpf_machine_new(&machine, 1) == EBPF_DONE);
+    assert(ebpf_program_share(&other, &none) == EBPF_EMPTY && !other.word && !none.word);
+    for (int order = 0; order < 2; order++) {
+        assert(load(CELL, 0, 1) == EBPF_DONE && ebpf_program_share(&other, &program) == EBPF_DONE);
+        assert(other.word != program.word && run("", 100) == EBPF_DONE && report.exit == 5);
+        ebpf_program *first = order ? &other : &program, *last = order ? &program : &other;
+        ebpf_program_free(first);
+        assert(!first->word && last->word);
+        assert(ebpf_machine_run(&machine, first, NULL, 0, 100, NULL, 0, &report) == EBPF_EMPTY);
+        assert(ebpf_machine_run(&machine, last, NULL, 0, 100, NULL, 0, &report) == EBPF_DONE && report.exit == 5);
+        ebpf_program_free(last);
+        assert(!last->word);
+    }
+    assert(load(CELL, 0, 1) == EBPF_DONE && ebpf_program_share(&other, &program) == EBPF_DONE);
+    assert(load(EMIT, 1, 0) == EBPF_DONE && ebpf_program_share(&other, &none) == EBPF_EMPTY);
+    assert(ebpf_machine_run(&machine, &other, NULL, 0, 100, NULL, 0, &report) == EBPF_DONE && report.exit == 5);
+    assert(ebpf_program_share(&other, &program) == EBPF_DONE); /* the last handle of the first program */
+    assert(ebpf_machine_run(&machine, &other, (const uint8_t *)"*", 1, 100, output, 4, &report) == EBPF_DONE && output[0] == '*');
+    assert(ebpf_program_share(&program, &other) == EBPF_DONE); /* what it shares already */
+    assert(run("2b", 100) == EBPF_DONE && report.exit == 7 && output[0] == 43);
+    ebpf_program_free(&other);
+    ebpf_program_free(&program);
+    ebpf_machine_free(&machine);
+}
+
+/* a null pointer with length 0, for each pointer that has a length */
+static void no_items(void) {
+    uint8_t bytes[128];
+    assert(ebpf_program_load(&program, NULL, 0, 0, 0, text, sizeof text, &refusal) == EBPF_REFUSED);
+    uint64_t length = refusal.length;
+    memset(&refusal, 0, sizeof refusal);
+    assert(ebpf_program_load(&program, NULL, 0, 0, 0, NULL, 0, &refusal) == EBPF_REFUSED);
+    assert(!strcmp(refusal.code, "I1") && refusal.slot == 0 && refusal.length == length && !program.word);
+    assert(ebpf_program_load(&program, bytes, bytes_of(READ, bytes), 3, 0, NULL, 0, &refusal) == EBPF_REFUSED);
+    assert(!strcmp(refusal.code, "V8") && refusal.length > 20);
+    assert(ebpf_program_load_elf(&program, NULL, 0, NULL, 0, 0, 0, NULL, 0, &refusal) == EBPF_REFUSED && !strcmp(refusal.code, "O1"));
+    assert(ebpf_machine_new(&machine, 1) == EBPF_DONE);
+    assert(ebpf_program_load(&program, bytes, bytes_of(CELL, bytes), 0, 1, NULL, 0, &refusal) == EBPF_DONE);
+    assert(ebpf_machine_run(&machine, &program, NULL, 0, 100, output, 4, &report) == EBPF_DONE && report.exit == 5);
+    assert(ebpf_machine_run(&machine, &program, NULL, 0, 100, NULL, 0, &report) == EBPF_DONE && report.exit == 5);
+    assert(ebpf_program_load(&program, bytes, bytes_of(EMIT, bytes), 1, 0, NULL, 0, &refusal) == EBPF_DONE);
+    assert(ebpf_machine_run(&machine, &program, NULL, 0, 100, NULL, 0, &report) == EBPF_CONTEXT);
+    assert(ebpf_machine_run(&machine, &program, bytes, 1, 100, NULL, 0, &report) == EBPF_DONE && report.outputs == 1);
+    ebpf_program_free(&program);
+    ebpf_machine_free(&machine);
+}
+
+/* each status has a text of its own, and all others have one */
+static void status_texts(void) {
+    for (ebpf_status one = EBPF_DONE; one <= EBPF_NO_MEMORY; one++)
+        for (ebpf_status other = one + 1; other <= EBPF_NO_MEMORY + 1; other++)
+            assert(strcmp(ebpf_status_text(one), ebpf_status_text(other)));
+    assert(!strcmp(ebpf_status_text(EBPF_DONE), "done") && !strcmp(ebpf_status_text(EBPF_NO_MEMORY), "out of memory"));
+    assert(!strcmp(ebpf_status_text(EBPF_NO_MEMORY + 1), "unknown status") && !strcmp(ebpf_status_text(UINT32_MAX), "unknown status"));
+}
+
 static void *on_another_thread(void *unused) {
     (void)unused;
     assert(run("", 100) == EBPF_DONE && report.exit == 5);
@@ -226,7 +285,7 @@ static void one_thread_after_another(void) {
     assert(pthread_join(other, NULL) == 0);
 }
 
-/* The calls with so many allocations served: each answers want of memory and leaves what was there, or does what it says. Whether one
+/* The calls with that many allocations served: each answers want of memory and leaves what was there, or does what it says. Whether one
  * was refused. */
 static int served(long allocations) {
     refused = 0;
@@ -244,20 +303,44 @@ static int served(long allocations) {
     return refused;
 }
 
+/* The same of a share, into a handle that holds another program: where it is refused, that program is still there. */
+static int shared(long allocations) {
+    ebpf_program other = {0};
+    assert(ebpf_machine_new(&machine, 1) == EBPF_DONE && load(EMIT, 1, 0) == EBPF_DONE);
+    assert(ebpf_program_share(&other, &program) == EBPF_DONE && load(CELL, 0, 1) == EBPF_DONE);
+    refused = 0;
+    left = allocations;
+    ebpf_status status = ebpf_program_share(&other, &program);
+    left = -1;
+    assert(status == (refused ? EBPF_NO_MEMORY : EBPF_DONE));
+    assert(run("", 100) == EBPF_DONE && report.exit == 5);
+    ebpf_program_free(&program);
+    const char *context = refused ? "*" : "";
+    assert(ebpf_machine_run(&machine, &other, (const uint8_t *)context, strlen(context), 100, output, 4, &report) == EBPF_DONE);
+    assert(report.exit == (refused ? 7 : 5));
+    ebpf_program_free(&other);
+    ebpf_machine_free(&machine);
+    return refused;
+}
+
 int main(int count, char **words) {
     assert(count == 6);
     each_status();
     unsigned refusals = each_refusal(words[1]);
     a_short_text();
     each_object(words + 2);
+    shares();
+    no_items();
+    status_texts();
     one_thread_after_another();
-    long allocations = 0;
+    long allocations = 0, of_share = 0;
     while (served(allocations)) allocations++;
-    assert(allocations > 10);
+    while (shared(of_share)) of_share++;
+    assert(allocations > 10 && of_share > 0);
     read_object(words[2]);
     long loads = each_allocation("largest", EBPF_DONE), faults = each_allocation("", EBPF_REFUSED);
     assert(loads > 5 && faults > 0);
-    allocations += loads + faults;
-    printf("host: %u refused programs, %ld refused allocations\n", refusals, allocations);
+    allocations += loads + faults + of_share;
+    printf("host: %u refused programs, %ld refused allocations, %ld of a share\n", refusals, allocations, of_share);
     return 0;
 }

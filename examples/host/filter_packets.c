@@ -2,8 +2,8 @@
  *
  *     filter_packets FILTER PACKETS
  *
- * FILTER has raw instruction slots, as llvm-objcopy -O binary writes them. PACKETS has packets one behind another, each behind its length
- * as two bytes, the low one first. The filter sees the first 24 bytes of a packet, with zeros behind a shorter one. */
+ * FILTER has raw instruction slots, as llvm-objcopy -O binary writes them. PACKETS has packets one after another, each after its length
+ * as two bytes, the low one first. The filter sees the first 24 bytes of a packet, with zeros after a shorter one. */
 #include <stdio.h>
 #include <stdlib.h>
 #include <string.h>
@@ -31,7 +31,7 @@ static void load(ebpf_program *program, const char *path) {
         fprintf(stderr, "refused %.4s %u\n%.*s", refusal.code, refusal.slot, told, why);
         exit(2);
     }
-    if (status != EBPF_DONE) fail("no memory");
+    if (status != EBPF_DONE) fail(ebpf_status_text(status));
 }
 
 /* The next packet: 1, or 0 at the end of the file. */
@@ -52,15 +52,16 @@ int main(int count, char **words) {
     ebpf_program program = {0};
     ebpf_machine machine = {0};
     load(&program, words[1]);
-    if (ebpf_machine_new(&machine, 1) != EBPF_DONE) fail("no memory");
+    ebpf_status status = ebpf_machine_new(&machine, 1);
+    if (status != EBPF_DONE) fail(ebpf_status_text(status));
     FILE *file = fopen(words[2], "rb");
     if (!file) fail("the packets can't be opened");
     unsigned long taken = 0, all = 0;
     uint8_t context[CONTEXT];
-    uint64_t none[1];
     ebpf_report report;
     while (next(file, context)) {
-        if (ebpf_machine_run(&machine, &program, context, CONTEXT, UINT64_MAX, none, 0, &report) != EBPF_DONE) fail("no memory");
+        status = ebpf_machine_run(&machine, &program, context, CONTEXT, UINT64_MAX, NULL, 0, &report);
+        if (status != EBPF_DONE) fail(ebpf_status_text(status));
         taken += report.exit != 0;
         all++;
     }

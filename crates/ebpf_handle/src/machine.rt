@@ -24,6 +24,9 @@ impl Model for MachineHandle {
     ghost also_owns = { λ h. held machine_row h.at h.value };
 }
 
+// It owns a machine and the block that has it: any thread may free both.
+unsafe impl Send for MachineHandle {}
+
 impl MachineHandle {
     fn of_held(from: Held<Machine>) -> MachineHandle
         ensures { result.value ≡ from.value }

@@ -1,11 +1,18 @@
 -- What a call by handles does with what they hold.
 use Rattle.std.specs.Prelude.{◌≡◌, ℕ, List, Option, None}
+use Rattle.std.specs.Arc.{arc_value}
 use Rattle.std.specs.Option.{MatchOption}
+use Rattle.std.specs.declared.alloc.Global.{Global}
+use Rattle.std.specs.declared.sync.Arc.{Arc}
 use Rattle.ebpf_host.specs.declared.program.Program.{Program}
 use Rattle.ebpf_host.specs.declared.stocks.Stocks.{Stocks}
 use Rattle.ebpf_host.specs.Stocks.{stock_of}
 use Rattle.ebpf_host_c.specs.declared.told.Reported.{Reported}
 use Rattle.ebpf_host_c.specs.Told.{IsReportTold}
+
+-- both handles hold a program, and it is the same
+abbrev pub HoldTheSame : Option (Arc Program Global) → Option (Arc Program Global) → Type 0
+HoldTheSame one other = MatchOption one ⊥ (λ p. MatchOption other ⊥ (λ o. arc_value o ≡ arc_value p))
 
 -- a handle that held nothing holds nothing, and one that held a machine holds one: the relation is of the two
 abbrev pub MachineGoes : (Stocks → Stocks → Type 0) → Option Stocks → Option Stocks → Type 0
@@ -20,7 +27,7 @@ abbrev pub ShelvesStay : Stocks → Stocks → Type 0
 ShelvesStay before after = (kind : ℕ) → (stock_of after kind).shelf ≡ (stock_of before kind).shelf
 
 -- the handles held a program and a machine, the machine is still held, and what C reads is the report of the run
-abbrev pub IsRunTold : Option Program → Option Stocks → Option Stocks → List ℕ → ℕ → List ℕ → List ℕ → Reported → Type 0
+abbrev pub IsRunTold : Option (Arc Program Global) → Option Stocks → Option Stocks → List ℕ → ℕ → List ℕ → List ℕ → Reported → Type 0
 IsRunTold program old new context limit room output told =
     MatchOption program ⊥ (λ p. MatchOption old ⊥ (λ before. MatchOption new ⊥ (λ after.
-    IsReportTold before after p.verified context limit room output told)))
+    IsReportTold before after (arc_value p).verified context limit room output told)))

@@ -1,6 +1,7 @@
 //! Machines, as C makes them, runs programs on them, and frees them.
 
 ghost use Rattle.std.specs.Prelude.{◌≡◌, ◌≢◌, ◌⊎◌, ◌<◌, ℕ, None, length};
+ghost use Rattle.std.specs.Arc.{arc_value};
 ghost use Rattle.std.specs.Option.{MatchOption};
 ghost use Rattle.vmem_arena.specs.declared.arena.TheConstants.{MAX_PAGES};
 ghost use Rattle.ebpf_host.specs.Stocks.{stock_of};
@@ -78,7 +79,7 @@ pub extern "C" fn ebpf_machine_run(
     ensures report { result ≡ 0 → IsRunTold program.old.value machine.old.value machine.new.value context.now limit output.old output.new report.new }
     ensures pages { MachineGoes PagesStay machine.old.value machine.new.value }
     ensures unchanged { result ≢ 0 → machine.new.value ≡ machine.old.value }
-    ensures context { result ≡ 4 → MatchOption program.old.value ⊥ (λ p. length context.now ≢ p.verified.decl.context) }
+    ensures context { result ≡ 4 → MatchOption program.old.value ⊥ (λ p. length context.now ≢ (arc_value p).verified.decl.context) }
     ensures empty { MatchOption machine.old.value (result ≡ 5) (λ _. MatchOption program.old.value (result ≡ 5) (λ _. (result ≡ 0) ⊎ (result ≡ 4) ⊎ (result ≡ 6))) }
     ensures kept { program.new.value ≡ program.old.value }
 {

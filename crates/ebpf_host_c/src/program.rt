@@ -1,12 +1,14 @@
 //! Programs, as C loads and frees them.
 
 ghost use Rattle.std.specs.Prelude.{◌≡◌, ◌≢◌, ◌⊎◌, ◌<◌, None};
+ghost use Rattle.std.specs.Arc.{arc_value};
 ghost use Rattle.std.specs.Option.{MatchOption};
 ghost use Rattle.ebpf_host.specs.Loading.{IsLoaded};
 ghost use Rattle.ebpf_host_c.specs.Objects.{IsFunctionLoaded, IsFunctionRefused};
 ghost use Rattle.ebpf_host_c.specs.Told.{IsRefusalTold};
 
-use crate::status::{DECLARATION, DONE, NO_MEMORY, REFUSED};
+use crate::share::keep;
+use crate::status::{DECLARATION, NO_MEMORY, REFUSED};
 use crate::told::{Refused, tell_fault, tell_refusal};
 use ebpf_handle::program::ProgramHandle;
 use ebpf_host::program::Program;
@@ -26,20 +28,14 @@ pub extern "C" fn ebpf_program_load(
     text: &mut [u8],
     refused: &mut Refused,
 ) -> u32
-    ensures loaded { result ≡ 0 → MatchOption program.new.value ⊥ (λ p. IsLoaded bytes.now context held p.verified) }
+    ensures loaded { result ≡ 0 → MatchOption program.new.value ⊥ (λ p. IsLoaded bytes.now context held (arc_value p).verified) }
     ensures refused { result ≡ 1 → IsRefusalTold bytes.now context held text.old text.new refused.new }
     ensures declaration { result ≡ 2 → (4096 < context) ⊎ (64 < held) }
     ensures statuses { (result ≡ 0) ⊎ (result ≡ 1) ⊎ (result ≡ 2) ⊎ (result ≡ 6) }
     ensures kept { result ≢ 0 → program.new.value ≡ program.old.value }
 {
     match Program::load(alloc, bytes, context, held) {
-        Ok(loaded) => match Box::new(alloc, loaded) {
-            Ok(boxed) => {
-                program.put(alloc, boxed);
-                DONE
-            }
-            Err(_) => NO_MEMORY,
-        },
+        Ok(loaded) => keep(alloc, program, loaded),
         Err(LoadFault::Refused(refusal)) => {
             tell_refusal(refusal, text, refused);
             REFUSED
@@ -62,7 +58,7 @@ pub extern "C" fn ebpf_program_load_elf(
     text: &mut [u8],
     refused: &mut Refused,
 ) -> u32
-    ensures loaded { result ≡ 0 → MatchOption program.new.value ⊥ (λ p. IsFunctionLoaded bytes.now name.now context held p.verified) }
+    ensures loaded { result ≡ 0 → MatchOption program.new.value ⊥ (λ p. IsFunctionLoaded bytes.now name.now context held (arc_value p).verified) }
     ensures refused { result ≡ 1 → IsFunctionRefused bytes.now name.now context held text.old text.new refused.new }
     ensures declaration { result ≡ 2 → (4096 < context) ⊎ (64 < held) }
     ensures statuses { (result ≡ 0) ⊎ (result ≡ 1) ⊎ (result ≡ 2) ⊎ (result ≡ 6) }
@@ -79,7 +75,7 @@ pub extern "C" fn ebpf_program_load_elf(
     }
 }
 
-/// Frees a program. The handle holds nothing then, and may be freed again.
+/// Frees a handle, and with the last one its program. The handle holds nothing then, and may be freed again.
 #[unsafe(no_mangle)]
 pub extern "C" fn ebpf_program_free(alloc: Global, program: &mut ProgramHandle)
     ensures { program.new.value ≡ None }

@@ -1,0 +1,72 @@
+//! A program in a handle, and a second handle of it.
+
+ghost use Rattle.std.specs.Prelude.{◌≡◌, ◌≢◌, ◌⊎◌};
+ghost use Rattle.std.specs.Arc.{arc_value};
+ghost use Rattle.std.specs.Option.{MatchOption};
+ghost use Rattle.ebpf_host_c.specs.Handles.{HoldTheSame};
+
+use crate::status::{DONE, EMPTY, NO_MEMORY};
+use ebpf_handle::program::ProgramHandle;
+use ebpf_host::program::Program;
+use std::alloc::Global;
+use std::sync::Arc;
+
+/// Puts a loaded program into a handle, and frees what the handle held before.
+pub(crate) fn keep(alloc: Global, program: &mut ProgramHandle, loaded: Program) -> u32
+    ensures kept { result ≡ 0 → MatchOption program.new.value ⊥ (λ p. arc_value p ≡ loaded) }
+    ensures statuses { (result ≡ 0) ⊎ (result ≡ 6) }
+    ensures unchanged { result ≢ 0 → program.new.value ≡ program.old.value }
+{
+    match Arc::new(alloc, loaded) {
+        Ok(shared) => put_share(alloc, program, shared),
+        Err(_) => NO_MEMORY,
+    }
+}
+
+/// Lets `other` hold the program of `program` too, without verifying it again, and frees what `other` held before. Each of the two
+/// handles is then freed by itself, on any thread, and the last one frees the program.
+#[unsafe(no_mangle)]
+pub extern "C" fn ebpf_program_share(
+    alloc: Global,
+    other: &mut ProgramHandle,
+    program: &mut ProgramHandle,
+) -> u32
+    ensures shared { result ≡ 0 → HoldTheSame program.old.value other.new.value }
+    ensures statuses { MatchOption program.old.value (result ≡ 5) (λ _. (result ≡ 0) ⊎ (result ≡ 6)) }
+    ensures unchanged { result ≢ 0 → other.new.value ≡ other.old.value }
+    ensures kept { program.new.value ≡ program.old.value }
+{
+    let Some(held) = program.take(alloc) else {
+        return EMPTY;
+    };
+    let status = share_held(alloc, other, &held);
+    program.put(alloc, held);
+    status
+}
+
+// The same with what the handle holds.
+fn share_held(alloc: Global, other: &mut ProgramHandle, held: &Arc<Program>) -> u32
+    ensures shared { result ≡ 0 → MatchOption other.new.value ⊥ (λ o. arc_value o ≡ arc_value held.now) }
+    ensures statuses { (result ≡ 0) ⊎ (result ≡ 6) }
+    ensures unchanged { result ≢ 0 → other.new.value ≡ other.old.value }
+{
+    match Arc::try_clone(held) {
+        Ok(shared) => put_share(alloc, other, shared),
+        Err(_) => NO_MEMORY,
+    }
+}
+
+// Puts a share of a program into a handle.
+fn put_share(alloc: Global, program: &mut ProgramHandle, shared: Arc<Program>) -> u32
+    ensures put { result ≡ 0 → MatchOption program.new.value ⊥ (λ p. arc_value p ≡ arc_value shared) }
+    ensures statuses { (result ≡ 0) ⊎ (result ≡ 6) }
+    ensures unchanged { result ≢ 0 → program.new.value ≡ program.old.value }
+{
+    match Box::new(alloc, shared) {
+        Ok(boxed) => {
+            program.put(alloc, boxed);
+            DONE
+        }
+        Err(_) => NO_MEMORY,
+    }
+}
