@@ -52,7 +52,10 @@ impl<H> Workspace<H> {
     {
         let mut context = mem::replace(&mut self.parts.context, Vec::new(alloc));
         context.clear();
-        context.extend_from_slice(bytes)?;
+        // Many programs read no context, and a copy is a call.
+        if !bytes.is_empty() {
+            context.extend_from_slice(bytes)?;
+        }
         Ok(context)
     }
 
