@@ -1,7 +1,8 @@
 """Writes the Markdown of the documents as the source of a manual page.
 
 It knows what they use: headings, paragraphs, examples by four blanks or between fences, lists, tables, and in a line code, bold and links.
-A table becomes a list, each row by its first cell; a link becomes its text.
+A table becomes a list, each row by its first cell; a link becomes its text. So pages are made without pandoc, which few machines have and
+whose tables are too wide for a terminal.
 """
 
 import re
