@@ -46,7 +46,7 @@ source_cuts name file response long (inr (inr k)) =
     let short = k.1.0 in let read = read_long file long in absurd (omega (arith, short, read))
 
 -- what is known of a function's lines
-abbrev LinesKnown : List ℕ → Function → Option Lines → Type 0
+abbrev pub LinesKnown : List ℕ → Function → Option Lines → Type 0
 LinesKnown file f r = MatchOption r (HasNoLinesOf file f.place.section) (λ l. AreLinesOf file f.place.section l)
 
 -- the response to a function without lines, and with them

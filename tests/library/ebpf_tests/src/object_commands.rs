@@ -3,7 +3,8 @@
 use crate::object_file::object;
 use crate::programs::{column, holds, is_told};
 use ebpf_command::done::Done;
-use ebpf_one::object_commands::{explain_object, lay_out_object, list_object, one_object};
+use ebpf_one::explain_object::explain_object;
+use ebpf_one::object_commands::{lay_out_object, list_object, one_object};
 use std::alloc::Global;
 use std::process::Abort;
 use std::test::*;
