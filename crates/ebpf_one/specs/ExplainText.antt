@@ -16,7 +16,6 @@ use Rattle.ebpf_verify.specs.Subject.{Subject}
 use Rattle.ebpf_verify.specs.Traces.{looked_at, entries_below}
 use Rattle.ebpf_verify.specs.Verdict.{verdict}
 use Rattle.ebpf_explain.specs.Reasons.{misled_in, reason_at}
-use Rattle.ebpf_explain.specs.Slots.{known_lines}
 use Rattle.ebpf_command.specs.declared.codes.RefusalCode.TheVariants.{Decode, Flow, Verify}
 use Rattle.ebpf_command.specs.declared.done.FaultCode.{FaultCode}
 use Rattle.ebpf_command.specs.Codes.{refusal_name}
@@ -29,14 +28,14 @@ use Rattle.ebpf_one.specs.Asked.{Asked, asked_for, fault_of}
 use Rattle.ebpf_one.specs.InputFaults.{undecoded_sentence, fault_sentence}
 use Rattle.ebpf_one.specs.Lines.{refused_line, accepted_line}
 use Rattle.ebpf_one.specs.OneText.{AreGiven}
-use Rattle.ebpf_one.specs.Sourced.{with_line}
+use Rattle.ebpf_one.specs.Sourced.{listed_lines, with_line}
 
 -- the listing up to the refused slot and why that is refused, or the listing of all
 abbrev pub explained_by : Option Sourced → Option (ℕ × VerifyCode) → Subject → List EntryState → Response
 explained_by source (Some refusal) s entries =
-    with_line source refusal.0 (refused_response (known_lines s entries ++ (refused_line (refusal_name (Verify refusal.1)) refusal.0
+    with_line source refusal.0 (refused_response (listed_lines source s entries ++ (refused_line (refusal_name (Verify refusal.1)) refusal.0
     ++ reason_at s entries refusal.0 refusal.1)))
-explained_by source None s entries = clean_response (known_lines s entries ++ accepted_line (length (instructions s.program)))
+explained_by source None s entries = clean_response (listed_lines source s entries ++ accepted_line (length (instructions s.program)))
 
 -- by the entries that the verifier looks at
 abbrev pub explained : Option Sourced → Subject → Response

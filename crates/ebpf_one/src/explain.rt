@@ -20,14 +20,13 @@ ghost use Rattle.ebpf_one.specs.ExplainText.{ExplainsTo, ExplainsWith, ExplainsB
 use crate::form::Form;
 use crate::input_faults::{write_fault_sentence, write_undecoded};
 use crate::request::{Request, requested};
-use crate::sourced::{Sourced, with_line};
+use crate::sourced::{Sourced, with_line, write_listed};
 use crate::text::refused_line;
 use ebpf_command::answer::{Answer, respond};
 use ebpf_command::codes::RefusalCode;
 use ebpf_command::done::{Done, EngineFault, FaultCode, Stop};
 use ebpf_command::text::fault_line;
 use ebpf_explain::reason::write_reason;
-use ebpf_explain::slots::write_slots;
 use ebpf_explain::why::write_misled_in;
 use ebpf_flow::check::check;
 use ebpf_flow::fault::{FlowCode, FlowFault};
@@ -221,7 +220,7 @@ fn answer_looked(
     ensures { IfOk result (λ answer. answer ≡ explained_by source.entry refusal (subject_of looked.now) looked.now.entries.now) }
 {
     let mut text = String::new(alloc);
-    write_slots(alloc, &mut text, looked)?;
+    write_listed(alloc, &mut text, looked, source)?;
     let Some((slot, code)) = refusal else {
         let len = looked.flowed.program().len();
         write!(text, "accepted {len}\n")?;

@@ -25,6 +25,7 @@ pub fn perform_one<R: Read, W: Write>(
         context,
         held,
         nulls,
+        ..
     } = options;
     match source {
         Source::Program(form) => one(alloc, reader, writer, form, context, held, nulls),
@@ -57,11 +58,14 @@ pub fn perform_explain<R: Read, W: Write>(
         source,
         context,
         held,
+        lines,
         ..
     } = options;
     match source {
         Source::Program(form) => explain(alloc, reader, writer, form, context, held),
-        Source::Object(name) => explain_object(alloc, reader, writer, name, context, held),
+        Source::Object(name) => {
+            explain_object(alloc, reader, writer, name, context, held, lines)
+        }
     }
 }
 

@@ -32,7 +32,7 @@ fn written(rt: &impl Abort, alloc: Global, command: &str, name: &str, function: 
     let done = match command {
         "one" => one_object(alloc, &mut reader, &mut writer, function, ZEROS, 0, false),
         "list" => list_object(alloc, &mut reader, &mut writer, function),
-        "explain" => explain_object(alloc, &mut reader, &mut writer, function, ZEROS, 0),
+        "explain" => explain_object(alloc, &mut reader, &mut writer, function, ZEROS, 0, false),
         _ => lay_out_object(alloc, &mut reader, &mut writer, function),
     };
     (writer, done.expect(rt, "it is told"))
