@@ -27,8 +27,11 @@ pub fn write_slots(alloc: Global, text: &mut String, looked: &Looked) -> Result<
     Ok(())
 }
 
-// Writes the lines of a slot, if an instruction begins there.
-fn write_slot(
+/// Writes the lines of a slot after a text, as [`write_slots`] does; nothing, where no instruction begins there.
+///
+/// # Errors
+/// It fails only where an allocation fails, and some of the lines may be written then.
+pub fn write_slot(
     alloc: Global,
     text: &mut String,
     looked: &Looked,

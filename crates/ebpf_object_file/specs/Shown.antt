@@ -1,5 +1,5 @@
 -- A line of C as it is shown: its file, its number and its text.
-use Rattle.std.specs.Prelude.{ℕ, Bool, ◌<◌, ◌+◌, ◌*◌, ◌/◌, ◌++◌, List, Option, None, length, map, codes, decimal, cond, ◌||◌, ◌&&◌, ◌==◌, slice_index_or}
+use Rattle.std.specs.Prelude.{ℕ, Bool, ◌<◌, ◌+◌, ◌*◌, ◌/◌, ◌++◌, List, Option, None, length, map, codes, decimal, cond, if◌then◌else◌, ◌||◌, ◌&&◌, ◌==◌, slice_index_or}
 use Rattle.std.specs.Char.{is_ascii_graphic}
 use Rattle.ebpf_object_file.specs.declared.lines.Line.{Line}
 use Rattle.ebpf_object_file.specs.declared.lines.Lines.{Lines}
@@ -16,6 +16,16 @@ shown_line file line text = map visible_byte file ++ (codes ":" ++ (decimal line
 -- a line of a section's lines, as it is shown
 abbrev pub shown_of : Lines → Line → List ℕ
 shown_of l n = shown_line (text_at l.strings.now n.file file_limit) n.line (trimmed (text_at l.strings.now n.text text_limit))
+
+-- the same with its column, where the compiler names one
+abbrev pub shown_place : (file : List ℕ) (line column : ℕ) (text : List ℕ) → List ℕ
+shown_place file line column text =
+    if column == 0 then shown_line file line text
+    else map visible_byte file
+    ++ (codes ":" ++ (decimal line ++ (codes ":" ++ (decimal column ++ (codes ": " ++ map visible_byte text)))))
+
+abbrev pub place_of : Lines → Line → List ℕ
+place_of l n = shown_place (text_at l.strings.now n.file file_limit) n.line n.column (trimmed (text_at l.strings.now n.text text_limit))
 
 -- the line that holds at each slot of a function that begins at a byte of the section
 abbrev pub AreHolding : Lines → ℕ → List (Option Line) → Type 0

@@ -200,6 +200,12 @@ pub struct SourceLine<'a> {
     pub text: &'a [u8],
 }
 
+/// A line of C, to be shown with its column.
+#[derive(Clone, Copy)]
+pub struct SourcePlace<'a> {
+    pub source: SourceLine<'a>,
+}
+
 impl<'a> Lines<'a> {
     /// The line that holds at a byte of a function that begins at another, both from the section's first byte: the last
     /// of those that begin between the two. `None` where none does.

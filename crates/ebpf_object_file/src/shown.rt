@@ -3,7 +3,7 @@
 ghost use Rattle.std.specs.Prelude.{◌≡◌, ◌<◌};
 ghost use Rattle.ebpf_object_file.specs.Shown.{visible_byte, is_one_line};
 
-use crate::lines::{Line, SourceLine};
+use crate::lines::{Line, SourceLine, SourcePlace};
 use std::fmt;
 
 // The byte, where it is a visible character of ASCII or a blank, and else `?`.
@@ -59,5 +59,25 @@ impl fmt::Display for SourceLine<'_> {
         let line = self.line;
         let text = Shown { bytes: self.text };
         write!(f, "{file}:{line}: {text}")
+    }
+}
+
+/// `FILE:LINE:COLUMN: TEXT`, with a `?` as in a [`SourceLine`], or that where the column is 0.
+impl fmt::Display for SourcePlace<'_> {
+    ghost use Rattle.std.specs.Prelude.{Some};
+    ghost use Rattle.ebpf_object_file.specs.Shown.{shown_place};
+
+    ghost output = { λ p. Some (shown_place p.source.file.now p.source.line p.source.column p.source.text.now) };
+
+    fn fmt<W: fmt::Write>(&self, f: &mut fmt::Formatter<W>) -> fmt::Result {
+        let source = self.source;
+        let column = source.column;
+        if column == 0 {
+            return write!(f, "{source}");
+        }
+        let file = Shown { bytes: source.file };
+        let line = source.line;
+        let text = Shown { bytes: source.text };
+        write!(f, "{file}:{line}:{column}: {text}")
     }
 }

@@ -13,8 +13,9 @@ use Rattle.ebpf_command.specs.Judging.{IsJudged}
 use Rattle.ebpf_command.specs.Response.{Response}
 use Rattle.ebpf_command.proofs.Written.{CutsLong}
 use Rattle.ebpf_one.specs.declared.form.Form.{Form}
+use Rattle.ebpf_one.specs.declared.sourced.Sourced.{Sourced}
 use Rattle.ebpf_one.specs.Asked.{Asked, asked_for, bytes_in, input_fault, fault_of}
-use Rattle.ebpf_one.specs.ExplainText.{ExplainsTo, ExplainsAsked, ExplainsBytes, ExplainsDecoded}
+use Rattle.ebpf_one.specs.ExplainText.{ExplainsTo, ExplainsWith, ExplainsAsked, ExplainsBytes, ExplainsDecoded}
 use Rattle.ebpf_one.specs.LayOutText.{LaysOut, LaysOutGiven}
 use Rattle.ebpf_one.specs.ListText.{RespondsList, RespondsGiven}
 use Rattle.ebpf_one.specs.OneText.{Responds, RespondsAsked, RespondsBytes, RespondsJudged, AreGiven}
@@ -69,22 +70,22 @@ Responds-asked form input context held nulls a response fine same h =
 -- and so does `explain`
 pub explain_cuts : (form : Form) (context : List ℕ) (held : ℕ) → CutsLong (ExplainsTo form context held)
 explain_cuts form context held =
-    cuts_at (λ input. fault_of form input context held) (λ f input response. ExplainsAsked f form input context held response)
+    cuts_at (λ input. fault_of form input context held) (λ f input response. ExplainsAsked None f form input context held response)
     (λ input long. fault_of_long form input context held long) (λ a b response h. h)
 
 -- what the bytes of a request are explained to be
-pub explained_bytes : (a : Asked) (seen : List ℕ) (decl : Decl) (rows : List KindRow) (response : Response) → seen ≡ a.bytes
-    → AreGiven a decl rows → ExplainsDecoded (decode_fault seen) seen decl rows response → ExplainsBytes a response
-explained_bytes a seen decl rows response same given h =
-    (decl, rows, given, subst (λ (bytes : List ℕ). ExplainsDecoded (decode_fault bytes) bytes decl rows response) same h)
+pub explained_bytes : (source : Option Sourced) (a : Asked) (seen : List ℕ) (decl : Decl) (rows : List KindRow) (response : Response) → seen ≡ a.bytes
+    → AreGiven a decl rows → ExplainsDecoded source (decode_fault seen) seen decl rows response → ExplainsBytes source a response
+explained_bytes source a seen decl rows response same given h =
+    (decl, rows, given, subst (λ (bytes : List ℕ). ExplainsDecoded source (decode_fault bytes) bytes decl rows response) same h)
 
 -- what the bytes that an input asks for are explained to be is what the input is
-pub Explains-asked : (form : Form) (input context : List ℕ) (held : ℕ) (a : Asked) (response : Response)
-    → fault_of form input context held ≡ None → a ≡ asked_for form input context held → ExplainsBytes a response
-    → ExplainsTo form context held input response
-Explains-asked form input context held a response fine same h =
-    let P : Option FaultCode → Type 0 = λ f. ExplainsAsked f form input context held response in
-    subst P (sym fine) (subst (λ (x : Asked). ExplainsBytes x response) same h)
+pub Explains-asked : (source : Option Sourced) (form : Form) (input context : List ℕ) (held : ℕ) (a : Asked) (response : Response)
+    → fault_of form input context held ≡ None → a ≡ asked_for form input context held → ExplainsBytes source a response
+    → ExplainsWith source form context held input response
+Explains-asked source form input context held a response fine same h =
+    let P : Option FaultCode → Type 0 = λ f. ExplainsAsked source f form input context held response in
+    subst P (sym fine) (subst (λ (x : Asked). ExplainsBytes source x response) same h)
 
 -- and so does `lay-out`
 pub lay_out_cuts : (form : Form) → CutsLong (LaysOut form)

@@ -14,28 +14,38 @@ use Rattle.ebpf_command.specs.Response.{Response}
 use Rattle.ebpf_command.proofs.Written.{CutsLong}
 use Rattle.ebpf_one.specs.declared.form.Form.TheVariants.{Raw}
 use Rattle.ebpf_one.specs.ListText.{RespondsList}
-use Rattle.ebpf_one.specs.SourceText.{heading, held_before, sourced_below, SourcesDecoded, SourcesFunction, RespondsSource}
+use Rattle.ebpf_one.specs.SourceText.{sourced_below, SourcesDecoded, SourcesFunction, RespondsSource}
+use Rattle.ebpf_one.specs.Sourced.{heading, held_before}
 use Rattle.ebpf_one.proofs.ObjectResponses.{read_long}
 use Rattle.ebpf_one.proofs.Responses.{list_cuts}
+
+-- a line of C and another line after a text
+pub headed_row : (l : Lines) (before earlier now held : Option Line) (text headed written row : List ℕ) → before ≡ earlier → now ≡ held
+    → headed ≡ text ++ heading l before now → written ≡ headed ++ row → written ≡ text ++ (heading l earlier held ++ row)
+headed_row l before earlier now held text headed written row same is first second =
+    let here : headed ≡ text ++ heading l earlier held =
+    first ∙ (ap (λ (o : Option Line). text ++ heading l o now) same ∙ ap (λ (o : Option Line). text ++ heading l earlier o) is) in
+    second ∙ (ap (λ (x : List ℕ). x ++ row) here ∙ append_assoc text (heading l earlier held) row)
 
 pub sourced_none : (l : Lines) (holding : List (Option Line)) (p : List (Option Insn)) → [] ≡ sourced_below l holding p 0
 unfolding sourced_below
 sourced_none l holding p = refl
 
 -- the line of C and that of the instruction are written
-pub sourced_more : (l : Lines) (holding : List (Option Line)) (p : List (Option Insn)) (n : ℕ) (before : Option Line) (text headed written : List ℕ)
+pub sourced_more : (l : Lines) (holding : List (Option Line)) (p : List (Option Insn)) (n : ℕ) (before now : Option Line) (text headed written : List ℕ)
     → text ≡ sourced_below l holding p n
     → before ≡ held_before holding n
-    → headed ≡ text ++ heading l before (slice_index_or holding n None)
+    → now ≡ slice_index_or holding n None
+    → headed ≡ text ++ heading l before now
     → written ≡ headed ++ line_at n (insn_at p n)
     → written ≡ sourced_below l holding p (n + 1)
 unfolding sourced_below
-sourced_more l holding p n before text headed written was same first second =
+sourced_more l holding p n before now text headed written was same is first second =
     let row : List ℕ = line_at n (insn_at p n) in
-    let now : Option Line = slice_index_or holding n None in
-    let head : List ℕ = heading l (held_before holding n) now in
-    let here : headed ≡ text ++ head = first ∙ ap (λ (o : Option Line). text ++ heading l o now) same in
-    rw (add-one) (second ∙ (ap (λ (x : List ℕ). x ++ row) here ∙ (append_assoc text head row ∙ ap (λ (x : List ℕ). x ++ (head ++ row)) was)))
+    let head : List ℕ = heading l (held_before holding n) (slice_index_or holding n None) in
+    let more : written ≡ text ++ (head ++ row) = headed_row l before (held_before holding n) now (slice_index_or holding n None) text headed written row same is
+    first second in
+    rw (add-one) (more ∙ ap (λ (x : List ℕ). x ++ (head ++ row)) was)
 
 -- of a file that is too long the beginning is answered
 pub source_cuts : (name : List ℕ) → CutsLong (RespondsSource name)
@@ -46,7 +56,7 @@ source_cuts name file response long (inr (inr k)) =
     let short = k.1.0 in let read = read_long file long in absurd (omega (arith, short, read))
 
 -- what is known of a function's lines
-abbrev LinesKnown : List ℕ → Function → Option Lines → Type 0
+abbrev pub LinesKnown : List ℕ → Function → Option Lines → Type 0
 LinesKnown file f r = MatchOption r (HasNoLinesOf file f.place.section) (λ l. AreLinesOf file f.place.section l)
 
 -- the response to a function without lines, and with them

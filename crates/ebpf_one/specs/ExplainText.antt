@@ -1,5 +1,5 @@
 -- The response of `explain` to its input and options: what is known before each instruction that the verifier looks at, and then the
--- verdict; of what doesn't come so far, why.
+-- verdict; of what doesn't come so far, why. Where the lines of C are known, that of a refused slot is under the reason.
 use Rattle.std.specs.Prelude.{◌≡◌, ℕ, ◌++◌, List, length, Option, Some, None}
 use Rattle.ebpf_insn.specs.declared.fault.DecodeCode.{DecodeCode}
 use Rattle.ebpf_insn.specs.declared.insn.Insn.{Insn}
@@ -16,7 +16,6 @@ use Rattle.ebpf_verify.specs.Subject.{Subject}
 use Rattle.ebpf_verify.specs.Traces.{looked_at, entries_below}
 use Rattle.ebpf_verify.specs.Verdict.{verdict}
 use Rattle.ebpf_explain.specs.Reasons.{misled_in, reason_at}
-use Rattle.ebpf_explain.specs.Slots.{known_lines}
 use Rattle.ebpf_command.specs.declared.codes.RefusalCode.TheVariants.{Decode, Flow, Verify}
 use Rattle.ebpf_command.specs.declared.done.FaultCode.{FaultCode}
 use Rattle.ebpf_command.specs.Codes.{refusal_name}
@@ -24,47 +23,54 @@ use Rattle.ebpf_command.specs.Lines.{fault_line}
 use Rattle.ebpf_command.specs.Response.{Response, refused_response, clean_response}
 use Rattle.ebpf_command.specs.Writing.{Responding}
 use Rattle.ebpf_one.specs.declared.form.Form.{Form}
+use Rattle.ebpf_one.specs.declared.sourced.Sourced.{Sourced}
 use Rattle.ebpf_one.specs.Asked.{Asked, asked_for, fault_of}
 use Rattle.ebpf_one.specs.InputFaults.{undecoded_sentence, fault_sentence}
 use Rattle.ebpf_one.specs.Lines.{refused_line, accepted_line}
 use Rattle.ebpf_one.specs.OneText.{AreGiven}
+use Rattle.ebpf_one.specs.Sourced.{listed_lines, with_line}
 
 -- the listing up to the refused slot and why that is refused, or the listing of all
-abbrev pub explained_by : Option (ℕ × VerifyCode) → Subject → List EntryState → Response
-explained_by (Some refusal) s entries =
-    refused_response (known_lines s entries ++ (refused_line (refusal_name (Verify refusal.1)) refusal.0
-    ++ reason_at s entries refusal.0 refusal.1))
-explained_by None s entries = clean_response (known_lines s entries ++ accepted_line (length (instructions s.program)))
+abbrev pub explained_by : Option Sourced → Option (ℕ × VerifyCode) → Subject → List EntryState → Response
+explained_by source (Some refusal) s entries =
+    with_line source refusal.0 (refused_response (listed_lines source s entries ++ (refused_line (refusal_name (Verify refusal.1)) refusal.0
+    ++ reason_at s entries refusal.0 refusal.1)))
+explained_by source None s entries = clean_response (listed_lines source s entries ++ accepted_line (length (instructions s.program)))
 
 -- by the entries that the verifier looks at
-abbrev pub explained : Subject → Response
-explained s = explained_by (verdict s) s (entries_below s.program (looked_at (verdict s) (length s.program)))
+abbrev pub explained : Option Sourced → Subject → Response
+explained source s = explained_by source (verdict s) s (entries_below s.program (looked_at (verdict s) (length s.program)))
 
 abbrev pub misled_response : List (Option Insn) → ℕ → FlowCode → Response
 misled_response p slot code = refused_response (refused_line (refusal_name (Flow code)) slot ++ misled_in p slot code)
 
 -- a program is refused for its flow, or goes on to the verifier
-abbrev pub ExplainsFlow : Option (ℕ × FlowCode) → Subject → Response → Type 0
-ExplainsFlow (Some refusal) s response = response ≡ misled_response s.program refusal.0 refusal.1
-ExplainsFlow None s response = response ≡ explained s
+abbrev pub ExplainsFlow : Option Sourced → Option (ℕ × FlowCode) → Subject → Response → Type 0
+ExplainsFlow source (Some refusal) s response = response ≡ with_line source refusal.0 (misled_response s.program refusal.0 refusal.1)
+ExplainsFlow source None s response = response ≡ explained source s
 
 -- bytes are refused as no program, or are the program that they encode
-abbrev pub ExplainsDecoded : Option (ℕ × DecodeCode) → List ℕ → Decl → List KindRow → Response → Type 0
-ExplainsDecoded (Some refusal) bytes decl rows response =
-    response ≡ refused_response (refused_line (refusal_name (Decode refusal.1)) refusal.0 ++ undecoded_sentence bytes refusal.0 refusal.1)
-ExplainsDecoded None bytes decl rows response =
-    (p : List (Option Insn)) × IsProgram bytes p × ExplainsFlow (flow_fault p) (record { program = p; decl = decl; rows = rows }) response
+abbrev pub ExplainsDecoded : Option Sourced → Option (ℕ × DecodeCode) → List ℕ → Decl → List KindRow → Response → Type 0
+ExplainsDecoded source (Some refusal) bytes decl rows response = response ≡ with_line source refusal.0
+    (refused_response (refused_line (refusal_name (Decode refusal.1)) refusal.0 ++ undecoded_sentence bytes refusal.0 refusal.1))
+ExplainsDecoded source None bytes decl rows response =
+    (p : List (Option Insn)) × IsProgram bytes p × ExplainsFlow source (flow_fault p) (record { program = p; decl = decl; rows = rows }) response
 
 -- the bytes are judged with what is declared
-abbrev pub ExplainsBytes : Asked → Response → Type 0
-ExplainsBytes a response =
-    (decl : Decl) × (rows : List KindRow) × AreGiven a decl rows × ExplainsDecoded (decode_fault a.bytes) a.bytes decl rows response
+abbrev pub ExplainsBytes : Option Sourced → Asked → Response → Type 0
+ExplainsBytes source a response =
+    (decl : Decl) × (rows : List KindRow) × AreGiven a decl rows × ExplainsDecoded source (decode_fault a.bytes) a.bytes decl rows response
 
 -- the input or an option can't be used, and why, or bytes are asked for
-abbrev pub ExplainsAsked : Option FaultCode → (form : Form) (input context : List ℕ) (held : ℕ) → Response → Type 0
-ExplainsAsked (Some code) form input context held response = response ≡ refused_response (fault_line code 0 ++ fault_sentence form input context held code)
-ExplainsAsked None form input context held response = ExplainsBytes (asked_for form input context held) response
+abbrev pub ExplainsAsked : Option Sourced → Option FaultCode → (form : Form) (input context : List ℕ) (held : ℕ) → Response → Type 0
+ExplainsAsked source (Some code) form input context held response =
+    response ≡ refused_response (fault_line code 0 ++ fault_sentence form input context held code)
+ExplainsAsked source None form input context held response = ExplainsBytes source (asked_for form input context held) response
 
--- the response of `explain` by the form of the input, the context's text and the most objects to hold
+-- the response of `explain` by the lines of C, the form of the input, the context's text and the most objects to hold
+abbrev pub ExplainsWith : Option Sourced → Form → List ℕ → ℕ → Responding
+ExplainsWith source form context held input response = ExplainsAsked source (fault_of form input context held) form input context held response
+
+-- the same without lines
 abbrev pub ExplainsTo : Form → List ℕ → ℕ → Responding
-ExplainsTo form context held input response = ExplainsAsked (fault_of form input context held) form input context held response
+ExplainsTo = ExplainsWith None

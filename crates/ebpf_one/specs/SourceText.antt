@@ -1,5 +1,5 @@
 -- The response of `list --source` to an object file: the instructions of the function that is asked for, with the lines of C between.
-use Rattle.std.specs.Prelude.{◌≡◌, ◌≤◌, ◌<◌, ◌⊎◌, ℕ, zero, suc, ◌++◌, List, [], length, codes, Option, Some, None, cond, slice_index_or}
+use Rattle.std.specs.Prelude.{◌≡◌, ◌≤◌, ◌<◌, ◌⊎◌, ℕ, zero, suc, ◌++◌, List, [], length, Option, Some, None, slice_index_or}
 use Rattle.ebpf_insn.specs.declared.insn.Insn.{Insn}
 use Rattle.ebpf_insn.specs.declared.fault.DecodeCode.{DecodeCode}
 use Rattle.ebpf_insn.specs.Decoding.{decode_fault}
@@ -12,7 +12,7 @@ use Rattle.ebpf_object_file.specs.declared.lines.Lines.{Lines}
 use Rattle.ebpf_object_file.specs.declared.object_fault.ObjectFault.{ObjectFault}
 use Rattle.ebpf_object_file.specs.declared.object_fault.ObjectFault.TheVariants.{File}
 use Rattle.ebpf_object_file.specs.Function.{IsWanted}
-use Rattle.ebpf_object_file.specs.Shown.{shown_of, AreHolding, is_one_line}
+use Rattle.ebpf_object_file.specs.Shown.{AreHolding}
 use Rattle.ebpf_object_file.specs.Source.{AreLinesOf, HasNoLinesOf, IsLinesOfFault}
 use Rattle.ebpf_text.specs.Listing.{line_at}
 use Rattle.ebpf_command.specs.Codes.{decode_name}
@@ -22,20 +22,7 @@ use Rattle.ebpf_one.specs.declared.form.Form.TheVariants.{Raw}
 use Rattle.ebpf_one.specs.Lines.{refused_line}
 use Rattle.ebpf_one.specs.ListText.{RespondsList}
 use Rattle.ebpf_one.specs.ObjectText.{IsTakenFault, object_fault_lines}
-
-abbrev pub source_row : Lines → Line → List ℕ
-source_row l n = codes "; " ++ (shown_of l n ++ codes "\n")
-
--- what is written before a slot where one line holds, and another at the slot before it: nothing where they are one line
-abbrev pub heading : Lines → Option Line → Option Line → List ℕ
-heading l before None = []
-heading l None (Some n) = source_row l n
-heading l (Some b) (Some n) = cond (is_one_line b n) [] (source_row l n)
-
--- the line that holds at the slot before a slot
-abbrev pub held_before : List (Option Line) → ℕ → Option Line
-held_before holding zero = None
-held_before holding (suc k) = slice_index_or holding k None
+use Rattle.ebpf_one.specs.Sourced.{heading, held_before}
 
 abbrev pub slot_text : Lines → List (Option Line) → List (Option Insn) → ℕ → List ℕ
 slot_text l holding p slot = heading l (held_before holding slot) (slice_index_or holding slot None) ++ line_at slot (insn_at p slot)

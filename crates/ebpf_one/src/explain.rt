@@ -15,18 +15,18 @@ ghost use Rattle.ebpf_command.specs.Response.{refused_response};
 ghost use Rattle.ebpf_command.specs.Writing.{Writes, WritesBeginning, Reads};
 ghost use Rattle.ebpf_one.specs.InputFaults.{undecoded_sentence, fault_sentence};
 ghost use Rattle.ebpf_one.specs.Lines.{refused_line};
-ghost use Rattle.ebpf_one.specs.ExplainText.{ExplainsTo, ExplainsBytes, ExplainsDecoded, ExplainsFlow, explained, explained_by, misled_response};
+ghost use Rattle.ebpf_one.specs.ExplainText.{ExplainsTo, ExplainsWith, ExplainsBytes, ExplainsDecoded, ExplainsFlow, explained, explained_by, misled_response};
 
 use crate::form::Form;
 use crate::input_faults::{write_fault_sentence, write_undecoded};
 use crate::request::{Request, requested};
+use crate::sourced::{Sourced, with_line, write_listed};
 use crate::text::refused_line;
 use ebpf_command::answer::{Answer, respond};
 use ebpf_command::codes::RefusalCode;
 use ebpf_command::done::{Done, EngineFault, FaultCode, Stop};
 use ebpf_command::text::fault_line;
 use ebpf_explain::reason::write_reason;
-use ebpf_explain::slots::write_slots;
 use ebpf_explain::why::write_misled_in;
 use ebpf_flow::check::check;
 use ebpf_flow::fault::{FlowCode, FlowFault};
@@ -63,22 +63,23 @@ pub fn explain<R: Read, W: Write>(
     ensures beginning { WritesBeginning (ExplainsTo form context.now held) (R.remaining reader.old) (W.contents writer.old) (W.contents writer.new) result }
 {
     respond(alloc, reader, writer, |input| {
-        explain_input(alloc, form, input, context, held)
+        explain_input(alloc, form, input, context, held, None)
     })
 }
 
-// The response to an input and the options.
+// The response to an input and the options, with the lines of C that are known.
 pub(crate) fn explain_input(
     alloc: Global,
     form: Form,
     input: &[u8],
     context: &str,
     held: u8,
+    source: Option<Sourced<'_>>,
 ) -> Result<Answer, AllocError>
-    ensures { IfOk result (ExplainsTo form context.now held input.now) }
+    ensures { IfOk result (ExplainsWith source.entry form context.now held input.now) }
 {
     match requested(alloc, form, input, context, held) {
-        Ok(request) => explain_request(alloc, request),
+        Ok(request) => explain_request(alloc, request, source),
         Err(Stop::Fault(code)) => answer_unused(alloc, form, input, context, held, code),
         Err(Stop::NoMemory) => Err(AllocError),
     }
@@ -104,11 +105,15 @@ fn answer_unused(
 }
 
 // The response to the bytes of a request.
-fn explain_request(alloc: Global, request: Request) -> Result<Answer, AllocError>
+fn explain_request(
+    alloc: Global,
+    request: Request,
+    source: Option<Sourced<'_>>,
+) -> Result<Answer, AllocError>
     requires { request.decl.context ≡ length request.context.items }
-    ensures { IfOk result (ExplainsBytes (record { bytes = request.bytes.items; context = request.context.items; held = request.decl.held })) }
+    ensures { IfOk result (ExplainsBytes source.entry (record { bytes = request.bytes.items; context = request.context.items; held = request.decl.held })) }
 {
-    explain_bytes(alloc, &request.bytes, request.decl, &kinds())
+    explain_bytes(alloc, &request.bytes, request.decl, &kinds(), source)
 }
 
 // The response to bytes, with what is declared and the kinds.
@@ -117,13 +122,17 @@ fn explain_bytes(
     bytes: &[u8],
     decl: Decl,
     rows: &[KindRow],
+    source: Option<Sourced<'_>>,
 ) -> Result<Answer, AllocError>
     requires { AreKinds rows.now }
-    ensures { IfOk result (ExplainsDecoded (decode_fault bytes.now) bytes.now decl rows.now) }
+    ensures { IfOk result (ExplainsDecoded source.entry (decode_fault bytes.now) bytes.now decl rows.now) }
 {
     match decode(alloc, bytes) {
-        Ok(program) => explain_program(alloc, bytes, program, decl, rows),
-        Err(DecodeFault::Bad { slot, code }) => answer_undecoded(alloc, bytes, slot, code),
+        Ok(program) => explain_program(alloc, bytes, program, decl, rows, source),
+        Err(DecodeFault::Bad { slot, code }) => {
+            let answer = answer_undecoded(alloc, bytes, slot, code)?;
+            with_line(answer, source, slot)
+        }
         Err(DecodeFault::NoMemory) => Err(AllocError),
     }
 }
@@ -152,14 +161,18 @@ fn explain_program(
     program: Program,
     decl: Decl,
     rows: &[KindRow],
+    source: Option<Sourced<'_>>,
 ) -> Result<Answer, AllocError>
     requires kinds { AreKinds rows.now }
     requires encoded { IsProgram bytes.now program }
-    ensures { IfOk result (ExplainsFlow (flow_fault program) (record { program = program; decl = decl; rows = rows.now })) }
+    ensures { IfOk result (ExplainsFlow source.entry (flow_fault program) (record { program = program; decl = decl; rows = rows.now })) }
 {
     match check(alloc, program) {
-        Ok(flowed) => explain_flowed(alloc, &flowed, decl, rows),
-        Err(FlowFault::Bad { slot, code }) => answer_misled(alloc, bytes, slot, code),
+        Ok(flowed) => explain_flowed(alloc, &flowed, decl, rows, source),
+        Err(FlowFault::Bad { slot, code }) => {
+            let answer = answer_misled(alloc, bytes, slot, code)?;
+            with_line(answer, source, slot)
+        }
         Err(FlowFault::NoMemory) => Err(AllocError),
     }
 }
@@ -187,13 +200,14 @@ fn explain_flowed(
     flowed: &Flowed,
     decl: Decl,
     rows: &[KindRow],
+    source: Option<Sourced<'_>>,
 ) -> Result<Answer, AllocError>
     requires { AreKinds rows.now }
-    ensures { IfOk result (λ answer. answer ≡ explained (record { program = flowed.now; decl = decl; rows = rows.now })) }
+    ensures { IfOk result (λ answer. answer ≡ explained source.entry (record { program = flowed.now; decl = decl; rows = rows.now })) }
 {
     let trace = trace_verdict(alloc, flowed, decl, rows)?;
     let looked = Looked::of(flowed, decl, rows, &trace);
-    answer_looked(alloc, &looked, trace.refusal)
+    answer_looked(alloc, &looked, trace.refusal, source)
 }
 
 // The answer to a program that was looked at, by the refusal of its trace.
@@ -201,11 +215,12 @@ fn answer_looked(
     alloc: Global,
     looked: &Looked,
     refusal: Option<(u16, VerifyCode)>,
+    source: Option<Sourced<'_>>,
 ) -> Result<Answer, AllocError>
-    ensures { IfOk result (λ answer. answer ≡ explained_by refusal (subject_of looked.now) looked.now.entries.now) }
+    ensures { IfOk result (λ answer. answer ≡ explained_by source.entry refusal (subject_of looked.now) looked.now.entries.now) }
 {
     let mut text = String::new(alloc);
-    write_slots(alloc, &mut text, looked)?;
+    write_listed(alloc, &mut text, looked, source)?;
     let Some((slot, code)) = refusal else {
         let len = looked.flowed.program().len();
         write!(text, "accepted {len}\n")?;
@@ -217,8 +232,9 @@ fn answer_looked(
     let name = RefusalCode::Verify(code).name();
     write!(text, "refused {name} {slot}\n")?;
     write_reason(alloc, &mut text, looked, slot as usize, code)?;
-    Ok(Answer {
+    let answer = Answer {
         text,
         done: Done::Refused,
-    })
+    };
+    with_line(answer, source, slot)
 }

@@ -5,12 +5,13 @@
 //! what they ask for, the lines of their texts, and the store of objects of a single run.
 //!
 //! To be read in this order: `form`, `program_text`, `request`, `store`, `alone`, `text`, `answer`, `one`, `list`, `input_faults`, `explain`, `lay_out`, `object`,
-//! `object_commands`, `source_list`.
+//! `object_commands`, `source_list`, `sourced`, `explain_object`.
 #![tactic(auto)]
 
 mod alone;
 mod answer;
 pub mod explain;
+pub mod explain_object;
 pub mod form;
 mod input_faults;
 pub mod lay_out;
@@ -21,5 +22,6 @@ pub mod one;
 mod program_text;
 mod request;
 pub mod source_list;
+mod sourced;
 mod store;
 mod text;

@@ -1,17 +1,15 @@
-//! The commands over a function of an object file: each responds to its slots as to raw bytes.
+//! The commands over a function of an object file that respond to its slots as to raw bytes.
 
 ghost use Rattle.std.specs.Prelude.{◌≡◌, ◌≢◌, IfOk, IfErr};
 ghost use Rattle.ebpf_command.specs.declared.done.EngineFault.TheVariants.{Output};
 ghost use Rattle.ebpf_command.specs.Writing.{Reads};
 ghost use Rattle.ebpf_one.specs.declared.form.Form.TheVariants.{Raw};
-ghost use Rattle.ebpf_one.specs.ExplainText.{ExplainsTo};
 ghost use Rattle.ebpf_one.specs.LayOutText.{LaysOut};
 ghost use Rattle.ebpf_one.specs.ListText.{RespondsList};
 ghost use Rattle.ebpf_one.specs.ObjectText.{Answers, RespondsObject};
 ghost use Rattle.ebpf_one.specs.OneText.{Responds};
 
 use crate::answer::answer_input;
-use crate::explain::explain_input;
 use crate::form::Form;
 use crate::lay_out::lay_out_input;
 use crate::list::list_input;
@@ -89,45 +87,6 @@ fn list_of(alloc: Global, file: &[u8], function: &str) -> Result<Answer, AllocEr
 {
     match taken(function, file) {
         Ok(bytes) => list_input(alloc, Form::Raw, bytes),
-        Err(fault) => answer_object_fault(alloc, fault),
-    }
-}
-
-/// Reads an object file and does with a function of it what [`crate::explain::explain`] does with its slots, with the same
-/// options. Where the name is empty, it is the file's only function.
-///
-/// # Errors
-/// Those of [`crate::explain::explain`].
-pub fn explain_object<R: Read, W: Write>(
-    alloc: Global,
-    reader: &mut R,
-    writer: &mut W,
-    function: &str,
-    context: &str,
-    held: u8,
-) -> Result<Done, EngineFault>
-    // What `explain` writes of the function's slots is written, or the fault of the file, and nothing else.
-    ensures text { Answers (ExplainsTo Raw context.now held) function.now (R.remaining reader.old) (W.contents writer.old) (W.contents writer.new) result }
-    ensures consumed { Reads (R.remaining reader.old) (R.remaining reader.new) result }
-    ensures untouched { IfErr result (λ fault. fault ≢ Output → writer.new ≡ writer.old) }
-{
-    respond(alloc, reader, writer, |file| {
-        explain_of(alloc, file, function, context, held)
-    })
-}
-
-// The response of `explain` to a file.
-fn explain_of(
-    alloc: Global,
-    file: &[u8],
-    function: &str,
-    context: &str,
-    held: u8,
-) -> Result<Answer, AllocError>
-    ensures { IfOk result (RespondsObject (ExplainsTo Raw context.now held) function.now file.now) }
-{
-    match taken(function, file) {
-        Ok(bytes) => explain_input(alloc, Form::Raw, bytes, context, held),
         Err(fault) => answer_object_fault(alloc, fault),
     }
 }

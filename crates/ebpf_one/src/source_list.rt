@@ -6,11 +6,12 @@ ghost use Rattle.ebpf_insn.specs.Program.{insn_at};
 ghost use Rattle.ebpf_text.specs.Listing.{line_at};
 ghost use Rattle.ebpf_command.specs.declared.done.EngineFault.TheVariants.{Output};
 ghost use Rattle.ebpf_command.specs.Writing.{Writes, WritesBeginning, Reads};
-ghost use Rattle.ebpf_one.specs.SourceText.{heading, held_before, slot_text, sourced_below, IsSourced, SourcesDecoded, SourcesFunction, RespondsSource};
+ghost use Rattle.ebpf_one.specs.SourceText.{slot_text, sourced_below, IsSourced, SourcesDecoded, SourcesFunction, RespondsSource};
 
 use crate::form::Form;
 use crate::list::list_input;
 use crate::object::answer_object_fault;
+use crate::sourced::{held_at, held_before, write_heading};
 use crate::text::refused_line;
 use ebpf_command::answer::{Answer, respond};
 use ebpf_command::codes::RefusalCode;
@@ -26,33 +27,6 @@ use ebpf_object_file::source::lines_of;
 use ebpf_text::line::line;
 use std::alloc::{AllocError, Global};
 use std::io::{Read, Write};
-
-// Writes a line of C, where one holds and the line before it is another.
-fn write_heading(
-    text: &mut String,
-    lines: Lines<'_>,
-    before: Option<Line>,
-    now: Option<Line>,
-) -> Result<(), AllocError>
-    ensures { OnOk result (string_bytes text.new ≡ string_bytes text.old ++ heading lines.entry before now) }
-{
-    match (before, now) {
-        (_, None) => Ok(()),
-        (Some(last), Some(next)) if last.is_one_line(next) => Ok(()),
-        (_, Some(next)) => {
-            let source = lines.source(next);
-            write!(text, "; {source}\n")
-        }
-    }
-}
-
-// The line that holds at the slot before a slot.
-fn held_before(holding: &[Option<Line>], slot: usize) -> Option<Line>
-    requires { slot < length holding.now }
-    ensures { result ≡ held_before holding.now slot }
-{
-    if slot == 0 { None } else { holding[slot - 1] }
-}
 
 // Writes the line of the instruction at a slot, if one begins there.
 fn write_slot(
@@ -79,13 +53,12 @@ fn sourced(
     lines: Lines<'_>,
     holding: &[Option<Line>],
 ) -> Result<String, AllocError>
-    requires { length holding.now ≡ length program.now }
     ensures { IfOk result (λ text. string_bytes text ≡ sourced_below lines.entry holding.now program.now (length program.now)) }
 {
     let mut text = String::new(alloc);
     for slot in 0..program.slots() {
         let before = held_before(holding, slot);
-        write_heading(&mut text, lines, before, holding[slot])?;
+        write_heading(&mut text, lines, before, held_at(holding, slot))?;
         write_slot(alloc, &mut text, program, slot)?;
     }
     Ok(text)

@@ -73,6 +73,8 @@ pub struct OneOptions<'a> {
     pub held: u8,
     /// Whether each call of `new` is answered null.
     pub nulls: bool,
+    /// Whether `explain` lists the lines of C of an object file.
+    pub lines: bool,
 }
 
 /// The options of `list`.
@@ -141,7 +143,8 @@ fn explain_command<'a>(alloc: Global) -> Result<Command<'a>, AllocError> {
         .about(
             "Describes what is known before each instruction of the program whose hex is in FILE or on standard input, and why it is refused",
         )
-        .after_help(EXPLAIN_EXAMPLE);
+        .after_help(EXPLAIN_EXAMPLE)
+        .arg(lines_option(alloc)?)?;
     with_options_of_one(alloc, explain)
 }
 
@@ -291,9 +294,9 @@ pub fn request_of<'a>(matches: &ArgMatches<'a>) -> Option<Request<'a>> {
 // The command of this name, with the options that are given.
 fn task_of<'a>(name: &str, given: &ArgMatches<'a>) -> Option<Task<'a>> {
     match name {
-        "one" => Some(Task::One(one_options(given))),
+        "one" => Some(Task::One(one_options(given, false))),
         "list" => Some(Task::List(list_options(given))),
-        "explain" => Some(Task::Explain(one_options(given))),
+        "explain" => Some(Task::Explain(one_options(given, given.get_flag("source")))),
         "lay-out" => Some(Task::LayOut(source_of(given))),
         "assemble" => Some(Task::Assemble),
         "check" => Some(Task::Check(check_options(given))),
@@ -311,13 +314,14 @@ fn file_of<'a>(given: &ArgMatches<'a>) -> Option<&'a str> {
     }
 }
 
-// The options of `one`.
-fn one_options<'a>(given: &ArgMatches<'a>) -> OneOptions<'a> {
+// The options of `one`, and whether lines of C are listed.
+fn one_options<'a>(given: &ArgMatches<'a>, lines: bool) -> OneOptions<'a> {
     OneOptions {
         source: source_of(given),
         context: given.get_str("context").unwrap_or("-"),
         held: given.get_one::<u8>("held").unwrap_or(0),
         nulls: given.get_flag("nulls"),
+        lines,
     }
 }
 

@@ -4,9 +4,10 @@ use crate::command::{ListOptions, OneOptions};
 use crate::source::Source;
 use ebpf_command::done::{Done, EngineFault};
 use ebpf_one::explain::explain;
+use ebpf_one::explain_object::explain_object;
 use ebpf_one::lay_out::lay_out;
 use ebpf_one::list::list;
-use ebpf_one::object_commands::{explain_object, lay_out_object, list_object, one_object};
+use ebpf_one::object_commands::{lay_out_object, list_object, one_object};
 use ebpf_one::one::one;
 use ebpf_one::source_list::list_source;
 use std::alloc::Global;
@@ -24,6 +25,7 @@ pub fn perform_one<R: Read, W: Write>(
         context,
         held,
         nulls,
+        ..
     } = options;
     match source {
         Source::Program(form) => one(alloc, reader, writer, form, context, held, nulls),
@@ -56,11 +58,14 @@ pub fn perform_explain<R: Read, W: Write>(
         source,
         context,
         held,
+        lines,
         ..
     } = options;
     match source {
         Source::Program(form) => explain(alloc, reader, writer, form, context, held),
-        Source::Object(name) => explain_object(alloc, reader, writer, name, context, held),
+        Source::Object(name) => {
+            explain_object(alloc, reader, writer, name, context, held, lines)
+        }
     }
 }
 

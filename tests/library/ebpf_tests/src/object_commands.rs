@@ -3,7 +3,8 @@
 use crate::object_file::object;
 use crate::programs::{column, holds, is_told};
 use ebpf_command::done::Done;
-use ebpf_one::object_commands::{explain_object, lay_out_object, list_object, one_object};
+use ebpf_one::explain_object::explain_object;
+use ebpf_one::object_commands::{lay_out_object, list_object, one_object};
 use std::alloc::Global;
 use std::process::Abort;
 use std::test::*;
@@ -31,7 +32,7 @@ fn written(rt: &impl Abort, alloc: Global, command: &str, name: &str, function: 
     let done = match command {
         "one" => one_object(alloc, &mut reader, &mut writer, function, ZEROS, 0, false),
         "list" => list_object(alloc, &mut reader, &mut writer, function),
-        "explain" => explain_object(alloc, &mut reader, &mut writer, function, ZEROS, 0),
+        "explain" => explain_object(alloc, &mut reader, &mut writer, function, ZEROS, 0, false),
         _ => lay_out_object(alloc, &mut reader, &mut writer, function),
     };
     (writer, done.expect(rt, "it is told"))

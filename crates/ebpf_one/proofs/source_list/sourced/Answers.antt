@@ -7,4 +7,4 @@ loop-slot-init c = c.new-text.ensures.bytes ∙ sourced_none _ _ _
 
 pub loop-slot-preserved : goal.loop-slot-preserved
 loop-slot-preserved c =
-    sourced_more _ _ _ _ _ _ _ _ c.loop-slot.invariant c.held_before-before.ensures c.in_ok-write_heading.ensures c.in_ok-write_slot.ensures
+    sourced_more _ _ _ _ _ _ _ _ _ c.loop-slot.invariant c.held_before-before.ensures c.held_at.ensures c.in_ok-write_heading.ensures c.in_ok-write_slot.ensures

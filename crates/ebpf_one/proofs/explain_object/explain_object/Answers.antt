@@ -1,0 +1,20 @@
+use Rattle.std.proofs.Common.{rules}
+use Rattle.ebpf_command.proofs.Written.{response_through, begun_through, response_of_shown}
+use Rattle.ebpf_one.specs.ExplainObject.{ExplainsObject}
+use Rattle.ebpf_one.proofs.Explanations.{explained_object_cuts}
+use Rattle.ebpf_one.proofs.explain_object.explain_object.Goals as goal
+
+pub returns-clause-response : goal.returns-clause-response
+returns-clause-response g c =
+    let P = ExplainsObject c.args.listed c.args.context.now c.args.held c.args.function.now in
+    response_through P _ _ _ _ c.respond.ensures.response (λ all response k.
+    response_of_shown P (explained_object_cuts c.args.listed c.args.context.now c.args.held c.args.function.now) all response k.0 k.2 (let h = k.1 in search rules))
+
+pub returns-clause-beginning : goal.returns-clause-beginning
+returns-clause-beginning g c =
+    let P = ExplainsObject c.args.listed c.args.context.now c.args.held c.args.function.now in
+    begun_through P _ _ _ _ c.respond.ensures.beginning (λ all response k.
+    response_of_shown P (explained_object_cuts c.args.listed c.args.context.now c.args.held c.args.function.now) all response k.0 k.2 (let h = k.1 in search rules))
+
+pub returns-clause-consumed : goal.returns-clause-consumed
+returns-clause-consumed g c = c.respond.ensures.consumed

@@ -1,0 +1,126 @@
+//! The lines of C of a function, as a command shows them.
+
+ghost use Rattle.std.specs.Prelude.{◌≡◌, ◌++◌, IfOk, OnOk, None, length, slice_index_or, string_bytes};
+ghost use Rattle.ebpf_explain.specs.StackWords.{texts_below};
+ghost use Rattle.ebpf_verify.specs.Looked.{subject_of};
+ghost use Rattle.ebpf_one.specs.Sourced.{heading, held_before, listed_lines, place_row, sourced_slot, with_line};
+
+use ebpf_command::answer::Answer;
+use ebpf_explain::slots::{write_slot, write_slots};
+use ebpf_object_file::lines::{Line, Lines, SourcePlace};
+use ebpf_verify::looked::Looked;
+use std::alloc::{AllocError, Global};
+
+/// The lines of C of a function, and the one that holds at each of its slots.
+#[derive(Clone, Copy)]
+pub(crate) struct Sourced<'a> {
+    pub lines: Lines<'a>,
+    pub holding: &'a [Option<Line>],
+    /// Whether each is written before its instructions.
+    pub listed: bool,
+}
+
+/// The line that holds at a slot.
+pub(crate) fn held_at(holding: &[Option<Line>], slot: usize) -> Option<Line>
+    ensures { result ≡ slice_index_or holding.now slot None }
+{
+    if slot < holding.len() {
+        holding[slot]
+    } else {
+        None
+    }
+}
+
+/// The line that holds at the slot before a slot.
+pub(crate) fn held_before(holding: &[Option<Line>], slot: usize) -> Option<Line>
+    ensures { result ≡ held_before holding.now slot }
+{
+    if slot == 0 {
+        None
+    } else {
+        held_at(holding, slot - 1)
+    }
+}
+
+/// Writes a line of C, where one holds and the line before it is another. It fails only where an allocation fails.
+pub(crate) fn write_heading(
+    text: &mut String,
+    lines: Lines<'_>,
+    before: Option<Line>,
+    now: Option<Line>,
+) -> Result<(), AllocError>
+    ensures { OnOk result (string_bytes text.new ≡ string_bytes text.old ++ heading lines.entry before now) }
+{
+    match (before, now) {
+        (_, None) => Ok(()),
+        (Some(last), Some(next)) if last.is_one_line(next) => Ok(()),
+        (_, Some(next)) => {
+            let source = lines.source(next);
+            write!(text, "; {source}\n")
+        }
+    }
+}
+
+// Writes what is known before each slot, with the lines of C.
+fn write_sourced(
+    alloc: Global,
+    text: &mut String,
+    looked: &Looked,
+    source: Sourced<'_>,
+) -> Result<(), AllocError>
+    ensures { OnOk result (string_bytes text.new ≡ string_bytes text.old
+        ++ texts_below (length looked.now.entries.now) (sourced_slot source.entry (subject_of looked.now) looked.now.entries.now)) }
+{
+    for slot in 0..looked.entries.len() {
+        let before = held_before(source.holding, slot);
+        write_heading(text, source.lines, before, held_at(source.holding, slot))?;
+        write_slot(alloc, text, looked, slot)?;
+    }
+    Ok(())
+}
+
+/// Writes what is known before each slot, with the lines of C where they are to be listed. It fails only where an allocation fails.
+pub(crate) fn write_listed(
+    alloc: Global,
+    text: &mut String,
+    looked: &Looked,
+    source: Option<Sourced<'_>>,
+) -> Result<(), AllocError>
+    ensures { OnOk result (string_bytes text.new ≡ string_bytes text.old ++ listed_lines source.entry (subject_of looked.now) looked.now.entries.now) }
+{
+    match source {
+        Some(sourced) if sourced.listed => write_sourced(alloc, text, looked, sourced),
+        _ => write_slots(alloc, text, looked),
+    }
+}
+
+// Writes a line with its column, where there is one.
+fn write_place(text: &mut String, lines: Lines<'_>, line: Option<Line>) -> Result<(), AllocError>
+    ensures { OnOk result (string_bytes text.new ≡ string_bytes text.old ++ place_row lines.entry line) }
+{
+    match line {
+        None => Ok(()),
+        Some(line) => {
+            let source = lines.source(line);
+            let place = SourcePlace { source };
+            write!(text, "  {place}\n")
+        }
+    }
+}
+
+/// An answer that refuses a slot, with the line of C that holds there under it.
+pub(crate) fn with_line(
+    answer: Answer,
+    source: Option<Sourced<'_>>,
+    slot: u16,
+) -> Result<Answer, AllocError>
+    ensures { IfOk result (λ r. r ≡ with_line source.entry slot answer) }
+{
+    let Some(sourced) = source else {
+        return Ok(answer);
+    };
+    let mut answer = answer;
+    let line = held_at(sourced.holding, slot as usize);
+    write_place(&mut answer.text, sourced.lines, line)?;
+    Ok(answer)
+}
