@@ -85,28 +85,20 @@ impl Machine {
         if context.len() != program.context() as usize {
             return Err(StartFault::ContextLength);
         }
-        let (workspace, context) = self.take_workspace(context)?;
+        let workspace = self.take_workspace()?;
         let stocks = &mut *self.stocks;
         let (report, workspace) = run_within(workspace, program, context, stocks, limit)?;
         self.put_workspace(workspace);
         Ok(report)
     }
 
-    // The memory that the last run left, or new memory, with a context of these bytes.
-    fn take_workspace(&mut self, bytes: &[u8]) -> Result<(Workspace<Object>, Vec<u8>), AllocError>
-        ensures context { IfOk result (λ r. r.1.items ≡ bytes.now) }
-        ensures same { self.new ≡ self.old }
+    // The memory that the last run left, or new memory.
+    fn take_workspace(&mut self) -> Result<Workspace<Object>, AllocError>
+        ensures { self.new ≡ self.old }
     {
-        let mut workspace = match mem::replace(&mut self.workspace, None) {
-            Some(workspace) => workspace,
-            None => Workspace::new(self.alloc)?,
-        };
-        match workspace.context(self.alloc, bytes) {
-            Ok(context) => Ok((workspace, context)),
-            Err(fault) => {
-                workspace.free();
-                Err(fault)
-            }
+        match mem::replace(&mut self.workspace, None) {
+            Some(workspace) => Ok(workspace),
+            None => Workspace::new(self.alloc),
         }
     }
 

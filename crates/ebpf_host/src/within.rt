@@ -20,18 +20,18 @@ use ebpf_machine::workspace::Workspace;
 pub(crate) fn run_within<O: Objects>(
     workspace: Workspace<O::Held>,
     program: &Program,
-    context: Vec<u8>,
+    context: &[u8],
     objects: &mut O,
     limit: u64,
 ) -> Result<(Report, Workspace<O::Held>), StartFault>
     requires kinds { O.store.kinds ≡ known_kinds }
     requires room { (store : O) → O.store.can_give store }
-    ensures report { IfOk result (λ r. IsReportWithin program.now.verified context.items limit r.0) }
+    ensures report { IfOk result (λ r. IsReportWithin program.now.verified context.now limit r.0) }
     // The store went by the report's answers.
     ensures goes { IfOk result (λ r. O.store.goes objects.old r.0.answers objects.new) }
-    ensures shelves { IfOk result (λ r. IsLeft O.store objects.old objects.new program.now.verified context.items r.0) }
-    ensures length { OnOk result (length context.items ≡ program.now.verified.decl.context) }
-    ensures refused { IfErr result (IsStartFault (length context.items) program.now.verified.decl.context) }
+    ensures shelves { IfOk result (λ r. IsLeft O.store objects.old objects.new program.now.verified context.now r.0) }
+    ensures length { OnOk result (length context.now ≡ program.now.verified.decl.context) }
+    ensures refused { IfErr result (IsStartFault (length context.now) program.now.verified.decl.context) }
     ensures unchanged { OnErr result (objects.new ≡ objects.old) }
 {
     let mut run = Run::start_in(workspace, &program.verified, context)?;

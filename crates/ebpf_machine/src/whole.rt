@@ -41,7 +41,7 @@ pub fn run_to_exit<O: Objects>(
         return Err(StartFault::ContextLength);
     }
     let workspace = Workspace::new(alloc)?;
-    let (report, workspace) = run_in(workspace, verified, context, objects)?;
+    let (report, workspace) = run_in(workspace, verified, &context, objects)?;
     workspace.free();
     Ok(report)
 }
@@ -53,19 +53,19 @@ pub fn run_to_exit<O: Objects>(
 pub fn run_in<O: Objects>(
     workspace: Workspace<O::Held>,
     verified: &Verified,
-    context: Vec<u8>,
+    context: &[u8],
     objects: &mut O,
 ) -> Result<(Report, Workspace<O::Held>), StartFault>
     requires kinds { O.store.kinds ≡ kinds_of verified.now.rows }
     requires room { (store : O) → O.store.can_give store }
     // The report is that of the run alone with the report's answers, and it exited.
-    ensures report { IfOk result (λ r. IsReportOf verified.now context.items r.0) }
+    ensures report { IfOk result (λ r. IsReportOf verified.now context.now r.0) }
     // The store went by the report's answers.
     ensures goes { IfOk result (λ r. O.store.goes objects.old r.0.answers objects.new) }
     // Of each kind as many are out as before.
     ensures outs { (k : ℕ) → O.store.outs objects.new k ≡ O.store.outs objects.old k }
-    ensures length { OnOk result (length context.items ≡ verified.now.decl.context) }
-    ensures refused { IfErr result (IsStartFault (length context.items) verified.now.decl.context) }
+    ensures length { OnOk result (length context.now ≡ verified.now.decl.context) }
+    ensures refused { IfErr result (IsStartFault (length context.now) verified.now.decl.context) }
     ensures unchanged { OnErr result (objects.new ≡ objects.old) }
 {
     let mut run = Run::start_in(workspace, verified, context)?;

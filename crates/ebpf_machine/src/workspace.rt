@@ -1,13 +1,12 @@
 //! The memory of a run, which outlives it.
 
-ghost use Rattle.std.specs.Prelude.{◌≡◌, [], IfOk};
+ghost use Rattle.std.specs.Prelude.{◌≡◌, [], OnOk};
 
 use crate::parts::Parts;
 use crate::registers::Registers;
 use crate::report::Answers;
 use crate::stack::Stack;
 use std::alloc::{AllocError, Global};
-use std::mem;
 
 /// The memory of a run, in one box: its registers, its stack, and room for the objects that it holds and for its context. A run takes
 /// the box, and gives it back at its end, so that the next one needs none. It must be freed.
@@ -45,18 +44,18 @@ impl<H> Workspace<H> {
         }
     }
 
-    /// The context of a run, with these bytes, in the memory of the last run's. It fails only where that has no room for them and an
-    /// allocation fails.
-    pub fn context(&mut self, alloc: Global, bytes: &[u8]) -> Result<Vec<u8>, AllocError>
-        ensures { IfOk result (λ context. context.items ≡ bytes.now) }
+    /// Makes these bytes the context of the next run, in the memory of the last one's. It fails only where that has no room for them and
+    /// an allocation fails.
+    pub(crate) fn set_context(&mut self, bytes: &[u8]) -> Result<(), AllocError>
+        ensures { OnOk result (self.new.parts.value.context.items ≡ bytes.now) }
     {
-        let mut context = mem::replace(&mut self.parts.context, Vec::new(alloc));
+        let context = &mut self.parts.context;
         context.clear();
         // Many programs read no context, and a copy is a call.
         if !bytes.is_empty() {
             context.extend_from_slice(bytes)?;
         }
-        Ok(context)
+        Ok(())
     }
 
     /// Takes the memory of the answers of a run that has ended, for the next one: its report can be kept in less. What is in it is

@@ -11,7 +11,7 @@
 //! *The reason.* A run over any store leaves as many objects of each kind out as there were, and its report's answers are
 //! what the store counts. Each bundle is drawn once, over all workers, and each job is in one bundle; so each job has one report.
 
-ghost use Rattle.std.specs.Prelude.{◌≡◌, ◌≢◌, ◌⊎◌, ◌≤◌, ◌<◌, [], All, length, true, false, is_some, vec_len, vec_capacity, IfOk, OnOk, OnErr};
+ghost use Rattle.std.specs.Prelude.{◌≡◌, ◌≢◌, ◌⊎◌, ◌≤◌, ◌<◌, [], All, length, true, false, is_some, vec_len, vec_capacity, OnOk, OnErr};
 ghost use Rattle.owners_table.specs.Drawing.{IsOf};
 ghost use Rattle.ebpf_pool.specs.declared.worker.Ending.TheVariants.{Through, OutOfMemory};
 ghost use Rattle.ebpf_pool.specs.Bundles.{IsBundleAdded, IsBundleSize, bundles_in};
@@ -210,7 +210,7 @@ fn answer<'a, L: Names, G: Gate + 'a, R: Wait + 'a>(
     store: &mut Store<'a, L, R>,
     answered: &mut Vec<Numbered>,
     spare: &mut Option<Box<Lists>>,
-    mut workspace: Workspace<Owned>,
+    workspace: Workspace<Owned>,
 ) -> Result<Workspace<Owned>, AllocError>
     requires ready { AreReady shared.now.programs.now shared.now.jobs.now }
     requires number { number < length shared.now.jobs.now }
@@ -222,19 +222,14 @@ fn answer<'a, L: Names, G: Gate + 'a, R: Wait + 'a>(
         answered.old.items answered.new.items) }
 {
     let job = &shared.jobs[number as usize];
-    let Ok(context) = room_for(
-        shared.alloc,
-        answered,
-        spare,
-        &mut workspace,
-        &job.context.bytes,
-    ) else {
+    let Ok(()) = room_for(shared.alloc, answered, spare) else {
         workspace.free();
         return Err(AllocError);
     };
     shared.gate.at(number, Point::Begin);
     store.client.job = number as u32;
     let verified = &shared.programs[job.program];
+    let context = &job.context.bytes;
     let Ok((report, mut workspace)) = run_in(workspace, verified, context, store) else {
         return Err(AllocError);
     };
@@ -250,16 +245,13 @@ fn answer<'a, L: Names, G: Gate + 'a, R: Wait + 'a>(
     Ok(workspace)
 }
 
-// Room for a report, a box for its lists, and a context of these bytes.
+// Room for a report, and a box for its lists.
 fn room_for(
     alloc: Global,
     answered: &mut Vec<Numbered>,
     spare: &mut Option<Box<Lists>>,
-    workspace: &mut Workspace<Owned>,
-    bytes: &[u8],
-) -> Result<Vec<u8>, AllocError>
+) -> Result<(), AllocError>
     ensures same { answered.new.items ≡ answered.old.items }
-    ensures context { IfOk result (λ v. v.items ≡ bytes.now) }
     ensures room { OnOk result (vec_len answered.new < vec_capacity answered.new) }
     ensures spare { OnOk result (is_some spare.new ≡ true) }
 {
@@ -267,5 +259,5 @@ fn room_for(
     if spare.is_none() {
         *spare = Some(Lists::boxed(alloc)?);
     }
-    workspace.context(alloc, bytes)
+    Ok(())
 }

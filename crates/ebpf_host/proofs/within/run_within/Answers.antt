@@ -19,7 +19,7 @@ run-requires-clause-alone g c =
 
 -- what holds of the run where it has stopped
 ran : (g : Over) (c : After-end g)
-    → IsUnderWay g.O.Objects.store c.args.objects.now c.run.new.objects c.args.program.now.verified c.args.context.items c.run.new.self
+    → IsUnderWay g.O.Objects.store c.args.objects.now c.run.new.objects c.args.program.now.verified c.args.context.now c.run.new.self
 ran g c =
     let o = g.O.Objects.store in
     let start = starts o c.args.objects.now _ _ c.in_ok-run.run' c.in_ok-run.ensures.started (c.in_ok-run.ensures.sound _) in

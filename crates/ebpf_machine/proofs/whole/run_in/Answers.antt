@@ -15,7 +15,7 @@ run-requires-clause-alone g c =
     (starts g.O.Objects.store c.args.objects.now _ _ c.in_ok-run.run' c.in_ok-run.ensures.started (c.in_ok-run.ensures.sound _)).alone
 
 -- what holds of the run where it has exited
-ran : (g : Over) (c : After-end g) → IsUnderWay g.O.Objects.store c.args.objects.now c.run.new.objects c.args.verified.now c.args.context.items c.run.new.self
+ran : (g : Over) (c : After-end g) → IsUnderWay g.O.Objects.store c.args.objects.now c.run.new.objects c.args.verified.now c.args.context.now c.run.new.self
 ran g c =
     under_way g.O.Objects.store _ _ _ _ _ _ c.in_ok-run.run' c.run.new.self g.met.O.Objects.has_size c.requires.kinds
     (starts g.O.Objects.store c.args.objects.now _ _ c.in_ok-run.run' c.in_ok-run.ensures.started (c.in_ok-run.ensures.sound _)) c.run.ensures.turns.turns

@@ -27,14 +27,14 @@ returns-clause-answered g c = record { made = n; job = refl; good = answered; ke
   program : c.job.inside.0.0 ≡ c.index-shared-number.result.program
   program = ap (λ (j : Job). j.program) (c.job.view_is ∙ sym c.index-shared-number.is)
 
-  same : c.in-Ok.context.items ≡ c.index-shared-number.result.context
+  same : c.deref.result.now ≡ c.index-shared-number.result.context
   same = let context = ap (λ (j : Job). j.context) (c.job.view_is ∙ sym c.index-shared-number.is) in search rules
 
   inside : c.index-shared-number.result.program < length c.args.shared.now.programs.now
   inside = subst (λ (j : Job). j.program < length c.args.shared.now.programs.now) (sym c.index-shared-number.is) (c.requires.ready.can c.args.number c.index-shared-number.result c.requires.number).inside
 
-  report : IsReportOf c.index-shared-job.result c.in-Ok.context.items c.in-Ok-run_in.report
-  report = subst (λ (v : Subject). IsReportOf v c.in-Ok.context.items c.in-Ok-run_in.report) (sym c.index-shared-job.is) c.in-Ok-run_in.ensures.report
+  report : IsReportOf c.index-shared-job.result c.deref.result.now c.in-Ok-run_in.report
+  report = subst (λ (v : Subject). IsReportOf v c.deref.result.now c.in-Ok-run_in.report) (sym c.index-shared-job.is) c.in-Ok-run_in.ensures.report
 
   there : c.index-shared-job.result ≡ get_or c.args.shared.now.programs.now c.index-shared-number.result.program c.index-shared-job.result
   there = subst (λ (p : ℕ). c.index-shared-job.result ≡ get_or c.args.shared.now.programs.now p c.index-shared-job.result) program c.index-shared-job.is
