@@ -65,9 +65,9 @@ def is_there(tool):
     return bool(path)
 
 
-def missing():
-    """The tools that are not there."""
-    return sorted(tool for tool in NEEDED | USEFUL if not is_there(tool))
+def missing(tools):
+    """The tools that are not there, of these."""
+    return sorted(tool for tool in tools if not is_there(tool))
 
 
 def install(packages):
@@ -87,9 +87,10 @@ def packages_of(tools):
 
 def has_tools():
     """Whether the tools that the tests need are there, or could be installed."""
-    if missing():
-        install(packages_of(missing()))
-    lacking = missing()
+    for tools in (NEEDED, USEFUL):  # one after another: what is useful may take too long to install
+        if missing(tools):
+            install(packages_of(missing(tools)))
+    lacking = missing(NEEDED | USEFUL)
     if lacking:
         print(f'test: there is no {", ".join(lacking)}: sudo apt-get install -y {" ".join(packages_of(lacking))}', file=sys.stderr)
     return not NEEDED & set(lacking)
