@@ -9,3 +9,4 @@ pub mod Best
 pub mod Slots
 pub mod Tables
 pub mod Listing
+pub mod Unlined

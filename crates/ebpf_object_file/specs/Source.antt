@@ -62,6 +62,11 @@ pub record HasTables (file : List ℕ) (section btf ext : ℕ) : Type 0 where
   pub btf_is : IsFirst (named_section file btf_name) (sections_in file) btf
   pub ext_is : IsFirst (named_section file ext_name) (sections_in file) ext
 
+-- the file has no section of one of the names, as without -g
+abbrev pub HasNoTables : List ℕ → Type 0
+HasNoTables file =
+    NoneBelow (named_section file btf_name) (sections_in file) ⊎ NoneBelow (named_section file ext_name) (sections_in file)
+
 -- the name of the section of a number, cut after 255 bytes
 abbrev pub section_name : List ℕ → ℕ → List ℕ
 section_name file i = text_at (bytes_of file (field 2 file 62)) (section_of file i).name name_limit

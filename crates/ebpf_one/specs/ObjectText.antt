@@ -1,10 +1,11 @@
 -- The response of a command to an object file: its response to the slots of the function that is asked for, as raw bytes, or why the file has
 -- no such program.
-use Rattle.std.specs.Prelude.{◌≡◌, ◌≤◌, ◌<◌, ◌⊎◌, ℕ, ◌++◌, List, length, codes, Option, Result}
+use Rattle.std.specs.Prelude.{◌≡◌, ◌≤◌, ◌<◌, ◌⊎◌, ℕ, ◌++◌, List, length, codes, Option, Some, Result}
 use Rattle.ebpf_object_file.specs.declared.function.Function.{Function}
 use Rattle.ebpf_object_file.specs.declared.object_fault.ObjectFault.{ObjectFault}
 use Rattle.ebpf_object_file.specs.Function.{IsWanted, IsWantedFault}
 use Rattle.ebpf_object_file.specs.Sentences.{object_code, object_sentence}
+use Rattle.ebpf_object_file.specs.Source.{HasNoTables}
 use Rattle.ebpf_command.specs.declared.done.Done.{Done}
 use Rattle.ebpf_command.specs.declared.done.EngineFault.{EngineFault}
 use Rattle.ebpf_command.specs.Response.{refused_response}
@@ -34,3 +35,8 @@ RespondsObject Responds name file response =
 pub record Answers (Responds : Responding) (name : List ℕ) (input old new : Option (List ℕ)) (result : Result Done EngineFault) : Type 0 where
   pub response : Writes (RespondsObject Responds name) input old new result
   pub beginning : WritesBeginning (RespondsObject Responds name) input old new result
+
+-- a command that knows lines of C writes of a file without them what another does, which knows none
+abbrev pub WritesPlain : Responding → List ℕ → (input old new : Option (List ℕ)) → Result Done EngineFault → Type 0
+WritesPlain Responds name input old new result =
+    (file : List ℕ) → input ≡ Some file → HasNoTables file → Answers Responds name input old new result

@@ -3,6 +3,9 @@
 ghost use Rattle.std.specs.Prelude.{◌≡◌, ◌≢◌, IfOk, IfErr};
 ghost use Rattle.ebpf_command.specs.declared.done.EngineFault.TheVariants.{Output};
 ghost use Rattle.ebpf_command.specs.Writing.{Writes, WritesBeginning, Reads};
+ghost use Rattle.ebpf_one.specs.declared.form.Form.TheVariants.{Raw};
+ghost use Rattle.ebpf_one.specs.ExplainText.{ExplainsTo};
+ghost use Rattle.ebpf_one.specs.ObjectText.{WritesPlain};
 ghost use Rattle.ebpf_one.specs.ExplainObject.{ExplainsLined, ExplainsUnread, ExplainsFunction, ExplainsObject};
 
 use crate::explain::explain_input;
@@ -113,8 +116,10 @@ pub fn explain_object<R: Read, W: Write>(
     held: u8,
     listed: bool,
 ) -> Result<Done, EngineFault>
-    // What `explain` writes of the function's slots is written, or the fault of the file, and nothing else.
+    // What `explain` writes of the function's slots is written with the lines, or the fault of the file, and nothing else.
     ensures response { Writes (ExplainsObject listed context.now held function.now) (R.remaining reader.old) (W.contents writer.old) (W.contents writer.new) result }
+    // Of a file without lines, it is what `explain` writes of the function's slots.
+    ensures plain { WritesPlain (ExplainsTo Raw context.now held) function.now (R.remaining reader.old) (W.contents writer.old) (W.contents writer.new) result }
     ensures consumed { Reads (R.remaining reader.old) (R.remaining reader.new) result }
     ensures untouched { IfErr result (λ fault. fault ≢ Output → writer.new ≡ writer.old) }
     ensures beginning { WritesBeginning (ExplainsObject listed context.now held function.now) (R.remaining reader.old) (W.contents writer.old) (W.contents writer.new) result }

@@ -4,8 +4,8 @@
 //! is the contract of [`one::one`], of [`list::list`] and of [`explain::explain`], which rest on the contracts of the crates below. This crate adds
 //! what they ask for, the lines of their texts, and the store of objects of a single run.
 //!
-//! To be read in this order: `form`, `program_text`, `request`, `store`, `alone`, `text`, `answer`, `one`, `list`, `input_faults`, `explain`, `lay_out`, `object`,
-//! `object_commands`, `source_list`, `sourced`, `explain_object`.
+//! To be read in this order: `form`, `program_text`, `request`, `store`, `alone`, `text`, `answer`, `one`, `list`, `input_faults`, `sourced`, `explain`, `lay_out`,
+//! `object`, `object_commands`, `source_list`, `explain_object`.
 #![tactic(auto)]
 
 mod alone;

@@ -6,6 +6,9 @@ ghost use Rattle.ebpf_insn.specs.Program.{insn_at};
 ghost use Rattle.ebpf_text.specs.Listing.{line_at};
 ghost use Rattle.ebpf_command.specs.declared.done.EngineFault.TheVariants.{Output};
 ghost use Rattle.ebpf_command.specs.Writing.{Writes, WritesBeginning, Reads};
+ghost use Rattle.ebpf_one.specs.declared.form.Form.TheVariants.{Raw};
+ghost use Rattle.ebpf_one.specs.ListText.{RespondsList};
+ghost use Rattle.ebpf_one.specs.ObjectText.{WritesPlain};
 ghost use Rattle.ebpf_one.specs.SourceText.{slot_text, sourced_below, IsSourced, SourcesDecoded, SourcesFunction, RespondsSource};
 
 use crate::form::Form;
@@ -138,6 +141,8 @@ pub fn list_source<R: Read, W: Write>(
 ) -> Result<Done, EngineFault>
     // The instructions and the lines of the function are written, or the fault of the file, and nothing else.
     ensures response { Writes (RespondsSource function.now) (R.remaining reader.old) (W.contents writer.old) (W.contents writer.new) result }
+    // Of a file without lines, it is what `list` writes of the function.
+    ensures plain { WritesPlain (RespondsList Raw) function.now (R.remaining reader.old) (W.contents writer.old) (W.contents writer.new) result }
     ensures consumed { Reads (R.remaining reader.old) (R.remaining reader.new) result }
     ensures untouched { IfErr result (λ fault. fault ≢ Output → writer.new ≡ writer.old) }
     ensures beginning { WritesBeginning (RespondsSource function.now) (R.remaining reader.old) (W.contents writer.old) (W.contents writer.new) result }

@@ -1,6 +1,9 @@
 use Rattle.std.proofs.Common.{rules}
 use Rattle.ebpf_command.proofs.Written.{response_through, begun_through, response_of_shown}
 use Rattle.ebpf_one.specs.ExplainObject.{ExplainsObject}
+use Rattle.ebpf_one.specs.declared.form.Form.TheVariants.{Raw}
+use Rattle.ebpf_one.specs.ExplainText.{ExplainsTo}
+use Rattle.ebpf_one.proofs.Plain.{explain_plain, writes_plain}
 use Rattle.ebpf_one.proofs.Explanations.{explained_object_cuts}
 use Rattle.ebpf_one.proofs.explain_object.explain_object.Goals as goal
 
@@ -18,3 +21,9 @@ returns-clause-beginning g c =
 
 pub returns-clause-consumed : goal.returns-clause-consumed
 returns-clause-consumed g c = c.respond.ensures.consumed
+
+pub returns-clause-plain : goal.returns-clause-plain
+returns-clause-plain g c =
+    let a = c.args in
+    writes_plain (ExplainsObject a.listed a.context.now a.held a.function.now) (ExplainsTo Raw a.context.now a.held) a.function.now _ _ _ _
+    (explain_plain a.listed a.context.now a.held a.function.now) (returns-clause-response g c) (returns-clause-beginning g c)
