@@ -7,7 +7,7 @@ pub returns-clause-shelves : goal.returns-clause-shelves
 returns-clause-shelves c =
     let now : c.put_workspace.new.self ≡ c.run_within.new.objects = search rules in
     let was : c.deref_mut-stocks.result.now ≡ c.args.self.now = search rules in
-    rw (now, ← was, ← c.in_ok-workspace.ensures.context)
+    rw (now, ← was)
     (on_machine c.deref_mut-stocks.result.now c.run_within.new.objects c.args.program.now.verified _ c.in_ok-report.report c.in_ok-report.ensures.shelves)
 
 pub returns-clause-pages : goal.returns-clause-pages
