@@ -1,16 +1,15 @@
 -- Where a file without .BTF or without .BTF.ext has the function that is wanted, it has no lines, and they have no fault.
-use Rattle.std.proofs.Common.{◌≡◌, ◌<◌, ℕ, List, [], ◌∷◌, true, refl, inl, inr, arith}
+use Rattle.std.proofs.Common.{◌<◌, ℕ, List, [], ◌∷◌, refl, inl, inr, arith}
 use Rattle.ebpf_object_file.specs.declared.fault.FileFault.{FileFault}
 use Rattle.ebpf_object_file.specs.declared.fault.FileFault.TheVariants as fault
 use Rattle.ebpf_object_file.specs.declared.function.Function.{Function}
 use Rattle.ebpf_object_file.specs.declared.lines.Lines.{Lines}
 use Rattle.ebpf_object_file.specs.File.{IsOpen, IsOpenFault, IsContentsFault}
 use Rattle.ebpf_object_file.specs.First.{IsFirst}
-use Rattle.ebpf_object_file.specs.Function.{IsWanted, IsPlace}
+use Rattle.ebpf_object_file.specs.Function.{IsWanted}
 use Rattle.ebpf_object_file.specs.Header.{header_of}
 use Rattle.ebpf_object_file.specs.Section.{sections_in, outside_in}
 use Rattle.ebpf_object_file.specs.Source.{AreLinesOf, HasNoTables, HasTables, IsLinesOfFault}
-use Rattle.ebpf_object_file.specs.Symbol.{symbol_of, is_function}
 use Rattle.ebpf_object_file.proofs.Objects.{both}
 use Rattle.ebpf_object_file.proofs.Places.{place_section}
 

@@ -1,5 +1,5 @@
 -- The explanation of a function of an object file: with its lines and without, and of a file that is too long.
-use Rattle.std.proofs.Common.{◌≡◌, ◌+◌, ◌<◌, ◌++◌, ◌∙◌, inl, inr, ℕ, Bool, List, Option, length, take, subst, sym, arith}
+use Rattle.std.proofs.Common.{◌≡◌, ◌+◌, ◌++◌, ◌∙◌, inl, inr, ℕ, Bool, List, Option, length, take, subst, sym, arith}
 use Rattle.std.proofs.Math.Seq.{take-append_seam}
 use Rattle.std.specs.Prelude.{None, Some}
 use Rattle.ebpf_object_file.specs.declared.function.Function.{Function}

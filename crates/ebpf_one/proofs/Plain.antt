@@ -1,5 +1,5 @@
 -- What a command that knows lines of C writes of a file without them.
-use Rattle.std.proofs.Common.{◌≡◌, ℕ, Bool, List, Option, Result, Ok, Err, refl, inl, inr, subst, sym}
+use Rattle.std.proofs.Common.{ℕ, Bool, List, Option, Result, Ok, Err, refl, inl, inr, subst, sym}
 use Rattle.std.specs.Prelude.{Some}
 use Rattle.ebpf_object_file.specs.Source.{HasNoTables}
 use Rattle.ebpf_object_file.proofs.Unlined.{no_lines, no_fault_of_lines}
