@@ -1,5 +1,5 @@
 -- The words of a line, as its bytes are passed one after another.
-use Rattle.std.proofs.Common.{◌≡◌, ℕ, zero, suc, ◌+◌, ◌-◌, ◌<◌, ◌≤◌, Bool, true, false, not, ◌==◌, cond, List, [], ◌∷◌, ◌++◌, length, take, drop, get_or, filter, refl, sym, ap, ◌∙◌, subst, arith, append_assoc, length-drop}
+use Rattle.std.proofs.Common.{◌≡◌, ℕ, zero, suc, ◌+◌, ◌-◌, ◌<◌, ◌≤◌, Bool, true, false, not, ◌==◌, ◌||◌, cond, List, [], ◌∷◌, ◌++◌, length, take, drop, get_or, filter, refl, sym, ap, ◌∙◌, subst, arith, append_assoc, length-drop}
 use Rattle.std.specs.List.{slice_split, onto_first, All}
 use Rattle.std.proofs.lemmas.Bool.Decides.{nat_tests}
 use Rattle.std.proofs.lemmas.List.{take_more, take_all, get_or-drop}
@@ -138,3 +138,7 @@ one_line_all text start i found p all = subst (All (λ c. (c == 10) ≡ false)) 
 
 pub no_newline : (c : ℕ) → (c ≡ 10 → ⊥) → (c == 10) ≡ false
 no_newline c other = grind (arith, nat_tests)
+
+-- a byte that ends a word and is no newline is a gap
+pub gap_here : (c : ℕ) → (c == 10) ≡ false → (c == 10 || is_gap c) ≡ true → is_gap c ≡ true
+gap_here c other ends = rw other at ends

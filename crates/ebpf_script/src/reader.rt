@@ -19,6 +19,7 @@ mod words;
 use crate::reader::line::read_line;
 use crate::reader::lines::{first_line, is_script_text};
 use crate::reader::script::{Dialect, Script, ScriptFault, ScriptStop};
+use crate::reader::words::Words;
 use ebpf_command::done::FaultCode;
 use ebpf_command::input::MAX_INPUT;
 use indexmap::IndexMap;
@@ -52,10 +53,11 @@ pub fn read_script(alloc: Global, dialect: Dialect, text: &[u8]) -> Result<Scrip
         passes: 0,
     };
     let is_text = is_script_text(text);
+    let mut words = Words::none();
     let mut from = 0;
     let mut number = 0;
     while from <= text.len() {
-        let line = first_line(&text[from..]);
+        let line = first_line(&text[from..], &mut words);
         from += line.bytes.len() + 1;
         number += 1;
         if let Err(stop) = read_line(alloc, dialect, &mut script, &line, is_text) {

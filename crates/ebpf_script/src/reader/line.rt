@@ -23,7 +23,7 @@ pub(crate) fn read_line(
     alloc: Global,
     dialect: Dialect,
     script: &mut Script,
-    line: &Line<'_>,
+    line: &Line<'_, '_>,
     is_known: bool,
 ) -> Result<(), Stop>
     requires room { HasRoom script.now }
@@ -35,11 +35,11 @@ pub(crate) fn read_line(
     if !is_line_text(line, is_known) {
         return Err(Stop::Fault(FaultCode::UnprintableByte));
     }
-    read_words(alloc, dialect, script, line.words.as_slice())
+    read_words(alloc, dialect, script, line.words)
 }
 
 // Whether a line is text, which may be known.
-fn is_line_text(line: &Line<'_>, is_known: bool) -> bool
+fn is_line_text(line: &Line<'_, '_>, is_known: bool) -> bool
     requires { is_known ≡ true → is_text line.now.bytes.now ≡ true }
     ensures { result ≡ is_text line.now.bytes.now }
 {

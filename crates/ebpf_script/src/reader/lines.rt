@@ -1,44 +1,55 @@
 //! The lines of a script.
 
-ghost use Rattle.std.specs.Prelude.{◌≡◌, ◌≤◌, ◌<◌, ◌==◌, Bool, true, false, All, ◌||◌, length, take, slice_index};
+ghost use Rattle.std.specs.Prelude.{◌≡◌, ◌≤◌, ◌<◌, ◌==◌, Bool, true, false, All, ◌||◌, length, map, take, slice_index};
 ghost use Rattle.std.specs.List.{list_all};
 ghost use Rattle.ebpf_script.specs.ScriptLines.{is_text_byte, is_text};
 ghost use Rattle.ebpf_script.specs.Words.{words};
 
-use crate::reader::words::{Words, is_gap};
+use crate::reader::words::{Words, ends_word};
 
 /// A line of a text, and its first words.
 #[derive(Drop)]
-pub(crate) struct Line<'a> {
+pub(crate) struct Line<'a, 'w> {
     pub(crate) bytes: &'a [u8],
-    pub(crate) words: Words<'a>,
-    ghost split: { words ≡ take 6 (Rattle.ebpf_script.specs.Words.words bytes.now) },
+    pub(crate) words: &'w [&'a [u8]],
+    ghost split: { map (λ w. w.now) words.now ≡ take 6 (Rattle.ebpf_script.specs.Words.words bytes.now) },
 }
 
-/// The first line of a text.
-pub(crate) fn first_line(text: &[u8]) -> Line<'_>
+/// The first line of a text. Its words are kept in the memory that is lent.
+pub(crate) fn first_line<'a, 'w>(text: &'a [u8], kept: &'w mut Words<'a>) -> Line<'a, 'w>
     ensures within { length result.bytes.now ≤ length text.now }
     ensures bytes { result.bytes.now ≡ take (length result.bytes.now) text.now }
     ensures whole { All (λ c. (c == 10) ≡ false) result.bytes.now }
     ensures end { length result.bytes.now < length text.now → (slice_index text.now (length result.bytes.now) == 10) ≡ true }
 {
-    let mut words = Words::none();
+    let length = split_line(text, kept);
+    Line {
+        bytes: &text[..length],
+        words: kept.as_slice(),
+    }
+}
+
+// How long the first line of a text is; its words are those that are kept.
+fn split_line<'a>(text: &'a [u8], kept: &mut Words<'a>) -> usize
+    ensures within { result ≤ length text.now }
+    ensures whole { All (λ c. (c == 10) ≡ false) (take result text.now) }
+    ensures end { result < length text.now → (slice_index text.now result == 10) ≡ true }
+    ensures split { kept.new ≡ take 6 (words (take result text.now)) }
+{
+    kept.restart();
     let mut start = 0;
     for i in 0..text.len() {
         let c = text[i];
-        if c == b'\n' || is_gap(c) {
-            words.add(&text[start..i]);
+        if ends_word(c) {
+            kept.add(&text[start..i]);
             if c == b'\n' {
-                return Line {
-                    bytes: &text[..i],
-                    words,
-                };
+                return i;
             }
             start = i + 1;
         }
     }
-    words.add(&text[start..]);
-    Line { bytes: text, words }
+    kept.add(&text[start..]);
+    text.len()
 }
 
 /// Whether a text has only newlines and the bytes that a line may have.

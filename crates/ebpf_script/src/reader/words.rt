@@ -1,6 +1,6 @@
 //! The words of a line.
 
-ghost use Rattle.std.specs.Prelude.{◌≡◌, ◌++◌, ◌∷◌, [], ◌==◌, if◌then◌else◌, length, take, map};
+ghost use Rattle.std.specs.Prelude.{◌≡◌, ◌++◌, ◌∷◌, [], ◌==◌, ◌||◌, if◌then◌else◌, length, take, map};
 ghost use Rattle.ebpf_script.specs.Words.{is_gap};
 
 use std::marker::Model;
@@ -37,6 +37,14 @@ impl<'a> Words<'a> {
         }
     }
 
+    /// Begins again with no words, in the same memory.
+    #[inline]
+    pub(crate) fn restart(&mut self)
+        ensures { self.new ≡ [] }
+    {
+        self.count = 0;
+    }
+
     /// Adds a word, unless it is empty or one too many.
     #[inline]
     pub(crate) fn add(&mut self, word: &'a [u8])
@@ -57,10 +65,11 @@ impl<'a> Words<'a> {
     }
 }
 
-/// Whether a byte separates words.
+/// Whether a byte ends a word: a newline, or one that separates words. Most bytes of a line are after these, and one comparison
+/// passes over them.
 #[inline]
-pub(crate) fn is_gap(c: u8) -> bool
-    ensures { result ≡ is_gap c }
+pub(crate) fn ends_word(c: u8) -> bool
+    ensures { result ≡ (c == 10 || is_gap c) }
 {
-    c == b'\t' || c == b'\r' || c == b' '
+    c <= b' ' && (c == b' ' || c == b'\n' || c == b'\t' || c == b'\r')
 }

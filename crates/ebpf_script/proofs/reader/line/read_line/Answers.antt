@@ -16,18 +16,18 @@ pub returns-clause-fine : goal.returns-clause-fine
 returns-clause-fine c =
     let line = c.args.line.now in
     let printable = sym c.is_line_text.ensures ∙ c.if-not-is_line_text.false in
-    let fault = line_fault-text c.args.dialect (parsed_script c.args.script.now) line.bytes.now _ printable (c.as_slice.ensures ∙ line.split) in
+    let fault = line_fault-text c.args.dialect (parsed_script c.args.script.now) line.bytes.now _ printable line.split in
     added_fine c.read_words.result _ _ _ _ fault c.read_words.ensures.ok
 
 pub returns-clause-ok : goal.returns-clause-ok
 returns-clause-ok c =
     let line = c.args.line.now in
-    let same = ap (shape_of c.args.dialect) (c.as_slice.ensures ∙ line.split) ∙ six_say c.args.dialect (words line.bytes.now) in
+    let same = ap (shape_of c.args.dialect) line.split ∙ six_say c.args.dialect (words line.bytes.now) in
     shaped_ok c.read_words.result _ _ _ _ (sym same) c.read_words.ensures.ok
 
 pub returns-clause-refused : goal.returns-clause-refused
 returns-clause-refused c =
     let line = c.args.line.now in
     let printable = sym c.is_line_text.ensures ∙ c.if-not-is_line_text.false in
-    let fault = line_fault-text c.args.dialect (parsed_script c.args.script.now) line.bytes.now _ printable (c.as_slice.ensures ∙ line.split) in
+    let fault = line_fault-text c.args.dialect (parsed_script c.args.script.now) line.bytes.now _ printable line.split in
     subst (λ (f : Option FaultCode). IfErr c.read_words.result (IsStop f)) (sym fault) c.read_words.ensures.refused
