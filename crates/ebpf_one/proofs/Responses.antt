@@ -24,7 +24,7 @@ use Rattle.ebpf_one.specs.OneText.{Responds, RespondsAsked, RespondsBytes, Respo
 input_fault_long : (form : Form) (input : List ℕ) → 1048576 < length input → input_fault form input ≡ Some InputTooLong
 input_fault_long form input long = rw (lt-ltb 1048576 (length input) long) refl
 
-fault_of_long : (form : Form) (input context : List ℕ) (held : ℕ) → 1048576 < length input → fault_of form input context held ≡ Some InputTooLong
+pub fault_of_long : (form : Form) (input context : List ℕ) (held : ℕ) → 1048576 < length input → fault_of form input context held ≡ Some InputTooLong
 fault_of_long form input context held long = rw (lt-ltb 1048576 (length input) long) refl
 
 -- the responses to an input by the fault that it has
@@ -32,7 +32,7 @@ abbrev RespondsBy : Type 1
 RespondsBy = Option FaultCode → List ℕ → Response → Type 0
 
 -- where the response to an input that is too long is S1, whatever its bytes, it is the response to its beginning
-cuts_at : (fault : List ℕ → Option FaultCode) (Responds : RespondsBy)
+pub cuts_at : (fault : List ℕ → Option FaultCode) (Responds : RespondsBy)
     → ((input : List ℕ) → 1048576 < length input → fault input ≡ Some InputTooLong)
     → ((a b : List ℕ) (response : Response) → Responds (Some InputTooLong) a response → Responds (Some InputTooLong) b response)
     → CutsLong (λ input response. Responds (fault input) input response)

@@ -86,7 +86,7 @@ pub(crate) fn explain_input(
 }
 
 // The answer to an input and options that can't be used.
-fn answer_unused(
+pub(crate) fn answer_unused(
     alloc: Global,
     form: Form,
     input: &[u8],
@@ -178,7 +178,7 @@ fn explain_program(
 }
 
 // The answer to a program whose flow is at fault.
-fn answer_misled(
+pub(crate) fn answer_misled(
     alloc: Global,
     bytes: &[u8],
     slot: u16,

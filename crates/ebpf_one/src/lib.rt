@@ -5,7 +5,7 @@
 //! what they ask for, the lines of their texts, and the store of objects of a single run.
 //!
 //! To be read in this order: `form`, `program_text`, `request`, `store`, `alone`, `text`, `answer`, `one`, `list`, `input_faults`, `sourced`, `explain`, `lay_out`,
-//! `object`, `object_commands`, `source_list`, `explain_object`.
+//! `object`, `object_commands`, `source_list`, `explain_object`, `graph`.
 #![tactic(auto)]
 
 mod alone;
@@ -13,6 +13,7 @@ mod answer;
 pub mod explain;
 pub mod explain_object;
 pub mod form;
+pub mod graph;
 mod input_faults;
 pub mod lay_out;
 pub mod list;

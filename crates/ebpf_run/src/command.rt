@@ -16,6 +16,10 @@ const LIST_EXAMPLE: &str = "Example: echo 'b700000007000000 9500000000000000' | 
 const EXPLAIN_EXAMPLE: &str =
     "Example: echo 'b700000007000000 9500000000000000' | ebpf_run explain";
 
+// After the help of `graph`.
+const GRAPH_EXAMPLE: &str =
+    "Example: echo 'b700000007000000 9500000000000000' | ebpf_run graph";
+
 // After the help of `lay-out`.
 const LAY_OUT_EXAMPLE: &str =
     "Example: echo '05000100000000009500000000000000b7000000070000000500fdff00000000' | ebpf_run lay-out";
@@ -55,6 +59,7 @@ pub enum Task<'a> {
     One(OneOptions<'a>),
     List(ListOptions<'a>),
     Explain(OneOptions<'a>),
+    Graph(OneOptions<'a>),
     LayOut(Source<'a>),
     Assemble,
     Check(CheckOptions),
@@ -62,7 +67,7 @@ pub enum Task<'a> {
     Run(RunOptions),
 }
 
-/// The options of `one` and of `explain`, which runs nothing.
+/// The options of `one`, and of `explain` and `graph`, which run nothing.
 #[derive(Clone, Copy)]
 pub struct OneOptions<'a> {
     /// What the input is.
@@ -111,6 +116,7 @@ pub fn command<'a>(alloc: Global) -> Result<Command<'a>, AllocError> {
     let one = one_command(alloc)?;
     let list = list_command(alloc)?;
     let explain = explain_command(alloc)?;
+    let graph = graph_command(alloc)?;
     let lay_out = lay_out_command(alloc)?;
     let assemble = assemble_command(alloc)?;
     let check = check_command(alloc)?;
@@ -124,6 +130,7 @@ pub fn command<'a>(alloc: Global) -> Result<Command<'a>, AllocError> {
         .subcommand(one)?;
     all.subcommand(list)?
         .subcommand(explain)?
+        .subcommand(graph)?
         .subcommand(lay_out)?
         .subcommand(assemble)?
         .subcommand(check)?
@@ -146,6 +153,15 @@ fn explain_command<'a>(alloc: Global) -> Result<Command<'a>, AllocError> {
         .after_help(EXPLAIN_EXAMPLE)
         .arg(lines_option(alloc)?)?;
     with_options_of_one(alloc, explain)
+}
+
+fn graph_command<'a>(alloc: Global) -> Result<Command<'a>, AllocError> {
+    let graph = Command::new(alloc, "graph")
+        .about(
+            "Writes the basic blocks of the program whose hex is in FILE or on standard input as a graph for dot",
+        )
+        .after_help(GRAPH_EXAMPLE);
+    with_options_of_one(alloc, graph)
 }
 
 fn with_options_of_one<'a>(alloc: Global, command: Command<'a>) -> Result<Command<'a>, AllocError> {
@@ -297,6 +313,7 @@ fn task_of<'a>(name: &str, given: &ArgMatches<'a>) -> Option<Task<'a>> {
         "one" => Some(Task::One(one_options(given, false))),
         "list" => Some(Task::List(list_options(given))),
         "explain" => Some(Task::Explain(one_options(given, given.get_flag("source")))),
+        "graph" => Some(Task::Graph(one_options(given, false))),
         "lay-out" => Some(Task::LayOut(source_of(given))),
         "assemble" => Some(Task::Assemble),
         "check" => Some(Task::Check(check_options(given))),

@@ -2,8 +2,8 @@
 //!
 //! This crate reads the command line, opens the file that is named and has the standard streams. What a command writes is a function of what it reads and
 //! of its options, errors included, and it writes nothing else. That is the contract of [`ebpf_one::one::one`],
-//! [`ebpf_one::list::list`], [`ebpf_one::explain::explain`] and [`ebpf_one::lay_out::lay_out`], of the same over an object file
-//! ([`ebpf_one::object_commands`], [`ebpf_one::source_list`], [`ebpf_one::explain_object`]), of [`ebpf_assemble::assemble::assemble`],
+//! [`ebpf_one::list::list`], [`ebpf_one::explain::explain`], [`ebpf_one::graph::graph`] and [`ebpf_one::lay_out::lay_out`], of the same over an object
+//! file ([`ebpf_one::object_commands`], [`ebpf_one::source_list`], [`ebpf_one::explain_object`]), of [`ebpf_assemble::assemble::assemble`],
 //! of [`ebpf_script::check::check`], [`ebpf_script::explained_check::explained_check`] and [`ebpf_script::replay::replay`]. What `run` writes is such a
 //! text for some outcome of the jobs, since threads decide which requests for objects are granted and what is found on a shelf: that
 //! is the contract of [`ebpf_script::run::run`]. These are all that it calls.
@@ -14,7 +14,7 @@ mod programs;
 mod source;
 
 use crate::command::{Request, RunOptions, Task, command, request_of};
-use crate::programs::{perform_explain, perform_lay_out, perform_list, perform_one};
+use crate::programs::{perform_explain, perform_graph, perform_lay_out, perform_list, perform_one};
 use clap::Error;
 use clap::error::ErrorKind;
 use ebpf_assemble::assemble::assemble;
@@ -100,6 +100,7 @@ fn perform<R: AllocGlobal + Clock + Eprint + Print + Threads + Wait + Sync, I: R
         Task::One(options) => perform_one(alloc, reader, &mut writer, options),
         Task::List(options) => perform_list(alloc, reader, &mut writer, options),
         Task::Explain(options) => perform_explain(alloc, reader, &mut writer, options),
+        Task::Graph(options) => perform_graph(alloc, reader, &mut writer, options),
         Task::LayOut(source) => perform_lay_out(alloc, reader, &mut writer, source),
         Task::Assemble => assemble(alloc, reader, &mut writer),
         Task::Check(options) if options.explain => { explained_check(alloc, reader, &mut writer) }

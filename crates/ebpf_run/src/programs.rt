@@ -5,6 +5,7 @@ use crate::source::Source;
 use ebpf_command::done::{Done, EngineFault};
 use ebpf_one::explain::explain;
 use ebpf_one::explain_object::explain_object;
+use ebpf_one::graph::{graph, graph_object};
 use ebpf_one::lay_out::lay_out;
 use ebpf_one::list::list;
 use ebpf_one::object_commands::{lay_out_object, list_object, one_object};
@@ -66,6 +67,25 @@ pub fn perform_explain<R: Read, W: Write>(
         Source::Object(name) => {
             explain_object(alloc, reader, writer, name, context, held, lines)
         }
+    }
+}
+
+/// Does `graph`.
+pub fn perform_graph<R: Read, W: Write>(
+    alloc: Global,
+    reader: &mut R,
+    writer: &mut W,
+    options: OneOptions<'_>,
+) -> Result<Done, EngineFault> {
+    let OneOptions {
+        source,
+        context,
+        held,
+        ..
+    } = options;
+    match source {
+        Source::Program(form) => graph(alloc, reader, writer, form, context, held),
+        Source::Object(name) => graph_object(alloc, reader, writer, name, context, held),
     }
 }
 

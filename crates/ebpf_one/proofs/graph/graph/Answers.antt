@@ -1,0 +1,18 @@
+use Rattle.std.proofs.Common.{rules}
+use Rattle.ebpf_command.proofs.Written.{response_through, begun_through, response_of_shown}
+use Rattle.ebpf_one.specs.GraphText.{GraphsTo}
+use Rattle.ebpf_one.proofs.Graphs.{graph_cuts}
+use Rattle.ebpf_one.proofs.graph.graph.Goals as goal
+
+pub returns-clause-response : goal.returns-clause-response
+returns-clause-response g c = response_through (GraphsTo c.args.form c.args.context.now c.args.held) _ _ _ _ c.respond.ensures.response
+    (λ all response k. response_of_shown (GraphsTo c.args.form c.args.context.now c.args.held) (graph_cuts c.args.form c.args.context.now c.args.held) all
+    response k.0 k.2 (let h = k.1 in search rules))
+
+pub returns-clause-consumed : goal.returns-clause-consumed
+returns-clause-consumed g c = c.respond.ensures.consumed
+
+pub returns-clause-beginning : goal.returns-clause-beginning
+returns-clause-beginning g c = begun_through (GraphsTo c.args.form c.args.context.now c.args.held) _ _ _ _ c.respond.ensures.beginning
+    (λ all response k. response_of_shown (GraphsTo c.args.form c.args.context.now c.args.held) (graph_cuts c.args.form c.args.context.now c.args.held) all
+    response k.0 k.2 (let h = k.1 in search rules))
