@@ -58,7 +58,7 @@ impl TextLine {
         self.start = write_digits(n, &mut self.bytes, self.start);
     }
 
-    /// Writes words before the rest, by one store.
+    /// Writes words before the rest. Their number is known to the compiler, so no function is called to copy them.
     #[inline]
     pub(crate) fn words<const N: usize>(&mut self, words: &[u8; N])
         requires room { length self.old + length words.now ≤ 112 }

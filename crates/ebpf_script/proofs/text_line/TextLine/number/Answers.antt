@@ -1,6 +1,5 @@
-use Rattle.std.proofs.Common.{ℕ, ◌+◌, ◌-◌, List, ◌++◌, drop, arith, length-drop, length-append, sym, ap, ◌∙◌, ◌≤◌, ◌≡◌, length}
+use Rattle.std.proofs.Common.{arith, length-drop, length-append, ap, ◌∙◌, ◌≤◌, length}
 use Rattle.std.specs.Fmt.{decimal}
-use Rattle.std.specs.Str.{IsAscii}
 use Rattle.std.proofs.lemmas.Fmt.{length-decimal-le, IsAscii-decimal}
 use Rattle.std.proofs.lemmas.Str.{IsAscii-append}
 use Rattle.ebpf_script.proofs.TextLineLemmas.{after_end}
