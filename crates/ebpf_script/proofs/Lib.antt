@@ -4,7 +4,6 @@ pub mod WordLemmas
 pub mod LinesLeft
 pub mod ScriptLemmas
 pub mod ShapeLemmas
-pub mod TextLineLemmas
 pub mod LinesLemmas
 pub mod VerdictLemmas
 pub mod ExplainedLemmas

@@ -15,7 +15,7 @@ use Rattle.ebpf_script.specs.declared.reader.script.Script.{Script}
 use Rattle.ebpf_script.specs.ReadScripts.{IsScriptStop, Adds, parsed_script, stop_at}
 use Rattle.ebpf_script.specs.ParsedScript.{ParsedScript, empty_script, with_line}
 use Rattle.ebpf_script.specs.ScriptLines.{script_lines, is_text}
-use Rattle.ebpf_script.specs.Scripts.{parsed_lines, parsed_text, unless_fault}
+use Rattle.ebpf_script.specs.Scripts.{parsed_lines, parsed_text}
 use Rattle.ebpf_script.specs.Shapes.{Shape, Passed, Unknown, ProgramLine, StartLine, ExecLine, AnsweredLine, GrowLine, ReapLine, ArenaLine, JobLine, PassLine, shape_of}
 use Rattle.ebpf_script.specs.Words.{words}
 use Rattle.ebpf_script.proofs.ShapeLemmas.{six_say}

@@ -1,8 +1,10 @@
 -- The programs of a script, by name.
-use Rattle.std.proofs.Common.{◌≡◌, ℕ, ◌+◌, Bool, true, false, cond, not, List, [], ◌∷◌, ◌++◌, length, map, Option, Some, None, is_some, option_map, position, slice_get, String, string_bytes, refl, sym, ◌∙◌, ap, arith}
+use Rattle.std.proofs.Common.{◌≡◌, ℕ, zero, suc, ◌+◌, Bool, true, false, cond, not, List, [], ◌∷◌, ◌++◌, length, map, Option, Some, None, Result, Ok, Err, OnOk, OnErr, is_some, option_map, unwrap_or, position, slice_get, String, string_bytes, refl, sym, ◌∙◌, ap, arith}
+use Rattle.std.proofs.lemmas.Bool.{and_parts}
 use Rattle.std.proofs.lemmas.List.{map-append}
+use Rattle.std.proofs.lemmas.List.Folds.{list_all-append}
 use Rattle.std.specs.declared.alloc.Global.{Global}
-use Rattle.std.specs.List.{prefix_len, IsDistinct}
+use Rattle.std.specs.List.{list_all, prefix_len, IsDistinct}
 use Rattle.std.specs.Map.{keys_of, lookup}
 use Rattle.std.specs.Str.{bytes_eq}
 use Rattle.std.specs.String.{string_eq, string_eq_equiv}
@@ -11,6 +13,7 @@ use Rattle.indexmap.proofs.MapLemmas.{some_index, index-first}
 use Rattle.indexmap.proofs.RemoveLemmas.{own_first}
 use Rattle.indexmap.proofs.CallerLemmas.{insert_entry-new}
 use Rattle.ebpf_script.specs.declared.reader.script.ProgramText.{ProgramText}
+use Rattle.ebpf_script.specs.Names.{is_name}
 use Rattle.ebpf_script.specs.ReadScripts.{named}
 use Rattle.ebpf_script.specs.ParsedScript.{Named, number_of, declared_by}
 
@@ -71,13 +74,43 @@ none_where None h = refl
 none_where (Some x) h = cc
 
 -- a name that is not there goes last
+entries-put : {S : Type 0} (m : IndexMap (String Global) ProgramText S) (key : String Global) (text : ProgramText) (asked : List ℕ) (new : List (String Global × ProgramText))
+    → string_bytes key ≡ asked → false ≡ is_some (lookup (λ k. bytes_eq asked (string_bytes k)) m.entries)
+    → new ≡ insert_entry string_eq m.entries key text → new ≡ m.entries ++ (key, text) ∷ []
+entries-put m key text asked new same absent put =
+    let none : get string_eq m key ≡ None =
+    none_where _ (ap (λ (q : List ℕ). is_some (lookup (λ k. bytes_eq q (string_bytes k)) m.entries)) same ∙ sym absent) in
+    put ∙ insert_entry-new string_eq m key text none
+
 pub entries-more : {S : Type 0} (m : IndexMap (String Global) ProgramText S) (key : String Global) (text : ProgramText) (asked : List ℕ) (new : List (String Global × ProgramText))
     → string_bytes key ≡ asked → false ≡ is_some (lookup (λ k. bytes_eq asked (string_bytes k)) m.entries)
     → new ≡ insert_entry string_eq m.entries key text → map named new ≡ map named m.entries ++ named (key, text) ∷ []
 entries-more m key text asked new same absent put =
-    let none : get string_eq m key ≡ None =
-    none_where _ (ap (λ (q : List ℕ). is_some (lookup (λ k. bytes_eq q (string_bytes k)) m.entries)) same ∙ sym absent) in
-    ap (λ (es : List (String Global × ProgramText)). map named es) (put ∙ insert_entry-new string_eq m key text none) ∙ map-append named m.entries ((key, text) ∷ [])
+    ap (λ (es : List (String Global × ProgramText)). map named es) (entries-put m key text asked new same absent put) ∙ map-append named m.entries ((key, text) ∷ [])
+
+-- ---- all names are allowed
+
+pub named-more : {S X E : Type 0} (r : Result X E) (m : IndexMap (String Global) ProgramText S) (key : String Global) (text : ProgramText) (asked : List ℕ) (new : List (String Global × ProgramText))
+    → string_bytes key ≡ asked → is_name asked ≡ true → false ≡ is_some (lookup (λ k. bytes_eq asked (string_bytes k)) m.entries)
+    → OnOk r (new ≡ insert_entry string_eq m.entries key text) → OnErr r (new ≡ m.entries)
+    → list_all (λ p. is_name (string_bytes p.0)) m.entries ≡ true → list_all (λ p. is_name (string_bytes p.0)) new ≡ true
+named-more (Ok x) m key text asked new same allowed absent put kept before =
+    let last : is_name (string_bytes key) ≡ true = ap is_name same ∙ allowed in
+    ap (list_all (λ (p : String Global × ProgramText). is_name (string_bytes p.0))) (entries-put m key text asked new same absent put)
+    ∙ (list_all-append (λ (p : String Global × ProgramText). is_name (string_bytes p.0)) m.entries ((key, text) ∷ []) ∙ rw (before, last) refl)
+named-more (Err e) m key text asked new same allowed absent put kept before =
+    ap (list_all (λ (p : String Global × ProgramText). is_name (string_bytes p.0))) kept ∙ before
+
+pub named-there : (es : List (String Global × ProgramText)) (index : ℕ) (key : String Global) (text : ProgramText) (name : List ℕ)
+    → list_all (λ p. is_name (string_bytes p.0)) es ≡ true → slice_get es index ≡ Some (key, text) → string_bytes key ≡ name → is_name name ≡ true
+named-there [] index key text name all there same = absurd cc
+named-there ((k, t) ∷ es) zero key text name all there same =
+    let parts = and_parts (is_name (string_bytes k)) (list_all (λ (p : String Global × ProgramText). is_name (string_bytes p.0)) es) all in
+    let first : string_bytes k ≡ string_bytes key = ap (λ (o : Option (String Global × ProgramText)). string_bytes (unwrap_or o (k, t)).0) there in
+    sym (ap is_name (first ∙ same)) ∙ parts.0
+named-there ((k, t) ∷ es) (suc index) key text name all there same =
+    let parts = and_parts (is_name (string_bytes k)) (list_all (λ (p : String Global × ProgramText). is_name (string_bytes p.0)) es) all in
+    named-there es index key text name parts.1 there same
 
 -- ---- an entry whose key is the name
 

@@ -5,7 +5,6 @@ ghost use Rattle.std.specs.Prelude.{◌≡◌, ◌+◌, ◌≤◌, ◌++◌, IsA
 
 use itoa::write_digits;
 use std::marker::Model;
-use std::simd::Simd;
 
 // The most bytes of a line.
 const ROOM: usize = 112;
@@ -58,15 +57,17 @@ impl TextLine {
         self.start = write_digits(n, &mut self.bytes, self.start);
     }
 
-    /// Writes words before the rest, by one store.
+    /// Writes words before the rest.
     #[inline]
-    pub(crate) fn words<const N: usize>(&mut self, words: &[u8; N])
+    pub(crate) fn words(&mut self, words: &[u8])
         requires room { length self.old + length words.now ≤ 112 }
         requires ascii { IsAscii words.now }
         ensures { self.new ≡ words.now ++ self.old }
     {
-        self.start -= N;
-        Simd::from_array(*words).copy_to_slice(&mut self.bytes[self.start..]);
+        let end = self.start;
+        let start = end - words.len();
+        self.bytes[start..end].copy_from_slice(words);
+        self.start = start;
     }
 
     /// The line.

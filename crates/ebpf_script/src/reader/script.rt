@@ -1,6 +1,8 @@
 //! What a reader of scripts makes, and why it stops.
 
-ghost use Rattle.std.specs.Prelude.{◌≡◌};
+ghost use Rattle.std.specs.Prelude.{◌≡◌, true, string_bytes};
+ghost use Rattle.std.specs.List.{list_all};
+ghost use Rattle.ebpf_script.specs.Names.{is_name};
 
 use ebpf_command::done::{FaultCode, Stop};
 use ebpf_pool::Job;
@@ -29,7 +31,7 @@ pub struct ProgramText {
 /// names that share a place of the table can be searched for, and not just be written down.
 pub type Programs = IndexMap<String, ProgramText, BuildHasherDefault<DefaultHasher>>;
 
-/// The programs of a script, and what its dialect has beside them.
+/// The programs of a script, whose names are all allowed, and what its dialect has beside them.
 #[derive(Drop)]
 pub struct Script {
     pub programs: Programs,
@@ -39,6 +41,7 @@ pub struct Script {
     pub jobs: Vec<Job>,
     /// How many passes the reaper is to make for the script's lines.
     pub passes: u32,
+    ghost named: { list_all (λ p. is_name (string_bytes p.0)) programs.entries ≡ true },
 }
 
 /// Why a text is no script: the code, and the line, from 1; line 0 where the text is too long.

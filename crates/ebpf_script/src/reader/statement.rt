@@ -9,7 +9,7 @@ ghost use Rattle.ebpf_script.specs.Shapes.{ProgramLine, StartLine, ExecLine, Ans
 
 use crate::reader::names::name_of;
 use crate::reader::numbers::{context_of, held_of, kind_of, pages_of, run_of, slot_of};
-use crate::reader::programs::program_of;
+use crate::reader::programs::{job_name, program_of};
 use crate::reader::script::{ProgramText, Script};
 use ebpf_command::done::{FaultCode, Stop};
 use ebpf_command::hex_text::hex_or_dash;
@@ -176,7 +176,7 @@ pub(crate) fn read_job(
     let Some(bytes) = hex_or_dash(alloc, hex)? else {
         return Err(Stop::Fault(FaultCode::BadHex));
     };
-    let Some(name) = name_of(name) else {
+    let Some(name) = job_name(script, name) else {
         return Err(Stop::Fault(FaultCode::BadName));
     };
     let Some((program, text)) = program_of(script, name) else {

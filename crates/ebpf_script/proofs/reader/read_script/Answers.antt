@@ -1,4 +1,4 @@
-use Rattle.std.proofs.Common.{◌≤◌, ◌+◌, length, drop, sym, ◌∙◌, arith, length-drop}
+use Rattle.std.proofs.Common.{◌≤◌, length, drop, sym, ◌∙◌, arith, length-drop}
 use Rattle.std.proofs.lemmas.List.{take_rest}
 use Rattle.ebpf_script.specs.ReadScripts.{parsed_script}
 use Rattle.ebpf_script.proofs.LinesLeft.{IsFirst, first_here, lines_from-line, line_is_text}

@@ -1,4 +1,4 @@
-use Rattle.std.proofs.Common.{◌≡◌, Option, map, take, IfErr, sym, ap, ◌∙◌, subst}
+use Rattle.std.proofs.Common.{Option, IfErr, sym, ap, ◌∙◌, subst}
 use Rattle.ebpf_command.specs.declared.done.FaultCode.{FaultCode}
 use Rattle.ebpf_command.specs.Stops.{IsStop}
 use Rattle.ebpf_script.specs.ReadScripts.{parsed_script}

@@ -1,8 +1,8 @@
-use Rattle.std.proofs.Common.{◌≡◌, ◌==◌, ◌||◌, ℕ, List, true, false, length, get_or, subst, sym, ◌∙◌, arith}
+use Rattle.std.proofs.Common.{◌≡◌, ◌==◌, false, length, get_or, subst, sym, ◌∙◌, arith}
 use Rattle.std.proofs.lemmas.Bool.{or_parts}
 use Rattle.std.proofs.lemmas.List.{take_all}
 use Rattle.ebpf_script.specs.Words.{is_gap}
-use Rattle.ebpf_script.proofs.WordLemmas.{Passed, passed_none, passed_words, passed_gap, passed_byte, passed_all, one_line_all, no_newline, gap_here}
+use Rattle.ebpf_script.proofs.WordLemmas.{Passed, passed_none, passed_words, passed_gap, passed_byte, one_line_all, no_newline, gap_here}
 use Rattle.ebpf_script.proofs.reader.lines.split_line.Goals.{then-ends_word+else-c-eq10, else-ends_word}
 use Rattle.ebpf_script.proofs.reader.lines.split_line.Goals as goal
 

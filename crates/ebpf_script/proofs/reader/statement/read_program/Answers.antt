@@ -1,10 +1,10 @@
-use Rattle.std.proofs.Common.{◌≡◌, map, true, false, Some, is_some, refl, sym, ◌∙◌}
+use Rattle.std.proofs.Common.{◌≡◌, map, true, false, Some, is_some, refl, sym, ap, ◌∙◌}
 use Rattle.ebpf_command.specs.HexText.{hex_or_dash}
 use Rattle.ebpf_script.specs.Names.{is_name}
 use Rattle.ebpf_script.specs.Numbers.{context_of, held_of}
 use Rattle.ebpf_script.specs.ReadScripts.{named}
 use Rattle.ebpf_script.specs.ParsedScript.{number_of}
-use Rattle.ebpf_script.proofs.ScriptLemmas.{is_defined-test, entries-more}
+use Rattle.ebpf_script.proofs.ScriptLemmas.{is_defined-test, entries-more, named-more}
 use Rattle.ebpf_script.proofs.reader.statement.read_program.Goals as goal
 
 pub returns-then-contains_key-clause-refused :
@@ -29,3 +29,11 @@ returns-clause-ok c =
     let more = entries-more c.args.script.now.programs c.in_ok-name.name _ c.in-Some-name_of.name.now c.insert.new.self.entries c.in_ok-name.ensures.ok (sym c.if-contains_key.false ∙ c.contains_key.ensures) c.in_ok-insert.ensures.entries in
     let declared = rw c.unwrap-decl.ensures at c.new.ensures.value in
     record { fine = rw (context, held, bytes, allowed, once) refl; parsed = rw (bytes, context, held, more, c.in_ok-name.ensures.ok, c.in-Some-name_of.ensures.same, declared.0, declared.1) refl }
+
+pub invariant_of-script : goal.invariant_of-script
+invariant_of-script c =
+    let allowed : is_name c.args.name.now ≡ true = sym c.in-Some-name_of.ensures.allowed in
+    record {
+      named = named-more c.insert.result c.args.script.now.programs c.in_ok-name.name _ c.in-Some-name_of.name.now c.insert.new.self.entries c.in_ok-name.ensures.ok
+          (ap is_name c.in-Some-name_of.ensures.same ∙ allowed) (sym c.if-contains_key.false ∙ c.contains_key.ensures) c.insert.ensures.entries c.insert.ensures.err c.args.script.now.named;
+    }

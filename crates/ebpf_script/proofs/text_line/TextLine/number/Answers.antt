@@ -1,10 +1,21 @@
 use Rattle.std.proofs.Common.{ℕ, ◌+◌, ◌-◌, List, ◌++◌, drop, arith, length-drop, length-append, sym, ap, ◌∙◌, ◌≤◌, ◌≡◌, length}
+use Rattle.std.proofs.Math.Seq.{drop-append-add}
+use Rattle.std.proofs.lemmas.List.{drop-drop}
 use Rattle.std.specs.Fmt.{decimal}
 use Rattle.std.specs.Str.{IsAscii}
 use Rattle.std.proofs.lemmas.Fmt.{length-decimal-le, IsAscii-decimal}
 use Rattle.std.proofs.lemmas.Str.{IsAscii-append}
-use Rattle.ebpf_script.proofs.TextLineLemmas.{after_end}
 use Rattle.ebpf_script.proofs.text_line.TextLine.number.Goals as goal
+
+-- what is after the end of what is written stays
+after_end : (start end k : ℕ) (front new old : List ℕ) → drop start new ≡ front ++ drop end old → start + length front ≡ end → end ≤ k
+    → drop k new ≡ drop k old
+after_end start end k front new old written sum le =
+    let gap = k - end in
+    let first : k ≡ start + (length front + gap) = omega (arith, sum, le) in
+    let last : end + gap ≡ k = omega (arith, le) in
+    ap (λ (n : ℕ). drop n new) first ∙ sym (drop-drop (length front + gap) start new) ∙ ap (drop (length front + gap)) written
+    ∙ drop-append-add front (drop end old) gap ∙ drop-drop gap end old ∙ ap (λ (n : ℕ). drop n old) last
 
 pub write_digits-self-inside-requires : goal.write_digits-self-inside-requires
 write_digits-self-inside-requires c =

@@ -1,25 +1,20 @@
-use Rattle.std.proofs.Common.{◌≡◌, ◌+◌, ◌-◌, ◌++◌, ◌∙◌, List, ℕ, arith, ap, sym, subst, length, drop, length-drop}
+use Rattle.std.proofs.Common.{ℕ, ◌≡◌, ◌+◌, ◌-◌, ◌++◌, ◌∙◌, arith, ap, sym, subst, length, drop, take}
 use Rattle.std.specs.Str.{IsAscii}
+use Rattle.std.proofs.lemmas.List.{drop-drop, drop_at, length-take}
+use Rattle.std.proofs.lemmas.Slice.{drop-put_mid}
 use Rattle.std.proofs.lemmas.Str.{IsAscii-append}
-use Rattle.ebpf_script.proofs.TextLineLemmas.{after_end, stored}
 use Rattle.ebpf_script.proofs.text_line.TextLine.words.Goals as goal
 
 pub invariant_of-self : goal.invariant_of-self
-invariant_of-self g c =
+invariant_of-self c =
     let s = c.self.inside in
-    let words = c.args.words.now in
-    let a = s.start - g.row.N in
-    let rest = ap length c.self.view_is in
-    let sum : a + length words ≡ s.start = omega (arith, length-drop s.start s.bytes, rest) in
-    let written = stored a s.start (112 - a) words s.bytes sum (omega arith) (omega arith) in
-    let end = after_end a s.start 111 words _ s.bytes written sum c.self.invariant.0 in
-    (omega arith, end ∙ c.self.invariant.1, subst IsAscii (sym written) (IsAscii-append words (drop s.start s.bytes) c.requires.ascii c.self.invariant.2))
-
-pub returns : goal.returns
-returns g c =
-    let s = c.self.inside in
-    let words = c.args.words.now in
-    let a = s.start - g.row.N in
-    let rest = ap length c.self.view_is in
-    let sum : a + length words ≡ s.start = omega (arith, length-drop s.start s.bytes, rest) in
-    stored a s.start (112 - a) words s.bytes sum (omega arith) (omega arith) ∙ ap (λ (xs : List ℕ). words ++ xs) c.self.view_is
+    let a = s.start - length c.args.words.now in
+    let k = s.start - a in
+    let written = c.copy_from_slice.new.self in
+    let end = drop-put_mid a k s.bytes written 111 (omega (arith, c.self.invariant.0)) (omega (arith, c.self.invariant.0)) (omega arith) in
+    let sum : a + k ≡ s.start = omega arith in
+    let rest = drop-drop k a s.bytes ∙ ap (λ (n : ℕ). drop n s.bytes) sum in
+    let both : IsAscii (written ++ drop k (drop a s.bytes)) =
+    IsAscii-append _ _ (subst IsAscii (sym c.copy_from_slice.ensures.after) c.requires.ascii) (subst IsAscii (sym rest) c.self.invariant.2) in
+    let before : length (take a s.bytes) ≡ a = omega (arith, length-take a s.bytes, c.self.invariant.0) in
+    (omega arith, end ∙ c.self.invariant.1, subst IsAscii (sym (drop_at (take a s.bytes) _ a before)) both)
