@@ -1,11 +1,15 @@
 -- The graph of a program's flow in the DOT language: a node for each basic block, and the edges that leave it.
-use Rattle.std.specs.Prelude.{ℕ, ◌++◌, List, [], length, Bool, true, false, ◌&&◌, ◌==◌, nat_le, codes, decimal, Option, Some, None}
+use Rattle.std.specs.Prelude.{ℕ, ◌++◌, List, [], length, Bool, true, false, ◌&&◌, ◌==◌, nat_le, codes, decimal, Option, Some, None, slice_get}
 use Rattle.ebpf_insn.specs.declared.insn.Insn.{Insn}
 use Rattle.ebpf_insn.specs.declared.insn.Insn.TheVariants as insn
 use Rattle.ebpf_insn.specs.Program.{insn_at}
 use Rattle.ebpf_text.specs.Listing.{insn_text}
 use Rattle.ebpf_flow.specs.declared.edges.Edges.{Edges}
 use Rattle.ebpf_flow.specs.Edges.{edges_at}
+use Rattle.ebpf_state.specs.declared.kinds.KindRow.{KindRow}
+use Rattle.ebpf_verify.specs.declared.entry.EntryState.{EntryState}
+use Rattle.ebpf_verify.specs.declared.entry.EntryState.TheVariants.{Unreached, Known, Conflict}
+use Rattle.ebpf_explain.specs.Known.{known_words}
 use Rattle.ebpf_explain.specs.StackWords.{texts_below}
 use Rattle.ebpf_graph.specs.Blocks.{begins_block, ends_block, first_of_block}
 use Rattle.ebpf_graph.specs.Conditions.{condition}
@@ -14,6 +18,21 @@ use Rattle.ebpf_graph.specs.Conditions.{condition}
 abbrev pub opening : Bool → ℕ → List ℕ
 opening true slot = codes "  n" ++ (decimal slot ++ codes " [label=\"")
 opening false slot = []
+
+-- what is known of the runs that come to a slot, in the words of `explain`
+abbrev pub entry_text : List KindRow → EntryState → List ℕ
+entry_text rows (Known s) = known_words s rows ++ codes "\\l"
+entry_text rows Unreached = codes "  never entered\\l"
+entry_text rows Conflict = codes "  paths meet that hold different objects\\l"
+
+abbrev pub known_text : List KindRow → Option EntryState → List ℕ
+known_text rows None = []
+known_text rows (Some entry) = entry_text rows entry
+
+-- before the first line of a block, where the states are asked for and the verifier looked at the slot
+abbrev pub known_before : Bool → List KindRow → Option EntryState → List ℕ
+known_before true rows entry = known_text rows entry
+known_before false rows entry = []
 
 -- before the line of the refused slot
 abbrev pub mark : Bool → List ℕ
@@ -59,16 +78,16 @@ closing true refused first slot i e =
     node_end (is_among refused first slot) ++ (edge_text first e.fall (fall_label i) ++ edge_text first e.jump (jump_label i))
 
 -- what an instruction adds; a second half of one adds nothing
-abbrev pub slot_part : List (Option Insn) → Option ℕ → ℕ → Option Insn → List ℕ
-slot_part p refused slot None = []
-slot_part p refused slot (Some i) =
-    opening (begins_block p slot) slot ++ (mark (is_at refused slot) ++ (label_line slot i ++
-    closing (ends_block p slot) refused (first_of_block p slot) slot i (edges_at p slot)))
+abbrev pub slot_part : Bool → List (Option Insn) → List EntryState → List KindRow → Option ℕ → ℕ → Option Insn → List ℕ
+slot_part states p entries rows refused slot None = []
+slot_part states p entries rows refused slot (Some i) =
+    opening (begins_block p slot) slot ++ (known_before (states && begins_block p slot) rows (slice_get entries slot) ++ (mark (is_at refused slot) ++ (label_line slot i ++
+    closing (ends_block p slot) refused (first_of_block p slot) slot i (edges_at p slot))))
 
-abbrev pub slot_graph : List (Option Insn) → Option ℕ → ℕ → List ℕ
-slot_graph p refused slot = slot_part p refused slot (insn_at p slot)
+abbrev pub slot_graph : Bool → List (Option Insn) → List EntryState → List KindRow → Option ℕ → ℕ → List ℕ
+slot_graph states p entries rows refused slot = slot_part states p entries rows refused slot (insn_at p slot)
 
--- the graph of a program, of which a slot may be refused
-abbrev pub graph_of : List (Option Insn) → Option ℕ → List ℕ
-graph_of p refused =
-    codes "digraph program {\n  node [shape=box, fontname=monospace];\n" ++ (texts_below (length p) (slot_graph p refused) ++ codes "}\n")
+-- the graph of a program, of which a slot may be refused, with what is known before each block where that is asked for
+abbrev pub graph_of : Bool → List (Option Insn) → List EntryState → List KindRow → Option ℕ → List ℕ
+graph_of states p entries rows refused =
+    codes "digraph program {\n  node [shape=box, fontname=monospace];\n" ++ (texts_below (length p) (slot_graph states p entries rows refused) ++ codes "}\n")

@@ -9,28 +9,31 @@ ghost use Rattle.ebpf_graph.specs.Graph.{closing, graph_of, slot_graph};
 
 use crate::blocks::{block_starts, ends_before};
 use crate::edges::write_edges;
+use crate::entry::write_known_before;
 use crate::node::{write_label_line, write_mark, write_node_end, write_opening};
 use ebpf_flow::edges::Edges;
-use ebpf_flow::flowed::Flowed;
 use ebpf_insn::insn::Insn;
+use ebpf_verify::looked::Looked;
 use std::alloc::{AllocError, Global};
 
 /// Writes the graph of a program after a text: its nodes in the order of their slots, each followed by its edges. Where a
-/// slot is refused, its line is marked and its node is red.
+/// slot is refused, its line is marked and its node is red. With states each node begins with what is known before its block, if
+/// the verifier looked at it.
 ///
 /// # Errors
 /// It fails only where an allocation fails, and a beginning of the graph may be written then.
 pub fn write_graph(
     alloc: Global,
     text: &mut String,
-    flowed: &Flowed,
+    looked: &Looked,
     refused: Option<u16>,
+    states: bool,
 ) -> Result<(), AllocError>
-    ensures { OnOk result (string_bytes text.new ≡ string_bytes text.old ++ graph_of flowed.now refused) }
+    ensures { OnOk result (string_bytes text.new ≡ string_bytes text.old ++ graph_of states looked.now.flowed.now looked.now.entries.now looked.now.kinds.now refused) }
 {
-    let begins = block_starts(alloc, flowed)?;
+    let begins = block_starts(alloc, looked.flowed)?;
     text.push_str("digraph program {\n  node [shape=box, fontname=monospace];\n")?;
-    write_blocks(alloc, text, flowed, &begins, refused)?;
+    write_blocks(alloc, text, looked, &begins, refused, states)?;
     text.push_str("}\n")
 }
 
@@ -38,18 +41,19 @@ pub fn write_graph(
 fn write_blocks(
     alloc: Global,
     text: &mut String,
-    flowed: &Flowed,
+    looked: &Looked,
     begins: &[bool],
     refused: Option<u16>,
+    states: bool,
 ) -> Result<(), AllocError>
-    requires len { length begins.now ≡ length flowed.now }
-    requires each { (k : ℕ) → k < length flowed.now → slice_index_or begins.now k false ≡ begins_block flowed.now k }
-    ensures { OnOk result (string_bytes text.new ≡ string_bytes text.old ++ texts_below (length flowed.now) (slot_graph flowed.now refused)) }
+    requires len { length begins.now ≡ length looked.now.flowed.now }
+    requires each { (k : ℕ) → k < length looked.now.flowed.now → slice_index_or begins.now k false ≡ begins_block looked.now.flowed.now k }
+    ensures { OnOk result (string_bytes text.new ≡ string_bytes text.old ++ texts_below (length looked.now.flowed.now) (slot_graph states looked.now.flowed.now looked.now.entries.now looked.now.kinds.now refused)) }
 {
     let mut first = 0;
-    for slot in 0..flowed.program().slots() {
+    for slot in 0..looked.flowed.program().slots() {
         first = first_slot(begins[slot], slot, first);
-        write_slot(alloc, text, flowed, begins, refused, first, slot)?;
+        write_slot(alloc, text, looked, begins, refused, states, first, slot)?;
     }
     Ok(())
 }
@@ -65,23 +69,26 @@ fn first_slot(begins: bool, slot: usize, last: usize) -> usize
 fn write_slot(
     alloc: Global,
     text: &mut String,
-    flowed: &Flowed,
+    looked: &Looked,
     begins: &[bool],
     refused: Option<u16>,
+    states: bool,
     first: usize,
     slot: usize,
 ) -> Result<(), AllocError>
-    requires len { length begins.now ≡ length flowed.now }
-    requires each { (k : ℕ) → k < length flowed.now → slice_index_or begins.now k false ≡ begins_block flowed.now k }
-    requires inside { slot < length flowed.now }
-    requires first { first ≡ first_of_block flowed.now slot }
-    ensures { OnOk result (string_bytes text.new ≡ string_bytes text.old ++ slot_graph flowed.now refused slot) }
+    requires len { length begins.now ≡ length looked.now.flowed.now }
+    requires each { (k : ℕ) → k < length looked.now.flowed.now → slice_index_or begins.now k false ≡ begins_block looked.now.flowed.now k }
+    requires inside { slot < length looked.now.flowed.now }
+    requires first { first ≡ first_of_block looked.now.flowed.now slot }
+    ensures { OnOk result (string_bytes text.new ≡ string_bytes text.old ++ slot_graph states looked.now.flowed.now looked.now.entries.now looked.now.kinds.now refused slot) }
 {
-    let Some(insn) = flowed.program().at(slot) else {
+    let Some(insn) = looked.flowed.program().at(slot) else {
         return Ok(());
     };
-    let edges = flowed.successors(slot);
+    let edges = looked.flowed.successors(slot);
     write_opening(text, begins[slot], slot)?;
+    let asked = states && begins[slot];
+    write_known_before(text, asked, looked.entries, looked.kinds, slot)?;
     write_mark(text, refused, slot)?;
     write_label_line(alloc, text, slot, insn)?;
     let ends = ends_before(begins, edges.fall);

@@ -1,5 +1,5 @@
 -- The responses of `graph` to an input are its responses to what is read of it.
-use Rattle.std.proofs.Common.{◌≡◌, ℕ, List, Option, None, sym, subst}
+use Rattle.std.proofs.Common.{◌≡◌, ℕ, Bool, List, Option, None, sym, subst}
 use Rattle.ebpf_insn.specs.Decoding.{decode_fault}
 use Rattle.ebpf_state.specs.declared.kinds.KindRow.{KindRow}
 use Rattle.ebpf_verify.specs.declared.decl.Decl.{Decl}
@@ -13,21 +13,21 @@ use Rattle.ebpf_one.specs.OneText.{AreGiven}
 use Rattle.ebpf_one.proofs.Responses.{cuts_at, fault_of_long}
 
 -- to an input that is too long it responds as to its beginning
-pub graph_cuts : (form : Form) (context : List ℕ) (held : ℕ) → CutsLong (GraphsTo form context held)
-graph_cuts form context held =
-    cuts_at (λ input. fault_of form input context held) (λ f input response. GraphsAsked f form input context held response)
+pub graph_cuts : (states : Bool) (form : Form) (context : List ℕ) (held : ℕ) → CutsLong (GraphsTo states form context held)
+graph_cuts states form context held =
+    cuts_at (λ input. fault_of form input context held) (λ f input response. GraphsAsked states f form input context held response)
     (λ input long. fault_of_long form input context held long) (λ a b response h. h)
 
 -- the response to the bytes of a request
-pub graphed_bytes : (a : Asked) (seen : List ℕ) (decl : Decl) (rows : List KindRow) (response : Response) → seen ≡ a.bytes
-    → AreGiven a decl rows → GraphsDecoded (decode_fault seen) seen decl rows response → GraphsBytes a response
-graphed_bytes a seen decl rows response same given h =
-    (decl, rows, given, subst (λ (bytes : List ℕ). GraphsDecoded (decode_fault bytes) bytes decl rows response) same h)
+pub graphed_bytes : (states : Bool) (a : Asked) (seen : List ℕ) (decl : Decl) (rows : List KindRow) (response : Response) → seen ≡ a.bytes
+    → AreGiven a decl rows → GraphsDecoded states (decode_fault seen) seen decl rows response → GraphsBytes states a response
+graphed_bytes states a seen decl rows response same given h =
+    (decl, rows, given, subst (λ (bytes : List ℕ). GraphsDecoded states (decode_fault bytes) bytes decl rows response) same h)
 
 -- what the bytes that an input asks for are responded to is what the input is
-pub Graphs-asked : (form : Form) (input context : List ℕ) (held : ℕ) (a : Asked) (response : Response)
-    → fault_of form input context held ≡ None → a ≡ asked_for form input context held → GraphsBytes a response
-    → GraphsTo form context held input response
-Graphs-asked form input context held a response fine same h =
-    let P : Option FaultCode → Type 0 = λ f. GraphsAsked f form input context held response in
-    subst P (sym fine) (subst (λ (x : Asked). GraphsBytes x response) same h)
+pub Graphs-asked : (states : Bool) (form : Form) (input context : List ℕ) (held : ℕ) (a : Asked) (response : Response)
+    → fault_of form input context held ≡ None → a ≡ asked_for form input context held → GraphsBytes states a response
+    → GraphsTo states form context held input response
+Graphs-asked states form input context held a response fine same h =
+    let P : Option FaultCode → Type 0 = λ f. GraphsAsked states f form input context held response in
+    subst P (sym fine) (subst (λ (x : Asked). GraphsBytes states x response) same h)

@@ -17,8 +17,7 @@ const EXPLAIN_EXAMPLE: &str =
     "Example: echo 'b700000007000000 9500000000000000' | ebpf_run explain";
 
 // After the help of `graph`.
-const GRAPH_EXAMPLE: &str =
-    "Example: echo 'b700000007000000 9500000000000000' | ebpf_run graph";
+const GRAPH_EXAMPLE: &str = "Example: echo 'b700000007000000 9500000000000000' | ebpf_run graph";
 
 // After the help of `lay-out`.
 const LAY_OUT_EXAMPLE: &str =
@@ -59,7 +58,7 @@ pub enum Task<'a> {
     One(OneOptions<'a>),
     List(ListOptions<'a>),
     Explain(OneOptions<'a>),
-    Graph(OneOptions<'a>),
+    Graph(GraphOptions<'a>),
     LayOut(Source<'a>),
     Assemble,
     Check(CheckOptions),
@@ -80,6 +79,15 @@ pub struct OneOptions<'a> {
     pub nulls: bool,
     /// Whether `explain` lists the lines of C of an object file.
     pub lines: bool,
+}
+
+/// The options of `graph`.
+#[derive(Clone, Copy)]
+pub struct GraphOptions<'a> {
+    /// Those that `one` has too.
+    pub one: OneOptions<'a>,
+    /// Whether what is known before each block is written too.
+    pub states: bool,
 }
 
 /// The options of `list`.
@@ -160,8 +168,16 @@ fn graph_command<'a>(alloc: Global) -> Result<Command<'a>, AllocError> {
         .about(
             "Writes the basic blocks of the program whose hex is in FILE or on standard input as a graph for dot",
         )
-        .after_help(GRAPH_EXAMPLE);
+        .after_help(GRAPH_EXAMPLE)
+        .arg(states_option(alloc))?;
     with_options_of_one(alloc, graph)
+}
+
+fn states_option<'a>(alloc: Global) -> Arg<'a> {
+    Arg::new(alloc, "states")
+        .long("states")
+        .action(ArgAction::SetTrue)
+        .help("Writes what is known before each block")
 }
 
 fn with_options_of_one<'a>(alloc: Global, command: Command<'a>) -> Result<Command<'a>, AllocError> {
@@ -313,7 +329,7 @@ fn task_of<'a>(name: &str, given: &ArgMatches<'a>) -> Option<Task<'a>> {
         "one" => Some(Task::One(one_options(given, false))),
         "list" => Some(Task::List(list_options(given))),
         "explain" => Some(Task::Explain(one_options(given, given.get_flag("source")))),
-        "graph" => Some(Task::Graph(one_options(given, false))),
+        "graph" => Some(Task::Graph(graph_options(given))),
         "lay-out" => Some(Task::LayOut(source_of(given))),
         "assemble" => Some(Task::Assemble),
         "check" => Some(Task::Check(check_options(given))),
@@ -339,6 +355,14 @@ fn one_options<'a>(given: &ArgMatches<'a>, lines: bool) -> OneOptions<'a> {
         held: given.get_one::<u8>("held").unwrap_or(0),
         nulls: given.get_flag("nulls"),
         lines,
+    }
+}
+
+// The options of `graph`.
+fn graph_options<'a>(given: &ArgMatches<'a>) -> GraphOptions<'a> {
+    GraphOptions {
+        one: one_options(given, false),
+        states: given.get_flag("states"),
     }
 }
 

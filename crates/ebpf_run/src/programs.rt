@@ -1,6 +1,6 @@
 //! The commands over one program, by what their input is.
 
-use crate::command::{ListOptions, OneOptions};
+use crate::command::{GraphOptions, ListOptions, OneOptions};
 use crate::source::Source;
 use ebpf_command::done::{Done, EngineFault};
 use ebpf_one::explain::explain;
@@ -75,17 +75,18 @@ pub fn perform_graph<R: Read, W: Write>(
     alloc: Global,
     reader: &mut R,
     writer: &mut W,
-    options: OneOptions<'_>,
+    options: GraphOptions<'_>,
 ) -> Result<Done, EngineFault> {
+    let GraphOptions { one, states } = options;
     let OneOptions {
         source,
         context,
         held,
         ..
-    } = options;
+    } = one;
     match source {
-        Source::Program(form) => graph(alloc, reader, writer, form, context, held),
-        Source::Object(name) => graph_object(alloc, reader, writer, name, context, held),
+        Source::Program(form) => graph(alloc, reader, writer, form, context, held, states),
+        Source::Object(name) => graph_object(alloc, reader, writer, name, context, held, states),
     }
 }
 

@@ -9,10 +9,10 @@ use Rattle.ebpf_one.proofs.graph.graph_object.Goals as goal
 
 pub returns-clause-text : goal.returns-clause-text
 returns-clause-text g c =
-    let P = GraphsTo Raw c.args.context.now c.args.held in
+    let P = GraphsTo c.args.states Raw c.args.context.now c.args.held in
     let name = c.args.function.now in
     answers_by P name _ _ _ _ c.respond.ensures.response c.respond.ensures.beginning (λ all response k.
-    response_of_shown (RespondsObject P name) (object_cuts P (graph_cuts Raw c.args.context.now c.args.held) name) all response k.0 k.2
+    response_of_shown (RespondsObject P name) (object_cuts P (graph_cuts c.args.states Raw c.args.context.now c.args.held) name) all response k.0 k.2
     (let h = k.1 in search rules))
 
 pub returns-clause-consumed : goal.returns-clause-consumed
