@@ -91,12 +91,12 @@ def explained_branches():
     return ''.join(lines) + ': free each, or put it on a shelf, on every path here\n'
 
 
-def explained_straight():
-    """What is known before each instruction of a padded program."""
+def straight_states():
+    """What is known before each instruction of a padded program, and the instruction."""
     rest = ['r1 context+0  r2 0  r10 stack+0\n%d: mov64 r2, 0\n'] * (SLOTS - 3)
     lines = ['r1 context+0  r10 stack+0\n%d: mov64 r2, 0\n', *rest]
     lines += ['r1 context+0  r2 0  r10 stack+0\n%d: mov64 r0, 0\n', 'r0 0  r1 context+0  r2 0  r10 stack+0\n%d: exit\n']
-    return ''.join('  ' + line % number for number, line in enumerate(lines)) + f'accepted {SLOTS}\n'
+    return ['  ' + line % number for number, line in enumerate(lines)]
 
 
 def each(line, first='', last=''):
@@ -127,11 +127,15 @@ def of_lines(count):
                       Section(b'.BTF', 1, table_of(b'\0.text\0' + b'f' * 5000 + b'\0')), Section(b'.BTF.ext', 1, table_of(part))])
 
 
-def sourced(count):
-    """What `list --source` writes of that file: before each slot the last of its lines."""
-    instructions = ['mov64 r2, 0'] * (SLOTS - 2) + ['mov64 r0, 0', 'exit']
+def straight_listing():
+    """The lines of the listing of a padded program."""
+    return [f'{at}: {it}\n' for at, it in enumerate(['mov64 r2, 0'] * (SLOTS - 2) + ['mov64 r0, 0', 'exit'])]
+
+
+def sourced(count, texts):
+    """The text of each slot of that file, with the last of its lines before it."""
     last = [count - (count - 1 - at) % SLOTS for at in range(SLOTS)]
-    return ''.join(f'; {"f" * 4096}:{last[at]}: {"f" * 255}\n{at}: {it}\n' for at, it in enumerate(instructions))
+    return ''.join(f'; {"f" * 4096}:{last[at]}: {"f" * 255}\n{text}' for at, text in enumerate(texts))
 
 
 def ledgers(records=0):
@@ -182,7 +186,9 @@ WORST = [
     Worst('one: an object file with many relocations', ['one', '--elf', '--function', 'a'], of_relocations(65_000), NO_PART,
           0, lambda _: 'accepted 2\nexit 0 executed 2 peak 0\n'),
     Worst('list: an object file with many lines', ['list', '--elf', '--source'], of_lines(62_000), NO_PART,
-          0, lambda _: sourced(62_000)),
+          0, lambda _: sourced(62_000, straight_listing())),
+    Worst('explain: an object file with many lines', ['explain', '--elf', '--source'], of_lines(62_000), NO_PART,
+          0, lambda _: sourced(62_000, straight_states()) + f'accepted {SLOTS}\n'),
     Worst('run: jobs with much output', ['run', '--workers', '2'], line_of('a', 0, 0, EMITS), lambda _: b'run a -\n',
           1, lambda _: ''),
 ]
@@ -191,5 +197,5 @@ WORST = [
 EXPLAINED = [
     *(worst for worst in WORST if worst.words[0] == 'explain'),
     Worst('explain: a straight program', ['explain'], padded(b'').hex().encode(), NO_PART,
-          0, lambda _: explained_straight()),
+          0, lambda _: ''.join(straight_states()) + f'accepted {SLOTS}\n'),
 ]
