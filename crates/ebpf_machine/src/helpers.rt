@@ -24,9 +24,6 @@ use ebpf_operation::helper::Helper;
 use ebpf_verify::verified::Verified;
 
 /// Does a call of a helper, but of `emit`.
-///
-/// Out of line: a run without calls is to begin without what they need.
-#[inline(never)]
 pub(crate) fn call<O: Objects>(
     verified: &Verified,
     parts: &mut Parts<O::Held>,
