@@ -19,6 +19,10 @@ fault_slot _ = 0
 abbrev pub fault_line : ObjectFault → List ℕ
 fault_line e = codes "  " ++ (object_sentence e ++ codes "\n")
 
+-- the file has the function
+abbrev pub HasFunction : (file name : List ℕ) → Type 0
+HasFunction file name = (f : Function) × IsWanted file name f
+
 -- the file has the function, whose slots are accepted, as this program
 abbrev pub IsFunctionLoaded : (file name : List ℕ) (context held : ℕ) → Subject → Type 0
 IsFunctionLoaded file name context held s = (f : Function) × IsWanted file name f × IsLoaded f.code.now context held s

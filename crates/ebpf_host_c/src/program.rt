@@ -4,7 +4,7 @@ ghost use Rattle.std.specs.Prelude.{◌≡◌, ◌≢◌, ◌⊎◌, ◌<◌, No
 ghost use Rattle.std.specs.Arc.{arc_value};
 ghost use Rattle.std.specs.Option.{MatchOption};
 ghost use Rattle.ebpf_host.specs.Loading.{IsLoaded};
-ghost use Rattle.ebpf_host_c.specs.Objects.{IsFunctionLoaded, IsFunctionRefused};
+ghost use Rattle.ebpf_host_c.specs.Objects.{HasFunction, IsFunctionLoaded, IsFunctionRefused};
 ghost use Rattle.ebpf_host_c.specs.Told.{IsRefusalTold};
 
 use crate::share::keep;
@@ -60,7 +60,8 @@ pub extern "C" fn ebpf_program_load_elf(
 ) -> u32
     ensures loaded { result ≡ 0 → MatchOption program.new.value ⊥ (λ p. IsFunctionLoaded bytes.now name.now context held (arc_value p).verified) }
     ensures refused { result ≡ 1 → IsFunctionRefused bytes.now name.now context held text.old text.new refused.new }
-    ensures declaration { result ≡ 2 → (4096 < context) ⊎ (64 < held) }
+    // The file is judged first.
+    ensures declaration { result ≡ 2 → HasFunction bytes.now name.now × ((4096 < context) ⊎ (64 < held)) }
     ensures statuses { (result ≡ 0) ⊎ (result ≡ 1) ⊎ (result ≡ 2) ⊎ (result ≡ 6) }
     ensures kept { result ≢ 0 → program.new.value ≡ program.old.value }
 {
