@@ -2,6 +2,7 @@ pub mod NameLemmas
 pub mod NumberLemmas
 pub mod WordLemmas
 pub mod LinesLeft
+pub mod JobLemmas
 pub mod ScriptLemmas
 pub mod ShapeLemmas
 pub mod LinesLemmas

@@ -6,23 +6,11 @@ use Rattle.std.proofs.lemmas.Bool.Decides.{nat_tests}
 use Rattle.std.proofs.lemmas.List.{at_drop_more, take_all, drop-drop, take-append-drop}
 use Rattle.std.proofs.lemmas.List.Folds.{list_all-append}
 use Rattle.std.proofs.lemmas.List.Splits.{slice_split_at, slice_split_none}
-use Rattle.ebpf_script.specs.ScriptLines.{script_lines, is_text_byte, is_text}
+use Rattle.ebpf_script.specs.ScriptLines.{script_lines, IsFirst, is_text_byte, is_text}
 
 -- after all of a text there are none
 abbrev pub lines_from : List ℕ → ℕ → List (List ℕ)
 lines_from text from = cond (nat_le from (length text)) (script_lines (drop from text)) []
-
--- the first line of a text, up to its newline or its end
-pub record IsFirst (text line : List ℕ) : Type 0 where
-  pub within : length line ≤ length text
-  pub begins : line ≡ take (length line) text
-  pub one : All (λ c. (c == 10) ≡ false) line
-  pub ends : length line < length text → (get_or text (length line) 0 == 10) ≡ true
-
-pub first_here : (text rest line : List ℕ) (from : ℕ) → rest ≡ drop from text → length line ≤ length rest → line ≡ take (length line) rest
-    → All (λ c. (c == 10) ≡ false) line → (length line < length rest → (get_or rest (length line) 0 == 10) ≡ true) → IsFirst (drop from text) line
-first_here text rest line from is within begins one ends =
-    subst (λ (xs : List ℕ). IsFirst xs line) is (record { within = within; begins = begins; one = one; ends = ends })
 
 first_of_lines : (text line : List ℕ) → IsFirst text line → script_lines text ≡ line ∷ lines_from text (length line + 1)
 first_of_lines text line first = elim (eq-zero-or-pos (length text - length line)) [

@@ -39,7 +39,7 @@ one_or_none : (b : Bool) (word : List ℕ) → filter (λ (w : List ℕ). not b)
 one_or_none true word = refl
 one_or_none false word = refl
 
-words-whole : (word : List ℕ) → All (λ c. is_gap c ≡ false) word → words word ≡ cond (length word == 0) [] (word ∷ [])
+pub words-whole : (word : List ℕ) → All (λ c. is_gap c ≡ false) word → words word ≡ cond (length word == 0) [] (word ∷ [])
 unfolding words
 words-whole word whole = rw (slice_split_none is_gap word whole) (one_or_none (length word == 0) word)
 

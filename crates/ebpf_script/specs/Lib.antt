@@ -8,6 +8,7 @@ pub mod LineFaults
 pub mod Scripts
 pub mod Runnable
 pub mod ReadScripts
+pub mod Again
 pub mod Verdicts
 pub mod VerdictsKept
 pub mod Explained

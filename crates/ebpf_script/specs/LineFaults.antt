@@ -17,6 +17,10 @@ use Rattle.ebpf_script.specs.Words.{words}
 abbrev pub is_as_declared : List Named → List ℕ → List ℕ → Bool
 is_as_declared programs name bytes = length bytes == unwrap_or (declared_by programs name) 0
 
+-- a context that hasn't as many bytes as are declared
+abbrev pub length_fault : ℕ → List ℕ → Option FaultCode
+length_fault declared bytes = first_of ((not (length bytes == declared), WrongContextLength) ∷ [])
+
 -- after what the lines before say
 abbrev pub shape_fault : ParsedScript → Shape → Option FaultCode
 shape_fault parsed Passed = None

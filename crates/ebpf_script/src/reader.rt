@@ -1,12 +1,13 @@
 //! Reads a script: from the bytes of a text to its programs and its events or jobs, or to its first fault.
 //!
-//! To be read in this order: `words`, `lines`, `numbers`, `names`, `script`, `programs`, `statement`, `line`.
+//! To be read in this order: `words`, `lines`, `numbers`, `names`, `script`, `programs`, `again`, `statement`, `line`.
 
 ghost use Rattle.std.specs.Prelude.{◌≡◌, ◌≤◌, ◌<◌, ◌+◌, IfOk, IfErr, Err, length};
 ghost use Rattle.ebpf_command.specs.declared.input.TheConstants.{MAX_INPUT};
 ghost use Rattle.ebpf_script.specs.ReadScripts.{parsed_script, IsScriptStop};
 ghost use Rattle.ebpf_script.specs.Scripts.{parsed_text};
 
+mod again;
 mod line;
 mod lines;
 mod names;
@@ -16,8 +17,8 @@ pub mod script;
 mod statement;
 mod words;
 
-use crate::reader::line::read_line;
-use crate::reader::lines::{first_line, is_script_text};
+use crate::reader::line::read_next;
+use crate::reader::lines::is_script_text;
 use crate::reader::script::{Dialect, Script, ScriptFault, ScriptStop};
 use crate::reader::words::Words;
 use ebpf_command::done::FaultCode;
@@ -57,10 +58,11 @@ pub fn read_script(alloc: Global, dialect: Dialect, text: &[u8]) -> Result<Scrip
     let mut from = 0;
     let mut number = 0;
     while from <= text.len() {
-        let line = first_line(&text[from..], &mut words);
-        from += line.bytes.len() + 1;
+        let left = &text[from..];
+        let (length, read) = read_next(alloc, dialect, &mut script, left, &mut words, is_text);
+        from += length + 1;
         number += 1;
-        if let Err(stop) = read_line(alloc, dialect, &mut script, &line, is_text) {
+        if let Err(stop) = read {
             return Err(ScriptStop::at(stop, number));
         }
     }

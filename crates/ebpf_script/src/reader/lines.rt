@@ -2,7 +2,7 @@
 
 ghost use Rattle.std.specs.Prelude.{◌≡◌, ◌≤◌, ◌<◌, ◌==◌, Bool, true, false, All, ◌||◌, length, map, take, slice_index};
 ghost use Rattle.std.specs.List.{list_all};
-ghost use Rattle.ebpf_script.specs.ScriptLines.{is_text_byte, is_text};
+ghost use Rattle.ebpf_script.specs.ScriptLines.{IsFirst, is_text_byte, is_text};
 ghost use Rattle.ebpf_script.specs.Words.{words};
 
 use crate::reader::words::{Words, ends_word};
@@ -17,10 +17,7 @@ pub(crate) struct Line<'a, 'w> {
 
 /// The first line of a text. Its words are kept in the memory that is lent.
 pub(crate) fn first_line<'a, 'w>(text: &'a [u8], kept: &'w mut Words<'a>) -> Line<'a, 'w>
-    ensures within { length result.bytes.now ≤ length text.now }
-    ensures bytes { result.bytes.now ≡ take (length result.bytes.now) text.now }
-    ensures whole { All (λ c. (c == 10) ≡ false) result.bytes.now }
-    ensures end { length result.bytes.now < length text.now → (slice_index text.now (length result.bytes.now) == 10) ≡ true }
+    ensures { IsFirst text.now result.bytes.now }
 {
     let length = split_line(text, kept);
     Line {

@@ -1,15 +1,17 @@
 //! The lines of a script that say something, each read into the script.
 
-ghost use Rattle.std.specs.Prelude.{◌≡◌, IfErr, OnOk};
+ghost use Rattle.std.specs.Prelude.{◌≡◌, length, IfErr, OnOk};
 ghost use Rattle.ebpf_command.specs.Stops.{IsStop};
-ghost use Rattle.ebpf_script.specs.LineFaults.{shape_fault};
+ghost use Rattle.ebpf_script.specs.Again.{IsKnown};
+ghost use Rattle.ebpf_script.specs.LineFaults.{shape_fault, length_fault};
 ghost use Rattle.ebpf_script.specs.ReadScripts.{parsed_script, Adds, HasRoom};
-ghost use Rattle.ebpf_script.specs.ParsedScript.{answer_of};
+ghost use Rattle.ebpf_script.specs.ParsedScript.{answer_of, with_job};
 ghost use Rattle.ebpf_script.specs.Shapes.{ProgramLine, StartLine, ExecLine, AnsweredLine, GrowLine, ReapLine, ArenaLine, JobLine, PassLine};
 
+use crate::reader::again::Again;
 use crate::reader::names::name_of;
 use crate::reader::numbers::{context_of, held_of, kind_of, pages_of, run_of, slot_of};
-use crate::reader::programs::{job_name, program_of};
+use crate::reader::programs::program_of;
 use crate::reader::script::{ProgramText, Script};
 use ebpf_command::done::{FaultCode, Stop};
 use ebpf_command::hex_text::hex_or_dash;
@@ -176,13 +178,40 @@ pub(crate) fn read_job(
     let Some(bytes) = hex_or_dash(alloc, hex)? else {
         return Err(Stop::Fault(FaultCode::BadHex));
     };
-    let Some(name) = job_name(script, name) else {
+    let Some(name) = name_of(name) else {
         return Err(Stop::Fault(FaultCode::BadName));
     };
     let Some((program, text)) = program_of(script, name) else {
         return Err(Stop::Fault(FaultCode::UndefinedName));
     };
-    if bytes.len() != text.decl.context as usize {
+    let declared = text.decl.context;
+    add_job(script, program, declared, bytes)
+}
+
+/// Reads the rest of such a line where its program is known.
+#[inline]
+pub(crate) fn read_job_again(
+    alloc: Global,
+    script: &mut Script,
+    again: &Again<'_>,
+) -> Result<(), Stop>
+    requires { IsKnown script.now again.now }
+    ensures ok { OnOk result (Adds (JobLine again.now.name.now again.now.hex.now) script.old script.new) }
+    ensures refused { IfErr result (IsStop (shape_fault (parsed_script script.old) (JobLine again.now.name.now again.now.hex.now))) }
+{
+    let Some(bytes) = hex_or_dash(alloc, again.hex)? else {
+        return Err(Stop::Fault(FaultCode::BadHex));
+    };
+    add_job(script, again.program, again.declared, bytes)
+}
+
+// Adds a job of a program that declares this many bytes of context.
+fn add_job(script: &mut Script, program: usize, declared: u32, bytes: Vec<u8>) -> Result<(), Stop>
+    ensures fits { OnOk result (length bytes.items ≡ declared) }
+    ensures added { OnOk result (parsed_script script.new ≡ with_job (parsed_script script.old) (record { program = program; context = bytes.items })) }
+    ensures refused { IfErr result (IsStop (length_fault declared bytes.items)) }
+{
+    if bytes.len() != declared as usize {
         return Err(Stop::Fault(FaultCode::WrongContextLength));
     }
     let context = Context { bytes };

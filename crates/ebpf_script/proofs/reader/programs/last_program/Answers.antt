@@ -1,17 +1,17 @@
-use Rattle.std.proofs.Common.{◌≡◌, string_bytes, sym, ◌∙◌}
-use Rattle.std.proofs.lemmas.Slice.Eq.{bytes_eq-Decides}
-use Rattle.ebpf_script.proofs.ScriptLemmas.{number_of-own, declared_by-own}
+use Rattle.std.proofs.Common.{sym}
+use Rattle.ebpf_script.proofs.ScriptLemmas.{named-there, number_of-own, declared_by-own}
 use Rattle.ebpf_script.proofs.reader.programs.last_program.Goals as goal
 
-pub returns-then-eq-clause-number : goal.returns-then-eq-clause-number
-returns-then-eq-clause-number c =
-    let same : string_bytes c.in_ok-known.known.now ≡ c.args.name.now =
-    sym c.as_str.ensures.value ∙ (bytes_eq-Decides _ c.args.name.now).0 (sym c.eq.ensures ∙ c.if-eq.true) in
-    let there = sym c.in_ok-known.ensures.entry in
-    number_of-own c.args.script.now.programs.entries _ c.in_ok-known.known.now c.in_ok-known.text.now c.args.name.now c.len.ensures.unique there same
+pub returns-clause-allowed : goal.returns-clause-allowed
+returns-clause-allowed c =
+    let there = sym c.in_ok-name.ensures.entry in
+    named-there c.args.script.now.programs.entries _ c.in_ok-name.name.now c.in_ok-name.text.now c.as_str.result.now c.args.script.now.named there (sym c.as_str.ensures.value)
 
-pub returns-then-eq-clause-declared : goal.returns-then-eq-clause-declared
-returns-then-eq-clause-declared c =
-    let same : string_bytes c.in_ok-known.known.now ≡ c.args.name.now =
-    sym c.as_str.ensures.value ∙ (bytes_eq-Decides _ c.args.name.now).0 (sym c.eq.ensures ∙ c.if-eq.true) in
-    declared_by-own c.args.script.now.programs.entries c.in_ok-known.known.now c.in_ok-known.text.now c.args.name.now c.in_ok-known.ensures.value same
+pub returns-clause-number : goal.returns-clause-number
+returns-clause-number c =
+    let there = sym c.in_ok-name.ensures.entry in
+    number_of-own c.args.script.now.programs.entries _ c.in_ok-name.name.now c.in_ok-name.text.now c.as_str.result.now c.len.ensures.unique there (sym c.as_str.ensures.value)
+
+pub returns-clause-declared : goal.returns-clause-declared
+returns-clause-declared c =
+    declared_by-own c.args.script.now.programs.entries c.in_ok-name.name.now c.in_ok-name.text.now c.as_str.result.now c.in_ok-name.ensures.value (sym c.as_str.ensures.value)
