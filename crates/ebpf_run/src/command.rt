@@ -2,8 +2,10 @@
 
 ghost use Rattle.std.specs.Prelude.{◌≤◌};
 
+use crate::format::{format_of, json_option};
 use crate::source::{Source, elf_option, function_option, lines_option, raw_option, source_of};
 use clap::{Arg, ArgAction, ArgMatches, Command, value_parser};
+use ebpf_command::format::Format;
 use std::alloc::{AllocError, Global};
 
 // After the help of the program and of `one`.
@@ -62,7 +64,7 @@ pub enum Task<'a> {
     LayOut(Source<'a>),
     Assemble,
     Check(CheckOptions),
-    Replay,
+    Replay(Format),
     Run(RunOptions),
 }
 
@@ -99,9 +101,11 @@ pub struct ListOptions<'a> {
     pub lines: bool,
 }
 
-/// The option of `check`.
+/// The options of `check`.
 #[derive(Clone, Copy)]
 pub struct CheckOptions {
+    /// How the answer is written.
+    pub format: Format,
     /// Whether it says why each refused program is.
     pub explain: bool,
 }
@@ -109,6 +113,8 @@ pub struct CheckOptions {
 /// The options of `run`.
 #[derive(Clone, Copy)]
 pub struct RunOptions {
+    /// How the answer is written, and the table.
+    pub format: Format,
     /// How many workers run the jobs, 1 to 64.
     pub workers: u32,
     /// How many passes the reaper makes in addition to the script's, 0 to 1000.
@@ -258,6 +264,7 @@ fn check_command<'a>(alloc: Global) -> Result<Command<'a>, AllocError> {
         .about("Checks the script in FILE or on standard input: programs, and jobs that run them")
         .after_help(CHECK_EXAMPLE)
         .arg(explain_option(alloc))?
+        .arg(json_option(alloc))?
         .arg(file_argument(alloc))
 }
 
@@ -274,6 +281,7 @@ fn replay_command<'a>(alloc: Global) -> Result<Command<'a>, AllocError> {
             "Replays the script in FILE or on standard input: programs, and events in their runs",
         )
         .after_help(REPLAY_EXAMPLE)
+        .arg(json_option(alloc))?
         .arg(file_argument(alloc))
 }
 
@@ -286,6 +294,7 @@ fn run_command<'a>(alloc: Global) -> Result<Command<'a>, AllocError> {
     run.arg(workers_option(alloc))?
         .arg(reaps_option(alloc))?
         .arg(stats_option(alloc))?
+        .arg(json_option(alloc))?
         .arg(file_argument(alloc))
 }
 
@@ -333,7 +342,7 @@ fn task_of<'a>(name: &str, given: &ArgMatches<'a>) -> Option<Task<'a>> {
         "lay-out" => Some(Task::LayOut(source_of(given))),
         "assemble" => Some(Task::Assemble),
         "check" => Some(Task::Check(check_options(given))),
-        "replay" => Some(Task::Replay),
+        "replay" => Some(Task::Replay(format_of(given))),
         "run" => Some(Task::Run(run_options(given)?)),
         _ => None,
     }
@@ -374,9 +383,10 @@ fn list_options<'a>(given: &ArgMatches<'a>) -> ListOptions<'a> {
     }
 }
 
-// The option of `check`.
+// The options of `check`.
 fn check_options(given: &ArgMatches<'_>) -> CheckOptions {
     CheckOptions {
+        format: format_of(given),
         explain: given.get_flag("explain"),
     }
 }
@@ -390,6 +400,7 @@ fn run_options(given: &ArgMatches<'_>) -> Option<RunOptions> {
         return None;
     }
     Some(RunOptions {
+        format: format_of(given),
         workers,
         reaps,
         stats: given.get_flag("stats"),
