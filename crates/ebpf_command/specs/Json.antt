@@ -21,6 +21,15 @@ escaped_byte byte =
 abbrev pub quoted : List ℕ → List ℕ
 quoted bytes = codes "\"" ++ (flat_map escaped_byte bytes ++ codes "\"")
 
+-- a number after others
+abbrev pub later_number : ℕ → List ℕ
+later_number n = codes "," ++ decimal n
+
+-- a list of numbers, without its brackets
+abbrev pub number_list : List ℕ → List ℕ
+number_list [] = []
+number_list (n ∷ later) = decimal n ++ flat_map later_number later
+
 -- a line without the two blanks before it and the newline after it
 abbrev pub sentence_of : List ℕ → List ℕ
 sentence_of line = take (length line - 3) (drop 2 line)

@@ -37,10 +37,7 @@ impl Model for Answer {
 pub fn answer_fault(alloc: Global, code: FaultCode, line: usize) -> Result<Answer, AllocError>
     ensures { IfOk result (λ answer. answer ≡ refused_response (fault_line code line)) }
 {
-    Ok(Answer {
-        text: fault_line(alloc, code, line)?,
-        done: Done::Refused,
-    })
+    answer_fault_in(alloc, Format::Text, code, line)
 }
 
 /// The same in a format. It fails only where an allocation fails.

@@ -2,7 +2,7 @@
 
 ghost use Rattle.std.specs.Prelude.{◌≡◌, ◌++◌, IfOk, OnOk, string_bytes};
 ghost use Rattle.std.specs.List.{flat_map};
-ghost use Rattle.ebpf_command.specs.Json.{by_number, escaped_byte, quoted, sentence_of, why_member, fault_object, refused_object};
+ghost use Rattle.ebpf_command.specs.Json.{by_number, escaped_byte, quoted, later_number, number_list, sentence_of, why_member, fault_object, refused_object};
 
 use crate::done::FaultCode;
 use std::alloc::{AllocError, Global};
@@ -52,8 +52,31 @@ fn write_by_number(text: &mut String, byte: u8) -> Result<(), AllocError>
     write!(text, "\\u00{byte:02x}")
 }
 
-// The sentence of a line: the line without the two blanks before it and the newline after it.
-fn sentence_of(line: &[u8]) -> &[u8]
+/// Writes numbers after a text, with a comma between two. It fails only where an allocation fails.
+pub fn write_numbers(text: &mut String, numbers: &[u64]) -> Result<(), AllocError>
+    ensures { OnOk result (string_bytes text.new ≡ string_bytes text.old ++ number_list numbers.now) }
+{
+    let Some((first, later)) = numbers.split_first() else {
+        return Ok(());
+    };
+    let number = *first;
+    write!(text, "{number}")?;
+    write_later_numbers(text, later)
+}
+
+// Writes numbers, a comma before each.
+fn write_later_numbers(text: &mut String, numbers: &[u64]) -> Result<(), AllocError>
+    ensures { OnOk result (string_bytes text.new ≡ string_bytes text.old ++ flat_map later_number numbers.now) }
+{
+    for number in numbers {
+        let number = *number;
+        write!(text, ",{number}")?;
+    }
+    Ok(())
+}
+
+/// The sentence of a line: the line without the two blanks before it and the newline after it.
+pub fn sentence_of(line: &[u8]) -> &[u8]
     ensures { result.now ≡ sentence_of line.now }
 {
     match line {

@@ -61,7 +61,7 @@ pub enum Task<'a> {
     List(ListOptions<'a>),
     Explain(OneOptions<'a>),
     Graph(GraphOptions<'a>),
-    LayOut(Source<'a>),
+    LayOut(LayOutOptions<'a>),
     Assemble,
     Check(CheckOptions),
     Replay(Format),
@@ -81,6 +81,8 @@ pub struct OneOptions<'a> {
     pub nulls: bool,
     /// Whether `explain` lists the lines of C of an object file.
     pub lines: bool,
+    /// How the answer of `one` or `explain` is written.
+    pub format: Format,
 }
 
 /// The options of `graph`.
@@ -99,6 +101,17 @@ pub struct ListOptions<'a> {
     pub source: Source<'a>,
     /// Whether the lines of C of an object file are written too.
     pub lines: bool,
+    /// How the answer is written.
+    pub format: Format,
+}
+
+/// The options of `lay-out`.
+#[derive(Clone, Copy)]
+pub struct LayOutOptions<'a> {
+    /// What the input is.
+    pub source: Source<'a>,
+    /// How the answer is written.
+    pub format: Format,
 }
 
 /// The options of `check`.
@@ -155,7 +168,8 @@ pub fn command<'a>(alloc: Global) -> Result<Command<'a>, AllocError> {
 fn one_command<'a>(alloc: Global) -> Result<Command<'a>, AllocError> {
     let one = Command::new(alloc, "one")
         .about("Runs the program whose hex is in FILE or on standard input")
-        .after_help(ONE_EXAMPLE);
+        .after_help(ONE_EXAMPLE)
+        .arg(json_option(alloc))?;
     with_options_of_one(alloc, one)
 }
 
@@ -165,6 +179,7 @@ fn explain_command<'a>(alloc: Global) -> Result<Command<'a>, AllocError> {
             "Describes what is known before each instruction of the program whose hex is in FILE or on standard input, and why it is refused",
         )
         .after_help(EXPLAIN_EXAMPLE)
+        .arg(json_option(alloc))?
         .arg(lines_option(alloc)?)?;
     with_options_of_one(alloc, explain)
 }
@@ -237,6 +252,7 @@ fn list_command<'a>(alloc: Global) -> Result<Command<'a>, AllocError> {
     let list = Command::new(alloc, "list")
         .about("Lists the instructions of the program whose hex is in FILE or on standard input")
         .after_help(LIST_EXAMPLE)
+        .arg(json_option(alloc))?
         .arg(lines_option(alloc)?)?;
     with_program(alloc, list)
 }
@@ -246,7 +262,8 @@ fn lay_out_command<'a>(alloc: Global) -> Result<Command<'a>, AllocError> {
         .about(
             "Reorders the program whose hex is in FILE or on standard input so that every jump goes forward",
         )
-        .after_help(LAY_OUT_EXAMPLE);
+        .after_help(LAY_OUT_EXAMPLE)
+        .arg(json_option(alloc))?;
     with_program(alloc, lay_out)
 }
 
@@ -335,11 +352,15 @@ pub fn request_of<'a>(matches: &ArgMatches<'a>) -> Option<Request<'a>> {
 // The command of this name, with the options that are given.
 fn task_of<'a>(name: &str, given: &ArgMatches<'a>) -> Option<Task<'a>> {
     match name {
-        "one" => Some(Task::One(one_options(given, false))),
+        "one" => Some(Task::One(one_options(given, false, format_of(given)))),
         "list" => Some(Task::List(list_options(given))),
-        "explain" => Some(Task::Explain(one_options(given, given.get_flag("source")))),
+        "explain" => Some(Task::Explain(one_options(
+            given,
+            given.get_flag("source"),
+            format_of(given),
+        ))),
         "graph" => Some(Task::Graph(graph_options(given))),
-        "lay-out" => Some(Task::LayOut(source_of(given))),
+        "lay-out" => Some(Task::LayOut(lay_out_options(given))),
         "assemble" => Some(Task::Assemble),
         "check" => Some(Task::Check(check_options(given))),
         "replay" => Some(Task::Replay(format_of(given))),
@@ -356,21 +377,22 @@ fn file_of<'a>(given: &ArgMatches<'a>) -> Option<&'a str> {
     }
 }
 
-// The options of `one`, and whether lines of C are listed.
-fn one_options<'a>(given: &ArgMatches<'a>, lines: bool) -> OneOptions<'a> {
+// The options of `one`, whether lines of C are listed, and how the answer is written.
+fn one_options<'a>(given: &ArgMatches<'a>, lines: bool, format: Format) -> OneOptions<'a> {
     OneOptions {
         source: source_of(given),
         context: given.get_str("context").unwrap_or("-"),
         held: given.get_one::<u8>("held").unwrap_or(0),
         nulls: given.get_flag("nulls"),
         lines,
+        format,
     }
 }
 
 // The options of `graph`.
 fn graph_options<'a>(given: &ArgMatches<'a>) -> GraphOptions<'a> {
     GraphOptions {
-        one: one_options(given, false),
+        one: one_options(given, false, Format::Text),
         states: given.get_flag("states"),
     }
 }
@@ -380,6 +402,15 @@ fn list_options<'a>(given: &ArgMatches<'a>) -> ListOptions<'a> {
     ListOptions {
         source: source_of(given),
         lines: given.get_flag("source"),
+        format: format_of(given),
+    }
+}
+
+// The options of `lay-out`.
+fn lay_out_options<'a>(given: &ArgMatches<'a>) -> LayOutOptions<'a> {
+    LayOutOptions {
+        source: source_of(given),
+        format: format_of(given),
     }
 }
 

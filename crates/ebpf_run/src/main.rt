@@ -103,7 +103,7 @@ fn perform<R: AllocGlobal + Clock + Eprint + Print + Threads + Wait + Sync, I: R
         Task::List(options) => perform_list(alloc, reader, &mut writer, options),
         Task::Explain(options) => perform_explain(alloc, reader, &mut writer, options),
         Task::Graph(options) => perform_graph(alloc, reader, &mut writer, options),
-        Task::LayOut(source) => perform_lay_out(alloc, reader, &mut writer, source),
+        Task::LayOut(options) => perform_lay_out(alloc, reader, &mut writer, options),
         Task::Assemble => assemble(alloc, reader, &mut writer),
         Task::Check(options) => perform_check(alloc, reader, &mut writer, options),
         Task::Replay(format) => replay(alloc, reader, &mut writer, format),

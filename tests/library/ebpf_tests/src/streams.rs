@@ -174,9 +174,9 @@ fn call<R: Threads + Wait + Sync>(
     writer: &mut Sink,
 ) -> Result<Done, EngineFault> {
     match command {
-        "one" => one(alloc, reader, writer, Form::Hex, "-", 0, false),
-        "list" => list(alloc, reader, writer, Form::Hex),
-        "explain" => explain(alloc, reader, writer, Form::Hex, "-", 0),
+        "one" => one(alloc, reader, writer, Format::Text, Form::Hex, "-", 0, false),
+        "list" => list(alloc, reader, writer, Format::Text, Form::Hex),
+        "explain" => explain(alloc, reader, writer, Format::Text, Form::Hex, "-", 0),
         "check" => check(alloc, reader, writer, Format::Text),
         "check --explain" => explained_check(alloc, reader, writer, Format::Text),
         "replay" => replay(alloc, reader, writer, Format::Text),
