@@ -3,6 +3,7 @@ pub mod HexText
 pub mod Codes
 pub mod Judging
 pub mod Lines
+pub mod Json
 pub mod Stops
 pub mod Response
 pub mod Writing

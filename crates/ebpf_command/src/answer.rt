@@ -2,12 +2,15 @@
 
 ghost use Rattle.std.specs.Prelude.{◌≡◌, ◌≢◌, IfOk, IfErr};
 ghost use Rattle.ebpf_command.specs.declared.done.EngineFault.TheVariants.{Output};
+ghost use Rattle.ebpf_command.specs.Json.{fault_in};
 ghost use Rattle.ebpf_command.specs.Lines.{fault_line};
 ghost use Rattle.ebpf_command.specs.Response.{refused_response};
 ghost use Rattle.ebpf_command.specs.Writing.{AnsweredBy, Writes, WritesBeginning, Reads};
 
 use crate::done::{Done, EngineFault, FaultCode};
+use crate::format::Format;
 use crate::input::read_input;
+use crate::json::fault_object;
 use crate::output::write_text;
 use crate::text::fault_line;
 use std::alloc::{AllocError, Global};
@@ -34,8 +37,24 @@ impl Model for Answer {
 pub fn answer_fault(alloc: Global, code: FaultCode, line: usize) -> Result<Answer, AllocError>
     ensures { IfOk result (λ answer. answer ≡ refused_response (fault_line code line)) }
 {
+    answer_fault_in(alloc, Format::Text, code, line)
+}
+
+/// The same in a format. It fails only where an allocation fails.
+pub fn answer_fault_in(
+    alloc: Global,
+    format: Format,
+    code: FaultCode,
+    line: usize,
+) -> Result<Answer, AllocError>
+    ensures { IfOk result (λ answer. answer ≡ refused_response (fault_in format code line)) }
+{
+    let text = match format {
+        Format::Text => fault_line(alloc, code, line)?,
+        Format::Json => fault_object(alloc, code, line, "")?,
+    };
     Ok(Answer {
-        text: fault_line(alloc, code, line)?,
+        text,
         done: Done::Refused,
     })
 }

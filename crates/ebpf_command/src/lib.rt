@@ -3,14 +3,16 @@
 //! A command writes a whole text or a beginning of it, and writes nothing else. So each command is a function from what is
 //! read to an [`answer::Answer`], and [`answer::respond`] reads and writes around it.
 //!
-//! To be read in this order: `done`, `input`, `hex_text`, `codes`, `judge`, `text`, `output`, `answer`.
+//! To be read in this order: `done`, `input`, `hex_text`, `codes`, `judge`, `text`, `format`, `json`, `output`, `answer`.
 #![tactic(auto)]
 
 pub mod answer;
 pub mod codes;
 pub mod done;
+pub mod format;
 pub mod hex_text;
 pub mod input;
+pub mod json;
 pub mod judge;
 mod output;
 pub mod text;

@@ -25,8 +25,9 @@ pub(crate) enum Place {
     Slot(u8),
 }
 
-// The line of what each state that comes knows, and the join of them does not.
-pub(crate) fn write_lost(
+/// Writes the line of what each state that comes knows, and the join of them does not, after a text; nothing, where nothing is lost. It
+/// fails only where an allocation fails.
+pub fn write_lost(
     alloc: Global,
     text: &mut String,
     comers: &[Comer],

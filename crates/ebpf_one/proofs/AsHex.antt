@@ -4,6 +4,7 @@ use Rattle.std.proofs.lemmas.List.Filters.{length-filter_both}
 use Rattle.hex.specs.Hex.{decode_of}
 use Rattle.hex.specs.declared.error.FromHexError.{FromHexError}
 use Rattle.hex.proofs.HexLemmas.{decode_of-ok}
+use Rattle.ebpf_command.specs.declared.format.Format.{Format}
 use Rattle.ebpf_command.specs.declared.done.Done.{Done}
 use Rattle.ebpf_command.specs.declared.done.EngineFault.{EngineFault}
 use Rattle.ebpf_command.specs.declared.done.FaultCode.{FaultCode}
@@ -55,29 +56,29 @@ same_asked hex bytes context held is = rw (is.digits) refl
 abbrev pub AreAlike : (Form → Responding) → Type 0
 AreAlike P = (hex bytes : List ℕ) (response : Response) → IsHexText hex bytes → P Raw bytes response → P Hex hex response
 
-pub one_alike : (context : List ℕ) (held : ℕ) (nulls : Bool) → AreAlike (λ form. Responds form context held nulls)
-one_alike context held nulls hex bytes response is h =
-    subst (λ (f : Option FaultCode). RespondsAsked f (asked_for Hex hex context held) nulls response) (same_fault hex bytes context held is)
-    (subst (λ (a : Asked). RespondsAsked (fault_of Raw bytes context held) a nulls response) (same_asked hex bytes context held is) h)
+pub one_alike : (format : Format) (context : List ℕ) (held : ℕ) (nulls : Bool) → AreAlike (λ form. Responds format form context held nulls)
+one_alike format context held nulls hex bytes response is h =
+    subst (λ (f : Option FaultCode). RespondsAsked format f (asked_for Hex hex context held) nulls response) (same_fault hex bytes context held is)
+    (subst (λ (a : Asked). RespondsAsked format (fault_of Raw bytes context held) a nulls response) (same_asked hex bytes context held is) h)
 
-pub list_alike : AreAlike RespondsList
-list_alike hex bytes response is h =
-    subst (λ (f : Option FaultCode). RespondsGiven f (bytes_in Hex hex) response) (same_input_fault hex bytes is)
-    (subst (λ (xs : List ℕ). RespondsGiven (input_fault Raw bytes) xs response) (same_bytes hex bytes is) h)
+pub list_alike : (format : Format) → AreAlike (RespondsList format)
+list_alike format hex bytes response is h =
+    subst (λ (f : Option FaultCode). RespondsGiven format f (bytes_in Hex hex) response) (same_input_fault hex bytes is)
+    (subst (λ (xs : List ℕ). RespondsGiven format (input_fault Raw bytes) xs response) (same_bytes hex bytes is) h)
 
-pub lay_out_alike : AreAlike LaysOut
-lay_out_alike hex bytes response is h =
-    subst (λ (f : Option FaultCode). LaysOutGiven f (bytes_in Hex hex) response) (same_input_fault hex bytes is)
-    (subst (λ (xs : List ℕ). LaysOutGiven (input_fault Raw bytes) xs response) (same_bytes hex bytes is) h)
+pub lay_out_alike : (format : Format) → AreAlike (LaysOut format)
+lay_out_alike format hex bytes response is h =
+    subst (λ (f : Option FaultCode). LaysOutGiven format f (bytes_in Hex hex) response) (same_input_fault hex bytes is)
+    (subst (λ (xs : List ℕ). LaysOutGiven format (input_fault Raw bytes) xs response) (same_bytes hex bytes is) h)
 
 -- so what is written of raw bytes is the response to each hex text of them
-pub writes_as_hex : (Responds : Form → Responding) → AreAlike Responds
+pub writes_as_hex : (Sends : Form → Responding) → AreAlike Sends
     → (form : Form) (input old new : Option (List ℕ)) (result : Result Done EngineFault)
-    → Writes (Responds form) input old new result → WritesAsHex Responds form input old new result
-writes_as_hex Responds alike form input old new result h hex bytes raw given is =
-    of_bytes result (subst (λ (i : Option (List ℕ)). Writes (Responds Raw) i old new result) given
-    (subst (λ (f : Form). Writes (Responds f) input old new result) raw h))
+    → Writes (Sends form) input old new result → WritesAsHex Sends form input old new result
+writes_as_hex Sends alike form input old new result h hex bytes raw given is =
+    of_bytes result (subst (λ (i : Option (List ℕ)). Writes (Sends Raw) i old new result) given
+    (subst (λ (f : Form). Writes (Sends f) input old new result) raw h))
   where
-    of_bytes : (r : Result Done EngineFault) → Writes (Responds Raw) (Some bytes) old new r → Writes (Responds Hex) (Some hex) old new r
+    of_bytes : (r : Result Done EngineFault) → Writes (Sends Raw) (Some bytes) old new r → Writes (Sends Hex) (Some hex) old new r
     of_bytes (Ok done) k = (k.0, alike hex bytes k.0 is k.1, k.2, k.3)
     of_bytes (Err fault) k = tt

@@ -1,7 +1,8 @@
 -- The explanation of a function of an object file: with its lines and without, and of a file that is too long.
-use Rattle.std.proofs.Common.{◌≡◌, ◌+◌, ◌++◌, ◌∙◌, inl, inr, ℕ, Bool, List, Option, length, take, subst, sym, arith}
+use Rattle.std.proofs.Common.{◌≡◌, ◌++◌, ◌∙◌, inl, inr, ℕ, Bool, List, Option, length, take, subst, sym, arith}
 use Rattle.std.proofs.Math.Seq.{take-append_seam}
 use Rattle.std.specs.Prelude.{None, Some}
+use Rattle.ebpf_command.specs.declared.format.Format.{Format}
 use Rattle.ebpf_object_file.specs.declared.function.Function.{Function}
 use Rattle.ebpf_object_file.specs.declared.lines.Lines.{Lines}
 use Rattle.ebpf_object_file.specs.declared.lines.Line.{Line}
@@ -17,22 +18,22 @@ use Rattle.ebpf_one.proofs.Responses.{explain_cuts}
 use Rattle.ebpf_one.proofs.Sources.{LinesKnown}
 
 -- of a file that is too long the beginning is answered
-pub explained_object_cuts : (listed : Bool) (context : List ℕ) (held : ℕ) (name : List ℕ) → CutsLong (ExplainsObject listed context held name)
-explained_object_cuts listed context held name file response long (inl k) = inl (omega (arith, long), explain_cuts Raw context held file response long k.1)
-explained_object_cuts listed context held name file response long (inr (inl k)) =
+pub explained_object_cuts : (format : Format) (listed : Bool) (context : List ℕ) (held : ℕ) (name : List ℕ) → CutsLong (ExplainsObject format listed context held name)
+explained_object_cuts format listed context held name file response long (inl k) = inl (omega (arith, long), explain_cuts format Raw context held file response long k.1)
+explained_object_cuts format listed context held name file response long (inr (inl k)) =
     let short = k.0 in let read = read_long file long in absurd (omega (arith, short, read))
-explained_object_cuts listed context held name file response long (inr (inr k)) =
+explained_object_cuts format listed context held name file response long (inr (inr k)) =
     let short = k.1.0 in let read = read_long file long in absurd (omega (arith, short, read))
 
 -- a function without lines is explained so, and one with them
-pub of_no_lines : (listed : Bool) (context : List ℕ) (held : ℕ) (file : List ℕ) (f : Function) (r : Option Lines) (response : Response) → r ≡ None → LinesKnown file f r
-    → ExplainsTo Raw context held f.code.now response → ExplainsFunction listed context held file f response
-of_no_lines listed context held file f r response e known h =
+pub of_no_lines : (format : Format) (listed : Bool) (context : List ℕ) (held : ℕ) (file : List ℕ) (f : Function) (r : Option Lines) (response : Response) → r ≡ None → LinesKnown file f r
+    → ExplainsTo format Raw context held f.code.now response → ExplainsFunction format listed context held file f response
+of_no_lines format listed context held file f r response e known h =
     let is : HasNoLinesOf file f.place.section = subst (LinesKnown file f) e known in inr (inl (is, h))
 
-pub of_lines : (listed : Bool) (context : List ℕ) (held : ℕ) (file : List ℕ) (f : Function) (r : Option Lines) (l : Lines) (response : Response) → r ≡ Some l
-    → LinesKnown file f r → ExplainsLined listed l f context held response → ExplainsFunction listed context held file f response
-of_lines listed context held file f r l response e known h = let are : AreLinesOf file f.place.section l = subst (LinesKnown file f) e known in inl (l, are, h)
+pub of_lines : (format : Format) (listed : Bool) (context : List ℕ) (held : ℕ) (file : List ℕ) (f : Function) (r : Option Lines) (l : Lines) (response : Response) → r ≡ Some l
+    → LinesKnown file f r → ExplainsLined format listed l f context held response → ExplainsFunction format listed context held file f response
+of_lines format listed context held file f r l response e known h = let are : AreLinesOf file f.place.section l = subst (LinesKnown file f) e known in inl (l, are, h)
 
 -- the lines that were written to the first n items hold, read as all n
 pub held_in : (l : Lines) (from n : ℕ) (written rest now : List (Option Line)) → AreHolding l from written → length written ≡ n

@@ -1,5 +1,5 @@
 -- How the store of one run goes, call by call, and what that says where the run has ended.
-use Rattle.std.proofs.Common.{◌≡◌, ℕ, ◌+◌, Bool, true, false, List, [], ◌∷◌, ◌++◌, length, set, length-set, refl, sym, ap, ◌∙◌, subst, arith}
+use Rattle.std.proofs.Common.{◌≡◌, ℕ, ◌+◌, Bool, true, false, List, [], ◌∷◌, ◌++◌, length, length-set, refl, sym, ap, ◌∙◌, arith}
 use Rattle.std.specs.Prelude.{slice_set, Option, Some, None}
 use Rattle.std.proofs.lemmas.List.{length_push}
 use Rattle.ebpf_machine.specs.declared.report.Reply.{Reply}

@@ -1,6 +1,7 @@
 -- A command responds to an object file that is too long as to its beginning.
 use Rattle.std.proofs.Common.{◌≡◌, inl, inr, ℕ, ◌<◌, List, Option, Result, length, refl, subst, arith}
 use Rattle.std.proofs.lemmas.List.{length-take-le}
+use Rattle.ebpf_command.specs.declared.format.Format.{Format}
 use Rattle.ebpf_object_file.specs.declared.object_fault.ObjectFault.{ObjectFault}
 use Rattle.ebpf_command.specs.declared.done.Done.{Done}
 use Rattle.ebpf_command.specs.declared.done.EngineFault.{EngineFault}
@@ -14,33 +15,33 @@ pub read_long : (file : List ℕ) → 1048577 < length file → length (read_of 
 read_long file long = length-take-le 1048577 file (omega (arith, long))
 
 -- so its beginning is taken as it is
-taken_long : (P : Responding) → CutsLong P → (name : List ℕ) (file bytes : List ℕ) (response : Response) → 1048577 < length file
-    → IsTaken name (read_of file) bytes → P bytes response → RespondsObject P name file response
-taken_long P cuts name file bytes response long (inl k) h =
+taken_long : (format : Format) (P : Responding) → CutsLong P → (name : List ℕ) (file bytes : List ℕ) (response : Response) → 1048577 < length file
+    → IsTaken name (read_of file) bytes → P bytes response → RespondsObject format P name file response
+taken_long format P cuts name file bytes response long (inl k) h =
     inl (file, inl (omega (arith, long), refl), cuts file response long (subst (λ (xs : List ℕ). P xs response) k.1 h))
-taken_long P cuts name file bytes response long (inr k) h =
+taken_long format P cuts name file bytes response long (inr k) h =
     let short = k.0 in let read = read_long file long in absurd (omega (arith, short, read))
 
-pub object_cuts : (P : Responding) → CutsLong P → (name : List ℕ) → CutsLong (RespondsObject P name)
-object_cuts P cuts name file response long (inl k) = taken_long P cuts name file k.0 response long k.1 k.2
-object_cuts P cuts name file response long (inr k) =
+pub object_cuts : (format : Format) (P : Responding) → CutsLong P → (name : List ℕ) → CutsLong (RespondsObject format P name)
+object_cuts format P cuts name file response long (inl k) = taken_long format P cuts name file k.0 response long k.1 k.2
+object_cuts format P cuts name file response long (inr k) =
     let short = k.1.0 in let read = read_long file long in absurd (omega (arith, short, read))
 
 -- the response to the slots that are taken
-pub of_taken : (P : Responding) (name : List ℕ) (file bytes : List ℕ) (response : Response) → IsTaken name file bytes
-    → P bytes response → RespondsObject P name file response
-of_taken P name file bytes response is h = inl (bytes, is, h)
+pub of_taken : (format : Format) (P : Responding) (name : List ℕ) (file bytes : List ℕ) (response : Response) → IsTaken name file bytes
+    → P bytes response → RespondsObject format P name file response
+of_taken format P name file bytes response is h = inl (bytes, is, h)
 
 -- or why none are
-pub of_fault : (P : Responding) (name : List ℕ) (file : List ℕ) (e : ObjectFault) (response : Response) → IsTakenFault name file e
-    → response ≡ refused_response (object_fault_lines e) → RespondsObject P name file response
-of_fault P name file e response is h = inr (e, is, h)
+pub of_fault : (format : Format) (P : Responding) (name : List ℕ) (file : List ℕ) (e : ObjectFault) (response : Response) → IsTakenFault name file e
+    → response ≡ refused_response (object_fault_lines format e) → RespondsObject format P name file response
+of_fault format P name file e response is h = inr (e, is, h)
 
 -- so what was answered of what was read is what the command writes
-pub answers_by : {Answered : Responding} (P : Responding) (name : List ℕ) (input old new : Option (List ℕ)) (result : Result Done EngineFault)
+pub answers_by : {Answered : Responding} (format : Format) (P : Responding) (name : List ℕ) (input old new : Option (List ℕ)) (result : Result Done EngineFault)
     → Writes Answered input old new result → WritesBeginning Answered input old new result
-    → ((all : List ℕ) (response : Response) → Answered all response → RespondsObject P name all response) → Answers P name input old new result
-answers_by P name input old new result wrote began responds = record {
-  response = response_through (RespondsObject P name) input old new result wrote responds;
-  beginning = begun_through (RespondsObject P name) input old new result began responds;
+    → ((all : List ℕ) (response : Response) → Answered all response → RespondsObject format P name all response) → Answers format P name input old new result
+answers_by format P name input old new result wrote began responds = record {
+  response = response_through (RespondsObject format P name) input old new result wrote responds;
+  beginning = begun_through (RespondsObject format P name) input old new result began responds;
 }

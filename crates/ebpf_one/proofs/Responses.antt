@@ -2,6 +2,7 @@
 use Rattle.std.proofs.Common.{◌≡◌, ℕ, ◌<◌, Bool, List, length, Option, Some, None, refl, sym, subst, arith}
 use Rattle.std.proofs.lemmas.List.{length-take-le}
 use Rattle.std.proofs.lemmas.Bool.{lt-ltb}
+use Rattle.ebpf_command.specs.declared.format.Format.{Format}
 use Rattle.ebpf_state.specs.declared.kinds.KindRow.{KindRow}
 use Rattle.ebpf_insn.specs.Decoding.{decode_fault}
 use Rattle.ebpf_verify.specs.declared.decl.Decl.{Decl}
@@ -32,61 +33,61 @@ abbrev RespondsBy : Type 1
 RespondsBy = Option FaultCode → List ℕ → Response → Type 0
 
 -- where the response to an input that is too long is S1, whatever its bytes, it is the response to its beginning
-pub cuts_at : (fault : List ℕ → Option FaultCode) (Responds : RespondsBy)
+pub cuts_at : (fault : List ℕ → Option FaultCode) (Sends : RespondsBy)
     → ((input : List ℕ) → 1048576 < length input → fault input ≡ Some InputTooLong)
-    → ((a b : List ℕ) (response : Response) → Responds (Some InputTooLong) a response → Responds (Some InputTooLong) b response)
-    → CutsLong (λ input response. Responds (fault input) input response)
-cuts_at fault Responds is_long same input response long h =
+    → ((a b : List ℕ) (response : Response) → Sends (Some InputTooLong) a response → Sends (Some InputTooLong) b response)
+    → CutsLong (λ input response. Sends (fault input) input response)
+cuts_at fault Sends is_long same input response long h =
     let cut : length (read_of input) ≡ 1048577 = length-take-le 1048577 input (omega (arith, long)) in
-    let of_beginning : Responds (Some InputTooLong) (read_of input) response =
-    subst (λ (f : Option FaultCode). Responds f (read_of input) response) (is_long (read_of input) (omega (arith, cut))) h in
-    subst (λ (f : Option FaultCode). Responds f input response) (sym (is_long input (omega (arith, long)))) (same (read_of input) input response of_beginning)
+    let of_beginning : Sends (Some InputTooLong) (read_of input) response =
+    subst (λ (f : Option FaultCode). Sends f (read_of input) response) (is_long (read_of input) (omega (arith, cut))) h in
+    subst (λ (f : Option FaultCode). Sends f input response) (sym (is_long input (omega (arith, long)))) (same (read_of input) input response of_beginning)
 
 -- so `one` responds to an input that is too long as to its beginning
-pub one_cuts : (form : Form) (context : List ℕ) (held : ℕ) (nulls : Bool) → CutsLong (Responds form context held nulls)
-one_cuts form context held nulls =
-    cuts_at (λ input. fault_of form input context held) (λ f input response. RespondsAsked f (asked_for form input context held) nulls response)
+pub one_cuts : (format : Format) (form : Form) (context : List ℕ) (held : ℕ) (nulls : Bool) → CutsLong (Responds format form context held nulls)
+one_cuts format form context held nulls =
+    cuts_at (λ input. fault_of form input context held) (λ f input response. RespondsAsked format f (asked_for form input context held) nulls response)
     (λ input long. fault_of_long form input context held long) (λ a b response h. h)
 
 -- and so does `list`
-pub list_cuts : (form : Form) → CutsLong (RespondsList form)
-list_cuts form = cuts_at (input_fault form) (λ f input response. RespondsGiven f (bytes_in form input) response) (input_fault_long form) (λ a b response h. h)
+pub list_cuts : (format : Format) (form : Form) → CutsLong (RespondsList format form)
+list_cuts format form = cuts_at (input_fault form) (λ f input response. RespondsGiven format f (bytes_in form input) response) (input_fault_long form) (λ a b response h. h)
 
 -- the bytes of a request are judged to be this, to which this is the response
-pub response_of_judged : (a : Asked) (seen : List ℕ) (decl : Decl) (rows : List KindRow) (was judged : Judged) (nulls : Bool) (response : Response)
+pub response_of_judged : (format : Format) (a : Asked) (seen : List ℕ) (decl : Decl) (rows : List KindRow) (was judged : Judged) (nulls : Bool) (response : Response)
     → seen ≡ a.bytes → AreGiven a decl rows → IsJudged seen decl rows was → was ≡ judged
-    → RespondsJudged judged a.context nulls response → RespondsBytes a nulls response
-response_of_judged a seen decl rows was judged nulls response same given is e h =
+    → RespondsJudged format judged a.context nulls response → RespondsBytes format a nulls response
+response_of_judged format a seen decl rows was judged nulls response same given is e h =
     (decl, rows, judged, given, subst (λ (j : Judged). IsJudged a.bytes decl rows j) e (subst (λ (bytes : List ℕ). IsJudged bytes decl rows was) same is), h)
 
 -- the response to the bytes that an input asks for is the response to the input
-pub Responds-asked : (form : Form) (input context : List ℕ) (held : ℕ) (nulls : Bool) (a : Asked) (response : Response)
-    → fault_of form input context held ≡ None → a ≡ asked_for form input context held → RespondsBytes a nulls response
-    → Responds form context held nulls input response
-Responds-asked form input context held nulls a response fine same h =
-    let P : Option FaultCode → Type 0 = λ f. RespondsAsked f (asked_for form input context held) nulls response in
-    subst P (sym fine) (subst (λ (x : Asked). RespondsBytes x nulls response) same h)
+pub Responds-asked : (format : Format) (form : Form) (input context : List ℕ) (held : ℕ) (nulls : Bool) (a : Asked) (response : Response)
+    → fault_of form input context held ≡ None → a ≡ asked_for form input context held → RespondsBytes format a nulls response
+    → Responds format form context held nulls input response
+Responds-asked format form input context held nulls a response fine same h =
+    let P : Option FaultCode → Type 0 = λ f. RespondsAsked format f (asked_for form input context held) nulls response in
+    subst P (sym fine) (subst (λ (x : Asked). RespondsBytes format x nulls response) same h)
 
 -- and so does `explain`
-pub explain_cuts : (form : Form) (context : List ℕ) (held : ℕ) → CutsLong (ExplainsTo form context held)
-explain_cuts form context held =
-    cuts_at (λ input. fault_of form input context held) (λ f input response. ExplainsAsked None f form input context held response)
+pub explain_cuts : (format : Format) (form : Form) (context : List ℕ) (held : ℕ) → CutsLong (ExplainsTo format form context held)
+explain_cuts format form context held =
+    cuts_at (λ input. fault_of form input context held) (λ f input response. ExplainsAsked format None f form input context held response)
     (λ input long. fault_of_long form input context held long) (λ a b response h. h)
 
 -- what the bytes of a request are explained to be
-pub explained_bytes : (source : Option Sourced) (a : Asked) (seen : List ℕ) (decl : Decl) (rows : List KindRow) (response : Response) → seen ≡ a.bytes
-    → AreGiven a decl rows → ExplainsDecoded source (decode_fault seen) seen decl rows response → ExplainsBytes source a response
-explained_bytes source a seen decl rows response same given h =
-    (decl, rows, given, subst (λ (bytes : List ℕ). ExplainsDecoded source (decode_fault bytes) bytes decl rows response) same h)
+pub explained_bytes : (format : Format) (source : Option Sourced) (a : Asked) (seen : List ℕ) (decl : Decl) (rows : List KindRow) (response : Response) → seen ≡ a.bytes
+    → AreGiven a decl rows → ExplainsDecoded format source (decode_fault seen) seen decl rows response → ExplainsBytes format source a response
+explained_bytes format source a seen decl rows response same given h =
+    (decl, rows, given, subst (λ (bytes : List ℕ). ExplainsDecoded format source (decode_fault bytes) bytes decl rows response) same h)
 
 -- what the bytes that an input asks for are explained to be is what the input is
-pub Explains-asked : (source : Option Sourced) (form : Form) (input context : List ℕ) (held : ℕ) (a : Asked) (response : Response)
-    → fault_of form input context held ≡ None → a ≡ asked_for form input context held → ExplainsBytes source a response
-    → ExplainsWith source form context held input response
-Explains-asked source form input context held a response fine same h =
-    let P : Option FaultCode → Type 0 = λ f. ExplainsAsked source f form input context held response in
-    subst P (sym fine) (subst (λ (x : Asked). ExplainsBytes source x response) same h)
+pub Explains-asked : (format : Format) (source : Option Sourced) (form : Form) (input context : List ℕ) (held : ℕ) (a : Asked) (response : Response)
+    → fault_of form input context held ≡ None → a ≡ asked_for form input context held → ExplainsBytes format source a response
+    → ExplainsWith format source form context held input response
+Explains-asked format source form input context held a response fine same h =
+    let P : Option FaultCode → Type 0 = λ f. ExplainsAsked format source f form input context held response in
+    subst P (sym fine) (subst (λ (x : Asked). ExplainsBytes format source x response) same h)
 
 -- and so does `lay-out`
-pub lay_out_cuts : (form : Form) → CutsLong (LaysOut form)
-lay_out_cuts form = cuts_at (input_fault form) (λ f input response. LaysOutGiven f (bytes_in form input) response) (input_fault_long form) (λ a b response h. h)
+pub lay_out_cuts : (format : Format) (form : Form) → CutsLong (LaysOut format form)
+lay_out_cuts format form = cuts_at (input_fault form) (λ f input response. LaysOutGiven format f (bytes_in form input) response) (input_fault_long form) (λ a b response h. h)

@@ -2,6 +2,7 @@
 use Rattle.std.proofs.Common.{◌≡◌, ◌+◌, inl, inr, ℕ, List, [], ◌++◌, Option, refl, ap, subst, ◌∙◌, add-one, append_assoc, arith}
 use Rattle.std.specs.Prelude.{None, Some, slice_index_or}
 use Rattle.std.specs.Option.{MatchOption}
+use Rattle.ebpf_command.specs.declared.format.Format.{Format}
 use Rattle.ebpf_insn.specs.declared.insn.Insn.{Insn}
 use Rattle.ebpf_insn.specs.Program.{insn_at}
 use Rattle.ebpf_insn.specs.Decoding.{decode_fault}
@@ -9,7 +10,7 @@ use Rattle.ebpf_object_file.specs.declared.function.Function.{Function}
 use Rattle.ebpf_object_file.specs.declared.lines.Line.{Line}
 use Rattle.ebpf_object_file.specs.declared.lines.Lines.{Lines}
 use Rattle.ebpf_object_file.specs.Source.{AreLinesOf, HasNoLinesOf}
-use Rattle.ebpf_text.specs.Listing.{line_at}
+use Rattle.ebpf_one.specs.Formats.{insn_in}
 use Rattle.ebpf_command.specs.Response.{Response}
 use Rattle.ebpf_command.proofs.Written.{CutsLong}
 use Rattle.ebpf_one.specs.declared.form.Form.TheVariants.{Raw}
@@ -20,39 +21,46 @@ use Rattle.ebpf_one.proofs.ObjectResponses.{read_long}
 use Rattle.ebpf_one.proofs.Responses.{list_cuts}
 
 -- a line of C and another line after a text
-pub headed_row : (l : Lines) (before earlier now held : Option Line) (text headed written row : List ℕ) → before ≡ earlier → now ≡ held
-    → headed ≡ text ++ heading l before now → written ≡ headed ++ row → written ≡ text ++ (heading l earlier held ++ row)
-headed_row l before earlier now held text headed written row same is first second =
-    let here : headed ≡ text ++ heading l earlier held =
-    first ∙ (ap (λ (o : Option Line). text ++ heading l o now) same ∙ ap (λ (o : Option Line). text ++ heading l earlier o) is) in
-    second ∙ (ap (λ (x : List ℕ). x ++ row) here ∙ append_assoc text (heading l earlier held) row)
+pub headed_row : (format : Format) (l : Lines) (before earlier now held : Option Line) (text headed written row : List ℕ) → before ≡ earlier → now ≡ held
+    → headed ≡ text ++ heading format l before now → written ≡ headed ++ row → written ≡ text ++ (heading format l earlier held ++ row)
+headed_row format l before earlier now held text headed written row same is first second =
+    let here : headed ≡ text ++ heading format l earlier held =
+    first ∙ (ap (λ (o : Option Line). text ++ heading format l o now) same ∙ ap (λ (o : Option Line). text ++ heading format l earlier o) is) in
+    second ∙ (ap (λ (x : List ℕ). x ++ row) here ∙ append_assoc text (heading format l earlier held) row)
 
-pub sourced_none : (l : Lines) (holding : List (Option Line)) (p : List (Option Insn)) → [] ≡ sourced_below l holding p 0
+-- three texts after a text, the second of which is equal to what is wanted
+pub third_after : (before one two new a b wanted c : List ℕ) → one ≡ before ++ a → two ≡ one ++ b → b ≡ wanted → new ≡ two ++ c
+    → new ≡ before ++ (a ++ (wanted ++ c))
+third_after before one two new a b wanted c first second same third =
+    third ∙ (ap (λ (x : List ℕ). x ++ c) (second ∙ (ap (λ (x : List ℕ). x ++ b) first ∙ ap (λ (x : List ℕ). (before ++ a) ++ x) same))
+    ∙ (append_assoc (before ++ a) wanted c ∙ append_assoc before a (wanted ++ c)))
+
+pub sourced_none : (format : Format) (l : Lines) (holding : List (Option Line)) (p : List (Option Insn)) → [] ≡ sourced_below format l holding p 0
 unfolding sourced_below
-sourced_none l holding p = refl
+sourced_none format l holding p = refl
 
 -- the line of C and that of the instruction are written
-pub sourced_more : (l : Lines) (holding : List (Option Line)) (p : List (Option Insn)) (n : ℕ) (before now : Option Line) (text headed written : List ℕ)
-    → text ≡ sourced_below l holding p n
+pub sourced_more : (format : Format) (l : Lines) (holding : List (Option Line)) (p : List (Option Insn)) (n : ℕ) (before now : Option Line) (text headed written : List ℕ)
+    → text ≡ sourced_below format l holding p n
     → before ≡ held_before holding n
     → now ≡ slice_index_or holding n None
-    → headed ≡ text ++ heading l before now
-    → written ≡ headed ++ line_at n (insn_at p n)
-    → written ≡ sourced_below l holding p (n + 1)
+    → headed ≡ text ++ heading format l before now
+    → written ≡ headed ++ insn_in format n (insn_at p n)
+    → written ≡ sourced_below format l holding p (n + 1)
 unfolding sourced_below
-sourced_more l holding p n before now text headed written was same is first second =
-    let row : List ℕ = line_at n (insn_at p n) in
-    let head : List ℕ = heading l (held_before holding n) (slice_index_or holding n None) in
-    let more : written ≡ text ++ (head ++ row) = headed_row l before (held_before holding n) now (slice_index_or holding n None) text headed written row same is
+sourced_more format l holding p n before now text headed written was same is first second =
+    let row : List ℕ = insn_in format n (insn_at p n) in
+    let head : List ℕ = heading format l (held_before holding n) (slice_index_or holding n None) in
+    let more : written ≡ text ++ (head ++ row) = headed_row format l before (held_before holding n) now (slice_index_or holding n None) text headed written row same is
     first second in
     rw (add-one) (more ∙ ap (λ (x : List ℕ). x ++ (head ++ row)) was)
 
 -- of a file that is too long the beginning is answered
-pub source_cuts : (name : List ℕ) → CutsLong (RespondsSource name)
-source_cuts name file response long (inl k) = inl (omega (arith, long), list_cuts Raw file response long k.1)
-source_cuts name file response long (inr (inl k)) =
+pub source_cuts : (format : Format) (name : List ℕ) → CutsLong (RespondsSource format name)
+source_cuts format name file response long (inl k) = inl (omega (arith, long), list_cuts format Raw file response long k.1)
+source_cuts format name file response long (inr (inl k)) =
     let short = k.0 in let read = read_long file long in absurd (omega (arith, short, read))
-source_cuts name file response long (inr (inr k)) =
+source_cuts format name file response long (inr (inr k)) =
     let short = k.1.0 in let read = read_long file long in absurd (omega (arith, short, read))
 
 -- what is known of a function's lines
@@ -60,10 +68,10 @@ abbrev pub LinesKnown : List ℕ → Function → Option Lines → Type 0
 LinesKnown file f r = MatchOption r (HasNoLinesOf file f.place.section) (λ l. AreLinesOf file f.place.section l)
 
 -- the response to a function without lines, and with them
-pub of_no_lines : (file : List ℕ) (f : Function) (r : Option Lines) (response : Response) → r ≡ None → LinesKnown file f r
-    → RespondsList Raw f.code.now response → SourcesFunction file f response
-of_no_lines file f r response e known h = let is : HasNoLinesOf file f.place.section = subst (LinesKnown file f) e known in inl (is, h)
+pub of_no_lines : (format : Format) (file : List ℕ) (f : Function) (r : Option Lines) (response : Response) → r ≡ None → LinesKnown file f r
+    → RespondsList format Raw f.code.now response → SourcesFunction format file f response
+of_no_lines format file f r response e known h = let is : HasNoLinesOf file f.place.section = subst (LinesKnown file f) e known in inl (is, h)
 
-pub of_lines : (file : List ℕ) (f : Function) (r : Option Lines) (l : Lines) (response : Response) → r ≡ Some l → LinesKnown file f r
-    → SourcesDecoded (decode_fault f.code.now) f.code.now l f.place.from response → SourcesFunction file f response
-of_lines file f r l response e known h = let are : AreLinesOf file f.place.section l = subst (LinesKnown file f) e known in inr (inl (l, are, h))
+pub of_lines : (format : Format) (file : List ℕ) (f : Function) (r : Option Lines) (l : Lines) (response : Response) → r ≡ Some l → LinesKnown file f r
+    → SourcesDecoded format (decode_fault f.code.now) f.code.now l f.place.from response → SourcesFunction format file f response
+of_lines format file f r l response e known h = let are : AreLinesOf file f.place.section l = subst (LinesKnown file f) e known in inr (inl (l, are, h))

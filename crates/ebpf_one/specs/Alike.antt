@@ -14,5 +14,5 @@ pub record IsHexText (hex bytes : List ℕ) : Type 0 where
 
 -- where the input is raw bytes, the response to each hex text of them is written
 abbrev pub WritesAsHex : (Form → Responding) → Form → (input old new : Option (List ℕ)) → Result Done EngineFault → Type 0
-WritesAsHex Responds form input old new result =
-    (hex bytes : List ℕ) → form ≡ Raw → input ≡ Some bytes → IsHexText hex bytes → Writes (Responds Hex) (Some hex) old new result
+WritesAsHex Sends form input old new result =
+    (hex bytes : List ℕ) → form ≡ Raw → input ≡ Some bytes → IsHexText hex bytes → Writes (Sends Hex) (Some hex) old new result

@@ -8,6 +8,7 @@ use Rattle.ebpf_object_file.specs.declared.object_fault.ObjectFault.TheVariants.
 use Rattle.ebpf_object_file.specs.Function.{IsWanted}
 use Rattle.ebpf_object_file.specs.Shown.{AreHolding}
 use Rattle.ebpf_object_file.specs.Source.{AreLinesOf, HasNoLinesOf, IsLinesOfFault}
+use Rattle.ebpf_command.specs.declared.format.Format.{Format}
 use Rattle.ebpf_command.specs.Response.{Response, refused_response}
 use Rattle.ebpf_command.specs.Writing.{Responding}
 use Rattle.ebpf_one.specs.declared.form.Form.TheVariants.{Raw}
@@ -16,29 +17,29 @@ use Rattle.ebpf_one.specs.ExplainText.{ExplainsTo, ExplainsWith}
 use Rattle.ebpf_one.specs.ObjectText.{IsTakenFault, object_fault_lines}
 
 -- the slots are explained with the line that holds at each
-pub record ExplainsLined (listed : Bool) (l : Lines) (f : Function) (context : List ℕ) (held : ℕ) (response : Response) : Type 0 where
+pub record ExplainsLined (format : Format) (listed : Bool) (l : Lines) (f : Function) (context : List ℕ) (held : ℕ) (response : Response) : Type 0 where
   pub source : Sourced
   pub asked : source.listed ≡ listed
   pub same : source.lines ≡ l
   pub whole : length source.holding.now ≡ length f.code.now / 8
   pub are : AreHolding l f.place.from source.holding.now
-  pub told : ExplainsWith (Some source) Raw context held f.code.now response
+  pub told : ExplainsWith format (Some source) Raw context held f.code.now response
 
 -- the lines can't be read, which is a fault where they are to be listed
-abbrev pub ExplainsUnread : Bool → FileFault → Function → List ℕ → ℕ → Response → Type 0
-ExplainsUnread true e f context held response = response ≡ refused_response (object_fault_lines (File e))
-ExplainsUnread false e f context held response = ExplainsTo Raw context held f.code.now response
+abbrev pub ExplainsUnread : Format → Bool → FileFault → Function → List ℕ → ℕ → Response → Type 0
+ExplainsUnread format true e f context held response = response ≡ refused_response (object_fault_lines format (File e))
+ExplainsUnread format false e f context held response = ExplainsTo format Raw context held f.code.now response
 
 -- the file says what the function's lines are, or says nothing of them, or they can't be read
-abbrev pub ExplainsFunction : Bool → List ℕ → ℕ → List ℕ → Function → Response → Type 0
-ExplainsFunction listed context held file f response =
-    ((l : Lines) × AreLinesOf file f.place.section l × ExplainsLined listed l f context held response)
-    ⊎ (HasNoLinesOf file f.place.section × ExplainsTo Raw context held f.code.now response)
-    ⊎ ((e : FileFault) × IsLinesOfFault file f.place.section e × ExplainsUnread listed e f context held response)
+abbrev pub ExplainsFunction : Format → Bool → List ℕ → ℕ → List ℕ → Function → Response → Type 0
+ExplainsFunction format listed context held file f response =
+    ((l : Lines) × AreLinesOf file f.place.section l × ExplainsLined format listed l f context held response)
+    ⊎ (HasNoLinesOf file f.place.section × ExplainsTo format Raw context held f.code.now response)
+    ⊎ ((e : FileFault) × IsLinesOfFault file f.place.section e × ExplainsUnread format listed e f context held response)
 
 -- the file is too long, which `explain` says of it, or has the function that is asked for, or hasn't
-abbrev pub ExplainsObject : Bool → List ℕ → ℕ → List ℕ → Responding
-ExplainsObject listed context held name file response =
-    ((1048576 < length file) × ExplainsTo Raw context held file response)
-    ⊎ ((length file ≤ 1048576) × (f : Function) × IsWanted file name f × ExplainsFunction listed context held file f response)
-    ⊎ ((e : ObjectFault) × IsTakenFault name file e × (response ≡ refused_response (object_fault_lines e)))
+abbrev pub ExplainsObject : Format → Bool → List ℕ → ℕ → List ℕ → Responding
+ExplainsObject format listed context held name file response =
+    ((1048576 < length file) × ExplainsTo format Raw context held file response)
+    ⊎ ((length file ≤ 1048576) × (f : Function) × IsWanted file name f × ExplainsFunction format listed context held file f response)
+    ⊎ ((e : ObjectFault) × IsTakenFault name file e × (response ≡ refused_response (object_fault_lines format e)))

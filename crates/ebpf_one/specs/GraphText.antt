@@ -17,6 +17,7 @@ use Rattle.ebpf_verify.specs.Verdict.{verdict}
 use Rattle.ebpf_graph.specs.Graph.{graph_of}
 use Rattle.ebpf_command.specs.declared.codes.RefusalCode.TheVariants.{Decode}
 use Rattle.ebpf_command.specs.declared.done.FaultCode.{FaultCode}
+use Rattle.ebpf_command.specs.declared.format.Format.TheVariants.{Text}
 use Rattle.ebpf_command.specs.Codes.{refusal_name}
 use Rattle.ebpf_command.specs.Lines.{fault_line}
 use Rattle.ebpf_command.specs.Response.{Response, refused_response, clean_response}
@@ -38,7 +39,7 @@ graphed states s = graphed_by states (verdict s) s (entries_below s.program (loo
 
 -- a program is refused for its flow, or has a graph
 abbrev pub GraphsFlow : Bool → Option (ℕ × FlowCode) → Subject → Response → Type 0
-GraphsFlow states (Some refusal) s response = response ≡ misled_response s.program refusal.0 refusal.1
+GraphsFlow states (Some refusal) s response = response ≡ misled_response Text s.program refusal.0 refusal.1
 GraphsFlow states None s response = response ≡ graphed states s
 
 -- bytes are refused as no program, or are the program that they encode

@@ -8,6 +8,9 @@ use Rattle.ebpf_object_file.specs.Sentences.{object_code, object_sentence}
 use Rattle.ebpf_object_file.specs.Source.{HasNoTables}
 use Rattle.ebpf_command.specs.declared.done.Done.{Done}
 use Rattle.ebpf_command.specs.declared.done.EngineFault.{EngineFault}
+use Rattle.ebpf_command.specs.declared.format.Format.{Format}
+use Rattle.ebpf_command.specs.declared.format.Format.TheVariants.{Text, Json}
+use Rattle.ebpf_command.specs.Json.{why_member}
 use Rattle.ebpf_command.specs.Response.{refused_response}
 use Rattle.ebpf_command.specs.Writing.{Responding, Writes, WritesBeginning}
 
@@ -22,21 +25,23 @@ abbrev pub IsTakenFault : List ℕ → List ℕ → ObjectFault → Type 0
 IsTakenFault name file e = (length file ≤ 1048576) × IsWantedFault file name e
 
 -- the line of the fault, and its sentence
-abbrev pub object_fault_lines : ObjectFault → List ℕ
-object_fault_lines e = codes "fault " ++ (object_code e ++ (codes " line 0\n  " ++ (object_sentence e ++ codes "\n")))
+abbrev pub object_fault_lines : Format → ObjectFault → List ℕ
+object_fault_lines Text e = codes "fault " ++ (object_code e ++ (codes " line 0\n  " ++ (object_sentence e ++ codes "\n")))
+object_fault_lines Json e =
+    codes "{\"fault\":\"" ++ (object_code e ++ (codes "\",\"line\":0" ++ (why_member (codes "  " ++ (object_sentence e ++ codes "\n")) ++ codes "}\n")))
 
 -- by a command's response to raw bytes
-abbrev pub RespondsObject : Responding → List ℕ → Responding
-RespondsObject Responds name file response =
-    ((bytes : List ℕ) × IsTaken name file bytes × Responds bytes response)
-    ⊎ ((e : ObjectFault) × IsTakenFault name file e × (response ≡ refused_response (object_fault_lines e)))
+abbrev pub RespondsObject : Format → Responding → List ℕ → Responding
+RespondsObject format Sends name file response =
+    ((bytes : List ℕ) × IsTaken name file bytes × Sends bytes response)
+    ⊎ ((e : ObjectFault) × IsTakenFault name file e × (response ≡ refused_response (object_fault_lines format e)))
 
 -- what a command writes of an object file: the text of a response, or a beginning of it where it could not write
-pub record Answers (Responds : Responding) (name : List ℕ) (input old new : Option (List ℕ)) (result : Result Done EngineFault) : Type 0 where
-  pub response : Writes (RespondsObject Responds name) input old new result
-  pub beginning : WritesBeginning (RespondsObject Responds name) input old new result
+pub record Answers (format : Format) (Sends : Responding) (name : List ℕ) (input old new : Option (List ℕ)) (result : Result Done EngineFault) : Type 0 where
+  pub response : Writes (RespondsObject format Sends name) input old new result
+  pub beginning : WritesBeginning (RespondsObject format Sends name) input old new result
 
 -- a command that knows lines of C writes of a file without them what another does, which knows none
-abbrev pub WritesPlain : Responding → List ℕ → (input old new : Option (List ℕ)) → Result Done EngineFault → Type 0
-WritesPlain Responds name input old new result =
-    (file : List ℕ) → input ≡ Some file → HasNoTables file → Answers Responds name input old new result
+abbrev pub WritesPlain : Format → Responding → List ℕ → (input old new : Option (List ℕ)) → Result Done EngineFault → Type 0
+WritesPlain format Sends name input old new result =
+    (file : List ℕ) → input ≡ Some file → HasNoTables file → Answers format Sends name input old new result

@@ -14,46 +14,46 @@ use Rattle.ebpf_object_file.specs.declared.object_fault.ObjectFault.TheVariants.
 use Rattle.ebpf_object_file.specs.Function.{IsWanted}
 use Rattle.ebpf_object_file.specs.Shown.{AreHolding}
 use Rattle.ebpf_object_file.specs.Source.{AreLinesOf, HasNoLinesOf, IsLinesOfFault}
-use Rattle.ebpf_text.specs.Listing.{line_at}
 use Rattle.ebpf_command.specs.Codes.{decode_name}
+use Rattle.ebpf_command.specs.declared.format.Format.{Format}
 use Rattle.ebpf_command.specs.Response.{Response, refused_response, clean_response}
 use Rattle.ebpf_command.specs.Writing.{Responding}
 use Rattle.ebpf_one.specs.declared.form.Form.TheVariants.{Raw}
-use Rattle.ebpf_one.specs.Lines.{refused_line}
+use Rattle.ebpf_one.specs.Formats.{insn_in, refused_in}
 use Rattle.ebpf_one.specs.ListText.{RespondsList}
 use Rattle.ebpf_one.specs.ObjectText.{IsTakenFault, object_fault_lines}
 use Rattle.ebpf_one.specs.Sourced.{heading, held_before}
 
-abbrev pub slot_text : Lines → List (Option Line) → List (Option Insn) → ℕ → List ℕ
-slot_text l holding p slot = heading l (held_before holding slot) (slice_index_or holding slot None) ++ line_at slot (insn_at p slot)
+abbrev pub slot_text : Format → Lines → List (Option Line) → List (Option Insn) → ℕ → List ℕ
+slot_text format l holding p slot = heading format l (held_before holding slot) (slice_index_or holding slot None) ++ insn_in format slot (insn_at p slot)
 
 -- the text of the slots below one
-unfoldable pub sourced_below : Lines → List (Option Line) → List (Option Insn) → ℕ → List ℕ
-sourced_below l holding p zero = []
-sourced_below l holding p (suc n) = sourced_below l holding p n ++ slot_text l holding p n
+unfoldable pub sourced_below : Format → Lines → List (Option Line) → List (Option Insn) → ℕ → List ℕ
+sourced_below format l holding p zero = []
+sourced_below format l holding p (suc n) = sourced_below format l holding p n ++ slot_text format l holding p n
 
 -- the program is written, with the line of C that holds at each slot, where the function begins at a byte of its section
-pub record IsSourced (l : Lines) (from : ℕ) (p : List (Option Insn)) (response : Response) : Type 0 where
+pub record IsSourced (format : Format) (l : Lines) (from : ℕ) (p : List (Option Insn)) (response : Response) : Type 0 where
   pub holding : List (Option Line)
   pub whole : length holding ≡ length p
   pub are : AreHolding l from holding
-  pub told : response ≡ clean_response (sourced_below l holding p (length p))
+  pub told : response ≡ clean_response (sourced_below format l holding p (length p))
 
 -- bytes are refused as no program, or are the program that they encode
-abbrev pub SourcesDecoded : Option (ℕ × DecodeCode) → List ℕ → Lines → ℕ → Response → Type 0
-SourcesDecoded (Some refusal) bytes l from response = response ≡ refused_response (refused_line (decode_name refusal.1) refusal.0)
-SourcesDecoded None bytes l from response = (p : List (Option Insn)) × IsProgram bytes p × IsSourced l from p response
+abbrev pub SourcesDecoded : Format → Option (ℕ × DecodeCode) → List ℕ → Lines → ℕ → Response → Type 0
+SourcesDecoded format (Some refusal) bytes l from response = response ≡ refused_response (refused_in format (decode_name refusal.1) refusal.0)
+SourcesDecoded format None bytes l from response = (p : List (Option Insn)) × IsProgram bytes p × IsSourced format l from p response
 
 -- the file says nothing of the function's lines, or says what they are, or its lines can't be read
-abbrev pub SourcesFunction : List ℕ → Function → Response → Type 0
-SourcesFunction file f response =
-    (HasNoLinesOf file f.place.section × RespondsList Raw f.code.now response)
-    ⊎ ((l : Lines) × AreLinesOf file f.place.section l × SourcesDecoded (decode_fault f.code.now) f.code.now l f.place.from response)
-    ⊎ ((e : FileFault) × IsLinesOfFault file f.place.section e × (response ≡ refused_response (object_fault_lines (File e))))
+abbrev pub SourcesFunction : Format → List ℕ → Function → Response → Type 0
+SourcesFunction format file f response =
+    (HasNoLinesOf file f.place.section × RespondsList format Raw f.code.now response)
+    ⊎ ((l : Lines) × AreLinesOf file f.place.section l × SourcesDecoded format (decode_fault f.code.now) f.code.now l f.place.from response)
+    ⊎ ((e : FileFault) × IsLinesOfFault file f.place.section e × (response ≡ refused_response (object_fault_lines format (File e))))
 
 -- the file is too long, which `list` says of it, or has the function that is asked for, or hasn't
-abbrev pub RespondsSource : List ℕ → Responding
-RespondsSource name file response =
-    ((1048576 < length file) × RespondsList Raw file response)
-    ⊎ ((length file ≤ 1048576) × (f : Function) × IsWanted file name f × SourcesFunction file f response)
-    ⊎ ((e : ObjectFault) × IsTakenFault name file e × (response ≡ refused_response (object_fault_lines e)))
+abbrev pub RespondsSource : Format → List ℕ → Responding
+RespondsSource format name file response =
+    ((1048576 < length file) × RespondsList format Raw file response)
+    ⊎ ((length file ≤ 1048576) × (f : Function) × IsWanted file name f × SourcesFunction format file f response)
+    ⊎ ((e : ObjectFault) × IsTakenFault name file e × (response ≡ refused_response (object_fault_lines format e)))

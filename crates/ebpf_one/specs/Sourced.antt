@@ -1,23 +1,22 @@
 -- The lines of C of a function, as a command shows them.
-use Rattle.std.specs.Prelude.{ℕ, zero, suc, ◌++◌, List, [], length, codes, Option, Some, None, cond, slice_index_or}
+use Rattle.std.specs.Prelude.{ℕ, zero, suc, ◌++◌, List, [], length, Option, Some, None, cond, slice_index_or}
 use Rattle.ebpf_object_file.specs.declared.lines.Line.{Line}
 use Rattle.ebpf_object_file.specs.declared.lines.Lines.{Lines}
-use Rattle.ebpf_object_file.specs.Shown.{shown_of, place_of, is_one_line}
+use Rattle.ebpf_object_file.specs.Shown.{is_one_line}
 use Rattle.ebpf_verify.specs.declared.entry.EntryState.{EntryState}
 use Rattle.ebpf_verify.specs.Subject.{Subject}
-use Rattle.ebpf_explain.specs.Slots.{known_lines, slot_lines}
 use Rattle.ebpf_explain.specs.StackWords.{texts_below}
+use Rattle.ebpf_command.specs.declared.format.Format.{Format}
 use Rattle.ebpf_command.specs.Response.{Response}
+use Rattle.ebpf_one.specs.Formats.{place_in, source_row_in}
+use Rattle.ebpf_one.specs.KnownObjects.{known_in, slot_in}
 use Rattle.ebpf_one.specs.declared.sourced.Sourced.{Sourced}
 
-abbrev pub source_row : Lines → Line → List ℕ
-source_row l n = codes "; " ++ (shown_of l n ++ codes "\n")
-
 -- what is written before a slot where one line holds, and another at the slot before it: nothing where they are one line
-abbrev pub heading : Lines → Option Line → Option Line → List ℕ
-heading l before None = []
-heading l None (Some n) = source_row l n
-heading l (Some b) (Some n) = cond (is_one_line b n) [] (source_row l n)
+abbrev pub heading : Format → Lines → Option Line → Option Line → List ℕ
+heading format l before None = []
+heading format l None (Some n) = source_row_in format l n
+heading format l (Some b) (Some n) = cond (is_one_line b n) [] (source_row_in format l n)
 
 -- the line that holds at the slot before a slot
 abbrev pub held_before : List (Option Line) → ℕ → Option Line
@@ -25,23 +24,23 @@ held_before holding zero = None
 held_before holding (suc k) = slice_index_or holding k None
 
 -- what is known before a slot, with the line of C before it
-abbrev pub sourced_slot : Sourced → Subject → List EntryState → ℕ → List ℕ
-sourced_slot source s entries slot =
-    heading source.lines (held_before source.holding.now slot) (slice_index_or source.holding.now slot None)
-    ++ slot_lines s.program entries s.rows slot
+abbrev pub sourced_slot : Format → Sourced → Subject → List EntryState → ℕ → List ℕ
+sourced_slot format source s entries slot =
+    heading format source.lines (held_before source.holding.now slot) (slice_index_or source.holding.now slot None)
+    ++ slot_in format s.program entries s.rows slot
 
 -- what is known before the slots, with the lines of C where they are to be listed
-abbrev pub listed_lines : Option Sourced → Subject → List EntryState → List ℕ
-listed_lines None s entries = known_lines s entries
-listed_lines (Some source) s entries =
-    cond source.listed (texts_below (length entries) (sourced_slot source s entries)) (known_lines s entries)
+abbrev pub listed_lines : Format → Option Sourced → Subject → List EntryState → List ℕ
+listed_lines format None s entries = known_in format s entries
+listed_lines format (Some source) s entries =
+    cond source.listed (texts_below (length entries) (sourced_slot format source s entries)) (known_in format s entries)
 
 -- a line with its column, indented
-abbrev pub place_row : Lines → Option Line → List ℕ
-place_row l None = []
-place_row l (Some n) = codes "  " ++ (place_of l n ++ codes "\n")
+abbrev pub place_row : Format → Lines → Option Line → List ℕ
+place_row format l None = []
+place_row format l (Some n) = place_in format l n
 
 -- what is written of a refused slot, and under it the line that holds there, where the lines are known
-abbrev pub with_line : Option Sourced → ℕ → Response → Response
-with_line None slot r = r
-with_line (Some s) slot r = record { text = r.text ++ place_row s.lines (slice_index_or s.holding.now slot None); done = r.done }
+abbrev pub with_line : Format → Option Sourced → ℕ → Response → Response
+with_line format None slot r = r
+with_line format (Some s) slot r = record { text = r.text ++ place_row format s.lines (slice_index_or s.holding.now slot None); done = r.done }

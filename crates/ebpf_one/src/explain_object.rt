@@ -14,6 +14,7 @@ use crate::object::answer_object_fault;
 use crate::sourced::Sourced;
 use ebpf_command::answer::{Answer, respond};
 use ebpf_command::done::{Done, EngineFault};
+use ebpf_command::format::Format;
 use ebpf_command::input::MAX_INPUT;
 use ebpf_object_file::fault::FileFault;
 use ebpf_object_file::function::{Function, wanted_function};
@@ -26,13 +27,14 @@ use std::io::{Read, Write};
 // The response to a function with lines.
 fn explain_lined(
     alloc: Global,
+    format: Format,
     function: Function<'_>,
     lines: Lines<'_>,
     context: &str,
     held: u8,
     listed: bool,
 ) -> Result<Answer, AllocError>
-    ensures { IfOk result (ExplainsLined listed lines.entry function.entry context.now held) }
+    ensures { IfOk result (ExplainsLined format listed lines.entry function.entry context.now held) }
 {
     let mut holding: Vec<Option<Line>> = vec![in alloc; None; function.code.len() / 8]?;
     lines.at_slots(function.place.from, &mut holding);
@@ -41,62 +43,73 @@ fn explain_lined(
         holding: &holding,
         listed,
     };
-    explain_input(alloc, Form::Raw, function.code, context, held, Some(source))
+    explain_input(
+        alloc,
+        format,
+        Form::Raw,
+        function.code,
+        context,
+        held,
+        Some(source),
+    )
 }
 
 // The response to a function with lines that can't be read.
 fn explain_unread(
     alloc: Global,
+    format: Format,
     fault: FileFault,
     function: Function<'_>,
     context: &str,
     held: u8,
     listed: bool,
 ) -> Result<Answer, AllocError>
-    ensures { IfOk result (ExplainsUnread listed fault function.entry context.now held) }
+    ensures { IfOk result (ExplainsUnread format listed fault function.entry context.now held) }
 {
     if listed {
-        answer_object_fault(alloc, ObjectFault::File(fault))
+        answer_object_fault(alloc, format, ObjectFault::File(fault))
     } else {
-        explain_input(alloc, Form::Raw, function.code, context, held, None)
+        explain_input(alloc, format, Form::Raw, function.code, context, held, None)
     }
 }
 
 // The response to a function of a file.
 fn explain_function(
     alloc: Global,
+    format: Format,
     file: &[u8],
     function: Function<'_>,
     context: &str,
     held: u8,
     listed: bool,
 ) -> Result<Answer, AllocError>
-    ensures { IfOk result (ExplainsFunction listed context.now held file.now function.entry) }
+    ensures { IfOk result (ExplainsFunction format listed context.now held file.now function.entry) }
 {
     match lines_of(file, function.place.section) {
-        Ok(Some(lines)) => explain_lined(alloc, function, lines, context, held, listed),
-        Ok(None) => explain_input(alloc, Form::Raw, function.code, context, held, None),
-        Err(fault) => explain_unread(alloc, fault, function, context, held, listed),
+        Ok(Some(lines)) => explain_lined(alloc, format, function, lines, context, held, listed),
+        Ok(None) => explain_input(alloc, format, Form::Raw, function.code, context, held, None),
+        Err(fault) => explain_unread(alloc, format, fault, function, context, held, listed),
     }
 }
 
 // The response to a file.
 fn explain_file(
     alloc: Global,
+    format: Format,
     file: &[u8],
     name: &str,
     context: &str,
     held: u8,
     listed: bool,
 ) -> Result<Answer, AllocError>
-    ensures { IfOk result (ExplainsObject listed context.now held name.now file.now) }
+    ensures { IfOk result (ExplainsObject format listed context.now held name.now file.now) }
 {
     if file.len() > MAX_INPUT {
-        return explain_input(alloc, Form::Raw, file, context, held, None);
+        return explain_input(alloc, format, Form::Raw, file, context, held, None);
     }
     match wanted_function(file, name.as_bytes()) {
-        Ok(function) => explain_function(alloc, file, function, context, held, listed),
-        Err(fault) => answer_object_fault(alloc, fault),
+        Ok(function) => explain_function(alloc, format, file, function, context, held, listed),
+        Err(fault) => answer_object_fault(alloc, format, fault),
     }
 }
 
@@ -111,20 +124,21 @@ pub fn explain_object<R: Read, W: Write>(
     alloc: Global,
     reader: &mut R,
     writer: &mut W,
+    format: Format,
     function: &str,
     context: &str,
     held: u8,
     listed: bool,
 ) -> Result<Done, EngineFault>
     // What `explain` writes of the function's slots is written with the lines, or the fault of the file, and nothing else.
-    ensures response { Writes (ExplainsObject listed context.now held function.now) (R.remaining reader.old) (W.contents writer.old) (W.contents writer.new) result }
+    ensures response { Writes (ExplainsObject format listed context.now held function.now) (R.remaining reader.old) (W.contents writer.old) (W.contents writer.new) result }
     // Of a file without lines, it is what `explain` writes of the function's slots.
-    ensures plain { WritesPlain (ExplainsTo Raw context.now held) function.now (R.remaining reader.old) (W.contents writer.old) (W.contents writer.new) result }
+    ensures plain { WritesPlain format (ExplainsTo format Raw context.now held) function.now (R.remaining reader.old) (W.contents writer.old) (W.contents writer.new) result }
     ensures consumed { Reads (R.remaining reader.old) (R.remaining reader.new) result }
     ensures untouched { IfErr result (λ fault. fault ≢ Output → writer.new ≡ writer.old) }
-    ensures beginning { WritesBeginning (ExplainsObject listed context.now held function.now) (R.remaining reader.old) (W.contents writer.old) (W.contents writer.new) result }
+    ensures beginning { WritesBeginning (ExplainsObject format listed context.now held function.now) (R.remaining reader.old) (W.contents writer.old) (W.contents writer.new) result }
 {
     respond(alloc, reader, writer, |file| {
-        explain_file(alloc, file, function, context, held, listed)
+        explain_file(alloc, format, file, function, context, held, listed)
     })
 }

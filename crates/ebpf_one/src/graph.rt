@@ -7,6 +7,7 @@ ghost use Rattle.ebpf_flow.specs.Flow.{flow_fault};
 ghost use Rattle.ebpf_state.specs.Kinds.{AreKinds};
 ghost use Rattle.ebpf_verify.specs.Looked.{subject_of};
 ghost use Rattle.ebpf_command.specs.declared.done.EngineFault.TheVariants.{Output};
+ghost use Rattle.ebpf_command.specs.declared.format.Format.TheVariants.{Text};
 ghost use Rattle.ebpf_command.specs.Writing.{Writes, WritesBeginning, Reads};
 ghost use Rattle.ebpf_one.specs.GraphText.{GraphsTo, GraphsBytes, GraphsDecoded, GraphsFlow, graphed, graphed_by};
 ghost use Rattle.ebpf_one.specs.ObjectText.{Answers, RespondsObject};
@@ -18,6 +19,7 @@ use crate::object::{answer_object_fault, taken};
 use crate::request::{Request, requested};
 use ebpf_command::answer::{Answer, respond};
 use ebpf_command::done::{Done, EngineFault, Stop};
+use ebpf_command::format::Format;
 use ebpf_flow::check::check;
 use ebpf_flow::fault::FlowFault;
 use ebpf_flow::flowed::Flowed;
@@ -75,7 +77,7 @@ pub fn graph_object<R: Read, W: Write>(
     states: bool,
 ) -> Result<Done, EngineFault>
     // What `graph` writes of the function's slots is written, or the fault of the file, and nothing else.
-    ensures text { Answers (GraphsTo states Raw context.now held) function.now (R.remaining reader.old) (W.contents writer.old) (W.contents writer.new) result }
+    ensures text { Answers Text (GraphsTo states Raw context.now held) function.now (R.remaining reader.old) (W.contents writer.old) (W.contents writer.new) result }
     ensures consumed { Reads (R.remaining reader.old) (R.remaining reader.new) result }
     ensures untouched { IfErr result (λ fault. fault ≢ Output → writer.new ≡ writer.old) }
 {
@@ -93,11 +95,11 @@ fn graph_of_file(
     held: u8,
     states: bool,
 ) -> Result<Answer, AllocError>
-    ensures { IfOk result (RespondsObject (GraphsTo states Raw context.now held) function.now file.now) }
+    ensures { IfOk result (RespondsObject Text (GraphsTo states Raw context.now held) function.now file.now) }
 {
     match taken(function, file) {
         Ok(bytes) => graph_input(alloc, Form::Raw, bytes, context, held, states),
-        Err(fault) => answer_object_fault(alloc, fault),
+        Err(fault) => answer_object_fault(alloc, Format::Text, fault),
     }
 }
 
@@ -114,7 +116,15 @@ fn graph_input(
 {
     match requested(alloc, form, input, context, held) {
         Ok(request) => graph_request(alloc, request, states),
-        Err(Stop::Fault(code)) => answer_unused(alloc, form, input, context, held, code),
+        Err(Stop::Fault(code)) => answer_unused(
+            alloc,
+            Format::Text,
+            form,
+            input,
+            context,
+            held,
+            code,
+        ),
         Err(Stop::NoMemory) => Err(AllocError),
     }
 }
@@ -140,7 +150,13 @@ fn graph_bytes(
 {
     match decode(alloc, bytes) {
         Ok(program) => graph_program(alloc, bytes, program, decl, rows, states),
-        Err(DecodeFault::Bad { slot, code }) => answer_undecoded(alloc, bytes, slot, code),
+        Err(DecodeFault::Bad { slot, code }) => answer_undecoded(
+            alloc,
+            Format::Text,
+            bytes,
+            slot,
+            code,
+        ),
         Err(DecodeFault::NoMemory) => Err(AllocError),
     }
 }
@@ -160,7 +176,7 @@ fn graph_program(
 {
     match check(alloc, program) {
         Ok(flowed) => graph_flowed(alloc, &flowed, decl, rows, states),
-        Err(FlowFault::Bad { slot, code }) => answer_misled(alloc, bytes, slot, code),
+        Err(FlowFault::Bad { slot, code }) => answer_misled(alloc, Format::Text, bytes, slot, code),
         Err(FlowFault::NoMemory) => Err(AllocError),
     }
 }

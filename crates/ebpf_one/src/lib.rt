@@ -4,17 +4,20 @@
 //! is the contract of [`one::one`], of [`list::list`] and of [`explain::explain`], which rest on the contracts of the crates below. This crate adds
 //! what they ask for, the lines of their texts, and the store of objects of a single run.
 //!
-//! To be read in this order: `form`, `program_text`, `request`, `store`, `alone`, `text`, `answer`, `one`, `list`, `input_faults`, `sourced`, `explain`, `lay_out`,
+//! To be read in this order: `form`, `program_text`, `request`, `store`, `alone`, `text`, `json_text`, `in_format`, `answer`, `one`, `list`, `input_faults`, `explain_json`, `sourced`, `explain`, `lay_out`,
 //! `object`, `object_commands`, `source_list`, `explain_object`, `graph`.
 #![tactic(auto)]
 
 mod alone;
 mod answer;
 pub mod explain;
+mod explain_json;
 pub mod explain_object;
 pub mod form;
 pub mod graph;
+mod in_format;
 mod input_faults;
+mod json_text;
 pub mod lay_out;
 pub mod list;
 mod object;

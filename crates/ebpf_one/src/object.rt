@@ -1,12 +1,14 @@
 //! The slots of a function of an object file, or why there are none.
 
-ghost use Rattle.std.specs.Prelude.{◌≡◌, IfOk, IfErr};
+ghost use Rattle.std.specs.Prelude.{◌≡◌, IfOk, IfErr, string_bytes};
 ghost use Rattle.ebpf_command.specs.Response.{refused_response};
 ghost use Rattle.ebpf_one.specs.ObjectText.{IsTaken, IsTakenFault, object_fault_lines};
 
 use ebpf_command::answer::Answer;
 use ebpf_command::done::Done;
+use ebpf_command::format::Format;
 use ebpf_command::input::MAX_INPUT;
+use ebpf_command::json::write_why;
 use ebpf_object_file::function::wanted_function;
 use ebpf_object_file::object_fault::ObjectFault;
 use std::alloc::{AllocError, Global};
@@ -32,13 +34,34 @@ pub(crate) fn taken<'a>(name: &str, file: &'a [u8]) -> Result<&'a [u8], ObjectFa
 /// The answer where there are none: the line of the fault, and its sentence. It fails only where an allocation fails.
 pub(crate) fn answer_object_fault(
     alloc: Global,
+    format: Format,
     fault: ObjectFault<'_>,
 ) -> Result<Answer, AllocError>
-    ensures { IfOk result (λ answer. answer ≡ refused_response (object_fault_lines fault.entry)) }
+    ensures { IfOk result (λ answer. answer ≡ refused_response (object_fault_lines format fault.entry)) }
 {
-    let name = fault.code();
     Ok(Answer {
-        text: format!(in alloc; "fault {name} line 0\n  {fault}\n")?,
+        text: object_fault_text(alloc, format, fault)?,
         done: Done::Refused,
     })
+}
+
+// The line of the fault, and its sentence.
+fn object_fault_text(
+    alloc: Global,
+    format: Format,
+    fault: ObjectFault<'_>,
+) -> Result<String, AllocError>
+    ensures { IfOk result (λ text. string_bytes text ≡ object_fault_lines format fault.entry) }
+{
+    let name = fault.code();
+    match format {
+        Format::Text => format!(in alloc; "fault {name} line 0\n  {fault}\n"),
+        Format::Json => {
+            let why = format!(in alloc; "  {fault}\n")?;
+            let mut text = format!(in alloc; "{{\"fault\":\"{name}\",\"line\":0")?;
+            write_why(&mut text, &why)?;
+            text.push_str("}\n")?;
+            Ok(text)
+        }
+    }
 }

@@ -16,6 +16,7 @@ use crate::list::list_input;
 use crate::object::{answer_object_fault, taken};
 use ebpf_command::answer::{Answer, respond};
 use ebpf_command::done::{Done, EngineFault};
+use ebpf_command::format::Format;
 use std::alloc::{AllocError, Global};
 use std::io::{Read, Write};
 
@@ -28,35 +29,37 @@ pub fn one_object<R: Read, W: Write>(
     alloc: Global,
     reader: &mut R,
     writer: &mut W,
+    format: Format,
     function: &str,
     context: &str,
     held: u8,
     nulls: bool,
 ) -> Result<Done, EngineFault>
     // What `one` writes of the function's slots is written, or the fault of the file, and nothing else.
-    ensures text { Answers (Responds Raw context.now held nulls) function.now (R.remaining reader.old) (W.contents writer.old) (W.contents writer.new) result }
+    ensures text { Answers format (Responds format Raw context.now held nulls) function.now (R.remaining reader.old) (W.contents writer.old) (W.contents writer.new) result }
     ensures consumed { Reads (R.remaining reader.old) (R.remaining reader.new) result }
     ensures untouched { IfErr result (λ fault. fault ≢ Output → writer.new ≡ writer.old) }
 {
     respond(alloc, reader, writer, |file| {
-        one_of(alloc, file, function, context, held, nulls)
+        one_of(alloc, format, file, function, context, held, nulls)
     })
 }
 
 // The response of `one` to a file.
 fn one_of(
     alloc: Global,
+    format: Format,
     file: &[u8],
     function: &str,
     context: &str,
     held: u8,
     nulls: bool,
 ) -> Result<Answer, AllocError>
-    ensures { IfOk result (RespondsObject (Responds Raw context.now held nulls) function.now file.now) }
+    ensures { IfOk result (RespondsObject format (Responds format Raw context.now held nulls) function.now file.now) }
 {
     match taken(function, file) {
-        Ok(bytes) => answer_input(alloc, Form::Raw, bytes, context, held, nulls),
-        Err(fault) => answer_object_fault(alloc, fault),
+        Ok(bytes) => answer_input(alloc, format, Form::Raw, bytes, context, held, nulls),
+        Err(fault) => answer_object_fault(alloc, format, fault),
     }
 }
 
@@ -69,25 +72,26 @@ pub fn list_object<R: Read, W: Write>(
     alloc: Global,
     reader: &mut R,
     writer: &mut W,
+    format: Format,
     function: &str,
 ) -> Result<Done, EngineFault>
     // What `list` writes of the function's slots is written, or the fault of the file, and nothing else.
-    ensures text { Answers (RespondsList Raw) function.now (R.remaining reader.old) (W.contents writer.old) (W.contents writer.new) result }
+    ensures text { Answers format (RespondsList format Raw) function.now (R.remaining reader.old) (W.contents writer.old) (W.contents writer.new) result }
     ensures consumed { Reads (R.remaining reader.old) (R.remaining reader.new) result }
     ensures untouched { IfErr result (λ fault. fault ≢ Output → writer.new ≡ writer.old) }
 {
     respond(alloc, reader, writer, |file| {
-        list_of(alloc, file, function)
+        list_of(alloc, format, file, function)
     })
 }
 
 // The response of `list` to a file.
-fn list_of(alloc: Global, file: &[u8], function: &str) -> Result<Answer, AllocError>
-    ensures { IfOk result (RespondsObject (RespondsList Raw) function.now file.now) }
+fn list_of(alloc: Global, format: Format, file: &[u8], function: &str) -> Result<Answer, AllocError>
+    ensures { IfOk result (RespondsObject format (RespondsList format Raw) function.now file.now) }
 {
     match taken(function, file) {
-        Ok(bytes) => list_input(alloc, Form::Raw, bytes),
-        Err(fault) => answer_object_fault(alloc, fault),
+        Ok(bytes) => list_input(alloc, format, Form::Raw, bytes),
+        Err(fault) => answer_object_fault(alloc, format, fault),
     }
 }
 
@@ -100,24 +104,30 @@ pub fn lay_out_object<R: Read, W: Write>(
     alloc: Global,
     reader: &mut R,
     writer: &mut W,
+    format: Format,
     function: &str,
 ) -> Result<Done, EngineFault>
     // What `lay-out` writes of the function's slots is written, or the fault of the file, and nothing else.
-    ensures text { Answers (LaysOut Raw) function.now (R.remaining reader.old) (W.contents writer.old) (W.contents writer.new) result }
+    ensures text { Answers format (LaysOut format Raw) function.now (R.remaining reader.old) (W.contents writer.old) (W.contents writer.new) result }
     ensures consumed { Reads (R.remaining reader.old) (R.remaining reader.new) result }
     ensures untouched { IfErr result (λ fault. fault ≢ Output → writer.new ≡ writer.old) }
 {
     respond(alloc, reader, writer, |file| {
-        lay_out_of(alloc, file, function)
+        lay_out_of(alloc, format, file, function)
     })
 }
 
 // The response of `lay-out` to a file.
-fn lay_out_of(alloc: Global, file: &[u8], function: &str) -> Result<Answer, AllocError>
-    ensures { IfOk result (RespondsObject (LaysOut Raw) function.now file.now) }
+fn lay_out_of(
+    alloc: Global,
+    format: Format,
+    file: &[u8],
+    function: &str,
+) -> Result<Answer, AllocError>
+    ensures { IfOk result (RespondsObject format (LaysOut format Raw) function.now file.now) }
 {
     match taken(function, file) {
-        Ok(bytes) => lay_out_input(alloc, Form::Raw, bytes),
-        Err(fault) => answer_object_fault(alloc, fault),
+        Ok(bytes) => lay_out_input(alloc, format, Form::Raw, bytes),
+        Err(fault) => answer_object_fault(alloc, format, fault),
     }
 }

@@ -7,18 +7,21 @@ ghost use Rattle.ebpf_text.specs.Listing.{line_at};
 ghost use Rattle.ebpf_command.specs.declared.done.EngineFault.TheVariants.{Output};
 ghost use Rattle.ebpf_command.specs.Writing.{Writes, WritesBeginning, Reads};
 ghost use Rattle.ebpf_one.specs.declared.form.Form.TheVariants.{Raw};
+ghost use Rattle.ebpf_one.specs.Formats.{insn_in};
 ghost use Rattle.ebpf_one.specs.ListText.{RespondsList};
 ghost use Rattle.ebpf_one.specs.ObjectText.{WritesPlain};
 ghost use Rattle.ebpf_one.specs.SourceText.{slot_text, sourced_below, IsSourced, SourcesDecoded, SourcesFunction, RespondsSource};
 
 use crate::form::Form;
+use crate::in_format::answer_refused;
+use crate::json_text::write_object_at;
 use crate::list::list_input;
 use crate::object::answer_object_fault;
 use crate::sourced::{held_at, held_before, write_heading};
-use crate::text::refused_line;
 use ebpf_command::answer::{Answer, respond};
 use ebpf_command::codes::RefusalCode;
 use ebpf_command::done::{Done, EngineFault};
+use ebpf_command::format::Format;
 use ebpf_command::input::MAX_INPUT;
 use ebpf_insn::decode::decode;
 use ebpf_insn::fault::DecodeFault;
@@ -32,6 +35,22 @@ use std::alloc::{AllocError, Global};
 use std::io::{Read, Write};
 
 // Writes the line of the instruction at a slot, if one begins there.
+fn write_insn_in(
+    alloc: Global,
+    format: Format,
+    text: &mut String,
+    program: &Program,
+    slot: usize,
+) -> Result<(), AllocError>
+    ensures { OnOk result (string_bytes text.new ≡ string_bytes text.old ++ insn_in format slot (insn_at program.now slot)) }
+{
+    match format {
+        Format::Text => write_slot(alloc, text, program, slot),
+        Format::Json => write_object_at(text, program, slot),
+    }
+}
+
+// The same as text.
 fn write_slot(
     alloc: Global,
     text: &mut String,
@@ -52,17 +71,18 @@ fn write_slot(
 // The lines of a program's instructions, with the line of C before those of which it holds.
 fn sourced(
     alloc: Global,
+    format: Format,
     program: &Program,
     lines: Lines<'_>,
     holding: &[Option<Line>],
 ) -> Result<String, AllocError>
-    ensures { IfOk result (λ text. string_bytes text ≡ sourced_below lines.entry holding.now program.now (length program.now)) }
+    ensures { IfOk result (λ text. string_bytes text ≡ sourced_below format lines.entry holding.now program.now (length program.now)) }
 {
     let mut text = String::new(alloc);
     for slot in 0..program.slots() {
         let before = held_before(holding, slot);
-        write_heading(&mut text, lines, before, held_at(holding, slot))?;
-        write_slot(alloc, &mut text, program, slot)?;
+        write_heading(format, &mut text, lines, before, held_at(holding, slot))?;
+        write_insn_in(alloc, format, &mut text, program, slot)?;
     }
     Ok(text)
 }
@@ -70,16 +90,17 @@ fn sourced(
 // The response to a program of a function that begins at a byte of its section.
 fn source_program(
     alloc: Global,
+    format: Format,
     program: &Program,
     lines: Lines<'_>,
     from: u64,
 ) -> Result<Answer, AllocError>
-    ensures { IfOk result (IsSourced lines.entry from program.now) }
+    ensures { IfOk result (IsSourced format lines.entry from program.now) }
 {
     let mut holding: Vec<Option<Line>> = vec![in alloc; None; program.slots()]?;
     lines.at_slots(from, &mut holding);
     Ok(Answer {
-        text: sourced(alloc, program, lines, &holding)?,
+        text: sourced(alloc, format, program, lines, &holding)?,
         done: Done::Clean,
     })
 }
@@ -87,43 +108,55 @@ fn source_program(
 // The response to the bytes of a function with lines.
 fn source_bytes(
     alloc: Global,
+    format: Format,
     bytes: &[u8],
     lines: Lines<'_>,
     from: u64,
 ) -> Result<Answer, AllocError>
-    ensures { IfOk result (SourcesDecoded (decode_fault bytes.now) bytes.now lines.entry from) }
+    ensures { IfOk result (SourcesDecoded format (decode_fault bytes.now) bytes.now lines.entry from) }
 {
     match decode(alloc, bytes) {
-        Ok(program) => source_program(alloc, &program, lines, from),
-        Err(DecodeFault::Bad { slot, code }) => Ok(Answer {
-            text: refused_line(alloc, RefusalCode::Decode(code).name(), slot)?,
-            done: Done::Refused,
-        }),
+        Ok(program) => source_program(alloc, format, &program, lines, from),
+        Err(DecodeFault::Bad { slot, code }) => {
+            answer_refused(alloc, format, RefusalCode::Decode(code).name(), slot)
+        }
         Err(DecodeFault::NoMemory) => Err(AllocError),
     }
 }
 
 // The response to a function of a file.
-fn source_function(alloc: Global, file: &[u8], function: Function<'_>) -> Result<Answer, AllocError>
-    ensures { IfOk result (SourcesFunction file.now function.entry) }
+fn source_function(
+    alloc: Global,
+    format: Format,
+    file: &[u8],
+    function: Function<'_>,
+) -> Result<Answer, AllocError>
+    ensures { IfOk result (SourcesFunction format file.now function.entry) }
 {
     match lines_of(file, function.place.section) {
-        Ok(None) => list_input(alloc, Form::Raw, function.code),
-        Ok(Some(lines)) => source_bytes(alloc, function.code, lines, function.place.from),
-        Err(fault) => answer_object_fault(alloc, ObjectFault::File(fault)),
+        Ok(None) => list_input(alloc, format, Form::Raw, function.code),
+        Ok(Some(lines)) => {
+            source_bytes(alloc, format, function.code, lines, function.place.from)
+        }
+        Err(fault) => answer_object_fault(alloc, format, ObjectFault::File(fault)),
     }
 }
 
 // The response to a file.
-fn source_input(alloc: Global, file: &[u8], name: &str) -> Result<Answer, AllocError>
-    ensures { IfOk result (RespondsSource name.now file.now) }
+fn source_input(
+    alloc: Global,
+    format: Format,
+    file: &[u8],
+    name: &str,
+) -> Result<Answer, AllocError>
+    ensures { IfOk result (RespondsSource format name.now file.now) }
 {
     if file.len() > MAX_INPUT {
-        return list_input(alloc, Form::Raw, file);
+        return list_input(alloc, format, Form::Raw, file);
     }
     match wanted_function(file, name.as_bytes()) {
-        Ok(function) => source_function(alloc, file, function),
-        Err(fault) => answer_object_fault(alloc, fault),
+        Ok(function) => source_function(alloc, format, file, function),
+        Err(fault) => answer_object_fault(alloc, format, fault),
     }
 }
 
@@ -137,17 +170,18 @@ pub fn list_source<R: Read, W: Write>(
     alloc: Global,
     reader: &mut R,
     writer: &mut W,
+    format: Format,
     function: &str,
 ) -> Result<Done, EngineFault>
     // The instructions and the lines of the function are written, or the fault of the file, and nothing else.
-    ensures response { Writes (RespondsSource function.now) (R.remaining reader.old) (W.contents writer.old) (W.contents writer.new) result }
+    ensures response { Writes (RespondsSource format function.now) (R.remaining reader.old) (W.contents writer.old) (W.contents writer.new) result }
     // Of a file without lines, it is what `list` writes of the function.
-    ensures plain { WritesPlain (RespondsList Raw) function.now (R.remaining reader.old) (W.contents writer.old) (W.contents writer.new) result }
+    ensures plain { WritesPlain format (RespondsList format Raw) function.now (R.remaining reader.old) (W.contents writer.old) (W.contents writer.new) result }
     ensures consumed { Reads (R.remaining reader.old) (R.remaining reader.new) result }
     ensures untouched { IfErr result (λ fault. fault ≢ Output → writer.new ≡ writer.old) }
-    ensures beginning { WritesBeginning (RespondsSource function.now) (R.remaining reader.old) (W.contents writer.old) (W.contents writer.new) result }
+    ensures beginning { WritesBeginning (RespondsSource format function.now) (R.remaining reader.old) (W.contents writer.old) (W.contents writer.new) result }
 {
     respond(alloc, reader, writer, |file| {
-        source_input(alloc, file, function)
+        source_input(alloc, format, file, function)
     })
 }

@@ -1,11 +1,16 @@
 //! The lines of C of a function, as a command shows them.
 
-ghost use Rattle.std.specs.Prelude.{◌≡◌, ◌++◌, IfOk, OnOk, None, length, slice_index_or, string_bytes};
+ghost use Rattle.std.specs.Prelude.{◌≡◌, ◌<◌, ◌++◌, IfOk, OnOk, None, length, slice_index_or, string_bytes};
 ghost use Rattle.ebpf_explain.specs.StackWords.{texts_below};
 ghost use Rattle.ebpf_verify.specs.Looked.{subject_of};
+ghost use Rattle.ebpf_one.specs.Formats.{column_member, place_in, source_row_in};
+ghost use Rattle.ebpf_one.specs.KnownObjects.{known_in, slot_in};
 ghost use Rattle.ebpf_one.specs.Sourced.{heading, held_before, listed_lines, place_row, sourced_slot, with_line};
 
+use crate::explain_json::{write_objects, write_slot_objects};
+use crate::json_text::{write_source_head, write_source_tail};
 use ebpf_command::answer::Answer;
+use ebpf_command::format::Format;
 use ebpf_explain::slots::{write_slot, write_slots};
 use ebpf_object_file::lines::{Line, Lines, SourcePlace};
 use ebpf_verify::looked::Looked;
@@ -44,37 +49,97 @@ pub(crate) fn held_before(holding: &[Option<Line>], slot: usize) -> Option<Line>
 
 /// Writes a line of C, where one holds and the line before it is another. It fails only where an allocation fails.
 pub(crate) fn write_heading(
+    format: Format,
     text: &mut String,
     lines: Lines<'_>,
     before: Option<Line>,
     now: Option<Line>,
 ) -> Result<(), AllocError>
-    ensures { OnOk result (string_bytes text.new ≡ string_bytes text.old ++ heading lines.entry before now) }
+    ensures { OnOk result (string_bytes text.new ≡ string_bytes text.old ++ heading format lines.entry before now) }
 {
     match (before, now) {
         (_, None) => Ok(()),
         (Some(last), Some(next)) if last.is_one_line(next) => Ok(()),
-        (_, Some(next)) => {
-            let source = lines.source(next);
+        (_, Some(next)) => write_source_row(format, text, lines, next),
+    }
+}
+
+// Writes a line of C.
+fn write_source_row(
+    format: Format,
+    text: &mut String,
+    lines: Lines<'_>,
+    line: Line,
+) -> Result<(), AllocError>
+    ensures { OnOk result (string_bytes text.new ≡ string_bytes text.old ++ source_row_in format lines.entry line) }
+{
+    match format {
+        Format::Text => {
+            let source = lines.source(line);
             write!(text, "; {source}\n")
         }
+        Format::Json => {
+            write_source_head(text, lines, line)?;
+            write_source_tail(text, lines, line)?;
+            Ok(())
+        }
+    }
+}
+
+// Writes what is known before a slot.
+fn write_slot_in(
+    alloc: Global,
+    format: Format,
+    text: &mut String,
+    looked: &Looked,
+    slot: usize,
+) -> Result<(), AllocError>
+    requires inside { slot < length looked.now.entries.now }
+    ensures { OnOk result (string_bytes text.new ≡ string_bytes text.old
+        ++ slot_in format looked.now.flowed.now looked.now.entries.now looked.now.kinds.now slot) }
+{
+    match format {
+        Format::Text => write_slot(alloc, text, looked, slot),
+        Format::Json => write_slot_objects(alloc, text, looked, slot),
+    }
+}
+
+// Writes what is known before each slot.
+fn write_known_in(
+    alloc: Global,
+    format: Format,
+    text: &mut String,
+    looked: &Looked,
+) -> Result<(), AllocError>
+    ensures { OnOk result (string_bytes text.new ≡ string_bytes text.old ++ known_in format (subject_of looked.now) looked.now.entries.now) }
+{
+    match format {
+        Format::Text => write_slots(alloc, text, looked),
+        Format::Json => write_objects(alloc, text, looked),
     }
 }
 
 // Writes what is known before each slot, with the lines of C.
 fn write_sourced(
     alloc: Global,
+    format: Format,
     text: &mut String,
     looked: &Looked,
     source: Sourced<'_>,
 ) -> Result<(), AllocError>
     ensures { OnOk result (string_bytes text.new ≡ string_bytes text.old
-        ++ texts_below (length looked.now.entries.now) (sourced_slot source.entry (subject_of looked.now) looked.now.entries.now)) }
+        ++ texts_below (length looked.now.entries.now) (sourced_slot format source.entry (subject_of looked.now) looked.now.entries.now)) }
 {
     for slot in 0..looked.entries.len() {
         let before = held_before(source.holding, slot);
-        write_heading(text, source.lines, before, held_at(source.holding, slot))?;
-        write_slot(alloc, text, looked, slot)?;
+        write_heading(
+            format,
+            text,
+            source.lines,
+            before,
+            held_at(source.holding, slot),
+        )?;
+        write_slot_in(alloc, format, text, looked, slot)?;
     }
     Ok(())
 }
@@ -82,45 +147,79 @@ fn write_sourced(
 /// Writes what is known before each slot, with the lines of C where they are to be listed. It fails only where an allocation fails.
 pub(crate) fn write_listed(
     alloc: Global,
+    format: Format,
     text: &mut String,
     looked: &Looked,
     source: Option<Sourced<'_>>,
 ) -> Result<(), AllocError>
-    ensures { OnOk result (string_bytes text.new ≡ string_bytes text.old ++ listed_lines source.entry (subject_of looked.now) looked.now.entries.now) }
+    ensures { OnOk result (string_bytes text.new ≡ string_bytes text.old ++ listed_lines format source.entry (subject_of looked.now) looked.now.entries.now) }
 {
     match source {
-        Some(sourced) if sourced.listed => write_sourced(alloc, text, looked, sourced),
-        _ => write_slots(alloc, text, looked),
+        Some(sourced) if sourced.listed => write_sourced(alloc, format, text, looked, sourced),
+        _ => write_known_in(alloc, format, text, looked),
     }
 }
 
 // Writes a line with its column, where there is one.
-fn write_place(text: &mut String, lines: Lines<'_>, line: Option<Line>) -> Result<(), AllocError>
-    ensures { OnOk result (string_bytes text.new ≡ string_bytes text.old ++ place_row lines.entry line) }
+fn write_place(
+    format: Format,
+    text: &mut String,
+    lines: Lines<'_>,
+    line: Option<Line>,
+) -> Result<(), AllocError>
+    ensures { OnOk result (string_bytes text.new ≡ string_bytes text.old ++ place_row format lines.entry line) }
 {
     match line {
         None => Ok(()),
-        Some(line) => {
-            let source = lines.source(line);
+        Some(line) => write_place_in(format, text, lines, line),
+    }
+}
+
+// Writes a column, as a member after others.
+fn write_column(text: &mut String, column: u32) -> Result<(), AllocError>
+    ensures { OnOk result (string_bytes text.new ≡ string_bytes text.old ++ column_member column) }
+{
+    write!(text, ",\"column\":{column}")
+}
+
+// Writes a line with its column.
+fn write_place_in(
+    format: Format,
+    text: &mut String,
+    lines: Lines<'_>,
+    line: Line,
+) -> Result<(), AllocError>
+    ensures { OnOk result (string_bytes text.new ≡ string_bytes text.old ++ place_in format lines.entry line) }
+{
+    let source = lines.source(line);
+    match format {
+        Format::Text => {
             let place = SourcePlace { source };
             write!(text, "  {place}\n")
+        }
+        Format::Json => {
+            write_source_head(text, lines, line)?;
+            write_column(text, source.column)?;
+            write_source_tail(text, lines, line)?;
+            Ok(())
         }
     }
 }
 
 /// An answer that refuses a slot, with the line of C that holds there under it.
 pub(crate) fn with_line(
+    format: Format,
     answer: Answer,
     source: Option<Sourced<'_>>,
     slot: u16,
 ) -> Result<Answer, AllocError>
-    ensures { IfOk result (λ r. r ≡ with_line source.entry slot answer) }
+    ensures { IfOk result (λ r. r ≡ with_line format source.entry slot answer) }
 {
     let Some(sourced) = source else {
         return Ok(answer);
     };
     let mut answer = answer;
     let line = held_at(sourced.holding, slot as usize);
-    write_place(&mut answer.text, sourced.lines, line)?;
+    write_place(format, &mut answer.text, sourced.lines, line)?;
     Ok(answer)
 }

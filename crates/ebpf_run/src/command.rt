@@ -2,8 +2,10 @@
 
 ghost use Rattle.std.specs.Prelude.{◌≤◌};
 
+use crate::format::{format_of, json_option};
 use crate::source::{Source, elf_option, function_option, lines_option, raw_option, source_of};
 use clap::{Arg, ArgAction, ArgMatches, Command, value_parser};
+use ebpf_command::format::Format;
 use std::alloc::{AllocError, Global};
 
 // After the help of the program and of `one`.
@@ -59,10 +61,10 @@ pub enum Task<'a> {
     List(ListOptions<'a>),
     Explain(OneOptions<'a>),
     Graph(GraphOptions<'a>),
-    LayOut(Source<'a>),
+    LayOut(LayOutOptions<'a>),
     Assemble,
     Check(CheckOptions),
-    Replay,
+    Replay(Format),
     Run(RunOptions),
 }
 
@@ -79,6 +81,8 @@ pub struct OneOptions<'a> {
     pub nulls: bool,
     /// Whether `explain` lists the lines of C of an object file.
     pub lines: bool,
+    /// How the answer of `one` or `explain` is written.
+    pub format: Format,
 }
 
 /// The options of `graph`.
@@ -97,11 +101,24 @@ pub struct ListOptions<'a> {
     pub source: Source<'a>,
     /// Whether the lines of C of an object file are written too.
     pub lines: bool,
+    /// How the answer is written.
+    pub format: Format,
 }
 
-/// The option of `check`.
+/// The options of `lay-out`.
+#[derive(Clone, Copy)]
+pub struct LayOutOptions<'a> {
+    /// What the input is.
+    pub source: Source<'a>,
+    /// How the answer is written.
+    pub format: Format,
+}
+
+/// The options of `check`.
 #[derive(Clone, Copy)]
 pub struct CheckOptions {
+    /// How the answer is written.
+    pub format: Format,
     /// Whether it says why each refused program is.
     pub explain: bool,
 }
@@ -109,6 +126,8 @@ pub struct CheckOptions {
 /// The options of `run`.
 #[derive(Clone, Copy)]
 pub struct RunOptions {
+    /// How the answer is written, and the table.
+    pub format: Format,
     /// How many workers run the jobs, 1 to 64.
     pub workers: u32,
     /// How many passes the reaper makes in addition to the script's, 0 to 1000.
@@ -149,7 +168,8 @@ pub fn command<'a>(alloc: Global) -> Result<Command<'a>, AllocError> {
 fn one_command<'a>(alloc: Global) -> Result<Command<'a>, AllocError> {
     let one = Command::new(alloc, "one")
         .about("Runs the program whose hex is in FILE or on standard input")
-        .after_help(ONE_EXAMPLE);
+        .after_help(ONE_EXAMPLE)
+        .arg(json_option(alloc))?;
     with_options_of_one(alloc, one)
 }
 
@@ -159,6 +179,7 @@ fn explain_command<'a>(alloc: Global) -> Result<Command<'a>, AllocError> {
             "Describes what is known before each instruction of the program whose hex is in FILE or on standard input, and why it is refused",
         )
         .after_help(EXPLAIN_EXAMPLE)
+        .arg(json_option(alloc))?
         .arg(lines_option(alloc)?)?;
     with_options_of_one(alloc, explain)
 }
@@ -231,6 +252,7 @@ fn list_command<'a>(alloc: Global) -> Result<Command<'a>, AllocError> {
     let list = Command::new(alloc, "list")
         .about("Lists the instructions of the program whose hex is in FILE or on standard input")
         .after_help(LIST_EXAMPLE)
+        .arg(json_option(alloc))?
         .arg(lines_option(alloc)?)?;
     with_program(alloc, list)
 }
@@ -240,7 +262,8 @@ fn lay_out_command<'a>(alloc: Global) -> Result<Command<'a>, AllocError> {
         .about(
             "Reorders the program whose hex is in FILE or on standard input so that every jump goes forward",
         )
-        .after_help(LAY_OUT_EXAMPLE);
+        .after_help(LAY_OUT_EXAMPLE)
+        .arg(json_option(alloc))?;
     with_program(alloc, lay_out)
 }
 
@@ -258,6 +281,7 @@ fn check_command<'a>(alloc: Global) -> Result<Command<'a>, AllocError> {
         .about("Checks the script in FILE or on standard input: programs, and jobs that run them")
         .after_help(CHECK_EXAMPLE)
         .arg(explain_option(alloc))?
+        .arg(json_option(alloc))?
         .arg(file_argument(alloc))
 }
 
@@ -274,6 +298,7 @@ fn replay_command<'a>(alloc: Global) -> Result<Command<'a>, AllocError> {
             "Replays the script in FILE or on standard input: programs, and events in their runs",
         )
         .after_help(REPLAY_EXAMPLE)
+        .arg(json_option(alloc))?
         .arg(file_argument(alloc))
 }
 
@@ -286,6 +311,7 @@ fn run_command<'a>(alloc: Global) -> Result<Command<'a>, AllocError> {
     run.arg(workers_option(alloc))?
         .arg(reaps_option(alloc))?
         .arg(stats_option(alloc))?
+        .arg(json_option(alloc))?
         .arg(file_argument(alloc))
 }
 
@@ -326,14 +352,18 @@ pub fn request_of<'a>(matches: &ArgMatches<'a>) -> Option<Request<'a>> {
 // The command of this name, with the options that are given.
 fn task_of<'a>(name: &str, given: &ArgMatches<'a>) -> Option<Task<'a>> {
     match name {
-        "one" => Some(Task::One(one_options(given, false))),
+        "one" => Some(Task::One(one_options(given, false, format_of(given)))),
         "list" => Some(Task::List(list_options(given))),
-        "explain" => Some(Task::Explain(one_options(given, given.get_flag("source")))),
+        "explain" => Some(Task::Explain(one_options(
+            given,
+            given.get_flag("source"),
+            format_of(given),
+        ))),
         "graph" => Some(Task::Graph(graph_options(given))),
-        "lay-out" => Some(Task::LayOut(source_of(given))),
+        "lay-out" => Some(Task::LayOut(lay_out_options(given))),
         "assemble" => Some(Task::Assemble),
         "check" => Some(Task::Check(check_options(given))),
-        "replay" => Some(Task::Replay),
+        "replay" => Some(Task::Replay(format_of(given))),
         "run" => Some(Task::Run(run_options(given)?)),
         _ => None,
     }
@@ -347,21 +377,22 @@ fn file_of<'a>(given: &ArgMatches<'a>) -> Option<&'a str> {
     }
 }
 
-// The options of `one`, and whether lines of C are listed.
-fn one_options<'a>(given: &ArgMatches<'a>, lines: bool) -> OneOptions<'a> {
+// The options of `one`, whether lines of C are listed, and how the answer is written.
+fn one_options<'a>(given: &ArgMatches<'a>, lines: bool, format: Format) -> OneOptions<'a> {
     OneOptions {
         source: source_of(given),
         context: given.get_str("context").unwrap_or("-"),
         held: given.get_one::<u8>("held").unwrap_or(0),
         nulls: given.get_flag("nulls"),
         lines,
+        format,
     }
 }
 
 // The options of `graph`.
 fn graph_options<'a>(given: &ArgMatches<'a>) -> GraphOptions<'a> {
     GraphOptions {
-        one: one_options(given, false),
+        one: one_options(given, false, Format::Text),
         states: given.get_flag("states"),
     }
 }
@@ -371,12 +402,22 @@ fn list_options<'a>(given: &ArgMatches<'a>) -> ListOptions<'a> {
     ListOptions {
         source: source_of(given),
         lines: given.get_flag("source"),
+        format: format_of(given),
     }
 }
 
-// The option of `check`.
+// The options of `lay-out`.
+fn lay_out_options<'a>(given: &ArgMatches<'a>) -> LayOutOptions<'a> {
+    LayOutOptions {
+        source: source_of(given),
+        format: format_of(given),
+    }
+}
+
+// The options of `check`.
 fn check_options(given: &ArgMatches<'_>) -> CheckOptions {
     CheckOptions {
+        format: format_of(given),
         explain: given.get_flag("explain"),
     }
 }
@@ -390,6 +431,7 @@ fn run_options(given: &ArgMatches<'_>) -> Option<RunOptions> {
         return None;
     }
     Some(RunOptions {
+        format: format_of(given),
         workers,
         reaps,
         stats: given.get_flag("stats"),

@@ -1,6 +1,6 @@
 //! The commands over one program, by what their input is.
 
-use crate::command::{GraphOptions, ListOptions, OneOptions};
+use crate::command::{GraphOptions, LayOutOptions, ListOptions, OneOptions};
 use crate::source::Source;
 use ebpf_command::done::{Done, EngineFault};
 use ebpf_one::explain::explain;
@@ -26,11 +26,14 @@ pub fn perform_one<R: Read, W: Write>(
         context,
         held,
         nulls,
+        format,
         ..
     } = options;
     match source {
-        Source::Program(form) => one(alloc, reader, writer, form, context, held, nulls),
-        Source::Object(name) => one_object(alloc, reader, writer, name, context, held, nulls),
+        Source::Program(form) => one(alloc, reader, writer, format, form, context, held, nulls),
+        Source::Object(name) => {
+            one_object(alloc, reader, writer, format, name, context, held, nulls)
+        }
     }
 }
 
@@ -41,10 +44,15 @@ pub fn perform_list<R: Read, W: Write>(
     writer: &mut W,
     options: ListOptions<'_>,
 ) -> Result<Done, EngineFault> {
-    match options.source {
-        Source::Program(form) => list(alloc, reader, writer, form),
-        Source::Object(name) if options.lines => list_source(alloc, reader, writer, name),
-        Source::Object(name) => list_object(alloc, reader, writer, name),
+    let ListOptions {
+        source,
+        lines,
+        format,
+    } = options;
+    match source {
+        Source::Program(form) => list(alloc, reader, writer, format, form),
+        Source::Object(name) if lines => list_source(alloc, reader, writer, format, name),
+        Source::Object(name) => list_object(alloc, reader, writer, format, name),
     }
 }
 
@@ -60,12 +68,13 @@ pub fn perform_explain<R: Read, W: Write>(
         context,
         held,
         lines,
+        format,
         ..
     } = options;
     match source {
-        Source::Program(form) => explain(alloc, reader, writer, form, context, held),
+        Source::Program(form) => explain(alloc, reader, writer, format, form, context, held),
         Source::Object(name) => {
-            explain_object(alloc, reader, writer, name, context, held, lines)
+            explain_object(alloc, reader, writer, format, name, context, held, lines)
         }
     }
 }
@@ -95,10 +104,11 @@ pub fn perform_lay_out<R: Read, W: Write>(
     alloc: Global,
     reader: &mut R,
     writer: &mut W,
-    source: Source<'_>,
+    options: LayOutOptions<'_>,
 ) -> Result<Done, EngineFault> {
+    let LayOutOptions { source, format } = options;
     match source {
-        Source::Program(form) => lay_out(alloc, reader, writer, form),
-        Source::Object(name) => lay_out_object(alloc, reader, writer, name),
+        Source::Program(form) => lay_out(alloc, reader, writer, format, form),
+        Source::Object(name) => lay_out_object(alloc, reader, writer, format, name),
     }
 }

@@ -1,7 +1,7 @@
 //! The line of an instruction.
 
 ghost use Rattle.std.specs.Prelude.{◌≡◌, ◌++◌, string_bytes, IfOk, OnOk};
-ghost use Rattle.ebpf_text.specs.Listing.{line_of};
+ghost use Rattle.ebpf_text.specs.Listing.{insn_text, line_of};
 
 use crate::mnemonic::write_mnemonic;
 use crate::operands::write_operands;
@@ -23,7 +23,15 @@ pub(crate) fn write_line(text: &mut String, slot: usize, insn: &Insn) -> Result<
     ensures { OnOk result (string_bytes text.new ≡ string_bytes text.old ++ line_of slot insn.now) }
 {
     write!(text, "{slot}: ")?;
+    write_insn(text, insn)?;
+    text.push_str("\n")
+}
+
+/// Writes an instruction after a text: its mnemonic and its operands. It fails only where an allocation fails.
+pub fn write_insn(text: &mut String, insn: &Insn) -> Result<(), AllocError>
+    ensures { OnOk result (string_bytes text.new ≡ string_bytes text.old ++ insn_text insn.now) }
+{
     write_mnemonic(text, insn)?;
     write_operands(text, insn)?;
-    text.push_str("\n")
+    Ok(())
 }

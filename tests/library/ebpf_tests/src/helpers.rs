@@ -3,6 +3,7 @@
 use crate::events::is_replayed;
 use crate::programs::{column, holds, is_told};
 use ebpf_command::done::Done;
+use ebpf_command::format::Format;
 use ebpf_one::form::Form;
 use ebpf_one::one::one;
 use std::alloc::Global;
@@ -55,6 +56,7 @@ fn is_run(rt: &impl Abort, alloc: Global, row: &str) {
         alloc,
         &mut reader,
         &mut written,
+        Format::Text,
         Form::Hex,
         "-",
         held,

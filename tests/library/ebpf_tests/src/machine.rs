@@ -7,6 +7,7 @@ use crate::range::{
     CONDITIONS, ENDS, OPERATIONS, condition, extended, is_so, kept, low_half, operation, orders,
     readings, result,
 };
+use ebpf_command::format::Format;
 use ebpf_insn::insn::{AluOp, Cond, Width};
 use ebpf_one::form::Form;
 use ebpf_one::one::one;
@@ -37,7 +38,7 @@ fn is_told_so(rt: &impl Abort, alloc: Global, program: Vec<u8>, told: &str) {
     let text = hex::encode(alloc, program).expect(rt, "out of memory");
     let mut reader = text.as_bytes();
     let mut written = Vec::new(alloc);
-    let done = one(alloc, &mut reader, &mut written, Form::Hex, "-", 0, false);
+    let done = one(alloc, &mut reader, &mut written, Format::Text, Form::Hex, "-", 0, false);
     let is_done = done.is_ok();
     holds(rt, told, is_done && written.as_slice() == told.as_bytes());
 }

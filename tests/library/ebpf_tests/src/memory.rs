@@ -1,6 +1,7 @@
 //! What `one` tells of programs that load and store.
 
 use crate::programs::{column, is_told};
+use ebpf_command::format::Format;
 use ebpf_one::form::Form;
 use ebpf_one::one::one;
 use std::alloc::Global;
@@ -37,6 +38,7 @@ fn is_told_so(rt: &impl Abort, alloc: Global, row: &str) {
         alloc,
         &mut reader,
         &mut written,
+        Format::Text,
         Form::Hex,
         context,
         0,

@@ -3,6 +3,7 @@
 use crate::object_file::object;
 use crate::programs::{column, holds, is_told};
 use ebpf_command::done::Done;
+use ebpf_command::format::Format;
 use ebpf_one::explain_object::explain_object;
 use ebpf_one::object_commands::{lay_out_object, list_object, one_object};
 use std::alloc::Global;
@@ -30,10 +31,10 @@ fn written(rt: &impl Abort, alloc: Global, command: &str, name: &str, function: 
     let mut reader = file.as_slice();
     let mut writer = Vec::new(alloc);
     let done = match command {
-        "one" => one_object(alloc, &mut reader, &mut writer, function, ZEROS, 0, false),
-        "list" => list_object(alloc, &mut reader, &mut writer, function),
-        "explain" => explain_object(alloc, &mut reader, &mut writer, function, ZEROS, 0, false),
-        _ => lay_out_object(alloc, &mut reader, &mut writer, function),
+        "one" => one_object(alloc, &mut reader, &mut writer, Format::Text, function, ZEROS, 0, false),
+        "list" => list_object(alloc, &mut reader, &mut writer, Format::Text, function),
+        "explain" => explain_object(alloc, &mut reader, &mut writer, Format::Text, function, ZEROS, 0, false),
+        _ => lay_out_object(alloc, &mut reader, &mut writer, Format::Text, function),
     };
     (writer, done.expect(rt, "it is told"))
 }

@@ -3,6 +3,7 @@
 
 use crate::programs::holds;
 use ebpf_command::done::Done;
+use ebpf_command::format::Format;
 use ebpf_one::explain::explain;
 use ebpf_one::form::Form;
 use ebpf_one::lay_out::lay_out;
@@ -60,6 +61,7 @@ fn is_told_so(rt: &impl Abort, alloc: Global, row: (&str, &str, u8, &str), nulls
         alloc,
         &mut reader,
         &mut written,
+        Format::Text,
         Form::Hex,
         context,
         held,
@@ -87,10 +89,16 @@ fn is_explained_so(rt: &impl Abort, alloc: Global, row: (&str, &str, u8, &str)) 
     let (input, context, held, told) = row;
     let mut reader = input.as_bytes();
     let mut written = Vec::new(alloc);
-    let done = explain(alloc, &mut reader, &mut written, Form::Hex, context, held).expect(
-        rt,
-        "it is told",
-    );
+    let done = explain(
+        alloc,
+        &mut reader,
+        &mut written,
+        Format::Text,
+        Form::Hex,
+        context,
+        held,
+    )
+    .expect(rt, "it is told");
     let is_refused = matches!(done, Done::Refused);
     holds(
         rt,
@@ -125,10 +133,10 @@ fn is_told_of_raw(rt: &impl Abort, alloc: Global, command: &str, told: &str) {
     let mut reader = SEVEN;
     let mut written = Vec::new(alloc);
     let done = match command {
-        "one" => one(alloc, &mut reader, &mut written, Form::Raw, "-", 0, false),
-        "list" => list(alloc, &mut reader, &mut written, Form::Raw),
-        "explain" => explain(alloc, &mut reader, &mut written, Form::Raw, "-", 0),
-        _ => lay_out(alloc, &mut reader, &mut written, Form::Raw),
+        "one" => one(alloc, &mut reader, &mut written, Format::Text, Form::Raw, "-", 0, false),
+        "list" => list(alloc, &mut reader, &mut written, Format::Text, Form::Raw),
+        "explain" => explain(alloc, &mut reader, &mut written, Format::Text, Form::Raw, "-", 0),
+        _ => lay_out(alloc, &mut reader, &mut written, Format::Text, Form::Raw),
     };
     let is_clean = matches!(done, Ok(Done::Clean));
     holds(

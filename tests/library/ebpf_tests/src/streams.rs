@@ -2,6 +2,7 @@
 
 use crate::programs::holds;
 use ebpf_command::done::{Done, EngineFault};
+use ebpf_command::format::Format;
 use ebpf_one::explain::explain;
 use ebpf_one::form::Form;
 use ebpf_one::list::list;
@@ -173,13 +174,13 @@ fn call<R: Threads + Wait + Sync>(
     writer: &mut Sink,
 ) -> Result<Done, EngineFault> {
     match command {
-        "one" => one(alloc, reader, writer, Form::Hex, "-", 0, false),
-        "list" => list(alloc, reader, writer, Form::Hex),
-        "explain" => explain(alloc, reader, writer, Form::Hex, "-", 0),
-        "check" => check(alloc, reader, writer),
-        "check --explain" => explained_check(alloc, reader, writer),
-        "replay" => replay(alloc, reader, writer),
-        _ => run(rt, alloc, reader, writer, 2, 1, &mut NoMeter),
+        "one" => one(alloc, reader, writer, Format::Text, Form::Hex, "-", 0, false),
+        "list" => list(alloc, reader, writer, Format::Text, Form::Hex),
+        "explain" => explain(alloc, reader, writer, Format::Text, Form::Hex, "-", 0),
+        "check" => check(alloc, reader, writer, Format::Text),
+        "check --explain" => explained_check(alloc, reader, writer, Format::Text),
+        "replay" => replay(alloc, reader, writer, Format::Text),
+        _ => run(rt, alloc, reader, writer, Format::Text, 2, 1, &mut NoMeter),
     }
 }
 

@@ -10,4 +10,4 @@ returns-in-Ok c =
     let e = c.in-Ok.ensures in
     let same : asked ≡ asked_for c.args.form c.args.input.now c.args.context.now c.args.held = rw (e.bytes, e.context, e.declared.1) refl in
     IfOk-weaker c.explain_request.result _ _
-    (λ response h. Explains-asked c.args.source c.args.form c.args.input.now c.args.context.now c.args.held asked response e.fine same h) c.explain_request.ensures
+    (λ response h. Explains-asked c.args.format c.args.source c.args.form c.args.input.now c.args.context.now c.args.held asked response e.fine same h) c.explain_request.ensures

@@ -1,4 +1,5 @@
 use Rattle.std.proofs.Common.{rules}
+use Rattle.ebpf_command.specs.declared.format.Format.TheVariants.{Text}
 use Rattle.ebpf_command.proofs.Written.{response_of_shown}
 use Rattle.ebpf_one.specs.declared.form.Form.TheVariants.{Raw}
 use Rattle.ebpf_one.specs.GraphText.{GraphsTo}
@@ -11,8 +12,8 @@ pub returns-clause-text : goal.returns-clause-text
 returns-clause-text g c =
     let P = GraphsTo c.args.states Raw c.args.context.now c.args.held in
     let name = c.args.function.now in
-    answers_by P name _ _ _ _ c.respond.ensures.response c.respond.ensures.beginning (λ all response k.
-    response_of_shown (RespondsObject P name) (object_cuts P (graph_cuts c.args.states Raw c.args.context.now c.args.held) name) all response k.0 k.2
+    answers_by Text P name _ _ _ _ c.respond.ensures.response c.respond.ensures.beginning (λ all response k.
+    response_of_shown (RespondsObject Text P name) (object_cuts Text P (graph_cuts c.args.states Raw c.args.context.now c.args.held) name) all response k.0 k.2
     (let h = k.1 in search rules))
 
 pub returns-clause-consumed : goal.returns-clause-consumed

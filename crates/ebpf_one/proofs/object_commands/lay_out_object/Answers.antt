@@ -9,10 +9,10 @@ use Rattle.ebpf_one.proofs.object_commands.lay_out_object.Goals as goal
 
 pub returns-clause-text : goal.returns-clause-text
 returns-clause-text g c =
-    let P = LaysOut Raw in
+    let P = LaysOut c.args.format Raw in
     let name = c.args.function.now in
-    answers_by P name _ _ _ _ c.respond.ensures.response c.respond.ensures.beginning (λ all response k.
-    response_of_shown (RespondsObject P name) (object_cuts P (lay_out_cuts Raw) name) all response k.0 k.2 (let h = k.1 in search rules))
+    answers_by c.args.format P name _ _ _ _ c.respond.ensures.response c.respond.ensures.beginning (λ all response k.
+    response_of_shown (RespondsObject c.args.format P name) (object_cuts c.args.format P (lay_out_cuts c.args.format Raw) name) all response k.0 k.2 (let h = k.1 in search rules))
 
 pub returns-clause-consumed : goal.returns-clause-consumed
 returns-clause-consumed g c = c.respond.ensures.consumed

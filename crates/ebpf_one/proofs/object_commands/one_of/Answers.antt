@@ -6,8 +6,8 @@ use Rattle.ebpf_one.proofs.object_commands.one_of.Goals as goal
 
 pub returns-in-Ok : goal.returns-in-Ok
 returns-in-Ok c = IfOk-weaker c.answer_input.result _ _
-    (λ response h. of_taken (Responds Raw c.args.context.now c.args.held c.args.nulls) _ _ _ response c.in-Ok.ensures.found h) c.answer_input.ensures
+    (λ response h. of_taken c.args.format (Responds c.args.format Raw c.args.context.now c.args.held c.args.nulls) _ _ _ response c.in-Ok.ensures.found h) c.answer_input.ensures
 
 pub returns-in-Err : goal.returns-in-Err
 returns-in-Err c = IfOk-weaker c.answer_object_fault.result _ _
-    (λ response h. of_fault (Responds Raw c.args.context.now c.args.held c.args.nulls) _ _ _ response c.in-Err.ensures.refused h) c.answer_object_fault.ensures
+    (λ response h. of_fault c.args.format (Responds c.args.format Raw c.args.context.now c.args.held c.args.nulls) _ _ _ response c.in-Err.ensures.refused h) c.answer_object_fault.ensures

@@ -9,4 +9,4 @@ loop-slot-init c = no_text _ _
 pub loop-slot-preserved : goal.loop-slot-preserved
 loop-slot-preserved c =
     one_text _ _ _ _ _ _ refl c.loop-slot.invariant
-    (headed_row c.args.source.lines _ _ _ _ _ _ _ _ c.held_before-before.ensures c.held_at.ensures c.in_ok-write_heading.ensures c.in_ok-write_slot.ensures)
+    (headed_row c.args.format c.args.source.lines _ _ _ _ _ _ _ _ c.held_before-before.ensures c.held_at.ensures c.in_ok-write_heading.ensures c.in_ok-write_slot_in.ensures)

@@ -6,4 +6,4 @@ use Rattle.ebpf_one.proofs.sourced.write_sourced.Given as goal
 
 abbrev pub invariant-loop-slot : goal.invariant-loop-slot
 invariant-loop-slot l =
-    string_bytes l.text ≡ string_bytes l.fn.text ++ texts_below l.slot (sourced_slot l.source (subject_of l.looked) l.looked.entries.now)
+    string_bytes l.text ≡ string_bytes l.fn.text ++ texts_below l.slot (sourced_slot l.format l.source (subject_of l.looked) l.looked.entries.now)
