@@ -29,7 +29,7 @@ use crate::owned::Owned;
 use crate::stocks::Stocks;
 use crate::store::Store;
 use crate::supply::Supplies;
-use ebpf_machine::whole::run_in;
+use ebpf_machine::whole::run_in_place;
 use ebpf_machine::workspace::Workspace;
 use ebpf_verify::verified::Verified;
 use object_cache::ArenaLock;
@@ -230,13 +230,12 @@ fn answer<'a, L: Names, G: Gate + 'a, R: Wait + 'a>(
     store.client.job = number as u32;
     let verified = &shared.programs[job.program];
     let context = &job.context.bytes;
-    let Ok((report, mut workspace)) = run_in(workspace, verified, context, store) else {
+    let Ok(ended) = run_in_place(workspace, verified, context, store) else {
         return Err(AllocError);
     };
     // Read for what they promise: a report's numbers are small.
     let _ = (verified.program().len(), verified.decl());
-    let (report, left) = JobReport::of(report, spare);
-    workspace.reuse(left);
+    let (report, workspace) = JobReport::of(ended, spare);
     answered.push_reserved(Numbered {
         job: number,
         report,
