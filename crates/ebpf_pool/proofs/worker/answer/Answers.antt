@@ -3,7 +3,7 @@ use Rattle.std.proofs.Math.ListN.{get_or}
 use Rattle.std.proofs.lemmas.Option.{slice_get_read}
 use Rattle.ebpf_verify.specs.Subject.{Subject}
 use Rattle.ebpf_pool.specs.declared.jobs.Job.{Job}
-use Rattle.ebpf_pool.specs.declared.jobs.Numbered.{Numbered}
+use Rattle.ebpf_pool.specs.Numbering.{Numbered}
 use Rattle.ebpf_machine.specs.declared.report.Report.{Report}
 use Rattle.ebpf_machine.specs.Whole.{IsReportOf}
 use Rattle.ebpf_pool.specs.Working.{Answers}
@@ -14,14 +14,16 @@ pub returns-clause-even : goal.returns-clause-even
 returns-clause-even g c = evens c.args.store.now.stocks c.run_in_place.new.objects.stocks c.run_in_place.ensures.outs c.requires.even
 
 pub returns-clause-answered : goal.returns-clause-answered
-returns-clause-answered g c = record { made = n; job = refl; good = answered; kept = items; goes = c.in-Ok-run_in_place.ensures.goes } where
-  n : Numbered
-  n = record { job = c.args.number; report = c.in-Ok-run_in_place.ended }
+returns-clause-answered g c = record { made = made; good = answered; kept = items; goes = c.in-Ok-run_in_place.ensures.goes } where
+  made : Report
+  made = c.in-Ok-run_in_place.ended
 
-  items : c.push_reserved.new.self.items ≡ c.args.answered.now.items ++ n ∷ []
+  n : Numbered
+  n = record { job = c.args.number; report = made }
+
+  items : c.push_reserved.new.self.items ≡ c.args.reports.now.items ++ made ∷ []
   items =
-      let numbered = λ (r : Report). c.room_for.new.answered.items ++ record { job = c.args.number; report = r } ∷ [] in
-      c.push_reserved.ensures.items ∙ ap numbered c.of-report.ensures ∙ ap (λ (l : List Numbered). l ++ n ∷ []) c.in-Ok.ensures.same
+      c.push_reserved.ensures.items ∙ ap (λ (r : Report). c.room_for.new.reports.items ++ r ∷ []) c.of-report.ensures ∙ ap (λ (l : List Report). l ++ made ∷ []) c.in-Ok.ensures.same
 
   -- the job that is read is the one of the number
   program : c.job.inside.0.0 ≡ c.index-shared-number.result.program
