@@ -5,7 +5,7 @@
 //! machine that tests every access: the world of many runs, one event of it, and a run alone in a world of its own.
 //!
 //! To be read in this order: `value`, `kinds`, `context`, `objects`, `holding`, `number`, `stack`, `memory`, `registers`, `arithmetic`, `operate`,
-//! `report`, `answer`, `parts`, `workspace`, `overwrite`, `helpers`, `going`, `burst`, `advance`, `run`, `whole`.
+//! `report`, `answer`, `parts`, `workspace`, `ended`, `overwrite`, `helpers`, `going`, `burst`, `advance`, `run`, `whole`.
 #![tactic(auto)]
 
 mod advance;
@@ -13,6 +13,7 @@ pub mod answer;
 mod arithmetic;
 mod burst;
 pub mod context;
+pub mod ended;
 mod going;
 mod helpers;
 pub mod holding;

@@ -4,7 +4,6 @@ ghost use Rattle.std.specs.Prelude.{◌≡◌, [], OnOk};
 
 use crate::parts::Parts;
 use crate::registers::Registers;
-use crate::report::Answers;
 use crate::stack::Stack;
 use std::alloc::{AllocError, Global};
 
@@ -56,16 +55,6 @@ impl<H> Workspace<H> {
             context.extend_from_slice(bytes)?;
         }
         Ok(())
-    }
-
-    /// Takes the memory of the answers of a run that has ended, for the next one: its report can be kept in less. What is in it is
-    /// forgotten.
-    pub fn reuse(&mut self, answers: Answers) {
-        let Answers { mut replies } = answers;
-        if self.parts.replies.capacity() < replies.capacity() {
-            replies.clear();
-            self.parts.replies = replies;
-        }
     }
 
     /// Frees the memory.

@@ -1,4 +1,5 @@
 pub mod Bundles
+pub mod NumberingLemmas
 pub mod Holding
 pub mod Claiming
 pub mod Sums
@@ -9,6 +10,7 @@ pub mod Passing
 pub mod Pairs
 pub mod Returning
 pub mod Placing
+pub mod Gathered
 pub mod PlacingAll
 pub mod Recruiting
 pub mod Turned

@@ -12,8 +12,9 @@ use Rattle.object_cache.specs.declared.totals.Totals.{Totals}
 use Rattle.owners_table.specs.Owning.{OwnersView, SeatView}
 use Rattle.owners_table.specs.Drawing.{TicketsView, times_drawn}
 use Rattle.ebpf_pool.specs.declared.worker.Ending.TheVariants.{Through}
+use Rattle.ebpf_pool.specs.declared.jobs.Answered.{Answered}
 use Rattle.ebpf_pool.specs.declared.jobs.Job.{Job}
-use Rattle.ebpf_pool.specs.declared.jobs.Numbered.{Numbered}
+use Rattle.ebpf_pool.specs.Numbering.{IsWhole, Numbered, jobs_in, told_by}
 use Rattle.ebpf_pool.specs.declared.crew.Parts.{Parts}
 use Rattle.ebpf_pool.specs.declared.crew.Done.{Done}
 use Rattle.ebpf_pool.specs.declared.outcome.Outcome.{Outcome}
@@ -26,6 +27,8 @@ use Rattle.ebpf_pool.specs.Places.{HasExit, IsIn, filled, filled_at, times_in, w
 use Rattle.ebpf_pool.specs.Serving.{AreServed, AreEven, all_allocs, all_nulls, all_gets, reports_of}
 use Rattle.ebpf_pool.specs.Working.{Answers, granted_by, refused_by, fetched_by}
 use Rattle.ebpf_pool.proofs.Bundles.{one_if}
+use Rattle.ebpf_pool.proofs.NumberingLemmas.{numbered_length}
+use Rattle.ebpf_pool.proofs.PlacingAll.{rest_of}
 use Rattle.ebpf_pool.proofs.Shares.{sum_same}
 
 -- ---- numbers of jobs
@@ -37,9 +40,6 @@ answered_inside programs jobs lists good i d l j e m = slice_get_within jobs _ _
 pub answered_exits : (programs : List Subject) (jobs : List Job) (lists : List (List Numbered))
     → All (All (Answers programs jobs)) lists → All (All (λ n. HasExit n.report)) lists
 answered_exits programs jobs lists good i d l j e m = ap is_some (good i d l j e m).report.exited
-
-rest_of : {X : Type 0} (P : X → Type 0) (x : X) (xs : List X) → All P (x ∷ xs) → All P xs
-rest_of P x xs h k d l = h (suc k) d (omega (arith, l))
 
 -- no report is of a number that is not below the limit
 none_beyond : (limit x : ℕ) (ns : List Numbered) → All (λ n. n.job < limit) ns → limit ≤ x → times_in x ns ≡ 0
@@ -70,22 +70,16 @@ ones : {X : Type 0} (xs : List X) → sum_by (λ x. 1) xs ≡ length xs
 ones [] = refl
 ones (x ∷ xs) = omega (arith, sum_by-cons (λ y. 1) x xs, ones xs)
 
-counts_are : (lists : List (Vec Numbered Global)) → sum_by (λ n. n) (map (λ l. vec_len l) lists) ≡ sum_by (λ ns. length ns) (map (λ l. l.items) lists)
-counts_are [] = refl
-counts_are (l ∷ lists) = let here : vec_len l ≡ length l.items = l.ok.0 in omega (arith, here, sum_by-cons (λ n. n) (vec_len l) (map (λ k. vec_len k) lists), sum_by-cons (λ ns. length ns) l.items (map (λ k. k.items) lists), counts_are lists)
+counts_are : (size count : ℕ) (all : List Answered) → All (IsWhole size count) all
+    → sum_by (λ n. n) (map (λ a. vec_len a.reports) all) ≡ sum_by (λ ns. length ns) (map (told_by size count) all)
+counts_are size count [] whole = refl
+counts_are size count (a ∷ all) whole =
+    let here : vec_len a.reports ≡ length a.reports.items = a.reports.ok.0 in
+    let told = numbered_length (jobs_in size count a.firsts.items) a.reports.items (whole 0 a (omega arith)) in
+    omega (arith, here, told, sum_by-cons (λ n. n) (vec_len a.reports) (map (λ b. vec_len b.reports) all),
+    sum_by-cons (λ ns. length ns) (told_by size count a) (map (told_by size count) all), counts_are size count all (rest_of (IsWhole size count) a all whole))
 
 -- ---- places
-
-blank_filled : (places : List Report) (x : ℕ) → All (λ r. r.exit ≡ None) places → filled places x ≡ 0
-blank_filled [] x h = refl
-blank_filled (r ∷ rs) zero h = ap (λ (o : Option ℕ). if is_some o then 1 else 0) (h 0 r (omega arith))
-blank_filled (r ∷ rs) (suc x) h = blank_filled rs x (rest_of (λ q. q.exit ≡ None) r rs h)
-
-blank_weight : (h : Report → ℕ) (places : List Report) → All (λ r. r.exit ≡ None) places → weight h places ≡ 0
-blank_weight h [] none = refl
-blank_weight h (r ∷ rs) none =
-    let here : weight_at h r ≡ 0 = ap (λ (o : Option ℕ). if is_some o then h r else 0) (none 0 r (omega arith)) in
-    omega (arith, sum_by-cons (weight_at h) r rs, here, blank_weight h rs (rest_of (λ q. q.exit ≡ None) r rs none))
 
 -- a place that counts has an exit
 exit_of : (r : Report) → filled_at (Some r) ≡ 1 → HasExit r
@@ -108,50 +102,47 @@ module _ {K L : Type 0} (count : ℕ) (f : FreePairs K L) (shelf : ShelfTotals) 
 
 module _ {L : Type 0} (programs : List Subject) (jobs : List Job) (o : OwnersView) (size : ℕ) (t : TicketsView) (seats : List SeatView) (p : Parts L) (done : Done)
     (through : done.ending ≡ Through) (s : AreServed programs jobs o size t seats p done) where
-  inside : All (All (λ n. n.job < length jobs)) (reports_of p)
-  inside = answered_inside programs jobs (reports_of p) s.good
+  inside : All (All (λ n. n.job < length jobs)) (reports_of size (length jobs) p)
+  inside = answered_inside programs jobs (reports_of size (length jobs) p) s.good
 
-  module _ (once : (x : ℕ) → times_drawn x p.drawers.items ≤ 1) (blank : List Report) (none : All (λ r. r.exit ≡ None) blank) where
+  module _ (once : (x : ℕ) → times_drawn x p.drawers.items ≤ 1) where
     -- each place gets one report at most
-    pub placed_once : (x : ℕ) → filled blank x + sum_by (times_in x) (reports_of p) ≤ 1
+    pub placed_once : (x : ℕ) → sum_by (times_in x) (reports_of size (length jobs) p) ≤ 1
     placed_once x = by (nat_lt x (length jobs)) refl where
-      by : (b : Bool) → nat_lt x (length jobs) ≡ b → filled blank x + sum_by (times_in x) (reports_of p) ≤ 1
+      by : (b : Bool) → nat_lt x (length jobs) ≡ b → sum_by (times_in x) (reports_of size (length jobs) p) ≤ 1
       by true e =
           let below : x < length jobs = grind (arith, nat_tests) in
-          omega (arith, blank_filled blank x none, s.drawn through x below, once (bundle_of size x))
+          omega (arith, s.drawn through x below, once (bundle_of size x))
       by false e =
           let past : length jobs ≤ x = grind (arith, nat_tests) in
-          omega (arith, blank_filled blank x none, all_beyond (length jobs) x (reports_of p) inside past)
+          omega (arith, all_beyond (length jobs) x (reports_of size (length jobs) p) inside past)
 
     module _ (each : (x : ℕ) → x < length jobs → times_drawn (bundle_of size x) p.drawers.items ≡ 1) (places : List Report) (len : length places ≡ length jobs)
-        (fills : (x : ℕ) → filled places x ≡ filled blank x + sum_by (times_in x) (reports_of p))
-        (weighs : (h : Report → ℕ) → weight h places ≡ weight h blank + sum_by (weight_of h) (reports_of p))
-        (from : (x : ℕ) (r : Report) → slice_get places x ≡ Some r → HasExit r → (slice_get blank x ≡ Some r) ⊎ IsIn (record { job = x; report = r }) (reports_of p)) where
+        (fills : (x : ℕ) → filled places x ≡ sum_by (times_in x) (reports_of size (length jobs) p))
+        (weighs : (h : Report → ℕ) → weight h places ≡ sum_by (weight_of h) (reports_of size (length jobs) p))
+        (from : (x : ℕ) (r : Report) → slice_get places x ≡ Some r → HasExit r → (slice_get [] x ≡ Some r) ⊎ IsIn (record { job = x; report = r }) (reports_of size (length jobs) p)) where
       full : (x : ℕ) (r : Report) → slice_get places x ≡ Some r → HasExit r
       full x r at =
           let below : x < length jobs = omega (arith, slice_get_within places x r at, len) in
           let count = fills x in
-          exit_of r (ap filled_at (sym at) ∙ omega (arith, count, blank_filled blank x none, s.drawn through x below, each x below))
+          exit_of r (ap filled_at (sym at) ∙ omega (arith, count, s.drawn through x below, each x below))
 
       all_full : All HasExit places
       all_full i d l = full i (slice_index_or places i d) (slice_get-get_or places i d l)
 
       report_for : (j : ℕ) (job : Job) (r : Report) → slice_get jobs j ≡ Some job → slice_get places j ≡ Some r → IsReportFor programs job r
       report_for j job r job_is at = by (from j r at (full j r at)) where
-        by : (slice_get blank j ≡ Some r) ⊎ IsIn (record { job = j; report = r }) (reports_of p) → IsReportFor programs job r
-        by (inl before) =
-            let count : filled blank j ≡ filled_at (Some r) = ap filled_at before in
-            let one : filled_at (Some r) ≡ 1 = ap (λ (b : Bool). if b then 1 else 0) (full j r at) in
-            absurd (omega (arith, count, one, blank_filled blank j none))
+        by : (slice_get [] j ≡ Some r) ⊎ IsIn (record { job = j; report = r }) (reports_of size (length jobs) p) → IsReportFor programs job r
+        by (inl before) = absurd (cc)
         by (inr (l, there, in_it)) =
             let a =
-            all_of (Answers programs jobs) l (record { job = j; report = r }) (all_of (All (Answers programs jobs)) (reports_of p) l s.good there) in_it in
+            all_of (Answers programs jobs) l (record { job = j; report = r }) (all_of (All (Answers programs jobs)) (reports_of size (length jobs) p) l s.good there) in_it in
             let same : Some a.job ≡ Some job = sym a.job_is ∙ job_is in
             let job_same : a.job ≡ job = cc in
             subst (λ (k : Job). IsReportFor programs k r) job_same (record { subject = a.subject; subject_is = a.subject_is; report = a.report })
 
-      summed : (h : Report → ℕ) → sum_by h places ≡ sum_by (weight_of h) (reports_of p)
-      summed h = omega (arith, full_weight h places all_full, weighs h, blank_weight h blank none)
+      summed : (h : Report → ℕ) → sum_by h places ≡ sum_by (weight_of h) (reports_of size (length jobs) p)
+      summed h = omega (arith, full_weight h places all_full, weighs h)
 
       -- each worker did as many jobs as it made reports, and all reports are here
       all_done : (lists : List (List Numbered)) → sum_by (weight_of (λ r. 1)) lists ≡ sum_by (λ ns. length ns) lists
@@ -159,7 +150,7 @@ module _ {L : Type 0} (programs : List Subject) (jobs : List Job) (o : OwnersVie
 
       pub outcome : (after : List SeatView) (shelves : List ShelfTotals) (ts : List Totals) → AreClosed o p.hands p.seats.items after shelves ts
           → (out : Outcome) → out.reports ≡ places → out.totals ≡ ts → out.clashes ≡ done.clashes → out.shelves ≡ shelves
-          → out.strays ≡ done.strays → out.jobs_done.items ≡ map (λ l. vec_len l) p.answered.items
+          → out.strays ≡ done.strays → out.jobs_done.items ≡ map (λ a. vec_len a.reports) p.answered.items
           → IsOutcome programs jobs seats after out
       outcome after shelves ts closed out reports_are totals_are clashes_are shelves_are strays_are jobs_are = record {
         reports = subst (AreReportsFor programs jobs) (sym reports_are) (record { all = len; each = report_for });
@@ -179,12 +170,12 @@ module _ {L : Type 0} (programs : List Subject) (jobs : List Job) (o : OwnersVie
         fetches =
             let left = ap left_in shelves_are in
             omega (arith, gets, left, s.fetches, closed.fetches);
-        workers = ap length jobs_are ∙ length-map p.answered.items (λ l. vec_len l) ∙ s.answered_all;
+        workers = ap length jobs_are ∙ length-map p.answered.items (λ a. vec_len a.reports) ∙ s.answered_all;
         jobs_done =
             let sum = ap (λ ns. sum_by (λ n. n) ns) jobs_are in
-            let counted = counts_are p.answered.items in
+            let counted = counts_are size (length jobs) p.answered.items (s.whole through) in
             let here = summed (λ r. 1) in
-            omega (arith, sum, counted, here, all_done (reports_of p), ones places, len);
+            omega (arith, sum, counted, here, all_done (reports_of size (length jobs) p), ones places, len);
       } where
         three_shelves : out.shelves ≡ closed.cell_shelf ∷ closed.record_shelf ∷ closed.block_shelf ∷ []
         three_shelves = shelves_are ∙ closed.shelves_are
@@ -194,7 +185,7 @@ module _ {L : Type 0} (programs : List Subject) (jobs : List Job) (o : OwnersVie
             let sum = ap gets_in three_shelves ∙ sum_three (λ (t : ShelfTotals). t.gets) closed.cell_shelf closed.record_shelf closed.block_shelf in
             omega (arith, sum, closed.cells_closed.gets, closed.records_closed.gets, closed.blocks_closed.gets)
 
-        fetched_sum : fetched_in out.reports ≡ sum_by fetched_by (reports_of p)
+        fetched_sum : fetched_in out.reports ≡ sum_by fetched_by (reports_of size (length jobs) p)
         fetched_sum = ap fetched_in reports_are ∙ summed (λ r. fetched r.answers)
 
         three : out.totals ≡ closed.cells ∷ closed.records ∷ closed.blocks ∷ []
@@ -210,8 +201,8 @@ module _ {L : Type 0} (programs : List Subject) (jobs : List Job) (o : OwnersVie
             let sum = ap nulls_in three ∙ sum_three (λ (t : Totals). t.nulls) closed.cells closed.records closed.blocks in
             omega (arith, sum, closed.cells_closed.nulls, closed.records_closed.nulls, closed.blocks_closed.nulls)
 
-        granted_sum : granted_in out.reports ≡ sum_by granted_by (reports_of p)
+        granted_sum : granted_in out.reports ≡ sum_by granted_by (reports_of size (length jobs) p)
         granted_sum = ap granted_in reports_are ∙ summed (λ r. granted r.answers)
 
-        refused_sum : refused_in out.reports ≡ sum_by refused_by (reports_of p)
+        refused_sum : refused_in out.reports ≡ sum_by refused_by (reports_of size (length jobs) p)
         refused_sum = ap refused_in reports_are ∙ summed (λ r. refused r.answers)

@@ -1,16 +1,18 @@
 -- One report more is put in its place.
-use Rattle.std.proofs.Common.{◌≡◌, ◌≢◌, ◌⊎◌, inl, inr, ◌<◌, ◌+◌, ◌==◌, if◌then◌else◌, Bool, true, false, is_some, ℕ, Contains, List, [], ◌∷◌, ◌++◌, length, Some, refl, sym, ap, subst, ◌∙◌, arith}
+use Rattle.std.proofs.Common.{◌≡◌, ◌≢◌, ◌⊎◌, inl, inr, ◌<◌, ◌+◌, ◌==◌, if◌then◌else◌, Bool, true, false, is_some, ℕ, Contains, List, [], ◌∷◌, ◌++◌, length, Some, refl, sym, ap, subst, ◌∙◌, arith, length-append, append_assoc}
 use Rattle.std.proofs.lemmas.Bool.Decides.{nat_tests}
 use Rattle.std.proofs.lemmas.List.{length-set}
-use Rattle.std.specs.List.{slice_get, slice_set}
+use Rattle.std.specs.List.{range_with_len, slice_get, slice_set}
 use Rattle.std.proofs.Math.ListN.{get_or}
+use Rattle.std.proofs.lemmas.List.FromFn.{length-range_with_len}
 use Rattle.std.proofs.lemmas.List.Sums.{sum_by-append, sum_by-set}
 use Rattle.std.proofs.lemmas.List.Elements.{Contains-push, Contains-append_left}
 use Rattle.std.proofs.lemmas.Option.{slice_get-get_or, get_or_from_slice_get}
 use Rattle.ebpf_machine.specs.declared.report.Report.{Report}
 use Rattle.ebpf_machine.proofs.Lists.ListLemmas.{get_set_other, get_set_same, get_set_cases}
-use Rattle.ebpf_pool.specs.declared.jobs.Numbered.{Numbered}
-use Rattle.ebpf_pool.specs.Places.{HasExit, filled, filled_at, times_in, weight, weight_at, weight_of, ArePlaced}
+use Rattle.ebpf_pool.specs.Numbering.{Numbered, numbered}
+use Rattle.ebpf_pool.specs.Places.{HasExit, filled, filled_at, times_in, weight, weight_at, weight_of, ArePlaced, IsBundlePlaced}
+use Rattle.ebpf_pool.proofs.NumberingLemmas.{numbered_last, range_last}
 
 -- 1 where the numbers are equal
 abbrev one : ℕ → ℕ → ℕ
@@ -104,3 +106,20 @@ module _ (old places : List Report) (all left rest : List Numbered) (n : Numbere
     from = from;
     within = λ m there. h.within m (subst (λ (l : List Numbered). Contains l m) (sym is) (Contains-append_left rest (n ∷ []) m there));
   }
+
+-- one report more of a bundle is put in its place
+pub one_of_bundle : (first many left less : ℕ) (places reports now before after : List Report) (r : Report) → left ≡ less + 1 → before ≡ after ++ r ∷ []
+    → IsBundlePlaced first many places reports left now before
+    → IsBundlePlaced first many places reports less (slice_set now (first + less) r) after
+one_of_bundle first many left less places reports now before after r one is h = λ old all js sum was.
+    let here = h old all js sum was in
+    let shorter = ap length is ∙ length-append after (r ∷ []) in
+    let range = range_with_len first less in
+    let jobs = ap (λ (k : ℕ). js ++ range_with_len first k) one ∙ ap (λ (l : List ℕ). js ++ l) (range_last first less) ∙ sym (append_assoc js range ((first + less) ∷ [])) in
+    let own = length-append js range in
+    let long = length-range_with_len first less in
+    let whole : length (js ++ range) ≡ length after = omega (arith, here.0, one, shorter, own, long) in
+    let split = ap (λ (l : List ℕ). numbered l before) jobs ∙ ap (numbered ((js ++ range) ++ (first + less) ∷ [])) is
+        ∙ numbered_last (js ++ range) after (first + less) r whole
+    in
+    (omega (arith, here.0, one, shorter), one_placed old now all _ (numbered (js ++ range) after) (record { job = first + less; report = r }) split here.1)

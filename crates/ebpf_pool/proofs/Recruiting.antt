@@ -9,6 +9,7 @@ use Rattle.ebpf_pool.specs.declared.worker.Worker.{Worker}
 use Rattle.ebpf_pool.specs.declared.hands.Tools.{Tools}
 use Rattle.ebpf_pool.specs.declared.crew.Parts.{Parts}
 use Rattle.ebpf_pool.specs.Hands.{HaveRoom, unused_hands}
+use Rattle.ebpf_pool.specs.Numbering.{IsBlank}
 use Rattle.ebpf_pool.specs.Outcomes.{IsIdle}
 use Rattle.ebpf_pool.specs.Working.{IsFresh}
 
@@ -21,7 +22,7 @@ pub record HasPartsRoom {L : Type 0} (count : ℕ) (p : Parts L) : Type 0 where
 
 -- a worker of parts with which nothing was done
 pub fresh_worker : {L : Type 0} (o : OwnersView) (t : TicketsView) (w : Worker L) (k : Tools L) → w.tools ≡ Some k → k.hands ≡ unused_hands → IsIdle o k.seat
-    → w.ticket ≡ drawing.fresh t.table t.limit → w.answered.items ≡ [] → IsFresh o t w
+    → w.ticket ≡ drawing.fresh t.table t.limit → IsBlank w.answered → IsFresh o t w
 fresh_worker o t w k is hands idle ticket answered = record {
   tools = k;
   tools_are = is;

@@ -8,7 +8,7 @@ use Rattle.owners_table.specs.Owning.{OwnersView, SeatView}
 use Rattle.owners_table.specs.Drawing.{TicketsView, IsOf, times}
 use Rattle.ebpf_pool.specs.declared.worker.Ending.TheVariants.{Through, OutOfMemory}
 use Rattle.ebpf_pool.specs.declared.jobs.Job.{Job}
-use Rattle.ebpf_pool.specs.declared.jobs.Numbered.{Numbered}
+use Rattle.ebpf_pool.specs.Numbering.{IsWhole, Numbered, told_by}
 use Rattle.ebpf_pool.specs.declared.worker.Worker.{Worker}
 use Rattle.slab_layer.specs.declared.kind.CellKind.{CellKind}
 use Rattle.slab_layer.specs.declared.kind.RecordKind.{RecordKind}
@@ -41,13 +41,13 @@ module _ {L : Type 0} (programs : List Subject) (jobs : List Job) (o : OwnersVie
   gets_in w = all_gets (hands_in w)
 
   abbrev granted_in : Worker L → ℕ
-  granted_in w = granted_by w.answered.items
+  granted_in w = granted_by (told_by size (length jobs) w.answered)
 
   abbrev refused_in : Worker L → ℕ
-  refused_in w = refused_by w.answered.items
+  refused_in w = refused_by (told_by size (length jobs) w.answered)
 
   abbrev fetched_in : Worker L → ℕ
-  fetched_in w = fetched_by w.answered.items
+  fetched_in w = fetched_by (told_by size (length jobs) w.answered)
 
   abbrev noted_in : Worker L → ℕ
   noted_in w = length (seat_in w).notes
@@ -63,17 +63,18 @@ module _ {L : Type 0} (programs : List Subject) (jobs : List Job) (o : OwnersVie
     pub even : IsEven (hands_in w)
     pub idle : IsIdle o (seat_in w)
     pub ticket : IsOf t w.ticket
-    pub good : All (Answers programs jobs) w.answered.items
-    pub drawn : HasDrawn size jobs w.ticket w.answered.items w.ending
+    pub good : All (Answers programs jobs) (told_by size (length jobs) w.answered)
+    pub drawn : HasDrawn size jobs w.ticket (told_by size (length jobs) w.answered) w.ending
+    pub whole : w.ending ≢ OutOfMemory → IsWhole size (length jobs) w.answered
     pub granted : allocs_in w ≡ granted_in w + clashes_in w
     pub refused : nulls_in w + clashes_in w ≡ refused_in w
     pub fetched : gets_in w ≡ fetched_in w + strays_in w
 
-  share_drawn : (w : Worker L) → IsShare w → w.ending ≢ OutOfMemory → AreAsDrawn size (length jobs) w.ticket.drawn w.answered.items
-  share_drawn w s = drawn_by size jobs w.ticket w.answered.items w.ending s.drawn
+  share_drawn : (w : Worker L) → IsShare w → w.ending ≢ OutOfMemory → AreAsDrawn size (length jobs) w.ticket.drawn (told_by size (length jobs) w.answered)
+  share_drawn w s = drawn_by size jobs w.ticket (told_by size (length jobs) w.answered) w.ending s.drawn
 
   share_passed : (w : Worker L) → IsShare w → w.ending ≡ Through → w.ticket.passed ≡ true
-  share_passed w s = passed_by size jobs w.ticket w.answered.items w.ending s.drawn
+  share_passed w s = passed_by size jobs w.ticket (told_by size (length jobs) w.answered) w.ending s.drawn
 
   module _ (before after : Worker L) (f : IsFresh o t before) (d : IsDone programs jobs size t before after) where
     now_has : tools_in after ≡ d.new
@@ -95,6 +96,7 @@ module _ {L : Type 0} (programs : List Subject) (jobs : List Job) (o : OwnersVie
       ticket = d.served.tickets;
       good = d.served.good;
       drawn = d.served.drawn;
+      whole = d.served.whole;
       granted =
           let a = ap (λ (k : Tools L). all_allocs k.hands) now_has in
           let k = ap (λ (k : Tools L). k.clashes) now_has in
@@ -209,8 +211,8 @@ module _ {L : Type 0} (programs : List Subject) (jobs : List Job) (o : OwnersVie
         sum_shelf_hands blocks_in p.hands.blocks dismissed.parts.hands.blocks (λ h. h.gets),
       )
 
-      reported : (h : List Numbered → ℕ) → sum_by h (reports_of p) ≡ sum_by (λ w. h w.answered.items) news
-      reported h = sum_mapped h (λ l. l.items) p.answered.items ∙ part_sum (λ w. w.answered) news p.answered.items dismissed.parts.answered (λ l. h l.items)
+      reported : (h : List Numbered → ℕ) → sum_by h (reports_of size (length jobs) p) ≡ sum_by (λ w. h (told_by size (length jobs) w.answered)) news
+      reported h = sum_mapped h (told_by size (length jobs)) p.answered.items ∙ part_sum (λ w. w.answered) news p.answered.items dismissed.parts.answered (λ a. h (told_by size (length jobs) a))
 
       before_noted : (h : SeatView → ℕ) → sum_by (λ w. h (seat_in w)) olds ≡ sum_by h seats
       before_noted h = sym (sum_mapped h seat_in olds) ∙ ap (sum_by h) seats_are ∙ sum_turned h seats
@@ -238,8 +240,11 @@ module _ {L : Type 0} (programs : List Subject) (jobs : List Job) (o : OwnersVie
             let each = sum_two gets_in fetched_in strays_in news (λ i d l. (shares i d l).fetched) in
             omega (arith, each, gets_three, reported fetched_by, dismissed.strays);
         answered_all = part_len (λ w. w.answered) news p.answered.items dismissed.parts.answered ∙ count;
-        good = all_mapped (All (Answers programs jobs)) (λ l. l.items) p.answered.items
-            (part_all (λ w. w.answered) news p.answered.items dismissed.parts.answered (λ l. All (Answers programs jobs) l.items) (λ i d l. (shares i d l).good));
+        good = all_mapped (All (Answers programs jobs)) (told_by size (length jobs)) p.answered.items
+            (part_all (λ w. w.answered) news p.answered.items dismissed.parts.answered (λ a. All (Answers programs jobs) (told_by size (length jobs) a)) (λ i d l. (shares i d l).good));
+        whole = λ is.
+            let well : done.ending ≢ OutOfMemory = λ out. through_not_out (sym is ∙ out) in
+            part_all (λ w. w.answered) news p.answered.items dismissed.parts.answered (IsWhole size (length jobs)) (λ i d l. (shares i d l).whole (dismissed.kept well i d l));
         drawers_all = part_len (λ w. w.ticket) news p.drawers.items dismissed.parts.drawers ∙ count;
         drawers = part_all (λ w. w.ticket) news p.drawers.items dismissed.parts.drawers (IsOf t) (λ i d l. (shares i d l).ticket);
         through = λ is. part_any (λ w. w.ticket) news p.drawers.items dismissed.parts.drawers (λ s. s.passed ≡ true)
@@ -247,6 +252,6 @@ module _ {L : Type 0} (programs : List Subject) (jobs : List Job) (o : OwnersVie
         drawn = λ is x below.
             let well : done.ending ≢ OutOfMemory = λ out. through_not_out (sym is ∙ out) in
             part_sum (λ w. w.ticket) news p.drawers.items dismissed.parts.drawers (λ s. times (bundle_of size x) s.drawn)
-            ∙ sum_same (λ w. times (bundle_of size x) w.ticket.drawn) (λ w. times_in x w.answered.items) news (λ i d l. share_drawn (slice_index_or news i d) (shares i d l) (dismissed.kept well i d l) x below)
+            ∙ sum_same (λ w. times (bundle_of size x) w.ticket.drawn) (λ w. times_in x (told_by size (length jobs) w.answered)) news (λ i d l. share_drawn (slice_index_or news i d) (shares i d l) (dismissed.kept well i d l) x below)
             ∙ sym (reported (times_in x));
       }

@@ -7,7 +7,7 @@ use Rattle.owners_table.specs.Drawing.{TicketView, times}
 use Rattle.ebpf_pool.specs.declared.worker.Ending.{Ending}
 use Rattle.ebpf_pool.specs.declared.worker.Ending.TheVariants.{Through, Unstarted, OutOfMemory}
 use Rattle.ebpf_pool.specs.declared.jobs.Job.{Job}
-use Rattle.ebpf_pool.specs.declared.jobs.Numbered.{Numbered}
+use Rattle.ebpf_pool.specs.Numbering.{Numbered}
 use Rattle.ebpf_pool.specs.Bundles.{AreAsDrawn, bundle_of}
 use Rattle.ebpf_pool.specs.Places.{times_in}
 use Rattle.ebpf_pool.specs.Working.{HasDrawn}

@@ -3,7 +3,7 @@ use Rattle.std.proofs.Common.{◌≡◌, ◌+◌, ℕ, List, [], ◌∷◌, ◌+
 use Rattle.std.specs.List.{sum_by}
 use Rattle.std.proofs.lemmas.List.Sums.{sum_by-append}
 use Rattle.ebpf_pool.specs.declared.hands.Tools.{Tools}
-use Rattle.ebpf_pool.specs.declared.jobs.Numbered.{Numbered}
+use Rattle.ebpf_pool.specs.Numbering.{Numbered}
 use Rattle.ebpf_machine.specs.Whole.{granted, refused, fetched}
 use Rattle.ebpf_pool.specs.Going.{GoesBy, HasAnsweredAll}
 

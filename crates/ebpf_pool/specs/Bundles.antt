@@ -1,9 +1,9 @@
 -- Neighbouring jobs of one ticket. Of bundles of a size, bundle b has the jobs from b times the size up to the next
 -- bundle's first, as far as there are jobs.
-use Rattle.std.specs.Prelude.{◌≡◌, ◌⊎◌, ◌+◌, ◌*◌, ◌/◌, ◌<◌, ◌≤◌, ◌==◌, ℕ, if◌then◌else◌, List}
+use Rattle.std.specs.Prelude.{◌≡◌, ◌⊎◌, ◌*◌, ◌/◌, ◌<◌, ◌≤◌, ℕ, List}
 use Rattle.std.specs.Int.{div_ceil}
 use Rattle.owners_table.specs.Drawing.{times}
-use Rattle.ebpf_pool.specs.declared.jobs.Numbered.{Numbered}
+use Rattle.ebpf_pool.specs.Numbering.{Numbered}
 use Rattle.ebpf_pool.specs.declared.setup.TheConstants.{MAX_BUNDLE, MIN_BUNDLES}
 use Rattle.ebpf_pool.specs.Places.{times_in}
 
@@ -21,11 +21,6 @@ IsBundleSize size = (0 < size) × (size ≤ MAX_BUNDLE)
 -- n jobs make at least that many bundles for each worker, where a bundle has more than one job
 abbrev pub IsShared : (size workers count : ℕ) → Type 0
 IsShared size workers count = (size ≡ 1) ⊎ (size * (workers * MIN_BUNDLES) ≤ count)
-
--- each job of the bundle has one report more, and no other job has
-abbrev pub IsBundleAdded : (size count bundle : ℕ) → (old new : List Numbered) → Type 0
-IsBundleAdded size count bundle old new =
-    (x : ℕ) → x < count → times_in x new ≡ times_in x old + (if bundle == bundle_of size x then 1 else 0)
 
 -- each job has as many reports as its bundle was drawn
 abbrev pub AreAsDrawn : (size count : ℕ) → (drawn : List ℕ) → List Numbered → Type 0

@@ -6,8 +6,9 @@ use Rattle.owners_table.specs.Drawing.{TicketsView, TicketView}
 use Rattle.owners_table.specs.Drawing as drawing
 use Rattle.ebpf_pool.specs.Bundles.{IsBundleSize, bundles_in}
 use Rattle.ebpf_pool.specs.Hands.{AllAreUnused, AllAreMadeOf, AreNone, unused_hands}
+use Rattle.ebpf_pool.specs.Numbering.{IsBlank}
 use Rattle.ebpf_pool.specs.Outcomes.{IsIdle}
-use Rattle.ebpf_pool.specs.Places.{AreReserved}
+use Rattle.ebpf_pool.specs.Places.{AreBlank}
 use Rattle.ebpf_pool.specs.Supplies.{AreOpened}
 use Rattle.ebpf_pool.specs.declared.crew.Done.{Done}
 use Rattle.ebpf_pool.specs.declared.crew.Parts.{Parts}
@@ -23,7 +24,7 @@ module _ {L : Type 0} where
     pub hands : AllAreUnused count p.hands
     pub seats : (length p.seats.items ≡ count) × All (IsIdle o) p.seats.items
     pub drawers : (length p.drawers.items ≡ count) × All (λ s. s ≡ drawing.fresh t.table t.limit) p.drawers.items
-    pub answered : (length p.answered.items ≡ count) × All (λ l. l.items ≡ []) p.answered.items
+    pub answered : (length p.answered.items ≡ count) × All IsBlank p.answered.items
 
   -- no parts, and memory for the parts of that many workers
   pub record HaveNone (count : ℕ) (p : Parts L) : Type 0 where
@@ -87,8 +88,8 @@ module _ {L : Type 0} where
     pub limit : s.room.tickets.limit ≡ bundles_in s.room.size jobs
     pub tickets : s.room.tickets.seats ≡ count
     pub drawers : (length s.drawers.items ≡ count) × All (λ d. d ≡ drawing.fresh s.room.tickets.table s.room.tickets.limit) s.drawers.items
-    pub answered : (length s.answered.items ≡ count) × All (λ l. l.items ≡ []) s.answered.items
-    pub places : AreReserved jobs s.places
+    pub answered : (length s.answered.items ≡ count) × All IsBlank s.answered.items
+    pub places : AreBlank jobs s.places
     pub jobs_done : (s.room.jobs_done.items ≡ []) × (count ≤ vec_capacity s.room.jobs_done)
     pub workers : (s.workers.items ≡ []) × (count ≤ vec_capacity s.workers)
     pub opened : AreOpened count s.supplies s.hands

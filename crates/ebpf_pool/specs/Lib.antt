@@ -8,6 +8,7 @@ pub mod Going
 pub mod Hands
 pub mod JobReports
 pub mod Moves
+pub mod Numbering
 pub mod Outcomes
 pub mod Places
 pub mod Serving

@@ -1,8 +1,9 @@
 -- Reports in the places of their jobs. A report without an exit is none.
 use Rattle.std.proofs.Common.{Vec, Global}
-use Rattle.std.specs.Prelude.{[], vec_capacity, ◌≡◌, ◌⊎◌, ◌+◌, ◌<◌, ◌≤◌, ℕ, ◌==◌, true, if◌then◌else◌, is_some, List, Option, Some, None, Contains, All, length, slice_get, sum_by}
+use Rattle.std.specs.Prelude.{vec_capacity, ◌≡◌, ◌⊎◌, ◌+◌, ◌++◌, ◌<◌, ◌≤◌, ℕ, ◌==◌, true, if◌then◌else◌, is_some, List, Option, Some, None, Contains, All, length, slice_get, sum_by}
+use Rattle.std.specs.List.{range_with_len}
 use Rattle.ebpf_machine.specs.declared.report.Report.{Report}
-use Rattle.ebpf_pool.specs.declared.jobs.Numbered.{Numbered}
+use Rattle.ebpf_pool.specs.Numbering.{Numbered, numbered}
 
 abbrev pub HasExit : Report → Type 0
 HasExit r = is_some r.exit ≡ true
@@ -33,13 +34,11 @@ weight_of h ns = sum_by (λ n. h n.report) ns
 abbrev pub IsIn : Numbered → List (List Numbered) → Type 0
 IsIn n lists = (l : List Numbered) × Contains lists l × Contains l n
 
--- memory for that many places, and none yet
-abbrev pub AreReserved : ℕ → Vec Report Global → Type 0
-AreReserved count places = (places.items ≡ []) × (count ≤ vec_capacity places)
-
--- that many places, without a report
-abbrev pub ArePlaces : ℕ → List Report → Type 0
-ArePlaces count places = (length places ≡ count) × All (λ r. r.exit ≡ None) places
+-- places without a report, at most that many, and memory for that many
+pub record AreBlank (count : ℕ) (places : Vec Report Global) : Type 0 where
+  pub none : All (λ r. r.exit ≡ None) places.items
+  pub few : length places.items ≤ count
+  pub room : count ≤ vec_capacity places
 
 -- each report that has a place was there before, or is there with its number
 abbrev pub AreFrom : (old : List Report) → (Numbered → Type 0) → (new : List Report) → Type 0
@@ -66,3 +65,11 @@ pub record AllArePlaced (old : List Report) (all : List (List Numbered)) (places
   pub weighed : (h : Report → ℕ) → weight h places + sum_by (weight_of h) left ≡ weight h old + sum_by (weight_of h) all
   pub from : AreFrom old (λ n. IsIn n all) places
   pub within : (l : List Numbered) → Contains left l → Contains all l
+
+-- The last n reports were put in the places from the first one on, and all but that many of these reports are left: where all was so
+-- far placed but for the reports, it is but for those that are left.
+abbrev pub IsBundlePlaced : (first many : ℕ) → (places reports : List Report) → (left : ℕ) → (places' reports' : List Report) → Type 0
+IsBundlePlaced first many places reports left places' reports' =
+    (old : List Report) (all : List Numbered) (before : List ℕ) → length before + many ≡ length reports
+    → ArePlaced old all places (numbered (before ++ range_with_len first many) reports)
+    → (length before + left ≡ length reports') × ArePlaced old all places' (numbered (before ++ range_with_len first left) reports')

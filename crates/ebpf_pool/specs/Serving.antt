@@ -6,7 +6,7 @@ use Rattle.owners_table.specs.Drawing.{TicketsView, IsOf, times_drawn}
 use Rattle.ebpf_pool.specs.declared.worker.Ending.TheVariants.{Through}
 use Rattle.ebpf_pool.specs.declared.hands.FreePairs.{FreePairs}
 use Rattle.ebpf_pool.specs.declared.jobs.Job.{Job}
-use Rattle.ebpf_pool.specs.declared.jobs.Numbered.{Numbered}
+use Rattle.ebpf_pool.specs.Numbering.{IsWhole, Numbered, told_by}
 use Rattle.ebpf_pool.specs.declared.crew.Parts.{Parts}
 use Rattle.ebpf_pool.specs.declared.crew.Done.{Done}
 use Rattle.ebpf_pool.specs.Bundles.{bundle_of}
@@ -47,8 +47,8 @@ module _ {L : Type 0} where
   all_gets p = gets_of p.hands.cells + gets_of p.hands.records + gets_of p.hands.blocks
 
   -- the reports that each worker made
-  abbrev pub reports_of : Parts L → List (List Numbered)
-  reports_of p = map (λ l. l.items) p.answered.items
+  abbrev pub reports_of : (size count : ℕ) → Parts L → List (List Numbered)
+  reports_of size count p = map (told_by size count) p.answered.items
 
   -- What is left of workers that had these seats. Where they are through together, one found no jobs left, and each
   -- job has as many reports as its bundle was drawn.
@@ -62,12 +62,13 @@ module _ {L : Type 0} where
     pub noted : noted_by p.seats.items ≡ noted_by seats + all_allocs p
     pub lost : lost_by p.seats.items ≡ lost_by seats + done.clashes
     pub fetches : fetches_by p.seats.items ≡ fetches_by seats + all_gets p
-    pub granted : all_allocs p ≡ sum_by granted_by (reports_of p) + done.clashes
-    pub refused : all_nulls p + done.clashes ≡ sum_by refused_by (reports_of p)
-    pub fetched : all_gets p ≡ sum_by fetched_by (reports_of p) + done.strays
+    pub granted : all_allocs p ≡ sum_by granted_by (reports_of size (length jobs) p) + done.clashes
+    pub refused : all_nulls p + done.clashes ≡ sum_by refused_by (reports_of size (length jobs) p)
+    pub fetched : all_gets p ≡ sum_by fetched_by (reports_of size (length jobs) p) + done.strays
     pub answered_all : length p.answered.items ≡ length seats
-    pub good : All (All (Answers programs jobs)) (reports_of p)
+    pub whole : done.ending ≡ Through → All (IsWhole size (length jobs)) p.answered.items
+    pub good : All (All (Answers programs jobs)) (reports_of size (length jobs) p)
     pub drawers_all : length p.drawers.items ≡ length seats
     pub drawers : All (IsOf t) p.drawers.items
     pub through : done.ending ≡ Through → Any (λ s. s.passed ≡ true) p.drawers.items
-    pub drawn : done.ending ≡ Through → (x : ℕ) → x < length jobs → times_drawn (bundle_of size x) p.drawers.items ≡ sum_by (times_in x) (reports_of p)
+    pub drawn : done.ending ≡ Through → (x : ℕ) → x < length jobs → times_drawn (bundle_of size x) p.drawers.items ≡ sum_by (times_in x) (reports_of size (length jobs) p)

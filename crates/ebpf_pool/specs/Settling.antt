@@ -1,4 +1,5 @@
 -- What is left when the workers are done, which can be taken apart then.
+use Rattle.std.proofs.Common.{Vec, Global}
 use Rattle.std.specs.Prelude.{◌≡◌, ◌≤◌, ◌<◌, List, [], All, length, Result, IfOk, vec_capacity}
 use Rattle.std.specs.declared.alloc.AllocError.{AllocError}
 use Rattle.ebpf_verify.specs.Subject.{Subject}
@@ -14,13 +15,13 @@ use Rattle.ebpf_pool.specs.declared.supply.Supplies.{Supplies}
 use Rattle.ebpf_pool.specs.Bundles.{IsBundleSize, bundles_in}
 use Rattle.ebpf_pool.specs.Hands.{HaveHands}
 use Rattle.ebpf_pool.specs.Outcomes.{AreIdleAgain, IsOutcome}
-use Rattle.ebpf_pool.specs.Places.{ArePlaces}
+use Rattle.ebpf_pool.specs.Places.{AreBlank}
 use Rattle.ebpf_pool.specs.Serving.{AreServed}
 use Rattle.ebpf_pool.specs.Supplies.{HaveMade}
 
 -- the room, the supplies, the parts of workers that had these seats and did these jobs, and the places of their reports
 pub record AreLeft {L : Type 0} (programs : List Subject) (jobs : List Job) (o : OwnersView) (before : List SeatView)
-    (room : Room) (s : Supplies L) (p : Parts L) (places : List Report) (done : Done) : Type 0 where
+    (room : Room) (s : Supplies L) (p : Parts L) (places : Vec Report Global) (done : Done) : Type 0 where
   pub served : AreServed programs jobs o room.size room.tickets before p done
   pub made : HaveMade s p.hands
   pub hands : HaveHands p.hands
@@ -30,7 +31,7 @@ pub record AreLeft {L : Type 0} (programs : List Subject) (jobs : List Job) (o :
   pub size : IsBundleSize room.size
   pub limit : room.tickets.limit ≡ bundles_in room.size (length jobs)
   pub tickets : room.tickets.seats ≡ length before
-  pub places_are : ArePlaces (length jobs) places
+  pub places_are : AreBlank (length jobs) places
   pub jobs_done : (room.jobs_done.items ≡ []) × (length before ≤ vec_capacity room.jobs_done)
 
 -- the seats are idle again, and what comes of it is the outcome of the jobs, where there is one
@@ -40,7 +41,7 @@ pub record AreSettled (programs : List Subject) (jobs : List Job) (o : OwnersVie
   pub seats : AreIdleAgain o before after
 
 -- that of any seats that the workers may have had
-abbrev pub Settles : {L : Type 0} → List Subject → List Job → OwnersView → Room → Supplies L → Parts L → List Report → Done
+abbrev pub Settles : {L : Type 0} → List Subject → List Job → OwnersView → Room → Supplies L → Parts L → Vec Report Global → Done
     → List SeatView → Result Outcome AllocError → Type 0
 Settles programs jobs o room s p places done after result =
     (before : List SeatView) → AreLeft programs jobs o before room s p places done → AreSettled programs jobs o before after result

@@ -1,4 +1,5 @@
 -- What is said of workers by what they share, and of all that is left of them by what their jobs were done with.
+use Rattle.std.proofs.Common.{Vec, Global}
 use Rattle.std.specs.Prelude.{List}
 use Rattle.ebpf_machine.specs.declared.report.Report.{Report}
 use Rattle.owners_table.specs.Owning.{OwnersView, SeatView}
@@ -29,6 +30,6 @@ module _ {L : Type 0} where
   AreServedIn host jobs owners room seats parts done = AreServed host.programs.items jobs owners room.size room.tickets seats parts done
 
   -- the room, the supplies and the parts of workers that are done, whatever seats they had, and the places of their reports
-  abbrev pub AreLeftIn : Host → List Job → OwnersView → Room → Supplies L → Parts L → List Report → Done → Type 0
+  abbrev pub AreLeftIn : Host → List Job → OwnersView → Room → Supplies L → Parts L → Vec Report Global → Done → Type 0
   AreLeftIn host jobs owners room supplies parts places done =
       (before : List SeatView) × AreLeft host.programs.items jobs owners before room supplies parts places done

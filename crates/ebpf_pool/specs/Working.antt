@@ -1,5 +1,5 @@
 -- What workers are given, and what they have done.
-use Rattle.std.specs.Prelude.{◌≡◌, ◌<◌, ◌≤◌, ◌+◌, ◌^◌, ℕ, ⊤, true, false, List, [], length, All, sum_by, slice_get, slice_index_or, Some}
+use Rattle.std.specs.Prelude.{◌≡◌, ◌≢◌, ◌<◌, ◌≤◌, ◌+◌, ◌^◌, ℕ, ⊤, true, false, List, [], length, All, sum_by, slice_get, slice_index_or, Some}
 use Rattle.ebpf_verify.specs.Subject.{Subject}
 use Rattle.owners_table.specs.Owning.{OwnersView}
 use Rattle.owners_table.specs.Drawing.{TicketsView, TicketView, IsOf}
@@ -7,8 +7,9 @@ use Rattle.ebpf_pool.specs.declared.worker.Ending.{Ending}
 use Rattle.ebpf_pool.specs.declared.worker.Ending.TheVariants.{Through, Unstarted, OutOfMemory}
 use Rattle.ebpf_machine.specs.Kinds.{AreKnown}
 use Rattle.ebpf_pool.specs.declared.outcome.TheConstants.{MAX_JOBS}
+use Rattle.ebpf_pool.specs.declared.jobs.Answered.{Answered}
 use Rattle.ebpf_pool.specs.declared.jobs.Job.{Job}
-use Rattle.ebpf_pool.specs.declared.jobs.Numbered.{Numbered}
+use Rattle.ebpf_pool.specs.Numbering.{IsBlank, IsWhole, Numbered, told_by}
 use Rattle.ebpf_pool.specs.declared.worker.Worker.{Worker}
 use Rattle.ebpf_pool.specs.declared.hands.HandPair.{HandPair}
 use Rattle.ebpf_pool.specs.declared.hands.Hands.{Hands}
@@ -66,11 +67,12 @@ HasDrawn size jobs ticket answered Unstarted = (ticket.drawn ≡ []) × (answere
 HasDrawn size jobs ticket answered OutOfMemory = ⊤
 
 -- which jobs a worker did, by the reports that it made and by how it ended
-pub record IsServed (programs : List Subject) (jobs : List Job) (size : ℕ) (t : TicketsView) (ticket : TicketView) (answered : List Numbered)
+pub record IsServed (programs : List Subject) (jobs : List Job) (size : ℕ) (t : TicketsView) (ticket : TicketView) (answered : Answered)
     (ending : Ending) : Type 0 where
   pub tickets : IsOf t ticket
-  pub good : All (Answers programs jobs) answered
-  pub drawn : HasDrawn size jobs ticket answered ending
+  pub good : All (Answers programs jobs) (told_by size (length jobs) answered)
+  pub drawn : HasDrawn size jobs ticket (told_by size (length jobs) answered) ending
+  pub whole : ending ≢ OutOfMemory → IsWhole size (length jobs) answered
 
 module _ {L : Type 0} where
   -- nothing was taken, and the seat holds nothing
@@ -87,7 +89,7 @@ module _ {L : Type 0} where
     pub ticket : IsOf t w.ticket
     pub drawn : w.ticket.drawn ≡ []
     pub passed : w.ticket.passed ≡ false
-    pub answered : w.answered.items ≡ []
+    pub answered : IsBlank w.answered
 
   -- what a worker did with its hands and its seat, by the reports that it made
   pub record AreUsed (before after : Tools L) (answered : List Numbered) : Type 0 where
@@ -108,8 +110,8 @@ module _ {L : Type 0} where
     pub new : Tools L
     pub old_are : before.tools ≡ Some old
     pub new_are : after.tools ≡ Some new
-    pub used : AreUsed old new after.answered.items
-    pub served : IsServed programs jobs size t after.ticket after.answered.items after.ending
+    pub used : AreUsed old new (told_by size (length jobs) after.answered)
+    pub served : IsServed programs jobs size t after.ticket after.answered after.ending
 
   -- so is each of them
   abbrev pub AreDone : List Subject → List Job → (size : ℕ) → TicketsView → (before after : List (Worker L)) → Type 0

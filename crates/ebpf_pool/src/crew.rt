@@ -2,7 +2,7 @@
 
 ghost use Rattle.std.specs.Prelude.{◌≡◌, ◌≤◌, [], All, reverse, map, length, vec_capacity};
 ghost use Rattle.ebpf_pool.specs.Crews.{AreFresh, HaveNone, IsBack, AreDismissed, seat_in};
-ghost use Rattle.ebpf_pool.specs.Places.{AreReserved, ArePlaces};
+ghost use Rattle.ebpf_pool.specs.Places.{AreBlank};
 ghost use Rattle.ebpf_pool.specs.Sharing.{AreDoneWith, CanBeginWith};
 ghost use Rattle.ebpf_pool.specs.Working.{IsFresh};
 ghost use denote.Param.Send.{IsSync};
@@ -10,7 +10,7 @@ ghost use denote.Param.Send.{IsSync};
 use crate::gate::{Gate, Point};
 use crate::hands::{FreeHands, Tools};
 use crate::job_report::JobReport;
-use crate::jobs::Numbered;
+use crate::jobs::Answered;
 use crate::ledgers::Names;
 use crate::place::make_places;
 use crate::worker::{Ending, Shared, Worker, work};
@@ -20,12 +20,12 @@ use std::sync::Wait;
 use std::thread;
 use std::thread::{Threads, join_mut};
 
-/// For each worker its hands, its seats and its list of reports.
+/// For each worker its hands, its seats and what it did.
 pub(crate) struct Parts<L: Names> {
     pub(crate) hands: FreeHands<L>,
     pub(crate) seats: Vec<OwnerSeat>,
     pub(crate) drawers: Vec<TicketSeat>,
-    pub(crate) answered: Vec<Vec<Numbered>>,
+    pub(crate) answered: Vec<Answered>,
 }
 
 /// What all workers came to, beside their parts.
@@ -79,24 +79,27 @@ fn work_all<'a, L: Names + Send + Sync, G: Gate + Sync + 'a, R: Threads + Wait +
     thread::for_each_mut(shared.rt, workers, count, &|_, worker| work(shared, worker));
 }
 
-// What is done beside the workers: places for the reports of all jobs, and passes of the reaper.
+// What is done beside the workers: places for the reports of all jobs, where several workers make them, and passes of the reaper.
 fn reap<'a, L: Names, G: Gate + 'a, R: Wait + 'a>(
     shared: &Shared<'a, L, G, R>,
     reaps: u32,
+    has_several: bool,
     places: &mut Vec<JobReport>,
 )
-    requires { AreReserved (length shared.now.jobs.now) places.old }
-    ensures { ArePlaces (length shared.now.jobs.now) places.new.items }
+    requires { AreBlank (length shared.now.jobs.now) places.old }
+    ensures { AreBlank (length shared.now.jobs.now) places.new }
 {
-    make_places(shared.jobs.len(), places);
+    if has_several {
+        make_places(shared.jobs.len(), places);
+    }
     for pass in 0..reaps {
         shared.supplies.reap(shared.rt, shared.arena);
         shared.gate.at(u64::from(pass), Point::Reaped);
     }
 }
 
-/// All workers, and beside them the reaper, which makes places for the reports first: memory that is touched for the first time takes
-/// longer than a short job.
+/// All workers, and beside them the reaper, which makes places for the reports of several workers first: memory that is touched for
+/// the first time takes longer than a short job.
 pub(crate) fn work_and_reap<
     'a,
     L: Names + Send + Sync,
@@ -104,16 +107,17 @@ pub(crate) fn work_and_reap<
     R: Threads + Wait + Sync + 'a,
 >(shared: &Shared<'a, L, G, R>, reaps: u32, places: &mut Vec<JobReport>, workers: &mut [Worker<L>])
     requires workers { CanBeginWith shared.now workers.old }
-    requires places { AreReserved (length shared.now.jobs.now) places.old }
+    requires places { AreBlank (length shared.now.jobs.now) places.old }
     ensures workers { AreDoneWith shared.now workers.old workers.new }
-    ensures places { ArePlaces (length shared.now.jobs.now) places.new.items }
+    ensures places { AreBlank (length shared.now.jobs.now) places.new }
 {
+    let has_several = workers.len() > 1;
     join_mut(
         shared.rt,
         &mut ||
-            requires { AreReserved (length shared.now.jobs.now) places.now }
-            ensures { ArePlaces (length shared.entry.now.jobs.now) places.exit.now.items }
-        { reap(shared, reaps, places) },
+            requires { AreBlank (length shared.now.jobs.now) places.now }
+            ensures { AreBlank (length shared.entry.now.jobs.now) places.exit.now }
+        { reap(shared, reaps, has_several, places) },
         &mut ||
             requires { IsSync R.row × IsSync G.row × CanBeginWith shared.now workers.now }
             ensures { AreDoneWith shared.entry.now workers.entry.now workers.exit.now }

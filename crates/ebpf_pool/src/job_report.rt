@@ -7,10 +7,11 @@ ghost use Rattle.std.specs.Prelude.{◌≡◌, ◌<◌, true, None, is_some};
 ghost use Rattle.ebpf_pool.specs.JobReports.{lists_in};
 
 use crate::few_answers::{FEW, FewAnswers};
-use ebpf_machine::report::{Answers, Output, Reply, Report, Taken};
+use ebpf_machine::ended::Ended;
+use ebpf_machine::report::{Answers, Output, Reply, Taken};
+use ebpf_machine::workspace::Workspace;
 use std::alloc::{AllocError, Global};
 use std::marker::Model;
-use std::mem;
 
 /// The lists of a report.
 #[derive(Drop)]
@@ -79,35 +80,28 @@ impl JobReport {
         }
     }
 
-    /// A report, which takes the spare box where its lists need one, and the memory of answers that it doesn't keep.
-    pub(crate) fn of(report: Report, spare: &mut Option<Box<Lists>>) -> (JobReport, Answers)
+    /// The report of a run that has ended, and the memory of that run. It takes the spare box where its lists need one.
+    pub(crate) fn of<H>(
+        ended: Ended<H>,
+        spare: &mut Option<Box<Lists>>,
+    ) -> (JobReport, Workspace<H>)
         requires spare { is_some spare.old ≡ true }
-        requires executed { report.executed < 65536 }
-        requires peak { report.peak < 256 }
-        ensures { result.0 ≡ report }
+        requires executed { ended.executed < 65536 }
+        requires peak { ended.peak < 256 }
+        ensures { result.0 ≡ ended }
     {
-        let Report {
-            exit,
-            output,
-            executed,
-            answers,
-            taken,
-            peak,
-        } = report;
-        let lists = Lists {
-            output,
-            answers,
-            taken,
-        };
-        let (lists, left) = lists_kept(lists, spare);
+        let exit = ended.exit();
+        let peak = ended.peak() as u8;
+        let executed = ended.executed() as u16;
+        let (lists, workspace) = lists_kept(ended, spare);
         let report = JobReport {
             exit: exit.unwrap_or(0),
             exited: exit.is_some(),
-            peak: peak as u8,
-            executed: executed as u16,
+            peak,
+            executed,
             lists,
         };
-        (report, left)
+        (report, workspace)
     }
 
     /// The number that the run returned.
@@ -162,19 +156,24 @@ impl JobReport {
     }
 }
 
-// How these lists are kept, in the spare box where they need one, and the memory of answers that are not.
-fn lists_kept(lists: Lists, spare: &mut Option<Box<Lists>>) -> (Kept, Answers)
+// How the lists of a run that has ended are kept, in the spare box where they need one, and the memory of that run.
+fn lists_kept<H>(ended: Ended<H>, spare: &mut Option<Box<Lists>>) -> (Kept, Workspace<H>)
     requires { is_some spare.old ≡ true }
-    ensures { lists_in result.0 ≡ lists }
+    ensures { lists_in result.0 ≡ record { output = ended.output; answers = ended.answers; taken = ended.taken } }
 {
-    let replies = &lists.answers.replies;
-    if lists.output.numbers.is_empty() && lists.taken.bytes.is_empty() && replies.len() <= FEW {
-        let few = FewAnswers::of(replies);
-        return (Kept::Answered(few), lists.answers);
+    let answers = ended.answers();
+    if ended.output().is_empty() && ended.taken().is_empty() && answers.len() <= FEW {
+        let few = FewAnswers::of(answers);
+        return (Kept::Answered(few), ended.forget());
     }
     let Some(mut room) = spare.take() else {
         unreachable!()
     };
-    let emptied = mem::replace(&mut *room, lists);
-    (Kept::All(room), emptied.answers)
+    let (report, workspace) = ended.report();
+    *room = Lists {
+        output: report.output,
+        answers: report.answers,
+        taken: report.taken,
+    };
+    (Kept::All(room), workspace)
 }

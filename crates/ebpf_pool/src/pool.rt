@@ -14,7 +14,7 @@ ghost use Rattle.ebpf_pool.specs.Bundles.{IsBundleSize, bundles_in};
 ghost use Rattle.ebpf_pool.specs.Books.{AreAllFor};
 ghost use Rattle.ebpf_pool.specs.Crews.{AreFresh};
 ghost use Rattle.ebpf_pool.specs.Settling.{Settles};
-ghost use Rattle.ebpf_pool.specs.Places.{AreReserved, ArePlaces};
+ghost use Rattle.ebpf_pool.specs.Places.{AreBlank};
 ghost use Rattle.ebpf_pool.specs.Sharing.{AreLeftIn, AreServedIn};
 ghost use Rattle.ebpf_pool.specs.Outcomes.{IsIdle, IsOutcome, AreIdleAgain, IsFaultOf};
 ghost use Rattle.ebpf_pool.specs.Working.{AreReady};
@@ -26,7 +26,7 @@ use crate::job_report::JobReport;
 use crate::jobs::Job;
 use crate::ledgers::Names;
 use crate::outcome::{Host, Outcome, Reports};
-use crate::place::{count_all, place_all};
+use crate::place::{count_all, gather};
 use crate::setup::{Room, Setup};
 use crate::supply::{Blanks, Closing, Supplies};
 use crate::worker::{Ending, Shared, Worker};
@@ -163,10 +163,10 @@ fn serve_all<L: Names + Send + Sync, G: Gate + Sync, R: Threads + Wait + Sync>(
     requires fresh { AreFresh given.now.owners.now room.now.tickets (length parts.old.seats.items) parts.old }
     requires none { workers.old.items ≡ [] }
     requires room { length parts.old.seats.items ≤ vec_capacity workers.old }
-    requires places { AreReserved (length given.now.jobs.now) places.old }
+    requires places { AreBlank (length given.now.jobs.now) places.old }
     ensures none { workers.new.items ≡ [] }
     ensures served { AreServedIn given.now.host.now given.now.jobs.now given.now.owners.now room.now parts.old.seats.items parts.new result }
-    ensures places { ArePlaces (length given.now.jobs.now) places.new.items }
+    ensures places { AreBlank (length given.now.jobs.now) places.new }
 {
     let shared = Shared {
         rt: given.rt,
@@ -194,8 +194,8 @@ fn settle<L: Names, G: Gate, R: Wait>(
     places: Vec<JobReport>,
     done: Done,
 ) -> (Vec<OwnerSeat>, Result<Outcome, AllocError>)
-    requires left { AreLeftIn given.now.host.now given.now.jobs.now given.now.owners.now room supplies parts places.items done }
-    ensures { Settles given.now.host.now.programs.items given.now.jobs.now given.now.owners.now room supplies parts places.items done result.0.items result.1 }
+    requires left { AreLeftIn given.now.host.now given.now.jobs.now given.now.owners.now room supplies parts places done }
+    ensures { Settles given.now.host.now.programs.items given.now.jobs.now given.now.owners.now room supplies parts places done result.0.items result.1 }
 {
     let Parts {
         hands,
@@ -214,10 +214,9 @@ fn settle<L: Names, G: Gate, R: Wait>(
         return (seats, Err(AllocError));
     }
     count_all(&answered, &mut room.jobs_done);
-    let mut places = places;
-    place_all(&mut places, answered);
+    let reports = gather(room.size, given.jobs.len(), places, answered);
     let outcome = Outcome {
-        reports: Reports { reports: places },
+        reports: Reports { reports },
         totals,
         clashes: done.clashes,
         shelves,

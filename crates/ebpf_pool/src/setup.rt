@@ -5,10 +5,11 @@ ghost use Rattle.owners_table.specs.Drawing.{fresh};
 ghost use Rattle.ebpf_pool.specs.Bundles.{IsBundleSize, IsShared, bundles_in};
 ghost use Rattle.ebpf_pool.specs.Books.{AreAllFor};
 ghost use Rattle.ebpf_pool.specs.Crews.{IsPrepared};
+ghost use Rattle.ebpf_pool.specs.Numbering.{IsBlank};
 
 use crate::hands::FreeHands;
 use crate::job_report::JobReport;
-use crate::jobs::Numbered;
+use crate::jobs::Answered;
 use crate::ledgers::Names;
 use crate::supply::{Blanks, Supplies};
 use crate::worker::Worker;
@@ -72,12 +73,12 @@ fn bundle_size(workers: u64, jobs: u64) -> u64
 }
 
 // That many empty lists.
-fn blank_lists(alloc: Global, count: usize) -> Result<Vec<Vec<Numbered>>, AllocError>
-    ensures { IfOk result (λ v. (length v.items ≡ count) × All (λ l. l.items ≡ []) v.items) }
+fn blank_lists(alloc: Global, count: usize) -> Result<Vec<Answered>, AllocError>
+    ensures { IfOk result (λ v. (length v.items ≡ count) × All IsBlank v.items) }
 {
     let mut lists = Vec::with_capacity(alloc, count)?;
     for _list in 0..count {
-        lists.push_reserved(Vec::new(alloc));
+        lists.push_reserved(Answered::new(alloc));
     }
     Ok(lists)
 }
@@ -87,7 +88,7 @@ fn blank_lists(alloc: Global, count: usize) -> Result<Vec<Vec<Numbered>>, AllocE
 pub(crate) struct Setup<L: Names> {
     pub(crate) room: Room,
     pub(crate) drawers: Vec<TicketSeat>,
-    pub(crate) answered: Vec<Vec<Numbered>>,
+    pub(crate) answered: Vec<Answered>,
     pub(crate) places: Vec<JobReport>,
     pub(crate) workers: Vec<Worker<L>>,
     pub(crate) supplies: Supplies<L>,

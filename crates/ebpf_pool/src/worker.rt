@@ -11,11 +11,12 @@
 //! *The reason.* A run over any store leaves as many objects of each kind out as there were, and its report's answers are
 //! what the store counts. Each bundle is drawn once, over all workers, and each job is in one bundle; so each job has one report.
 
-ghost use Rattle.std.specs.Prelude.{◌≡◌, ◌≢◌, ◌⊎◌, ◌≤◌, ◌<◌, [], All, length, true, false, is_some, vec_len, vec_capacity, OnOk, OnErr};
+ghost use Rattle.std.specs.Prelude.{◌≡◌, ◌≢◌, ◌⊎◌, ◌≤◌, ◌<◌, ◌+◌, [], All, length, true, false, is_some, vec_len, vec_capacity, OnOk, OnErr};
 ghost use Rattle.owners_table.specs.Drawing.{IsOf};
 ghost use Rattle.ebpf_pool.specs.declared.worker.Ending.TheVariants.{Through, OutOfMemory};
-ghost use Rattle.ebpf_pool.specs.Bundles.{IsBundleAdded, IsBundleSize, bundles_in};
+ghost use Rattle.ebpf_pool.specs.Bundles.{IsBundleSize, bundles_in};
 ghost use Rattle.ebpf_pool.specs.Going.{AreAnswered, HasAnsweredAll, IsAnswered, IsUnanswered, tools_of};
+ghost use Rattle.ebpf_pool.specs.Numbering.{IsBlank, IsWhole, many_from, told_by};
 ghost use Rattle.ebpf_pool.specs.Stocks.{hands_of};
 ghost use Rattle.ebpf_pool.specs.Working.{IsFresh, IsUnused, IsEven, IsDone, IsServed, AreUsed, AreReady, Answers, HasDrawn};
 
@@ -23,13 +24,13 @@ use crate::client::Client;
 use crate::gate::{Gate, Point};
 use crate::hands::Tools;
 use crate::job_report::{JobReport, Lists};
-use crate::jobs::{Job, Numbered};
+use crate::jobs::{Answered, Job};
 use crate::ledgers::Names;
 use crate::owned::Owned;
 use crate::stocks::Stocks;
 use crate::store::Store;
 use crate::supply::Supplies;
-use ebpf_machine::whole::run_in;
+use ebpf_machine::whole::run_in_place;
 use ebpf_machine::workspace::Workspace;
 use ebpf_verify::verified::Verified;
 use object_cache::ArenaLock;
@@ -88,7 +89,7 @@ impl Ending {
 pub(crate) struct Worker<L: Names> {
     pub(crate) tools: Option<Tools<L>>,
     pub(crate) ticket: TicketSeat,
-    pub(crate) answered: Vec<Numbered>,
+    pub(crate) answered: Answered,
     /// How it ended; before it works, `Unstarted`.
     pub(crate) ending: Ending,
 }
@@ -106,7 +107,7 @@ pub(crate) fn work<'a, L: Names, G: Gate + 'a, R: Wait + 'a>(
         unreachable!()
     };
     // What a job writes to lies with the thread, not beside what another worker writes to.
-    let mut answered = mem::replace(&mut worker.answered, Vec::new(shared.alloc));
+    let mut answered = mem::replace(&mut worker.answered, Answered::new(shared.alloc));
     let (left, ending) = work_with(shared, tools, &mut worker.ticket, &mut answered);
     worker.answered = answered;
     worker.ending = ending;
@@ -121,14 +122,14 @@ fn work_with<'a, L: Names, G: Gate + 'a, R: Wait + 'a>(
     shared: &Shared<'a, L, G, R>,
     tools: Tools<L>,
     ticket: &mut TicketSeat,
-    answered: &mut Vec<Numbered>,
+    answered: &mut Answered,
 ) -> (Tools<L>, Ending)
     requires ready { AreReady shared.now.programs.now shared.now.jobs.now }
     requires unused { IsUnused shared.now.owners.now tools }
     requires table { IsOf shared.now.tickets.now ticket.old }
-    requires none { (ticket.old.drawn ≡ []) × (ticket.old.passed ≡ false) × (answered.old.items ≡ []) }
-    ensures used { AreUsed tools result.0 answered.new.items }
-    ensures served { IsServed shared.now.programs.now shared.now.jobs.now shared.now.size shared.now.tickets.now ticket.new answered.new.items result.1 }
+    requires none { (ticket.old.drawn ≡ []) × (ticket.old.passed ≡ false) × IsBlank answered.old }
+    ensures used { AreUsed tools result.0 (told_by shared.now.size (length shared.now.jobs.now) answered.new) }
+    ensures served { IsServed shared.now.programs.now shared.now.jobs.now shared.now.size shared.now.tickets.now ticket.new answered.new result.1 }
 {
     let Tools {
         hands,
@@ -148,17 +149,18 @@ fn serve<'a, L: Names, G: Gate + 'a, R: Wait + 'a>(
     shared: &Shared<'a, L, G, R>,
     store: &mut Store<'a, L, R>,
     ticket: &mut TicketSeat,
-    answered: &mut Vec<Numbered>,
+    answered: &mut Answered,
 ) -> Ending
     requires ready { AreReady shared.now.programs.now shared.now.jobs.now }
     requires even { IsEven (hands_of store.old.stocks) }
     requires table { IsOf shared.now.tickets.now ticket.old }
-    requires none { (ticket.old.drawn ≡ []) × (ticket.old.passed ≡ false) × (answered.old.items ≡ []) }
+    requires none { (ticket.old.drawn ≡ []) × (ticket.old.passed ≡ false) × IsBlank answered.old }
     ensures even { IsEven (hands_of store.new.stocks) }
     ensures table { IsOf shared.now.tickets.now ticket.new }
-    ensures good { All (Answers shared.now.programs.now shared.now.jobs.now) answered.new.items }
-    ensures drawn { HasDrawn shared.now.size shared.now.jobs.now ticket.new answered.new.items result }
-    ensures goes { HasAnsweredAll (tools_of store.old.stocks store.old.client) answered.new.items (tools_of store.new.stocks store.new.client) }
+    ensures good { All (Answers shared.now.programs.now shared.now.jobs.now) (told_by shared.now.size (length shared.now.jobs.now) answered.new) }
+    ensures drawn { HasDrawn shared.now.size shared.now.jobs.now ticket.new (told_by shared.now.size (length shared.now.jobs.now) answered.new) result }
+    ensures whole { result ≢ OutOfMemory → IsWhole shared.now.size (length shared.now.jobs.now) answered.new }
+    ensures goes { HasAnsweredAll (tools_of store.old.stocks store.old.client) (told_by shared.now.size (length shared.now.jobs.now) answered.new) (tools_of store.new.stocks store.new.client) }
 {
     let Ok(mut workspace) = Workspace::new(shared.alloc) else {
         return Ending::Unstarted;
@@ -169,7 +171,13 @@ fn serve<'a, L: Names, G: Gate + 'a, R: Wait + 'a>(
             workspace.free();
             return Ending::Through;
         };
-        let Ok(left) = answer_bundle(shared, bundle, store, answered, &mut spare, workspace) else {
+        let first = bundle * shared.size;
+        let Ok(()) = answered.firsts.push(first) else {
+            workspace.free();
+            return Ending::OutOfMemory;
+        };
+        let reports = &mut answered.reports;
+        let Ok(left) = answer_bundle(shared, first, store, reports, &mut spare, workspace) else {
             return Ending::OutOfMemory;
         };
         workspace = left;
@@ -177,28 +185,27 @@ fn serve<'a, L: Names, G: Gate + 'a, R: Wait + 'a>(
     unreachable!()
 }
 
-// Does the jobs of a bundle, one after another, as far as there is memory.
+// Does the jobs of the bundle that has this first one, one after another, as far as there is memory.
 fn answer_bundle<'a, L: Names, G: Gate + 'a, R: Wait + 'a>(
     shared: &Shared<'a, L, G, R>,
-    bundle: u64,
+    first: u64,
     store: &mut Store<'a, L, R>,
-    answered: &mut Vec<Numbered>,
+    reports: &mut Vec<JobReport>,
     spare: &mut Option<Box<Lists>>,
     workspace: Workspace<Owned>,
 ) -> Result<Workspace<Owned>, AllocError>
     requires ready { AreReady shared.now.programs.now shared.now.jobs.now }
-    requires bundle { bundle < bundles_in shared.now.size (length shared.now.jobs.now) }
+    requires first { first < length shared.now.jobs.now }
     requires even { IsEven (hands_of store.old.stocks) }
     ensures even { IsEven (hands_of store.new.stocks) }
-    ensures answered { AreAnswered shared.now.programs.now shared.now.jobs.now
-        (tools_of store.old.stocks store.old.client) (tools_of store.new.stocks store.new.client) answered.old.items answered.new.items }
-    ensures all { OnOk result (IsBundleAdded shared.now.size (length shared.now.jobs.now) bundle answered.old.items answered.new.items) }
+    ensures answered { AreAnswered shared.now.programs.now shared.now.jobs.now first (many_from shared.now.size (length shared.now.jobs.now) first)
+        (tools_of store.old.stocks store.old.client) (tools_of store.new.stocks store.new.client) reports.old.items reports.new.items }
+    ensures all { OnOk result (vec_len reports.new ≡ vec_len reports.old + many_from shared.now.size (length shared.now.jobs.now) first) }
 {
-    let first = bundle * shared.size;
     let end = (first + shared.size).min(shared.jobs.len() as u64);
     let mut workspace = workspace;
     for number in first..end {
-        workspace = answer(shared, number, store, answered, spare, workspace)?;
+        workspace = answer(shared, number, store, reports, spare, workspace)?;
     }
     Ok(workspace)
 }
@@ -208,7 +215,7 @@ fn answer<'a, L: Names, G: Gate + 'a, R: Wait + 'a>(
     shared: &Shared<'a, L, G, R>,
     number: u64,
     store: &mut Store<'a, L, R>,
-    answered: &mut Vec<Numbered>,
+    reports: &mut Vec<JobReport>,
     spare: &mut Option<Box<Lists>>,
     workspace: Workspace<Owned>,
 ) -> Result<Workspace<Owned>, AllocError>
@@ -217,12 +224,12 @@ fn answer<'a, L: Names, G: Gate + 'a, R: Wait + 'a>(
     requires even { IsEven (hands_of store.old.stocks) }
     ensures even { IsEven (hands_of store.new.stocks) }
     ensures answered { OnOk result (IsAnswered shared.now.programs.now shared.now.jobs.now number
-        (tools_of store.old.stocks store.old.client) (tools_of store.new.stocks store.new.client) answered.old.items answered.new.items) }
+        (tools_of store.old.stocks store.old.client) (tools_of store.new.stocks store.new.client) reports.old.items reports.new.items) }
     ensures failed { OnErr result (IsUnanswered (tools_of store.old.stocks store.old.client) (tools_of store.new.stocks store.new.client)
-        answered.old.items answered.new.items) }
+        reports.old.items reports.new.items) }
 {
     let job = &shared.jobs[number as usize];
-    let Ok(()) = room_for(shared.alloc, answered, spare) else {
+    let Ok(()) = room_for(shared.alloc, reports, spare) else {
         workspace.free();
         return Err(AllocError);
     };
@@ -230,17 +237,13 @@ fn answer<'a, L: Names, G: Gate + 'a, R: Wait + 'a>(
     store.client.job = number as u32;
     let verified = &shared.programs[job.program];
     let context = &job.context.bytes;
-    let Ok((report, mut workspace)) = run_in(workspace, verified, context, store) else {
+    let Ok(ended) = run_in_place(workspace, verified, context, store) else {
         return Err(AllocError);
     };
     // Read for what they promise: a report's numbers are small.
     let _ = (verified.program().len(), verified.decl());
-    let (report, left) = JobReport::of(report, spare);
-    workspace.reuse(left);
-    answered.push_reserved(Numbered {
-        job: number,
-        report,
-    });
+    let (report, workspace) = JobReport::of(ended, spare);
+    reports.push_reserved(report);
     shared.gate.at(number, Point::Answered);
     Ok(workspace)
 }
@@ -248,14 +251,14 @@ fn answer<'a, L: Names, G: Gate + 'a, R: Wait + 'a>(
 // Room for a report, and a box for its lists.
 fn room_for(
     alloc: Global,
-    answered: &mut Vec<Numbered>,
+    reports: &mut Vec<JobReport>,
     spare: &mut Option<Box<Lists>>,
 ) -> Result<(), AllocError>
-    ensures same { answered.new.items ≡ answered.old.items }
-    ensures room { OnOk result (vec_len answered.new < vec_capacity answered.new) }
+    ensures same { reports.new.items ≡ reports.old.items }
+    ensures room { OnOk result (vec_len reports.new < vec_capacity reports.new) }
     ensures spare { OnOk result (is_some spare.new ≡ true) }
 {
-    answered.reserve(1)?;
+    reports.reserve(1)?;
     if spare.is_none() {
         *spare = Some(Lists::boxed(alloc)?);
     }

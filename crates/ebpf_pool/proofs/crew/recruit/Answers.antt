@@ -1,8 +1,8 @@
-use Rattle.std.proofs.Common.{rules, ◌≡◌, ◌<◌, ◌+◌, ◌++◌, ◌∙◌, ℕ, All, [], length, map, reverse, refl, sym, ap, subst, Vec, Global}
+use Rattle.std.proofs.Common.{rules, ◌≡◌, ◌<◌, ◌+◌, ◌++◌, ◌∙◌, ℕ, All, length, map, reverse, refl, sym, ap, subst}
 use Rattle.std.proofs.lemmas.List.Elements.{All-push}
 use Rattle.owners_table.specs.Drawing.{TicketView}
 use Rattle.owners_table.specs.Drawing as drawing
-use Rattle.ebpf_pool.specs.declared.jobs.Numbered.{Numbered}
+use Rattle.ebpf_pool.specs.Numbering.{IsBlank}
 use Rattle.ebpf_pool.specs.Outcomes.{IsIdle}
 use Rattle.ebpf_pool.specs.Crews.{seat_in}
 use Rattle.ebpf_pool.specs.Working.{IsFresh}
@@ -21,7 +21,7 @@ loop-worker-preserved g c =
     let some : k < n = search rules in
     let new = c.push_reserved.ensures in
     let blank = λ (s : TicketView). s ≡ drawing.fresh t.table t.limit in
-    let empty = λ (l : Vec Numbered Global). l.items ≡ [] in
+    let empty = IsBlank in
     let hands = c.take_last.ensures in
     let seats = c.take_last-in-loop-worker.ensures in
     let drawers = c.take_last-in-loop-worker-2.ensures in

@@ -43,7 +43,7 @@ serve_all-done-requires-after_bounds g c κs within =
 -- what is left when the workers are done
 left : (g : Over) (c : After-destroy_empty g)
     → AreLeft c.args.given.now.host.now.programs.items c.args.given.now.jobs.now c.args.given.now.owners.now c.args.seats.items
-    c.in-Ok.setup.room c.in-Ok.setup.supplies c.serve_all-done.new.parts c.serve_all-done.new.places.items c.serve_all-done.result
+    c.in-Ok.setup.room c.in-Ok.setup.supplies c.serve_all-done.new.parts c.serve_all-done.new.places c.serve_all-done.result
 left g c =
     let a = admitted _ _ _ c.requires.fine in
     let some = a.some in

@@ -1,7 +1,6 @@
 use Rattle.std.proofs.Common.{rules, ◌≡◌, ◌<◌, ℕ, List, All, length, map, vec_len, refl, ap, ◌∙◌, subst, arith}
 use Rattle.owners_table.specs.Drawing.{NeverWraps}
 use Rattle.ebpf_pool.specs.declared.worker.Ending.TheVariants.{Through}
-use Rattle.ebpf_pool.specs.declared.jobs.Numbered.{Numbered}
 use Rattle.ebpf_pool.specs.declared.outcome.Outcome.{Outcome}
 use Rattle.ebpf_verify.specs.Subject.{Subject}
 use Rattle.object_cache.specs.declared.totals.Totals.{Totals}
@@ -32,19 +31,22 @@ close-requires g c =
     let some = can.some in
     let all = can.served.seats_all in (omega arith, (can.made, (can.hands, (search rules, can.served.idle))))
 
-pub place_all-requires-clause-inside : goal.place_all-requires-clause-inside
-place_all-requires-clause-inside g c =
-    let can = c.requires.left.1 in
-    let inside = answered_inside _ _ (reports_of c.args.parts) can.served.good in
-    let all = can.places_are.0 in
-    let len : length c.args.given.now.jobs.now ≡ vec_len c.args.places = search rules in
-    subst (λ k. All (All (λ (n : Numbered). n.job < k)) (reports_of c.args.parts)) len inside
+pub gather-reports-requires-clause-blank : goal.gather-reports-requires-clause-blank
+gather-reports-requires-clause-blank g c = c.requires.left.1.places_are
 
-pub place_all-requires-clause-exited : goal.place_all-requires-clause-exited
-place_all-requires-clause-exited g c = answered_exits _ _ (reports_of c.args.parts) c.requires.left.1.served.good
+pub gather-reports-requires-clause-whole : goal.gather-reports-requires-clause-whole
+gather-reports-requires-clause-whole g c = let through : c.args.done.ending ≡ Through = search rules in c.requires.left.1.served.whole through
 
-pub place_all-requires-clause-once : goal.place_all-requires-clause-once
-place_all-requires-clause-once g c =
+pub gather-reports-requires-clause-inside : goal.gather-reports-requires-clause-inside
+gather-reports-requires-clause-inside g c =
+    answered_inside _ _ (reports_of c.args.room.size (length c.args.given.now.jobs.now) c.args.parts) c.requires.left.1.served.good
+
+pub gather-reports-requires-clause-exited : goal.gather-reports-requires-clause-exited
+gather-reports-requires-clause-exited g c =
+    answered_exits _ _ (reports_of c.args.room.size (length c.args.given.now.jobs.now) c.args.parts) c.requires.left.1.served.good
+
+pub gather-reports-requires-clause-once : goal.gather-reports-requires-clause-once
+gather-reports-requires-clause-once g c =
     let can = c.requires.left.1 in
     let few = can.few in
     let few_jobs = can.few_jobs in
@@ -53,7 +55,7 @@ place_all-requires-clause-once g c =
     let bundles = bundles_few c.args.room.size (length c.args.given.now.jobs.now) can.size.0 in
     let through : c.args.done.ending ≡ Through = search rules in
     let fits : NeverWraps c.args.room.tickets.limit c.args.room.tickets.seats = search rules in
-    placed_once _ _ _ _ _ _ _ _ through can.served (c.close-2.ensures.once fits) c.args.places.items can.places_are.1
+    placed_once _ _ _ _ _ _ _ _ through can.served (c.close-2.ensures.once fits)
 
 pub returns : goal.returns
 returns g c = λ before can.
@@ -71,18 +73,17 @@ returns g c = λ before can.
     λ x below. omega (arith, bundle_below c.args.room.size (length c.args.given.now.jobs.now) can.size.0 x below, limit)
     in
     let made : Outcome = record {
-      reports = c.place_all.new.places.items;
+      reports = c.gather-reports.result.items;
       totals = c.close.result.1;
       clashes = c.args.done.clashes;
       shelves = c.close.result.0;
       strays = c.args.done.strays;
       jobs_done = c.count_all.new.counts;
     } in
-    let reports = can.places_are.0 in
-    let len : length c.place_all.new.places.items ≡ length c.args.given.now.jobs.now = search rules in
-    let e = c.place_all.ensures in
-    let done = outcome _ _ _ _ _ _ _ _ through s (c.close-2.ensures.once fits) c.args.places.items can.places_are.1
+    let len : length c.gather-reports.result.items ≡ length c.args.given.now.jobs.now = search rules in
+    let e = c.gather-reports.ensures in
+    let done = outcome _ _ _ _ _ _ _ _ through s (c.close-2.ensures.once fits)
     (λ x below. c.close-2.ensures.each fits all (s.through through) (bundle_of c.args.room.size x) (inside x below))
-    c.place_all.new.places.items len e.filled e.weight e.from c.close.new.seats.items c.close.result.0 c.close.result.1 c.close.ensures made refl refl refl refl refl
-    (c.count_all.ensures ∙ ap (map (λ l. vec_len l)) c.deref.ensures.value) in
+    c.gather-reports.result.items len e.filled e.weight e.from c.close.new.seats.items c.close.result.0 c.close.result.1 c.close.ensures made refl refl refl refl refl
+    (c.count_all.ensures ∙ ap (map (λ a. vec_len a.reports)) c.deref.ensures.value) in
     record { done = done; seats = again before can.served c.close.ensures }

@@ -1,7 +1,7 @@
-use Rattle.std.proofs.Common.{◌≡◌, ◌+◌, [], All, Vec, Global, length, sym, ap, subst, ◌∙◌, arith}
+use Rattle.std.proofs.Common.{◌≡◌, ◌+◌, All, length, sym, ap, subst, ◌∙◌, arith}
 use Rattle.std.proofs.lemmas.List.{length_push}
 use Rattle.std.proofs.lemmas.List.Elements.{All-push}
-use Rattle.ebpf_pool.specs.declared.jobs.Numbered.{Numbered}
+use Rattle.ebpf_pool.specs.Numbering.{IsBlank}
 use Rattle.ebpf_pool.proofs.setup.blank_lists.Goals as goal
 
 pub loop-list-preserved : goal.loop-list-preserved
@@ -10,5 +10,5 @@ loop-list-preserved c =
     let pushed = c.push_reserved.ensures in record {
       len = ap length pushed.items ∙ (length_push c.loop-list.lists.items _ ∙ ap (λ n. n + 1) i.len);
       room = omega (arith, i.room, pushed.capacity);
-      empty = subst (All (λ (l : Vec Numbered Global). l.items ≡ [])) (sym pushed.items) (All-push (λ (l : Vec Numbered Global). l.items ≡ []) _ _ i.empty c.new.ensures.items);
+      empty = subst (All IsBlank) (sym pushed.items) (All-push IsBlank _ _ i.empty c.new.ensures);
     }

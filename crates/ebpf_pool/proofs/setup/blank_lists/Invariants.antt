@@ -1,10 +1,11 @@
-use Rattle.std.proofs.Common.{◌≡◌, ◌≤◌, [], All, length}
+use Rattle.std.proofs.Common.{◌≡◌, ◌≤◌, All, length}
 use Rattle.std.specs.Vec.{vec_capacity}
+use Rattle.ebpf_pool.specs.Numbering.{IsBlank}
 use Rattle.ebpf_pool.proofs.setup.blank_lists.Given as goal
 
 abbrev pub invariant-loop-list : goal.invariant-loop-list
 invariant-loop-list l = record {
   len : length l.lists.items ≡ l._list;
   room : l.count ≤ vec_capacity l.lists;
-  empty : All (λ m. m.items ≡ []) l.lists.items;
+  empty : All IsBlank l.lists.items;
 }

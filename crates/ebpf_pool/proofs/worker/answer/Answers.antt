@@ -3,7 +3,7 @@ use Rattle.std.proofs.Math.ListN.{get_or}
 use Rattle.std.proofs.lemmas.Option.{slice_get_read}
 use Rattle.ebpf_verify.specs.Subject.{Subject}
 use Rattle.ebpf_pool.specs.declared.jobs.Job.{Job}
-use Rattle.ebpf_pool.specs.declared.jobs.Numbered.{Numbered}
+use Rattle.ebpf_pool.specs.Numbering.{Numbered}
 use Rattle.ebpf_machine.specs.declared.report.Report.{Report}
 use Rattle.ebpf_machine.specs.Whole.{IsReportOf}
 use Rattle.ebpf_pool.specs.Working.{Answers}
@@ -11,17 +11,19 @@ use Rattle.ebpf_pool.proofs.Evens.{evens}
 use Rattle.ebpf_pool.proofs.worker.answer.Goals as goal
 
 pub returns-clause-even : goal.returns-clause-even
-returns-clause-even g c = evens c.args.store.now.stocks c.run_in.new.objects.stocks c.run_in.ensures.outs c.requires.even
+returns-clause-even g c = evens c.args.store.now.stocks c.run_in_place.new.objects.stocks c.run_in_place.ensures.outs c.requires.even
 
 pub returns-clause-answered : goal.returns-clause-answered
-returns-clause-answered g c = record { made = n; job = refl; good = answered; kept = items; goes = c.in-Ok-run_in.ensures.goes } where
-  n : Numbered
-  n = record { job = c.args.number; report = c.in-Ok-run_in.report }
+returns-clause-answered g c = record { made = made; good = answered; kept = items; goes = c.in-Ok-run_in_place.ensures.goes } where
+  made : Report
+  made = c.in-Ok-run_in_place.ended
 
-  items : c.push_reserved.new.self.items ≡ c.args.answered.now.items ++ n ∷ []
+  n : Numbered
+  n = record { job = c.args.number; report = made }
+
+  items : c.push_reserved.new.self.items ≡ c.args.reports.now.items ++ made ∷ []
   items =
-      let numbered = λ (r : Report). c.room_for.new.answered.items ++ record { job = c.args.number; report = r } ∷ [] in
-      c.push_reserved.ensures.items ∙ ap numbered c.of-report.ensures ∙ ap (λ (l : List Numbered). l ++ n ∷ []) c.in-Ok.ensures.same
+      c.push_reserved.ensures.items ∙ ap (λ (r : Report). c.room_for.new.reports.items ++ r ∷ []) c.of-report.ensures ∙ ap (λ (l : List Report). l ++ made ∷ []) c.in-Ok.ensures.same
 
   -- the job that is read is the one of the number
   program : c.job.inside.0.0 ≡ c.index-shared-number.result.program
@@ -33,8 +35,8 @@ returns-clause-answered g c = record { made = n; job = refl; good = answered; ke
   inside : c.index-shared-number.result.program < length c.args.shared.now.programs.now
   inside = subst (λ (j : Job). j.program < length c.args.shared.now.programs.now) (sym c.index-shared-number.is) (c.requires.ready.can c.args.number c.index-shared-number.result c.requires.number).inside
 
-  report : IsReportOf c.index-shared-job.result c.deref.result.now c.in-Ok-run_in.report
-  report = subst (λ (v : Subject). IsReportOf v c.deref.result.now c.in-Ok-run_in.report) (sym c.index-shared-job.is) c.in-Ok-run_in.ensures.report
+  report : IsReportOf c.index-shared-job.result c.deref.result.now c.in-Ok-run_in_place.ended
+  report = subst (λ (v : Subject). IsReportOf v c.deref.result.now c.in-Ok-run_in_place.ended) (sym c.index-shared-job.is) c.in-Ok-run_in_place.ensures.report
 
   there : c.index-shared-job.result ≡ get_or c.args.shared.now.programs.now c.index-shared-number.result.program c.index-shared-job.result
   there = subst (λ (p : ℕ). c.index-shared-job.result ≡ get_or c.args.shared.now.programs.now p c.index-shared-job.result) program c.index-shared-job.is
@@ -45,5 +47,5 @@ returns-clause-answered g c = record { made = n; job = refl; good = answered; ke
     job_is = slice_get_read _ _ _ _ refl c.requires.number c.index-shared-number.is;
     subject = c.index-shared-job.result;
     subject_is = slice_get_read c.args.shared.now.programs.now _ c.index-shared-number.result.program c.index-shared-job.result refl inside there;
-    report = subst (λ (l : List ℕ). IsReportOf c.index-shared-job.result l c.in-Ok-run_in.report) same report;
+    report = subst (λ (l : List ℕ). IsReportOf c.index-shared-job.result l c.in-Ok-run_in_place.ended) same report;
   }

@@ -34,4 +34,4 @@ returns-clause-used g c =
     })
 
 pub returns-clause-served : goal.returns-clause-served
-returns-clause-served g c = let e = c.serve-ending.ensures in record { tickets = e.table; good = e.good; drawn = e.drawn }
+returns-clause-served g c = let e = c.serve-ending.ensures in record { tickets = e.table; good = e.good; drawn = e.drawn; whole = e.whole }
