@@ -11,7 +11,7 @@ INDENT = '    '
 PROMPT = INDENT + '$ '
 PROGRAM = './ebpf_run'  # what the documents call
 SECONDS = 60  # an example that takes longer has failed
-REFUSED = re.compile(r'(?:\S+ )?refused [IFV]\d+ \d+|fault [SAO]\d line \d+|stopped E\d+ \d+')
+REFUSED = re.compile(r'(?:\S+ )?refused [IFV]\d+ \d+|fault [SAO]\d line \d+|stopped E\d+ \d+|\{(?:"program":"[\w-]+",)?"(?:refused|fault|stopped)":.*')
 
 
 class Example(NamedTuple):

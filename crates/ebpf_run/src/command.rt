@@ -64,7 +64,7 @@ pub enum Task<'a> {
     LayOut(LayOutOptions<'a>),
     Assemble,
     Check(CheckOptions),
-    Replay,
+    Replay(Format),
     Run(RunOptions),
 }
 
@@ -114,9 +114,11 @@ pub struct LayOutOptions<'a> {
     pub format: Format,
 }
 
-/// The option of `check`.
+/// The options of `check`.
 #[derive(Clone, Copy)]
 pub struct CheckOptions {
+    /// How the answer is written.
+    pub format: Format,
     /// Whether it says why each refused program is.
     pub explain: bool,
 }
@@ -124,6 +126,8 @@ pub struct CheckOptions {
 /// The options of `run`.
 #[derive(Clone, Copy)]
 pub struct RunOptions {
+    /// How the answer is written, and the table.
+    pub format: Format,
     /// How many workers run the jobs, 1 to 64.
     pub workers: u32,
     /// How many passes the reaper makes in addition to the script's, 0 to 1000.
@@ -277,6 +281,7 @@ fn check_command<'a>(alloc: Global) -> Result<Command<'a>, AllocError> {
         .about("Checks the script in FILE or on standard input: programs, and jobs that run them")
         .after_help(CHECK_EXAMPLE)
         .arg(explain_option(alloc))?
+        .arg(json_option(alloc))?
         .arg(file_argument(alloc))
 }
 
@@ -293,6 +298,7 @@ fn replay_command<'a>(alloc: Global) -> Result<Command<'a>, AllocError> {
             "Replays the script in FILE or on standard input: programs, and events in their runs",
         )
         .after_help(REPLAY_EXAMPLE)
+        .arg(json_option(alloc))?
         .arg(file_argument(alloc))
 }
 
@@ -305,6 +311,7 @@ fn run_command<'a>(alloc: Global) -> Result<Command<'a>, AllocError> {
     run.arg(workers_option(alloc))?
         .arg(reaps_option(alloc))?
         .arg(stats_option(alloc))?
+        .arg(json_option(alloc))?
         .arg(file_argument(alloc))
 }
 
@@ -347,12 +354,16 @@ fn task_of<'a>(name: &str, given: &ArgMatches<'a>) -> Option<Task<'a>> {
     match name {
         "one" => Some(Task::One(one_options(given, false, format_of(given)))),
         "list" => Some(Task::List(list_options(given))),
-        "explain" => Some(Task::Explain(one_options(given, given.get_flag("source"), format_of(given)))),
+        "explain" => Some(Task::Explain(one_options(
+            given,
+            given.get_flag("source"),
+            format_of(given),
+        ))),
         "graph" => Some(Task::Graph(graph_options(given))),
         "lay-out" => Some(Task::LayOut(lay_out_options(given))),
         "assemble" => Some(Task::Assemble),
         "check" => Some(Task::Check(check_options(given))),
-        "replay" => Some(Task::Replay),
+        "replay" => Some(Task::Replay(format_of(given))),
         "run" => Some(Task::Run(run_options(given)?)),
         _ => None,
     }
@@ -403,9 +414,10 @@ fn lay_out_options<'a>(given: &ArgMatches<'a>) -> LayOutOptions<'a> {
     }
 }
 
-// The option of `check`.
+// The options of `check`.
 fn check_options(given: &ArgMatches<'_>) -> CheckOptions {
     CheckOptions {
+        format: format_of(given),
         explain: given.get_flag("explain"),
     }
 }
@@ -419,6 +431,7 @@ fn run_options(given: &ArgMatches<'_>) -> Option<RunOptions> {
         return None;
     }
     Some(RunOptions {
+        format: format_of(given),
         workers,
         reaps,
         stats: given.get_flag("stats"),

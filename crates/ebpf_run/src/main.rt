@@ -14,7 +14,7 @@ mod format;
 mod programs;
 mod source;
 
-use crate::command::{Request, RunOptions, Task, command, request_of};
+use crate::command::{CheckOptions, Request, RunOptions, Task, command, request_of};
 use crate::programs::{perform_explain, perform_graph, perform_lay_out, perform_list, perform_one};
 use clap::Error;
 use clap::error::ErrorKind;
@@ -25,6 +25,7 @@ use ebpf_script::explained_check::explained_check;
 use ebpf_script::replay::replay;
 use ebpf_script::run::run as run_script;
 use ebpf_script::watch::{TABLE_BYTES, Watch};
+use std::alloc::Global;
 use std::fs::File;
 use std::io::{Read, Write};
 use std::process::ExitCode;
@@ -104,15 +105,29 @@ fn perform<R: AllocGlobal + Clock + Eprint + Print + Threads + Wait + Sync, I: R
         Task::Graph(options) => perform_graph(alloc, reader, &mut writer, options),
         Task::LayOut(options) => perform_lay_out(alloc, reader, &mut writer, options),
         Task::Assemble => assemble(alloc, reader, &mut writer),
-        Task::Check(options) if options.explain => { explained_check(alloc, reader, &mut writer) }
-        Task::Check(_) => check(alloc, reader, &mut writer),
-        Task::Replay => replay(alloc, reader, &mut writer),
+        Task::Check(options) => perform_check(alloc, reader, &mut writer, options),
+        Task::Replay(format) => replay(alloc, reader, &mut writer, format),
         Task::Run(options) => run_jobs(rt, reader, &mut writer, options),
     }?;
     Ok(match done {
         Done::Clean => 0,
         Done::Refused => 2,
     })
+}
+
+// Does `check`.
+fn perform_check<I: Read, W: Write>(
+    alloc: Global,
+    reader: &mut I,
+    writer: &mut W,
+    options: CheckOptions,
+) -> Result<Done, EngineFault> {
+    let CheckOptions { format, explain } = options;
+    if explain {
+        explained_check(alloc, reader, writer, format)
+    } else {
+        check(alloc, reader, writer, format)
+    }
 }
 
 // Does the jobs of a script, and prints what the caches and the workers did where that is asked for.
@@ -134,12 +149,13 @@ fn run_jobs<R: AllocGlobal + Clock + Eprint + Threads + Wait + Sync, I: Read, W:
         alloc,
         reader,
         writer,
+        options.format,
         options.workers,
         options.reaps,
         &mut watch,
     )?;
     if options.stats {
-        watch.write_table(&mut table)?;
+        watch.write_table(options.format, &mut table)?;
         if eprint!(rt; "{table}").is_err() {
             return Err(EngineFault::Output);
         }

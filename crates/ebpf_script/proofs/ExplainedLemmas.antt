@@ -6,21 +6,21 @@ use Rattle.std.proofs.lemmas.List.Folds.{list_any-append}
 use Rattle.ebpf_state.specs.declared.kinds.KindRow.{KindRow}
 use Rattle.ebpf_verify.specs.declared.decl.Decl.{Decl}
 use Rattle.ebpf_verify.specs.Subject.{Subject}
+use Rattle.ebpf_command.specs.declared.format.Format.{Format}
 use Rattle.ebpf_command.specs.declared.judge.Judged.{Judged}
 use Rattle.ebpf_command.specs.declared.judge.Judged.TheVariants.{Accepted, Refused}
-use Rattle.ebpf_command.specs.Judging.{IsJudged}
 use Rattle.ebpf_script.specs.declared.verdicts.Verdicts.{Verdicts}
 use Rattle.ebpf_script.specs.Explained.{Explained, IsTold, explained_lines, verdicts_of}
-use Rattle.ebpf_script.specs.ExplainedKept.{AreExplained, IsOneMore}
+use Rattle.ebpf_script.specs.ExplainedKept.{AreExplained}
 use Rattle.ebpf_script.specs.ParsedScript.{Named}
-use Rattle.ebpf_script.specs.Verdicts.{Verdict, verdict_lines, accepted_of, accepted_in, is_any_refused, judged_line, is_refused}
+use Rattle.ebpf_script.specs.Verdicts.{Verdict, verdict_lines, accepted_of, accepted_in, is_any_refused, verdict_in, is_refused}
 use Rattle.ebpf_script.specs.VerdictsKept.{AreKept}
 
 -- the verdicts on all programs but those that are left
-pub record AreExplainedBefore (asked : Bool) (programs left : List Named) (kept : Verdicts) : Type 0 where
+pub record AreExplainedBefore (format : Format) (asked : Bool) (programs left : List Named) (kept : Verdicts) : Type 0 where
   pub explained : List (Explained asked)
   pub on : map (λ v. v.program) (verdicts_of explained) ++ left ≡ programs
-  pub text : string_bytes kept.text ≡ explained_lines explained
+  pub text : string_bytes kept.text ≡ explained_lines format explained
   pub accepted : kept.accepted.items ≡ accepted_of (verdicts_of explained)
   pub refused : kept.refused ≡ is_any_refused (verdicts_of explained)
 
@@ -35,29 +35,14 @@ nothing_told true (Accepted s) bytes decl rows none = refl
 nothing_told true (Refused code slot) bytes decl rows none = absurd cc
 nothing_told false judged bytes decl rows none = refl
 
--- the verdict on one of which nothing more is said
-pub one_more : (asked : Bool) (name bytes : List ℕ) (decl : Decl) (rows : List KindRow) (old new : Verdicts) (judged : Judged)
-    → (asked && is_refused judged) ≡ false → IsJudged bytes decl rows judged
-    → string_bytes new.text ≡ string_bytes old.text ++ judged_line name judged → new.accepted.items ≡ old.accepted.items ++ accepted_in judged
-    → new.refused ≡ (old.refused || is_refused judged) → IsOneMore asked name bytes decl rows old new
-one_more asked name bytes decl rows old new judged none is text accepted refused = record {
-  judged = judged;
-  why = [];
-  is_judged = is;
-  is_told = nothing_told asked judged bytes decl rows none;
-  text = text ∙ ap (λ (xs : List ℕ). string_bytes old.text ++ xs) (sym (append_nil_of (judged_line name judged)));
-  accepted = accepted;
-  refused = refused;
-}
-
 -- ---- a verdict more
 
-pub explained_next : {asked : Bool} (programs left : List Named) (old new : Verdicts) (e : Explained asked)
-    → AreExplainedBefore asked programs (e.verdict.program ∷ left) old
-    → string_bytes new.text ≡ string_bytes old.text ++ (judged_line e.verdict.program.name e.verdict.judged ++ e.why)
+pub explained_next : {asked : Bool} (format : Format) (programs left : List Named) (old new : Verdicts) (e : Explained asked)
+    → AreExplainedBefore format asked programs (e.verdict.program ∷ left) old
+    → string_bytes new.text ≡ string_bytes old.text ++ verdict_in format e.verdict.program.name e.verdict.judged e.why
     → new.accepted.items ≡ old.accepted.items ++ accepted_in e.verdict.judged → new.refused ≡ (old.refused || is_refused e.verdict.judged)
-    → AreExplainedBefore asked programs left new
-explained_next {asked} programs left old new e h text accepted refused =
+    → AreExplainedBefore format asked programs left new
+explained_next {asked} format programs left old new e h text accepted refused =
     let more : verdicts_of (h.explained ++ e ∷ []) ≡ verdicts_of h.explained ++ e.verdict ∷ [] =
     map-append (λ (x : Explained asked). x.verdict) h.explained (e ∷ []) in
     record {
@@ -65,9 +50,9 @@ explained_next {asked} programs left old new e h text accepted refused =
       on = ap (λ (vs : List Verdict). map (λ (v : Verdict). v.program) vs ++ left) more
           ∙ (ap (λ (ps : List Named). ps ++ left) (map-append (λ (v : Verdict). v.program) (verdicts_of h.explained) (e.verdict ∷ []))
           ∙ (append_assoc (map (λ (v : Verdict). v.program) (verdicts_of h.explained)) (e.verdict.program ∷ []) left ∙ h.on));
-      text = text ∙ (ap (λ xs. xs ++ (judged_line e.verdict.program.name e.verdict.judged ++ e.why)) h.text
-          ∙ (ap (λ xs. explained_lines h.explained ++ xs) (sym (append_nil_of _))
-          ∙ sym (flat_map-append (λ (x : Explained asked). judged_line x.verdict.program.name x.verdict.judged ++ x.why) h.explained (e ∷ []))));
+      text = text ∙ (ap (λ xs. xs ++ verdict_in format e.verdict.program.name e.verdict.judged e.why) h.text
+          ∙ (ap (λ xs. explained_lines format h.explained ++ xs) (sym (append_nil_of _))
+          ∙ sym (flat_map-append (λ (x : Explained asked). verdict_in format x.verdict.program.name x.verdict.judged x.why) h.explained (e ∷ []))));
       accepted = accepted ∙ (ap (λ (xs : List Subject). xs ++ accepted_in e.verdict.judged) h.accepted
           ∙ (ap (λ (xs : List Subject). accepted_of (verdicts_of h.explained) ++ xs) (sym (append_nil_of _))
           ∙ (sym (flat_map-append (λ (x : Verdict). accepted_in x.judged) (verdicts_of h.explained) (e.verdict ∷ [])) ∙ sym (ap accepted_of more))));
@@ -82,19 +67,17 @@ explained_next {asked} programs left old new e h text accepted refused =
 
 -- ---- where it is not asked why, the lines are those of the verdicts
 
-bare_lines : (explained : List (Explained false)) → explained_lines explained ≡ verdict_lines (verdicts_of explained)
-bare_lines [] = refl
-bare_lines (e ∷ explained) =
-    let here : judged_line e.verdict.program.name e.verdict.judged ++ e.why ≡ judged_line e.verdict.program.name e.verdict.judged =
-    ap (λ (why : List ℕ). judged_line e.verdict.program.name e.verdict.judged ++ why) e.is ∙ append_nil_of _ in
-    ap (λ (line : List ℕ). line ++ explained_lines explained) here
-    ∙ ap (λ (lines : List ℕ). judged_line e.verdict.program.name e.verdict.judged ++ lines) (bare_lines explained)
+bare_lines : (format : Format) (explained : List (Explained false)) → explained_lines format explained ≡ verdict_lines format (verdicts_of explained)
+bare_lines format [] = refl
+bare_lines format (e ∷ explained) =
+    ap (λ (why : List ℕ). verdict_in format e.verdict.program.name e.verdict.judged why ++ explained_lines format explained) e.is
+    ∙ ap (λ (lines : List ℕ). verdict_in format e.verdict.program.name e.verdict.judged [] ++ lines) (bare_lines format explained)
 
-pub kept_bare : (programs : List Named) (kept : Verdicts) → AreExplained false programs kept → AreKept programs kept
-kept_bare programs kept h = record {
+pub kept_bare : (format : Format) (programs : List Named) (kept : Verdicts) → AreExplained format false programs kept → AreKept format programs kept
+kept_bare format programs kept h = record {
   verdicts = verdicts_of h.explained;
   on = h.on;
-  text = h.text ∙ bare_lines h.explained;
+  text = h.text ∙ bare_lines format h.explained;
   accepted = h.accepted;
   refused = h.refused;
 }

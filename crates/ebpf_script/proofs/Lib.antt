@@ -11,3 +11,5 @@ pub mod WorldLemmas
 pub mod RunnableLemmas
 pub mod PoolLemmas
 pub mod ScriptTextLemmas
+pub mod TripleLemmas
+pub mod ObjectLemmas

@@ -4,6 +4,7 @@ use Rattle.std.proofs.lemmas.List.{length-take-le}
 use Rattle.std.proofs.lemmas.Bool.{lt-ltb}
 use Rattle.ebpf_command.specs.declared.done.FaultCode.{FaultCode}
 use Rattle.ebpf_command.specs.declared.done.FaultCode.TheVariants.{InputTooLong}
+use Rattle.ebpf_command.specs.declared.format.Format.{Format}
 use Rattle.ebpf_command.specs.Input.{read_of}
 use Rattle.ebpf_command.proofs.Written.{CutsLong}
 use Rattle.ebpf_script.specs.declared.reader.script.Dialect.{Dialect}
@@ -17,14 +18,14 @@ parsed_text_long : (dialect : Dialect) (text : List ℕ) → 1048576 < length te
 unfolding parsed_text
 parsed_text_long dialect text long = rw (lt-ltb 1048576 (length text) long) refl
 
-pub script_cuts : (dialect : Dialect) (Does : Doing) → CutsLong (λ text response. RespondsScript Does (parsed_text dialect text) response)
-script_cuts dialect Does input response long h =
+pub script_cuts : (format : Format) (dialect : Dialect) (Does : Doing) → CutsLong (λ text response. RespondsScript format Does (parsed_text dialect text) response)
+script_cuts format dialect Does input response long h =
     let cut : length (read_of input) ≡ 1048577 = length-take-le 1048577 input (omega (arith, long)) in
-    let P : Result ParsedScript (ℕ × FaultCode) → Type 0 = λ r. RespondsScript Does r response in
+    let P : Result ParsedScript (ℕ × FaultCode) → Type 0 = λ r. RespondsScript format Does r response in
     subst P (sym (parsed_text_long dialect input (omega (arith, long)))) (subst P (parsed_text_long dialect (read_of input) (omega (arith, cut))) h)
 
-pub explained_cuts : CutsLong RespondsExplainedCheck
-explained_cuts input response long h =
+pub explained_cuts : (format : Format) → CutsLong (RespondsExplainedCheck format)
+explained_cuts format input response long h =
     let cut : length (read_of input) ≡ 1048577 = length-take-le 1048577 input (omega (arith, long)) in
-    let cut_off : ExplainsParsed (Err (0, InputTooLong)) (read_of input) response = subst (λ (r : Result ParsedScript (ℕ × FaultCode)). ExplainsParsed r (read_of input) response) (parsed_text_long Jobs (read_of input) (omega (arith, cut))) h in
-    subst (λ (r : Result ParsedScript (ℕ × FaultCode)). ExplainsParsed r input response) (sym (parsed_text_long Jobs input (omega (arith, long)))) cut_off
+    let cut_off : ExplainsParsed format (Err (0, InputTooLong)) (read_of input) response = subst (λ (r : Result ParsedScript (ℕ × FaultCode)). ExplainsParsed format r (read_of input) response) (parsed_text_long Jobs (read_of input) (omega (arith, cut))) h in
+    subst (λ (r : Result ParsedScript (ℕ × FaultCode)). ExplainsParsed format r input response) (sym (parsed_text_long Jobs input (omega (arith, long)))) cut_off

@@ -9,6 +9,7 @@ use Rattle.ebpf_verify.specs.Subject.{Subject}
 use Rattle.ebpf_machine.specs.World.{kinds_of}
 use Rattle.ebpf_machine.specs.Kinds.{known_kinds}
 use Rattle.ebpf_machine.specs.Kinds.{AreKnown}
+use Rattle.ebpf_command.specs.declared.format.Format.{Format}
 use Rattle.ebpf_command.specs.declared.judge.Judged.{Judged}
 use Rattle.ebpf_command.specs.declared.judge.Judged.TheVariants.{Accepted, Refused}
 use Rattle.ebpf_command.specs.Judging.{IsJudged}
@@ -31,8 +32,8 @@ known_of : (verdicts : List Verdict) → AreKnown (accepted_of verdicts)
 known_of [] = λ k d lt. absurd (omega arith)
 known_of (v ∷ verdicts) = All-append (λ (s : Subject). kinds_of s.rows ≡ known_kinds) (accepted_in v.judged) (accepted_of verdicts) (known_in v.program.bytes v.decl v.rows v.judged v.kinds v.is) (known_of verdicts)
 
-pub known_kept : (programs : List Named) (kept : Verdicts) → AreKept programs kept → AreKnown kept.accepted.items
-known_kept programs kept h = subst AreKnown (sym h.accepted) (known_of h.verdicts)
+pub known_kept : (format : Format) (programs : List Named) (kept : Verdicts) → AreKept format programs kept → AreKnown kept.accepted.items
+known_kept format programs kept h = subst AreKnown (sym h.accepted) (known_of h.verdicts)
 
 -- ---- where none is refused, the programs that are accepted are all, in their order
 
@@ -60,7 +61,7 @@ contexts_of (v ∷ verdicts) none =
     right false b h = h
 
 -- they declare what the script says
-pub contexts_kept : (programs : List Named) (kept : Verdicts) → AreKept programs kept → kept.refused ≡ false
+pub contexts_kept : (format : Format) (programs : List Named) (kept : Verdicts) → AreKept format programs kept → kept.refused ≡ false
     → map (λ s. s.decl.context) kept.accepted.items ≡ map (λ p. p.context) programs
-contexts_kept programs kept h none =
+contexts_kept format programs kept h none =
     ap (λ (ss : List Subject). map (λ (s : Subject). s.decl.context) ss) h.accepted ∙ (contexts_of h.verdicts (sym h.refused ∙ none) ∙ ap (λ (ps : List Named). map (λ (p : Named). p.context) ps) h.on)

@@ -15,8 +15,13 @@ pub mod ExplainedKept
 pub mod EventCodes
 pub mod WorldLines
 pub mod OutcomeLines
+pub mod NumberLists
+pub mod WorldObjects
+pub mod OutcomeObjects
 pub mod Stats
 pub mod StatsLines
+pub mod StatsObjects
+pub mod Tables
 pub mod Timing
 pub mod ScriptText
 pub mod CheckText

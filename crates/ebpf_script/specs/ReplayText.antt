@@ -3,8 +3,11 @@
 use Rattle.std.specs.Prelude.{◌≡◌, ℕ, ◌++◌, List, Result, Ok, Err, codes, decimal}
 use Rattle.ebpf_machine.specs.World.{World}
 use Rattle.ebpf_machine.specs.Events.{Illegal}
+use Rattle.ebpf_world.specs.declared.fault.ApplyCode.{ApplyCode}
 use Rattle.ebpf_world.specs.Faults.{code_of}
 use Rattle.ebpf_world.specs.Replay.{world_after}
+use Rattle.ebpf_command.specs.declared.format.Format.{Format}
+use Rattle.ebpf_command.specs.declared.format.Format.TheVariants.{Text, Json}
 use Rattle.ebpf_command.specs.Response.{Response, refused_response, clean_response}
 use Rattle.ebpf_command.specs.Writing.{Responding}
 use Rattle.ebpf_script.specs.declared.reader.script.Dialect.TheVariants.{Events}
@@ -13,18 +16,30 @@ use Rattle.ebpf_script.specs.Scripts.{parsed_text}
 use Rattle.ebpf_script.specs.ScriptText.{Doing, RespondsScript}
 use Rattle.ebpf_script.specs.Verdicts.{verdict_lines, accepted_of}
 use Rattle.ebpf_script.specs.WorldLines.{world_lines}
+use Rattle.ebpf_script.specs.WorldObjects.{world_objects}
 
 -- an event is not legal, for this cause; events count from 0
-abbrev pub stopped_line : ℕ → Illegal → List ℕ
-stopped_line index why = codes "stopped " ++ (apply_name (code_of why) ++ (codes " " ++ (decimal index ++ codes "\n")))
+abbrev pub stopped_line : ℕ → ApplyCode → List ℕ
+stopped_line index code = codes "stopped " ++ (apply_name code ++ (codes " " ++ (decimal index ++ codes "\n")))
+
+abbrev pub stopped_object : ℕ → ApplyCode → List ℕ
+stopped_object index code = codes "{\"stopped\":\"" ++ (apply_name code ++ (codes "\",\"event\":" ++ (decimal index ++ codes "}\n")))
+
+abbrev pub stopped_in : Format → ℕ → ApplyCode → List ℕ
+stopped_in Text index code = stopped_line index code
+stopped_in Json index code = stopped_object index code
+
+abbrev pub world_in : Format → World → List ℕ
+world_in Text w = world_lines w
+world_in Json w = world_objects w
 
 -- after the verdicts, the world after the events, or where they stop
-abbrev pub world_response : List ℕ → Result World (ℕ × Illegal) → Response
-world_response verdicts (Ok w) = clean_response (verdicts ++ world_lines w)
-world_response verdicts (Err stop) = refused_response (verdicts ++ stopped_line stop.0 stop.1)
+abbrev pub world_response : Format → List ℕ → Result World (ℕ × Illegal) → Response
+world_response format verdicts (Ok w) = clean_response (verdicts ++ world_in format w)
+world_response format verdicts (Err stop) = refused_response (verdicts ++ stopped_in format stop.0 (code_of stop.1))
 
-abbrev pub DoesReplay : Doing
-DoesReplay parsed verdicts response = response ≡ world_response (verdict_lines verdicts) (world_after (accepted_of verdicts) parsed.events)
+abbrev pub DoesReplay : Format → Doing
+DoesReplay format parsed verdicts response = response ≡ world_response format (verdict_lines format verdicts) (world_after (accepted_of verdicts) parsed.events)
 
-abbrev pub RespondsReplay : Responding
-RespondsReplay text response = RespondsScript DoesReplay (parsed_text Events text) response
+abbrev pub RespondsReplay : Format → Responding
+RespondsReplay format text response = RespondsScript format (DoesReplay format) (parsed_text Events text) response

@@ -1,15 +1,18 @@
 -- The response of `run` to a text: the fault of the script, or the verdict on each program and then, where none is refused,
 -- what came of the jobs.
-use Rattle.std.specs.Prelude.{◌≡◌, ◌++◌, List, [], All}
+use Rattle.std.specs.Prelude.{◌≡◌, ℕ, ◌++◌, List, [], All}
 use Rattle.ebpf_verify.specs.Subject.{Subject}
 use Rattle.owners_table.specs.Owning.{SeatView}
 use Rattle.ebpf_pool.specs.declared.jobs.Job.{Job}
 use Rattle.ebpf_pool.specs.declared.outcome.Outcome.{Outcome}
 use Rattle.ebpf_pool.specs.Outcomes.{IsOutcome}
+use Rattle.ebpf_command.specs.declared.format.Format.{Format}
+use Rattle.ebpf_command.specs.declared.format.Format.TheVariants.{Text, Json}
 use Rattle.ebpf_command.specs.Response.{clean_response}
 use Rattle.ebpf_command.specs.Writing.{Responding}
 use Rattle.ebpf_script.specs.declared.reader.script.Dialect.TheVariants.{Jobs}
 use Rattle.ebpf_script.specs.OutcomeLines.{outcome_lines}
+use Rattle.ebpf_script.specs.OutcomeObjects.{outcome_objects}
 use Rattle.ebpf_script.specs.Scripts.{parsed_text}
 use Rattle.ebpf_script.specs.ScriptText.{Doing, RespondsScript}
 use Rattle.ebpf_script.specs.Verdicts.{verdict_lines, accepted_of}
@@ -21,10 +24,14 @@ pub record MayCome (programs : List Subject) (jobs : List Job) (o : Outcome) : T
   pub unused : All (λ s. (s.notes ≡ []) × (s.fetches ≡ [])) before
   pub is : IsOutcome programs jobs before after o
 
--- after the verdicts, an outcome of the jobs with the accepted programs
-abbrev pub DoesRun : Doing
-DoesRun parsed verdicts response =
-    (o : Outcome) × MayCome (accepted_of verdicts) parsed.jobs o × (response ≡ clean_response (verdict_lines verdicts ++ outcome_lines o))
+abbrev pub outcome_in : Format → Outcome → List ℕ
+outcome_in Text o = outcome_lines o
+outcome_in Json o = outcome_objects o
 
-abbrev pub RespondsRun : Responding
-RespondsRun text response = RespondsScript DoesRun (parsed_text Jobs text) response
+-- after the verdicts, an outcome of the jobs with the accepted programs
+abbrev pub DoesRun : Format → Doing
+DoesRun format parsed verdicts response =
+    (o : Outcome) × MayCome (accepted_of verdicts) parsed.jobs o × (response ≡ clean_response (verdict_lines format verdicts ++ outcome_in format o))
+
+abbrev pub RespondsRun : Format → Responding
+RespondsRun format text response = RespondsScript format (DoesRun format) (parsed_text Jobs text) response

@@ -52,8 +52,3 @@ times_line t = first_times t ++ last_times t
 
 abbrev pub table_lines : Stats → Times → List ℕ
 table_lines s t = cache_rows s.totals ++ (jobs_line s ++ (workers_from 0 s.jobs_done.items ++ times_line t))
-
--- nothing where no jobs were done
-abbrev pub table_if : Option Stats → Times → List ℕ
-table_if None t = []
-table_if (Some s) t = table_lines s t

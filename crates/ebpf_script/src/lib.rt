@@ -6,14 +6,17 @@
 //! [`check::check`], of [`explained_check::explained_check`], which says why programs are refused as well, of [`replay::replay`] and of
 //! [`run::run`].
 //!
-//! To be read in this order: `reader`, `verdicts`, `check`, `script_fault`, `explained_check`, `event_codes`, `world_text`, `replay`,
-//! `text_line`, `outcome_text`, `stats`, `outcome_stats`, `meter`, `run`, `stats_text`, `watch`.
+//! To be read in this order: `reader`, `verdict_text`, `verdicts`, `check`, `script_fault`, `explained_check`, `event_codes`, `world_text`,
+//! `text_line`, `number_list`, `world_json`, `replay`, `outcome_text`, `outcome_json`, `stats`, `outcome_stats`, `meter`, `run`,
+//! `stats_text`, `stats_json`, `watch`.
 #![tactic(auto)]
 
 pub mod check;
 mod event_codes;
 pub mod explained_check;
 pub mod meter;
+mod number_list;
+mod outcome_json;
 mod outcome_stats;
 mod outcome_text;
 pub mod reader;
@@ -21,8 +24,11 @@ pub mod replay;
 pub mod run;
 mod script_fault;
 pub mod stats;
+mod stats_json;
 mod stats_text;
 mod text_line;
+mod verdict_text;
 mod verdicts;
 pub mod watch;
+mod world_json;
 mod world_text;

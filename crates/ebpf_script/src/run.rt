@@ -1,24 +1,26 @@
 //! The command `run`: programs, and jobs that workers do with them.
 
-ghost use Rattle.std.specs.Prelude.{◌≡◌, ◌≢◌, ◌+◌, ◌≤◌, ◌<◌, ◌^◌, None, Ok, IfOk, IfErr};
+ghost use Rattle.std.specs.Prelude.{◌≡◌, ◌≢◌, ◌+◌, ◌≤◌, ◌<◌, ◌^◌, ◌++◌, string_bytes, None, Ok, IfOk, IfErr, OnOk};
 ghost use Rattle.ebpf_machine.specs.Kinds.{AreKnown};
 ghost use Rattle.ebpf_pool.specs.Admission.{pool_fault};
 ghost use Rattle.ebpf_command.specs.declared.done.EngineFault.TheVariants.{Output};
 ghost use Rattle.ebpf_command.specs.Writing.{Writes, WritesBeginning, Reads};
 ghost use Rattle.ebpf_script.specs.ReadScripts.{parsed_script};
 ghost use Rattle.ebpf_script.specs.Runnable.{IsRunnable};
-ghost use Rattle.ebpf_script.specs.RunText.{RespondsRun, DoesRun, MayCome};
+ghost use Rattle.ebpf_script.specs.RunText.{RespondsRun, DoesRun, MayCome, outcome_in};
 ghost use Rattle.ebpf_script.specs.ScriptText.{RespondsScript};
 
 use crate::meter::{Meter, Stage};
+use crate::outcome_json::write_outcome_objects;
 use crate::outcome_stats::stats_of;
 use crate::outcome_text::write_outcome;
 use crate::reader::numbers::SLOTS;
 use crate::reader::read_script;
 use crate::reader::script::{Dialect, Script, ScriptStop};
 use crate::verdicts::verdicts_on;
-use ebpf_command::answer::{Answer, answer_fault, respond};
+use ebpf_command::answer::{Answer, answer_fault_in, respond};
 use ebpf_command::done::{Done, EngineFault};
+use ebpf_command::format::Format;
 use ebpf_pool::{Host, Job, NoGate, Outcome, PoolFault, run_jobs};
 use owners_table::owners::Owners;
 use std::alloc::{AllocError, Global};
@@ -39,6 +41,7 @@ pub fn run<R: Threads + Wait + Sync, I: Read, W: Write, M: Meter>(
     alloc: Global,
     reader: &mut I,
     writer: &mut W,
+    format: Format,
     workers: u32,
     reaps: u32,
     meter: &mut M,
@@ -46,10 +49,10 @@ pub fn run<R: Threads + Wait + Sync, I: Read, W: Write, M: Meter>(
     requires workers { (1 ≤ workers) × (workers ≤ 64) }
     requires reaps { reaps ≤ 1000 }
     // A text of the input is written, and nothing else.
-    ensures response { Writes RespondsRun (I.remaining reader.old) (W.contents writer.old) (W.contents writer.new) result }
+    ensures response { Writes (RespondsRun format) (I.remaining reader.old) (W.contents writer.old) (W.contents writer.new) result }
     ensures consumed { Reads (I.remaining reader.old) (I.remaining reader.new) result }
     ensures untouched { IfErr result (λ fault. fault ≢ Output → writer.new ≡ writer.old) }
-    ensures beginning { WritesBeginning RespondsRun (I.remaining reader.old) (W.contents writer.old) (W.contents writer.new) result }
+    ensures beginning { WritesBeginning (RespondsRun format) (I.remaining reader.old) (W.contents writer.old) (W.contents writer.new) result }
 {
     let done = respond(
         alloc,
@@ -57,7 +60,7 @@ pub fn run<R: Threads + Wait + Sync, I: Read, W: Write, M: Meter>(
         writer,
         |input|
             requires { (1 ≤ workers) × (workers ≤ 64) × (reaps ≤ 1000) }
-        { answer_text(rt, alloc, input, workers, reaps, meter) },
+        { answer_text(rt, alloc, format, input, workers, reaps, meter) },
     );
     meter.ended(Stage::Writing);
     done
@@ -67,6 +70,7 @@ pub fn run<R: Threads + Wait + Sync, I: Read, W: Write, M: Meter>(
 fn answer_text<R: Threads + Wait + Sync, M: Meter>(
     rt: &R,
     alloc: Global,
+    format: Format,
     text: &[u8],
     workers: u32,
     reaps: u32,
@@ -74,12 +78,12 @@ fn answer_text<R: Threads + Wait + Sync, M: Meter>(
 ) -> Result<Answer, AllocError>
     requires workers { (1 ≤ workers) × (workers ≤ 64) }
     requires reaps { reaps ≤ 1000 }
-    ensures { IfOk result (RespondsRun text.now) }
+    ensures { IfOk result (RespondsRun format text.now) }
 {
     meter.ended(Stage::Reading);
     match read_script(alloc, Dialect::Jobs, text) {
-        Ok(script) => answer_script(rt, alloc, script, workers, reaps, meter),
-        Err(ScriptStop::Fault(fault)) => answer_fault(alloc, fault.code, fault.line),
+        Ok(script) => answer_script(rt, alloc, format, script, workers, reaps, meter),
+        Err(ScriptStop::Fault(fault)) => answer_fault_in(alloc, format, fault.code, fault.line),
         Err(ScriptStop::NoMemory) => Err(AllocError),
     }
 }
@@ -88,6 +92,7 @@ fn answer_text<R: Threads + Wait + Sync, M: Meter>(
 fn answer_script<R: Threads + Wait + Sync, M: Meter>(
     rt: &R,
     alloc: Global,
+    format: Format,
     script: Script,
     workers: u32,
     reaps: u32,
@@ -96,9 +101,9 @@ fn answer_script<R: Threads + Wait + Sync, M: Meter>(
     requires workers { (1 ≤ workers) × (workers ≤ 64) }
     requires reaps { reaps + script.passes < 2 ^ 32 }
     requires runnable { IsRunnable (parsed_script script) }
-    ensures { IfOk result (RespondsScript DoesRun (Ok (parsed_script script))) }
+    ensures { IfOk result (RespondsScript format (DoesRun format) (Ok (parsed_script script))) }
 {
-    let verdicts = verdicts_on(alloc, &script.programs)?;
+    let verdicts = verdicts_on(alloc, format, &script.programs)?;
     if verdicts.refused {
         return Ok(verdicts.into_answer());
     }
@@ -117,12 +122,22 @@ fn answer_script<R: Threads + Wait + Sync, M: Meter>(
         reaps + script.passes,
     )?;
     meter.ended(Stage::Running);
-    write_outcome(&mut text, &outcome)?;
+    write_outcome_in(&mut text, format, &outcome)?;
     meter.came(stats_of(outcome));
     Ok(Answer {
         text,
         done: Done::Clean,
     })
+}
+
+// Writes an outcome after a text.
+fn write_outcome_in(text: &mut String, format: Format, outcome: &Outcome) -> Result<(), AllocError>
+    ensures { OnOk result (string_bytes text.new ≡ string_bytes text.old ++ outcome_in format outcome.now) }
+{
+    match format {
+        Format::Text => write_outcome(text, outcome),
+        Format::Json => write_outcome_objects(text, outcome),
+    }
 }
 
 // What comes of jobs that can be done.

@@ -1,15 +1,15 @@
-//! A line of text that is written from its end to its beginning: each number is written where it stays, and a whole line is
-//! appended at once.
+//! A line of text, or a part of one, that is written from its end to its beginning: each number is written where it stays, and
+//! all is appended at once.
 
-ghost use Rattle.std.specs.Prelude.{◌≡◌, ◌+◌, ◌≤◌, ◌++◌, IsAscii, codes, decimal, length};
+ghost use Rattle.std.specs.Prelude.{◌≡◌, ◌+◌, ◌≤◌, ◌++◌, [], IsAscii, codes, decimal, length};
 
 use itoa::write_digits;
 use std::marker::Model;
 
 // The most bytes of a line.
-const ROOM: usize = 112;
+const ROOM: usize = 128;
 
-/// A line. Contracts see the bytes that are written.
+/// A line or a part of one. Contracts see the bytes that are written.
 #[derive(Drop)]
 pub(crate) struct TextLine {
     bytes: [u8; ROOM],
@@ -17,14 +17,13 @@ pub(crate) struct TextLine {
 }
 
 impl Model for TextLine {
-    ghost use Rattle.std.specs.Prelude.{◌≡◌, ◌≤◌, ◌∷◌, [], ℕ, List, IsAscii, drop};
+    ghost use Rattle.std.specs.Prelude.{◌≤◌, ℕ, List, IsAscii, drop};
 
     ghost Value = { List ℕ };
 
     ghost view = { λ l. drop l.start l.bytes };
 
-    // The last byte stays the newline.
-    ghost invariant = { λ l. (l.start ≤ 111) × (drop 111 l.bytes ≡ 10 ∷ []) × IsAscii (drop l.start l.bytes) };
+    ghost invariant = { λ l. (l.start ≤ 128) × IsAscii (drop l.start l.bytes) };
 }
 
 impl TextLine {
@@ -44,13 +43,22 @@ impl TextLine {
     pub(crate) fn restart(&mut self)
         ensures { self.new ≡ codes "\n" }
     {
+        self.bytes[ROOM - 1] = b'\n';
         self.start = ROOM - 1;
+    }
+
+    /// Begins a part of a line, in the same memory.
+    #[inline]
+    pub(crate) fn clear(&mut self)
+        ensures { self.new ≡ [] }
+    {
+        self.start = ROOM;
     }
 
     /// Writes a number before the rest.
     #[inline]
     pub(crate) fn number(&mut self, n: u64)
-        requires { length self.old + 20 ≤ 112 }
+        requires { length self.old + 20 ≤ 128 }
         ensures text { self.new ≡ decimal n ++ self.old }
         ensures few { length self.new ≤ length self.old + 20 }
     {
@@ -60,7 +68,7 @@ impl TextLine {
     /// Writes words before the rest.
     #[inline]
     pub(crate) fn words(&mut self, words: &[u8])
-        requires room { length self.old + length words.now ≤ 112 }
+        requires room { length self.old + length words.now ≤ 128 }
         requires ascii { IsAscii words.now }
         ensures { self.new ≡ words.now ++ self.old }
     {

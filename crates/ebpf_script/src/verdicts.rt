@@ -2,14 +2,17 @@
 
 ghost use Rattle.std.specs.Prelude.{◌≡◌, ◌++◌, ◌||◌, ◌&&◌, map, string_bytes, IfOk, OnOk};
 ghost use Rattle.ebpf_state.specs.Kinds.{AreKinds};
+ghost use Rattle.ebpf_script.specs.Explained.{IsTold};
 ghost use Rattle.ebpf_script.specs.ExplainedKept.{AreExplained, IsOneMore};
 ghost use Rattle.ebpf_script.specs.ReadScripts.{named};
-ghost use Rattle.ebpf_script.specs.Verdicts.{judged_line, accepted_in, is_refused, answered};
+ghost use Rattle.ebpf_script.specs.Verdicts.{verdict_in, accepted_in, is_refused, answered};
 ghost use Rattle.ebpf_script.specs.VerdictsKept.{AreKept};
 
 use crate::reader::script::{ProgramText, Programs};
+use crate::verdict_text::write_verdict;
 use ebpf_command::answer::Answer;
 use ebpf_command::done::Done;
+use ebpf_command::format::Format;
 use ebpf_command::judge::{Judged, judge};
 use ebpf_explain::why::write_why;
 use ebpf_state::kinds::{KindRow, kinds};
@@ -26,20 +29,25 @@ pub struct Verdicts {
 }
 
 /// Judges each program of a script. It fails only where an allocation fails.
-pub(crate) fn verdicts_on(alloc: Global, programs: &Programs) -> Result<Verdicts, AllocError>
-    ensures { IfOk result (AreKept (map named programs.now.entries)) }
+pub(crate) fn verdicts_on(
+    alloc: Global,
+    format: Format,
+    programs: &Programs,
+) -> Result<Verdicts, AllocError>
+    ensures { IfOk result (AreKept format (map named programs.now.entries)) }
 {
-    explained_verdicts_on(alloc, programs, false)
+    explained_verdicts_on(alloc, format, programs, false)
 }
 
-/// Judges each program of a script, and where that is asked for says after the line of each why it is refused. It fails only where
-/// an allocation fails.
+/// Judges each program of a script, and where that is asked for says beside each why it is refused. It fails only where an
+/// allocation fails.
 pub(crate) fn explained_verdicts_on(
     alloc: Global,
+    format: Format,
     programs: &Programs,
     explain: bool,
 ) -> Result<Verdicts, AllocError>
-    ensures { IfOk result (AreExplained explain (map named programs.now.entries)) }
+    ensures { IfOk result (AreExplained format explain (map named programs.now.entries)) }
 {
     let rows = kinds();
     let mut verdicts = Verdicts {
@@ -48,7 +56,7 @@ pub(crate) fn explained_verdicts_on(
         refused: false,
     };
     for (name, program) in programs.iter() {
-        verdicts.add_on(alloc, name.as_str(), program, &rows, explain)?;
+        verdicts.add_on(alloc, format, name.as_str(), program, &rows, explain)?;
     }
     Ok(verdicts)
 }
@@ -73,44 +81,57 @@ impl Verdicts {
     fn add_on(
         &mut self,
         alloc: Global,
+        format: Format,
         name: &str,
         program: &ProgramText,
         rows: &[KindRow],
         explain: bool,
     ) -> Result<(), AllocError>
         requires { AreKinds rows.now }
-        ensures { OnOk result (IsOneMore explain name.now program.now.bytes.items program.now.decl rows.now self.old self.new) }
+        ensures { OnOk result (IsOneMore format explain name.now program.now.bytes.items program.now.decl rows.now self.old self.new) }
     {
         let judged = judge(alloc, &program.bytes, program.decl, rows)?;
-        let is_told = is_told(explain, &judged);
-        self.add(name, judged)?;
-        if is_told {
-            write_why(alloc, &mut self.text, &program.bytes, program.decl, rows)
-        } else {
-            Ok(())
-        }
+        let why = why_of(alloc, program, rows, explain, &judged)?;
+        self.add(format, name, judged, why.as_str())
     }
 
     // One verdict more.
-    fn add(&mut self, name: &str, judged: Judged) -> Result<(), AllocError>
-        ensures text { OnOk result (string_bytes self.new.text ≡ string_bytes self.old.text ++ judged_line name.now judged) }
+    fn add(
+        &mut self,
+        format: Format,
+        name: &str,
+        judged: Judged,
+        why: &str,
+    ) -> Result<(), AllocError>
+        ensures text { OnOk result (string_bytes self.new.text ≡ string_bytes self.old.text ++ verdict_in format name.now judged why.now) }
         ensures accepted { OnOk result (self.new.accepted.items ≡ self.old.accepted.items ++ accepted_in judged) }
         ensures refused { OnOk result (self.new.refused ≡ (self.old.refused || is_refused judged)) }
     {
+        write_verdict(&mut self.text, format, name, &judged, why)?;
         match judged {
-            Judged::Accepted(verified) => {
-                let len = verified.len();
-                write!(self.text, "{name} accepted {len}\n")?;
-                self.accepted.push(verified)?;
-            }
-            Judged::Refused { code, slot } => {
-                let code = code.name();
-                write!(self.text, "{name} refused {code} {slot}\n")?;
-                self.refused = true;
-            }
+            Judged::Accepted(verified) => self.accepted.push(verified)?,
+            Judged::Refused { .. } => self.refused = true,
         }
         Ok(())
     }
+}
+
+// Why a program is refused, as a line; nothing where that is not asked for, or it is accepted.
+fn why_of(
+    alloc: Global,
+    program: &ProgramText,
+    rows: &[KindRow],
+    explain: bool,
+    judged: &Judged,
+) -> Result<String, AllocError>
+    requires { AreKinds rows.now }
+    ensures { IfOk result (λ why. IsTold explain judged.now program.now.bytes.items program.now.decl rows.now (string_bytes why)) }
+{
+    let mut why = String::new(alloc);
+    if is_told(explain, judged) {
+        write_why(alloc, &mut why, &program.bytes, program.decl, rows)?;
+    }
+    Ok(why)
 }
 
 // Whether it is said why a program is refused: where it is, and that is asked for.

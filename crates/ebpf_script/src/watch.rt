@@ -1,12 +1,14 @@
 //! A meter that takes the time of each stage, and makes a table of it and of what it learns.
 
 ghost use Rattle.std.specs.Prelude.{◌≡◌, ◌++◌, None, Some, string_bytes, OnOk};
-ghost use Rattle.ebpf_script.specs.StatsLines.{table_if};
+ghost use Rattle.ebpf_script.specs.Tables.{table_if, table_in};
 ghost use Rattle.ebpf_script.specs.Timing.{micros_between, with_time};
 
 use crate::meter::{Meter, Stage};
 use crate::stats::Stats;
+use crate::stats_json::write_table_objects;
 use crate::stats_text::write_table;
+use ebpf_command::format::Format;
 use std::alloc::AllocError;
 use std::rt::Clock;
 use std::time::Instant;
@@ -52,11 +54,11 @@ impl<'a, C: Clock> Watch<'a, C> {
 
     /// Writes the table of what the jobs came to and of the times after a text; nothing where none were done. It fails only where an
     /// allocation fails, and makes none where the text has room for [`TABLE_BYTES`].
-    pub fn write_table(&self, text: &mut String) -> Result<(), AllocError>
-        ensures { OnOk result (string_bytes text.new ≡ string_bytes text.old ++ table_if self.now.stats self.now.times) }
+    pub fn write_table(&self, format: Format, text: &mut String) -> Result<(), AllocError>
+        ensures { OnOk result (string_bytes text.new ≡ string_bytes text.old ++ table_if format self.now.stats self.now.times) }
     {
         match &self.stats {
-            Some(stats) => write_table(text, stats, self.times),
+            Some(stats) => write_table_in(text, format, stats, self.times),
             None => Ok(()),
         }
     }
@@ -86,6 +88,21 @@ impl<'a, C: Clock> Meter for Watch<'a, C> {
         ensures { self.new.stats ≡ Some stats }
     {
         self.stats = Some(stats);
+    }
+}
+
+// Writes the table after a text.
+fn write_table_in(
+    text: &mut String,
+    format: Format,
+    stats: &Stats,
+    times: Times,
+) -> Result<(), AllocError>
+    ensures { OnOk result (string_bytes text.new ≡ string_bytes text.old ++ table_in format stats.now times) }
+{
+    match format {
+        Format::Text => write_table(text, stats, times),
+        Format::Json => write_table_objects(text, stats, times),
     }
 }
 

@@ -75,8 +75,8 @@ fn write_kind(text: &mut String, world: &World<'_>, kind: u8) -> Result<(), Allo
     write!(text, "kind {kind} slots {slots} held {held}\n")
 }
 
-// How many slots of a kind are held.
-fn held_of(world: &World<'_>, kind: u8) -> usize
+/// How many slots of a kind are held.
+pub(crate) fn held_of(world: &World<'_>, kind: u8) -> usize
     ensures { OfWorld world.now (λ w. result ≡ held_in w kind) }
 {
     let mut held = 0;

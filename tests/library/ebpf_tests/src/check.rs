@@ -2,6 +2,7 @@
 
 use crate::programs::{column, holds, is_told};
 use ebpf_command::done::Done;
+use ebpf_command::format::Format;
 use ebpf_script::check::check;
 use ebpf_script::explained_check::explained_check;
 use std::alloc::Global;
@@ -83,9 +84,9 @@ fn is_checked(rt: &impl Abort, alloc: Global, row: &str, explains: bool) {
     let mut reader = script.as_bytes();
     let mut written = Vec::new(alloc);
     let done = if explains {
-        explained_check(alloc, &mut reader, &mut written)
+        explained_check(alloc, &mut reader, &mut written, Format::Text)
     } else {
-        check(alloc, &mut reader, &mut written)
+        check(alloc, &mut reader, &mut written, Format::Text)
     };
     let done = done.expect(rt, "it is told");
     let told = str::from_utf8(&written).expect(rt, "it is a text");

@@ -177,10 +177,10 @@ fn call<R: Threads + Wait + Sync>(
         "one" => one(alloc, reader, writer, Format::Text, Form::Hex, "-", 0, false),
         "list" => list(alloc, reader, writer, Format::Text, Form::Hex),
         "explain" => explain(alloc, reader, writer, Format::Text, Form::Hex, "-", 0),
-        "check" => check(alloc, reader, writer),
-        "check --explain" => explained_check(alloc, reader, writer),
-        "replay" => replay(alloc, reader, writer),
-        _ => run(rt, alloc, reader, writer, 2, 1, &mut NoMeter),
+        "check" => check(alloc, reader, writer, Format::Text),
+        "check --explain" => explained_check(alloc, reader, writer, Format::Text),
+        "replay" => replay(alloc, reader, writer, Format::Text),
+        _ => run(rt, alloc, reader, writer, Format::Text, 2, 1, &mut NoMeter),
     }
 }
 

@@ -6,10 +6,10 @@ use Rattle.ebpf_script.proofs.ScriptTextLemmas.{script_cuts}
 use Rattle.ebpf_script.proofs.check.check.Goals as goal
 
 pub returns-clause-response : goal.returns-clause-response
-returns-clause-response g c = response_through RespondsCheck _ _ _ _ c.respond.ensures.response (λ all response k. response_of_shown RespondsCheck (script_cuts Jobs DoesCheck) all response k.0 k.2 (let h = k.1 in search rules))
+returns-clause-response g c = response_through (RespondsCheck c.args.format) _ _ _ _ c.respond.ensures.response (λ all response k. response_of_shown (RespondsCheck c.args.format) (script_cuts c.args.format Jobs (DoesCheck c.args.format)) all response k.0 k.2 (let h = k.1 in search rules))
 
 pub returns-clause-consumed : goal.returns-clause-consumed
 returns-clause-consumed g c = c.respond.ensures.consumed
 
 pub returns-clause-beginning : goal.returns-clause-beginning
-returns-clause-beginning g c = begun_through RespondsCheck _ _ _ _ c.respond.ensures.beginning (λ all response k. response_of_shown RespondsCheck (script_cuts Jobs DoesCheck) all response k.0 k.2 (let h = k.1 in search rules))
+returns-clause-beginning g c = begun_through (RespondsCheck c.args.format) _ _ _ _ c.respond.ensures.beginning (λ all response k. response_of_shown (RespondsCheck c.args.format) (script_cuts c.args.format Jobs (DoesCheck c.args.format)) all response k.0 k.2 (let h = k.1 in search rules))

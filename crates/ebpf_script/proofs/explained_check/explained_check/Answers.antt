@@ -5,10 +5,10 @@ use Rattle.ebpf_script.proofs.ScriptTextLemmas.{explained_cuts}
 use Rattle.ebpf_script.proofs.explained_check.explained_check.Goals as goal
 
 pub returns-clause-response : goal.returns-clause-response
-returns-clause-response g c = response_through RespondsExplainedCheck _ _ _ _ c.respond.ensures.response (λ all response k. response_of_shown RespondsExplainedCheck explained_cuts all response k.0 k.2 (let h = k.1 in search rules))
+returns-clause-response g c = response_through (RespondsExplainedCheck c.args.format) _ _ _ _ c.respond.ensures.response (λ all response k. response_of_shown (RespondsExplainedCheck c.args.format) (explained_cuts c.args.format) all response k.0 k.2 (let h = k.1 in search rules))
 
 pub returns-clause-consumed : goal.returns-clause-consumed
 returns-clause-consumed g c = c.respond.ensures.consumed
 
 pub returns-clause-beginning : goal.returns-clause-beginning
-returns-clause-beginning g c = begun_through RespondsExplainedCheck _ _ _ _ c.respond.ensures.beginning (λ all response k. response_of_shown RespondsExplainedCheck explained_cuts all response k.0 k.2 (let h = k.1 in search rules))
+returns-clause-beginning g c = begun_through (RespondsExplainedCheck c.args.format) _ _ _ _ c.respond.ensures.beginning (λ all response k. response_of_shown (RespondsExplainedCheck c.args.format) (explained_cuts c.args.format) all response k.0 k.2 (let h = k.1 in search rules))

@@ -6,4 +6,4 @@ use Rattle.ebpf_script.proofs.verdicts.verdicts_on.Goals as goal
 
 pub returns : goal.returns
 returns c =
-    IfOk-weaker c.explained_verdicts_on.result _ _ (λ kept h. kept_bare (map named c.args.programs.now.entries) kept h) c.explained_verdicts_on.ensures
+    IfOk-weaker c.explained_verdicts_on.result _ _ (λ kept h. kept_bare c.args.format (map named c.args.programs.now.entries) kept h) c.explained_verdicts_on.ensures

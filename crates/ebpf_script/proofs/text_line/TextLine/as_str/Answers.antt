@@ -5,4 +5,4 @@ use Rattle.ebpf_script.proofs.text_line.TextLine.as_str.Goals as goal
 pub from_utf8_unchecked-requires : goal.from_utf8_unchecked-requires
 from_utf8_unchecked-requires c =
     let s = c.self.inside in
-    IsUtf8-from_ascii _ (rw (take_all (112 - s.start) (drop s.start s.bytes) (omega (arith, length-drop s.start s.bytes))) c.self.invariant.2)
+    IsUtf8-from_ascii _ (rw (take_all (128 - s.start) (drop s.start s.bytes) (omega (arith, length-drop s.start s.bytes))) c.self.invariant.1)
