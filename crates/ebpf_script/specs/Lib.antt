@@ -16,7 +16,6 @@ pub mod ExplainedKept
 pub mod EventCodes
 pub mod WorldLines
 pub mod OutcomeLines
-pub mod NumberLists
 pub mod WorldObjects
 pub mod OutcomeObjects
 pub mod Stats

@@ -4,7 +4,7 @@ use Rattle.ebpf_machine.specs.declared.report.Report.{Report}
 use Rattle.object_cache.specs.declared.totals.Totals.{Totals}
 use Rattle.ebpf_pool.specs.declared.outcome.Outcome.{Outcome}
 use Rattle.ebpf_pool.specs.declared.outcome.ShelfTotals.{ShelfTotals}
-use Rattle.ebpf_script.specs.NumberLists.{number_list}
+use Rattle.ebpf_command.specs.Json.{number_list}
 
 -- with which number a job exited, where it did
 abbrev pub exit_member : Option ℕ → List ℕ

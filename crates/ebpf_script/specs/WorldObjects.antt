@@ -4,7 +4,7 @@ use Rattle.ebpf_machine.specs.World.{World}
 use Rattle.ebpf_world.specs.declared.world.Status.{Status}
 use Rattle.ebpf_world.specs.declared.world.Status.TheVariants.{Going, Exited}
 use Rattle.ebpf_world.specs.Readers.{status_in, output_in, executed_in, ledger_in, shelf_in}
-use Rattle.ebpf_script.specs.NumberLists.{number_list}
+use Rattle.ebpf_command.specs.Json.{number_list}
 use Rattle.ebpf_script.specs.WorldLines.{held_in}
 
 -- how far a run is, at which slot or with which number

@@ -7,7 +7,7 @@
 //! [`run::run`].
 //!
 //! To be read in this order: `reader`, `verdict_text`, `verdicts`, `check`, `script_fault`, `explained_check`, `event_codes`, `world_text`,
-//! `text_line`, `number_list`, `world_json`, `replay`, `outcome_text`, `outcome_json`, `stats`, `outcome_stats`, `meter`, `run`,
+//! `text_line`, `world_json`, `replay`, `outcome_text`, `outcome_json`, `stats`, `outcome_stats`, `meter`, `run`,
 //! `stats_text`, `stats_json`, `watch`.
 #![tactic(auto)]
 
@@ -15,7 +15,6 @@ pub mod check;
 mod event_codes;
 pub mod explained_check;
 pub mod meter;
-mod number_list;
 mod outcome_json;
 mod outcome_stats;
 mod outcome_text;

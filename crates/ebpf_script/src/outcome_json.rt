@@ -3,8 +3,8 @@
 ghost use Rattle.std.specs.Prelude.{◌≡◌, ◌+◌, ◌≤◌, ◌++◌, length, string_bytes, OnOk};
 ghost use Rattle.ebpf_script.specs.OutcomeObjects.{exit_member, job_members, job_object, jobs_from, cache_object, cache_objects, shelf_object, shelf_objects, outcome_objects};
 
-use crate::number_list::write_number_list;
 use crate::text_line::TextLine;
+use ebpf_command::json::write_numbers;
 use ebpf_pool::{JobReport, Outcome, ShelfTotals};
 use object_cache::Totals;
 use std::alloc::AllocError;
@@ -40,7 +40,7 @@ fn write_job(
     ensures { OnOk result (string_bytes text.new ≡ string_bytes text.old ++ job_object job report.now) }
 {
     write_job_members(text, line, job, report)?;
-    write_number_list(text, line, report.output())?;
+    write_numbers(text, report.output())?;
     text.push_str("]}\n")?;
     Ok(())
 }

@@ -3,12 +3,12 @@
 ghost use Rattle.std.specs.Prelude.{◌≡◌, ◌++◌, [], string_bytes, length, unwrap_or, OnOk};
 ghost use Rattle.ebpf_world.specs.Shown.{OfWorld};
 ghost use Rattle.ebpf_world.specs.Readers.{status_in, output_in, executed_in, shelf_in};
-ghost use Rattle.ebpf_script.specs.NumberLists.{number_list};
+ghost use Rattle.ebpf_command.specs.Json.{number_list};
 ghost use Rattle.ebpf_script.specs.WorldObjects.{status_members, run_object, run_objects_below, kind_object, kind_objects, shelf_object, shelf_objects, world_objects};
 
-use crate::number_list::write_number_list;
 use crate::text_line::TextLine;
 use crate::world_text::held_of;
+use ebpf_command::json::write_numbers;
 use ebpf_world::world::{Status, World};
 use std::alloc::AllocError;
 
@@ -37,7 +37,7 @@ fn write_run(text: &mut String, world: &World<'_>, run: usize) -> Result<(), All
     ensures { OnOk result (OfWorld world.now (λ w. string_bytes text.new ≡ string_bytes text.old ++ run_object w run)) }
 {
     write_status(text, run, world.status(run), world.executed(run))?;
-    write_number_list(text, &mut TextLine::end(), world.output(run).unwrap_or(&[]))?;
+    write_numbers(text, world.output(run).unwrap_or(&[]))?;
     text.push_str("]}\n")?;
     Ok(())
 }
