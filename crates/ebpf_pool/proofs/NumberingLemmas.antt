@@ -134,9 +134,9 @@ times_between first x (n ∷ ns) numbers =
     let one = ap (λ (j : ℕ). one_if j x) here in
     let split = first_between first (length ns) x in
     omega (arith, sum, one, more, split)
-    where
-      first_between : (f n x : ℕ) → one_between f (f + suc n) x ≡ one_if f x + one_between (f + 1) ((f + 1) + n) x
-      first_between f n x = grind (arith, nat_tests)
+  where
+    first_between : (f n x : ℕ) → one_between f (f + suc n) x ≡ one_if f x + one_between (f + 1) ((f + 1) + n) x
+    first_between f n x = grind (arith, nat_tests)
 
 -- each job of a bundle has one report of those that were made of the bundle
 pub made_of : (size count bundle x : ℕ) (made : List Numbered) → 0 < size → bundle * size < count

@@ -76,8 +76,14 @@ counts_are size count [] whole = refl
 counts_are size count (a ∷ all) whole =
     let here : vec_len a.reports ≡ length a.reports.items = a.reports.ok.0 in
     let told = numbered_length (jobs_in size count a.firsts.items) a.reports.items (whole 0 a (omega arith)) in
-    omega (arith, here, told, sum_by-cons (λ n. n) (vec_len a.reports) (map (λ b. vec_len b.reports) all),
-    sum_by-cons (λ ns. length ns) (told_by size count a) (map (told_by size count) all), counts_are size count all (rest_of (IsWhole size count) a all whole))
+    omega (
+      arith,
+      here,
+      told,
+      sum_by-cons (λ n. n) (vec_len a.reports) (map (λ b. vec_len b.reports) all),
+      sum_by-cons (λ ns. length ns) (told_by size count a) (map (told_by size count) all),
+      counts_are size count all (rest_of (IsWhole size count) a all whole),
+    )
 
 -- ---- places
 

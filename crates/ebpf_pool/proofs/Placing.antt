@@ -120,6 +120,6 @@ one_of_bundle first many left less places reports now before after r one is h = 
     let long = length-range_with_len first less in
     let whole : length (js ++ range) ≡ length after = omega (arith, here.0, one, shorter, own, long) in
     let split = ap (λ (l : List ℕ). numbered l before) jobs ∙ ap (numbered ((js ++ range) ++ (first + less) ∷ [])) is
-        ∙ numbered_last (js ++ range) after (first + less) r whole
+    ∙ numbered_last (js ++ range) after (first + less) r whole
     in
     (omega (arith, here.0, one, shorter), one_placed old now all _ (numbered (js ++ range) after) (record { job = first + less; report = r }) split here.1)

@@ -66,8 +66,8 @@ pub record AllArePlaced (old : List Report) (all : List (List Numbered)) (places
   pub from : AreFrom old (λ n. IsIn n all) places
   pub within : (l : List Numbered) → Contains left l → Contains all l
 
--- The last n reports were put in the places from the first one on, and all but that many of these reports are left: where all was so
--- far placed but for the reports, it is but for those that are left.
+-- The last reports are those of n jobs from the first one on, and all but some of them were put in their places: where all but these
+-- reports were placed before, all but those that are left are placed now.
 abbrev pub IsBundlePlaced : (first many : ℕ) → (places reports : List Report) → (left : ℕ) → (places' reports' : List Report) → Type 0
 IsBundlePlaced first many places reports left places' reports' =
     (old : List Report) (all : List Numbered) (before : List ℕ) → length before + many ≡ length reports

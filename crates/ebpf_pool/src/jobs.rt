@@ -13,7 +13,7 @@ pub struct Job {
     pub context: Context,
 }
 
-/// What a worker did: the first job of each bundle that it drew, and the reports of the jobs of these bundles, in one order.
+/// What a worker did: the first job of each bundle that it drew, and the reports of the jobs of these bundles, in the same order.
 #[derive(Drop)]
 pub(crate) struct Answered {
     pub(crate) firsts: Vec<u64>,

@@ -2,7 +2,7 @@
 //!
 //! *The idea.* All memory is reserved first, then the supplies are opened, and workers are made of their hands, the seats and lists
 //! for reports. The workers do the jobs, with the reaper beside them. Then they are taken apart again, the supplies are closed over
-//! their hands, what the shelves hold goes back, and each report goes to the place of its job.
+//! their hands, what the shelves hold goes back, and each report goes to the place of its job, unless one worker made them all.
 //!
 //! *The reason.* What all workers drew are all bundles of neighbouring jobs, each once: so each job has one report. What a worker's
 //! hands took and got is what its reports say, clashes and strays aside, so the same holds of the sums.

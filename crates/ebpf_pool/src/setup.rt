@@ -83,8 +83,8 @@ fn blank_lists(alloc: Global, count: usize) -> Result<Vec<Answered>, AllocError>
     Ok(lists)
 }
 
-/// What workers are made of and work with, before there are any: for each a seat to draw tickets with, a list for its reports and
-/// its hands; and memory for a place for the report of each job.
+/// What workers are made of and work with, before there are any: for each a seat to draw tickets with, lists for what it does
+/// and its hands; and memory for a place for the report of each job.
 pub(crate) struct Setup<L: Names> {
     pub(crate) room: Room,
     pub(crate) drawers: Vec<TicketSeat>,

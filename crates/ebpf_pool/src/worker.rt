@@ -1,8 +1,9 @@
 //! A worker.
 //!
 //! *The idea.* A worker draws the number of a bundle of neighbouring jobs. It runs the program of each over its own store, and keeps
-//! the report under the job's number. Then it draws again, until no bundle is left. One that finds no memory
-//! to begin with draws none, and leaves all jobs to the others. A bundle saves draws: each is a step on one word that all workers share.
+//! the reports in their order, with the first job of each bundle beside them. Then it draws again, until no bundle is left. One that
+//! finds no memory to begin with draws none, and leaves all jobs to the others. A bundle saves draws: each is a step on one word that
+//! all workers share.
 //!
 //! *The invariant.* Each job has as many reports as its bundle was drawn. Each report is that of its job's program alone, with the
 //! answers that it reports. Of each kind its hands gave back or left on the shelf all that they took or got from there. What they
@@ -177,10 +178,10 @@ fn serve<'a, L: Names, G: Gate + 'a, R: Wait + 'a>(
             return Ending::OutOfMemory;
         };
         let reports = &mut answered.reports;
-        let Ok(left) = answer_bundle(shared, first, store, reports, &mut spare, workspace) else {
-            return Ending::OutOfMemory;
-        };
-        workspace = left;
+        match answer_bundle(shared, first, store, reports, &mut spare, workspace) {
+            Ok(left) => workspace = left,
+            Err(_) => return Ending::OutOfMemory,
+        }
     }
     unreachable!()
 }

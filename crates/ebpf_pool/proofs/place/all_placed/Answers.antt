@@ -1,4 +1,4 @@
-use Rattle.std.proofs.Common.{◌≡◌, map, arith}
+use Rattle.std.proofs.Common.{map, arith}
 use Rattle.ebpf_pool.specs.Numbering.{told_by}
 use Rattle.ebpf_pool.specs.Places.{IsIn}
 use Rattle.ebpf_pool.proofs.PlacingAll.{blank_from, blank_weight}

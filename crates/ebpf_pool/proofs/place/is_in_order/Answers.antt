@@ -1,6 +1,5 @@
-use Rattle.std.proofs.Common.{rules, ◌≡◌, ◌+◌, ◌<◌, min, suc, ℕ, List, [], ◌∷◌, ◌++◌, length, slice_index_or, take, sym, ap, subst, ◌∙◌, arith}
+use Rattle.std.proofs.Common.{rules, ◌≡◌, ◌+◌, ◌<◌, min, suc, ℕ, length, slice_index_or, take, ap, ◌∙◌, arith}
 use Rattle.std.proofs.Math.Seq.{take-suc}
-use Rattle.std.specs.List.{range_with_len}
 use Rattle.ebpf_pool.specs.Numbering.{jobs_in}
 use Rattle.ebpf_pool.proofs.NumberingLemmas.{in_order_more}
 use Rattle.ebpf_pool.proofs.place.is_in_order.Goals as goal

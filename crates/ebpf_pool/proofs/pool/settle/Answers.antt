@@ -1,4 +1,4 @@
-use Rattle.std.proofs.Common.{rules, ◌≡◌, ◌<◌, ℕ, List, All, length, map, vec_len, refl, ap, ◌∙◌, subst, arith}
+use Rattle.std.proofs.Common.{rules, ◌≡◌, ◌<◌, ℕ, List, length, map, vec_len, refl, ap, ◌∙◌, arith}
 use Rattle.owners_table.specs.Drawing.{NeverWraps}
 use Rattle.ebpf_pool.specs.declared.worker.Ending.TheVariants.{Through}
 use Rattle.ebpf_pool.specs.declared.outcome.Outcome.{Outcome}

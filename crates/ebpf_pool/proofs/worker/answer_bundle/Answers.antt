@@ -1,6 +1,5 @@
-use Rattle.std.proofs.Common.{[], ◌∷◌, ◌+◌, length, ap, arith, length-append}
-use Rattle.std.proofs.lemmas.List.{length-map}
-use Rattle.ebpf_pool.proofs.Answering.{answered_none, answered_next, answered_failed, made_are}
+use Rattle.std.proofs.Common.{[], ◌∷◌, length, ap, arith, length-append}
+use Rattle.ebpf_pool.proofs.Answering.{answered_none, answered_next, made_are}
 use Rattle.ebpf_pool.proofs.worker.answer_bundle.Goals as goal
 
 pub loop-number-init : goal.loop-number-init

@@ -65,16 +65,16 @@ returns-in_default-draw-clause-drawn g c =
           omega (arith, drawn, past, i.drawn x below),
     )
 
-pub returns-in_default-answer_bundle-clause-good : goal.returns-in_default-answer_bundle-clause-good
-returns-in_default-answer_bundle-clause-good g c =
+pub returns-in-Err-clause-good : goal.returns-in-Err-clause-good
+returns-in-Err-clause-good g c =
     let a = c.answer_bundle.ensures.answered in
     let good = Answers c.args.shared.now.programs.now c.args.shared.now.jobs.now in
     let pushed : c.push.new.self.items ≡ c.loop.answered.firsts.items ++ (c.in-Some-draw.bundle * c.args.shared.now.size) ∷ [] = search rules in
     let told = told_after _ _ _ _ _ _ _ a.made pushed a.kept a.numbers c.loop.invariant.whole a.few in
     subst (λ (l : List Numbered). All good l) (sym told) (All-append good _ a.made c.loop.invariant.good a.good)
 
-pub returns-in_default-answer_bundle-clause-goes : goal.returns-in_default-answer_bundle-clause-goes
-returns-in_default-answer_bundle-clause-goes g c =
+pub returns-in-Err-clause-goes : goal.returns-in-Err-clause-goes
+returns-in-Err-clause-goes g c =
     let a = c.answer_bundle.ensures.answered in
     let pushed : c.push.new.self.items ≡ c.loop.answered.firsts.items ++ (c.in-Some-draw.bundle * c.args.shared.now.size) ∷ [] = search rules in
     let told = told_after _ _ _ _ _ _ _ a.made pushed a.kept a.numbers c.loop.invariant.whole a.few in
