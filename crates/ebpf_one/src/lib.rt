@@ -27,5 +27,5 @@ mod program_text;
 mod request;
 pub mod source_list;
 mod sourced;
-mod store;
+pub mod store;
 mod text;

@@ -1,0 +1,11 @@
+use Rattle.std.proofs.Common.{◌∙◌, ℕ, List, get_or, ap}
+use Rattle.ebpf_cover.proofs.Nothing.{zeros_at}
+use Rattle.ebpf_cover.proofs.counts.Counts.none.Goals as goal
+
+pub returns-clause-executed : goal.returns-clause-executed
+returns-clause-executed c slot =
+    ap (λ (counts : List ℕ). get_or counts slot 0) (c.in_ok-vec.ensures.items_if_clones_equal (λ y e. e)) ∙ zeros_at 4096 slot
+
+pub returns-clause-taken : goal.returns-clause-taken
+returns-clause-taken c slot =
+    ap (λ (counts : List ℕ). get_or counts slot 0) (c.in_ok-vec-2.ensures.items_if_clones_equal (λ y e. e)) ∙ zeros_at 4096 slot
