@@ -29,4 +29,5 @@ pub mod CheckText
 pub mod ScriptFaults
 pub mod ExplainedCheckText
 pub mod ReplayText
+pub mod CoveredLines
 pub mod RunText
