@@ -134,6 +134,8 @@ pub struct RunOptions {
     pub reaps: u32,
     /// Whether a table of what the caches and the workers did is printed.
     pub stats: bool,
+    /// Whether the answer says how often each instruction was executed.
+    pub covered: bool,
     ghost workers_fit: { (1 ≤ workers) × (workers ≤ 64) },
     ghost reaps_fit: { reaps ≤ 1000 },
 }
@@ -311,6 +313,7 @@ fn run_command<'a>(alloc: Global) -> Result<Command<'a>, AllocError> {
     run.arg(workers_option(alloc))?
         .arg(reaps_option(alloc))?
         .arg(stats_option(alloc))?
+        .arg(covered_option(alloc))?
         .arg(json_option(alloc))?
         .arg(file_argument(alloc))
 }
@@ -338,6 +341,13 @@ fn stats_option<'a>(alloc: Global) -> Arg<'a> {
         .long("stats")
         .action(ArgAction::SetTrue)
         .help("Writes to standard error what the caches and the workers did")
+}
+
+fn covered_option<'a>(alloc: Global) -> Arg<'a> {
+    Arg::new(alloc, "covered")
+        .long("covered")
+        .action(ArgAction::SetTrue)
+        .help("Writes how often each instruction was executed, and each branch taken")
 }
 
 /// What the words of the command line ask for, where they are a command.
@@ -435,5 +445,6 @@ fn run_options(given: &ArgMatches<'_>) -> Option<RunOptions> {
         workers,
         reaps,
         stats: given.get_flag("stats"),
+        covered: given.get_flag("covered"),
     })
 }

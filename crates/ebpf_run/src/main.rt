@@ -150,6 +150,7 @@ fn run_jobs<R: AllocGlobal + Clock + Eprint + Threads + Wait + Sync, I: Read, W:
         reader,
         writer,
         options.format,
+        options.covered,
         options.workers,
         options.reaps,
         &mut watch,

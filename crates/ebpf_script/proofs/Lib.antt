@@ -14,3 +14,4 @@ pub mod PoolLemmas
 pub mod ScriptTextLemmas
 pub mod TripleLemmas
 pub mod ObjectLemmas
+pub mod CoveredLemmas

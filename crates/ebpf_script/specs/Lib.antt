@@ -28,4 +28,5 @@ pub mod CheckText
 pub mod ScriptFaults
 pub mod ExplainedCheckText
 pub mod ReplayText
+pub mod CoveredLines
 pub mod RunText

@@ -1,6 +1,6 @@
 -- The response of `run` to a text: the fault of the script, or the verdict on each program and then, where none is refused,
 -- what came of the jobs.
-use Rattle.std.specs.Prelude.{◌≡◌, ℕ, ◌++◌, List, [], All}
+use Rattle.std.specs.Prelude.{◌≡◌, ℕ, ◌++◌, Bool, List, [], All}
 use Rattle.ebpf_verify.specs.Subject.{Subject}
 use Rattle.owners_table.specs.Owning.{SeatView}
 use Rattle.ebpf_pool.specs.declared.jobs.Job.{Job}
@@ -11,8 +11,10 @@ use Rattle.ebpf_command.specs.declared.format.Format.TheVariants.{Text, Json}
 use Rattle.ebpf_command.specs.Response.{clean_response}
 use Rattle.ebpf_command.specs.Writing.{Responding}
 use Rattle.ebpf_script.specs.declared.reader.script.Dialect.TheVariants.{Jobs}
+use Rattle.ebpf_script.specs.CoveredLines.{covered_lines}
 use Rattle.ebpf_script.specs.OutcomeLines.{outcome_lines}
 use Rattle.ebpf_script.specs.OutcomeObjects.{outcome_objects}
+use Rattle.ebpf_script.specs.ParsedScript.{Named}
 use Rattle.ebpf_script.specs.Scripts.{parsed_text}
 use Rattle.ebpf_script.specs.ScriptText.{Doing, RespondsScript}
 use Rattle.ebpf_script.specs.Verdicts.{verdict_lines, accepted_of}
@@ -28,10 +30,15 @@ abbrev pub outcome_in : Format → Outcome → List ℕ
 outcome_in Text o = outcome_lines o
 outcome_in Json o = outcome_objects o
 
--- after the verdicts, an outcome of the jobs with the accepted programs
-abbrev pub DoesRun : Format → Doing
-DoesRun format parsed verdicts response =
-    (o : Outcome) × MayCome (accepted_of verdicts) parsed.jobs o × (response ≡ clean_response (verdict_lines format verdicts ++ outcome_in format o))
+-- the text of an outcome, and where that is asked for what the jobs executed
+abbrev pub outcome_text : Bool → Format → List Named → List Subject → List Job → Outcome → List ℕ
+outcome_text covered format programs subjects jobs o = outcome_in format o ++ covered_lines covered format programs subjects jobs o.reports
 
-abbrev pub RespondsRun : Format → Responding
-RespondsRun format text response = RespondsScript format (DoesRun format) (parsed_text Jobs text) response
+-- after the verdicts, an outcome of the jobs with the accepted programs
+abbrev pub DoesRun : Bool → Format → Doing
+DoesRun covered format parsed verdicts response =
+    (o : Outcome) × MayCome (accepted_of verdicts) parsed.jobs o
+    × (response ≡ clean_response (verdict_lines format verdicts ++ outcome_text covered format parsed.programs (accepted_of verdicts) parsed.jobs o))
+
+abbrev pub RespondsRun : Bool → Format → Responding
+RespondsRun covered format text response = RespondsScript format (DoesRun covered format) (parsed_text Jobs text) response

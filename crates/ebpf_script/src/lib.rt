@@ -7,11 +7,12 @@
 //! [`run::run`].
 //!
 //! To be read in this order: `reader`, `verdict_text`, `verdicts`, `check`, `script_fault`, `explained_check`, `event_codes`, `world_text`,
-//! `text_line`, `world_json`, `replay`, `outcome_text`, `outcome_json`, `stats`, `outcome_stats`, `meter`, `run`,
+//! `text_line`, `world_json`, `replay`, `outcome_text`, `outcome_json`, `stats`, `outcome_stats`, `meter`, `covered_text`, `run`,
 //! `stats_text`, `stats_json`, `watch`.
 #![tactic(auto)]
 
 pub mod check;
+mod covered_text;
 mod event_codes;
 pub mod explained_check;
 pub mod meter;

@@ -10,6 +10,7 @@ ghost use Rattle.ebpf_script.specs.Runnable.{IsRunnable};
 ghost use Rattle.ebpf_script.specs.RunText.{RespondsRun, DoesRun, MayCome, outcome_in};
 ghost use Rattle.ebpf_script.specs.ScriptText.{RespondsScript};
 
+use crate::covered_text::write_covered_in;
 use crate::meter::{Meter, Stage};
 use crate::outcome_json::write_outcome_objects;
 use crate::outcome_stats::stats_of;
@@ -30,7 +31,7 @@ use std::thread::Threads;
 use vmem_arena::MAX_PAGES;
 
 /// Reads a script of jobs, judges its programs, has the jobs done by this many workers, and writes what came of each, of the
-/// caches and of the shelves. The reaper makes this many passes beside them, and those of the script's lines. The meter learns how far
+/// caches and of the shelves, and where that is asked for how often all jobs executed each instruction. The reaper makes this many passes beside them, and those of the script's lines. The meter learns how far
 /// it is, and what the caches and the workers did.
 ///
 /// # Errors
@@ -42,6 +43,7 @@ pub fn run<R: Threads + Wait + Sync, I: Read, W: Write, M: Meter>(
     reader: &mut I,
     writer: &mut W,
     format: Format,
+    covered: bool,
     workers: u32,
     reaps: u32,
     meter: &mut M,
@@ -49,10 +51,10 @@ pub fn run<R: Threads + Wait + Sync, I: Read, W: Write, M: Meter>(
     requires workers { (1 ≤ workers) × (workers ≤ 64) }
     requires reaps { reaps ≤ 1000 }
     // A text of the input is written, and nothing else.
-    ensures response { Writes (RespondsRun format) (I.remaining reader.old) (W.contents writer.old) (W.contents writer.new) result }
+    ensures response { Writes (RespondsRun covered format) (I.remaining reader.old) (W.contents writer.old) (W.contents writer.new) result }
     ensures consumed { Reads (I.remaining reader.old) (I.remaining reader.new) result }
     ensures untouched { IfErr result (λ fault. fault ≢ Output → writer.new ≡ writer.old) }
-    ensures beginning { WritesBeginning (RespondsRun format) (I.remaining reader.old) (W.contents writer.old) (W.contents writer.new) result }
+    ensures beginning { WritesBeginning (RespondsRun covered format) (I.remaining reader.old) (W.contents writer.old) (W.contents writer.new) result }
 {
     let done = respond(
         alloc,
@@ -60,7 +62,7 @@ pub fn run<R: Threads + Wait + Sync, I: Read, W: Write, M: Meter>(
         writer,
         |input|
             requires { (1 ≤ workers) × (workers ≤ 64) × (reaps ≤ 1000) }
-        { answer_text(rt, alloc, format, input, workers, reaps, meter) },
+        { answer_text(rt, alloc, format, covered, input, workers, reaps, meter) },
     );
     meter.ended(Stage::Writing);
     done
@@ -71,6 +73,7 @@ fn answer_text<R: Threads + Wait + Sync, M: Meter>(
     rt: &R,
     alloc: Global,
     format: Format,
+    covered: bool,
     text: &[u8],
     workers: u32,
     reaps: u32,
@@ -78,11 +81,11 @@ fn answer_text<R: Threads + Wait + Sync, M: Meter>(
 ) -> Result<Answer, AllocError>
     requires workers { (1 ≤ workers) × (workers ≤ 64) }
     requires reaps { reaps ≤ 1000 }
-    ensures { IfOk result (RespondsRun format text.now) }
+    ensures { IfOk result (RespondsRun covered format text.now) }
 {
     meter.ended(Stage::Reading);
     match read_script(alloc, Dialect::Jobs, text) {
-        Ok(script) => answer_script(rt, alloc, format, script, workers, reaps, meter),
+        Ok(script) => answer_script(rt, alloc, format, covered, script, workers, reaps, meter),
         Err(ScriptStop::Fault(fault)) => answer_fault_in(alloc, format, fault.code, fault.line),
         Err(ScriptStop::NoMemory) => Err(AllocError),
     }
@@ -93,6 +96,7 @@ fn answer_script<R: Threads + Wait + Sync, M: Meter>(
     rt: &R,
     alloc: Global,
     format: Format,
+    covered: bool,
     script: Script,
     workers: u32,
     reaps: u32,
@@ -101,7 +105,7 @@ fn answer_script<R: Threads + Wait + Sync, M: Meter>(
     requires workers { (1 ≤ workers) × (workers ≤ 64) }
     requires reaps { reaps + script.passes < 2 ^ 32 }
     requires runnable { IsRunnable (parsed_script script) }
-    ensures { IfOk result (RespondsScript format (DoesRun format) (Ok (parsed_script script))) }
+    ensures { IfOk result (RespondsScript format (DoesRun covered format) (Ok (parsed_script script))) }
 {
     let verdicts = verdicts_on(alloc, format, &script.programs)?;
     if verdicts.refused {
@@ -123,6 +127,16 @@ fn answer_script<R: Threads + Wait + Sync, M: Meter>(
     )?;
     meter.ended(Stage::Running);
     write_outcome_in(&mut text, format, &outcome)?;
+    write_covered_in(
+        alloc,
+        &mut text,
+        covered,
+        format,
+        &script.programs,
+        &host.programs,
+        &script.jobs,
+        &outcome.reports.reports,
+    )?;
     meter.came(stats_of(outcome));
     Ok(Answer {
         text,

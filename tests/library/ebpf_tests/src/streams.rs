@@ -180,7 +180,7 @@ fn call<R: Threads + Wait + Sync>(
         "check" => check(alloc, reader, writer, Format::Text),
         "check --explain" => explained_check(alloc, reader, writer, Format::Text),
         "replay" => replay(alloc, reader, writer, Format::Text),
-        _ => run(rt, alloc, reader, writer, Format::Text, 2, 1, &mut NoMeter),
+        _ => run(rt, alloc, reader, writer, Format::Text, false, 2, 1, &mut NoMeter),
     }
 }
 

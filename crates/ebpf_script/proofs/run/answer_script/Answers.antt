@@ -1,4 +1,4 @@
-use Rattle.std.proofs.Common.{◌≡◌, ◌++◌, ℕ, Bool, false, List, string_bytes, Ok, sym, ap, subst, ◌∙◌}
+use Rattle.std.proofs.Common.{◌≡◌, ◌++◌, ℕ, Bool, false, List, string_bytes, Ok, sym, ap, subst, append_assoc, ◌∙◌, rules}
 use Rattle.ebpf_verify.specs.Subject.{Subject}
 use Rattle.ebpf_pool.specs.declared.outcome.Outcome.{Outcome}
 use Rattle.ebpf_command.specs.declared.format.Format.{Format}
@@ -6,8 +6,10 @@ use Rattle.ebpf_command.specs.Response.{clean_response}
 use Rattle.ebpf_script.specs.declared.verdicts.Verdicts.{Verdicts}
 use Rattle.ebpf_script.specs.ParsedScript.{ParsedScript}
 use Rattle.ebpf_script.specs.ReadScripts.{parsed_script}
-use Rattle.ebpf_script.specs.RunText.{DoesRun, MayCome, outcome_in}
+use Rattle.ebpf_script.specs.RunText.{DoesRun, MayCome, outcome_in, outcome_text}
+use Rattle.ebpf_script.specs.CoveredLines.{covered_lines}
 use Rattle.ebpf_script.specs.ScriptText.{RespondsScript, RespondsUnless}
+use Rattle.ebpf_script.specs.Verdicts.{verdict_lines}
 use Rattle.ebpf_script.specs.VerdictsKept.{AreKept}
 use Rattle.ebpf_script.proofs.VerdictLemmas.{known_kept, contexts_kept}
 use Rattle.ebpf_script.proofs.PoolLemmas.{pages_or, none_due}
@@ -24,18 +26,38 @@ outcome_of-requires-clause-fine g c κs within =
     rw (c.deref.ensures.value, c.unwrap_or.ensures) (none_due _ c.args.workers c.args.script.jobs.items pages.0 pages.1 c.requires.workers.0 c.requires.workers.1 runnable.few (λ k d lt. rw declared (runnable.declared k d lt)))
 
 -- the text after verdicts that are kept, where an outcome may come of the jobs
-told : (format : Format) (parsed : ParsedScript) (kept : Verdicts) (k : AreKept format parsed.programs kept) (o : Outcome) (text : List ℕ) → kept.refused ≡ false
-    → MayCome kept.accepted.items parsed.jobs o → text ≡ string_bytes kept.text ++ outcome_in format o → RespondsScript format (DoesRun format) (Ok parsed) (clean_response text)
-told format parsed kept k o text fine came is = (
+told : (covered : Bool) (format : Format) (parsed : ParsedScript) (kept : Verdicts) (k : AreKept format parsed.programs kept) (o : Outcome) (text : List ℕ) → kept.refused ≡ false
+    → MayCome kept.accepted.items parsed.jobs o → text ≡ string_bytes kept.text ++ outcome_text covered format parsed.programs kept.accepted.items parsed.jobs o
+    → RespondsScript format (DoesRun covered format) (Ok parsed) (clean_response text)
+told covered format parsed kept k o text fine came is = (
   k.verdicts,
   k.on,
-  subst (λ (b : Bool). RespondsUnless format b k.verdicts (DoesRun format parsed k.verdicts) (clean_response text)) (sym fine ∙ k.refused) (
+  subst (λ (b : Bool). RespondsUnless format b k.verdicts (DoesRun covered format parsed k.verdicts) (clean_response text)) (sym fine ∙ k.refused) (
     o,
     subst (λ (programs : List Subject). MayCome programs parsed.jobs o) k.accepted came,
-    ap clean_response (is ∙ ap (λ (lines : List ℕ). lines ++ outcome_in format o) k.text),
+    ap clean_response (is
+        ∙ ap (λ (lines : List ℕ). lines ++ outcome_text covered format parsed.programs kept.accepted.items parsed.jobs o) k.text
+        ∙ ap (λ (programs : List Subject). verdict_lines format k.verdicts ++ outcome_text covered format parsed.programs programs parsed.jobs o) k.accepted),
   ),
 )
 
+pub write_covered_in-requires-clause-known : goal.write_covered_in-requires-clause-known
+write_covered_in-requires-clause-known g c = let known = known_kept _ _ c.in_ok-verdicts.verdicts c.in_ok-verdicts.ensures in search (rules, known)
+
+-- two pieces after a text
+joined : (before a b mid text : List ℕ) → mid ≡ before ++ a → text ≡ mid ++ b → text ≡ before ++ (a ++ b)
+joined before a b mid text first then = then ∙ ap (λ (xs : List ℕ). xs ++ b) first ∙ append_assoc before a b
+
 pub returns : goal.returns
-returns g c = told c.args.format (parsed_script c.args.script) c.in_ok-verdicts.verdicts c.in_ok-verdicts.ensures c.in_ok-outcome.outcome _ c.if-verdicts.false
-    (subst (λ jobs. MayCome c.in_ok-verdicts.verdicts.accepted.items jobs c.in_ok-outcome.outcome) c.deref.ensures.value c.in_ok-outcome.ensures) c.in_ok-write_outcome_in.ensures
+returns g c =
+    let kept = c.in_ok-verdicts.verdicts in
+    let o = c.in_ok-outcome.outcome in
+    let programs = (parsed_script c.args.script).programs in
+    let jobs = c.args.script.jobs.items in
+    let mid = string_bytes c.write_outcome_in.new.text in
+    let reports : c.deref-4.result.now ≡ o.reports = c.deref-4.ensures.value ∙ ap (λ (x : Outcome). x.reports) c.outcome.view_is in
+    let more : string_bytes c.write_covered_in.new.text ≡ mid ++ covered_lines c.args.covered c.args.format programs kept.accepted.items jobs o.reports =
+    c.in_ok-write_covered_in.ensures ∙ (λ n. mid ++ covered_lines c.args.covered c.args.format programs (c.deref-2.ensures.value n) (c.deref-3.ensures.value n) (reports n)) in
+    told c.args.covered c.args.format (parsed_script c.args.script) kept c.in_ok-verdicts.ensures o _ c.if-verdicts.false
+    (subst (λ jobs. MayCome kept.accepted.items jobs o) c.deref.ensures.value c.in_ok-outcome.ensures)
+    (joined (string_bytes kept.text) (outcome_in c.args.format o) (covered_lines c.args.covered c.args.format programs kept.accepted.items jobs o.reports) mid (string_bytes c.write_covered_in.new.text) c.in_ok-write_outcome_in.ensures more)

@@ -6,7 +6,7 @@ use Rattle.ebpf_script.proofs.ScriptTextLemmas.{script_cuts}
 use Rattle.ebpf_script.proofs.run.run.Goals as goal
 
 pub returns-clause-response : goal.returns-clause-response
-returns-clause-response g c = response_through (RespondsRun c.args.format) _ _ _ _ c.respond-done.ensures.response (λ all response k. response_of_shown (RespondsRun c.args.format) (script_cuts c.args.format Jobs (DoesRun c.args.format)) all response k.0 k.2 (let h = k.1 in search rules))
+returns-clause-response g c = response_through (RespondsRun c.args.covered c.args.format) _ _ _ _ c.respond-done.ensures.response (λ all response k. response_of_shown (RespondsRun c.args.covered c.args.format) (script_cuts c.args.format Jobs (DoesRun c.args.covered c.args.format)) all response k.0 k.2 (let h = k.1 in search rules))
 
 pub returns-clause-beginning : goal.returns-clause-beginning
-returns-clause-beginning g c = begun_through (RespondsRun c.args.format) _ _ _ _ c.respond-done.ensures.beginning (λ all response k. response_of_shown (RespondsRun c.args.format) (script_cuts c.args.format Jobs (DoesRun c.args.format)) all response k.0 k.2 (let h = k.1 in search rules))
+returns-clause-beginning g c = begun_through (RespondsRun c.args.covered c.args.format) _ _ _ _ c.respond-done.ensures.beginning (λ all response k. response_of_shown (RespondsRun c.args.covered c.args.format) (script_cuts c.args.format Jobs (DoesRun c.args.covered c.args.format)) all response k.0 k.2 (let h = k.1 in search rules))

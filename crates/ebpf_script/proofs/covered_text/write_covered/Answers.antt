@@ -1,0 +1,33 @@
+use Rattle.std.proofs.Common.{◌≡◌, ◌++◌, List, drop, get_or, map, string_bytes, ap, subst, rules}
+use Rattle.ebpf_script.specs.CoveredLines.{programs_from}
+use Rattle.ebpf_script.specs.ParsedScript.{Named}
+use Rattle.ebpf_script.specs.ReadScripts.{named}
+use Rattle.ebpf_script.proofs.CoveredLemmas.{program_next, program_past, programs_done}
+use Rattle.ebpf_script.proofs.covered_text.write_covered.Goals as goal
+
+pub loop-name-preserved-then-program-accepted : goal.loop-name-preserved-then-program-accepted
+loop-name-preserved-then-program-accepted c =
+    let format = c.args.format in
+    let jobs = c.args.jobs.now in
+    let reports = c.args.reports.now in
+    let k = c.loop-name.program in
+    let s = c.index-accepted-program.result in
+    let all = string_bytes c.args.text.now ++ programs_from format jobs reports 0 (map named c.args.programs.now.entries) c.args.accepted.now in
+    let same : get_or c.args.accepted.now k s ≡ s = search rules in
+    program_next format jobs reports k (named (c.in-Some.name.now, c.in-Some.field-0-1.now)) (map named c.next.new.self) s c.args.accepted.now c.in_ok-counts.counts all
+    (string_bytes c.loop-name.text) (string_bytes c.write_slots.new.text) c.if-program-accepted.true same c.in_ok-counts.ensures (rw (← c.as_str.ensures.value, ← c.program.ensures.value) c.in_ok-write_slots.ensures)
+    (subst (λ (xs : List Named). string_bytes c.loop-name.text ++ programs_from format jobs reports k xs (drop k c.args.accepted.now) ≡ all) (ap (map named) c.in-Some.ensures.steps) c.loop-name.invariant)
+
+pub loop-name-preserved : goal.loop-name-preserved
+loop-name-preserved c =
+    let format = c.args.format in
+    let jobs = c.args.jobs.now in
+    let reports = c.args.reports.now in
+    let k = c.loop-name.program in
+    let all = string_bytes c.args.text.now ++ programs_from format jobs reports 0 (map named c.args.programs.now.entries) c.args.accepted.now in
+    program_past format jobs reports k (named (c.in-Some.name.now, c.in-Some.field-0-1.now)) (map named c.next.new.self) c.args.accepted.now all (string_bytes c.loop-name.text) c.if-program-accepted.false
+    (subst (λ (xs : List Named). string_bytes c.loop-name.text ++ programs_from format jobs reports k xs (drop k c.args.accepted.now) ≡ all) (ap (map named) c.in-Some.ensures.steps) c.loop-name.invariant)
+
+pub returns : goal.returns
+returns c =
+    programs_done c.args.format c.args.jobs.now c.args.reports.now c.loop-name.program (map named c.loop-name.name-iterator) (drop c.loop-name.program c.args.accepted.now) _ (string_bytes c.loop-name.text) (ap (map named) c.in-None.ensures.steps.0) c.loop-name.invariant
