@@ -1,13 +1,13 @@
 //! From bytes to a program.
 
-ghost use Rattle.std.specs.Prelude.{◌≡◌, ◌≤◌, ◌<◌, ◌+◌, ◌*◌, [], ◌∷◌, ℕ, take, drop, None, Some, false, List, Option, length, IfOk, IfErr, OnOk, MatchResult};
+ghost use Rattle.std.specs.Prelude.{◌≡◌, ◌≤◌, ◌<◌, ◌+◌, ◌*◌, ◌%◌, [], ◌∷◌, ℕ, take, drop, None, Some, false, List, Option, length, IfOk, IfErr, OnOk, MatchResult};
 ghost use Rattle.ebpf_insn.specs.declared.insn.Insn.{Insn};
 ghost use Rattle.ebpf_insn.specs.declared.fault.DecodeFault.TheVariants.{Bad, NoMemory};
 ghost use Rattle.ebpf_insn.specs.declared.program.TheConstants.{MAX_SLOTS};
 ghost use Rattle.ebpf_insn.specs.Program.{slots_in};
 ghost use Rattle.ebpf_insn.specs.Encoding.{slots_of, encoding, program_bytes, IsDefined, IsWellFormed, IsProgram};
 ghost use Rattle.ebpf_insn.specs.Decoding.{slot_fault, place_fault, decode_fault, second_at, second_of, is_second_half, IsDecodeFault};
-ghost use Rattle.ebpf_insn.specs.Opcodes.{form_of};
+ghost use Rattle.ebpf_insn.specs.Opcodes.{form_of, alu_class, jump_class, operand_bit};
 ghost use Rattle.ebpf_insn.specs.Slot.{listed};
 
 use crate::decoded::insn_at_slot;
@@ -17,7 +17,8 @@ use crate::fields::{
 };
 use crate::insn::{Insn, Width};
 use crate::opcode::{
-    Form, Operand, alu_form, is_left_out, jump_form, load_form, store_form, wide_form,
+    Form, Operand, alu_op, condition, is_left_out, leaving_form, load_form, lone_form, store_form,
+    wide_form,
 };
 use crate::program::{MAX_SLOTS, Program};
 use crate::register::Reg;
@@ -96,19 +97,58 @@ fn decode_slot(slot: Slot, bytes: &[u8]) -> Result<Insn, DecodeCode>
     ensures fault { MatchResult result (λ _. slot_fault slot (second_at bytes.now) ≡ None) (λ code. slot_fault slot (second_at bytes.now) ≡ Some code) }
 {
     let code = slot.opcode;
-    match code % 8 {
-        0 => decode_form(wide_form(code), slot, bytes),
-        1 => decode_form(load_form(code), slot, bytes),
-        2 => decode_form(store_form(code, Operand::Immediate), slot, bytes),
-        3 => decode_form(store_form(code, Operand::Register), slot, bytes),
-        4 => decode_form(alu_form(code, Width::W32), slot, bytes),
-        5 => decode_form(jump_form(code, Width::W64), slot, bytes),
-        6 => decode_form(jump_form(code, Width::W32), slot, bytes),
-        _ => decode_form(alu_form(code, Width::W64), slot, bytes),
+    // The low four bits are the class, and of arithmetic and jumps the kind of second operand too.
+    match code % 16 {
+        0 | 8 => decode_form(wide_form(code), slot, bytes),
+        1 | 9 => decode_form(load_form(code), slot, bytes),
+        2 | 10 => decode_form(store_form(code, Operand::Immediate), slot, bytes),
+        3 | 11 => decode_form(store_form(code, Operand::Register), slot, bytes),
+        4 => decode_alu(Width::W32, Operand::Immediate, slot, bytes),
+        5 => decode_jump(Width::W64, Operand::Immediate, slot, bytes),
+        6 => decode_jump(Width::W32, Operand::Immediate, slot, bytes),
+        7 => decode_alu(Width::W64, Operand::Immediate, slot, bytes),
+        12 => decode_alu(Width::W32, Operand::Register, slot, bytes),
+        13 => decode_jump(Width::W64, Operand::Register, slot, bytes),
+        14 => decode_jump(Width::W32, Operand::Register, slot, bytes),
+        _ => decode_alu(Width::W64, Operand::Register, slot, bytes),
     }
 }
 
-// The same, where this is the opcode's form. Each class has its own copy, in which little is left to tell apart.
+// The same for arithmetic at a width, with this second operand.
+#[inline(always)]
+fn decode_alu(width: Width, operand: Operand, slot: Slot, bytes: &[u8]) -> Result<Insn, DecodeCode>
+    requires { slot.opcode % 16 ≡ alu_class width + 8 * operand_bit operand }
+    ensures found { IfOk result (λ i. IsDefined i × (slots_of i ≡ take (slots_in i) (slot ∷ listed (second_at bytes.now)))) }
+    ensures fault { MatchResult result (λ _. slot_fault slot (second_at bytes.now) ≡ None) (λ code. slot_fault slot (second_at bytes.now) ≡ Some code) }
+{
+    match alu_op(slot.opcode / 16) {
+        Some(op) => decode_form(Some(Form::Alu { width, op, operand }), slot, bytes),
+        None => decode_form(lone_form(slot.opcode, width), slot, bytes),
+    }
+}
+
+// The same for jumps at a width, with this second operand.
+#[inline(always)]
+fn decode_jump(width: Width, operand: Operand, slot: Slot, bytes: &[u8]) -> Result<Insn, DecodeCode>
+    requires { slot.opcode % 16 ≡ jump_class width + 8 * operand_bit operand }
+    ensures found { IfOk result (λ i. IsDefined i × (slots_of i ≡ take (slots_in i) (slot ∷ listed (second_at bytes.now)))) }
+    ensures fault { MatchResult result (λ _. slot_fault slot (second_at bytes.now) ≡ None) (λ code. slot_fault slot (second_at bytes.now) ≡ Some code) }
+{
+    match condition(slot.opcode / 16) {
+        Some(cond) => decode_form(
+            Some(Form::Branch {
+                width,
+                cond,
+                operand,
+            }),
+            slot,
+            bytes,
+        ),
+        None => decode_form(leaving_form(slot.opcode, width), slot, bytes),
+    }
+}
+
+// The same, where this is the opcode's form. Each caller has its own copy, in which little is left to tell apart.
 #[inline(always)]
 fn decode_form(form: Option<Form>, slot: Slot, bytes: &[u8]) -> Result<Insn, DecodeCode>
     requires { form ≡ form_of slot.opcode }

@@ -4,7 +4,7 @@
 //! second operand comes from, and the high four bits are the code. In the load and store classes (0 to 3) the high three
 //! bits are the mode and the next two the size.
 
-ghost use Rattle.std.specs.Prelude.{◌≡◌, ◌≤◌, ◌/◌, ◌%◌, Some};
+ghost use Rattle.std.specs.Prelude.{◌≡◌, ◌≤◌, ◌/◌, ◌%◌, Some, None};
 ghost use Rattle.ebpf_insn.specs.Opcodes.{opcode_of, form_of, store_class, alu_class, jump_class, alu_op_of, condition_of};
 ghost use Rattle.ebpf_insn.specs.Opcodes.{size_code, operand_bit, alu_code, condition_code, is_left_out};
 
@@ -103,55 +103,41 @@ pub(crate) fn store_form(opcode: u8, operand: Operand) -> Option<Form>
     }
 }
 
-// The classes ALU and ALU64.
-#[inline(always)]
-pub(crate) fn alu_form(opcode: u8, width: Width) -> Option<Form>
-    requires { opcode % 8 ≡ alu_class width }
+// The classes ALU and ALU64, where the code means no operation on two operands.
+pub(crate) fn lone_form(opcode: u8, width: Width) -> Option<Form>
+    requires class { opcode % 8 ≡ alu_class width }
+    requires none { alu_op_of (opcode / 16) ≡ None }
     ensures { result ≡ form_of opcode }
 {
-    match alu_op(opcode / 16) {
-        Some(op) => Some(Form::Alu {
-            width,
-            op,
-            operand: operand_at(opcode),
+    match opcode {
+        0x84 | 0x87 => Some(Form::Neg { width }),
+        0xd4 => Some(Form::Swap {
+            order: Order::Little,
         }),
-        None => match opcode {
-            0x84 | 0x87 => Some(Form::Neg { width }),
-            0xd4 => Some(Form::Swap {
-                order: Order::Little,
-            }),
-            0xdc => Some(Form::Swap { order: Order::Big }),
-            0xd7 => Some(Form::Swap { order: Order::Flip }),
-            _ => None,
-        },
+        0xdc => Some(Form::Swap { order: Order::Big }),
+        0xd7 => Some(Form::Swap { order: Order::Flip }),
+        _ => None,
     }
 }
 
-// The classes JMP and JMP32.
-#[inline(always)]
-pub(crate) fn jump_form(opcode: u8, width: Width) -> Option<Form>
-    requires { opcode % 8 ≡ jump_class width }
+// The classes JMP and JMP32, where the code means no condition.
+pub(crate) fn leaving_form(opcode: u8, width: Width) -> Option<Form>
+    requires class { opcode % 8 ≡ jump_class width }
+    requires none { condition_of (opcode / 16) ≡ None }
     ensures { result ≡ form_of opcode }
 {
-    match condition(opcode / 16) {
-        Some(cond) => Some(Form::Branch {
-            width,
-            cond,
-            operand: operand_at(opcode),
-        }),
-        None => match opcode {
-            0x05 => Some(Form::Jump),
-            0x06 => Some(Form::JumpFar),
-            0x85 => Some(Form::Call),
-            0x95 => Some(Form::Exit),
-            _ => None,
-        },
+    match opcode {
+        0x05 => Some(Form::Jump),
+        0x06 => Some(Form::JumpFar),
+        0x85 => Some(Form::Call),
+        0x95 => Some(Form::Exit),
+        _ => None,
     }
 }
 
 // The operation of an arithmetic code, of the signed and the unsigned one the unsigned.
 #[inline(always)]
-fn alu_op(code: u8) -> Option<AluOp>
+pub(crate) fn alu_op(code: u8) -> Option<AluOp>
     ensures { result ≡ alu_op_of code }
 {
     match code {
@@ -173,7 +159,7 @@ fn alu_op(code: u8) -> Option<AluOp>
 
 // The condition of a jump's code.
 #[inline(always)]
-fn condition(code: u8) -> Option<Cond>
+pub(crate) fn condition(code: u8) -> Option<Cond>
     ensures { result ≡ condition_of code }
 {
     match code {
@@ -202,18 +188,6 @@ fn size(opcode: u8) -> Size
         1 => Size::H,
         2 => Size::B,
         _ => Size::D,
-    }
-}
-
-// Where the second operand comes from, by the bit 0x08.
-#[inline(always)]
-fn operand_at(opcode: u8) -> Operand
-    ensures { operand_bit result ≡ opcode / 8 % 2 }
-{
-    if opcode / 8 % 2 == 0 {
-        Operand::Immediate
-    } else {
-        Operand::Register
     }
 }
 
