@@ -37,7 +37,11 @@ pub(crate) fn edges_from(
     ensures jump { IfOk result (λ e. LeadsForward program.now slot e.jump) }
     ensures refused { IfErr result (λ code. insn_fault program.now slot (Some insn) ≡ Some code) }
 {
-    // Most have no jump.
+    // Arithmetic, which most instructions are, takes one slot and goes on to the next.
+    if let Insn::Alu { .. } = insn {
+        let fall = fall_from(program, slot, insn, reaches)?;
+        return Ok(Edges { fall, jump: None });
+    }
     let Some(displacement) = displacement_of(insn) else {
         let fall = fall_from(program, slot, insn, reaches)?;
         return Ok(Edges { fall, jump: None });
