@@ -45,7 +45,7 @@ impl EntryState {
     }
 
     /// Adds one more state to what comes, which takes no memory.
-    #[inline]
+    #[inline(always)]
     pub(crate) fn take(&mut self, state: State)
         ensures { self.new ≡ with_state self.old state }
     {

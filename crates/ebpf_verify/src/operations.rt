@@ -89,7 +89,7 @@ pub(crate) fn one_number(src: Abs, dst: Reg) -> Result<Range, VerifyCode>
     }
 }
 
-// An operation on two numbers.
+// An operation on two numbers, which most operands are.
 fn binary(op: AluOp, width: Width, left: Abs, right: Abs, dst: Reg) -> Result<Abs, VerifyCode>
     requires left { IsProper left }
     requires right { IsProper right }
@@ -99,9 +99,10 @@ fn binary(op: AluOp, width: Width, left: Abs, right: Abs, dst: Reg) -> Result<Ab
     ensures refused { IfErr result (λ code. binary_refusal left right dst ≡ Some code) }
 {
     match (left, right) {
+        (Abs::Num(_), Abs::Num(_)) if is_frame_pointer(dst) => Err(VerifyCode::FramePointerWritten),
+        (Abs::Num(a), Abs::Num(b)) => Ok(Abs::Num(alu(op, width, a, b))),
         (Abs::Unset, _) | (_, Abs::Unset) => Err(VerifyCode::UnsetRegister),
         _ if is_frame_pointer(dst) => Err(VerifyCode::FramePointerWritten),
-        (Abs::Num(a), Abs::Num(b)) => Ok(Abs::Num(alu(op, width, a, b))),
         (Abs::May(_), _) | (_, Abs::May(_)) => Err(VerifyCode::UntestedAnswer),
         _ => Err(VerifyCode::PointerMisused),
     }

@@ -5,8 +5,9 @@ ghost use Rattle.ebpf_insn.specs.declared.program.TheConstants.{MAX_SLOTS};
 ghost use Rattle.ebpf_insn.specs.declared.register.Reg.{Reg};
 ghost use Rattle.ebpf_range.specs.Refinements.{refinement};
 ghost use Rattle.ebpf_state.specs.References.{settled};
-ghost use Rattle.ebpf_state.specs.States.{register_of};
-ghost use Rattle.ebpf_verify.specs.Branches.{with_operands, is_null_where, after_branch};
+ghost use Rattle.ebpf_state.specs.States.{register_of, with_register};
+ghost use Rattle.ebpf_verify.specs.Branches.{operand, with_operands, is_null_where, after_branch};
+ghost use Rattle.ebpf_verify.specs.Operations.{alu_refusal, result_of};
 ghost use Rattle.ebpf_verify.specs.Rules.{Acts, exit_refusal, refusal_of_branch, refusal, after_operation, after_fall, after_jump};
 ghost use Rattle.ebpf_verify.specs.Verdict.{IsSlotFault};
 ghost use Rattle.ebpf_verify.specs.Entry.{with_sent, ChangesEach, Sends, SendsBoth};
@@ -17,9 +18,9 @@ use crate::decl::Decl;
 use crate::entry::EntryState;
 use crate::fault::{VerifyFault, refused_at};
 use crate::memory::{Store, store_value};
-use crate::rules::{exit_refusal, operation};
+use crate::rules::{compute, exit_refusal, operation};
 use ebpf_flow::edges::Edges;
-use ebpf_insn::insn::{Cond, Insn};
+use ebpf_insn::insn::{AluOp, Cond, Insn, Source, Width};
 use ebpf_insn::register::Reg;
 use ebpf_range::branches::refine;
 use ebpf_range::range::Range;
@@ -69,6 +70,27 @@ pub(crate) fn pass_on(
         }
     }
     Ok(())
+}
+
+/// Says in the state what is known after arithmetic with a second operand, or says why that is refused.
+#[inline(always)]
+pub(crate) fn compute_at(
+    width: Width,
+    op: AluOp,
+    dst: Reg,
+    src: &Source,
+    slot: usize,
+    state: &mut State,
+) -> Result<(), VerifyFault>
+    requires { slot < MAX_SLOTS }
+    ensures fine { OnOk result (alu_refusal width op (register_of state.old dst) (operand state.old width src.now) dst ≡ None) }
+    ensures known { OnOk result (state.new ≡ with_register state.old dst (result_of width op (register_of state.old dst) (operand state.old width src.now))) }
+    ensures refused { IfErr result (IsSlotFault slot (alu_refusal width op (register_of state.old dst) (operand state.old width src.now) dst)) }
+{
+    match compute(width, op, dst, src, state) {
+        Ok(()) => Ok(()),
+        Err(code) => Err(refused_at(slot, code)),
+    }
 }
 
 // Says in the state what is known after an instruction that goes to the slot after it alone, or says why that is refused.
@@ -125,6 +147,15 @@ fn operate(
     ensures known { OnOk result (after_operation insn.now state.old ≡ Some state.new) }
     ensures refused { IfErr result (IsSlotFault slot (refusal decl rows.now insn.now state.old)) }
 {
+    if let Insn::Alu {
+        width,
+        op,
+        dst,
+        src,
+    } = insn
+    {
+        return compute_at(*width, *op, *dst, src, slot, state);
+    }
     match operation(decl, rows, insn, state) {
         Ok((dst, value)) => {
             state.set(dst, value);
@@ -267,9 +298,9 @@ fn fall_goes_first(edges: Edges, entries: &[EntryState]) -> bool
     }
 }
 
-// Sends a state along an edge. Where nothing came to its target that is two stores, so it is in each caller.
+/// Sends a state along an edge. Where nothing came to its target that is two stores, so it is in each caller.
 #[inline(always)]
-fn send(entries: &mut Vec<EntryState>, edge: Option<u16>, state: State)
+pub(crate) fn send(entries: &mut Vec<EntryState>, edge: Option<u16>, state: State)
     requires { IfSome edge (λ to. to < length entries.old.items) }
     ensures len { length entries.new.items ≡ length entries.old.items }
     ensures sent { Sends entries.old.items entries.new.items edge (Some state) }

@@ -1,10 +1,15 @@
 //! The rules of the instructions: what refuses one, or else what it writes.
 
 ghost use Rattle.std.specs.Prelude.{◌≡◌, ◌≤◌, OnOk, IfOk, IfErr, IsSome, Some, None, List};
+ghost use Rattle.ebpf_insn.specs.declared.insn.AluOp.{AluOp};
+ghost use Rattle.ebpf_insn.specs.declared.insn.Source.{Source};
+ghost use Rattle.ebpf_insn.specs.declared.insn.Width.{Width};
+ghost use Rattle.ebpf_insn.specs.declared.register.Reg.{Reg};
 ghost use Rattle.ebpf_state.specs.declared.value.Abs.{Abs};
 ghost use Rattle.ebpf_state.specs.Abstract.{IsProper};
 ghost use Rattle.ebpf_state.specs.States.{register_of, with_register};
-ghost use Rattle.ebpf_verify.specs.Operations.{unary_refusal};
+ghost use Rattle.ebpf_verify.specs.Branches.{operand};
+ghost use Rattle.ebpf_verify.specs.Operations.{unary_refusal, alu_refusal, result_of};
 ghost use Rattle.ebpf_verify.specs.Rules.{ChangesNumber, exit_refusal, refusal, after_operation};
 ghost use Rattle.ebpf_verify.specs.declared.decl.Decl.{Decl};
 ghost use Rattle.ebpf_state.specs.declared.kinds.KindRow.{KindRow};
@@ -14,7 +19,7 @@ use crate::decl::Decl;
 use crate::fault::VerifyCode;
 use crate::memory::{Load, load_value};
 use crate::operations::{alu_value, constant_value, one_number};
-use ebpf_insn::insn::Insn;
+use ebpf_insn::insn::{AluOp, Insn, Source, Width};
 use ebpf_insn::register::Reg;
 use ebpf_range::range::Range;
 use ebpf_range::results::{neg, sext, swap};
@@ -22,7 +27,27 @@ use ebpf_state::kinds::KindRow;
 use ebpf_state::state::State;
 use ebpf_state::value::Abs;
 
-/// The register that an arithmetic instruction or a load writes and what is known of it afterwards, or the first code that
+/// Says in the state what is known after an operation on a register and another operand, or says which code refuses it. Most
+/// instructions are such, so it takes few arguments and is no part of a larger function.
+#[inline(never)]
+pub(crate) fn compute(
+    width: Width,
+    op: AluOp,
+    dst: Reg,
+    src: &Source,
+    state: &mut State,
+) -> Result<(), VerifyCode>
+    ensures fine { OnOk result (alu_refusal width op (register_of state.old dst) (operand state.old width src.now) dst ≡ None) }
+    ensures known { OnOk result (state.new ≡ with_register state.old dst (result_of width op (register_of state.old dst) (operand state.old width src.now))) }
+    ensures refused { IfErr result (λ code. alu_refusal width op (register_of state.old dst) (operand state.old width src.now) dst ≡ Some code) }
+{
+    let right = operand(state, width, *src);
+    let value = alu_value(width, op, dst, right, state)?;
+    state.set(dst, value);
+    Ok(())
+}
+
+/// The register that a load or an instruction with one operand writes and what is known of it afterwards, or the first code that
 /// refuses the instruction. Its operands are read once for both.
 pub(crate) fn operation(
     decl: Decl,
@@ -30,22 +55,14 @@ pub(crate) fn operation(
     insn: &Insn,
     state: &State,
 ) -> Result<(Reg, Abs), VerifyCode>
-    requires { IsSome (after_operation insn.now state.now) }
+    requires writes { IsSome (after_operation insn.now state.now) }
+    requires other { (width : Width) (op : AluOp) (dst : Reg) (src : Source) → insn.now ≡ Insn.Alu width op dst src → ⊥ }
     ensures fine { OnOk result (refusal decl rows.now insn.now state.now ≡ None) }
     ensures value { IfOk result (λ written. after_operation insn.now state.now ≡ Some (with_register state.now written.0 written.1)) }
     ensures proper { IfOk result (λ written. IsProper written.1) }
     ensures refused { IfErr result (λ code. refusal decl rows.now insn.now state.now ≡ Some code) }
 {
     match *insn {
-        Insn::Alu {
-            width,
-            op,
-            dst,
-            src,
-        } => {
-            let right = operand(state, width, src);
-            Ok((dst, alu_value(width, op, dst, right, state)?))
-        }
         Insn::Load {
             size,
             signed,

@@ -22,17 +22,18 @@ ghost use Rattle.ebpf_state.specs.States.{first_state};
 ghost use Rattle.ebpf_verify.specs.declared.fault.VerifyCode.{VerifyCode};
 ghost use Rattle.ebpf_verify.specs.declared.fault.VerifyFault.TheVariants.{NoMemory};
 ghost use Rattle.ebpf_insn.specs.Faults.{lowest};
-ghost use Rattle.ebpf_verify.specs.Entry.{first_entry, entry_in, after_visit};
+ghost use Rattle.ebpf_verify.specs.Entry.{first_entry, entry_in, after_visit, with_sent, ChangesEach};
+ghost use Rattle.ebpf_verify.specs.Rules.{refusal};
 ghost use Rattle.ebpf_verify.specs.Verdict.{refusal_in, verdict, IsVerifyFault, AreRows, IsSlotFault};
 
 use crate::call_count::{Counted, calls_in};
 use crate::decl::Decl;
 use crate::entry::EntryState;
 use crate::fault::{VerifyCode, VerifyFault, refused_at};
-use crate::propagate::pass_on;
+use crate::propagate::{compute_at, pass_on, send};
 use crate::verified::Verified;
-use ebpf_flow::edges::Edges;
 use ebpf_flow::flowed::Flowed;
+use ebpf_insn::insn::Insn;
 use ebpf_operation::translate::operations_of;
 use ebpf_state::kinds::KindRow;
 use ebpf_state::state::State;
@@ -92,6 +93,7 @@ pub(crate) fn first_entries(alloc: Global, slots: usize) -> Result<Vec<EntryStat
 }
 
 /// Takes what came to a slot, and sends it on, or says why it is refused.
+#[inline(always)]
 pub(crate) fn visit(
     flowed: &Flowed,
     decl: Decl,
@@ -107,7 +109,6 @@ pub(crate) fn visit(
     ensures sent { OnOk result ((t : ℕ) → slot < t → t < length flowed.now → entry_in entries.new.items t ≡ after_visit flowed.now slot entries.old.items t) }
     ensures refused { IfErr result (IsSlotFault slot (refusal_in decl rows.now (insn_at flowed.now slot) (entry_in entries.old.items slot))) }
 {
-    let edges = flowed.successors(slot);
     let Some(insn) = flowed.program().at(slot) else {
         return match entries[slot] {
             EntryState::Conflict => Err(refused_at(slot, VerifyCode::PathsDiffer)),
@@ -115,8 +116,52 @@ pub(crate) fn visit(
         };
     };
     match mem::replace(&mut entries[slot], EntryState::Unreached) {
-        EntryState::Known(state) => pass_on(decl, rows, insn, slot, state, edges, entries),
+        EntryState::Known(state) => pass_along(flowed, decl, rows, insn, slot, state, entries),
         EntryState::Conflict => Err(refused_at(slot, VerifyCode::PathsDiffer)),
         EntryState::Unreached => Ok(()),
+    }
+}
+
+// Sends what is known before the instruction at a slot on along its edges, or says why it is refused.
+#[inline(always)]
+fn pass_along(
+    flowed: &Flowed,
+    decl: Decl,
+    rows: &[KindRow],
+    insn: &Insn,
+    slot: usize,
+    mut state: State,
+    entries: &mut Vec<EntryState>,
+) -> Result<(), VerifyFault>
+    requires here { insn_at flowed.now slot ≡ Some insn.now }
+    requires inside { slot < MAX_SLOTS }
+    requires few { length rows.now ≤ 8 }
+    requires len { length entries.old.items ≡ length flowed.now }
+    ensures len { length entries.new.items ≡ length entries.old.items }
+    ensures fine { OnOk result (refusal decl rows.now insn.now state ≡ None) }
+    ensures sent { OnOk result (ChangesEach entries.old.items entries.new.items (λ t. with_sent (Some insn.now) (edges_at flowed.now slot) slot t (EntryState.Known state))) }
+    ensures refused { IfErr result (IsSlotFault slot (refusal decl rows.now insn.now state)) }
+{
+    match insn {
+        // Arithmetic, which most instructions are, asks for no more than its state and where it goes on.
+        Insn::Alu {
+            width,
+            op,
+            dst,
+            src,
+        } => {
+            compute_at(*width, *op, *dst, src, slot, &mut state)?;
+            send(entries, flowed.successors(slot).fall, state);
+            Ok(())
+        }
+        _ => pass_on(
+            decl,
+            rows,
+            insn,
+            slot,
+            state,
+            flowed.successors(slot),
+            entries,
+        ),
     }
 }
