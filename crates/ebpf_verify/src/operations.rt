@@ -98,9 +98,14 @@ fn binary(op: AluOp, width: Width, left: Abs, right: Abs, dst: Reg) -> Result<Ab
     ensures proper { IfOk result IsProper }
     ensures refused { IfErr result (λ code. binary_refusal left right dst ≡ Some code) }
 {
+    if let (Abs::Num(a), Abs::Num(b)) = (left, right) {
+        return if is_frame_pointer(dst) {
+            Err(VerifyCode::FramePointerWritten)
+        } else {
+            Ok(Abs::Num(alu(op, width, a, b)))
+        };
+    }
     match (left, right) {
-        (Abs::Num(_), Abs::Num(_)) if is_frame_pointer(dst) => Err(VerifyCode::FramePointerWritten),
-        (Abs::Num(a), Abs::Num(b)) => Ok(Abs::Num(alu(op, width, a, b))),
         (Abs::Unset, _) | (_, Abs::Unset) => Err(VerifyCode::UnsetRegister),
         _ if is_frame_pointer(dst) => Err(VerifyCode::FramePointerWritten),
         (Abs::May(_), _) | (_, Abs::May(_)) => Err(VerifyCode::UntestedAnswer),
