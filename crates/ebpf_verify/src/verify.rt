@@ -26,7 +26,7 @@ ghost use Rattle.ebpf_verify.specs.Entry.{first_entry, entry_in, after_visit, wi
 ghost use Rattle.ebpf_verify.specs.Rules.{refusal};
 ghost use Rattle.ebpf_verify.specs.Verdict.{refusal_in, verdict, IsVerifyFault, AreRows, IsSlotFault};
 
-use crate::call_count::{Counted, calls_in};
+use crate::call_count::calls_in;
 use crate::decl::Decl;
 use crate::entry::EntryState;
 use crate::fault::{VerifyCode, VerifyFault, refused_at};
@@ -63,8 +63,7 @@ pub fn verify(
         visit(&flowed, decl, rows, slot, &mut entries)?;
     }
     let operations = operations_of(alloc, &flowed)?;
-    let calls = calls_in(flowed.program(), Counted::Calls);
-    let swaps = calls_in(flowed.program(), Counted::Swaps);
+    let (calls, swaps) = calls_in(flowed.program());
     Ok(Verified {
         flowed,
         decl,
@@ -87,7 +86,7 @@ pub(crate) fn first_entries(alloc: Global, slots: usize) -> Result<Vec<EntryStat
         } else {
             EntryState::Unreached
         };
-        entries.push(entry)?;
+        entries.push_reserved(entry);
     }
     Ok(entries)
 }
