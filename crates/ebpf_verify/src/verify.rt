@@ -153,14 +153,9 @@ fn pass_along(
             send(entries, flowed.successors(slot).fall, state);
             Ok(())
         }
-        _ => pass_on(
-            decl,
-            rows,
-            insn,
-            slot,
-            state,
-            flowed.successors(slot),
-            entries,
-        ),
+        _ => {
+            let edges = flowed.successors(slot);
+            pass_on(decl, rows, insn, slot, state, edges, entries)
+        }
     }
 }
