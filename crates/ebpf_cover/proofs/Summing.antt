@@ -30,6 +30,12 @@ rest_is [] rest (suc k) r at = absurd (cc)
 rest_is (q ∷ qs) rest zero r at = cc
 rest_is (q ∷ qs) rest (suc k) r at = let one : suc k + 1 ≡ suc (k + 1) = omega arith in rw one (rest_is qs rest k r at)
 
+-- one is left before the last
+pub some_left : (reports : List Report) (k : ℕ) → k < length reports → drop k reports ≡ [] → ⊥
+some_left [] k below none = absurd (omega (arith, below))
+some_left (q ∷ qs) zero below none = absurd (cc)
+some_left (q ∷ qs) (suc k) below none = some_left qs k (omega (arith, below)) none
+
 -- none are left after the last
 pub sum_past : (count : Job → Report → ℕ) (program : ℕ) (jobs : List Job) (reports : List Report) → sum_of count program (drop (length jobs) jobs) (drop (length reports) reports) ≡ 0
 unfolding sum_of

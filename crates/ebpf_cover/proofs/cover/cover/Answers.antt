@@ -1,9 +1,13 @@
-use Rattle.std.proofs.Common.{◌≡◌, ◌≢◌, ◌+◌, ◌∷◌, drop, length, get_or, ap, sym, ◌∙◌, subst, rules}
+use Rattle.std.proofs.Common.{◌≡◌, ◌≢◌, ◌+◌, ◌∷◌, drop, length, get_or, ap, sym, ◌∙◌, subst, rules, arith}
 use Rattle.ebpf_pool.specs.declared.jobs.Job.{Job}
 use Rattle.ebpf_cover.specs.Covered.{IsRunCounted}
-use Rattle.ebpf_cover.proofs.Summing.{AreCountsTo, job_counted, job_passed, all_counted, is_same, is_other, next_is, rest_is}
+use Rattle.ebpf_cover.proofs.Summing.{AreCountsTo, job_counted, job_passed, all_counted, is_same, is_other, next_is, rest_is, some_left}
 use Rattle.ebpf_cover.proofs.cover.cover.Goals.{then-job-program+in_ok-count_run, else-job-program}
 use Rattle.ebpf_cover.proofs.cover.cover.Goals as goal
+
+pub unreachable-requires : goal.unreachable-requires
+unreachable-requires c =
+    some_left c.args.reports.now c.covered.index (omega (arith, c.covered-test.true, c.requires.all)) (sym c.covered.invariant.left ∙ c.in_default.ensures.0)
 
 pub covered-preserved : goal.covered-preserved
 covered-preserved c =
