@@ -17,6 +17,25 @@ sum_from count program k (job ∷ jobs) [] d e few all = absurd (omega (arith, a
 sum_from count program zero (job ∷ jobs) (r ∷ reports) d e few all = refl
 sum_from count program (suc k) (job ∷ jobs) (r ∷ reports) d e few all = let one : suc k + 1 ≡ suc (k + 1) = omega arith in rw one (sum_from count program k jobs reports d e (omega (arith, few)) (omega (arith, all)))
 
+-- the report that is next, and those after it
+pub next_is : (reports rest : List Report) (k : ℕ) (r : Report) → drop k reports ≡ r ∷ rest → get_or reports k r ≡ r
+next_is [] rest zero r at = refl
+next_is [] rest (suc k) r at = refl
+next_is (q ∷ qs) rest zero r at = cc
+next_is (q ∷ qs) rest (suc k) r at = next_is qs rest k r at
+
+pub rest_is : (reports rest : List Report) (k : ℕ) (r : Report) → drop k reports ≡ r ∷ rest → rest ≡ drop (k + 1) reports
+rest_is [] rest zero r at = absurd (cc)
+rest_is [] rest (suc k) r at = absurd (cc)
+rest_is (q ∷ qs) rest zero r at = cc
+rest_is (q ∷ qs) rest (suc k) r at = let one : suc k + 1 ≡ suc (k + 1) = omega arith in rw one (rest_is qs rest k r at)
+
+-- one is left before the last
+pub some_left : (reports : List Report) (k : ℕ) → k < length reports → drop k reports ≡ [] → ⊥
+some_left [] k below none = absurd (omega (arith, below))
+some_left (q ∷ qs) zero below none = absurd (cc)
+some_left (q ∷ qs) (suc k) below none = some_left qs k (omega (arith, below)) none
+
 -- none are left after the last
 pub sum_past : (count : Job → Report → ℕ) (program : ℕ) (jobs : List Job) (reports : List Report) → sum_of count program (drop (length jobs) jobs) (drop (length reports) reports) ≡ 0
 unfolding sum_of

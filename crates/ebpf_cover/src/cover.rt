@@ -11,7 +11,7 @@ use ebpf_machine::ended::Ended;
 use ebpf_machine::report::Reply;
 use ebpf_machine::run::Run;
 use ebpf_machine::workspace::Workspace;
-use ebpf_pool::{Job, JobReport};
+use ebpf_pool::{Job, JobReport, Reports};
 use ebpf_shelves::object::Object;
 use ebpf_verify::verified::Verified;
 use std::alloc::{AllocError, Global};
@@ -24,23 +24,21 @@ pub fn cover(
     program: usize,
     verified: &Verified,
     jobs: &[Job],
-    reports: &[JobReport],
+    reports: &Reports,
 ) -> Result<Counts, AllocError>
     requires known { kinds_of verified.now.rows ≡ known_kinds }
     requires all { length reports.now ≡ length jobs.now }
     ensures { IfOk result (AreCounts verified.now program jobs.now reports.now) }
 {
     let mut counts = Counts::none(alloc)?;
+    let mut left = reports.iter();
     'covered: for index in 0..jobs.len() {
+        let Some(report) = left.next() else {
+            unreachable!()
+        };
         let job = &jobs[index];
         if job.program == program {
-            count_run(
-                alloc,
-                verified,
-                &job.context.bytes,
-                &reports[index],
-                &mut counts,
-            )?;
+            count_run(alloc, verified, &job.context.bytes, report, &mut counts)?;
         }
     }
     Ok(counts)

@@ -1,7 +1,6 @@
 -- What a worker answered, job by job and bundle by bundle.
-use Rattle.std.proofs.Common.{◌≡◌, ◌<◌, ℕ, ◌+◌, List, [], ◌∷◌, ◌++◌, length, map, refl, sym, ap, ◌∙◌, arith, length-append, append_assoc, append-nil}
-use Rattle.std.specs.List.{range_with_len, sum_by}
-use Rattle.std.proofs.lemmas.List.{length-map, length_push, map_push}
+use Rattle.std.proofs.Common.{◌≡◌, ◌+◌, ℕ, All, List, [], ◌∷◌, ◌++◌, length, refl, sym, ap, subst, ◌∙◌, arith}
+use Rattle.std.specs.List.{sum_by}
 use Rattle.std.proofs.lemmas.List.Elements.{All-nil, All-push}
 use Rattle.std.proofs.lemmas.List.Sums.{sum_by-append}
 use Rattle.ebpf_verify.specs.Subject.{Subject}
@@ -9,53 +8,34 @@ use Rattle.ebpf_machine.specs.declared.report.Report.{Report}
 use Rattle.ebpf_machine.specs.Whole.{granted, refused, fetched}
 use Rattle.ebpf_pool.specs.declared.hands.Tools.{Tools}
 use Rattle.ebpf_pool.specs.declared.jobs.Job.{Job}
-use Rattle.ebpf_pool.specs.Numbering.{Numbered}
+use Rattle.ebpf_pool.specs.Numbering.{Numbered, numbered}
 use Rattle.ebpf_pool.specs.Going.{AreAnswered, HasAnsweredAll, IsAnswered, IsUnanswered, none_answered}
 use Rattle.ebpf_pool.specs.Working.{Answers}
-use Rattle.ebpf_pool.proofs.NumberingLemmas.{job_of, range_last, report_in}
+use Rattle.ebpf_pool.proofs.NumberingLemmas.{numbered_more}
 use Rattle.ebpf_pool.proofs.Sums.{answered_more, answered_same}
 
-module _ {L : Type 0} (programs : List Subject) (jobs : List Job) (job most : ℕ) (first : Tools L) (start : List Report) where
-  pub answered_none : AreAnswered programs jobs job most first first start start
-  answered_none = record {
-    made = [];
-    numbers = refl;
-    few = omega arith;
-    good = All-nil (Answers programs jobs);
-    kept = sym (append-nil start);
-    goes = none_answered first;
-  }
+module _ {L : Type 0} (programs : List Subject) (jobs : List Job) (job : ℕ) (first : Tools L) where
+  pub answered_none : (reports : List Report) → reports ≡ [] → AreAnswered programs jobs job first first reports
+  answered_none reports none = subst (AreAnswered programs jobs job first first) (sym none) (record { good = All-nil (Answers programs jobs); goes = none_answered first })
 
-  module _ (old new : Tools L) (before after : List Report) (was : AreAnswered programs jobs job most first old start before) where
-    pub answered_next : (number : ℕ) → IsAnswered programs jobs number old new before after → number ≡ job + length was.made → length was.made < most
-        → AreAnswered programs jobs job most first new start after
-    answered_next number now is less =
-        let one : Numbered = record { job = number; report = now.made } in record {
-          made = was.made ++ one ∷ [];
-          numbers = map_push job_of was.made one ∙ ap (λ (l : List ℕ). l ++ number ∷ []) was.numbers ∙ ap (λ (k : ℕ). range_with_len job (length was.made) ++ k ∷ []) is
-              ∙ sym (range_last job (length was.made)) ∙ ap (range_with_len job) (sym (length_push was.made one));
-          few = omega (arith, length_push was.made one, less);
-          good = All-push (Answers programs jobs) was.made one was.good now.good;
-          kept = now.kept ∙ ap (λ (l : List Report). l ++ now.made ∷ []) was.kept ∙ append_assoc start (map report_in was.made) (now.made ∷ [])
-              ∙ ap (λ (l : List Report). start ++ l) (sym (map_push report_in was.made one));
-          goes = answered_more _ _ _ was.made _ one refl was.goes now.goes;
+  module _ (old new : Tools L) (before after : List Report) (was : AreAnswered programs jobs job first old before) where
+    pub answered_next : (number : ℕ) → IsAnswered programs jobs number old new before after → number ≡ job + length before
+        → AreAnswered programs jobs job first new after
+    answered_next number now is =
+        let one : Numbered = record { job = number; report = now.made } in
+        let same : record { job = job + length before; report = now.made } ≡ one = ap (λ (k : ℕ). record { job = k; report = now.made }) (sym is) in
+        let all : numbered job after ≡ numbered job before ++ one ∷ [] =
+        ap (numbered job) now.kept ∙ numbered_more job before (now.made ∷ []) ∙ ap (λ (n : Numbered). numbered job before ++ n ∷ []) same
+        in record {
+          good = subst (All (Answers programs jobs)) (sym all) (All-push (Answers programs jobs) (numbered job before) one was.good now.good);
+          goes = answered_more _ _ _ (numbered job before) _ one all was.goes now.goes;
         }
 
-    pub answered_failed : IsUnanswered old new before after → AreAnswered programs jobs job most first new start after
-    answered_failed now = record {
-      made = was.made;
-      numbers = was.numbers;
-      few = was.few;
+    pub answered_failed : IsUnanswered old new before after → AreAnswered programs jobs job first new after
+    answered_failed now = subst (AreAnswered programs jobs job first new) (sym now.0) (record {
       good = was.good;
-      kept = now.0 ∙ was.kept;
-      goes = answered_same _ _ _ was.made _ refl was.goes now.1;
-    }
-
-  -- as many as there are more reports
-  pub made_are : (old : Tools L) (before : List Report) (was : AreAnswered programs jobs job most first old start before) → length start + length was.made ≡ length before
-  made_are old before was =
-      let sum = ap length was.kept ∙ length-append start (map report_in was.made) in
-      omega (arith, sum, length-map was.made report_in)
+      goes = answered_same _ _ _ (numbered job before) _ refl was.goes now.1;
+    })
 
 more_all : (f : Numbered → ℕ) (start old new : ℕ) (before after made : List Numbered) → after ≡ before ++ made
     → old ≡ start + sum_by f before → new ≡ old + sum_by f made → new ≡ start + sum_by f after

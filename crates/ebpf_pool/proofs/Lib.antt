@@ -1,4 +1,5 @@
 pub mod Bundles
+pub mod Flat
 pub mod NumberingLemmas
 pub mod Holding
 pub mod Claiming
@@ -11,7 +12,6 @@ pub mod Pairs
 pub mod Returning
 pub mod Placing
 pub mod Gathered
-pub mod PlacingAll
 pub mod Recruiting
 pub mod Turned
 pub mod Dismissing

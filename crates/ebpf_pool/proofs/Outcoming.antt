@@ -1,61 +1,39 @@
--- What comes of the jobs, from what all workers did and where the reports were put.
-use Rattle.std.proofs.Common.{◌≡◌, ◌⊎◌, inl, inr, ◌≤◌, ◌<◌, ◌+◌, if◌then◌else◌, nat_lt, is_some, ℕ, zero, suc, Bool, true, false, Option, Some, None, All, Contains, List, [], ◌∷◌, length, slice_get, slice_index_or, map, Vec, Global, refl, sym, ap, subst, ◌∙◌, arith}
+-- What comes of the jobs, from what all workers did and where the bundles were put.
+use Rattle.std.proofs.Common.{◌≡◌, ◌≤◌, ◌<◌, ◌+◌, ◌*◌, min, ℕ, zero, suc, Some, All, Contains, List, [], ◌∷◌, length, slice_get, slice_index_or, map, refl, sym, ap, subst, ◌∙◌, arith}
 use Rattle.std.specs.Prelude.{sum_by, vec_len}
-use Rattle.std.proofs.lemmas.Bool.Decides.{nat_tests}
+use Rattle.std.specs.List.{flat_map}
 use Rattle.std.proofs.lemmas.List.{length-map}
+use Rattle.std.proofs.lemmas.List.Elements.{All-contains}
 use Rattle.std.proofs.lemmas.List.Sums.{sum_by-cons}
-use Rattle.std.proofs.lemmas.Option.{slice_get-get_or, slice_get_within}
 use Rattle.ebpf_verify.specs.Subject.{Subject}
 use Rattle.ebpf_machine.specs.declared.report.Report.{Report}
 use Rattle.ebpf_machine.specs.Whole.{granted, refused, fetched}
+use Rattle.ebpf_machine.proofs.Lists.ListLemmas.{All-by_contains}
+use Rattle.ebpf_machine.proofs.Lists.Mapped.{Contains-mapped}
 use Rattle.object_cache.specs.declared.totals.Totals.{Totals}
 use Rattle.owners_table.specs.Owning.{OwnersView, SeatView}
 use Rattle.owners_table.specs.Drawing.{TicketsView, times_drawn}
 use Rattle.ebpf_pool.specs.declared.worker.Ending.TheVariants.{Through}
 use Rattle.ebpf_pool.specs.declared.jobs.Answered.{Answered}
+use Rattle.ebpf_pool.specs.declared.jobs.Bundle.{Bundle}
 use Rattle.ebpf_pool.specs.declared.jobs.Job.{Job}
-use Rattle.ebpf_pool.specs.Numbering.{IsWhole, Numbered, jobs_in, told_by}
+use Rattle.ebpf_pool.specs.declared.outcome.TheConstants.{MAX_JOBS}
+use Rattle.ebpf_pool.specs.Numbering.{bundles_in, numbered, times_of, told_by, told_of}
 use Rattle.ebpf_pool.specs.declared.crew.Parts.{Parts}
 use Rattle.ebpf_pool.specs.declared.crew.Done.{Done}
 use Rattle.ebpf_pool.specs.declared.outcome.Outcome.{Outcome}
 use Rattle.ebpf_pool.specs.declared.outcome.ShelfTotals.{ShelfTotals}
 use Rattle.ebpf_pool.specs.declared.hands.FreePairs.{FreePairs}
-use Rattle.ebpf_pool.specs.Bundles.{bundle_of}
 use Rattle.ebpf_pool.specs.Outcomes.{IsOutcome, AreReportsFor, IsReportFor, IsEvenTotal, IsEvenShelf, allocs_in, nulls_in, gets_in, left_in, granted_in, refused_in, fetched_in}
 use Rattle.ebpf_pool.specs.Supplies.{IsClosed, AreClosed}
-use Rattle.ebpf_pool.specs.Places.{HasExit, IsIn, filled, filled_at, times_in, weight, weight_at, weight_of}
+use Rattle.ebpf_pool.specs.Places.{IsThere, Kept, all_in, bundles_of, counted, weight, weight_in, weight_of}
 use Rattle.ebpf_pool.specs.Serving.{AreServed, AreEven, all_allocs, all_nulls, all_gets, reports_of}
 use Rattle.ebpf_pool.specs.Working.{Answers, granted_by, refused_by, fetched_by}
-use Rattle.ebpf_pool.proofs.Bundles.{one_if}
-use Rattle.ebpf_pool.proofs.NumberingLemmas.{numbered_length}
-use Rattle.ebpf_pool.proofs.PlacingAll.{rest_of}
+use Rattle.ebpf_pool.proofs.Flat.{all_flat, all_lists, sum_flat}
+use Rattle.ebpf_pool.proofs.Gathered.{all_len, all_told}
+use Rattle.ebpf_pool.proofs.NumberingLemmas.{numbered_at, numbered_weight}
 use Rattle.ebpf_pool.proofs.Shares.{sum_same}
-
--- ---- numbers of jobs
-
-pub answered_inside : (programs : List Subject) (jobs : List Job) (lists : List (List Numbered))
-    → All (All (Answers programs jobs)) lists → All (All (λ n. n.job < length jobs)) lists
-answered_inside programs jobs lists good i d l j e m = slice_get_within jobs _ _ (good i d l j e m).job_is
-
-pub answered_exits : (programs : List Subject) (jobs : List Job) (lists : List (List Numbered))
-    → All (All (Answers programs jobs)) lists → All (All (λ n. HasExit n.report)) lists
-answered_exits programs jobs lists good i d l j e m = ap is_some (good i d l j e m).report.exited
-
--- no report is of a number that is not below the limit
-none_beyond : (limit x : ℕ) (ns : List Numbered) → All (λ n. n.job < limit) ns → limit ≤ x → times_in x ns ≡ 0
-none_beyond limit x [] h past = refl
-none_beyond limit x (n ∷ ns) h past =
-    let below = h 0 n (omega arith) in
-    let other : one_if n.job x ≡ 0 = grind (arith, nat_tests) in
-    omega (arith, sum_by-cons (λ (m : Numbered). one_if m.job x) n ns, other, none_beyond limit x ns (rest_of (λ m. m.job < limit) n ns h) past)
-
-all_beyond : (limit x : ℕ) (lists : List (List Numbered)) → All (All (λ n. n.job < limit)) lists → limit ≤ x → sum_by (times_in x) lists ≡ 0
-all_beyond limit x [] h past = refl
-all_beyond limit x (ns ∷ rest) h past =
-    omega (arith, sum_by-cons (times_in x) ns rest, none_beyond limit x ns (h 0 ns (omega arith)) past, all_beyond limit x rest (rest_of (All (λ n. n.job < limit)) ns rest h) past)
-
-all_of : {X : Type 0} (P : X → Type 0) (xs : List X) (x : X) → All P xs → Contains xs x → P x
-all_of P xs x all (k, below, at) = subst P at (all k x below)
+use Rattle.ebpf_pool.proofs.Turned.{sum_mapped}
 
 all_three : {X : Type 0} (P : X → Type 0) (a b c : X) → P a → P b → P c → All P (a ∷ b ∷ c ∷ [])
 all_three P a b c pa pb pc zero d l = pa
@@ -70,32 +48,19 @@ ones : {X : Type 0} (xs : List X) → sum_by (λ x. 1) xs ≡ length xs
 ones [] = refl
 ones (x ∷ xs) = omega (arith, sum_by-cons (λ y. 1) x xs, ones xs)
 
-counts_are : (size count : ℕ) (all : List Answered) → All (IsWhole size count) all
-    → sum_by (λ n. n) (map (λ a. vec_len a.reports) all) ≡ sum_by (λ ns. length ns) (map (told_by size count) all)
-counts_are size count [] whole = refl
-counts_are size count (a ∷ all) whole =
-    let here : vec_len a.reports ≡ length a.reports.items = a.reports.ok.0 in
-    let told = numbered_length (jobs_in size count a.firsts.items) a.reports.items (whole 0 a (omega arith)) in
-    omega (
-      arith,
-      here,
-      told,
-      sum_by-cons (λ n. n) (vec_len a.reports) (map (λ b. vec_len b.reports) all),
-      sum_by-cons (λ ns. length ns) (told_by size count a) (map (told_by size count) all),
-      counts_are size count all (rest_of (IsWhole size count) a all whole),
-    )
+-- sums of numbers that 64 bits have, since their sum is one
+counted_are : {X : Type 0} (f : X → ℕ) (xs : List X) → sum_by f xs ≤ 18446744073709551615 → sum_by (λ x. min (f x) 18446744073709551615) xs ≡ sum_by f xs
+counted_are f [] few = refl
+counted_are f (x ∷ xs) few =
+    let sum = sum_by-cons f x xs in
+    let rest = counted_are f xs (omega (arith, few, sum)) in
+    omega (arith, few, sum, rest, sum_by-cons (λ y. min (f y) 18446744073709551615) x xs)
 
--- ---- places
-
--- a place that counts has an exit
-exit_of : (r : Report) → filled_at (Some r) ≡ 1 → HasExit r
-exit_of r one = by (is_some r.exit) refl where
-  by : (t : Bool) → is_some r.exit ≡ t → HasExit r
-  by true e = e
-  by false e = let none : filled_at (Some r) ≡ 0 = ap (λ (t : Bool). if t then 1 else 0) e in absurd (omega (arith, none, one))
-
-full_weight : (h : Report → ℕ) (places : List Report) → All HasExit places → weight h places ≡ sum_by h places
-full_weight h places all = sum_same (weight_at h) h places (λ i d l. ap (λ (t : Bool). if t then h (slice_index_or places i d) else 0) (all i d l))
+-- each worker's list of reports weighs what its bundles do
+told_weight : (h : Report → ℕ) (size : ℕ) (bundles : List Bundle) → weight_of h (flat_map (told_of size) bundles) ≡ weight_in h bundles
+told_weight h size bundles =
+    sum_flat (told_of size) (λ n. h n.report) bundles
+    ∙ sum_same (λ b. weight_of h (told_of size b)) (λ b. sum_by h b.reports.items) bundles (λ i d l. let b = slice_index_or bundles i d in numbered_weight h (b.number * size) b.reports.items)
 
 module _ {K L : Type 0} (count : ℕ) (f : FreePairs K L) (shelf : ShelfTotals) (t : Totals) (even : AreEven count f) (closed : IsClosed f shelf t) where
   even_total : IsEvenTotal t
@@ -108,58 +73,82 @@ module _ {K L : Type 0} (count : ℕ) (f : FreePairs K L) (shelf : ShelfTotals) 
 
 module _ {L : Type 0} (programs : List Subject) (jobs : List Job) (o : OwnersView) (size : ℕ) (t : TicketsView) (seats : List SeatView) (p : Parts L) (done : Done)
     (through : done.ending ≡ Through) (s : AreServed programs jobs o size t seats p done) where
-  inside : All (All (λ n. n.job < length jobs)) (reports_of size (length jobs) p)
-  inside = answered_inside programs jobs (reports_of size (length jobs) p) s.good
+  abbrev bundles : List Bundle
+  bundles = bundles_of p.answered.items
 
-  module _ (once : (x : ℕ) → times_drawn x p.drawers.items ≤ 1) where
-    -- each place gets one report at most
-    pub placed_once : (x : ℕ) → sum_by (times_in x) (reports_of size (length jobs) p) ≤ 1
-    placed_once x = by (nat_lt x (length jobs)) refl where
-      by : (b : Bool) → nat_lt x (length jobs) ≡ b → sum_by (times_in x) (reports_of size (length jobs) p) ≤ 1
-      by true e =
-          let below : x < length jobs = grind (arith, nat_tests) in
-          omega (arith, s.drawn through x below, once (bundle_of size x))
-      by false e =
-          let past : length jobs ≤ x = grind (arith, nat_tests) in
-          omega (arith, all_beyond (length jobs) x (reports_of size (length jobs) p) inside past)
+  abbrev limit : ℕ
+  limit = bundles_in size (length jobs)
 
-    module _ (each : (x : ℕ) → x < length jobs → times_drawn (bundle_of size x) p.drawers.items ≡ 1) (places : List Report) (len : length places ≡ length jobs)
-        (fills : (x : ℕ) → filled places x ≡ sum_by (times_in x) (reports_of size (length jobs) p))
-        (weighs : (h : Report → ℕ) → weight h places ≡ sum_by (weight_of h) (reports_of size (length jobs) p))
-        (from : (x : ℕ) (r : Report) → slice_get places x ≡ Some r → HasExit r → (slice_get [] x ≡ Some r) ⊎ IsIn (record { job = x; report = r }) (reports_of size (length jobs) p)) where
-      full : (x : ℕ) (r : Report) → slice_get places x ≡ Some r → HasExit r
-      full x r at =
-          let below : x < length jobs = omega (arith, slice_get_within places x r at, len) in
-          let count = fills x in
-          exit_of r (ap filled_at (sym at) ∙ omega (arith, count, s.drawn through x below, each x below))
+  pub bundles_inside : All (λ b. b.number < limit) bundles
+  bundles_inside = λ i d l. (s.whole through i d l).inside
 
-      all_full : All HasExit places
-      all_full i d l = full i (slice_index_or places i d) (slice_get-get_or places i d l)
+  -- the reports of each bundle are those of its jobs
+  told : (b : Bundle) → Contains bundles b → All (Answers programs jobs) (told_of size b)
+  told b one = All-contains (λ c. All (Answers programs jobs) (told_of size c)) bundles b each one where
+    of_worker : All (λ a. All (Answers programs jobs) (told_by size a)) p.answered.items
+    of_worker = All-by_contains (λ a. All (Answers programs jobs) (told_by size a)) p.answered.items (λ a there.
+        All-contains (All (Answers programs jobs)) (reports_of size p) (told_by size a) s.good (Contains-mapped (told_by size) p.answered.items a there))
 
-      report_for : (j : ℕ) (job : Job) (r : Report) → slice_get jobs j ≡ Some job → slice_get places j ≡ Some r → IsReportFor programs job r
-      report_for j job r job_is at = by (from j r at (full j r at)) where
-        by : (slice_get [] j ≡ Some r) ⊎ IsIn (record { job = j; report = r }) (reports_of size (length jobs) p) → IsReportFor programs job r
-        by (inl before) = absurd (cc)
-        by (inr (l, there, in_it)) =
-            let a =
-            all_of (Answers programs jobs) l (record { job = j; report = r }) (all_of (All (Answers programs jobs)) (reports_of size (length jobs) p) l s.good there) in_it in
-            let same : Some a.job ≡ Some job = sym a.job_is ∙ job_is in
-            let job_same : a.job ≡ job = cc in
-            subst (λ (k : Job). IsReportFor programs k r) job_same (record { subject = a.subject; subject_is = a.subject_is; report = a.report })
+    each : All (λ c. All (Answers programs jobs) (told_of size c)) bundles
+    each = all_flat (λ (a : Answered). a.bundles.items) (λ c. All (Answers programs jobs) (told_of size c)) p.answered.items
+        (λ i d l. let a = slice_index_or p.answered.items i d in all_lists (told_of size) (Answers programs jobs) a.bundles.items (of_worker i d l))
 
-      summed : (h : Report → ℕ) → sum_by h places ≡ sum_by (weight_of h) (reports_of size (length jobs) p)
-      summed h = omega (arith, full_weight h places all_full, weighs h)
+  module _ (each : (x : ℕ) → x < limit → times_drawn x p.drawers.items ≡ 1) where
+    -- each place gets one bundle
+    pub placed_once : (x : ℕ) → x < limit → times_of x bundles ≡ 1
+    placed_once x below = sym (s.drawn through x below) ∙ each x below
 
-      -- each worker did as many jobs as it made reports, and all reports are here
-      all_done : (lists : List (List Numbered)) → sum_by (weight_of (λ r. 1)) lists ≡ sum_by (λ ns. length ns) lists
-      all_done lists = sum_same (weight_of (λ r. 1)) (λ ns. length ns) lists (λ i d l. ones (slice_index_or lists i d))
+    module _ (some : 0 < size) (few : length jobs ≤ MAX_JOBS) (lists : List Kept) (lists_len : length lists ≡ limit) (there : (x : ℕ) → x < limit → IsThere bundles lists x)
+        (weighs : (h : Report → ℕ) → weight h lists ≡ weight_in h bundles) where
+      abbrev reports : List Report
+      reports = all_in lists
+
+      pub reports_len : length reports ≡ length jobs
+      reports_len = all_len size (length jobs) some (Answers programs jobs) bundles (s.whole through) told lists lists_len there
+
+      report_for : (j : ℕ) (job : Job) (r : Report) → slice_get jobs j ≡ Some job → slice_get reports j ≡ Some r → IsReportFor programs job r
+      report_for j job r job_is at =
+          let all = all_told size (length jobs) some (Answers programs jobs) bundles (s.whole through) told lists lists_len there in
+          let here : 0 + j ≡ j = omega arith in
+          let a = subst (λ (k : ℕ). Answers programs jobs (record { job = k; report = r })) here
+          (All-contains (Answers programs jobs) (numbered 0 reports) (record { job = 0 + j; report = r }) all (numbered_at 0 reports j r at))
+          in
+          let same : Some a.job ≡ Some job = sym a.job_is ∙ job_is in
+          let job_same : a.job ≡ job = cc in
+          subst (λ (k : Job). IsReportFor programs k r) job_same (record { subject = a.subject; subject_is = a.subject_is; report = a.report })
+
+      weighed : (h : Report → ℕ) → sum_by h reports ≡ sum_by (λ a. weight_in h a.bundles.items) p.answered.items
+      weighed h = sum_flat (λ (k : Kept). k.items) h lists ∙ weighs h ∙ sum_flat (λ (a : Answered). a.bundles.items) (λ b. sum_by h b.reports.items) p.answered.items
+
+      summed : (h : Report → ℕ) → sum_by h reports ≡ sum_by (weight_of h) (reports_of size p)
+      summed h =
+          weighed h ∙ sum_same (λ a. weight_in h a.bundles.items) (λ a. weight_of h (told_by size a)) p.answered.items
+          (λ i d l. sym (told_weight h size (slice_index_or p.answered.items i d).bundles.items))
+          ∙ sym (sum_mapped (weight_of h) (told_by size) p.answered.items)
+
+      -- each worker did as many jobs as it has reports
+      made : List Bundle → ℕ
+      made bs = sum_by (λ b. vec_len b.reports) bs
+
+      made_weight : (bs : List Bundle) → weight_in (λ r. 1) bs ≡ made bs
+      unfolding made
+      made_weight bs = sum_same (λ b. sum_by (λ r. 1) b.reports.items) (λ b. vec_len b.reports) bs (λ i d l. let b = slice_index_or bs i d in ones b.reports.items ∙ sym b.reports.ok.0)
+
+      all_made : sum_by (λ a. made a.bundles.items) p.answered.items ≡ length jobs
+      all_made =
+          let same = sum_same (λ a. weight_in (λ r. 1) a.bundles.items) (λ a. made a.bundles.items) p.answered.items (λ i d l. made_weight (slice_index_or p.answered.items i d).bundles.items) in
+          omega (arith, same, weighed (λ r. 1), ones reports, reports_len)
+
+      all_counted : sum_by (λ a. counted a.bundles.items) p.answered.items ≡ length jobs
+      unfolding made
+      all_counted = counted_are (λ a. made a.bundles.items) p.answered.items (omega (arith, all_made, few)) ∙ all_made
 
       pub outcome : (after : List SeatView) (shelves : List ShelfTotals) (ts : List Totals) → AreClosed o p.hands p.seats.items after shelves ts
-          → (out : Outcome) → out.reports ≡ places → out.totals ≡ ts → out.clashes ≡ done.clashes → out.shelves ≡ shelves
-          → out.strays ≡ done.strays → out.jobs_done.items ≡ map (λ a. vec_len a.reports) p.answered.items
+          → (out : Outcome) → out.reports ≡ reports → out.totals ≡ ts → out.clashes ≡ done.clashes → out.shelves ≡ shelves
+          → out.strays ≡ done.strays → out.jobs_done.items ≡ map (λ a. counted a.bundles.items) p.answered.items
           → IsOutcome programs jobs seats after out
       outcome after shelves ts closed out reports_are totals_are clashes_are shelves_are strays_are jobs_are = record {
-        reports = subst (AreReportsFor programs jobs) (sym reports_are) (record { all = len; each = report_for });
+        reports = subst (AreReportsFor programs jobs) (sym reports_are) (record { all = reports_len; each = report_for });
         even = subst (All IsEvenTotal) (sym three) (all_three IsEvenTotal closed.cells closed.records closed.blocks
             (even_total (length seats) p.hands.cells closed.cell_shelf closed.cells s.cells closed.cells_closed)
             (even_total (length seats) p.hands.records closed.record_shelf closed.records s.records closed.records_closed)
@@ -176,12 +165,8 @@ module _ {L : Type 0} (programs : List Subject) (jobs : List Job) (o : OwnersVie
         fetches =
             let left = ap left_in shelves_are in
             omega (arith, gets, left, s.fetches, closed.fetches);
-        workers = ap length jobs_are ∙ length-map p.answered.items (λ a. vec_len a.reports) ∙ s.answered_all;
-        jobs_done =
-            let sum = ap (λ ns. sum_by (λ n. n) ns) jobs_are in
-            let counted = counts_are size (length jobs) p.answered.items (s.whole through) in
-            let here = summed (λ r. 1) in
-            omega (arith, sum, counted, here, all_done (reports_of size (length jobs) p), ones places, len);
+        workers = ap length jobs_are ∙ length-map p.answered.items (λ a. counted a.bundles.items) ∙ s.answered_all;
+        jobs_done = ap (λ ns. sum_by (λ n. n) ns) jobs_are ∙ sum_mapped (λ n. n) (λ a. counted a.bundles.items) p.answered.items ∙ all_counted;
       } where
         three_shelves : out.shelves ≡ closed.cell_shelf ∷ closed.record_shelf ∷ closed.block_shelf ∷ []
         three_shelves = shelves_are ∙ closed.shelves_are
@@ -191,7 +176,7 @@ module _ {L : Type 0} (programs : List Subject) (jobs : List Job) (o : OwnersVie
             let sum = ap gets_in three_shelves ∙ sum_three (λ (t : ShelfTotals). t.gets) closed.cell_shelf closed.record_shelf closed.block_shelf in
             omega (arith, sum, closed.cells_closed.gets, closed.records_closed.gets, closed.blocks_closed.gets)
 
-        fetched_sum : fetched_in out.reports ≡ sum_by fetched_by (reports_of size (length jobs) p)
+        fetched_sum : fetched_in out.reports ≡ sum_by fetched_by (reports_of size p)
         fetched_sum = ap fetched_in reports_are ∙ summed (λ r. fetched r.answers)
 
         three : out.totals ≡ closed.cells ∷ closed.records ∷ closed.blocks ∷ []
@@ -207,8 +192,8 @@ module _ {L : Type 0} (programs : List Subject) (jobs : List Job) (o : OwnersVie
             let sum = ap nulls_in three ∙ sum_three (λ (t : Totals). t.nulls) closed.cells closed.records closed.blocks in
             omega (arith, sum, closed.cells_closed.nulls, closed.records_closed.nulls, closed.blocks_closed.nulls)
 
-        granted_sum : granted_in out.reports ≡ sum_by granted_by (reports_of size (length jobs) p)
+        granted_sum : granted_in out.reports ≡ sum_by granted_by (reports_of size p)
         granted_sum = ap granted_in reports_are ∙ summed (λ r. granted r.answers)
 
-        refused_sum : refused_in out.reports ≡ sum_by refused_by (reports_of size (length jobs) p)
+        refused_sum : refused_in out.reports ≡ sum_by refused_by (reports_of size p)
         refused_sum = ap refused_in reports_are ∙ summed (λ r. refused r.answers)

@@ -1,125 +1,182 @@
--- One report more is put in its place.
-use Rattle.std.proofs.Common.{◌≡◌, ◌≢◌, ◌⊎◌, inl, inr, ◌<◌, ◌+◌, ◌==◌, if◌then◌else◌, Bool, true, false, is_some, ℕ, Contains, List, [], ◌∷◌, ◌++◌, length, Some, refl, sym, ap, subst, ◌∙◌, arith, length-append, append_assoc}
-use Rattle.std.proofs.lemmas.Bool.Decides.{nat_tests}
-use Rattle.std.proofs.lemmas.List.{length-set}
-use Rattle.std.specs.List.{range_with_len, slice_get, slice_set}
+-- One bundle more is put in its place.
+use Rattle.std.proofs.Common.{◌≡◌, ◌≢◌, ◌⊎◌, inl, inr, ◌<◌, ◌≤◌, ◌+◌, ◌==◌, if◌then◌else◌, Bool, true, false, ℕ, zero, suc, All, Contains, Some, List, [], ◌∷◌, ◌++◌, length, refl, sym, ap, subst, ◌∙◌, arith, append_assoc}
+use Rattle.std.specs.Prelude.{sum_by}
+use Rattle.std.specs.List.{slice_get, slice_set}
 use Rattle.std.proofs.Math.ListN.{get_or}
-use Rattle.std.proofs.lemmas.List.FromFn.{length-range_with_len}
-use Rattle.std.proofs.lemmas.List.Sums.{sum_by-append, sum_by-set}
-use Rattle.std.proofs.lemmas.List.Elements.{Contains-push, Contains-append_left}
-use Rattle.std.proofs.lemmas.Option.{slice_get-get_or, get_or_from_slice_get}
+use Rattle.std.proofs.lemmas.Bool.{cases_eq}
+use Rattle.std.proofs.lemmas.Bool.Decides.{nat_tests}
+use Rattle.std.proofs.lemmas.List.{length-set, nil_from_length}
+use Rattle.std.proofs.lemmas.List.Elements.{All-contains, Contains-append_left, Contains-push, Contains-push_cases}
+use Rattle.std.proofs.lemmas.List.Sums.{sum_by-cons, sum_by-set, sum_by_push}
+use Rattle.std.proofs.lemmas.Option.{slice_get-get_or}
 use Rattle.ebpf_machine.specs.declared.report.Report.{Report}
-use Rattle.ebpf_machine.proofs.Lists.ListLemmas.{get_set_other, get_set_same, get_set_cases}
-use Rattle.ebpf_pool.specs.Numbering.{Numbered, numbered}
-use Rattle.ebpf_pool.specs.Places.{HasExit, filled, filled_at, times_in, weight, weight_at, weight_of, ArePlaced, IsBundlePlaced}
-use Rattle.ebpf_pool.proofs.NumberingLemmas.{numbered_last, range_last}
+use Rattle.ebpf_machine.proofs.Lists.ListLemmas.{All-by_contains, Contains-head, Contains-tail, get_set_other, get_set_same}
+use Rattle.ebpf_pool.specs.declared.jobs.Answered.{Answered}
+use Rattle.ebpf_pool.specs.declared.jobs.Bundle.{Bundle}
+use Rattle.ebpf_pool.specs.Numbering.{times_of}
+use Rattle.ebpf_pool.specs.Places.{AreBlank, ArePlaced, IsLeft, IsThere, Kept, bundles_of, filled, filled_at, weight, weight_in}
+use Rattle.ebpf_pool.proofs.Bundles.{one_if, times_more}
+use Rattle.ebpf_pool.proofs.Flat.{flat_last}
 
--- 1 where the numbers are equal
-abbrev one : ℕ → ℕ → ℕ
-one k x = if k == x then 1 else 0
-
-one_same : (k : ℕ) → one k k ≡ 1
+one_same : (k : ℕ) → one_if k k ≡ 1
 one_same k = grind (arith, nat_tests)
 
-times_last : (x : ℕ) (left rest : List Numbered) (n : Numbered) → left ≡ rest ++ n ∷ [] → times_in x left ≡ times_in x rest + one n.job x
-times_last x left rest n is =
-    let sum = ap (times_in x) is ∙ sum_by-append (λ (m : Numbered). if m.job == x then 1 else 0) rest (n ∷ []) in
-    omega (arith, sum)
+one_other : (k x : ℕ) → x ≢ k → one_if k x ≡ 0
+one_other k x other = grind (arith, nat_tests)
 
--- a report without an exit counts for none, and weighs nothing
-no_exit : (r : Report) → filled_at (Some r) ≡ 0 → is_some r.exit ≡ false
-no_exit r none = by (is_some r.exit) refl where
-  by : (t : Bool) → is_some r.exit ≡ t → is_some r.exit ≡ false
-  by false e = e
-  by true e = let one : filled_at (Some r) ≡ 1 = ap (λ (t : Bool). if t then 1 else 0) e in absurd (omega (arith, one, none))
+-- a place counts once at most, and one that does not count has no report
+at_most_one : (k : Kept) → filled_at (Some k) ≤ 1
+at_most_one k = by (length k.items == 0) where
+  by : (t : Bool) → (if t then 0 else 1) ≤ 1
+  by true = omega arith
+  by false = omega arith
 
-filled_one : (r : Report) → HasExit r → filled_at (Some r) ≡ 1
-filled_one r h = ap (λ (t : Bool). if t then 1 else 0) h
+none_at : (k : Kept) → filled_at (Some k) ≡ 0 → k.items ≡ []
+none_at k none = by (length k.items == 0) refl where
+  by : (t : Bool) → (length k.items == 0) ≡ t → k.items ≡ []
+  by true e = nil_from_length k.items (grind (arith, nat_tests))
+  by false e = let one : filled_at (Some k) ≡ 1 = ap (λ (t : Bool). if t then 0 else 1) e in absurd (omega (arith, one, none))
 
--- where a place without a report gets one
-module _ (places : List Report) (k : ℕ) (old r : Report) (was : slice_get places k ≡ Some old) (none : is_some old.exit ≡ false) (exits : HasExit r) where
-  filled_set : (x : ℕ) → filled (slice_set places k r) x ≡ filled places x + one k x
-  filled_set x = by (k == x) refl where
-    by : (t : Bool) → (k == x) ≡ t → filled (slice_set places k r) x ≡ filled places x + one k x
-    by true e =
-        let same : k ≡ x = grind (arith, nat_tests) in
-        let one_is = ap (one k) (sym same) ∙ one_same k in
-        let there = ap filled_at (ap (slice_get (slice_set places k r)) (sym same) ∙ get_set_same places k old r was) ∙ filled_one r exits in
-        let before = ap filled_at (ap (slice_get places) (sym same) ∙ was) ∙ ap (λ (t : Bool). if t then 1 else 0) none in
-        omega (arith, one_is, there, before)
-    by false e =
-        let other : x ≢ k = grind (arith, nat_tests) in
-        let one_is : one k x ≡ 0 = grind (arith, nat_tests) in
-        let there = ap filled_at (get_set_other places k x r other) in
-        omega (arith, one_is, there)
+module _ (count : ℕ) (all : List Bundle) (places : List Kept) (left rest : List Bundle) (b : Bundle) (is : left ≡ rest ++ b ∷ []) (h : ArePlaced count all places left) where
+  in_left : Contains left b
+  in_left = subst (λ (l : List Bundle). Contains l b) (sym is) (Contains-push rest b)
 
-  weight_set : (h : Report → ℕ) → k < length places → weight h (slice_set places k r) ≡ weight h places + h r
-  weight_set h lt =
-      let sum = sum_by-set (weight_at h) places k r old lt in
-      let there = ap (weight_at h) (get_or_from_slice_get places k old old was) ∙ ap (λ (t : Bool). if t then h old else 0) none in
-      let new : weight_at h r ≡ h r = ap (λ (t : Bool). if t then h r else 0) exits in
-      omega (arith, sum, there, new)
+  still : (c : Bundle) → Contains rest c → Contains left c
+  still c there = subst (λ (l : List Bundle). Contains l c) (sym is) (Contains-append_left rest (b ∷ []) c there)
 
-weight_last : (h : Report → ℕ) (left rest : List Numbered) (n : Numbered) → left ≡ rest ++ n ∷ [] → weight_of h left ≡ weight_of h rest + h n.report
-weight_last h left rest n is =
-    let sum = ap (weight_of h) is ∙ sum_by-append (λ (m : Numbered). h m.report) rest (n ∷ []) in
-    omega (arith, sum)
+  below : b.number < count
+  below = h.inside b in_left
 
-module _ (old places : List Report) (all left rest : List Numbered) (n : Numbered) (is : left ≡ rest ++ n ∷ []) (h : ArePlaced old all places left) where
-  in_left : Contains left n
-  in_left = subst (λ (l : List Numbered). Contains l n) (sym is) (Contains-push rest n)
+  next_inside : b.number < length places
+  next_inside = let lt = below in omega (arith, lt, h.len)
 
-  pub next_inside : n.job < length places
-  next_inside = let lt = h.inside n in_left in omega (arith, lt, h.len)
+  abbrev there_was : Kept
+  there_was = get_or places b.number b.reports
 
-  exits : HasExit n.report
-  exits = h.exited n in_left
+  was : slice_get places b.number ≡ Some there_was
+  was = slice_get-get_or places b.number b.reports next_inside
 
-  abbrev there_was : Report
-  there_was = get_or places n.job n.report
+  none : there_was.items ≡ []
+  none = none_at there_was (ap filled_at (sym was) ∙ omega (arith, h.once b.number below, times_more b.number rest left b is, one_same b.number))
 
-  was : slice_get places n.job ≡ Some there_was
-  was = slice_get-get_or places n.job n.report next_inside
+  abbrev after : List Kept
+  after = slice_set places b.number b.reports
 
-  none : is_some there_was.exit ≡ false
-  none = no_exit there_was (ap filled_at (sym was) ∙ omega (arith, h.once n.job, times_last n.job left rest n is, one_same n.job))
+  written : slice_get after b.number ≡ Some b.reports
+  written = get_set_same places b.number there_was b.reports was
 
-  from : (x : ℕ) (r : Report) → slice_get (slice_set places n.job n.report) x ≡ Some r → HasExit r
-      → (slice_get old x ≡ Some r) ⊎ Contains all (record { job = x; report = r })
-  from x r e exit = by (get_set_cases places n.job x there_was n.report r was e) where
-    by : ((x ≡ n.job) × (n.report ≡ r)) ⊎ ((x ≢ n.job) × (slice_get places x ≡ Some r))
-        → (slice_get old x ≡ Some r) ⊎ Contains all (record { job = x; report = r })
-    by (inl (at, same)) =
-        let it : n ≡ record { job = x; report = r } =
-        ap (λ (j : ℕ). record { job = j; report = n.report }) (sym at) ∙ ap (λ (q : Report). record { job = x; report = q }) same in
-        inr (subst (Contains all) it (h.within n in_left))
-    by (inr (other, there)) = h.from x r there exit
+  once : (x : ℕ) → x < count → filled after x + times_of x rest ≤ 1
+  once x lt = by (cases_eq x b.number) where
+    by : (x ≡ b.number) ⊎ (x ≢ b.number) → filled after x + times_of x rest ≤ 1
+    by (inl same) =
+        let at = ap filled_at (ap (slice_get after) same ∙ written) in
+        let one = ap (one_if b.number) same ∙ one_same b.number in
+        omega (arith, at, one, at_most_one b.reports, h.once x lt, times_more x rest left b is)
+    by (inr other) =
+        let at = ap filled_at (get_set_other places b.number x b.reports other) in
+        omega (arith, at, one_other b.number x other, h.once x lt, times_more x rest left b is)
 
-  pub one_placed : ArePlaced old all (slice_set places n.job n.report) rest
+  there : (x : ℕ) → x < count → IsLeft rest x ⊎ IsThere all after x
+  there x lt = by (cases_eq x b.number) where
+    by : (x ≡ b.number) ⊎ (x ≢ b.number) → IsLeft rest x ⊎ IsThere all after x
+    by (inl same) = inr (record { bundle = b; one = h.within b in_left; number = sym same; at = ap (slice_get after) same ∙ written })
+    by (inr other) = or (h.there x lt) where
+      or : IsLeft left x ⊎ IsThere all places x → IsLeft rest x ⊎ IsThere all after x
+      or (inr t) = inr (record { bundle = t.bundle; one = t.one; number = t.number; at = get_set_other places b.number x b.reports other ∙ t.at })
+      or (inl l) = of (Contains-push_cases rest b l.bundle (subst (λ (m : List Bundle). Contains m l.bundle) is l.one)) where
+        of : Contains rest l.bundle ⊎ (b ≡ l.bundle) → IsLeft rest x ⊎ IsThere all after x
+        of (inl one) = inl (record { bundle = l.bundle; one = one; number = l.number })
+        of (inr it) = absurd (other (sym l.number ∙ sym (ap (λ (c : Bundle). c.number) it)))
+
+  weighed : (f : Report → ℕ) → weight f after + weight_in f rest ≡ weight_in f all
+  weighed f =
+      let changed = sum_by-set (λ (k : Kept). sum_by f k.items) places b.number b.reports b.reports next_inside in
+      let nothing = ap (sum_by f) none in
+      let split = ap (weight_in f) is ∙ sum_by_push (λ (c : Bundle). sum_by f c.reports.items) rest b in
+      omega (arith, changed, nothing, split, h.weighed f)
+
+  pub one_placed : ArePlaced count all after rest
   one_placed = record {
-    len = length-set places n.job n.report ∙ h.len;
-    inside = λ m there. h.inside m (subst (λ (l : List Numbered). Contains l m) (sym is) (Contains-append_left rest (n ∷ []) m there));
-    exited = λ m there. h.exited m (subst (λ (l : List Numbered). Contains l m) (sym is) (Contains-append_left rest (n ∷ []) m there));
-    once = λ x. omega (arith, h.once x, times_last x left rest n is, filled_set places n.job there_was n.report was none exits x);
-    filled_too = λ x. omega (arith, h.filled_too x, times_last x left rest n is, filled_set places n.job there_was n.report was none exits x);
-    weighed = λ f. omega (arith, h.weighed f, weight_last f left rest n is, weight_set places n.job there_was n.report was none exits f next_inside);
-    from = from;
-    within = λ m there. h.within m (subst (λ (l : List Numbered). Contains l m) (sym is) (Contains-append_left rest (n ∷ []) m there));
+    len = length-set places b.number b.reports ∙ h.len;
+    within = λ c one. h.within c (still c one);
+    inside = λ c one. h.inside c (still c one);
+    once = once;
+    there = there;
+    weighed = weighed;
   }
 
--- one report more of a bundle is put in its place
-pub one_of_bundle : (first many left less : ℕ) (places reports now before after : List Report) (r : Report) → left ≡ less + 1 → before ≡ after ++ r ∷ []
-    → IsBundlePlaced first many places reports left now before
-    → IsBundlePlaced first many places reports less (slice_set now (first + less) r) after
-one_of_bundle first many left less places reports now before after r one is h = λ old all js sum was.
-    let here = h old all js sum was in
-    let shorter = ap length is ∙ length-append after (r ∷ []) in
-    let range = range_with_len first less in
-    let jobs = ap (λ (k : ℕ). js ++ range_with_len first k) one ∙ ap (λ (l : List ℕ). js ++ l) (range_last first less) ∙ sym (append_assoc js range ((first + less) ∷ [])) in
-    let own = length-append js range in
-    let long = length-range_with_len first less in
-    let whole : length (js ++ range) ≡ length after = omega (arith, here.0, one, shorter, own, long) in
-    let split = ap (λ (l : List ℕ). numbered l before) jobs ∙ ap (numbered ((js ++ range) ++ (first + less) ∷ [])) is
-    ∙ numbered_last (js ++ range) after (first + less) r whole
-    in
-    (omega (arith, here.0, one, shorter), one_placed old now all _ (numbered (js ++ range) after) (record { job = first + less; report = r }) split here.1)
+-- of a worker's bundles one more
+pub one_of_theirs : (count : ℕ) (theirs left rest : List Bundle) (places now : List Kept) (b : Bundle) → left ≡ rest ++ b ∷ []
+    → ((all others : List Bundle) → ArePlaced count all places (others ++ theirs) → ArePlaced count all now (others ++ left))
+    → (all others : List Bundle) → ArePlaced count all places (others ++ theirs) → ArePlaced count all (slice_set now b.number b.reports) (others ++ rest)
+one_of_theirs count theirs left rest places now b is h all others start =
+    let split = ap (λ (l : List Bundle). others ++ l) is ∙ sym (append_assoc others rest (b ∷ [])) in
+    one_placed count all now (others ++ left) (others ++ rest) b split (h all others start)
+
+-- ---- before the first, and after the last
+
+-- a bundle with a number is there, where one has it
+left_next : (x : ℕ) (b : Bundle) (bs : List Bundle) → (times_of x bs ≡ 1 → IsLeft bs x) → times_of x (b ∷ bs) ≡ 1 → IsLeft (b ∷ bs) x
+left_next x b bs rest one = by (cases_eq x b.number) where
+  sum : times_of x (b ∷ bs) ≡ one_if b.number x + times_of x bs
+  sum = sum_by-cons (λ (c : Bundle). one_if c.number x) b bs
+
+  by : (x ≡ b.number) ⊎ (x ≢ b.number) → IsLeft (b ∷ bs) x
+  by (inl same) = record { bundle = b; one = Contains-head b bs; number = sym same }
+  by (inr other) =
+      let l = rest (omega (arith, sum, one, one_other b.number x other)) in
+      record { bundle = l.bundle; one = Contains-tail b l.bundle bs l.one; number = l.number }
+
+left_of : (x : ℕ) (bundles : List Bundle) → times_of x bundles ≡ 1 → IsLeft bundles x
+left_of x [] one = absurd (omega (arith, one))
+left_of x (b ∷ bs) one = left_next x b bs (left_of x bs) one
+
+blank_filled : (places : List Kept) (x : ℕ) → All (λ kept. kept.items ≡ []) places → filled places x ≡ 0
+blank_filled [] x h = refl
+blank_filled (k ∷ ks) zero h = let none = ap (λ (l : List Report). length l) (h 0 k (omega arith)) in ap (λ (n : ℕ). if n == 0 then 0 else 1) none
+blank_filled (k ∷ ks) (suc x) h = blank_filled ks x (λ i d l. h (suc i) d (omega (arith, l)))
+
+blank_weight : (f : Report → ℕ) (places : List Kept) → All (λ kept. kept.items ≡ []) places → weight f places ≡ 0
+blank_weight f [] h = refl
+blank_weight f (k ∷ ks) h =
+    let here = ap (sum_by f) (h 0 k (omega arith)) in
+    omega (arith, sum_by-cons (λ (kept : Kept). sum_by f kept.items) k ks, here, blank_weight f ks (λ i d l. h (suc i) d (omega (arith, l))))
+
+pub none_placed : (count : ℕ) (places : List Kept) (all : List Bundle) → AreBlank count places → All (λ b. b.number < count) all
+    → ((x : ℕ) → x < count → times_of x all ≡ 1) → ArePlaced count all places all
+none_placed count places all blank inside once = record {
+  len = blank.0;
+  within = λ b one. one;
+  inside = λ b one. All-contains (λ c. c.number < count) all b inside one;
+  once = λ x lt. omega (arith, blank_filled places x blank.1, once x lt);
+  there = λ x lt. inl (left_of x all (once x lt));
+  weighed = λ f. omega (arith, blank_weight f places blank.1);
+}
+
+pub all_there : (count : ℕ) (places : List Kept) (all left : List Bundle) → left ≡ [] → ArePlaced count all places left
+    → (x : ℕ) → x < count → IsThere all places x
+all_there count places all left none h x lt = by (h.there x lt) where
+  nothing : (b : Bundle) → Contains [] b → ⊥
+  nothing b (k, l, e) = absurd (omega (arith, l))
+
+  by : IsLeft left x ⊎ IsThere all places x → IsThere all places x
+  by (inr there) = there
+  by (inl l) = absurd (nothing l.bundle (subst (λ (m : List Bundle). Contains m l.bundle) none l.one))
+
+pub all_weighed : (count : ℕ) (places : List Kept) (all left : List Bundle) → left ≡ [] → ArePlaced count all places left
+    → (f : Report → ℕ) → weight f places ≡ weight_in f all
+all_weighed count places all left none h f = let nothing = ap (weight_in f) none in omega (arith, nothing, h.weighed f)
+
+-- ---- the bundles of a worker
+
+pub last_bundles : (left rest : List Answered) (one : Answered) → left ≡ rest ++ one ∷ [] → bundles_of left ≡ bundles_of rest ++ one.bundles.items
+last_bundles left rest one is = ap bundles_of is ∙ flat_last (λ (a : Answered). a.bundles.items) rest one
+
+pub theirs_inside : (count : ℕ) (places : List Kept) (all left rest theirs : List Bundle) → left ≡ rest ++ theirs → ArePlaced count all places left
+    → All (λ b. b.number < count) theirs
+theirs_inside count places all left rest theirs is h =
+    All-by_contains (λ b. b.number < count) theirs (λ b one. h.inside b (subst (λ (l : List Bundle). Contains l b) (sym is) (after rest b one)))
+  where
+    after : (rest : List Bundle) (b : Bundle) → Contains theirs b → Contains (rest ++ theirs) b
+    after [] b one = one
+    after (c ∷ cs) b one = Contains-tail c b (cs ++ theirs) (after cs b one)

@@ -8,7 +8,8 @@ use Rattle.owners_table.specs.Owning.{OwnersView, SeatView}
 use Rattle.owners_table.specs.Drawing.{TicketsView, IsOf, times}
 use Rattle.ebpf_pool.specs.declared.worker.Ending.TheVariants.{Through, OutOfMemory}
 use Rattle.ebpf_pool.specs.declared.jobs.Job.{Job}
-use Rattle.ebpf_pool.specs.Numbering.{IsWhole, Numbered, told_by}
+use Rattle.ebpf_pool.specs.declared.jobs.Answered.{Answered}
+use Rattle.ebpf_pool.specs.Numbering.{IsWhole, Numbered, bundles_in, times_of, told_by}
 use Rattle.ebpf_pool.specs.declared.worker.Worker.{Worker}
 use Rattle.slab_layer.specs.declared.kind.CellKind.{CellKind}
 use Rattle.slab_layer.specs.declared.kind.RecordKind.{RecordKind}
@@ -18,15 +19,17 @@ use Rattle.ebpf_pool.specs.declared.hands.FreePairs.{FreePairs}
 use Rattle.ebpf_pool.specs.declared.hands.Tools.{Tools}
 use Rattle.ebpf_pool.specs.declared.crew.Parts.{Parts}
 use Rattle.ebpf_pool.specs.declared.crew.Done.{Done}
-use Rattle.ebpf_pool.specs.Bundles.{AreAsDrawn, bundle_of}
+use Rattle.ebpf_pool.specs.Bundles.{AreAsDrawn}
 use Rattle.ebpf_pool.specs.Claims.{lost}
 use Rattle.ebpf_pool.specs.Crews.{AreDismissed, IsBack, tools_or, tools_in, hands_in, seat_in, clashes_in, strays_in}
 use Rattle.ebpf_pool.specs.Counts.{all_allocs, all_nulls, all_gets}
 use Rattle.ebpf_pool.specs.Hands.{AreMadeOf}
 use Rattle.ebpf_pool.specs.Outcomes.{IsIdle}
-use Rattle.ebpf_pool.specs.Places.{times_in}
+use Rattle.ebpf_pool.specs.Places.{bundles_of}
 use Rattle.ebpf_pool.specs.Serving.{AreEven, AreServed, all_allocs as all_free_allocs, all_nulls as all_free_nulls, all_gets as all_free_gets, reports_of}
 use Rattle.ebpf_pool.specs.Working.{IsEven, IsEvenPair, IsFresh, IsDone, AreDone, Answers, HasDrawn, granted_by, refused_by, fetched_by}
+use Rattle.ebpf_pool.proofs.Bundles.{one_if}
+use Rattle.ebpf_pool.proofs.Flat.{all_flat, sum_flat}
 use Rattle.ebpf_pool.proofs.Turned.{sum_turned, sum_mapped, all_mapped, any_also, as_many}
 use Rattle.ebpf_pool.proofs.Shares.{sum_same, three_sums, sum_two, sum_two_less, sum_even, sum_grown, all_by_index, part_sum, part_all, part_any, part_len, drawn_by, passed_by, through_not_out}
 
@@ -41,13 +44,13 @@ module _ {L : Type 0} (programs : List Subject) (jobs : List Job) (o : OwnersVie
   gets_in w = all_gets (hands_in w)
 
   abbrev granted_in : Worker L → ℕ
-  granted_in w = granted_by (told_by size (length jobs) w.answered)
+  granted_in w = granted_by (told_by size w.answered)
 
   abbrev refused_in : Worker L → ℕ
-  refused_in w = refused_by (told_by size (length jobs) w.answered)
+  refused_in w = refused_by (told_by size w.answered)
 
   abbrev fetched_in : Worker L → ℕ
-  fetched_in w = fetched_by (told_by size (length jobs) w.answered)
+  fetched_in w = fetched_by (told_by size w.answered)
 
   abbrev noted_in : Worker L → ℕ
   noted_in w = length (seat_in w).notes
@@ -63,18 +66,18 @@ module _ {L : Type 0} (programs : List Subject) (jobs : List Job) (o : OwnersVie
     pub even : IsEven (hands_in w)
     pub idle : IsIdle o (seat_in w)
     pub ticket : IsOf t w.ticket
-    pub good : All (Answers programs jobs) (told_by size (length jobs) w.answered)
-    pub drawn : HasDrawn size jobs w.ticket (told_by size (length jobs) w.answered) w.ending
-    pub whole : w.ending ≢ OutOfMemory → IsWhole size (length jobs) w.answered
+    pub good : All (Answers programs jobs) (told_by size w.answered)
+    pub drawn : HasDrawn (bundles_in size (length jobs)) w.ticket w.answered.bundles.items w.ending
+    pub whole : w.ending ≢ OutOfMemory → All (IsWhole size (length jobs)) w.answered.bundles.items
     pub granted : allocs_in w ≡ granted_in w + clashes_in w
     pub refused : nulls_in w + clashes_in w ≡ refused_in w
     pub fetched : gets_in w ≡ fetched_in w + strays_in w
 
-  share_drawn : (w : Worker L) → IsShare w → w.ending ≢ OutOfMemory → AreAsDrawn size (length jobs) w.ticket.drawn (told_by size (length jobs) w.answered)
-  share_drawn w s = drawn_by size jobs w.ticket (told_by size (length jobs) w.answered) w.ending s.drawn
+  share_drawn : (w : Worker L) → IsShare w → w.ending ≢ OutOfMemory → AreAsDrawn (bundles_in size (length jobs)) w.ticket.drawn w.answered.bundles.items
+  share_drawn w s = drawn_by (bundles_in size (length jobs)) w.ticket w.answered.bundles.items w.ending s.drawn
 
   share_passed : (w : Worker L) → IsShare w → w.ending ≡ Through → w.ticket.passed ≡ true
-  share_passed w s = passed_by size jobs w.ticket (told_by size (length jobs) w.answered) w.ending s.drawn
+  share_passed w s = passed_by (bundles_in size (length jobs)) w.ticket w.answered.bundles.items w.ending s.drawn
 
   module _ (before after : Worker L) (f : IsFresh o t before) (d : IsDone programs jobs size t before after) where
     now_has : tools_in after ≡ d.new
@@ -211,8 +214,12 @@ module _ {L : Type 0} (programs : List Subject) (jobs : List Job) (o : OwnersVie
         sum_shelf_hands blocks_in p.hands.blocks dismissed.parts.hands.blocks (λ h. h.gets),
       )
 
-      reported : (h : List Numbered → ℕ) → sum_by h (reports_of size (length jobs) p) ≡ sum_by (λ w. h (told_by size (length jobs) w.answered)) news
-      reported h = sum_mapped h (told_by size (length jobs)) p.answered.items ∙ part_sum (λ w. w.answered) news p.answered.items dismissed.parts.answered (λ a. h (told_by size (length jobs) a))
+      reported : (h : List Numbered → ℕ) → sum_by h (reports_of size p) ≡ sum_by (λ w. h (told_by size w.answered)) news
+      reported h = sum_mapped h (told_by size) p.answered.items ∙ part_sum (λ w. w.answered) news p.answered.items dismissed.parts.answered (λ a. h (told_by size a))
+
+      answered_times : (x : ℕ) → times_of x (bundles_of p.answered.items) ≡ sum_by (λ w. times_of x w.answered.bundles.items) news
+      answered_times x = sum_flat (λ (a : Answered). a.bundles.items) (λ b. one_if b.number x) p.answered.items
+          ∙ part_sum (λ w. w.answered) news p.answered.items dismissed.parts.answered (λ a. times_of x a.bundles.items)
 
       before_noted : (h : SeatView → ℕ) → sum_by (λ w. h (seat_in w)) olds ≡ sum_by h seats
       before_noted h = sym (sum_mapped h seat_in olds) ∙ ap (sum_by h) seats_are ∙ sum_turned h seats
@@ -240,18 +247,19 @@ module _ {L : Type 0} (programs : List Subject) (jobs : List Job) (o : OwnersVie
             let each = sum_two gets_in fetched_in strays_in news (λ i d l. (shares i d l).fetched) in
             omega (arith, each, gets_three, reported fetched_by, dismissed.strays);
         answered_all = part_len (λ w. w.answered) news p.answered.items dismissed.parts.answered ∙ count;
-        good = all_mapped (All (Answers programs jobs)) (told_by size (length jobs)) p.answered.items
-            (part_all (λ w. w.answered) news p.answered.items dismissed.parts.answered (λ a. All (Answers programs jobs) (told_by size (length jobs) a)) (λ i d l. (shares i d l).good));
+        good = all_mapped (All (Answers programs jobs)) (told_by size) p.answered.items
+            (part_all (λ w. w.answered) news p.answered.items dismissed.parts.answered (λ a. All (Answers programs jobs) (told_by size a)) (λ i d l. (shares i d l).good));
         whole = λ is.
             let well : done.ending ≢ OutOfMemory = λ out. through_not_out (sym is ∙ out) in
-            part_all (λ w. w.answered) news p.answered.items dismissed.parts.answered (IsWhole size (length jobs)) (λ i d l. (shares i d l).whole (dismissed.kept well i d l));
+            all_flat (λ (a : Answered). a.bundles.items) (IsWhole size (length jobs)) p.answered.items
+            (part_all (λ w. w.answered) news p.answered.items dismissed.parts.answered (λ a. All (IsWhole size (length jobs)) a.bundles.items) (λ i d l. (shares i d l).whole (dismissed.kept well i d l)));
         drawers_all = part_len (λ w. w.ticket) news p.drawers.items dismissed.parts.drawers ∙ count;
         drawers = part_all (λ w. w.ticket) news p.drawers.items dismissed.parts.drawers (IsOf t) (λ i d l. (shares i d l).ticket);
         through = λ is. part_any (λ w. w.ticket) news p.drawers.items dismissed.parts.drawers (λ s. s.passed ≡ true)
             (any_also (λ w. w.ending ≡ Through) (λ w. w.ticket.passed ≡ true) news (λ i d l. share_passed (slice_index_or news i d) (shares i d l)) (dismissed.through is));
         drawn = λ is x below.
             let well : done.ending ≢ OutOfMemory = λ out. through_not_out (sym is ∙ out) in
-            part_sum (λ w. w.ticket) news p.drawers.items dismissed.parts.drawers (λ s. times (bundle_of size x) s.drawn)
-            ∙ sum_same (λ w. times (bundle_of size x) w.ticket.drawn) (λ w. times_in x (told_by size (length jobs) w.answered)) news (λ i d l. share_drawn (slice_index_or news i d) (shares i d l) (dismissed.kept well i d l) x below)
-            ∙ sym (reported (times_in x));
+            part_sum (λ w. w.ticket) news p.drawers.items dismissed.parts.drawers (λ s. times x s.drawn)
+            ∙ sum_same (λ w. times x w.ticket.drawn) (λ w. times_of x w.answered.bundles.items) news (λ i d l. share_drawn (slice_index_or news i d) (shares i d l) (dismissed.kept well i d l) x below)
+            ∙ sym (answered_times x);
       }

@@ -6,10 +6,9 @@ use Rattle.std.proofs.lemmas.List.Sums.{sum_by-cons}
 use Rattle.owners_table.specs.Drawing.{TicketView, times}
 use Rattle.ebpf_pool.specs.declared.worker.Ending.{Ending}
 use Rattle.ebpf_pool.specs.declared.worker.Ending.TheVariants.{Through, Unstarted, OutOfMemory}
-use Rattle.ebpf_pool.specs.declared.jobs.Job.{Job}
-use Rattle.ebpf_pool.specs.Numbering.{Numbered}
-use Rattle.ebpf_pool.specs.Bundles.{AreAsDrawn, bundle_of}
-use Rattle.ebpf_pool.specs.Places.{times_in}
+use Rattle.ebpf_pool.specs.declared.jobs.Bundle.{Bundle}
+use Rattle.ebpf_pool.specs.Bundles.{AreAsDrawn}
+use Rattle.ebpf_pool.specs.Numbering.{times_of}
 use Rattle.ebpf_pool.specs.Working.{HasDrawn}
 use Rattle.ebpf_pool.proofs.Turned.{sum_turned, length_turned, all_turned, any_turned, sum_mapped, all_mapped, any_mapped}
 
@@ -84,13 +83,13 @@ pub through_not_out : Through ≡ OutOfMemory → ⊥
 through_not_out e = cc
 
 -- of a worker that ended well
-module _ (size : ℕ) (jobs : List Job) (ticket : TicketView) (answered : List Numbered) where
-  pub drawn_by : (e : Ending) → HasDrawn size jobs ticket answered e → e ≢ OutOfMemory → AreAsDrawn size (length jobs) ticket.drawn answered
+module _ (limit : ℕ) (ticket : TicketView) (bundles : List Bundle) where
+  pub drawn_by : (e : Ending) → HasDrawn limit ticket bundles e → e ≢ OutOfMemory → AreAsDrawn limit ticket.drawn bundles
   drawn_by Through h well = h.1
-  drawn_by Unstarted h well = λ x below. ap (times (bundle_of size x)) h.0 ∙ sym (ap (times_in x) h.1)
+  drawn_by Unstarted h well = λ x below. ap (times x) h.0 ∙ sym (ap (times_of x) h.1)
   drawn_by OutOfMemory h well = absurd (well refl)
 
-  pub passed_by : (e : Ending) → HasDrawn size jobs ticket answered e → e ≡ Through → ticket.passed ≡ true
+  pub passed_by : (e : Ending) → HasDrawn limit ticket bundles e → e ≡ Through → ticket.passed ≡ true
   passed_by Through h is = h.0
   passed_by Unstarted h is = absurd (cc)
   passed_by OutOfMemory h is = absurd (cc)

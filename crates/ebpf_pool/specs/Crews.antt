@@ -4,11 +4,10 @@ use Rattle.owners_table.specs.Owning.{OwnersView, SeatView}
 use Rattle.owners_table.specs.Owning as owning
 use Rattle.owners_table.specs.Drawing.{TicketsView, TicketView}
 use Rattle.owners_table.specs.Drawing as drawing
-use Rattle.ebpf_pool.specs.Bundles.{IsBundleSize, bundles_in}
+use Rattle.ebpf_pool.specs.Bundles.{IsBundleSize}
 use Rattle.ebpf_pool.specs.Hands.{AllAreUnused, AllAreMadeOf, AreNone, unused_hands}
-use Rattle.ebpf_pool.specs.Numbering.{IsBlank}
+use Rattle.ebpf_pool.specs.Numbering.{IsBlank, bundles_in}
 use Rattle.ebpf_pool.specs.Outcomes.{IsIdle}
-use Rattle.ebpf_pool.specs.Places.{AreBlank}
 use Rattle.ebpf_pool.specs.Supplies.{AreOpened}
 use Rattle.ebpf_pool.specs.declared.crew.Done.{Done}
 use Rattle.ebpf_pool.specs.declared.crew.Parts.{Parts}
@@ -89,7 +88,7 @@ module _ {L : Type 0} where
     pub tickets : s.room.tickets.seats ≡ count
     pub drawers : (length s.drawers.items ≡ count) × All (λ d. d ≡ drawing.fresh s.room.tickets.table s.room.tickets.limit) s.drawers.items
     pub answered : (length s.answered.items ≡ count) × All IsBlank s.answered.items
-    pub places : AreBlank jobs s.places
+    pub places : (s.places.items ≡ []) × (bundles_in s.room.size jobs ≤ vec_capacity s.places)
     pub jobs_done : (s.room.jobs_done.items ≡ []) × (count ≤ vec_capacity s.room.jobs_done)
     pub workers : (s.workers.items ≡ []) × (count ≤ vec_capacity s.workers)
     pub opened : AreOpened count s.supplies s.hands

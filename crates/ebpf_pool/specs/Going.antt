@@ -1,15 +1,14 @@
 -- How a worker's store goes from one state to a later one, by what its runs were answered.
-use Rattle.std.specs.Prelude.{◌≡◌, ◌≤◌, ◌+◌, ◌-◌, ℕ, List, [], ◌∷◌, ◌++◌, All, length, map}
+use Rattle.std.specs.Prelude.{◌≡◌, ◌+◌, ◌-◌, ℕ, List, [], ◌∷◌, ◌++◌, All, length}
 use Rattle.std.proofs.Common.{cond, refl, sym, ap, ◌∙◌, add_assoc, add-zero}
 use Rattle.std.proofs.lemmas.List.Sums.{sum_by-append}
-use Rattle.std.specs.List.{range_with_len}
 use Rattle.ebpf_machine.specs.declared.report.Reply.{Reply}
 use Rattle.ebpf_machine.specs.declared.report.Report.{Report}
 use Rattle.ebpf_machine.specs.Whole.{granted, refused, fetched, is_granted, is_null, is_fetched}
 use Rattle.ebpf_verify.specs.Subject.{Subject}
 use Rattle.ebpf_pool.specs.declared.hands.Tools.{Tools}
 use Rattle.ebpf_pool.specs.declared.jobs.Job.{Job}
-use Rattle.ebpf_pool.specs.Numbering.{Numbered}
+use Rattle.ebpf_pool.specs.Numbering.{Numbered, numbered}
 use Rattle.ebpf_pool.specs.declared.client.Client.{Client}
 use Rattle.ebpf_pool.specs.declared.stocks.Stocks.{Stocks}
 use Rattle.ebpf_pool.specs.Claims.{lost}
@@ -62,14 +61,10 @@ module _ {L : Type 0} where
     pub kept : new ≡ old ++ made ∷ []
     pub goes : GoesBy before made.answers after
 
-  -- several reports more, of jobs in a row, at most that many, and what was done for them
-  pub record AreAnswered (programs : List Subject) (jobs : List Job) (first most : ℕ) (before after : Tools L) (old new : List Report) : Type 0 where
-    pub made : List Numbered
-    pub numbers : map (λ n. n.job) made ≡ range_with_len first (length made)
-    pub few : length made ≤ most
-    pub good : All (Answers programs jobs) made
-    pub kept : new ≡ old ++ map (λ n. n.report) made
-    pub goes : HasAnsweredAll before made after
+  -- these reports, of jobs in a row from this one on, and what was done for them
+  pub record AreAnswered (programs : List Subject) (jobs : List Job) (first : ℕ) (before after : Tools L) (reports : List Report) : Type 0 where
+    pub good : All (Answers programs jobs) (numbered first reports)
+    pub goes : HasAnsweredAll before (numbered first reports) after
 
   -- no report more, and nothing that a call was granted, refused or fetched
   abbrev pub IsUnanswered : (before after : Tools L) → (old new : List Report) → Type 0

@@ -6,12 +6,11 @@ use Rattle.owners_table.specs.Drawing.{TicketsView, IsOf, times_drawn}
 use Rattle.ebpf_pool.specs.declared.worker.Ending.TheVariants.{Through}
 use Rattle.ebpf_pool.specs.declared.hands.FreePairs.{FreePairs}
 use Rattle.ebpf_pool.specs.declared.jobs.Job.{Job}
-use Rattle.ebpf_pool.specs.Numbering.{IsWhole, Numbered, told_by}
+use Rattle.ebpf_pool.specs.Numbering.{IsWhole, Numbered, bundles_in, times_of, told_by}
 use Rattle.ebpf_pool.specs.declared.crew.Parts.{Parts}
 use Rattle.ebpf_pool.specs.declared.crew.Done.{Done}
-use Rattle.ebpf_pool.specs.Bundles.{bundle_of}
 use Rattle.ebpf_pool.specs.Outcomes.{IsIdle, noted_by, lost_by, fetches_by}
-use Rattle.ebpf_pool.specs.Places.{times_in}
+use Rattle.ebpf_pool.specs.Places.{bundles_of}
 use Rattle.ebpf_pool.specs.Working.{Answers, granted_by, refused_by, fetched_by}
 
 -- ---- of one kind
@@ -47,11 +46,11 @@ module _ {L : Type 0} where
   all_gets p = gets_of p.hands.cells + gets_of p.hands.records + gets_of p.hands.blocks
 
   -- the reports that each worker made
-  abbrev pub reports_of : (size count : ℕ) → Parts L → List (List Numbered)
-  reports_of size count p = map (told_by size count) p.answered.items
+  abbrev pub reports_of : (size : ℕ) → Parts L → List (List Numbered)
+  reports_of size p = map (told_by size) p.answered.items
 
   -- What is left of workers that had these seats. Where they are through together, one found no jobs left, and each
-  -- job has as many reports as its bundle was drawn.
+  -- bundle was answered as often as it was drawn.
   pub record AreServed (programs : List Subject) (jobs : List Job) (o : OwnersView) (size : ℕ) (t : TicketsView) (seats : List SeatView)
       (p : Parts L) (done : Done) : Type 0 where
     pub cells : AreEven (length seats) p.hands.cells
@@ -62,13 +61,13 @@ module _ {L : Type 0} where
     pub noted : noted_by p.seats.items ≡ noted_by seats + all_allocs p
     pub lost : lost_by p.seats.items ≡ lost_by seats + done.clashes
     pub fetches : fetches_by p.seats.items ≡ fetches_by seats + all_gets p
-    pub granted : all_allocs p ≡ sum_by granted_by (reports_of size (length jobs) p) + done.clashes
-    pub refused : all_nulls p + done.clashes ≡ sum_by refused_by (reports_of size (length jobs) p)
-    pub fetched : all_gets p ≡ sum_by fetched_by (reports_of size (length jobs) p) + done.strays
+    pub granted : all_allocs p ≡ sum_by granted_by (reports_of size p) + done.clashes
+    pub refused : all_nulls p + done.clashes ≡ sum_by refused_by (reports_of size p)
+    pub fetched : all_gets p ≡ sum_by fetched_by (reports_of size p) + done.strays
     pub answered_all : length p.answered.items ≡ length seats
-    pub whole : done.ending ≡ Through → All (IsWhole size (length jobs)) p.answered.items
-    pub good : All (All (Answers programs jobs)) (reports_of size (length jobs) p)
+    pub whole : done.ending ≡ Through → All (IsWhole size (length jobs)) (bundles_of p.answered.items)
+    pub good : All (All (Answers programs jobs)) (reports_of size p)
     pub drawers_all : length p.drawers.items ≡ length seats
     pub drawers : All (IsOf t) p.drawers.items
     pub through : done.ending ≡ Through → Any (λ s. s.passed ≡ true) p.drawers.items
-    pub drawn : done.ending ≡ Through → (x : ℕ) → x < length jobs → times_drawn (bundle_of size x) p.drawers.items ≡ sum_by (times_in x) (reports_of size (length jobs) p)
+    pub drawn : done.ending ≡ Through → (x : ℕ) → x < bundles_in size (length jobs) → times_drawn x p.drawers.items ≡ times_of x (bundles_of p.answered.items)

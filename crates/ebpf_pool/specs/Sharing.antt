@@ -1,7 +1,6 @@
 -- What is said of workers by what they share, and of all that is left of them by what their jobs were done with.
 use Rattle.std.proofs.Common.{Vec, Global}
 use Rattle.std.specs.Prelude.{List}
-use Rattle.ebpf_machine.specs.declared.report.Report.{Report}
 use Rattle.owners_table.specs.Owning.{OwnersView, SeatView}
 use Rattle.ebpf_pool.specs.declared.crew.Done.{Done}
 use Rattle.ebpf_pool.specs.declared.crew.Parts.{Parts}
@@ -11,6 +10,7 @@ use Rattle.ebpf_pool.specs.declared.setup.Room.{Room}
 use Rattle.ebpf_pool.specs.declared.supply.Supplies.{Supplies}
 use Rattle.ebpf_pool.specs.declared.worker.Shared.{Shared}
 use Rattle.ebpf_pool.specs.declared.worker.Worker.{Worker}
+use Rattle.ebpf_pool.specs.Places.{Kept}
 use Rattle.ebpf_pool.specs.Serving.{AreServed}
 use Rattle.ebpf_pool.specs.Settling.{AreLeft}
 use Rattle.ebpf_pool.specs.Working.{CanBegin, AreDone}
@@ -29,7 +29,7 @@ module _ {L : Type 0} where
   abbrev pub AreServedIn : Host → List Job → OwnersView → Room → List SeatView → Parts L → Done → Type 0
   AreServedIn host jobs owners room seats parts done = AreServed host.programs.items jobs owners room.size room.tickets seats parts done
 
-  -- the room, the supplies and the parts of workers that are done, whatever seats they had, and the places of their reports
-  abbrev pub AreLeftIn : Host → List Job → OwnersView → Room → Supplies L → Parts L → Vec Report Global → Done → Type 0
+  -- the room, the supplies and the parts of workers that are done, whatever seats they had, and memory for the places of their bundles
+  abbrev pub AreLeftIn : Host → List Job → OwnersView → Room → Supplies L → Parts L → Vec Kept Global → Done → Type 0
   AreLeftIn host jobs owners room supplies parts places done =
       (before : List SeatView) × AreLeft host.programs.items jobs owners before room supplies parts places done

@@ -8,8 +8,9 @@ use Rattle.ebpf_pool.specs.declared.worker.Ending.TheVariants.{Through, Unstarte
 use Rattle.ebpf_machine.specs.Kinds.{AreKnown}
 use Rattle.ebpf_pool.specs.declared.outcome.TheConstants.{MAX_JOBS}
 use Rattle.ebpf_pool.specs.declared.jobs.Answered.{Answered}
+use Rattle.ebpf_pool.specs.declared.jobs.Bundle.{Bundle}
 use Rattle.ebpf_pool.specs.declared.jobs.Job.{Job}
-use Rattle.ebpf_pool.specs.Numbering.{IsBlank, IsWhole, Numbered, told_by}
+use Rattle.ebpf_pool.specs.Numbering.{IsBlank, IsWhole, Numbered, bundles_in, told_by}
 use Rattle.ebpf_pool.specs.declared.worker.Worker.{Worker}
 use Rattle.ebpf_pool.specs.declared.hands.HandPair.{HandPair}
 use Rattle.ebpf_pool.specs.declared.hands.Hands.{Hands}
@@ -59,20 +60,20 @@ refused_by ns = sum_by (λ n. refused n.report.answers) ns
 abbrev pub fetched_by : List Numbered → ℕ
 fetched_by ns = sum_by (λ n. fetched n.report.answers) ns
 
--- What a worker drew, by how it ended, of bundles of this size. Through: the bundles whose jobs it answered, each job as often as its
--- bundle, and a last one that is none. Unstarted: none, and it answered no job. Nothing is said where memory ran out.
-abbrev pub HasDrawn : (size : ℕ) → List Job → TicketView → List Numbered → Ending → Type 0
-HasDrawn size jobs ticket answered Through = (ticket.passed ≡ true) × AreAsDrawn size (length jobs) ticket.drawn answered
-HasDrawn size jobs ticket answered Unstarted = (ticket.drawn ≡ []) × (answered ≡ [])
-HasDrawn size jobs ticket answered OutOfMemory = ⊤
+-- What a worker drew, by how it ended, of that many bundles. Through: those that it answered, and a last one that is none.
+-- Unstarted: none, and it answered none. Nothing is said where memory ran out.
+abbrev pub HasDrawn : (limit : ℕ) → TicketView → List Bundle → Ending → Type 0
+HasDrawn limit ticket bundles Through = (ticket.passed ≡ true) × AreAsDrawn limit ticket.drawn bundles
+HasDrawn limit ticket bundles Unstarted = (ticket.drawn ≡ []) × (bundles ≡ [])
+HasDrawn limit ticket bundles OutOfMemory = ⊤
 
 -- which jobs a worker did, by the reports that it made and by how it ended
 pub record IsServed (programs : List Subject) (jobs : List Job) (size : ℕ) (t : TicketsView) (ticket : TicketView) (answered : Answered)
     (ending : Ending) : Type 0 where
   pub tickets : IsOf t ticket
-  pub good : All (Answers programs jobs) (told_by size (length jobs) answered)
-  pub drawn : HasDrawn size jobs ticket (told_by size (length jobs) answered) ending
-  pub whole : ending ≢ OutOfMemory → IsWhole size (length jobs) answered
+  pub good : All (Answers programs jobs) (told_by size answered)
+  pub drawn : HasDrawn (bundles_in size (length jobs)) ticket answered.bundles.items ending
+  pub whole : ending ≢ OutOfMemory → All (IsWhole size (length jobs)) answered.bundles.items
 
 module _ {L : Type 0} where
   -- nothing was taken, and the seat holds nothing
@@ -110,7 +111,7 @@ module _ {L : Type 0} where
     pub new : Tools L
     pub old_are : before.tools ≡ Some old
     pub new_are : after.tools ≡ Some new
-    pub used : AreUsed old new (told_by size (length jobs) after.answered)
+    pub used : AreUsed old new (told_by size after.answered)
     pub served : IsServed programs jobs size t after.ticket after.answered after.ending
 
   -- so is each of them

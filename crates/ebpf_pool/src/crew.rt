@@ -2,17 +2,14 @@
 
 ghost use Rattle.std.specs.Prelude.{◌≡◌, ◌≤◌, [], All, reverse, map, length, vec_capacity};
 ghost use Rattle.ebpf_pool.specs.Crews.{AreFresh, HaveNone, IsBack, AreDismissed, seat_in};
-ghost use Rattle.ebpf_pool.specs.Places.{AreBlank};
 ghost use Rattle.ebpf_pool.specs.Sharing.{AreDoneWith, CanBeginWith};
 ghost use Rattle.ebpf_pool.specs.Working.{IsFresh};
 ghost use denote.Param.Send.{IsSync};
 
 use crate::gate::{Gate, Point};
 use crate::hands::{FreeHands, Tools};
-use crate::job_report::JobReport;
 use crate::jobs::Answered;
 use crate::ledgers::Names;
-use crate::place::make_places;
 use crate::worker::{Ending, Shared, Worker, work};
 use owners_table::owners::OwnerSeat;
 use owners_table::tickets::TicketSeat;
@@ -79,45 +76,27 @@ fn work_all<'a, L: Names + Send + Sync, G: Gate + Sync + 'a, R: Threads + Wait +
     thread::for_each_mut(shared.rt, workers, count, &|_, worker| work(shared, worker));
 }
 
-// What is done beside the workers: places for the reports of all jobs, where several workers make them, and passes of the reaper.
-fn reap<'a, L: Names, G: Gate + 'a, R: Wait + 'a>(
-    shared: &Shared<'a, L, G, R>,
-    reaps: u32,
-    has_several: bool,
-    places: &mut Vec<JobReport>,
-)
-    requires { AreBlank (length shared.now.jobs.now) places.old }
-    ensures { AreBlank (length shared.now.jobs.now) places.new }
-{
-    if has_several {
-        make_places(shared.jobs.len(), places);
-    }
+// The passes of the reaper.
+fn reap<'a, L: Names, G: Gate + 'a, R: Wait + 'a>(shared: &Shared<'a, L, G, R>, reaps: u32) {
     for pass in 0..reaps {
         shared.supplies.reap(shared.rt, shared.arena);
         shared.gate.at(u64::from(pass), Point::Reaped);
     }
 }
 
-/// All workers, and beside them the reaper, which makes places for the reports of several workers first: memory that is touched for
-/// the first time takes longer than a short job.
+/// All workers, and beside them the reaper.
 pub(crate) fn work_and_reap<
     'a,
     L: Names + Send + Sync,
     G: Gate + Sync + 'a,
     R: Threads + Wait + Sync + 'a,
->(shared: &Shared<'a, L, G, R>, reaps: u32, places: &mut Vec<JobReport>, workers: &mut [Worker<L>])
-    requires workers { CanBeginWith shared.now workers.old }
-    requires places { AreBlank (length shared.now.jobs.now) places.old }
-    ensures workers { AreDoneWith shared.now workers.old workers.new }
-    ensures places { AreBlank (length shared.now.jobs.now) places.new }
+>(shared: &Shared<'a, L, G, R>, reaps: u32, workers: &mut [Worker<L>])
+    requires { CanBeginWith shared.now workers.old }
+    ensures { AreDoneWith shared.now workers.old workers.new }
 {
-    let has_several = workers.len() > 1;
     join_mut(
         shared.rt,
-        &mut ||
-            requires { AreBlank (length shared.now.jobs.now) places.now }
-            ensures { AreBlank (length shared.entry.now.jobs.now) places.exit.now }
-        { reap(shared, reaps, has_several, places) },
+        &mut || reap(shared, reaps),
         &mut ||
             requires { IsSync R.row × IsSync G.row × CanBeginWith shared.now workers.now }
             ensures { AreDoneWith shared.entry.now workers.entry.now workers.exit.now }

@@ -13,11 +13,17 @@ pub struct Job {
     pub context: Context,
 }
 
-/// What a worker did: the first job of each bundle that it drew, and the reports of the jobs of these bundles, in the same order.
+/// The reports of the jobs of a bundle, in the order of the jobs, and the bundle's number.
+#[derive(Drop)]
+pub(crate) struct Bundle {
+    pub(crate) number: u64,
+    pub(crate) reports: Vec<JobReport>,
+}
+
+/// What a worker did: the bundles that it drew.
 #[derive(Drop)]
 pub(crate) struct Answered {
-    pub(crate) firsts: Vec<u64>,
-    pub(crate) reports: Vec<JobReport>,
+    pub(crate) bundles: Vec<Bundle>,
 }
 
 impl Answered {
@@ -26,8 +32,7 @@ impl Answered {
         ensures { IsBlank result }
     {
         Answered {
-            firsts: Vec::new(alloc),
-            reports: Vec::new(alloc),
+            bundles: Vec::new(alloc),
         }
     }
 }

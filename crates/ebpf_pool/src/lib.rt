@@ -19,7 +19,7 @@
 //! job is in one bundle.
 //!
 //! To be read in this order: `ledgers`, `hands`, `supply`, `count`, `client`, `owned`, `stock`, `stocks`, `store`, `few_answers`,
-//! `job_report`, `jobs`, `gate`, `worker`, `crew`, `outcome`, `admission`, `setup`, `place`, `pool`.
+//! `job_report`, `jobs`, `gate`, `worker`, `crew`, `reports`, `outcome`, `admission`, `setup`, `place`, `pool`.
 #![tactic(auto)]
 
 mod admission;
@@ -36,6 +36,7 @@ mod outcome;
 mod owned;
 mod place;
 mod pool;
+mod reports;
 mod setup;
 mod stock;
 mod stocks;
@@ -47,5 +48,6 @@ pub use admission::PoolFault;
 pub use gate::{Gate, NoGate, Point};
 pub use job_report::JobReport;
 pub use jobs::Job;
-pub use outcome::{Host, MAX_JOBS, MAX_WORKERS, Outcome, Reports, ShelfTotals};
+pub use outcome::{Host, MAX_JOBS, MAX_WORKERS, Outcome, ShelfTotals};
 pub use pool::run_jobs;
+pub use reports::{Reports, ReportsLeft};

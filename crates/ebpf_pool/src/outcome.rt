@@ -1,9 +1,8 @@
 //! What jobs are run with, and what comes of them.
 
-use crate::job_report::JobReport;
+use crate::reports::Reports;
 use ebpf_verify::verified::Verified;
 use object_cache::Totals;
-use std::marker::Model;
 
 /// The most workers.
 pub const MAX_WORKERS: usize = 64;
@@ -16,21 +15,6 @@ pub const MAX_JOBS: u64 = 1 << 20;
 pub struct Host {
     pub pages: u32,
     pub programs: Vec<Verified>,
-}
-
-/// A report for each job, in the order of the jobs. Contracts see it as the list.
-#[derive(Drop)]
-pub struct Reports {
-    pub reports: Vec<JobReport>,
-}
-
-impl Model for Reports {
-    ghost use Rattle.std.specs.Prelude.{List};
-    ghost use Rattle.ebpf_machine.specs.declared.report.Report.{Report};
-
-    ghost Value = { List Report };
-
-    ghost view = { λ r. r.reports.items };
 }
 
 /// What a shelf did: how often an object was put there and how often one was got from there by runs, and how many, one at most, it

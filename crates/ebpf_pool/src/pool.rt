@@ -2,7 +2,7 @@
 //!
 //! *The idea.* All memory is reserved first, then the supplies are opened, and workers are made of their hands, the seats and lists
 //! for reports. The workers do the jobs, with the reaper beside them. Then they are taken apart again, the supplies are closed over
-//! their hands, what the shelves hold goes back, and each report goes to the place of its job, unless one worker made them all.
+//! their hands, what the shelves hold goes back, and the reports of each bundle go to its place.
 //!
 //! *The reason.* What all workers drew are all bundles of neighbouring jobs, each once: so each job has one report. What a worker's
 //! hands took and got is what its reports say, clashes and strays aside, so the same holds of the sums.
@@ -10,11 +10,11 @@
 ghost use Rattle.std.specs.Prelude.{◌≡◌, ◌≤◌, ◌<◌, [], None, All, length, vec_len, vec_capacity, IfOk, IfErr, OnOk};
 ghost use Rattle.ebpf_machine.specs.Kinds.{AreKnown};
 ghost use Rattle.ebpf_pool.specs.Admission.{pool_fault};
-ghost use Rattle.ebpf_pool.specs.Bundles.{IsBundleSize, bundles_in};
+ghost use Rattle.ebpf_pool.specs.Bundles.{IsBundleSize};
+ghost use Rattle.ebpf_pool.specs.Numbering.{bundles_in};
 ghost use Rattle.ebpf_pool.specs.Books.{AreAllFor};
 ghost use Rattle.ebpf_pool.specs.Crews.{AreFresh};
 ghost use Rattle.ebpf_pool.specs.Settling.{Settles};
-ghost use Rattle.ebpf_pool.specs.Places.{AreBlank};
 ghost use Rattle.ebpf_pool.specs.Sharing.{AreLeftIn, AreServedIn};
 ghost use Rattle.ebpf_pool.specs.Outcomes.{IsIdle, IsOutcome, AreIdleAgain, IsFaultOf};
 ghost use Rattle.ebpf_pool.specs.Working.{AreReady};
@@ -25,8 +25,9 @@ use crate::gate::Gate;
 use crate::job_report::JobReport;
 use crate::jobs::Job;
 use crate::ledgers::Names;
-use crate::outcome::{Host, Outcome, Reports};
+use crate::outcome::{Host, Outcome};
 use crate::place::{count_all, gather};
+use crate::reports::Reports;
 use crate::setup::{Room, Setup};
 use crate::supply::{Blanks, Closing, Supplies};
 use crate::worker::{Ending, Shared, Worker};
@@ -124,7 +125,7 @@ fn run_in<L: Names + Send + Sync, G: Gate + Sync, R: Threads + Wait + Sync>(
         room,
         drawers,
         answered,
-        mut places,
+        places,
         mut workers,
         supplies,
         hands,
@@ -135,26 +136,18 @@ fn run_in<L: Names + Send + Sync, G: Gate + Sync, R: Threads + Wait + Sync>(
         drawers,
         answered,
     };
-    let done = serve_all(
-        given,
-        &room,
-        &supplies,
-        &mut parts,
-        &mut workers,
-        &mut places,
-    );
+    let done = serve_all(given, &room, &supplies, &mut parts, &mut workers);
     workers.destroy_empty();
     settle(given, room, supplies, parts, places, done)
 }
 
-// Makes workers of the parts, lets them do all jobs, with places made for the reports, and takes them apart.
+// Makes workers of the parts, lets them do all jobs, and takes them apart.
 fn serve_all<L: Names + Send + Sync, G: Gate + Sync, R: Threads + Wait + Sync>(
     given: &Given<G, R>,
     room: &Room,
     supplies: &Supplies<L>,
     parts: &mut Parts<L>,
     workers: &mut Vec<Worker<L>>,
-    places: &mut Vec<JobReport>,
 ) -> Done
     requires ready { AreReady given.now.host.now.programs.items given.now.jobs.now }
     requires size { IsBundleSize room.now.size }
@@ -163,10 +156,8 @@ fn serve_all<L: Names + Send + Sync, G: Gate + Sync, R: Threads + Wait + Sync>(
     requires fresh { AreFresh given.now.owners.now room.now.tickets (length parts.old.seats.items) parts.old }
     requires none { workers.old.items ≡ [] }
     requires room { length parts.old.seats.items ≤ vec_capacity workers.old }
-    requires places { AreBlank (length given.now.jobs.now) places.old }
     ensures none { workers.new.items ≡ [] }
     ensures served { AreServedIn given.now.host.now given.now.jobs.now given.now.owners.now room.now parts.old.seats.items parts.new result }
-    ensures places { AreBlank (length given.now.jobs.now) places.new }
 {
     let shared = Shared {
         rt: given.rt,
@@ -181,17 +172,17 @@ fn serve_all<L: Names + Send + Sync, G: Gate + Sync, R: Threads + Wait + Sync>(
         gate: given.gate,
     };
     recruit(&shared, parts, workers);
-    work_and_reap(&shared, given.reaps, places, workers.as_mut_slice());
+    work_and_reap(&shared, given.reaps, workers.as_mut_slice());
     dismiss(workers, parts)
 }
 
-// Takes apart what the jobs were done with, and puts the reports in the places of their jobs.
+// Takes apart what the jobs were done with, and puts the reports of each bundle in its place.
 fn settle<L: Names, G: Gate, R: Wait>(
     given: &Given<G, R>,
     mut room: Room,
     supplies: Supplies<L>,
     parts: Parts<L>,
-    places: Vec<JobReport>,
+    places: Vec<Vec<JobReport>>,
     done: Done,
 ) -> (Vec<OwnerSeat>, Result<Outcome, AllocError>)
     requires left { AreLeftIn given.now.host.now given.now.jobs.now given.now.owners.now room supplies parts places done }
@@ -214,9 +205,10 @@ fn settle<L: Names, G: Gate, R: Wait>(
         return (seats, Err(AllocError));
     }
     count_all(&answered, &mut room.jobs_done);
-    let reports = gather(room.size, given.jobs.len(), places, answered);
+    let bundles = (given.jobs.len() as u64).div_ceil(room.size) as usize;
+    let lists = gather(given.alloc, bundles, places, answered);
     let outcome = Outcome {
-        reports: Reports { reports },
+        reports: Reports::of(lists, given.jobs.len()),
         totals,
         clashes: done.clashes,
         shelves,

@@ -2,10 +2,10 @@
 
 ghost use Rattle.std.specs.Prelude.{◌≡◌, ◌≤◌, ◌<◌, [], All, length, vec_len, vec_capacity, IfOk};
 ghost use Rattle.owners_table.specs.Drawing.{fresh};
-ghost use Rattle.ebpf_pool.specs.Bundles.{IsBundleSize, IsShared, bundles_in};
+ghost use Rattle.ebpf_pool.specs.Bundles.{IsBundleSize, IsShared};
 ghost use Rattle.ebpf_pool.specs.Books.{AreAllFor};
 ghost use Rattle.ebpf_pool.specs.Crews.{IsPrepared};
-ghost use Rattle.ebpf_pool.specs.Numbering.{IsBlank};
+ghost use Rattle.ebpf_pool.specs.Numbering.{IsBlank, bundles_in};
 
 use crate::hands::FreeHands;
 use crate::job_report::JobReport;
@@ -83,13 +83,13 @@ fn blank_lists(alloc: Global, count: usize) -> Result<Vec<Answered>, AllocError>
     Ok(lists)
 }
 
-/// What workers are made of and work with, before there are any: for each a seat to draw tickets with, lists for what it does
-/// and its hands; and memory for a place for the report of each job.
+/// What workers are made of and work with, before there are any: for each a seat to draw tickets with, a list for what it does
+/// and its hands; and memory for a place for each bundle of reports.
 pub(crate) struct Setup<L: Names> {
     pub(crate) room: Room,
     pub(crate) drawers: Vec<TicketSeat>,
     pub(crate) answered: Vec<Answered>,
-    pub(crate) places: Vec<JobReport>,
+    pub(crate) places: Vec<Vec<JobReport>>,
     pub(crate) workers: Vec<Worker<L>>,
     pub(crate) supplies: Supplies<L>,
     pub(crate) hands: FreeHands<L>,
@@ -114,7 +114,7 @@ impl<L: Names> Setup<L> {
     {
         let (room, drawers) = Room::new(alloc, pages, count, jobs)?;
         let answered = blank_lists(alloc, count)?;
-        let places = Vec::with_capacity(alloc, jobs)?;
+        let places = Vec::with_capacity(alloc, (jobs as u64).div_ceil(room.size) as usize)?;
         let workers = Vec::with_capacity(alloc, count)?;
         let Ok((supplies, hands)) = Supplies::open(rt, alloc, &room.arena, count, blanks) else {
             workers.destroy_empty();

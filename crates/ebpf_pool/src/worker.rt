@@ -1,23 +1,23 @@
 //! A worker.
 //!
 //! *The idea.* A worker draws the number of a bundle of neighbouring jobs. It runs the program of each over its own store, and keeps
-//! the reports in their order, with the first job of each bundle beside them. Then it draws again, until no bundle is left. One that
+//! the reports in their order, in a list for each bundle. Then it draws again, until no bundle is left. One that
 //! finds no memory to begin with draws none, and leaves all jobs to the others. A bundle saves draws: each is a step on one word that
 //! all workers share.
 //!
-//! *The invariant.* Each job has as many reports as its bundle was drawn. Each report is that of its job's program alone, with the
+//! *The invariant.* There are as many lists of a bundle as it was drawn. Each report is that of its job's program alone, with the
 //! answers that it reports. Of each kind its hands gave back or left on the shelf all that they took or got from there. What they
 //! took, got and were refused is what the reports say, clashes and strays aside.
 //!
 //! *The reason.* A run over any store leaves as many objects of each kind out as there were, and its report's answers are
 //! what the store counts. Each bundle is drawn once, over all workers, and each job is in one bundle; so each job has one report.
 
-ghost use Rattle.std.specs.Prelude.{◌≡◌, ◌≢◌, ◌⊎◌, ◌≤◌, ◌<◌, ◌+◌, [], All, length, true, false, is_some, vec_len, vec_capacity, OnOk, OnErr};
+ghost use Rattle.std.specs.Prelude.{◌≡◌, ◌≢◌, ◌⊎◌, ◌≤◌, ◌<◌, ◌*◌, [], All, length, true, false, is_some, vec_len, vec_capacity, IfOk, OnOk, OnErr};
 ghost use Rattle.owners_table.specs.Drawing.{IsOf};
 ghost use Rattle.ebpf_pool.specs.declared.worker.Ending.TheVariants.{Through, OutOfMemory};
-ghost use Rattle.ebpf_pool.specs.Bundles.{IsBundleSize, bundles_in};
+ghost use Rattle.ebpf_pool.specs.Bundles.{IsBundleSize};
 ghost use Rattle.ebpf_pool.specs.Going.{AreAnswered, HasAnsweredAll, IsAnswered, IsUnanswered, tools_of};
-ghost use Rattle.ebpf_pool.specs.Numbering.{IsBlank, IsWhole, many_from, told_by};
+ghost use Rattle.ebpf_pool.specs.Numbering.{IsBlank, IsWhole, bundles_in, many_in, told_by};
 ghost use Rattle.ebpf_pool.specs.Stocks.{hands_of};
 ghost use Rattle.ebpf_pool.specs.Working.{IsFresh, IsUnused, IsEven, IsDone, IsServed, AreUsed, AreReady, Answers, HasDrawn};
 
@@ -25,7 +25,7 @@ use crate::client::Client;
 use crate::gate::{Gate, Point};
 use crate::hands::Tools;
 use crate::job_report::{JobReport, Lists};
-use crate::jobs::{Answered, Job};
+use crate::jobs::{Answered, Bundle, Job};
 use crate::ledgers::Names;
 use crate::owned::Owned;
 use crate::stocks::Stocks;
@@ -129,7 +129,7 @@ fn work_with<'a, L: Names, G: Gate + 'a, R: Wait + 'a>(
     requires unused { IsUnused shared.now.owners.now tools }
     requires table { IsOf shared.now.tickets.now ticket.old }
     requires none { (ticket.old.drawn ≡ []) × (ticket.old.passed ≡ false) × IsBlank answered.old }
-    ensures used { AreUsed tools result.0 (told_by shared.now.size (length shared.now.jobs.now) answered.new) }
+    ensures used { AreUsed tools result.0 (told_by shared.now.size answered.new) }
     ensures served { IsServed shared.now.programs.now shared.now.jobs.now shared.now.size shared.now.tickets.now ticket.new answered.new result.1 }
 {
     let Tools {
@@ -158,27 +158,27 @@ fn serve<'a, L: Names, G: Gate + 'a, R: Wait + 'a>(
     requires none { (ticket.old.drawn ≡ []) × (ticket.old.passed ≡ false) × IsBlank answered.old }
     ensures even { IsEven (hands_of store.new.stocks) }
     ensures table { IsOf shared.now.tickets.now ticket.new }
-    ensures good { All (Answers shared.now.programs.now shared.now.jobs.now) (told_by shared.now.size (length shared.now.jobs.now) answered.new) }
-    ensures drawn { HasDrawn shared.now.size shared.now.jobs.now ticket.new (told_by shared.now.size (length shared.now.jobs.now) answered.new) result }
-    ensures whole { result ≢ OutOfMemory → IsWhole shared.now.size (length shared.now.jobs.now) answered.new }
-    ensures goes { HasAnsweredAll (tools_of store.old.stocks store.old.client) (told_by shared.now.size (length shared.now.jobs.now) answered.new) (tools_of store.new.stocks store.new.client) }
+    ensures good { All (Answers shared.now.programs.now shared.now.jobs.now) (told_by shared.now.size answered.new) }
+    ensures drawn { HasDrawn (bundles_in shared.now.size (length shared.now.jobs.now)) ticket.new answered.new.bundles.items result }
+    ensures whole { result ≢ OutOfMemory → All (IsWhole shared.now.size (length shared.now.jobs.now)) answered.new.bundles.items }
+    ensures goes { HasAnsweredAll (tools_of store.old.stocks store.old.client) (told_by shared.now.size answered.new) (tools_of store.new.stocks store.new.client) }
 {
     let Ok(mut workspace) = Workspace::new(shared.alloc) else {
         return Ending::Unstarted;
     };
     let mut spare = None;
     for _ in shared.rt.forever() {
-        let Some(bundle) = shared.tickets.draw(ticket) else {
+        let Some(number) = shared.tickets.draw(ticket) else {
             workspace.free();
             return Ending::Through;
         };
-        let first = bundle * shared.size;
-        let Ok(()) = answered.firsts.push(first) else {
+        let Ok(mut reports) = room_for_bundle(shared, number, answered) else {
             workspace.free();
             return Ending::OutOfMemory;
         };
-        let reports = &mut answered.reports;
-        match answer_bundle(shared, first, store, reports, &mut spare, workspace) {
+        let done = answer_bundle(shared, number, store, &mut reports, &mut spare, workspace);
+        answered.bundles.push_reserved(Bundle { number, reports });
+        match done {
             Ok(left) => workspace = left,
             Err(_) => return Ending::OutOfMemory,
         }
@@ -186,23 +186,43 @@ fn serve<'a, L: Names, G: Gate + 'a, R: Wait + 'a>(
     unreachable!()
 }
 
-// Does the jobs of the bundle that has this first one, one after another, as far as there is memory.
+// Room for a bundle more, and for the reports of its jobs.
+fn room_for_bundle<'a, L: Names, G: Gate + 'a, R: Wait + 'a>(
+    shared: &Shared<'a, L, G, R>,
+    number: u64,
+    answered: &mut Answered,
+) -> Result<Vec<JobReport>, AllocError>
+    requires { number < bundles_in shared.now.size (length shared.now.jobs.now) }
+    ensures same { answered.new.bundles.items ≡ answered.old.bundles.items }
+    ensures room { OnOk result (vec_len answered.new.bundles < vec_capacity answered.new.bundles) }
+    ensures none { IfOk result (λ reports. reports.items ≡ []) }
+    ensures all { IfOk result (λ reports. many_in shared.now.size (length shared.now.jobs.now) number ≤ vec_capacity reports) }
+{
+    answered.bundles.reserve(1)?;
+    let left = shared.jobs.len() as u64 - number * shared.size;
+    Vec::with_capacity(shared.alloc, shared.size.min(left) as usize)
+}
+
+// Does the jobs of a bundle, one after another, as far as there is memory.
 fn answer_bundle<'a, L: Names, G: Gate + 'a, R: Wait + 'a>(
     shared: &Shared<'a, L, G, R>,
-    first: u64,
+    bundle: u64,
     store: &mut Store<'a, L, R>,
     reports: &mut Vec<JobReport>,
     spare: &mut Option<Box<Lists>>,
     workspace: Workspace<Owned>,
 ) -> Result<Workspace<Owned>, AllocError>
     requires ready { AreReady shared.now.programs.now shared.now.jobs.now }
-    requires first { first < length shared.now.jobs.now }
+    requires bundle { bundle < bundles_in shared.now.size (length shared.now.jobs.now) }
+    requires none { reports.old.items ≡ [] }
+    requires room { many_in shared.now.size (length shared.now.jobs.now) bundle ≤ vec_capacity reports.old }
     requires even { IsEven (hands_of store.old.stocks) }
     ensures even { IsEven (hands_of store.new.stocks) }
-    ensures answered { AreAnswered shared.now.programs.now shared.now.jobs.now first (many_from shared.now.size (length shared.now.jobs.now) first)
-        (tools_of store.old.stocks store.old.client) (tools_of store.new.stocks store.new.client) reports.old.items reports.new.items }
-    ensures all { OnOk result (vec_len reports.new ≡ vec_len reports.old + many_from shared.now.size (length shared.now.jobs.now) first) }
+    ensures answered { AreAnswered shared.now.programs.now shared.now.jobs.now (bundle * shared.now.size)
+        (tools_of store.old.stocks store.old.client) (tools_of store.new.stocks store.new.client) reports.new.items }
+    ensures all { OnOk result (vec_len reports.new ≡ many_in shared.now.size (length shared.now.jobs.now) bundle) }
 {
+    let first = bundle * shared.size;
     let end = (first + shared.size).min(shared.jobs.len() as u64);
     let mut workspace = workspace;
     for number in first..end {
@@ -222,15 +242,17 @@ fn answer<'a, L: Names, G: Gate + 'a, R: Wait + 'a>(
 ) -> Result<Workspace<Owned>, AllocError>
     requires ready { AreReady shared.now.programs.now shared.now.jobs.now }
     requires number { number < length shared.now.jobs.now }
+    requires room { vec_len reports.old < vec_capacity reports.old }
     requires even { IsEven (hands_of store.old.stocks) }
     ensures even { IsEven (hands_of store.new.stocks) }
     ensures answered { OnOk result (IsAnswered shared.now.programs.now shared.now.jobs.now number
         (tools_of store.old.stocks store.old.client) (tools_of store.new.stocks store.new.client) reports.old.items reports.new.items) }
     ensures failed { OnErr result (IsUnanswered (tools_of store.old.stocks store.old.client) (tools_of store.new.stocks store.new.client)
         reports.old.items reports.new.items) }
+    ensures capacity { vec_capacity reports.new ≡ vec_capacity reports.old }
 {
     let job = &shared.jobs[number as usize];
-    let Ok(()) = room_for(shared.alloc, reports, spare) else {
+    let Ok(()) = room_for_lists(shared.alloc, spare) else {
         workspace.free();
         return Err(AllocError);
     };
@@ -249,17 +271,10 @@ fn answer<'a, L: Names, G: Gate + 'a, R: Wait + 'a>(
     Ok(workspace)
 }
 
-// Room for a report, and a box for its lists.
-fn room_for(
-    alloc: Global,
-    reports: &mut Vec<JobReport>,
-    spare: &mut Option<Box<Lists>>,
-) -> Result<(), AllocError>
-    ensures same { reports.new.items ≡ reports.old.items }
-    ensures room { OnOk result (vec_len reports.new < vec_capacity reports.new) }
-    ensures spare { OnOk result (is_some spare.new ≡ true) }
+// A box for the lists of a report.
+fn room_for_lists(alloc: Global, spare: &mut Option<Box<Lists>>) -> Result<(), AllocError>
+    ensures { OnOk result (is_some spare.new ≡ true) }
 {
-    reports.reserve(1)?;
     if spare.is_none() {
         *spare = Some(Lists::boxed(alloc)?);
     }

@@ -14,7 +14,7 @@ use ebpf_cover::counts::Counts;
 use ebpf_cover::cover::cover;
 use ebpf_insn::insn::Insn;
 use ebpf_insn::program::Program;
-use ebpf_pool::{Job, JobReport};
+use ebpf_pool::{Job, Reports};
 use ebpf_verify::verified::Verified;
 use std::alloc::{AllocError, Global};
 
@@ -28,7 +28,7 @@ pub(crate) fn write_covered_in(
     programs: &Programs,
     accepted: &[Verified],
     jobs: &[Job],
-    reports: &[JobReport],
+    reports: &Reports,
 ) -> Result<(), AllocError>
     requires known { AreKnown accepted.now }
     requires all { length reports.now ≡ length jobs.now }
@@ -48,7 +48,7 @@ fn write_covered(
     programs: &Programs,
     accepted: &[Verified],
     jobs: &[Job],
-    reports: &[JobReport],
+    reports: &Reports,
 ) -> Result<(), AllocError>
     requires known { AreKnown accepted.now }
     requires all { length reports.now ≡ length jobs.now }

@@ -5,7 +5,7 @@ ghost use Rattle.ebpf_script.specs.OutcomeObjects.{exit_member, job_members, job
 
 use crate::text_line::TextLine;
 use ebpf_command::json::write_numbers;
-use ebpf_pool::{JobReport, Outcome, ShelfTotals};
+use ebpf_pool::{JobReport, Outcome, Reports, ShelfTotals};
 use object_cache::Totals;
 use std::alloc::AllocError;
 
@@ -14,18 +14,21 @@ use std::alloc::AllocError;
 pub(crate) fn write_outcome_objects(text: &mut String, outcome: &Outcome) -> Result<(), AllocError>
     ensures { OnOk result (string_bytes text.new ≡ string_bytes text.old ++ outcome_objects outcome.now) }
 {
-    write_jobs(text, &outcome.reports.reports)?;
+    write_jobs(text, &outcome.reports)?;
     write_caches(text, &outcome.totals)?;
     write_shelves(text, &outcome.shelves)
 }
 
 // Writes what each job did.
-fn write_jobs(text: &mut String, reports: &[JobReport]) -> Result<(), AllocError>
+fn write_jobs(text: &mut String, reports: &Reports) -> Result<(), AllocError>
     ensures { OnOk result (string_bytes text.new ≡ string_bytes text.old ++ jobs_from 0 reports.now) }
 {
     let mut line = TextLine::end();
+    let mut left = reports.iter();
     for job in 0..reports.len() {
-        write_job(text, &mut line, job, &reports[job])?;
+        if let Some(report) = left.next() {
+            write_job(text, &mut line, job, report)?;
+        }
     }
     Ok(())
 }

@@ -5,7 +5,7 @@ ghost use Rattle.ebpf_pool.specs.Outcomes.{IsEvenTotal};
 ghost use Rattle.ebpf_script.specs.Stats.{AreStatsOf, steps_in};
 
 use crate::stats::Stats;
-use ebpf_pool::{JobReport, Outcome};
+use ebpf_pool::{Outcome, Reports};
 
 /// The stats of an outcome that adds up.
 pub(crate) fn stats_of(outcome: Outcome) -> Stats
@@ -25,19 +25,22 @@ pub(crate) fn stats_of(outcome: Outcome) -> Stats
         totals,
         clashes,
         strays,
-        jobs: reports.reports.len(),
-        steps: steps_in(&reports.reports),
+        jobs: reports.len(),
+        steps: steps_in(&reports),
         jobs_done,
     }
 }
 
 // How many instructions the reports tell.
-fn steps_in(reports: &[JobReport]) -> u128
+fn steps_in(reports: &Reports) -> u128
     ensures { result ≡ steps_in reports.now }
 {
     let mut steps = 0;
-    for report in reports {
-        steps += u128::from(report.executed());
+    let mut left = reports.iter();
+    for _report in 0..reports.len() {
+        if let Some(report) = left.next() {
+            steps += u128::from(report.executed());
+        }
     }
     steps
 }

@@ -5,7 +5,7 @@ ghost use Rattle.std.specs.List.{flat_map};
 ghost use Rattle.ebpf_script.specs.OutcomeLines.{job_emit_line, report_lines, reports_from, cache_line, cache_lines, shelf_line, shelf_lines, outcome_lines};
 
 use crate::text_line::TextLine;
-use ebpf_pool::{JobReport, Outcome, ShelfTotals};
+use ebpf_pool::{JobReport, Outcome, Reports, ShelfTotals};
 use object_cache::Totals;
 use std::alloc::AllocError;
 
@@ -14,18 +14,21 @@ use std::alloc::AllocError;
 pub(crate) fn write_outcome(text: &mut String, outcome: &Outcome) -> Result<(), AllocError>
     ensures { OnOk result (string_bytes text.new ≡ string_bytes text.old ++ outcome_lines outcome.now) }
 {
-    write_reports(text, &outcome.reports.reports)?;
+    write_reports(text, &outcome.reports)?;
     write_caches(text, &outcome.totals)?;
     write_shelves(text, &outcome.shelves)
 }
 
 // Writes what each job did.
-fn write_reports(text: &mut String, reports: &[JobReport]) -> Result<(), AllocError>
+fn write_reports(text: &mut String, reports: &Reports) -> Result<(), AllocError>
     ensures { OnOk result (string_bytes text.new ≡ string_bytes text.old ++ reports_from 0 reports.now) }
 {
     let mut line = TextLine::end();
+    let mut left = reports.iter();
     for job in 0..reports.len() {
-        write_report(text, &mut line, job, &reports[job])?;
+        if let Some(report) = left.next() {
+            write_report(text, &mut line, job, report)?;
+        }
     }
     Ok(())
 }

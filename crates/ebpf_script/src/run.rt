@@ -135,7 +135,7 @@ fn answer_script<R: Threads + Wait + Sync, M: Meter>(
         &script.programs,
         &host.programs,
         &script.jobs,
-        &outcome.reports.reports,
+        &outcome.reports,
     )?;
     meter.came(stats_of(outcome));
     Ok(Answer {

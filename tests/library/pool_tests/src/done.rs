@@ -11,7 +11,7 @@ use std::alloc::{AllocError, Global};
 use std::process::Abort;
 use std::sync::Wait;
 use std::thread::Threads;
-use ebpf_pool::{Gate, Host, Job, Outcome, PoolFault, run_jobs};
+use ebpf_pool::{Gate, Host, Job, JobReport, Outcome, PoolFault, run_jobs};
 
 // Does the jobs of a setting, and tells what came of them: the fault or the outcome.
 pub(crate) fn done<G: Gate + Sync, R: Threads + Wait + Abort + Sync>(
@@ -63,6 +63,16 @@ pub(crate) fn outcome_of<G: Gate + Sync, R: Threads + Wait + Abort + Sync>(
     }
 }
 
+// All reports, in the order of the jobs.
+pub(crate) fn reports_in(alloc: Global, outcome: &Outcome) -> Result<Vec<&JobReport>, AllocError> {
+    let mut reports = Vec::new(alloc);
+    let mut left = outcome.reports.iter();
+    while let Some(report) = left.next() {
+        reports.push(report)?;
+    }
+    Ok(reports)
+}
+
 // Compares each report with its program run alone, and adds up what was granted and refused of each kind, and put on its shelf and
 // got from there.
 fn compared(
@@ -72,10 +82,11 @@ fn compared(
     jobs: &[Job],
     outcome: &Outcome,
 ) -> Result<Sums, AllocError> {
-    let reports = &outcome.reports.reports;
+    let reports = reports_in(alloc, outcome)?;
     holds(rt, "there is a report a job", reports.len() == jobs.len());
+    holds(rt, "as many as are said", outcome.reports.len() == jobs.len());
     let mut all = Sums::new();
-    for (job, report) in jobs.iter().zip(reports) {
+    for (job, report) in jobs.iter().zip(&reports) {
         let verified = programs.get(job.program).ok_or(AllocError)?;
         let context = job.context.bytes.to_vec(alloc)?;
         let given = Given {
@@ -144,7 +155,7 @@ fn reports_told(alloc: Global, outcome: &Outcome) -> Result<String, AllocError> 
     let mut told = String::new(alloc);
     let mut last = String::new(alloc);
     let mut count: u64 = 0;
-    for report in outcome.reports.reports.iter() {
+    for report in &reports_in(alloc, outcome)? {
         let next = tell_job(alloc, report)?;
         if count > 0 && next != last {
             write!(told, "{count} of {last}; ")?;

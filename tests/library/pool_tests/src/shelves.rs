@@ -1,6 +1,6 @@
 //! Objects that jobs leave on shelves for one another, each with the number of the job that made it in its bytes.
 
-use crate::done::{outcome_of, totals_told};
+use crate::done::{outcome_of, reports_in, totals_told};
 use crate::facts::{holds, is_told};
 use crate::jobs::{Setting, setting_of};
 use crate::programs::programs_of;
@@ -36,7 +36,7 @@ fn is_later(report: &JobReport) -> bool {
 #[test]
 fn one_job_of_a_hundred_finds_its_shelf_empty(rt: HostRuntime) -> Result<(), AllocError> {
     let outcome = outcome_for(&rt, rt.alloc(), &setting_of("64 16 0 0 100 h"))?;
-    let reports = &outcome.reports.reports;
+    let reports = reports_in(rt.alloc(), &outcome)?;
     let first = reports.iter().filter(|report| is_first(report)).count();
     let later = reports.iter().filter(|report| is_later(report)).count();
     holds(&rt, "one found nothing", first == 1 && later == 99);
@@ -61,7 +61,7 @@ fn number_in(rt: &impl Abort, report: &JobReport) -> Option<u64> {
 }
 
 // The job of this number left an object on a shelf.
-fn has_left(reports: &[JobReport], number: u64) -> bool {
+fn has_left(reports: &[&JobReport], number: u64) -> bool {
     match reports.get(number as usize) {
         Some(report) => matches!(report.exit(), Some(1)),
         None => false,
@@ -85,7 +85,7 @@ fn is_new(seen: &mut [bool], number: u64) -> bool {
 fn count_read(
     rt: &impl Abort,
     alloc: Global,
-    reports: &[JobReport],
+    reports: &[&JobReport],
     kinds: u64,
 ) -> Result<u64, AllocError> {
     let mut seen = vec![in alloc; false; reports.len()]?;
@@ -118,12 +118,12 @@ fn is_handed_over(
     outcome: &Outcome,
     kinds: u64,
 ) -> Result<(), AllocError> {
-    let reports = outcome.reports.reports.as_slice();
+    let reports = reports_in(alloc, outcome)?;
     let put = reports
         .iter()
         .filter(|report| matches!(report.exit(), Some(1)))
         .count();
-    let read = count_read(rt, alloc, reports, kinds)?;
+    let read = count_read(rt, alloc, &reports, kinds)?;
     let kept = read.wrapping_add(left_in(outcome));
     holds(rt, "no object is lost", put as u64 == kept);
     holds(rt, "objects were handed over", read > 0);

@@ -1,5 +1,9 @@
+use Rattle.std.proofs.Common.{◌≡◌, drop}
 use Rattle.ebpf_cover.proofs.Summing.{AreCountsTo}
 use Rattle.ebpf_cover.proofs.cover.cover.Given as goal
 
 abbrev pub invariant-covered : goal.invariant-covered
-invariant-covered l = AreCountsTo l.fn.verified l.fn.program l.fn.jobs l.fn.reports l.index l.counts
+invariant-covered l = record {
+  left : l.left ≡ drop l.index l.fn.reports;
+  counted : AreCountsTo l.fn.verified l.fn.program l.fn.jobs l.fn.reports l.index l.counts;
+}

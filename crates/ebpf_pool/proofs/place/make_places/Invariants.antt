@@ -1,4 +1,4 @@
-use Rattle.std.proofs.Common.{◌≡◌, ◌≤◌, None, All, length}
+use Rattle.std.proofs.Common.{◌≡◌, ◌≤◌, [], All, length}
 use Rattle.std.specs.Vec.{vec_capacity}
 use Rattle.ebpf_pool.proofs.place.make_places.Given as goal
 
@@ -6,5 +6,5 @@ abbrev pub invariant-loop-place : goal.invariant-loop-place
 invariant-loop-place l = record {
   len : length l.places.items ≡ l._place;
   room : l.count ≤ vec_capacity l.places;
-  blank : All (λ r. r.exit ≡ None) l.places.items;
+  blank : All (λ kept. kept.items ≡ []) l.places.items;
 }

@@ -1,38 +1,39 @@
-use Rattle.std.proofs.Common.{rules, ◌≡◌, ◌+◌, ℕ, List, [], ◌∷◌, ◌++◌, length, ap, subst, ◌∙◌, arith, append-nil, length-append}
-use Rattle.std.proofs.lemmas.List.FromFn.{length-range_with_len}
-use Rattle.ebpf_pool.specs.Numbering.{jobs_from, jobs_in, many_from, numbered, told_by}
-use Rattle.ebpf_pool.specs.Places.{ArePlaced}
-use Rattle.ebpf_pool.proofs.NumberingLemmas.{jobs_more}
+use Rattle.std.proofs.Common.{◌<◌, ◌++◌, All, List, ap, subst, sym, ◌∙◌, append-nil, arith, length}
+use Rattle.std.specs.Prelude.{vec_len}
+use Rattle.std.proofs.lemmas.List.{length-set, nil_from_length}
+use Rattle.owners_table.proofs.Joining.{all_front, all_last}
+use Rattle.ebpf_pool.specs.declared.jobs.Bundle.{Bundle}
+use Rattle.ebpf_pool.specs.Places.{ArePlaced, Kept}
+use Rattle.ebpf_pool.proofs.Placing.{one_of_theirs}
 use Rattle.ebpf_pool.proofs.place.place.Goals as goal
 
--- a bundle is taken: so many reports are those before it and its own
-split : (size count first : ℕ) (firsts rest : List ℕ) (n : ℕ) → firsts ≡ rest ++ first ∷ [] → length (jobs_in size count firsts) ≡ n
-    → length (jobs_in size count rest) + many_from size count first ≡ n
-split size count first firsts rest n is whole =
-    let more = ap (λ (l : List ℕ). length (jobs_in size count l)) is ∙ ap length (jobs_more size count rest first) in
-    let sum = length-append (jobs_in size count rest) (jobs_from size count first) in
-    let own = length-range_with_len first (many_from size count first) in
-    omega (arith, more, sum, own, whole)
+pub put-requires : goal.put-requires
+put-requires c =
+    let i = c.loop-number.invariant in
+    let inside = λ (b : Bundle). b.number < vec_len c.args.places.now in
+    let last = all_last inside c.pop.new.self.items c.in-Some.field-0 (subst (All inside) c.in-Some.ensures.items i.inside) in
+    omega (arith, last, i.len, c.in-Some.number-is)
 
-pub place_bundle-requires-clause-many : goal.place_bundle-requires-clause-many
-place_bundle-requires-clause-many c =
-    let own = split c.args.size c.args.count c.in-Some.first c.loop-first.firsts.items c.pop.new.self.items _ c.in-Some.ensures.items c.loop-first.invariant.whole in
-    omega (arith, own, c.loop-first.reports.ok.0)
-
-pub loop-first-preserved : goal.loop-first-preserved
-loop-first-preserved c =
-    let i = c.loop-first.invariant in
-    let size = c.args.size in
-    let count = c.args.count in
+pub loop-number-preserved : goal.loop-number-preserved
+loop-number-preserved c =
+    let i = c.loop-number.invariant in
+    let inside = λ (b : Bundle). b.number < vec_len c.args.places.now in
+    let n = vec_len c.args.places.now in
+    let was = c.args.places.now.items in
+    let theirs = c.args.bundles.items in
     let rest = c.pop.new.self.items in
-    let before = jobs_in size count rest in
-    let told = told_by size count c.args.answered in
-    let start = c.args.places.now.items in
-    let own = split size count c.in-Some.first c.loop-first.firsts.items rest _ c.in-Some.ensures.items i.whole in
-    let jobs = ap (jobs_in size count) c.in-Some.ensures.items ∙ jobs_more size count rest c.in-Some.first in
-    let given = subst (λ (l : List ℕ). ArePlaced start told c.loop-first.places.items (numbered l c.loop-first.reports.items)) jobs i.placed in
-    let done = c.place_bundle.ensures.placed start told before own given in record {
-      len = search rules;
-      whole = omega (arith, done.0);
-      placed = subst (λ (l : List ℕ). ArePlaced start told c.place_bundle.new.places.items (numbered l c.place_bundle.new.reports.items)) (append-nil before) done.1;
+    let b = c.in-Some.field-0 in
+    let long = ap length c.put.ensures ∙ length-set c.loop-number.places.items _ _ in record {
+      len = omega (arith, long, c.put.new.places.ok.0, c.loop-number.places.ok.0, i.len);
+      inside = all_front inside rest b (subst (All inside) c.in-Some.ensures.items i.inside);
+      placed = subst (λ (l : List Kept). (all others : List Bundle) → ArePlaced n all was (others ++ theirs) → ArePlaced n all l (others ++ rest)) (sym c.put.ensures)
+          (one_of_theirs n theirs c.loop-number.bundles.items rest was c.loop-number.places.items b c.in-Some.ensures.items i.placed);
     }
+
+pub returns-clause-placed : goal.returns-clause-placed
+returns-clause-placed c = λ all others start.
+    let n = vec_len c.args.places.now in
+    let places = c.loop-number.places.items in
+    let none = nil_from_length c.loop-number.bundles.items (omega (arith, c.in_default.ensures.cases.0, c.loop-number.bundles.ok.0)) in
+    let done = subst (λ (l : List Bundle). ArePlaced n all places (others ++ l)) none (c.loop-number.invariant.placed all others start) in
+    subst (ArePlaced n all places) (append-nil others) done

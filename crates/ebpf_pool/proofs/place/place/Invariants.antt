@@ -1,15 +1,16 @@
-use Rattle.std.proofs.Common.{◌≡◌, length}
+use Rattle.std.proofs.Common.{◌≡◌, ◌<◌, ◌++◌, All, List, length}
 use Rattle.std.specs.Prelude.{vec_len}
-use Rattle.ebpf_pool.specs.Numbering.{jobs_in, numbered, told_by}
+use Rattle.ebpf_pool.specs.declared.jobs.Bundle.{Bundle}
 use Rattle.ebpf_pool.specs.Places.{ArePlaced}
 use Rattle.ebpf_pool.proofs.place.place.Given as goal
 
-abbrev pub invariant-loop-first : goal.invariant-loop-first
-invariant-loop-first l = record {
-  len : vec_len l.places ≡ l.count;
-  whole : length (jobs_in l.size l.count l.firsts.items) ≡ length l.reports.items;
-  placed : ArePlaced l.fn.places.items (told_by l.size l.count l.fn.answered) l.places.items (numbered (jobs_in l.size l.count l.firsts.items) l.reports.items);
+abbrev pub invariant-loop-number : goal.invariant-loop-number
+invariant-loop-number l = record {
+  len : vec_len l.places ≡ vec_len l.fn.places;
+  inside : All (λ b. b.number < vec_len l.fn.places) l.bundles.items;
+  placed : (all others : List Bundle) → ArePlaced (vec_len l.fn.places) all l.fn.places.items (others ++ l.fn.bundles.items)
+      → ArePlaced (vec_len l.fn.places) all l.places.items (others ++ l.bundles.items);
 }
 
-abbrev pub decreases-loop-first : goal.decreases-loop-first
-decreases-loop-first l = length l.firsts.items
+abbrev pub decreases-loop-number : goal.decreases-loop-number
+decreases-loop-number l = length l.bundles.items

@@ -1,40 +1,37 @@
-use Rattle.std.proofs.Common.{rules, ◌≡◌, ◌<◌, All, ℕ, length, List, [], ◌∷◌, ◌++◌, map, ap, subst, ◌∙◌}
-use Rattle.std.proofs.lemmas.List.{map_push}
-use Rattle.owners_table.proofs.Joining.{all_front, all_last}
-use Rattle.ebpf_pool.specs.declared.jobs.Answered.{Answered}
-use Rattle.ebpf_pool.specs.Numbering.{IsWhole, Numbered, told_by}
-use Rattle.ebpf_pool.proofs.PlacingAll.{one_inside, one_exited, one_once, all_placed}
+use Rattle.std.proofs.Common.{◌≡◌, ◌<◌, All, [], ℕ, refl, sym, ap, subst, ◌∙◌, arith}
+use Rattle.std.specs.Prelude.{vec_len}
+use Rattle.std.proofs.lemmas.List.{nil_from_length}
+use Rattle.ebpf_pool.specs.declared.jobs.Bundle.{Bundle}
+use Rattle.ebpf_pool.specs.Places.{ArePlaced, AreTheirsPlaced, bundles_of}
+use Rattle.ebpf_pool.proofs.Placing.{all_there, all_weighed, last_bundles, none_placed, theirs_inside}
+use Rattle.ebpf_pool.proofs.place.place_all.Goals.{After-drop-answered}
 use Rattle.ebpf_pool.proofs.place.place_all.Goals as goal
 
--- what is left, and the one that is taken
-last_list : (size count : ℕ) (left rest : List Answered) (one : Answered) → left ≡ rest ++ one ∷ []
-    → map (told_by size count) left ≡ map (told_by size count) rest ++ told_by size count one ∷ []
-last_list size count left rest one is = ap (map (told_by size count)) is ∙ map_push (told_by size count) rest one
+pub loop-one-init : goal.loop-one-init
+loop-one-init c = record { len = refl; placed = none_placed _ _ _ c.requires.blank c.requires.inside c.requires.once }
 
-pub place-requires-clause-whole : goal.place-requires-clause-whole
-place-requires-clause-whole c =
-    let whole = IsWhole c.args.size c.args.count in all_last whole _ c.in-Some.one (subst (All whole) c.in-Some.ensures.items c.loop-one.invariant.whole)
-
-pub place-requires-clause-inside : goal.place-requires-clause-inside
-place-requires-clause-inside c =
+pub place-requires : goal.place-requires
+place-requires c =
     let i = c.loop-one.invariant in
-    let inside = one_inside _ _ _ _ _ _ (last_list _ _ _ _ _ c.in-Some.ensures.items) i.placed in
-    let len : length c.loop-one.places.items ≡ c.args.count = search rules in
-    subst (λ (k : ℕ). All (λ (n : Numbered). n.job < k) (told_by c.args.size c.args.count c.in-Some.one)) len inside
-
-pub place-requires-clause-exited : goal.place-requires-clause-exited
-place-requires-clause-exited c = one_exited _ _ _ _ _ _ (last_list _ _ _ _ _ c.in-Some.ensures.items) c.loop-one.invariant.placed
-
-pub place-requires-clause-once : goal.place-requires-clause-once
-place-requires-clause-once c = one_once _ _ _ _ _ _ (last_list _ _ _ _ _ c.in-Some.ensures.items) c.loop-one.invariant.placed
+    let split = last_bundles c.loop-one.answered.items c.pop.new.self.items c.in-Some.one c.in-Some.ensures.items in
+    subst (λ (n : ℕ). All (λ (b : Bundle). b.number < n) c.in-Some.one.bundles.items) (sym i.len) (theirs_inside _ _ _ _ _ _ split i.placed)
 
 pub loop-one-preserved : goal.loop-one-preserved
 loop-one-preserved c =
     let i = c.loop-one.invariant in
-    let e = c.place.ensures in
-    let whole = IsWhole c.args.size c.args.count in
-    let len : length c.place.new.places.items ≡ length c.loop-one.places.items = search rules in record {
-      len = search rules;
-      whole = all_front whole _ c.in-Some.one (subst (All whole) c.in-Some.ensures.items i.whole);
-      placed = all_placed _ _ _ _ _ _ (last_list _ _ _ _ _ c.in-Some.ensures.items) i.placed c.place.new.places.items len e.filled e.weight e.from;
+    let n = vec_len c.args.places.now in
+    let all = bundles_of c.args.answered.items in
+    let split = last_bundles c.loop-one.answered.items c.pop.new.self.items c.in-Some.one c.in-Some.ensures.items in
+    let theirs = subst (λ (k : ℕ). AreTheirsPlaced k c.in-Some.one.bundles.items c.loop-one.places.items c.place.new.places.items) i.len c.place.ensures.placed in record {
+      len = c.place.ensures.len ∙ i.len;
+      placed = theirs all (bundles_of c.pop.new.self.items) (subst (ArePlaced n all c.loop-one.places.items) split i.placed);
     }
+
+none_left : (c : After-drop-answered) → bundles_of c.loop-one.answered.items ≡ []
+none_left c = ap bundles_of (nil_from_length c.loop-one.answered.items (omega (arith, c.in_default.ensures.cases.0, c.loop-one.answered.ok.0)))
+
+pub returns-clause-there : goal.returns-clause-there
+returns-clause-there c = all_there _ _ _ _ (none_left c) c.loop-one.invariant.placed
+
+pub returns-clause-weighed : goal.returns-clause-weighed
+returns-clause-weighed c = all_weighed _ _ _ _ (none_left c) c.loop-one.invariant.placed

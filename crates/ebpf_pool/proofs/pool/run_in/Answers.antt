@@ -36,14 +36,14 @@ serve_all-done-requires-after_bounds g c κs within =
       omega arith,
       (
         record { known = c.requires.known; can = a.can; few = a.few_jobs },
-        (search rules, (search rules, (search rules, (search rules, (search rules, (search rules, search rules)))))),
+        (search rules, (search rules, (search rules, (search rules, (search rules, search rules))))),
       ),
     )
 
 -- what is left when the workers are done
 left : (g : Over) (c : After-destroy_empty g)
     → AreLeft c.args.given.now.host.now.programs.items c.args.given.now.jobs.now c.args.given.now.owners.now c.args.seats.items
-    c.in-Ok.setup.room c.in-Ok.setup.supplies c.serve_all-done.new.parts c.serve_all-done.new.places c.serve_all-done.result
+    c.in-Ok.setup.room c.in-Ok.setup.supplies c.serve_all-done.new.parts c.in-Ok.setup.places c.serve_all-done.result
 left g c =
     let a = admitted _ _ _ c.requires.fine in
     let some = a.some in
@@ -51,6 +51,7 @@ left g c =
     let p = c.in-Ok.ensures in
     let o = p.opened in
     let s = c.serve_all-done.ensures.served in
+    let places = p.places.1 in
     let all : length c.args.seats.items ≡ c.len.result = search rules in
     let more : 0 < length c.args.seats.items = search rules in
     record {
@@ -71,7 +72,7 @@ left g c =
       size = p.size;
       limit = search rules;
       tickets = search rules;
-      places_are = c.serve_all-done.ensures.places;
+      places_are = (p.places.0, search rules);
       jobs_done = search rules;
     }
 

@@ -15,7 +15,7 @@ dismiss-requires-clause-back g c =
     let len : length news ≡ length olds = search rules in
     let all : c.recruit.new.workers.len ≡ length news = search rules in
     let back = written_back c.recruit.new.workers.len news _ all in
-    subst (All IsBack) (sym back) (all_back c.deref.result.now c.args.given.now.jobs.now c.args.given.now.owners.now c.args.room.now.size c.args.room.now.tickets olds news len fresh c.work_and_reap.ensures.workers)
+    subst (All IsBack) (sym back) (all_back c.deref.result.now c.args.given.now.jobs.now c.args.given.now.owners.now c.args.room.now.size c.args.room.now.tickets olds news len fresh c.work_and_reap.ensures)
 
 pub returns-clause-served : goal.returns-clause-served
 returns-clause-served g c =
@@ -29,6 +29,6 @@ returns-clause-served g c =
     let back = written_back c.recruit.new.workers.len news _ all in
     subst (λ ps. AreServed ps c.args.given.now.jobs.now c.args.given.now.owners.now c.args.room.now.size c.args.room.now.tickets c.args.parts.now.seats.items
     c.dismiss.new.parts c.dismiss.result)
-    c.deref.ensures.value (all_served c.deref.result.now c.args.given.now.jobs.now c.args.given.now.owners.now c.args.room.now.size c.args.room.now.tickets olds news len fresh c.work_and_reap.ensures.workers c.args.parts.now.seats.items c.dismiss.new.parts c.dismiss.result
+    c.deref.ensures.value (all_served c.deref.result.now c.args.given.now.jobs.now c.args.given.now.owners.now c.args.room.now.size c.args.room.now.tickets olds news len fresh c.work_and_reap.ensures c.args.parts.now.seats.items c.dismiss.new.parts c.dismiss.result
     seats
     (subst (λ l. AreDismissed l c.dismiss.new.parts c.dismiss.result) back c.dismiss.ensures.dismissed))

@@ -1,4 +1,4 @@
-use Rattle.std.proofs.Common.{rules, ◌≡◌, ◌<◌, ℕ, List, length, map, vec_len, refl, ap, ◌∙◌, arith}
+use Rattle.std.proofs.Common.{rules, ◌≡◌, ◌<◌, ℕ, All, List, length, map, vec_len, refl, sym, ap, subst, ◌∙◌, arith}
 use Rattle.owners_table.specs.Drawing.{NeverWraps}
 use Rattle.ebpf_pool.specs.declared.worker.Ending.TheVariants.{Through}
 use Rattle.ebpf_pool.specs.declared.outcome.Outcome.{Outcome}
@@ -10,12 +10,13 @@ use Rattle.ebpf_pool.specs.declared.crew.Done.{Done}
 use Rattle.ebpf_pool.specs.declared.crew.Parts.{Parts}
 use Rattle.ebpf_pool.specs.declared.jobs.Job.{Job}
 use Rattle.ebpf_pool.specs.declared.outcome.ShelfTotals.{ShelfTotals}
-use Rattle.ebpf_pool.specs.Bundles.{bundle_of}
+use Rattle.ebpf_pool.specs.declared.jobs.Bundle.{Bundle}
 use Rattle.ebpf_pool.specs.Outcomes.{AreIdleAgain}
-use Rattle.ebpf_pool.specs.Serving.{AreServed, reports_of}
+use Rattle.ebpf_pool.specs.Places.{bundles_of, counted}
+use Rattle.ebpf_pool.specs.Serving.{AreServed}
 use Rattle.ebpf_pool.specs.Supplies.{AreClosed}
-use Rattle.ebpf_pool.proofs.Bundles.{bundle_below, bundles_few}
-use Rattle.ebpf_pool.proofs.Outcoming.{outcome, placed_once, answered_inside, answered_exits}
+use Rattle.ebpf_pool.proofs.Bundles.{bundles_few}
+use Rattle.ebpf_pool.proofs.Outcoming.{bundles_inside, outcome, placed_once, reports_len}
 use Rattle.ebpf_pool.proofs.pool.settle.Goals as goal
 
 -- the seats that come back are those that the workers had
@@ -31,31 +32,51 @@ close-requires g c =
     let some = can.some in
     let all = can.served.seats_all in (omega arith, (can.made, (can.hands, (search rules, can.served.idle))))
 
-pub gather-reports-requires-clause-blank : goal.gather-reports-requires-clause-blank
-gather-reports-requires-clause-blank g c = c.requires.left.1.places_are
+pub gather-lists-requires-clause-none : goal.gather-lists-requires-clause-none
+gather-lists-requires-clause-none g c = c.requires.left.1.places_are.0
 
-pub gather-reports-requires-clause-whole : goal.gather-reports-requires-clause-whole
-gather-reports-requires-clause-whole g c = let through : c.args.done.ending ≡ Through = search rules in c.requires.left.1.served.whole through
+pub gather-lists-requires-clause-room : goal.gather-lists-requires-clause-room
+gather-lists-requires-clause-room g c = omega (arith, c.div_ceil-bundles.ensures, c.requires.left.1.places_are.1)
 
-pub gather-reports-requires-clause-inside : goal.gather-reports-requires-clause-inside
-gather-reports-requires-clause-inside g c =
-    answered_inside _ _ (reports_of c.args.room.size (length c.args.given.now.jobs.now) c.args.parts) c.requires.left.1.served.good
+pub gather-lists-requires-clause-inside : goal.gather-lists-requires-clause-inside
+gather-lists-requires-clause-inside g c =
+    let through : c.args.done.ending ≡ Through = search rules in
+    let inside = bundles_inside _ _ _ _ _ _ _ _ through c.requires.left.1.served in
+    subst (λ (n : ℕ). All (λ (b : Bundle). b.number < n) (bundles_of c.args.parts.answered.items)) (sym c.div_ceil-bundles.ensures) inside
 
-pub gather-reports-requires-clause-exited : goal.gather-reports-requires-clause-exited
-gather-reports-requires-clause-exited g c =
-    answered_exits _ _ (reports_of c.args.room.size (length c.args.given.now.jobs.now) c.args.parts) c.requires.left.1.served.good
-
-pub gather-reports-requires-clause-once : goal.gather-reports-requires-clause-once
-gather-reports-requires-clause-once g c =
+pub gather-lists-requires-clause-once : goal.gather-lists-requires-clause-once
+gather-lists-requires-clause-once g c =
     let can = c.requires.left.1 in
     let few = can.few in
     let few_jobs = can.few_jobs in
     let limit = can.limit in
     let tickets = can.tickets in
     let bundles = bundles_few c.args.room.size (length c.args.given.now.jobs.now) can.size.0 in
+    let s = can.served in
+    let drawers = s.drawers_all in
     let through : c.args.done.ending ≡ Through = search rules in
     let fits : NeverWraps c.args.room.tickets.limit c.args.room.tickets.seats = search rules in
-    placed_once _ _ _ _ _ _ _ _ through can.served (c.close-2.ensures.once fits)
+    let all : vec_len c.args.parts.drawers ≡ c.args.room.tickets.seats = search rules in
+    λ x below. placed_once _ _ _ _ _ _ _ _ through s (λ y lt. c.close-2.ensures.each fits all (s.through through) y (omega (arith, lt, limit))) x
+    (omega (arith, below, c.div_ceil-bundles.ensures))
+
+pub of-requires : goal.of-requires
+of-requires g c =
+    let can = c.requires.left.1 in
+    let few = can.few in
+    let few_jobs = can.few_jobs in
+    let limit = can.limit in
+    let tickets = can.tickets in
+    let bundles = bundles_few c.args.room.size (length c.args.given.now.jobs.now) can.size.0 in
+    let s = can.served in
+    let drawers = s.drawers_all in
+    let through : c.args.done.ending ≡ Through = search rules in
+    let fits : NeverWraps c.args.room.tickets.limit c.args.room.tickets.seats = search rules in
+    let all : vec_len c.args.parts.drawers ≡ c.args.room.tickets.seats = search rules in
+    let e = c.gather-lists.ensures in
+    let many = c.div_ceil-bundles.ensures in
+    sym (reports_len _ _ _ _ _ _ _ _ through s (λ y lt. c.close-2.ensures.each fits all (s.through through) y (omega (arith, lt, limit))) can.size.0 few_jobs
+    c.gather-lists.result.items (omega (arith, e.len, c.gather-lists.result.ok.0, many)) (λ x lt. e.there x (omega (arith, lt, many))) e.weighed)
 
 pub returns : goal.returns
 returns g c = λ before can.
@@ -65,25 +86,22 @@ returns g c = λ before can.
     let tickets = can.tickets in
     let bundles = bundles_few c.args.room.size (length c.args.given.now.jobs.now) can.size.0 in
     let s = can.served in
+    let drawers = s.drawers_all in
     let through : c.args.done.ending ≡ Through = search rules in
     let fits : NeverWraps c.args.room.tickets.limit c.args.room.tickets.seats = search rules in
-    let drawers = s.drawers_all in
     let all : vec_len c.args.parts.drawers ≡ c.args.room.tickets.seats = search rules in
-    let inside : (x : ℕ) → x < length c.args.given.now.jobs.now → bundle_of c.args.room.size x < c.args.room.tickets.limit =
-    λ x below. omega (arith, bundle_below c.args.room.size (length c.args.given.now.jobs.now) can.size.0 x below, limit)
-    in
+    let e = c.gather-lists.ensures in
+    let many = c.div_ceil-bundles.ensures in
     let made : Outcome = record {
-      reports = c.gather-reports.result.items;
+      reports = c.of.result;
       totals = c.close.result.1;
       clashes = c.args.done.clashes;
       shelves = c.close.result.0;
       strays = c.args.done.strays;
       jobs_done = c.count_all.new.counts;
     } in
-    let len : length c.gather-reports.result.items ≡ length c.args.given.now.jobs.now = search rules in
-    let e = c.gather-reports.ensures in
-    let done = outcome _ _ _ _ _ _ _ _ through s (c.close-2.ensures.once fits)
-    (λ x below. c.close-2.ensures.each fits all (s.through through) (bundle_of c.args.room.size x) (inside x below))
-    c.gather-reports.result.items len e.filled e.weight e.from c.close.new.seats.items c.close.result.0 c.close.result.1 c.close.ensures made refl refl refl refl refl
-    (c.count_all.ensures ∙ ap (map (λ a. vec_len a.reports)) c.deref.ensures.value) in
+    let done = outcome _ _ _ _ _ _ _ _ through s (λ y lt. c.close-2.ensures.each fits all (s.through through) y (omega (arith, lt, limit))) can.size.0 few_jobs
+    c.gather-lists.result.items (omega (arith, e.len, c.gather-lists.result.ok.0, many)) (λ x lt. e.there x (omega (arith, lt, many))) e.weighed
+    c.close.new.seats.items c.close.result.0 c.close.result.1 c.close.ensures made c.of.ensures refl refl refl refl
+    (c.count_all.ensures ∙ ap (map (λ a. counted a.bundles.items)) c.deref.ensures.value) in
     record { done = done; seats = again before can.served c.close.ensures }

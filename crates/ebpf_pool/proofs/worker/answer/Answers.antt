@@ -22,8 +22,7 @@ returns-clause-answered g c = record { made = made; good = answered; kept = item
   n = record { job = c.args.number; report = made }
 
   items : c.push_reserved.new.self.items ≡ c.args.reports.now.items ++ made ∷ []
-  items =
-      c.push_reserved.ensures.items ∙ ap (λ (r : Report). c.room_for.new.reports.items ++ r ∷ []) c.of-report.ensures ∙ ap (λ (l : List Report). l ++ made ∷ []) c.in-Ok.ensures.same
+  items = c.push_reserved.ensures.items ∙ ap (λ (r : Report). c.args.reports.now.items ++ r ∷ []) c.of-report.ensures
 
   -- the job that is read is the one of the number
   program : c.job.inside.0.0 ≡ c.index-shared-number.result.program
