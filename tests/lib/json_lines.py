@@ -16,6 +16,8 @@ FORMS = {
     'shelf slot': 'shelf {shelf} slot {slot}\n',
     'job exit executed peak output': 'job {job} exit {exit} executed {executed} peak {peak}\n',
     'cache allocs frees nulls missing': 'cache {cache} allocs {allocs} frees {frees} nulls {nulls} missing {missing}\n',
+    'covered slot executed instruction': 'covered {covered} slot {slot} executed {executed}: {instruction}\n',
+    'covered slot executed taken instruction': 'covered {covered} slot {slot} executed {executed} taken {taken}: {instruction}\n',
     'accepted': 'accepted {accepted}\n',
     'refused slot': 'refused {refused} {slot}\n',
     'refused slot why': 'refused {refused} {slot}\n  {why}\n',

@@ -1,3 +1,4 @@
 pub mod TextLemmas
 pub mod FaultLemmas
 pub mod MeetingLemmas
+pub mod LostLemmas

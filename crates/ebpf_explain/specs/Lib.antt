@@ -4,6 +4,7 @@ pub mod StackWords
 pub mod Held
 pub mod Known
 pub mod Lost
+pub mod Losses
 pub mod Slots
 pub mod Hex
 pub mod DecodeSentences

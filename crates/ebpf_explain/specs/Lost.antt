@@ -1,5 +1,5 @@
 -- What is lost where paths meet, as a line: what each path knew, and the join of them does not.
-use Rattle.std.specs.Prelude.{ℕ, ◌-◌, ◌*◌, ◌==◌, Bool, ◌&&◌, if◌then◌else◌, List, [], ◌++◌, length, codes, decimal, Option, Some, None, is_none, slice_get, unwrap_or}
+use Rattle.std.specs.Prelude.{ℕ, zero, suc, ◌-◌, ◌*◌, ◌==◌, Bool, ◌&&◌, if◌then◌else◌, List, [], ◌∷◌, ◌++◌, length, codes, decimal, Option, Some, None, is_none, slice_get, unwrap_or}
 use Rattle.std.specs.List.{flat_map, position}
 use Rattle.ebpf_text.specs.Operands.{register_text}
 use Rattle.ebpf_state.specs.declared.value.Abs.{Abs}
@@ -14,7 +14,6 @@ use Rattle.ebpf_verify.specs.declared.comers.Comer.{Comer}
 use Rattle.ebpf_explain.specs.declared.lost.Place.{Place}
 use Rattle.ebpf_explain.specs.declared.lost.Place.TheVariants.{Register, Slot}
 use Rattle.ebpf_explain.specs.Registers.{all_registers}
-use Rattle.ebpf_explain.specs.StackWords.{texts_below}
 use Rattle.ebpf_explain.specs.Values.{value_text}
 
 -- what is known of a word that was stored as a whole
@@ -44,9 +43,12 @@ place_name (Register r) = codes "  " ++ register_text r
 place_name (Slot number) = codes "  [r10-" ++ (decimal (512 - 8 * number) ++ codes "]")
 
 -- what one that comes knows of it
+abbrev pub known_there : Place → StateView → List ℕ
+known_there place s = codes " " ++ value_text (value_at place s)
+
 abbrev pub known_from : Place → Option Comer → List ℕ
 known_from place None = []
-known_from place (Some c) = codes " " ++ (value_text (value_at place c.state) ++ (codes " from " ++ decimal c.from))
+known_from place (Some c) = known_there place c.state ++ (codes " from " ++ decimal c.from)
 
 abbrev pub known_by : Place → List Comer → ℕ → List ℕ
 known_by place cs number = known_from place (slice_get cs number)
@@ -60,12 +62,21 @@ abbrev pub apart_from : Place → Option Comer → List Comer → List ℕ
 apart_from place None cs = []
 apart_from place (Some c) cs = known_by place cs 0 ++ (codes "," ++ known_by place cs (other_than place (value_at place c.state) cs))
 
-abbrev pub lost_at : Place → List Comer → StateView → List ℕ
-lost_at place cs s = if is_lost place cs s then place_name place ++ apart_from place (slice_get cs 0) cs else []
+abbrev pub lost_at : List Comer → Place → List ℕ
+lost_at cs place = place_name place ++ apart_from place (slice_get cs 0) cs
+
+-- a place that is lost, as a list of it alone
+abbrev pub lost_among : List Comer → StateView → Place → List Place
+lost_among cs s place = if is_lost place cs s then place ∷ [] else []
+
+-- those of the words of the stack below number n
+unfoldable pub slots_lost : List Comer → StateView → ℕ → List Place
+slots_lost cs s zero = []
+slots_lost cs s (suc n) = slots_lost cs s n ++ lost_among cs s (Slot n)
 
 -- the registers, and then the words of the stack
-abbrev pub lost_words : List Comer → StateView → List ℕ
-lost_words cs s = flat_map (λ r. lost_at (Register r) cs s) all_registers ++ texts_below 64 (λ number. lost_at (Slot number) cs s)
+abbrev pub lost_places : List Comer → StateView → List Place
+lost_places cs s = flat_map (λ r. lost_among cs s (Register r)) all_registers ++ slots_lost cs s 64
 
 abbrev pub line_with : List ℕ → List ℕ
 line_with words = codes "  lost where paths meet:" ++ (words ++ codes "\n")
@@ -75,4 +86,4 @@ headed words = if length words == 0 then [] else line_with words
 
 -- the line of what is lost, if anything is; where none comes, nothing is
 abbrev pub lost_line : List Comer → StateView → List ℕ
-lost_line cs s = if length cs == 0 then [] else headed (lost_words cs s)
+lost_line cs s = if length cs == 0 then [] else headed (flat_map (lost_at cs) (lost_places cs s))

@@ -1,10 +1,9 @@
 //! What is lost where paths meet, in words, each written after a text. Writing fails only where an allocation fails.
 
-ghost use Rattle.std.specs.Prelude.{◌≡◌, ◌++◌, string_bytes, OnOk, Some, slice_get};
+ghost use Rattle.std.specs.Prelude.{◌≡◌, ◌++◌, string_bytes, IfOk, OnOk, Some, slice_get};
 ghost use Rattle.std.specs.List.{flat_map};
-ghost use Rattle.ebpf_explain.specs.Lost.{apart_from, first_apart, first_without, headed, is_lost, known_by, known_from, line_with, lost_at, lost_line, lost_words, other_than, place_name, value_at};
-ghost use Rattle.ebpf_explain.specs.StackWords.{texts_below};
-ghost use Rattle.ebpf_explain.specs.declared.lost.Place.TheVariants.{Register, Slot};
+ghost use Rattle.ebpf_explain.specs.Lost.{apart_from, first_apart, first_without, headed, is_lost, known_by, known_from, known_there, line_with, lost_among, lost_at, lost_line, lost_places, other_than, place_name, slots_lost, value_at};
+ghost use Rattle.ebpf_explain.specs.declared.lost.Place.TheVariants.{Register};
 ghost use Rattle.ebpf_state.specs.Abstract.{IsProper, is_unset, joined_value};
 
 use crate::known::REGISTERS;
@@ -38,8 +37,9 @@ pub fn write_lost(
     if comers.len() == 0 {
         return Ok(());
     }
+    let places = lost_places(alloc, comers, joined)?;
     let mut words = String::new(alloc);
-    write_lost_words(&mut words, comers, joined)?;
+    write_lost_words(&mut words, &places, comers)?;
     write_headed(text, words.as_str())
 }
 
@@ -62,65 +62,80 @@ fn write_line(text: &mut String, words: &str) -> Result<(), AllocError>
     text.push_str("\n")
 }
 
-// The registers and the words of the stack that are lost.
-fn write_lost_words(text: &mut String, comers: &[Comer], joined: &State) -> Result<(), AllocError>
-    ensures { OnOk result (string_bytes text.new ≡ string_bytes text.old ++ lost_words comers.now joined.now) }
+// The places of which what was known is lost, each with what two that come knew there.
+fn write_lost_words(text: &mut String, places: &[Place], comers: &[Comer]) -> Result<(), AllocError>
+    ensures { OnOk result (string_bytes text.new ≡ string_bytes text.old ++ flat_map (lost_at comers.now) places.now) }
 {
-    write_lost_registers(text, comers, joined, &REGISTERS)?;
-    write_lost_stack(text, comers, joined)
+    for place in places {
+        write_lost_at(text, *place, comers)?;
+    }
+    Ok(())
 }
 
-// Those of these registers that are lost.
-fn write_lost_registers(
-    text: &mut String,
+// A place of which what was known is lost.
+fn write_lost_at(text: &mut String, place: Place, comers: &[Comer]) -> Result<(), AllocError>
+    ensures { OnOk result (string_bytes text.new ≡ string_bytes text.old ++ lost_at comers.now place) }
+{
+    write_place_name(text, place)?;
+    write_apart(text, place, comers)
+}
+
+// The registers and the words of the stack that are lost.
+pub(crate) fn lost_places(
+    alloc: Global,
+    comers: &[Comer],
+    joined: &State,
+) -> Result<Vec<Place>, AllocError>
+    ensures { IfOk result (λ v. v.items ≡ lost_places comers.now joined.now) }
+{
+    let mut places = Vec::new(alloc);
+    add_lost_registers(&mut places, comers, joined, &REGISTERS)?;
+    add_lost_slots(&mut places, comers, joined)?;
+    Ok(places)
+}
+
+// Adds those of these registers that are lost.
+fn add_lost_registers(
+    places: &mut Vec<Place>,
     comers: &[Comer],
     joined: &State,
     registers: &[Reg],
 ) -> Result<(), AllocError>
-    ensures { OnOk result (string_bytes text.new ≡ string_bytes text.old ++ flat_map (λ r. lost_at (Register r) comers.now joined.now) registers.now) }
+    ensures { OnOk result (places.new.items ≡ places.old.items ++ flat_map (λ r. lost_among comers.now joined.now (Register r)) registers.now) }
 {
     for register in registers {
-        write_lost_at(text, Place::Register(*register), comers, joined)?;
+        add_if_lost(places, comers, joined, Place::Register(*register))?;
     }
     Ok(())
 }
 
-// The words of the stack that are lost.
-fn write_lost_stack(text: &mut String, comers: &[Comer], joined: &State) -> Result<(), AllocError>
-    ensures { OnOk result (string_bytes text.new ≡ string_bytes text.old ++ texts_below 64 (λ number. lost_at (Slot number) comers.now joined.now)) }
+// Adds the words of the stack that are lost.
+fn add_lost_slots(
+    places: &mut Vec<Place>,
+    comers: &[Comer],
+    joined: &State,
+) -> Result<(), AllocError>
+    ensures { OnOk result (places.new.items ≡ places.old.items ++ slots_lost comers.now joined.now 64) }
 {
     for number in 0..64 {
-        write_lost_slot(text, number, comers, joined)?;
+        add_if_lost(places, comers, joined, Place::Slot(number))?;
     }
     Ok(())
 }
 
-// A word of the stack, if it is lost.
-fn write_lost_slot(
-    text: &mut String,
-    number: u8,
+// Adds a place, if what was known there is lost.
+fn add_if_lost(
+    places: &mut Vec<Place>,
     comers: &[Comer],
     joined: &State,
-) -> Result<(), AllocError>
-    ensures { OnOk result (string_bytes text.new ≡ string_bytes text.old ++ lost_at (Slot number) comers.now joined.now) }
-{
-    write_lost_at(text, Place::Slot(number), comers, joined)
-}
-
-// A place, if what was known there is lost.
-fn write_lost_at(
-    text: &mut String,
     place: Place,
-    comers: &[Comer],
-    joined: &State,
 ) -> Result<(), AllocError>
-    ensures { OnOk result (string_bytes text.new ≡ string_bytes text.old ++ lost_at place comers.now joined.now) }
+    ensures { OnOk result (places.new.items ≡ places.old.items ++ lost_among comers.now joined.now place) }
 {
-    if !is_lost(place, comers, joined) {
-        return Ok(());
+    if is_lost(place, comers, joined) {
+        places.push(place)?;
     }
-    write_place_name(text, place)?;
-    write_apart(text, place, comers)
+    Ok(())
 }
 
 // Whether each state that comes knows something of a place, and the join of them nothing.
@@ -172,7 +187,7 @@ fn value_at(place: Place, state: &State) -> Abs
 }
 
 // A register by its name, or a word of the stack by where it begins.
-fn write_place_name(text: &mut String, place: Place) -> Result<(), AllocError>
+pub(crate) fn write_place_name(text: &mut String, place: Place) -> Result<(), AllocError>
     ensures { OnOk result (string_bytes text.new ≡ string_bytes text.old ++ place_name place) }
 {
     match place {
@@ -226,7 +241,18 @@ fn write_known_by(
 fn write_known(text: &mut String, place: Place, comer: &Comer) -> Result<(), AllocError>
     ensures { OnOk result (string_bytes text.new ≡ string_bytes text.old ++ known_from place (Some comer.now)) }
 {
-    text.push_str(" ")?;
-    write_value(text, value_at(place, &comer.state))?;
+    write_known_there(text, place, &comer.state)?;
     write!(text, " from {}", comer.from)
+}
+
+// What a state knows of a place.
+pub(crate) fn write_known_there(
+    text: &mut String,
+    place: Place,
+    state: &State,
+) -> Result<(), AllocError>
+    ensures { OnOk result (string_bytes text.new ≡ string_bytes text.old ++ known_there place state.now) }
+{
+    text.push_str(" ")?;
+    write_value(text, value_at(place, state))
 }

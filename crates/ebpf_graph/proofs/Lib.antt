@@ -1,2 +1,3 @@
 pub mod BlockLemmas
 pub mod LineLemmas
+pub mod LossLemmas

@@ -1,3 +1,4 @@
 pub mod Blocks
 pub mod Conditions
 pub mod Graph
+pub mod Drawn

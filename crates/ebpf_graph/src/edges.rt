@@ -1,86 +1,91 @@
 //! The edges that leave a block, each written after a text. Writing fails only where an allocation fails.
 
-ghost use Rattle.std.specs.Prelude.{◌≡◌, ◌++◌, string_bytes, OnOk};
-ghost use Rattle.ebpf_graph.specs.Graph.{edge_text, fall_label, jump_label};
+ghost use Rattle.std.specs.Prelude.{◌≡◌, ◌++◌, string_bytes, IfOk, OnOk};
+ghost use Rattle.ebpf_explain.specs.Losses.{lost_between};
+ghost use Rattle.ebpf_graph.specs.Graph.{edge_text, edge_texts, fall_condition, jump_condition, label};
 
 use crate::condition::write_condition;
+use ebpf_explain::losses::{Loss, write_lost_between};
 use ebpf_flow::edges::Edges;
 use ebpf_insn::insn::Insn;
-use std::alloc::AllocError;
+use std::alloc::{AllocError, Global};
 
 // The edges of the instruction that ends the block that begins at a slot.
 pub(crate) fn write_edges(
+    alloc: Global,
     text: &mut String,
+    losses: &[Loss],
     first: usize,
+    last: usize,
     insn: Insn,
     edges: Edges,
 ) -> Result<(), AllocError>
-    ensures { OnOk result (string_bytes text.new ≡ string_bytes text.old ++ (edge_text first edges.fall (fall_label insn) ++ edge_text first edges.jump (jump_label insn))) }
+    ensures { OnOk result (string_bytes text.new ≡ string_bytes text.old ++ edge_texts losses.now first last insn edges) }
 {
-    write_fall(text, first, insn, edges.fall)?;
-    write_jump(text, first, insn, edges.jump)
+    let taken = jump_condition(alloc, insn)?;
+    let fall = fall_condition(insn);
+    write_edge(alloc, text, losses, first, last, edges.fall, fall)?;
+    write_edge(alloc, text, losses, first, last, edges.jump, taken.as_str())
 }
 
-// The edge to the slot after the instruction.
-fn write_fall(
+// An edge, if there is one, with a condition, and with what is lost where it leads.
+fn write_edge(
+    alloc: Global,
     text: &mut String,
+    losses: &[Loss],
     first: usize,
-    insn: Insn,
+    last: usize,
     edge: Option<u16>,
+    condition: &str,
 ) -> Result<(), AllocError>
-    ensures { OnOk result (string_bytes text.new ≡ string_bytes text.old ++ edge_text first edge (fall_label insn)) }
+    ensures { OnOk result (string_bytes text.new ≡ string_bytes text.old ++ edge_text losses.now first last edge condition.now) }
 {
     let Some(to) = edge else {
         return Ok(());
     };
+    let mut lost = String::new(alloc);
+    write_lost_between(&mut lost, losses, last, to as usize)?;
     write!(text, "  n{first} -> n{to}")?;
-    write_fall_label(text, insn)?;
+    write_label(text, condition, lost.as_str())?;
     text.push_str(";\n")
 }
 
-// The edge to the slot that the instruction jumps to.
-fn write_jump(
-    text: &mut String,
-    first: usize,
-    insn: Insn,
-    edge: Option<u16>,
-) -> Result<(), AllocError>
-    ensures { OnOk result (string_bytes text.new ≡ string_bytes text.old ++ edge_text first edge (jump_label insn)) }
+// The label of an edge, if it has one.
+fn write_label(text: &mut String, condition: &str, lost: &str) -> Result<(), AllocError>
+    ensures { OnOk result (string_bytes text.new ≡ string_bytes text.old ++ label condition.now lost.now) }
 {
-    let Some(to) = edge else {
-        return Ok(());
-    };
-    write!(text, "  n{first} -> n{to}")?;
-    write_jump_label(text, insn)?;
-    text.push_str(";\n")
-}
-
-// The label of the first.
-fn write_fall_label(text: &mut String, insn: Insn) -> Result<(), AllocError>
-    ensures { OnOk result (string_bytes text.new ≡ string_bytes text.old ++ fall_label insn) }
-{
-    match insn {
-        Insn::Branch { .. } => text.push_str(" [label=\"else\"]"),
-        _ => Ok(()),
+    match (condition.is_empty(), lost.is_empty()) {
+        (true, true) => Ok(()),
+        (true, false) => write!(text, " [label=\"lost{lost}\"]"),
+        (false, true) => write!(text, " [label=\"{condition}\"]"),
+        (false, false) => write!(text, " [label=\"{condition}\\nlost{lost}\"]"),
     }
 }
 
-// The label of the second.
-fn write_jump_label(text: &mut String, insn: Insn) -> Result<(), AllocError>
-    ensures { OnOk result (string_bytes text.new ≡ string_bytes text.old ++ jump_label insn) }
+// The condition under which an instruction goes on to the next slot, if it has one.
+fn fall_condition(insn: Insn) -> &'static str
+    ensures { result.now ≡ fall_condition insn }
 {
     match insn {
-        Insn::Branch {
-            width,
-            cond,
-            left,
-            right,
-            ..
-        } => {
-            text.push_str(" [label=\"")?;
-            write_condition(text, width, cond, left, right)?;
-            text.push_str("\"]")
-        }
-        _ => Ok(()),
+        Insn::Branch { .. } => "else",
+        _ => "",
     }
+}
+
+// The condition under which it jumps, if it has one.
+fn jump_condition(alloc: Global, insn: Insn) -> Result<String, AllocError>
+    ensures { IfOk result (λ text. string_bytes text ≡ jump_condition insn) }
+{
+    let mut text = String::new(alloc);
+    if let Insn::Branch {
+        width,
+        cond,
+        left,
+        right,
+        ..
+    } = insn
+    {
+        write_condition(&mut text, width, cond, left, right)?;
+    }
+    Ok(text)
 }

@@ -1,16 +1,19 @@
 //! The graph of a program.
 
-ghost use Rattle.std.specs.Prelude.{◌≡◌, ◌<◌, ◌++◌, ℕ, cond, length, slice_index_or, false, string_bytes, OnOk, Some};
+ghost use Rattle.std.specs.Prelude.{◌≡◌, ◌<◌, ◌++◌, [], if◌then◌else◌, cond, length, string_bytes, IfOk, OnOk};
+ghost use Rattle.ebpf_explain.specs.Losses.{losses_at};
 ghost use Rattle.ebpf_insn.specs.Program.{insn_at};
 ghost use Rattle.ebpf_flow.specs.Edges.{edges_at};
 ghost use Rattle.ebpf_explain.specs.StackWords.{texts_below};
-ghost use Rattle.ebpf_graph.specs.Blocks.{begins_block, ends_before, ends_block, first_of_block};
-ghost use Rattle.ebpf_graph.specs.Graph.{closing, graph_of, slot_graph};
+ghost use Rattle.ebpf_graph.specs.Blocks.{first_of_block};
+ghost use Rattle.ebpf_graph.specs.Drawn.{AreBegins, AreDrawn};
+ghost use Rattle.ebpf_graph.specs.Graph.{closing, graph_of, losses_below, slot_graph};
 
 use crate::blocks::{block_starts, ends_before};
 use crate::edges::write_edges;
 use crate::entry::write_known_before;
 use crate::node::{write_label_line, write_mark, write_node_end, write_opening};
+use ebpf_explain::losses::{Loss, add_losses};
 use ebpf_flow::edges::Edges;
 use ebpf_insn::insn::Insn;
 use ebpf_verify::looked::Looked;
@@ -18,7 +21,7 @@ use std::alloc::{AllocError, Global};
 
 /// Writes the graph of a program after a text: its nodes in the order of their slots, each followed by its edges. Where a
 /// slot is refused, its line is marked and its node is red. With states each node begins with what is known before its block, if
-/// the verifier looked at it.
+/// the verifier looked at it, and the label of each edge says what is lost where it leads.
 ///
 /// # Errors
 /// It fails only where an allocation fails, and a beginning of the graph may be written then.
@@ -31,10 +34,72 @@ pub fn write_graph(
 ) -> Result<(), AllocError>
     ensures { OnOk result (string_bytes text.new ≡ string_bytes text.old ++ graph_of states looked.now.flowed.now looked.now.entries.now looked.now.kinds.now refused) }
 {
-    let begins = block_starts(alloc, looked.flowed)?;
+    let drawn = what_is_drawn(alloc, looked, states)?;
     text.push_str("digraph program {\n  node [shape=box, fontname=monospace];\n")?;
-    write_blocks(alloc, text, looked, &begins, refused, states)?;
+    write_blocks(alloc, text, looked, &drawn, refused)?;
     text.push_str("}\n")
+}
+
+// What is known of a program's blocks before any is written.
+#[derive(Drop)]
+struct Drawn {
+    // Whether a block begins at each slot.
+    begins: Vec<bool>,
+    // What is lost where blocks begin, if that is asked for.
+    losses: Vec<Loss>,
+    // Whether the states are asked for.
+    states: bool,
+}
+
+// What is known of the blocks. It fails only where an allocation fails.
+fn what_is_drawn(alloc: Global, looked: &Looked, states: bool) -> Result<Drawn, AllocError>
+    ensures drawn { IfOk result (AreDrawn looked.now.flowed.now looked.now.entries.now) }
+    ensures states { IfOk result (λ drawn. drawn.states ≡ states) }
+{
+    let begins = block_starts(alloc, looked.flowed)?;
+    let mut losses = Vec::new(alloc);
+    if states {
+        add_block_losses(alloc, looked, &begins, &mut losses)?;
+    }
+    Ok(Drawn {
+        begins,
+        losses,
+        states,
+    })
+}
+
+// Adds what is lost where blocks begin.
+fn add_block_losses(
+    alloc: Global,
+    looked: &Looked,
+    begins: &[bool],
+    losses: &mut Vec<Loss>,
+) -> Result<(), AllocError>
+    requires { AreBegins looked.now.flowed.now begins.now }
+    ensures { OnOk result (losses.new.items ≡ losses.old.items ++ losses_below looked.now.flowed.now looked.now.entries.now (length looked.now.entries.now)) }
+{
+    for slot in 0..looked.entries.len() {
+        add_if_begins(alloc, looked, begins[slot], slot, losses)?;
+    }
+    Ok(())
+}
+
+// Adds what is lost at a slot, if a block begins there.
+fn add_if_begins(
+    alloc: Global,
+    looked: &Looked,
+    begins: bool,
+    slot: usize,
+    losses: &mut Vec<Loss>,
+) -> Result<(), AllocError>
+    requires { slot < length looked.now.entries.now }
+    ensures { OnOk result (losses.new.items ≡ losses.old.items ++ (if begins then losses_at looked.now.flowed.now looked.now.entries.now slot else [])) }
+{
+    if begins {
+        add_losses(alloc, looked, slot, losses)
+    } else {
+        Ok(())
+    }
 }
 
 // The nodes and their edges.
@@ -42,18 +107,16 @@ fn write_blocks(
     alloc: Global,
     text: &mut String,
     looked: &Looked,
-    begins: &[bool],
+    drawn: &Drawn,
     refused: Option<u16>,
-    states: bool,
 ) -> Result<(), AllocError>
-    requires len { length begins.now ≡ length looked.now.flowed.now }
-    requires each { (k : ℕ) → k < length looked.now.flowed.now → slice_index_or begins.now k false ≡ begins_block looked.now.flowed.now k }
-    ensures { OnOk result (string_bytes text.new ≡ string_bytes text.old ++ texts_below (length looked.now.flowed.now) (slot_graph states looked.now.flowed.now looked.now.entries.now looked.now.kinds.now refused)) }
+    requires { AreDrawn looked.now.flowed.now looked.now.entries.now drawn.now }
+    ensures { OnOk result (string_bytes text.new ≡ string_bytes text.old ++ texts_below (length looked.now.flowed.now) (slot_graph drawn.now.states looked.now.flowed.now looked.now.entries.now looked.now.kinds.now refused)) }
 {
     let mut first = 0;
     for slot in 0..looked.flowed.program().slots() {
-        first = first_slot(begins[slot], slot, first);
-        write_slot(alloc, text, looked, begins, refused, states, first, slot)?;
+        first = first_slot(drawn.begins[slot], slot, first);
+        write_slot(alloc, text, looked, drawn, refused, first, slot)?;
     }
     Ok(())
 }
@@ -70,46 +133,66 @@ fn write_slot(
     alloc: Global,
     text: &mut String,
     looked: &Looked,
-    begins: &[bool],
+    drawn: &Drawn,
     refused: Option<u16>,
-    states: bool,
     first: usize,
     slot: usize,
 ) -> Result<(), AllocError>
-    requires len { length begins.now ≡ length looked.now.flowed.now }
-    requires each { (k : ℕ) → k < length looked.now.flowed.now → slice_index_or begins.now k false ≡ begins_block looked.now.flowed.now k }
+    requires drawn { AreDrawn looked.now.flowed.now looked.now.entries.now drawn.now }
     requires inside { slot < length looked.now.flowed.now }
     requires first { first ≡ first_of_block looked.now.flowed.now slot }
-    ensures { OnOk result (string_bytes text.new ≡ string_bytes text.old ++ slot_graph states looked.now.flowed.now looked.now.entries.now looked.now.kinds.now refused slot) }
+    ensures { OnOk result (string_bytes text.new ≡ string_bytes text.old ++ slot_graph drawn.now.states looked.now.flowed.now looked.now.entries.now looked.now.kinds.now refused slot) }
 {
     let Some(insn) = looked.flowed.program().at(slot) else {
         return Ok(());
     };
     let edges = looked.flowed.successors(slot);
-    write_opening(text, begins[slot], slot)?;
-    let asked = states && begins[slot];
+    let begins = drawn.begins[slot];
+    write_opening(text, begins, slot)?;
+    let asked = drawn.states && begins;
     write_known_before(text, asked, looked.entries, looked.kinds, slot)?;
     write_mark(text, refused, slot)?;
     write_label_line(alloc, text, slot, insn)?;
-    let ends = ends_before(begins, edges.fall);
-    write_closing(text, ends, refused, first, slot, *insn, edges)
+    let ends = ends_before(&drawn.begins, edges.fall);
+    let end = End {
+        ends,
+        first,
+        last: slot,
+        insn: *insn,
+        edges,
+    };
+    write_closing(alloc, text, &drawn.losses, refused, end)
 }
 
-// What ends the node of the block that ends at a slot, if one does, and its edges.
-fn write_closing(
-    text: &mut String,
+// An instruction, whether its block ends with it, and the first slot of that.
+struct End {
     ends: bool,
-    refused: Option<u16>,
     first: usize,
-    slot: usize,
+    last: usize,
     insn: Insn,
     edges: Edges,
+}
+
+// What ends the node of the block that ends with an instruction, if one does, and its edges.
+fn write_closing(
+    alloc: Global,
+    text: &mut String,
+    losses: &[Loss],
+    refused: Option<u16>,
+    end: End,
 ) -> Result<(), AllocError>
-    ensures { OnOk result (string_bytes text.new ≡ string_bytes text.old ++ closing ends refused first slot insn edges) }
+    ensures { OnOk result (string_bytes text.new ≡ string_bytes text.old ++ closing end.ends losses.now refused end.first end.last end.insn end.edges) }
 {
+    let End {
+        ends,
+        first,
+        last,
+        insn,
+        edges,
+    } = end;
     if !ends {
         return Ok(());
     }
-    write_node_end(text, refused, first, slot)?;
-    write_edges(text, first, insn, edges)
+    write_node_end(text, refused, first, last)?;
+    write_edges(alloc, text, losses, first, last, insn, edges)
 }

@@ -3,6 +3,7 @@
 use Rattle.std.specs.Prelude.{ℕ, ◌+◌, ◌++◌, Bool, true, false, List, [], ◌∷◌, codes, decimal, Option, Some, None}
 use Rattle.ebpf_insn.specs.declared.insn.Insn.{Insn}
 use Rattle.ebpf_insn.specs.declared.insn.Insn.TheVariants as insn
+use Rattle.ebpf_text.specs.Listing.{insn_text}
 use Rattle.ebpf_verify.specs.Subject.{Subject}
 use Rattle.ebpf_machine.specs.declared.report.Report.{Report}
 use Rattle.ebpf_pool.specs.declared.jobs.Job.{Job}
@@ -24,19 +25,29 @@ abbrev pub taken_member : Bool → ℕ → List ℕ
 taken_member true taken = codes ",\"taken\":" ++ decimal taken
 taken_member false taken = []
 
-abbrev pub covered_line : List ℕ → (slot executed : ℕ) → Bool → (taken : ℕ) → List ℕ
-covered_line name slot executed branch taken =
-    codes "covered " ++ (name ++ (codes " slot " ++ (decimal slot ++ (codes " executed " ++ (decimal executed ++ (taken_words branch taken ++ codes "\n"))))))
+abbrev pub counts_words : List ℕ → (slot executed : ℕ) → Bool → (taken : ℕ) → List ℕ
+counts_words name slot executed branch taken =
+    codes "covered " ++ (name ++ (codes " slot " ++ (decimal slot ++ (codes " executed " ++ (decimal executed ++ taken_words branch taken)))))
 
-abbrev pub covered_object : List ℕ → (slot executed : ℕ) → Bool → (taken : ℕ) → List ℕ
-covered_object name slot executed branch taken =
-    codes "{\"covered\":\"" ++ (name ++ (codes "\",\"slot\":" ++ (decimal slot ++ (codes ",\"executed\":" ++ (decimal executed ++ (taken_member branch taken ++ codes "}\n"))))))
+abbrev pub counts_members : List ℕ → (slot executed : ℕ) → List ℕ
+counts_members name slot executed =
+    codes "{\"covered\":\"" ++ (name ++ (codes "\",\"slot\":" ++ (decimal slot ++ (codes ",\"executed\":" ++ decimal executed))))
+
+abbrev pub instruction_member : Insn → List ℕ
+instruction_member i = codes ",\"instruction\":\"" ++ (insn_text i ++ codes "\"}\n")
+
+-- and the instruction after them, as `list` has it
+abbrev pub covered_line : List ℕ → (slot executed taken : ℕ) → Insn → List ℕ
+covered_line name slot executed taken i = counts_words name slot executed (is_branch i) taken ++ (codes ": " ++ (insn_text i ++ codes "\n"))
+
+abbrev pub covered_object : List ℕ → (slot executed taken : ℕ) → Insn → List ℕ
+covered_object name slot executed taken i = counts_members name slot executed ++ (taken_member (is_branch i) taken ++ instruction_member i)
 
 -- nothing of the second half of a wide instruction
 abbrev pub covered_in : Format → List ℕ → (slot executed taken : ℕ) → Option Insn → List ℕ
 covered_in format name slot executed taken None = []
-covered_in Text name slot executed taken (Some i) = covered_line name slot executed (is_branch i) taken
-covered_in Json name slot executed taken (Some i) = covered_object name slot executed (is_branch i) taken
+covered_in Text name slot executed taken (Some i) = covered_line name slot executed taken i
+covered_in Json name slot executed taken (Some i) = covered_object name slot executed taken i
 
 -- the slots of a program from this number on, with the counts of each
 unfoldable pub slots_from : Format → List ℕ → (executed taken : ℕ → ℕ) → ℕ → List (Option Insn) → List ℕ

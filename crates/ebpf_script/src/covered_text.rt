@@ -1,10 +1,10 @@
 //! What jobs executed, slot by slot, as it is written.
 
-ghost use Rattle.std.specs.Prelude.{◌≡◌, ◌++◌, true, false, length, map, string_bytes, OnOk};
+ghost use Rattle.std.specs.Prelude.{◌≡◌, ◌++◌, length, map, string_bytes, OnOk};
 ghost use Rattle.ebpf_machine.specs.Kinds.{AreKnown};
 ghost use Rattle.ebpf_insn.specs.declared.program.TheConstants.{MAX_SLOTS};
 ghost use Rattle.ebpf_cover.specs.Covered.{AreLong, executed_at, taken_at};
-ghost use Rattle.ebpf_script.specs.CoveredLines.{is_branch, taken_words, taken_member, covered_line, covered_object, covered_in, slots_from, programs_from, covered_lines};
+ghost use Rattle.ebpf_script.specs.CoveredLines.{counts_members, counts_words, covered_in, covered_line, covered_lines, covered_object, instruction_member, is_branch, programs_from, slots_from, taken_member};
 ghost use Rattle.std.specs.Option.{option_copied};
 ghost use Rattle.ebpf_script.specs.ReadScripts.{named};
 
@@ -15,6 +15,7 @@ use ebpf_cover::cover::cover;
 use ebpf_insn::insn::Insn;
 use ebpf_insn::program::Program;
 use ebpf_pool::{Job, Reports};
+use ebpf_text::line::write_insn;
 use ebpf_verify::verified::Verified;
 use std::alloc::{AllocError, Global};
 
@@ -97,13 +98,10 @@ fn write_slot(
 ) -> Result<(), AllocError>
     ensures { OnOk result (string_bytes text.new ≡ string_bytes text.old ++ covered_in format name.now slot executed taken (option_copied insn.entry)) }
 {
-    let Some(insn) = insn else {
-        return Ok(());
-    };
-    let branch = matches!(insn, Insn::Branch { .. });
-    match format {
-        Format::Text => write_line(text, name, slot, executed, branch, taken),
-        Format::Json => write_object(text, name, slot, executed, branch, taken),
+    match (insn, format) {
+        (None, _) => Ok(()),
+        (Some(insn), Format::Text) => write_line(text, name, slot, executed, taken, insn),
+        (Some(insn), Format::Json) => write_object(text, name, slot, executed, taken, insn),
     }
 }
 
@@ -113,18 +111,15 @@ fn write_line(
     name: &str,
     slot: usize,
     executed: u64,
-    branch: bool,
     taken: u64,
+    insn: &Insn,
 ) -> Result<(), AllocError>
-    ensures { OnOk result (string_bytes text.new ≡ string_bytes text.old ++ covered_line name.now slot executed branch taken) }
+    ensures { OnOk result (string_bytes text.new ≡ string_bytes text.old ++ covered_line name.now slot executed taken insn.now) }
 {
-    if branch {
-        return write!(
-            text,
-            "covered {name} slot {slot} executed {executed} taken {taken}\n"
-        );
-    }
-    write!(text, "covered {name} slot {slot} executed {executed}\n")
+    write_counts(text, name, slot, executed, is_branch(insn), taken)?;
+    text.push_str(": ")?;
+    write_insn(text, insn)?;
+    text.push_str("\n")
 }
 
 // Writes the object of a slot.
@@ -133,45 +128,72 @@ fn write_object(
     name: &str,
     slot: usize,
     executed: u64,
+    taken: u64,
+    insn: &Insn,
+) -> Result<(), AllocError>
+    ensures { OnOk result (string_bytes text.new ≡ string_bytes text.old ++ covered_object name.now slot executed taken insn.now) }
+{
+    write_members(text, name, slot, executed)?;
+    write_taken_member(text, is_branch(insn), taken)?;
+    write_instruction_member(text, insn)
+}
+
+fn is_branch(insn: &Insn) -> bool
+    ensures { result ≡ is_branch insn.now }
+{
+    matches!(insn, Insn::Branch { .. })
+}
+
+// Writes the counts of a slot.
+fn write_counts(
+    text: &mut String,
+    name: &str,
+    slot: usize,
+    executed: u64,
     branch: bool,
     taken: u64,
 ) -> Result<(), AllocError>
-    ensures { OnOk result (string_bytes text.new ≡ string_bytes text.old ++ covered_object name.now slot executed branch taken) }
+    ensures { OnOk result (string_bytes text.new ≡ string_bytes text.old ++ counts_words name.now slot executed branch taken) }
 {
     if branch {
-        write_branch_object(text, name, slot, executed, taken)
-    } else {
-        write_other_object(text, name, slot, executed)
+        return write!(
+            text,
+            "covered {name} slot {slot} executed {executed} taken {taken}"
+        );
     }
+    write!(text, "covered {name} slot {slot} executed {executed}")
 }
 
-// Writes the object of a branch.
-fn write_branch_object(
-    text: &mut String,
-    name: &str,
-    slot: usize,
-    executed: u64,
-    taken: u64,
-) -> Result<(), AllocError>
-    ensures { OnOk result (string_bytes text.new ≡ string_bytes text.old ++ covered_object name.now slot executed true taken) }
-{
-    write!(
-        text,
-        "{{\"covered\":\"{name}\",\"slot\":{slot},\"executed\":{executed},\"taken\":{taken}}}\n"
-    )
-}
-
-// Writes the object of any other instruction.
-fn write_other_object(
+// Writes the first members of the object of a slot.
+fn write_members(
     text: &mut String,
     name: &str,
     slot: usize,
     executed: u64,
 ) -> Result<(), AllocError>
-    ensures { OnOk result (string_bytes text.new ≡ string_bytes text.old ++ covered_object name.now slot executed false 0) }
+    ensures { OnOk result (string_bytes text.new ≡ string_bytes text.old ++ counts_members name.now slot executed) }
 {
     write!(
         text,
-        "{{\"covered\":\"{name}\",\"slot\":{slot},\"executed\":{executed}}}\n"
+        "{{\"covered\":\"{name}\",\"slot\":{slot},\"executed\":{executed}"
     )
+}
+
+// Writes how often a branch was taken; nothing of any other instruction.
+fn write_taken_member(text: &mut String, branch: bool, taken: u64) -> Result<(), AllocError>
+    ensures { OnOk result (string_bytes text.new ≡ string_bytes text.old ++ taken_member branch taken) }
+{
+    if !branch {
+        return Ok(());
+    }
+    write!(text, ",\"taken\":{taken}")
+}
+
+// Writes the last member of the object.
+fn write_instruction_member(text: &mut String, insn: &Insn) -> Result<(), AllocError>
+    ensures { OnOk result (string_bytes text.new ≡ string_bytes text.old ++ instruction_member insn.now) }
+{
+    text.push_str(",\"instruction\":\"")?;
+    write_insn(text, insn)?;
+    text.push_str("\"}\n")
 }

@@ -11,13 +11,13 @@ loop-slot-init c = record {
 
 pub write_slot-requires-clause-first : goal.write_slot-requires-clause-first
 write_slot-requires-clause-first c =
-    first_here c.args.looked.now.flowed.now _ _ _ _ c.args.begins.now (c.slots-slot-end.ensures.value ∙ ap length c.program.ensures.value) c.loop-slot-test.true
-    c.requires.each c.loop-slot.invariant.first c.first_slot-first.ensures
+    first_here c.args.looked.now.flowed.now _ _ _ _ c.args.drawn.now.begins.items c.index.result.now (c.slots-slot-end.ensures.value ∙ ap length c.program.ensures.value) c.loop-slot-test.true
+    c.requires.begins c.index.ensures c.loop-slot.invariant.first c.first_slot-first.ensures
 
 pub loop-slot-preserved : goal.loop-slot-preserved
 loop-slot-preserved c = record {
   first = last_begun-next c.args.looked.now.flowed.now c.loop-slot.slot _
-      (first_here c.args.looked.now.flowed.now _ _ _ _ c.args.begins.now (c.slots-slot-end.ensures.value ∙ ap length c.program.ensures.value) c.loop-slot-test.true
-      c.requires.each c.loop-slot.invariant.first c.first_slot-first.ensures);
+      (first_here c.args.looked.now.flowed.now _ _ _ _ c.args.drawn.now.begins.items c.index.result.now (c.slots-slot-end.ensures.value ∙ ap length c.program.ensures.value) c.loop-slot-test.true
+      c.requires.begins c.index.ensures c.loop-slot.invariant.first c.first_slot-first.ensures);
   written = one_text _ _ _ _ _ _ refl c.loop-slot.invariant.written c.in_ok-write_slot.ensures;
 }
