@@ -55,9 +55,8 @@ returns g c =
     let programs = (parsed_script c.args.script).programs in
     let jobs = c.args.script.jobs.items in
     let mid = string_bytes c.write_outcome_in.new.text in
-    let reports : c.deref-4.result.now ≡ o.reports = c.deref-4.ensures.value ∙ ap (λ (x : Outcome). x.reports) c.outcome.view_is in
     let more : string_bytes c.write_covered_in.new.text ≡ mid ++ covered_lines c.args.covered c.args.format programs kept.accepted.items jobs o.reports =
-    c.in_ok-write_covered_in.ensures ∙ (λ n. mid ++ covered_lines c.args.covered c.args.format programs (c.deref-2.ensures.value n) (c.deref-3.ensures.value n) (reports n)) in
+    c.in_ok-write_covered_in.ensures ∙ (λ n. mid ++ covered_lines c.args.covered c.args.format programs (c.deref-2.ensures.value n) (c.deref-3.ensures.value n) o.reports) in
     told c.args.covered c.args.format (parsed_script c.args.script) kept c.in_ok-verdicts.ensures o _ c.if-verdicts.false
     (subst (λ jobs. MayCome kept.accepted.items jobs o) c.deref.ensures.value c.in_ok-outcome.ensures)
     (joined (string_bytes kept.text) (outcome_in c.args.format o) (covered_lines c.args.covered c.args.format programs kept.accepted.items jobs o.reports) mid (string_bytes c.write_covered_in.new.text) c.in_ok-write_outcome_in.ensures more)
