@@ -10,6 +10,7 @@ ghost use Rattle.ebpf_host.specs.Stocks.{stock_of};
 use crate::program::Program;
 use crate::stocks::Stocks;
 use crate::within::run_within;
+use ebpf_machine::ended::Ended;
 use ebpf_machine::report::Report;
 use ebpf_machine::run::StartFault;
 use ebpf_machine::workspace::Workspace;
@@ -82,14 +83,44 @@ impl Machine {
         ensures pages { self.new.arena.pages ≡ self.old.arena.pages }
         ensures unchanged { OnErr result (self.new ≡ self.old) }
     {
+        let ended = self.run_in_place(program, context, limit)?;
+        let (report, workspace) = ended.report();
+        self.put_workspace(workspace);
+        Ok(report)
+    }
+
+    /// Runs a program as [`Machine::run`] does, and leaves what it did in the memory of the run, for [`Machine::keep`] to take back: so
+    /// nothing is moved, and its lists keep their memory.
+    ///
+    /// # Errors
+    /// As [`Machine::run`].
+    pub fn run_in_place(
+        &mut self,
+        program: &Program,
+        context: &[u8],
+        limit: u64,
+    ) -> Result<Ended<Object>, StartFault>
+        ensures report { IfOk result (IsReportWithin program.now.verified context.now limit) }
+        ensures length { OnOk result (length context.now ≡ program.now.verified.decl.context) }
+        ensures refused { IfErr result (IsStartFault (length context.now) program.now.verified.decl.context) }
+        ensures shelves { IfOk result (AreLeft self.old self.new program.now.verified context.now) }
+        ensures pages { self.new.arena.pages ≡ self.old.arena.pages }
+        ensures unchanged { OnErr result (self.new ≡ self.old) }
+    {
         if context.len() != program.context() as usize {
             return Err(StartFault::ContextLength);
         }
         let workspace = self.take_workspace()?;
         let stocks = &mut *self.stocks;
-        let (report, workspace) = run_within(workspace, program, context, stocks, limit)?;
-        self.put_workspace(workspace);
-        Ok(report)
+        let ended = run_within(workspace, program, context, stocks, limit)?;
+        Ok(ended)
+    }
+
+    /// Keeps the memory of a run that has ended for the next one. What the run did is forgotten.
+    pub fn keep(&mut self, ended: Ended<Object>)
+        ensures { self.new ≡ self.old }
+    {
+        self.put_workspace(ended.forget());
     }
 
     // The memory that the last run left, or new memory.

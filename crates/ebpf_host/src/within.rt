@@ -7,12 +7,12 @@ ghost use Rattle.ebpf_host.specs.Leaving.{IsLeft};
 ghost use Rattle.ebpf_host.specs.Reports.{IsReportWithin};
 
 use crate::program::Program;
+use ebpf_machine::ended::Ended;
 use ebpf_machine::objects::Objects;
-use ebpf_machine::report::Report;
 use ebpf_machine::run::{Run, StartFault};
 use ebpf_machine::workspace::Workspace;
 
-/// Runs a program on a context, with the objects of a store, in the memory of a run that has ended, which is left for the next one. After
+/// Runs a program on a context, with the objects of a store, in the memory of a run that has ended, and leaves there what it did. After
 /// `limit` instructions the run is given up, and what it holds goes back.
 ///
 /// # Errors
@@ -23,18 +23,18 @@ pub(crate) fn run_within<O: Objects>(
     context: &[u8],
     objects: &mut O,
     limit: u64,
-) -> Result<(Report, Workspace<O::Held>), StartFault>
+) -> Result<Ended<O::Held>, StartFault>
     requires kinds { O.store.kinds ≡ known_kinds }
     requires room { (store : O) → O.store.can_give store }
-    ensures report { IfOk result (λ r. IsReportWithin program.now.verified context.now limit r.0) }
+    ensures report { IfOk result (IsReportWithin program.now.verified context.now limit) }
     // The store went by the report's answers.
-    ensures goes { IfOk result (λ r. O.store.goes objects.old r.0.answers objects.new) }
-    ensures shelves { IfOk result (λ r. IsLeft O.store objects.old objects.new program.now.verified context.now r.0) }
+    ensures goes { IfOk result (λ r. O.store.goes objects.old r.answers objects.new) }
+    ensures shelves { IfOk result (λ r. IsLeft O.store objects.old objects.new program.now.verified context.now r) }
     ensures length { OnOk result (length context.now ≡ program.now.verified.decl.context) }
     ensures refused { IfErr result (IsStartFault (length context.now) program.now.verified.decl.context) }
     ensures unchanged { OnErr result (objects.new ≡ objects.old) }
 {
     let mut run = Run::start_in(workspace, &program.verified, context)?;
     run.run(objects, limit);
-    Ok(run.end(objects))
+    Ok(run.end_in_place(objects))
 }

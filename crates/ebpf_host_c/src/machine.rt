@@ -111,9 +111,10 @@ fn run_held(
     ensures context { result ≡ 4 → length context.now ≢ program.now.verified.decl.context }
     ensures statuses { (result ≡ 0) ⊎ (result ≡ 4) ⊎ (result ≡ 6) }
 {
-    match machine.run(program, context, limit) {
-        Ok(done) => {
-            tell_report(&done, output, report);
+    match machine.run_in_place(program, context, limit) {
+        Ok(ended) => {
+            tell_report(&ended, output, report);
+            machine.keep(ended);
             DONE
         }
         Err(StartFault::ContextLength) => CONTEXT,

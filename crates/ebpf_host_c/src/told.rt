@@ -8,7 +8,8 @@ ghost use Rattle.ebpf_host_c.specs.Objects.{fault_line, fault_slot};
 ghost use Rattle.ebpf_host_c.specs.Told.{IsTold, copied, is_empty};
 
 use ebpf_host::refusal::Refusal;
-use ebpf_machine::report::{Reply, Report};
+use ebpf_machine::ended::Ended;
+use ebpf_machine::report::Reply;
 use ebpf_object_file::object_fault::ObjectFault;
 use std::alloc::{AllocError, Global};
 
@@ -146,7 +147,7 @@ fn counts_of(replies: &[Reply]) -> Counts
 }
 
 /// Tells a report.
-pub(crate) fn tell_report(done: &Report, output: &mut [u64], report: &mut Reported)
+pub(crate) fn tell_report<H>(done: &Ended<H>, output: &mut [u64], report: &mut Reported)
     ensures numbers { output.new ≡ copied done.now.output output.old }
     ensures exited { report.new.exited ≡ is_some done.now.exit }
     ensures exit { report.new.exit ≡ unwrap_or done.now.exit 0 }
@@ -158,18 +159,19 @@ pub(crate) fn tell_report(done: &Report, output: &mut [u64], report: &mut Report
     ensures fetched { report.new.fetched ≡ length (filter is_fetched done.now.answers) }
     ensures missed { report.new.missed ≡ length (filter is_empty done.now.answers) }
 {
-    let numbers = &done.output.numbers;
+    let numbers = done.output();
     copy(numbers, output);
-    let counts = counts_of(&done.answers.replies);
+    let counts = counts_of(done.answers());
+    let exit = done.exit();
     *report = Reported {
-        exit: done.exit.unwrap_or(0),
-        executed: done.executed,
-        peak: done.peak,
+        exit: exit.unwrap_or(0),
+        executed: done.executed(),
+        peak: done.peak(),
         outputs: numbers.len() as u64,
         granted: counts.granted as u64,
         refused: counts.refused as u64,
         fetched: counts.fetched as u64,
         missed: counts.missed as u64,
-        exited: done.exit.is_some(),
+        exited: exit.is_some(),
     };
 }
