@@ -15,7 +15,7 @@
 pub mod machine;
 pub mod program;
 pub mod refusal;
-mod stock;
+pub mod stock;
 pub mod stocks;
 mod store;
 mod within;

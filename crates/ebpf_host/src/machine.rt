@@ -1,6 +1,6 @@
 //! A machine: what runs of programs need beside the programs, one run at a time.
 
-ghost use Rattle.std.specs.Prelude.{◌≡◌, ◌⊎◌, ◌<◌, ◌↔◌, ℕ, None, length, IfOk, IfErr, OnOk, OnErr};
+ghost use Rattle.std.specs.Prelude.{◌≡◌, ◌⊎◌, ◌<◌, ◌↔◌, ◌∷◌, [], ℕ, None, is_some, length, IfOk, IfErr, OnOk, OnErr};
 ghost use Rattle.vmem_arena.specs.declared.arena.TheConstants.{MAX_PAGES};
 ghost use Rattle.ebpf_machine.specs.Turns.{IsStartFault};
 ghost use Rattle.ebpf_host.specs.Leaving.{AreLeft};
@@ -8,6 +8,7 @@ ghost use Rattle.ebpf_host.specs.Reports.{IsReportWithin};
 ghost use Rattle.ebpf_host.specs.Stocks.{stock_of};
 
 use crate::program::Program;
+use crate::stock::Counts;
 use crate::stocks::Stocks;
 use crate::within::run_within;
 use ebpf_machine::ended::Ended;
@@ -140,6 +141,18 @@ impl Machine {
         if let Some(other) = mem::replace(&mut self.workspace, Some(workspace)) {
             other.free();
         }
+    }
+
+    /// What runs did to the objects of each kind so far, in the order of the kinds' numbers.
+    pub fn counts(&self) -> [Counts; 3] {
+        self.stocks.counts()
+    }
+
+    /// Whether an object is on each shelf, in the order of the kinds' numbers.
+    pub fn shelved(&self) -> [bool; 3]
+        ensures { result ≡ is_some self.now.cells.shelf ∷ is_some self.now.records.shelf ∷ is_some self.now.blocks.shelf ∷ [] }
+    {
+        self.stocks.shelved()
     }
 
     /// Gives the pages on which no object is held, and none is on a shelf, back to the arena, where objects of any kind may get them.

@@ -1,6 +1,8 @@
 //! A program that a host has loaded.
 
-ghost use Rattle.std.specs.Prelude.{◌≡◌, IfOk, IfErr};
+ghost use Rattle.std.specs.Prelude.{◌≡◌, ◌≤◌, length, IfOk, IfErr};
+ghost use Rattle.ebpf_insn.specs.declared.program.TheConstants.{MAX_SLOTS};
+ghost use Rattle.ebpf_insn.specs.Program.{instructions};
 ghost use Rattle.ebpf_machine.specs.Kinds.{known_kinds};
 ghost use Rattle.ebpf_machine.specs.World.{kinds_of};
 ghost use Rattle.ebpf_host.specs.Loading.{IsLoaded, IsLoadFault, IsRefusedAs, IsJudgedWith};
@@ -15,7 +17,8 @@ use ebpf_verify::decl::Decl;
 use ebpf_verify::verified::Verified;
 use std::alloc::{AllocError, Global};
 
-/// A program of which no run traps, judged once, to be run any number of times. Only [`Program::load`] makes one.
+/// A program of which no run traps, judged once, to be run any number of times. Only [`Program::load`] and [`Program::of`]
+/// make one.
 #[derive(Drop)]
 pub struct Program {
     pub(crate) verified: Verified,
@@ -49,6 +52,22 @@ impl Program {
                 }))
             }
         }
+    }
+
+    /// A program that was verified with the kinds that there are.
+    pub fn of(verified: Verified) -> Program
+        requires { kinds_of verified.rows ≡ known_kinds }
+        ensures { result.verified ≡ verified }
+    {
+        Program { verified }
+    }
+
+    /// How many instructions it has.
+    pub fn len(&self) -> usize
+        ensures value { result ≡ length (instructions self.now.verified.program) }
+        ensures bound { result ≤ MAX_SLOTS }
+    {
+        self.verified.len()
     }
 
     /// How many bytes its context has.

@@ -8,7 +8,7 @@
 //! *The reason.* So no call of `new` is granted the slot of what is on the shelf, and it is there, with its bytes, for whatever
 //! run takes it from there.
 
-ghost use Rattle.std.specs.Prelude.{◌≡◌, ◌/◌, ℕ, false, replicate, None, Option, option_map, IsTrue, IfSome, IfNone};
+ghost use Rattle.std.specs.Prelude.{◌≡◌, ◌/◌, ℕ, false, replicate, None, Option, option_map, is_some, IsTrue, IfSome, IfNone};
 ghost use Rattle.slab_layer.specs.Slots.{IsHome, IsOut, out_count};
 ghost use Rattle.ebpf_host.specs.Stock.{IsHeld, Takes, Gives, Exchanges, GrowsBy, shelved_at};
 
@@ -18,10 +18,22 @@ use std::marker::Model;
 use std::mem;
 use vmem_arena::Arena;
 
+/// How often runs took an object of a kind, gave one back and found none, and how often they put one on its shelf and got one from
+/// there; all of them modulo 2^64. No clause says what they are.
+#[derive(Clone, Copy)]
+pub struct Counts {
+    pub allocs: u64,
+    pub frees: u64,
+    pub nulls: u64,
+    pub puts: u64,
+    pub gets: u64,
+}
+
 /// The slabs of a kind, and a shelf that has room for one object. It must be ended.
 pub struct Stock<K: Kind> {
     slabs: Slabs<K>,
     shelf: Option<Obj<K, Held>>,
+    counts: Counts,
 }
 
 impl<K: Kind> Model for Stock<K> {
@@ -44,7 +56,26 @@ impl<K: Kind> Stock<K> {
         Stock {
             slabs: Slabs::new(alloc),
             shelf: None,
+            counts: Counts {
+                allocs: 0,
+                frees: 0,
+                nulls: 0,
+                puts: 0,
+                gets: 0,
+            },
         }
+    }
+
+    /// What runs did here so far.
+    pub(crate) fn counts(&self) -> Counts {
+        self.counts
+    }
+
+    /// Whether an object is on the shelf.
+    pub(crate) fn is_shelved(&self) -> bool
+        ensures { result ≡ is_some self.now.shelf }
+    {
+        self.shelf.is_some()
     }
 
     // An object that is home, after a page more where none is.
@@ -74,8 +105,14 @@ impl<K: Kind> Stock<K> {
         ensures pages { arena.new.pages ≡ arena.old.pages }
     {
         match self.take_home(arena) {
-            Some(object) => Some(object.construct().hold()),
-            None => None,
+            Some(object) => {
+                self.counts.allocs = self.counts.allocs.wrapping_add(1);
+                Some(object.construct().hold())
+            }
+            None => {
+                self.counts.nulls = self.counts.nulls.wrapping_add(1);
+                None
+            }
         }
     }
 
@@ -84,6 +121,7 @@ impl<K: Kind> Stock<K> {
         requires { IsHeld self.old object.slot }
         ensures { Gives self.old self.new object.slot }
     {
+        self.counts.frees = self.counts.frees.wrapping_add(1);
         self.slabs.give(object.restore().retire());
     }
 
@@ -92,6 +130,11 @@ impl<K: Kind> Stock<K> {
         requires { IfSome given (λ o. IsHeld self.old o.slot) }
         ensures { Exchanges self.old self.new (option_map (λ o. shelved_at o.slot o.bytes.items) given) (option_map (λ o. shelved_at o.slot o.bytes.items) result) }
     {
+        self.counts.puts = self.counts.puts.wrapping_add(u64::from(given.is_some()));
+        self.counts.gets = self
+            .counts
+            .gets
+            .wrapping_add(u64::from(self.shelf.is_some()));
         mem::replace(&mut self.shelf, given)
     }
 
@@ -111,7 +154,11 @@ impl<K: Kind> Stock<K> {
 
     /// Ends the stock, with all its objects. Its pages stay out.
     pub(crate) fn end(self) {
-        let Stock { mut slabs, shelf } = self;
+        let Stock {
+            mut slabs,
+            shelf,
+            counts: _,
+        } = self;
         if let Some(object) = shelf {
             slabs.give(object.restore().retire());
         }

@@ -1,13 +1,13 @@
 //! The objects of a machine, of all kinds.
 
-ghost use Rattle.std.specs.Prelude.{◌≡◌, ◌<◌, ℕ, None, option_map, IfSome, IfNone, length};
+ghost use Rattle.std.specs.Prelude.{◌≡◌, ◌<◌, ◌∷◌, [], ℕ, None, option_map, is_some, IfSome, IfNone, length};
 ghost use Rattle.ebpf_machine.specs.Kinds.{known_kinds};
 ghost use Rattle.ebpf_machine.specs.World.{image_at};
 ghost use Rattle.ebpf_object.specs.Object.{bytes_of, kind_of, slot_of};
 ghost use Rattle.ebpf_host.specs.Stock.{Exchanges, Gives, Takes};
 ghost use Rattle.ebpf_host.specs.Stocks.{Holds, OthersStay, as_shelved, stock_of};
 
-use crate::stock::Stock;
+use crate::stock::{Counts, Stock};
 use ebpf_object::{Object, block, cell, record};
 use slab_layer::{BlockKind, CellKind, Kind, RecordKind};
 use std::alloc::Global;
@@ -123,6 +123,26 @@ impl Stocks {
         reap_all(cells, arena);
         reap_all(records, arena);
         reap_all(blocks, arena);
+    }
+
+    /// What runs did to the objects of each kind so far, in the order of the kinds' numbers.
+    pub(crate) fn counts(&self) -> [Counts; 3] {
+        [
+            self.cells.counts(),
+            self.records.counts(),
+            self.blocks.counts(),
+        ]
+    }
+
+    /// Whether an object is on each shelf.
+    pub(crate) fn shelved(&self) -> [bool; 3]
+        ensures { result ≡ is_some self.now.cells.shelf ∷ is_some self.now.records.shelf ∷ is_some self.now.blocks.shelf ∷ [] }
+    {
+        [
+            self.cells.is_shelved(),
+            self.records.is_shelved(),
+            self.blocks.is_shelved(),
+        ]
     }
 
     /// Ends the stocks, with all their objects.
