@@ -10,6 +10,7 @@ pub mod VerdictLemmas
 pub mod ExplainedLemmas
 pub mod WorldLemmas
 pub mod RunnableLemmas
+pub mod JobLineLemmas
 pub mod PoolLemmas
 pub mod ScriptTextLemmas
 pub mod TripleLemmas

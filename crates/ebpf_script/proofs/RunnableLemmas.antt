@@ -81,12 +81,12 @@ found_here p f xs len is same = by (nat_lt (position_or_len p xs) (length xs)) r
       slice_get-map f xs (position_or_len p xs) ∙ (inside_some f xs (position_or_len p xs) inside
       ∙ (ap (λ o. Some (unwrap_or (option_map f o) 0)) (sym (find_at p xs)) ∙ ap Some (sym same)))
 
-declared_here : (programs : List Named) (name : List ℕ) (len : ℕ) → is_none (number_of programs name) ≡ false → len ≡ unwrap_or (declared_by programs name) 0
+pub declared_here : (programs : List Named) (name : List ℕ) (len : ℕ) → is_none (number_of programs name) ≡ false → len ≡ unwrap_or (declared_by programs name) 0
     → slice_get (map (λ p. p.context) programs) (unwrap_or (number_of programs name) 0) ≡ Some len
 unfolding number_of declared_by
 declared_here programs name len is same = found_here (λ (p : Named). bytes_eq name p.name) (λ (p : Named). p.context) programs len is same
 
-job_tests : (a b c d : Bool) (x y z w : FaultCode)
+pub job_tests : (a b c d : Bool) (x y z w : FaultCode)
     → cond a (Some x) (cond b (Some y) (cond c (Some z) (cond d (Some w) None))) ≡ None → (c ≡ false) × (d ≡ false)
 job_tests true b c d x y z w h = absurd cc
 job_tests false true c d x y z w h = absurd cc
@@ -94,7 +94,7 @@ job_tests false false true d x y z w h = absurd cc
 job_tests false false false true x y z w h = absurd cc
 job_tests false false false false x y z w h = (refl, refl)
 
-same_number : (a b : ℕ) → not (a == b) ≡ false → a ≡ b
+pub same_number : (a b : ℕ) → not (a == b) ≡ false → a ≡ b
 same_number a b h = grind (arith, nat_tests)
 
 -- ---- a line more

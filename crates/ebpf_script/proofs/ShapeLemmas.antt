@@ -5,12 +5,12 @@ use Rattle.ebpf_command.specs.declared.done.FaultCode.TheVariants.{UnknownLine}
 use Rattle.ebpf_command.specs.declared.done.Stop.{Stop}
 use Rattle.ebpf_command.specs.Stops.{IsStop}
 use Rattle.ebpf_script.specs.declared.reader.script.Dialect.{Dialect}
-use Rattle.ebpf_script.specs.declared.reader.script.Dialect.TheVariants.{Events, Jobs}
+use Rattle.ebpf_script.specs.declared.reader.script.Dialect.TheVariants.{Events, Jobs, Setup}
 use Rattle.ebpf_script.specs.declared.reader.script.Script.{Script}
 use Rattle.ebpf_script.specs.LineFaults.{shape_fault}
 use Rattle.ebpf_script.specs.ParsedScript.{ParsedScript}
 use Rattle.ebpf_script.specs.ReadScripts.{Adds}
-use Rattle.ebpf_script.specs.Shapes.{Shape, Passed, Unknown, StartLine, ExecLine, AnsweredLine, GrowLine, ReapLine, ArenaLine, JobLine, event_shape, job_shape, dialect_shape, line_shape, shape_of, is_comment}
+use Rattle.ebpf_script.specs.Shapes.{Shape, Passed, Unknown, StartLine, ExecLine, AnsweredLine, GrowLine, ReapLine, ArenaLine, JobLine, event_shape, job_shape, setup_shape, dialect_shape, line_shape, shape_of, is_comment}
 
 -- what a line of one shape adds, and why it is refused, is that of a line of the same shape
 pub shaped_ok : {T E : Type 0} (r : Result T E) (shape which : Shape) (old new : Script) → shape ≡ which
@@ -87,11 +87,16 @@ pub job_line : (first : List ℕ) (rest : List (List ℕ)) (a b : List ℕ) → 
     → job_shape first rest ≡ JobLine a b
 job_line first rest a b is run = rw (is, run) refl
 
+pub setup_line : (first : List ℕ) (rest : List (List ℕ)) (a : List ℕ) → rest ≡ a ∷ [] → bytes_eq first (codes "arena") ≡ true
+    → setup_shape first rest ≡ ArenaLine a
+setup_line first rest a is arena = rw (is, arena) refl
+
 -- ---- the first six words say the shape
 
 six_of_dialect : (dialect : Dialect) (first a b c : List ℕ) (rest : List (List ℕ)) → dialect_shape dialect first (a ∷ b ∷ c ∷ rest) ≡ Unknown
 six_of_dialect Events first a b c rest = refl
 six_of_dialect Jobs first a b c rest = refl
+six_of_dialect Setup first a b c rest = refl
 
 six_of_line : (dialect : Dialect) (first : List ℕ) (rest : List (List ℕ)) → line_shape dialect first (take 5 rest) ≡ line_shape dialect first rest
 six_of_line dialect first [] = refl

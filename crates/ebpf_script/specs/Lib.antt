@@ -5,6 +5,7 @@ pub mod Names
 pub mod Shapes
 pub mod ParsedScript
 pub mod LineFaults
+pub mod JobLines
 pub mod Scripts
 pub mod Runnable
 pub mod ReadScripts

@@ -26,10 +26,13 @@ reports_from job [] = []
 reports_from job (r ∷ reports) = report_lines job r ++ reports_from (job + 1) reports
 
 -- what a cache was asked for, and what came back to it
+abbrev pub cache_words : List ℕ → (allocs frees nulls missing : ℕ) → List ℕ
+cache_words name allocs frees nulls missing =
+    codes "cache " ++ (name ++ (codes " allocs " ++ (decimal allocs ++ (codes " frees " ++ (decimal frees ++
+    (codes " nulls " ++ (decimal nulls ++ (codes " missing " ++ (decimal missing ++ codes "\n")))))))))
+
 abbrev pub cache_line : List ℕ → Totals → List ℕ
-cache_line name t =
-    codes "cache " ++ (name ++ (codes " allocs " ++ (decimal t.allocs ++ (codes " frees " ++ (decimal t.frees ++
-    (codes " nulls " ++ (decimal t.nulls ++ (codes " missing " ++ (decimal t.missing ++ codes "\n")))))))))
+cache_line name t = cache_words name t.allocs t.frees t.nulls t.missing
 
 -- the kinds have these names, in the order of their numbers
 abbrev pub cache_lines : List Totals → List ℕ

@@ -25,10 +25,14 @@ abbrev pub jobs_from : ℕ → List Report → List ℕ
 jobs_from job [] = []
 jobs_from job (r ∷ reports) = job_object job r ++ jobs_from (job + 1) reports
 
+-- what a cache was asked for, and what came back to it
+abbrev pub cache_members : List ℕ → (allocs frees nulls missing : ℕ) → List ℕ
+cache_members name allocs frees nulls missing =
+    codes "{\"cache\":\"" ++ (name ++ (codes "\",\"allocs\":" ++ (decimal allocs ++ (codes ",\"frees\":" ++ (decimal frees ++
+    (codes ",\"nulls\":" ++ (decimal nulls ++ (codes ",\"missing\":" ++ (decimal missing ++ codes "}\n")))))))))
+
 abbrev pub cache_object : List ℕ → Totals → List ℕ
-cache_object name t =
-    codes "{\"cache\":\"" ++ (name ++ (codes "\",\"allocs\":" ++ (decimal t.allocs ++ (codes ",\"frees\":" ++ (decimal t.frees ++
-    (codes ",\"nulls\":" ++ (decimal t.nulls ++ (codes ",\"missing\":" ++ (decimal t.missing ++ codes "}\n")))))))))
+cache_object name t = cache_members name t.allocs t.frees t.nulls t.missing
 
 abbrev pub cache_objects : List Totals → List ℕ
 cache_objects (cells ∷ records ∷ blocks ∷ []) =

@@ -2,7 +2,7 @@
 use Rattle.std.specs.Prelude.{ℕ, Bool, false, ◌==◌, if◌then◌else◌, List, [], ◌∷◌, codes}
 use Rattle.std.specs.Str.{bytes_eq}
 use Rattle.ebpf_script.specs.declared.reader.script.Dialect.{Dialect}
-use Rattle.ebpf_script.specs.declared.reader.script.Dialect.TheVariants.{Events, Jobs}
+use Rattle.ebpf_script.specs.declared.reader.script.Dialect.TheVariants.{Events, Jobs, Setup}
 
 pub data Shape : Type 0 where
   Passed : Shape
@@ -44,9 +44,17 @@ job_shape first (a ∷ b ∷ []) =
     if bytes_eq first (codes "run") then JobLine a b else Unknown
 job_shape first (a ∷ b ∷ c ∷ rest) = Unknown
 
+-- the lines that say what a machine has
+abbrev pub setup_shape : List ℕ → List (List ℕ) → Shape
+setup_shape first [] = Unknown
+setup_shape first (a ∷ []) =
+    if bytes_eq first (codes "arena") then ArenaLine a else Unknown
+setup_shape first (a ∷ b ∷ rest) = Unknown
+
 abbrev pub dialect_shape : Dialect → List ℕ → List (List ℕ) → Shape
 dialect_shape Events first rest = event_shape first rest
 dialect_shape Jobs first rest = job_shape first rest
+dialect_shape Setup first rest = setup_shape first rest
 
 -- the line of a program
 abbrev pub program_shape : List (List ℕ) → Shape

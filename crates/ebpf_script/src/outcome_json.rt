@@ -1,7 +1,7 @@
 //! The objects of an outcome.
 
 ghost use Rattle.std.specs.Prelude.{◌≡◌, ◌+◌, ◌≤◌, ◌++◌, length, string_bytes, OnOk};
-ghost use Rattle.ebpf_script.specs.OutcomeObjects.{exit_member, job_members, job_object, jobs_from, cache_object, cache_objects, shelf_object, shelf_objects, outcome_objects};
+ghost use Rattle.ebpf_script.specs.OutcomeObjects.{exit_member, job_members, job_object, jobs_from, cache_members, cache_object, cache_objects, shelf_object, shelf_objects, outcome_objects};
 
 use crate::text_line::TextLine;
 use ebpf_command::json::write_numbers;
@@ -42,28 +42,37 @@ fn write_job(
 ) -> Result<(), AllocError>
     ensures { OnOk result (string_bytes text.new ≡ string_bytes text.old ++ job_object job report.now) }
 {
-    write_job_members(text, line, job, report)?;
+    write_job_members(
+        text,
+        line,
+        job,
+        report.exit(),
+        report.executed(),
+        report.peak(),
+    )?;
     write_numbers(text, report.output())?;
     text.push_str("]}\n")?;
     Ok(())
 }
 
-// Writes what is before the numbers of a job's output.
-fn write_job_members(
+/// Writes what is before the numbers of a job's output, after a text. It fails only where an allocation fails.
+pub fn write_job_members(
     text: &mut String,
     line: &mut TextLine,
     job: usize,
-    report: &JobReport,
+    exit: Option<u64>,
+    executed: u64,
+    peak: u64,
 ) -> Result<(), AllocError>
-    ensures { OnOk result (string_bytes text.new ≡ string_bytes text.old ++ job_members job report.now.exit report.now.executed report.now.peak) }
+    ensures { OnOk result (string_bytes text.new ≡ string_bytes text.old ++ job_members job exit executed peak) }
 {
     line.clear();
     line.words(b",\"output\":[");
-    line.number(report.peak());
+    line.number(peak);
     line.words(b",\"peak\":");
-    line.number(report.executed());
+    line.number(executed);
     line.words(b",\"executed\":");
-    write_exit(line, report.exit());
+    write_exit(line, exit);
     line.number(job as u64);
     line.words(b"{\"job\":");
     text.push_str(line.as_str())
@@ -101,15 +110,29 @@ fn write_cache(text: &mut String, name: &str, totals: &Totals) -> Result<(), All
         nulls,
         missing,
         ..
-    } = totals;
+    } = *totals;
+    write_cache_object(text, name, allocs, frees, nulls, missing)
+}
+
+/// Writes the object of a cache after a text. It fails only where an allocation fails.
+pub fn write_cache_object(
+    text: &mut String,
+    name: &str,
+    allocs: u64,
+    frees: u64,
+    nulls: u64,
+    missing: u64,
+) -> Result<(), AllocError>
+    ensures { OnOk result (string_bytes text.new ≡ string_bytes text.old ++ cache_members name.now allocs frees nulls missing) }
+{
     write!(
         text,
         "{{\"cache\":\"{name}\",\"allocs\":{allocs},\"frees\":{frees},\"nulls\":{nulls},\"missing\":{missing}}}\n"
     )
 }
 
-// Writes what the shelf of each kind did.
-fn write_shelves(text: &mut String, shelves: &[ShelfTotals; 3]) -> Result<(), AllocError>
+/// Writes what the shelf of each kind did, after a text. It fails only where an allocation fails.
+pub fn write_shelves(text: &mut String, shelves: &[ShelfTotals; 3]) -> Result<(), AllocError>
     ensures { OnOk result (string_bytes text.new ≡ string_bytes text.old ++ shelf_objects shelves.now) }
 {
     let [cells, records, blocks] = shelves;

@@ -1,8 +1,8 @@
 //! The lines of an outcome.
 
-ghost use Rattle.std.specs.Prelude.{◌≡◌, ◌++◌, string_bytes, OnOk};
+ghost use Rattle.std.specs.Prelude.{◌≡◌, ◌++◌, string_bytes, Some, OnOk};
 ghost use Rattle.std.specs.List.{flat_map};
-ghost use Rattle.ebpf_script.specs.OutcomeLines.{job_emit_line, report_lines, reports_from, cache_line, cache_lines, shelf_line, shelf_lines, outcome_lines};
+ghost use Rattle.ebpf_script.specs.OutcomeLines.{job_emit_line, job_line, report_lines, reports_from, cache_words, cache_line, cache_lines, shelf_line, shelf_lines, outcome_lines};
 
 use crate::text_line::TextLine;
 use ebpf_pool::{JobReport, Outcome, Reports, ShelfTotals};
@@ -46,10 +46,24 @@ fn write_report(
     let Some(exit) = report.exit() else {
         return Ok(());
     };
+    write_exit(text, line, job, exit, report.executed(), report.peak())
+}
+
+/// Writes how a job ended, after a text. It fails only where an allocation fails.
+pub fn write_exit(
+    text: &mut String,
+    line: &mut TextLine,
+    job: usize,
+    exit: u64,
+    executed: u64,
+    peak: u64,
+) -> Result<(), AllocError>
+    ensures { OnOk result (string_bytes text.new ≡ string_bytes text.old ++ job_line job (Some exit) executed peak) }
+{
     line.restart();
-    line.number(report.peak());
+    line.number(peak);
     line.words(b" peak ");
-    line.number(report.executed());
+    line.number(executed);
     line.words(b" executed ");
     line.number(exit);
     line.words(b" exit ");
@@ -58,8 +72,8 @@ fn write_report(
     text.push_str(line.as_str())
 }
 
-// Writes the output of a job.
-fn write_output(
+/// Writes the output of a job after a text. It fails only where an allocation fails.
+pub fn write_output(
     text: &mut String,
     line: &mut TextLine,
     job: usize,
@@ -110,15 +124,29 @@ fn write_cache(text: &mut String, name: &str, totals: &Totals) -> Result<(), All
         nulls,
         missing,
         ..
-    } = totals;
+    } = *totals;
+    write_cache_line(text, name, allocs, frees, nulls, missing)
+}
+
+/// Writes the line of a cache after a text. It fails only where an allocation fails.
+pub fn write_cache_line(
+    text: &mut String,
+    name: &str,
+    allocs: u64,
+    frees: u64,
+    nulls: u64,
+    missing: u64,
+) -> Result<(), AllocError>
+    ensures { OnOk result (string_bytes text.new ≡ string_bytes text.old ++ cache_words name.now allocs frees nulls missing) }
+{
     write!(
         text,
         "cache {name} allocs {allocs} frees {frees} nulls {nulls} missing {missing}\n"
     )
 }
 
-// Writes what the shelf of each kind did.
-fn write_shelves(text: &mut String, shelves: &[ShelfTotals; 3]) -> Result<(), AllocError>
+/// Writes what the shelf of each kind did, after a text. It fails only where an allocation fails.
+pub fn write_shelves(text: &mut String, shelves: &[ShelfTotals; 3]) -> Result<(), AllocError>
     ensures { OnOk result (string_bytes text.new ≡ string_bytes text.old ++ shelf_lines shelves.now) }
 {
     let [cells, records, blocks] = shelves;

@@ -1,6 +1,6 @@
 //! Reads a script: from the bytes of a text to its programs and its events or jobs, or to its first fault.
 //!
-//! To be read in this order: `words`, `lines`, `numbers`, `names`, `script`, `programs`, `again`, `statement`, `line`.
+//! To be read in this order: `words`, `lines`, `numbers`, `names`, `script`, `programs`, `again`, `statement`, `line`, `job_line`.
 
 ghost use Rattle.std.specs.Prelude.{◌≡◌, ◌≤◌, ◌<◌, ◌+◌, IfOk, IfErr, Err, length};
 ghost use Rattle.ebpf_command.specs.declared.input.TheConstants.{MAX_INPUT};
@@ -8,6 +8,7 @@ ghost use Rattle.ebpf_script.specs.ReadScripts.{parsed_script, IsScriptStop};
 ghost use Rattle.ebpf_script.specs.Scripts.{parsed_text};
 
 mod again;
+pub mod job_line;
 mod line;
 mod lines;
 mod names;

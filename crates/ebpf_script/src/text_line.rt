@@ -11,7 +11,7 @@ const ROOM: usize = 128;
 
 /// A line or a part of one. Contracts see the bytes that are written.
 #[derive(Drop)]
-pub(crate) struct TextLine {
+pub struct TextLine {
     bytes: [u8; ROOM],
     start: usize,
 }
@@ -29,7 +29,7 @@ impl Model for TextLine {
 impl TextLine {
     /// The newline that ends a line.
     #[inline]
-    pub(crate) fn end() -> TextLine
+    pub fn end() -> TextLine
         ensures { result ≡ codes "\n" }
     {
         TextLine {

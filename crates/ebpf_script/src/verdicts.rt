@@ -29,7 +29,7 @@ pub struct Verdicts {
 }
 
 /// Judges each program of a script. It fails only where an allocation fails.
-pub(crate) fn verdicts_on(
+pub fn verdicts_on(
     alloc: Global,
     format: Format,
     programs: &Programs,

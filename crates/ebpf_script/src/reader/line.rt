@@ -5,7 +5,7 @@ ghost use Rattle.ebpf_command.specs.Stops.{IsStop};
 ghost use Rattle.ebpf_script.specs.LineFaults.{shape_fault, line_fault};
 ghost use Rattle.ebpf_script.specs.ReadScripts.{parsed_script, Adds, HasRoom};
 ghost use Rattle.ebpf_script.specs.ScriptLines.{IsFirst, is_text};
-ghost use Rattle.ebpf_script.specs.Shapes.{is_comment, event_shape, job_shape, program_shape, shape_of};
+ghost use Rattle.ebpf_script.specs.Shapes.{is_comment, event_shape, job_shape, setup_shape, program_shape, shape_of};
 ghost use Rattle.ebpf_script.specs.Words.{words};
 
 use crate::reader::again::job_again;
@@ -98,11 +98,12 @@ fn read_words(
     match dialect {
         Dialect::Events => read_event_words(alloc, script, first, rest),
         Dialect::Jobs => read_job_words(alloc, script, first, rest),
+        Dialect::Setup => read_setup_words(script, first, rest),
     }
 }
 
 // The first word of a comment.
-fn is_comment(word: &[u8]) -> bool
+pub(crate) fn is_comment(word: &[u8]) -> bool
     ensures { result ≡ is_comment word.now }
 {
     match word {
@@ -160,6 +161,17 @@ fn read_job_words(
         }
         [pages] if first == b"arena".as_slice() => read_arena(script, pages),
         [name, hex] if first == b"run".as_slice() => read_job(alloc, script, name, hex),
+        _ => Err(Stop::Fault(FaultCode::UnknownLine)),
+    }
+}
+
+// Reads a line that says what a machine has: its first word and those after it.
+fn read_setup_words(script: &mut Script, first: &[u8], rest: &[&[u8]]) -> Result<(), Stop>
+    ensures ok { OnOk result (Adds (setup_shape first.now (map (λ w. w.now) rest.now)) script.old script.new) }
+    ensures refused { IfErr result (IsStop (shape_fault (parsed_script script.old) (setup_shape first.now (map (λ w. w.now) rest.now)))) }
+{
+    match rest {
+        [pages] if first == b"arena".as_slice() => read_arena(script, pages),
         _ => Err(Stop::Fault(FaultCode::UnknownLine)),
     }
 }

@@ -18,6 +18,8 @@ pub enum Dialect {
     Events,
     /// Jobs, and what they run with: `run`, `arena` and `reap` alone.
     Jobs,
+    /// What a machine has: `arena`.
+    Setup,
 }
 
 /// A program of a script: what its hex says, and what it declares.
