@@ -41,6 +41,10 @@ const REPLAY_EXAMPLE: &str =
 const RUN_EXAMPLE: &str =
     "Example: printf '%s\\n' 'program p 0 0 b7000000070000009500000000000000' 'run p -' | ebpf_run run";
 
+// After the help of `stream`.
+const STREAM_EXAMPLE: &str =
+    "Example: echo 'program p 0 0 b7000000070000009500000000000000' >programs; echo 'run p -' | ebpf_run stream programs";
+
 // The most workers, and the most passes of the reaper that an option asks for.
 const MAX_WORKERS: u32 = 64;
 
@@ -50,7 +54,7 @@ const MAX_REAPS: u32 = 1000;
 #[derive(Clone, Copy)]
 pub struct Request<'a> {
     pub task: Task<'a>,
-    /// The file to read; standard input where there is none.
+    /// The file to read; standard input where there is none, or for a script beside a stream a file of that name.
     pub file: Option<&'a str>,
 }
 
@@ -66,6 +70,7 @@ pub enum Task<'a> {
     Check(CheckOptions),
     Replay(Format),
     Run(RunOptions),
+    Stream(Format),
 }
 
 /// The options of `one`, and of `explain` and `graph`, which run nothing.
@@ -164,7 +169,8 @@ pub fn command<'a>(alloc: Global) -> Result<Command<'a>, AllocError> {
         .subcommand(assemble)?
         .subcommand(check)?
         .subcommand(replay)?
-        .subcommand(run_command(alloc)?)
+        .subcommand(run_command(alloc)?)?
+        .subcommand(stream_command(alloc)?)
 }
 
 fn one_command<'a>(alloc: Global) -> Result<Command<'a>, AllocError> {
@@ -318,6 +324,21 @@ fn run_command<'a>(alloc: Global) -> Result<Command<'a>, AllocError> {
         .arg(file_argument(alloc))
 }
 
+fn stream_command<'a>(alloc: Global) -> Result<Command<'a>, AllocError> {
+    Command::new(alloc, "stream")
+        .about("Runs the jobs on standard input as they come, with the programs of the script in SCRIPT")
+        .after_help(STREAM_EXAMPLE)
+        .arg(json_option(alloc))?
+        .arg(script_argument(alloc))
+}
+
+fn script_argument<'a>(alloc: Global) -> Arg<'a> {
+    Arg::new(alloc, "script")
+        .value_name("SCRIPT")
+        .required(true)
+        .help("The file of the script: its programs, and the pages of its arena")
+}
+
 fn workers_option<'a>(alloc: Global) -> Arg<'a> {
     Arg::new(alloc, "workers")
         .long("workers")
@@ -355,7 +376,7 @@ pub fn request_of<'a>(matches: &ArgMatches<'a>) -> Option<Request<'a>> {
     let (name, given) = matches.subcommand()?;
     Some(Request {
         task: task_of(name, given)?,
-        file: file_of(given),
+        file: file_of(name, given),
     })
 }
 
@@ -375,12 +396,16 @@ fn task_of<'a>(name: &str, given: &ArgMatches<'a>) -> Option<Task<'a>> {
         "check" => Some(Task::Check(check_options(given))),
         "replay" => Some(Task::Replay(format_of(given))),
         "run" => Some(Task::Run(run_options(given)?)),
+        "stream" => Some(Task::Stream(format_of(given))),
         _ => None,
     }
 }
 
-// The file that is named; a dash is none.
-fn file_of<'a>(given: &ArgMatches<'a>) -> Option<&'a str> {
+// The file that is named. A dash is none, but for a script beside a stream.
+fn file_of<'a>(name: &str, given: &ArgMatches<'a>) -> Option<&'a str> {
+    if name == "stream" {
+        return given.get_str("script");
+    }
     match given.get_str("file") {
         Some("-") => None,
         file => file,

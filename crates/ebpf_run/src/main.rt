@@ -25,6 +25,7 @@ use ebpf_script::explained_check::explained_check;
 use ebpf_script::replay::replay;
 use ebpf_script::run::run as run_script;
 use ebpf_script::watch::{TABLE_BYTES, Watch};
+use ebpf_stream::stream::stream;
 use std::alloc::Global;
 use std::fs::File;
 use std::io::{Read, Write};
@@ -91,7 +92,7 @@ fn serve<R: AllocGlobal + Clock + Eprint + Files + Input + Print + Threads + Wai
 }
 
 // Does a task on an input and standard output, and gives the exit status.
-fn perform<R: AllocGlobal + Clock + Eprint + Print + Threads + Wait + Sync, I: Read>(
+fn perform<R: AllocGlobal + Clock + Eprint + Input + Print + Threads + Wait + Sync, I: Read>(
     rt: &R,
     reader: &mut I,
     task: Task<'_>,
@@ -108,6 +109,7 @@ fn perform<R: AllocGlobal + Clock + Eprint + Print + Threads + Wait + Sync, I: R
         Task::Check(options) => perform_check(alloc, reader, &mut writer, options),
         Task::Replay(format) => replay(alloc, reader, &mut writer, format),
         Task::Run(options) => run_jobs(rt, reader, &mut writer, options),
+        Task::Stream(format) => stream(alloc, reader, &mut rt.reader(), &mut writer, format),
     }?;
     Ok(match done {
         Done::Clean => 0,

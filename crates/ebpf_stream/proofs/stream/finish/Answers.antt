@@ -1,0 +1,61 @@
+use Rattle.std.proofs.Common.{◌≡◌, ◌++◌, List, ℕ, ap, sym, ◌∙◌, subst}
+use Rattle.std.specs.Prelude.{string_bytes}
+use Rattle.std.specs.Io.KnownBytes.{Appends}
+use Rattle.ebpf_command.specs.Writing.{AppendsBeginning}
+use Rattle.ebpf_stream.specs.declared.place.Place.{Place}
+use Rattle.ebpf_stream.specs.Answering.{IsAnswered}
+use Rattle.ebpf_stream.specs.Feeding.{set_up}
+use Rattle.ebpf_stream.specs.Totals.{totals_in}
+use Rattle.ebpf_stream.proofs.EndLemmas.{finishes, finishes_unanswered, finishes_unended, finishes_untold, finishes_unwritten}
+use Rattle.ebpf_stream.proofs.stream.finish.Goals as goal
+
+pub returns-in-Err : goal.returns-in-Err
+returns-in-Err g c = finishes_unanswered (set_up c.args.setup.now) c.in-Err.fault (g.W.Write.contents c.args.writer.now) c.args.feed.now c.end.new.self
+
+pub returns-in-Err-flush : goal.returns-in-Err-flush
+returns-in-Err-flush g c =
+    let a = g.W.Write.contents c.args.writer.now in
+    let b = g.W.Write.contents c.flush.new.writer in
+    let here = c.in_default.ensures.answered.0 in
+    let told : string_bytes c.end.new.self.answers.text ≡ here = c.in_default.ensures.answered.2 ∙ ap (λ (xs : List ℕ). xs ++ here) c.requires in
+    finishes_unwritten (set_up c.args.setup.now) a b c.args.feed.now c.end.new.self here c.in_default.ensures.answered.1
+    (subst (λ (xs : List ℕ). AppendsBeginning a b xs) told c.in-Err-flush.ensures.beginning)
+
+pub returns-in-Err-end : goal.returns-in-Err-end
+returns-in-Err-end g c =
+    let a = g.W.Write.contents c.args.writer.now in
+    let b = g.W.Write.contents c.flush.new.writer in
+    let here = c.in_default.ensures.answered.0 in
+    let told : string_bytes c.end.new.self.answers.text ≡ here = c.in_default.ensures.answered.2 ∙ ap (λ (xs : List ℕ). xs ++ here) c.requires in
+    finishes_untold (set_up c.args.setup.now) a b c.args.feed.now c.end.new.self here c.in_default.ensures.answered.1
+    (subst (λ (xs : List ℕ). Appends a b xs) told c.in_default-flush.ensures.written)
+
+pub returns-in-Ok : goal.returns-in-Ok
+returns-in-Ok g c =
+    let s = set_up c.args.setup.now in
+    let a = g.W.Write.contents c.args.writer.now in
+    let b = g.W.Write.contents c.flush.new.writer in
+    let d = g.W.Write.contents c.flush-2.new.writer in
+    let here = c.in_default.ensures.answered.0 in
+    let told : string_bytes c.end.new.self.answers.text ≡ here = c.in_default.ensures.answered.2 ∙ ap (λ (xs : List ℕ). xs ++ here) c.requires in
+    let end = c.in_default-end.ensures.told in
+    let rest = end.1 ∙ ap (λ (xs : List ℕ). xs ++ totals_in s.format end.0) c.in_default-flush.ensures.empty in
+    let place = c.flush-2.ensures.place ∙ (c.end-2.ensures.place ∙ c.flush.ensures.place) in
+    finishes s a b d c.args.feed.now c.flush-2.new.self here end.0
+    (subst (λ (p : Place). IsAnswered s c.args.feed.now.kept.items c.args.feed.now.answers.place p here) (sym place) c.in_default.ensures.answered.1)
+    (subst (λ (xs : List ℕ). Appends a b xs) told c.in_default-flush.ensures.written)
+    (subst (λ (xs : List ℕ). Appends b d xs) rest c.in-Ok.ensures.written)
+
+pub returns-in-Err-flush-2 : goal.returns-in-Err-flush-2
+returns-in-Err-flush-2 g c =
+    let s = set_up c.args.setup.now in
+    let a = g.W.Write.contents c.args.writer.now in
+    let b = g.W.Write.contents c.flush.new.writer in
+    let d = g.W.Write.contents c.flush-2.new.writer in
+    let here = c.in_default.ensures.answered.0 in
+    let told : string_bytes c.end.new.self.answers.text ≡ here = c.in_default.ensures.answered.2 ∙ ap (λ (xs : List ℕ). xs ++ here) c.requires in
+    let end = c.in_default-end.ensures.told in
+    let rest = end.1 ∙ ap (λ (xs : List ℕ). xs ++ totals_in s.format end.0) c.in_default-flush.ensures.empty in
+    finishes_unended s a b d c.args.feed.now c.end.new.self here end.0 c.in_default.ensures.answered.1
+    (subst (λ (xs : List ℕ). Appends a b xs) told c.in_default-flush.ensures.written)
+    (subst (λ (xs : List ℕ). AppendsBeginning b d xs) rest c.in-Err-flush-2.ensures.beginning)

@@ -1,0 +1,59 @@
+-- What each line of a stream of jobs is answered.
+use Rattle.std.specs.Prelude.{◌≡◌, ℕ, ◌+◌, ◌++◌, nat_lt, if◌then◌else◌, true, false, List, [], ◌∷◌, length, map, slice_get, Option, Some, None}
+use Rattle.ebpf_verify.specs.Subject.{Subject}
+use Rattle.ebpf_machine.specs.declared.report.Report.{Report}
+use Rattle.ebpf_machine.specs.Whole.{IsReportOf}
+use Rattle.ebpf_pool.specs.declared.jobs.Job.{Job}
+use Rattle.ebpf_command.specs.declared.done.FaultCode.{FaultCode}
+use Rattle.ebpf_command.specs.declared.done.FaultCode.TheVariants.{InputTooLong}
+use Rattle.ebpf_command.specs.declared.format.Format.{Format}
+use Rattle.ebpf_command.specs.declared.format.Format.TheVariants.{Text, Json}
+use Rattle.ebpf_command.specs.Json.{fault_in}
+use Rattle.ebpf_script.specs.JobLines.{job_line_fault, job_of, stream_shape}
+use Rattle.ebpf_script.specs.OutcomeLines.{report_lines}
+use Rattle.ebpf_script.specs.OutcomeObjects.{job_object}
+use Rattle.ebpf_script.specs.ParsedScript.{ParsedScript}
+use Rattle.ebpf_script.specs.Words.{words}
+use Rattle.ebpf_stream.specs.declared.place.Place.{Place}
+
+-- what jobs are done with: the format of the answers, a script, and its programs, which are accepted
+pub record Setting : Type 0 where
+  pub format : Format
+  pub parsed : ParsedScript
+  pub subjects : List Subject
+
+-- before the first line
+abbrev pub start : Place
+start = record { jobs = 0; lines = 0; faulty = false }
+
+-- why a line can't be read; one that is too long isn't looked at further
+unfoldable pub stream_fault : ParsedScript → List ℕ → Option FaultCode
+stream_fault parsed line = if nat_lt 65536 (length line) then Some InputTooLong else job_line_fault parsed line
+
+-- what a job did, under its number
+abbrev pub report_in : Format → ℕ → Report → List ℕ
+report_in Text job r = report_lines job r
+report_in Json job r = job_object job r
+
+-- a line with no job is answered nothing, and a job what it did, by a report of its program alone
+abbrev pub IsDone : Setting → Option Job → (before after : Place) → List ℕ → Type 0
+IsDone s None before after text = (after ≡ record before { lines = before.lines + 1 }) × (text ≡ [])
+IsDone s (Some job) before after text =
+    (subject : Subject) × (r : Report) × (slice_get s.subjects job.program ≡ Some subject) × IsReportOf subject job.context r
+    × (after ≡ record before { jobs = before.jobs + 1; lines = before.lines + 1 }) × (text ≡ report_in s.format before.jobs r)
+
+-- a fault is answered with the number of its line, from 1
+abbrev pub IsAnsweredBy : Setting → Option FaultCode → Option Job → (before after : Place) → List ℕ → Type 0
+IsAnsweredBy s (Some code) job before after text =
+    (after ≡ record before { lines = before.lines + 1; faulty = true }) × (text ≡ fault_in s.format code (before.lines + 1))
+IsAnsweredBy s None job before after text = IsDone s job before after text
+
+-- a line is answered with a text, which takes the stream from one place to the next
+abbrev pub IsAnswered : Setting → List ℕ → (before after : Place) → List ℕ → Type 0
+IsAnswered s line before after text = IsAnsweredBy s (stream_fault s.parsed line) (job_of s.parsed (stream_shape (words line))) before after text
+
+-- lines are answered one after another
+abbrev pub AreAnswered : Setting → List (List ℕ) → (before after : Place) → List ℕ → Type 0
+AreAnswered s [] before after text = (after ≡ before) × (text ≡ [])
+AreAnswered s (line ∷ lines) before after text =
+    (next : Place) × (here rest : List ℕ) × IsAnswered s line before next here × AreAnswered s lines next after rest × (text ≡ here ++ rest)

@@ -1,0 +1,5 @@
+pub mod Answering
+pub mod Totals
+pub mod Streaming
+pub mod Feeding
+pub mod Serving

@@ -1,0 +1,164 @@
+//! The answers to the lines of a stream.
+
+ghost use Rattle.std.specs.Prelude.{◌≡◌, ◌≢◌, ◌+◌, ◌++◌, ℕ, List, None, Some, length, map, slice_get, string_bytes, IfOk, OnOk, OnErr, IfErr, true};
+ghost use Rattle.ebpf_command.specs.Json.{fault_in};
+ghost use Rattle.ebpf_command.specs.declared.done.EngineFault.TheVariants.{Output};
+ghost use Rattle.ebpf_script.specs.ReadScripts.{parsed_script};
+ghost use Rattle.ebpf_stream.specs.Answering.{IsAnswered, IsDone, report_in, start};
+ghost use Rattle.ebpf_stream.specs.Feeding.{set_up};
+ghost use Rattle.ebpf_stream.specs.Totals.{totals_in};
+ghost use Rattle.ebpf_stream.specs.declared.totals.MachineTotals.{MachineTotals};
+
+use crate::job_text::write_report;
+use crate::lines::read_line;
+use crate::place::Place;
+use crate::setup::Setup;
+use crate::totals::totals_of;
+use crate::totals_text::write_totals;
+use ebpf_command::answer::answer_fault_in;
+use ebpf_command::done::{EngineFault, FaultCode, Stop};
+use ebpf_command::format::Format;
+use ebpf_host::machine::Machine;
+use ebpf_machine::report::Report;
+use ebpf_machine::run::StartFault;
+use ebpf_pool::Job;
+use ebpf_script::text_line::TextLine;
+use std::alloc::{AllocError, Global};
+
+/// The machine that does the jobs, how far the stream is, and what is answered and not yet written.
+#[derive(Drop)]
+pub(crate) struct Answers {
+    machine: Machine,
+    // Where the text of a job is made, so that none is answered in part.
+    whole: String,
+    line: TextLine,
+    pub(crate) text: String,
+    pub(crate) place: Place,
+}
+
+impl Answers {
+    /// No line is answered yet, and this text waits.
+    pub(crate) fn new(alloc: Global, machine: Machine, text: String) -> Answers
+        ensures text { string_bytes result.text ≡ string_bytes text }
+        ensures place { result.place ≡ start }
+    {
+        Answers {
+            machine,
+            whole: String::new(alloc),
+            line: TextLine::end(),
+            text,
+            place: Place {
+                jobs: 0,
+                lines: 0,
+                faulty: false,
+            },
+        }
+    }
+
+    /// Answers a line.
+    ///
+    /// # Errors
+    /// `NoMemory` where an allocation failed; `Input` where the line's number would be 2^64. It is not answered then.
+    pub(crate) fn answer(
+        &mut self,
+        alloc: Global,
+        setup: &Setup,
+        line: &[u8],
+    ) -> Result<(), EngineFault>
+        ensures answered { OnOk result ((here : List ℕ) × IsAnswered (set_up setup.now) line.now self.old.place self.new.place here × (string_bytes self.new.text ≡ string_bytes self.old.text ++ here)) }
+        ensures place { OnErr result (self.new.place ≡ self.old.place) }
+        ensures text { OnErr result (string_bytes self.new.text ≡ string_bytes self.old.text) }
+        ensures fault { IfErr result (λ fault. fault ≢ Output) }
+    {
+        let Some(lines) = self.place.lines.checked_add(1) else {
+            return Err(EngineFault::Input);
+        };
+        match read_line(alloc, &setup.script, line) {
+            Ok(Some(job)) => self.run(setup, &job, lines),
+            Ok(None) => {
+                self.place.lines = lines;
+                Ok(())
+            }
+            Err(Stop::Fault(code)) => {
+                self.refuse(alloc, setup.format, code, lines)?;
+                Ok(())
+            }
+            Err(Stop::NoMemory) => Err(EngineFault::NoMemory),
+        }
+    }
+
+    // Answers the line of this number with its fault.
+    fn refuse(
+        &mut self,
+        alloc: Global,
+        format: Format,
+        code: FaultCode,
+        lines: usize,
+    ) -> Result<(), AllocError>
+        ensures place { OnOk result (self.new.place ≡ record self.old.place { lines = lines; faulty = true }) }
+        ensures answered { OnOk result (string_bytes self.new.text ≡ string_bytes self.old.text ++ fault_in format code lines) }
+        ensures same_place { OnErr result (self.new.place ≡ self.old.place) }
+        ensures same_text { OnErr result (string_bytes self.new.text ≡ string_bytes self.old.text) }
+    {
+        let fault = answer_fault_in(alloc, format, code, lines)?;
+        self.text.push_str(fault.text.as_str())?;
+        self.place.lines = lines;
+        self.place.faulty = true;
+        Ok(())
+    }
+
+    // Runs the job of the line of this number, and answers what it did.
+    fn run(&mut self, setup: &Setup, job: &Job, lines: usize) -> Result<(), EngineFault>
+        requires declared { slice_get (map (λ p. p.context) (parsed_script setup.now.script).programs) job.now.program ≡ Some (length job.now.context) }
+        requires next { lines ≡ self.old.place.lines + 1 }
+        ensures done { OnOk result ((here : List ℕ) × IsDone (set_up setup.now) (Some job.now) self.old.place self.new.place here × (string_bytes self.new.text ≡ string_bytes self.old.text ++ here)) }
+        ensures place { OnErr result (self.new.place ≡ self.old.place) }
+        ensures text { OnErr result (string_bytes self.new.text ≡ string_bytes self.old.text) }
+        ensures fault { IfErr result (λ fault. fault ≢ Output) }
+    {
+        let Some(jobs) = self.place.jobs.checked_add(1) else {
+            return Err(EngineFault::Input);
+        };
+        let program = &setup.programs[job.program];
+        // More than any run of it does.
+        let limit = program.len() as u64 + 1;
+        let report = match self.machine.run(program, &job.context.bytes, limit) {
+            Ok(report) => report,
+            Err(StartFault::NoMemory) => return Err(EngineFault::NoMemory),
+            Err(StartFault::ContextLength) => unreachable!(),
+        };
+        self.tell(setup.format, &report)?;
+        self.place.jobs = jobs;
+        self.place.lines = lines;
+        Ok(())
+    }
+
+    // Answers what the next job did.
+    fn tell(&mut self, format: Format, report: &Report) -> Result<(), AllocError>
+        ensures told { OnOk result (string_bytes self.new.text ≡ string_bytes self.old.text ++ report_in format self.old.place.jobs report.now) }
+        ensures text { OnErr result (string_bytes self.new.text ≡ string_bytes self.old.text) }
+        ensures place { self.new.place ≡ self.old.place }
+    {
+        self.whole.clear();
+        write_report(
+            &mut self.whole,
+            &mut self.line,
+            format,
+            self.place.jobs,
+            report,
+        )?;
+        self.text.push_str(self.whole.as_str())
+    }
+
+    /// Answers the end of the input, with what the caches and the shelves did. It fails only where an allocation fails.
+    pub(crate) fn end(&mut self, format: Format) -> Result<(), AllocError>
+        ensures told { OnOk result ((totals : MachineTotals) × (string_bytes self.new.text ≡ string_bytes self.old.text ++ totals_in format totals)) }
+        ensures text { OnErr result (string_bytes self.new.text ≡ string_bytes self.old.text) }
+        ensures place { self.new.place ≡ self.old.place }
+    {
+        let totals = totals_of(&self.machine);
+        self.whole.clear();
+        write_totals(&mut self.whole, format, &totals)?;
+        self.text.push_str(self.whole.as_str())
+    }
+}

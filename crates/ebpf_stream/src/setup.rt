@@ -1,0 +1,32 @@
+//! What a script gives the jobs of a stream.
+
+ghost use Rattle.std.specs.Prelude.{◌≡◌, map, IfOk};
+ghost use Rattle.ebpf_machine.specs.Kinds.{AreKnown};
+ghost use Rattle.ebpf_script.specs.ReadScripts.{parsed_script};
+
+use ebpf_command::format::Format;
+use ebpf_host::program::Program;
+use ebpf_script::reader::script::Script;
+use ebpf_verify::verified::Verified;
+use std::alloc::{AllocError, Global};
+
+/// The format of the answers, a script, and its programs, of which none is refused.
+#[derive(Drop)]
+pub(crate) struct Setup {
+    pub(crate) format: Format,
+    pub(crate) script: Script,
+    pub(crate) programs: Vec<Program>,
+    ghost declared: { map (λ p. p.verified.decl.context) programs.items ≡ map (λ p. p.context) (parsed_script script).programs },
+}
+
+/// These programs, loaded. It fails only where an allocation fails.
+pub(crate) fn load_all(alloc: Global, accepted: Vec<Verified>) -> Result<Vec<Program>, AllocError>
+    requires { AreKnown accepted.items }
+    ensures { IfOk result (λ programs. map (λ p. p.verified) programs.items ≡ accepted.items) }
+{
+    let mut programs = Vec::new(alloc);
+    for verified in accepted {
+        programs.push(Program::of(verified))?;
+    }
+    Ok(programs)
+}
