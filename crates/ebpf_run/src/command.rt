@@ -326,7 +326,9 @@ fn run_command<'a>(alloc: Global) -> Result<Command<'a>, AllocError> {
 
 fn stream_command<'a>(alloc: Global) -> Result<Command<'a>, AllocError> {
     Command::new(alloc, "stream")
-        .about("Runs the jobs on standard input as they come, with the programs of the script in SCRIPT")
+        .about(
+            "Runs the jobs on standard input as they come, with the programs of the script in SCRIPT",
+        )
         .after_help(STREAM_EXAMPLE)
         .arg(json_option(alloc))?
         .arg(script_argument(alloc))
