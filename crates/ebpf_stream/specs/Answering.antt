@@ -1,4 +1,4 @@
--- What each line of a stream of jobs is answered.
+-- How each line of a stream of jobs is answered.
 use Rattle.std.specs.Prelude.{◌≡◌, ℕ, ◌+◌, ◌++◌, nat_lt, if◌then◌else◌, true, false, List, [], ◌∷◌, length, map, slice_get, Option, Some, None}
 use Rattle.ebpf_verify.specs.Subject.{Subject}
 use Rattle.ebpf_machine.specs.declared.report.Report.{Report}

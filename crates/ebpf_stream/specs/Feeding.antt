@@ -1,4 +1,4 @@
--- How a stream is, after some of its bytes.
+-- How far a stream of jobs has been answered, after some of its bytes.
 use Rattle.std.specs.Prelude.{◌≡◌, ◌⊎◌, ◌≤◌, ℕ, ◌==◌, ◌++◌, false, List, [], ◌∷◌, length, map, take, Option, Result, Ok, Err, IfSome, string_bytes}
 use Rattle.std.specs.List.{All}
 use Rattle.std.specs.Io.KnownBytes.{Appends}
@@ -16,8 +16,7 @@ use Rattle.ebpf_stream.specs.Streaming.{AnswersFirst, AnswersAll}
 abbrev pub set_up : Setup → Setting
 set_up s = record { format = s.format; parsed = parsed_script s.script; subjects = map (λ p. p.verified) s.programs.items }
 
--- these bytes were taken, and this text is answered to the lines that ended in them; what has come of the next line is kept, as far as it is
--- looked at
+-- these bytes were taken, and this text answers the lines that ended in them; of the next line at most 65,537 bytes are kept
 pub record IsFed (s : Setting) (seen : List ℕ) (feed : Feed) (text : List ℕ) : Type 0 where
   pub lines : List (List ℕ)
   pub next : List ℕ
@@ -38,7 +37,7 @@ Stops Output old new waited waits text = AppendsBeginning old new (waited ++ tex
 Stops Input old new waited waits text = Sends old new waited waits text
 Stops NoMemory old new waited waits text = Sends old new waited waits text
 
--- all of some bytes were taken, or as many of them as could be
+-- all of these bytes were taken, or the first n of them where a fault came
 abbrev pub Takes : Setting → (old new : Option (List ℕ)) → (before after : Feed) → List ℕ → Result (Unit {0}) EngineFault → Type 0
 Takes s old new before after bytes (Ok done) = (seen text : List ℕ) → IsFed s seen before text
     → (more : List ℕ) × IsFed s (seen ++ bytes) after (text ++ more) × Sends old new (string_bytes before.answers.text) (string_bytes after.answers.text) more

@@ -25,7 +25,7 @@ abbrev pub done_by : Bool → Done
 done_by true = Refused
 done_by false = Clean
 
--- a text answers the first lines of a stream, as many as they may be
+-- a text answers the first n lines of a stream, for some n
 abbrev pub AnswersFirst : Setting → List ℕ → List ℕ → Type 0
 AnswersFirst s input text = (n : ℕ) × (after : Place) × AreAnswered s (take n (script_lines input)) start after text
 

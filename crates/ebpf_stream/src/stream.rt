@@ -44,7 +44,7 @@ pub fn stream<S: Read, I: Read, W: Write>(
     writer: &mut W,
     format: Format,
 ) -> Result<Done, EngineFault>
-    // What each line is to be answered is written, in order, and nothing else.
+    // The answer to each line is written, in order, and nothing else.
     ensures response { WritesStream format (S.remaining script.old) (I.remaining reader.old) (W.contents writer.old) (W.contents writer.new) result }
     ensures consumed { Reads (S.remaining script.old) (S.remaining script.new) result }
     ensures end { IfOk result (λ done. IsAtEnd (I.remaining reader.new) ⊎ ((reader.new ≡ reader.old) × (done ≡ Refused))) }
