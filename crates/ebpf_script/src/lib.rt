@@ -7,13 +7,14 @@
 //! [`run::run`].
 //!
 //! To be read in this order: `reader`, `verdict_text`, `verdicts`, `check`, `script_fault`, `explained_check`, `event_codes`, `world_text`,
-//! `text_line`, `world_json`, `replay`, `outcome_text`, `outcome_json`, `stats`, `outcome_stats`, `meter`, `covered_text`, `run`,
+//! `text_line`, `world_json`, `replay`, `exit_line`, `outcome_text`, `outcome_json`, `stats`, `outcome_stats`, `meter`, `covered_text`, `run`,
 //! `stats_text`, `stats_json`, `watch`.
 #![tactic(auto)]
 
 pub mod check;
 mod covered_text;
 mod event_codes;
+mod exit_line;
 pub mod explained_check;
 pub mod meter;
 pub mod outcome_json;

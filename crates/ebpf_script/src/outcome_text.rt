@@ -4,6 +4,7 @@ ghost use Rattle.std.specs.Prelude.{◌≡◌, ◌++◌, string_bytes, Some, OnO
 ghost use Rattle.std.specs.List.{flat_map};
 ghost use Rattle.ebpf_script.specs.OutcomeLines.{job_emit_line, job_line, report_lines, reports_from, cache_words, cache_line, cache_lines, shelf_line, shelf_lines, outcome_lines};
 
+use crate::exit_line::{ExitLine, write_ending, write_numbered};
 use crate::text_line::TextLine;
 use ebpf_pool::{JobReport, Outcome, Reports, ShelfTotals};
 use object_cache::Totals;
@@ -24,10 +25,11 @@ fn write_reports(text: &mut String, reports: &Reports) -> Result<(), AllocError>
     ensures { OnOk result (string_bytes text.new ≡ string_bytes text.old ++ reports_from 0 reports.now) }
 {
     let mut line = TextLine::end();
+    let mut exits = ExitLine::new();
     let mut left = reports.iter();
     for job in 0..reports.len() {
         if let Some(report) = left.next() {
-            write_report(text, &mut line, job, report)?;
+            write_report(text, &mut line, &mut exits, job, report)?;
         }
     }
     Ok(())
@@ -37,6 +39,7 @@ fn write_reports(text: &mut String, reports: &Reports) -> Result<(), AllocError>
 fn write_report(
     text: &mut String,
     line: &mut TextLine,
+    exits: &mut ExitLine,
     job: usize,
     report: &JobReport,
 ) -> Result<(), AllocError>
@@ -46,7 +49,7 @@ fn write_report(
     let Some(exit) = report.exit() else {
         return Ok(());
     };
-    write_exit(text, line, job, exit, report.executed(), report.peak())
+    exits.write(text, job, exit, report.executed(), report.peak())
 }
 
 /// Writes how a job ended, after a text. It fails only where an allocation fails.
@@ -60,16 +63,8 @@ pub fn write_exit(
 ) -> Result<(), AllocError>
     ensures { OnOk result (string_bytes text.new ≡ string_bytes text.old ++ job_line job (Some exit) executed peak) }
 {
-    line.restart();
-    line.number(peak);
-    line.words(b" peak ");
-    line.number(executed);
-    line.words(b" executed ");
-    line.number(exit);
-    line.words(b" exit ");
-    line.number(job as u64);
-    line.words(b"job ");
-    text.push_str(line.as_str())
+    write_ending(line, exit, executed, peak);
+    write_numbered(text, line, job)
 }
 
 /// Writes the output of a job after a text. It fails only where an allocation fails.

@@ -1,7 +1,7 @@
 //! A line of text, or a part of one, that is written from its end to its beginning: each number is written where it stays, and
 //! all is appended at once.
 
-ghost use Rattle.std.specs.Prelude.{◌≡◌, ◌+◌, ◌≤◌, ◌++◌, [], IsAscii, codes, decimal, length};
+ghost use Rattle.std.specs.Prelude.{◌≡◌, ◌+◌, ◌-◌, ◌≤◌, ◌++◌, [], IsAscii, codes, decimal, drop, length};
 
 use itoa::write_digits;
 use std::marker::Model;
@@ -53,6 +53,23 @@ impl TextLine {
         ensures { self.new ≡ [] }
     {
         self.start = ROOM;
+    }
+
+    /// How many bytes are written.
+    #[inline]
+    pub(crate) fn len(&self) -> usize
+        ensures { result ≡ length self.now }
+    {
+        ROOM - self.start
+    }
+
+    /// Forgets all but the last n bytes.
+    #[inline]
+    pub(crate) fn keep_last(&mut self, n: usize)
+        requires { n ≤ length self.old }
+        ensures { self.new ≡ drop (length self.old - n) self.old }
+    {
+        self.start += self.len() - n;
     }
 
     /// Writes a number before the rest.
