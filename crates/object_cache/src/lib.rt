@@ -32,6 +32,7 @@
 mod activity;
 mod arena_lock;
 mod asking;
+mod brief_lock;
 mod cache;
 mod count;
 mod fault;

@@ -13,6 +13,7 @@ ghost use Rattle.std.specs.Prelude.{◌≡◌, ◌+◌, ◌^◌, ◌<◌, ◌≤
 ghost use Rattle.object_cache.specs.ShelfView.{HasSpares, new_hand, one_if};
 ghost use Rattle.object_cache.specs.declared.count.TheConstants.{MAX_HANDS, PARTS};
 
+use crate::brief_lock::lock_briefly;
 use crate::count::{MAX_HANDS, count};
 use crate::spare::Spare;
 use slab_layer::{Held, Kind, Obj};
@@ -197,10 +198,11 @@ impl<K: Kind, A: Ledger, B: Ledger> Shelf<K, A, B> {
         if given.is_some() {
             count(rt, &mut hand.puts);
         }
-        let got = self
-            .board
-            .lock(rt)
-            .swap(&mut hand.put_share, &mut hand.get_share, given);
+        let got = lock_briefly(rt, &self.board).swap(
+            &mut hand.put_share,
+            &mut hand.get_share,
+            given,
+        );
         if got.is_some() {
             count(rt, &mut hand.gets);
         }
