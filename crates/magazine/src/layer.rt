@@ -7,9 +7,9 @@
 //! *The invariant.* The previous magazine is full or empty.
 //!
 //! *The reason.* A layer belongs to one worker, so `try_take` and `try_give` ask nobody: each is a test of a
-//! bound and the move of one object. Where both magazines are empty their exchange changes nothing, so
-//! `try_take` has no need to look at the previous one first. What the two calls answer where they can't serve
-//! is what the depot's exchange needs: no round is here, or both magazines are full.
+//! bound and the move of one object. What the two calls answer where they can't serve is what the depot's
+//! exchange needs: no round is here, or both magazines are full. Where no round is here the two magazines are
+//! alike, so the loaded one goes to the depot, and nothing else has to move.
 
 ghost use Rattle.std.specs.Prelude.{◌≡◌, ℕ, ◌+◌, ◌<◌, ◌↔◌, ◌⊎◌, [], ◌∷◌, ◌++◌, length, false, IsTrue, IsSome, IsOk, IfSome, IfNone, OnOk, IfOk, IfErr, OnErr, IsPermutation};
 ghost use Rattle.magazine.specs.LayerView.{rounds_of, IsEmpty, IsFull, exchanged, with_round};
@@ -78,6 +78,9 @@ impl<K: Kind> Layer<K> {
         ensures unchanged { IfNone result (self.new ≡ self.old) }
     {
         if self.loaded.is_empty() {
+            if self.previous.is_empty() {
+                return None;
+            }
             self.exchange();
         }
         self.loaded.pop()
@@ -110,9 +113,8 @@ impl<K: Kind> Layer<K> {
         Ok(())
     }
 
-    /// Where no round is here: the previous magazine goes to the depot, the loaded one becomes the previous one,
-    /// and a full one of the depot becomes the loaded one. True exactly where the depot has a full one; else
-    /// nothing changed.
+    /// Where no round is here: an empty magazine goes to the depot, and a full one of the depot becomes the loaded
+    /// one. True exactly where the depot has a full one; else nothing changed.
     pub fn refill(&mut self, depot: &mut Depot<K>) -> bool
         requires { IsEmpty self.old }
         ensures done { IsTrue result ↔ (0 < length depot.old.rounds) }
@@ -122,11 +124,7 @@ impl<K: Kind> Layer<K> {
         ensures empties { IsTrue result → depot.new.empties ≡ depot.old.empties + 1 }
         ensures unchanged { result ≡ false → (self.new ≡ self.old) × (depot.new ≡ depot.old) }
     {
-        if !depot.exchange_for_full(&mut self.previous) {
-            return false;
-        }
-        self.exchange();
-        true
+        depot.exchange_for_full(&mut self.loaded)
     }
 
     /// Where both magazines are full: the previous one goes to the depot, the loaded one becomes the previous

@@ -15,6 +15,7 @@ ghost use Rattle.object_cache.specs.declared.count.TheConstants.{MAX_HANDS, PART
 
 use crate::arena_lock::ArenaLock;
 use crate::asking::{refill_anywhere, relieve_anywhere};
+use crate::brief_lock::lock_briefly;
 use crate::count::{MOST, PARTS};
 use crate::fault::TakeFault;
 use crate::hand::Hand;
@@ -122,7 +123,13 @@ impl<K: Kind, A: Ledger, B: Ledger> Cache<K, A, B> {
     // The part of the depot that a hand of this number goes to first. Where there are more hands than parts, the parts are dealt
     // to them in turn.
     fn home(&self, number: usize) -> &Mutex<Part<K, A, B>> {
-        &self.parts[number % self.parts.len()]
+        let count = self.parts.len();
+        // A division takes as long as all that an exchange does under the lock, so it is made for those hands alone.
+        if number < count {
+            &self.parts[number]
+        } else {
+            &self.parts[number % count]
+        }
     }
 
     // Gives a hand whose layer has no round at least one. It is kept apart, so that `Hand::take` stays short.
@@ -142,7 +149,10 @@ impl<K: Kind, A: Ledger, B: Ledger> Cache<K, A, B> {
         ensures even { OnOk result (outs.new.amount ≡ outs.old.amount + length (rounds_of layer.new)) }
         ensures fault { OnErr result ((layer.new ≡ layer.old) × (outs.new.amount ≡ outs.old.amount)) }
     {
-        if self.home(number).lock(rt).refill(layer, outs).is_ok() {
+        if lock_briefly(rt, self.home(number))
+            .refill(layer, outs)
+            .is_ok()
+        {
             return Ok(());
         }
         self.supply_inside(rt, arena, number, layer, outs)
@@ -226,7 +236,7 @@ impl<K: Kind, A: Ledger, B: Ledger> Cache<K, A, B> {
         ensures even { outs.new.amount + length (rounds_of layer.old) ≡ outs.old.amount + length (rounds_of layer.new) }
     {
         let home = self.home(number);
-        if home.lock(rt).relieve(layer, outs).is_ok() {
+        if lock_briefly(rt, home).relieve(layer, outs).is_ok() {
             return;
         }
         if let Err(refusals) = relieve_anywhere(rt, self, layer, outs) {
