@@ -18,6 +18,10 @@ use std::alloc::{AllocError, Global};
 use std::marker::Model;
 use std::mem;
 
+// How many places of a stack stay unused, beside those that all magazines need: 72 bytes. So no two stacks have magazines on one line
+// of the processor's cache, which two workers would write.
+const APART: usize = 3;
+
 /// Full magazines and empty ones. It must be ended by `end`, when no full one is left.
 pub struct Depot<K: Kind> {
     full: Vec<Magazine<K>>,
@@ -59,7 +63,9 @@ impl<K: Kind> Depot<K> {
     {
         let fulls = self.full.len();
         let empties = self.empty.len();
-        if self.full.reserve(empties + 1).is_err() || self.empty.reserve(fulls + 1).is_err() {
+        if self.full.reserve(empties + 1 + APART).is_err()
+            || self.empty.reserve(fulls + 1 + APART).is_err()
+        {
             return Err(magazine);
         }
         self.empty.push_reserved(magazine);
@@ -135,8 +141,8 @@ impl<K: Kind> Depot<K> {
     {
         let fulls = to.full.len();
         let empties = to.empty.len();
-        to.full.reserve(empties + 1)?;
-        to.empty.reserve(fulls + 1)?;
+        to.full.reserve(empties + 1 + APART)?;
+        to.empty.reserve(fulls + 1 + APART)?;
         let Some(magazine) = self.full.pop() else {
             return Ok(false);
         };

@@ -14,6 +14,10 @@ use slab_layer::{Kind, Obj, Ready};
 use std::alloc::{AllocError, Global};
 use std::marker::Model;
 
+// How many rounds could be put after those of a magazine, and never are: 64 bytes. So no two magazines have rounds on one line of
+// the processor's cache, which two workers would write.
+const APART: usize = 2;
+
 /// At most `K::ROUNDS` ready objects. It must be ended by `end`, when it is empty.
 pub struct Magazine<K: Kind> {
     rounds: Vec<Obj<K, Ready>>,
@@ -35,7 +39,7 @@ impl<K: Kind> Magazine<K> {
         ensures empty { IfOk result (λ magazine. magazine ≡ []) }
     {
         Ok(Magazine {
-            rounds: Vec::with_capacity(alloc, K::ROUNDS)?,
+            rounds: Vec::with_capacity(alloc, K::ROUNDS + APART)?,
         })
     }
 
