@@ -18,6 +18,10 @@ use crate::object::{Home, Obj};
 use crate::place::Place;
 use std::alloc::{AllocError, Global};
 
+// How many bytes are unused after those of each object. So no two objects have bytes on one line of the processor's cache, of 64 bytes,
+// where blocks of memory begin at multiples of 16. Neighbours mostly go to different workers, who would write one line.
+const APART: usize = 48;
+
 /// Memory for the objects of a page and for the tables of their slab.
 pub struct Room<K: Kind> {
     pub bytes: Vec<Vec<u8>>,
@@ -37,7 +41,9 @@ impl<K: Kind> Room<K> {
         let count = objects_of_a_page::<K>();
         let mut bytes = Vec::with_capacity(alloc, count)?;
         for _index in 0..count {
-            bytes.push_reserved(vec![in alloc; 0; K::SIZE]?);
+            let mut own = vec![in alloc; 0; K::SIZE]?;
+            own.reserve_exact(APART)?;
+            bytes.push_reserved(own);
         }
         let places = Vec::with_capacity(alloc, count)?;
         let home = Vec::with_capacity(alloc, count)?;
