@@ -119,6 +119,8 @@ impl<A: Ledger, B: Ledger> Model for ShelfHand<A, B> {
 
 /// A shelf for one object of a kind, which all hands share. It must be closed.
 pub struct Shelf<K: Kind, A: Ledger, B: Ledger> {
+    // It keeps what all workers write here off the line of the processor's cache that ends before: they may read what is there.
+    apart: [u64; 8],
     board: Mutex<Board<K, A, B>>,
     spares: [Option<Mutex<Spare<A, B>>>; MAX_HANDS as usize],
     hands: u64,
@@ -153,6 +155,7 @@ impl<K: Kind, A: Ledger, B: Ledger> Shelf<K, A, B> {
             spares[place] = Some(Mutex::new(spare));
         }
         Shelf {
+            apart: [0; 8],
             board: Mutex::new(Board {
                 object: None,
                 puts,
@@ -219,6 +222,7 @@ impl<K: Kind, A: Ledger, B: Ledger> Shelf<K, A, B> {
         ensures balance { result.puts ≡ result.gets + one_if result.object }
     {
         let Shelf {
+            apart: _,
             board,
             spares,
             hands: made,
