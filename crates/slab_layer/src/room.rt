@@ -41,8 +41,8 @@ impl<K: Kind> Room<K> {
         let count = objects_of_a_page::<K>();
         let mut bytes = Vec::with_capacity(alloc, count)?;
         for _index in 0..count {
-            let mut own = vec![in alloc; 0; K::SIZE]?;
-            own.reserve_exact(APART)?;
+            let mut own = Vec::with_capacity(alloc, K::SIZE + APART)?;
+            own.resize(K::SIZE, 0)?;
             bytes.push_reserved(own);
         }
         let places = Vec::with_capacity(alloc, count)?;
