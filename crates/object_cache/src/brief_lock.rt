@@ -9,7 +9,7 @@
 use std::hint::spin_loop;
 use std::sync::{Mutex, MutexGuard, Wait};
 
-// How often a thread pauses before it sleeps. The last pause is 4096 long, a fifth of a millisecond at most.
+// How often a thread pauses before it sleeps. The last pause is 4096 long, a fifth of a millisecond where one takes 140 cycles.
 const PAUSES: u32 = 5;
 
 // The processor pauses n times.
