@@ -1,45 +1,26 @@
 -- A run that is counted instruction by instruction: its counts are those of the run alone, whatever replies come after its own.
-use Rattle.std.proofs.Common.{◌≡◌, ℕ, ◌+◌, ◌==◌, ◌&&◌, not, cond, Bool, List, [], Option, Some, None, option_map, refl, sym, ap, ◌∙◌, subst, append_assoc, arith, add-zero, add-one, false, is_some}
-use Rattle.std.specs.Prelude.{IfNone}
+use Rattle.std.proofs.Common.{◌≡◌, ℕ, zero, suc, ◌+◌, ◌<◌, ◌==◌, get_or, true, ◌&&◌, not, cond, Bool, List, [], Option, Some, None, option_map, refl, sym, ap, ◌∙◌, subst, append_assoc, arith, add-zero, add-one}
+use Rattle.std.proofs.lemmas.Bool.Decides.{nat_tests}
 use Rattle.ebpf_verify.specs.Subject.{Subject}
 use Rattle.ebpf_machine.specs.World.{Going, kinds_of}
 use Rattle.ebpf_machine.specs.Alone.{Replies, replies_from, alone_after}
 use Rattle.ebpf_machine.specs.Replies.{replies_of, replies_in, more_than}
 use Rattle.ebpf_machine.specs.View.{RunView, view_in, stepped}
 use Rattle.ebpf_machine.specs.RunState.{RunState, status_of}
-use Rattle.ebpf_machine.specs.Step.{IsStepOver, seen_in, result_of}
+use Rattle.ebpf_machine.specs.Step.{seen_in, result_of}
 use Rattle.ebpf_machine.specs.declared.report.Report.{Report}
-use Rattle.ebpf_machine.specs.declared.run.Turn.{Turn}
-use Rattle.ebpf_machine.specs.Store.{Store, AreGone, OthersStay}
-use Rattle.ebpf_machine.specs.Turns.{IsTurn, IsAfterSteps}
+use Rattle.ebpf_machine.specs.Store.{Store}
+use Rattle.ebpf_machine.specs.Turns.{IsTurn, AreTurns, AreTurnsWithin}
 use Rattle.ebpf_machine.proofs.World.Asking.{Asks, ForNothing, ForObject, ForShelf, asks_of}
 use Rattle.ebpf_machine.proofs.World.Lone.{alone_more, none_more}
 use Rattle.ebpf_machine.proofs.World.Replies.{one_told, one_swapped, replies_kept, replies_added, replies_swapped}
 use Rattle.ebpf_machine.proofs.World.Steps.{next_of}
 use Rattle.ebpf_machine.proofs.WholeRuns.Told.{HaveSizes, IsUnderWay, sized_out, under_way}
-use Rattle.ebpf_cover.specs.declared.counts.Counts.{Counts}
-use Rattle.ebpf_cover.specs.Covered.{AreLong, IsNoted, IsRunCounted, executed_at, taken_at, times, slot_after, is_slot, is_at, leaves}
-
--- ---- one step
-
-pub none_if : (o : Option ℕ) → is_some o ≡ false → o ≡ None
-none_if None e = refl
-none_if (Some n) e = absurd cc
-
--- a step of a run that has not exited
-pub turn_of_step : {S H : Type 0} (o : Store S H) (how : Turn) (old new : S) (r t : RunState H) → r.exit ≡ None → IsAfterSteps o how r t old new
-    → IfNone r.exit (IsStepOver o r t old new) → AreGone o new r.held t.held → OthersStay o old new r.held → IfNone r.exit (t.executed ≡ r.executed + 1) → IsTurn o r t old new
-turn_of_step o how old new r t going after step gone others counted = record {
-  going = going;
-  step = subst (λ (e : Option ℕ). IfNone e (IsStepOver o r t old new)) going step;
-  out = after.out;
-  alone = after.alone;
-  sound = after.sound;
-  same = after.same;
-  gone = gone;
-  others = others;
-  counted = subst (λ (e : Option ℕ). IfNone e (t.executed ≡ r.executed + 1)) going counted;
-}
+use Rattle.ebpf_cover.specs.declared.tally.Tally.{Tally}
+use Rattle.ebpf_cover.specs.Covered.{IsRunCounted, times, slot_after, is_slot, is_at, leaves}
+use Rattle.ebpf_cover.specs.Stretches.{goes_on, IsTally, IsNoted, begun_at, executed_so_far, taken_so_far}
+use Rattle.ebpf_cover.proofs.Stretching.{IsStretch, stretch_at, is_within, passed_more}
+use Rattle.ebpf_cover.proofs.GoingOn.{straight_on}
 
 -- ---- the replies of a run after a step are those before, and maybe more
 
@@ -73,22 +54,19 @@ there v n subject context replies executed same_subject same_context seen =
 
 -- ---- counts of a run under way
 
-pub record IsCounted {S H : Type 0} (o : Store S H) (first now : S) (subject : Subject) (context : List ℕ) (n : ℕ) (r : RunState H) (old new : Counts) : Type 0 where
-  pub long : AreLong new
+-- how often each slot was executed and left, before the run and now
+pub record IsCounted {S H : Type 0} (o : Store S H) (first now : S) (subject : Subject) (context : List ℕ) (r : RunState H) (executed_old taken_old executed_new taken_new : ℕ → ℕ) : Type 0 where
   pub under : IsUnderWay o first now subject context r
-  pub done : r.executed ≡ n
-  pub executed : (more : Replies) (slot : ℕ) → executed_at new slot ≡ executed_at old slot + times (is_at subject context (more_than (replies_of (seen_in o now r)) more) slot) n
-  pub taken : (more : Replies) (slot : ℕ) → taken_at new slot ≡ taken_at old slot + times (leaves subject context (more_than (replies_of (seen_in o now r)) more) slot) n
+  pub executed : (more : Replies) (slot : ℕ) → executed_new slot ≡ executed_old slot + times (is_at subject context (more_than (replies_of (seen_in o now r)) more) slot) r.executed
+  pub taken : (more : Replies) (slot : ℕ) → taken_new slot ≡ taken_old slot + times (leaves subject context (more_than (replies_of (seen_in o now r)) more) slot) r.executed
 
-pub none_counted : {S H : Type 0} (o : Store S H) (s : S) (subject : Subject) (context : List ℕ) (r : RunState H) (counts : Counts)
-    → AreLong counts → IsUnderWay o s s subject context r → r.executed ≡ 0 → IsCounted o s s subject context 0 r counts counts
+pub none_counted : {S H : Type 0} (o : Store S H) (s : S) (subject : Subject) (context : List ℕ) (r : RunState H) (executed taken : ℕ → ℕ)
+    → IsUnderWay o s s subject context r → r.executed ≡ 0 → IsCounted o s s subject context r executed taken executed taken
 unfolding times
-none_counted o s subject context r counts long under none = record {
-  long = long;
+none_counted o s subject context r executed taken under none = record {
   under = under;
-  done = none;
-  executed = λ more slot. sym (add-zero (executed_at counts slot));
-  taken = λ more slot. sym (add-zero (taken_at counts slot));
+  executed = λ more slot. sym (add-zero (executed slot)) ∙ ap (λ (n : ℕ). executed slot + times (is_at subject context (more_than (replies_of (seen_in o s r)) more) slot) n) (sym none);
+  taken = λ more slot. sym (add-zero (taken slot)) ∙ ap (λ (n : ℕ). taken slot + times (leaves subject context (more_than (replies_of (seen_in o s r)) more) slot) n) (sym none);
 }
 
 -- one number more
@@ -96,39 +74,39 @@ one_more : (is : ℕ → Bool) (n : ℕ) → times is (n + 1) ≡ times is n + c
 unfolding times
 one_more is n = rw add-one refl
 
+-- an instruction is counted: the slot at which a run was before it, and the one after it
+record IsOneMore (at next : ℕ) (executed_old taken_old executed_new taken_new : ℕ → ℕ) : Type 0 where
+  executed : (slot : ℕ) → executed_new slot ≡ executed_old slot + cond (at == slot) 1 0
+  taken : (slot : ℕ) → taken_new slot ≡ taken_old slot + cond ((at == slot) && not (next == slot + 1)) 1 0
+
 -- one instruction more
-pub one_counted : {S H : Type 0} (o : Store S H) (first old new : S) (subject : Subject) (context : List ℕ) (n : ℕ) (r t : RunState H) (before was is : Counts)
-    → ((s : S) → HaveSizes o s) → o.kinds ≡ kinds_of subject.rows → IsCounted o first old subject context n r before was → IsTurn o r t old new
-    → AreLong is → IsNoted r.pc t.pc was is → IsCounted o first new subject context (n + 1) t before is
-one_counted o first old new subject context n r t before was is sizes kinds h turn long noted = record {
-  long = long;
+one_counted : {S H : Type 0} (o : Store S H) (first old new : S) (subject : Subject) (context : List ℕ) (r t : RunState H) (executed_old taken_old executed_was taken_was executed_is taken_is : ℕ → ℕ)
+    → ((s : S) → HaveSizes o s) → o.kinds ≡ kinds_of subject.rows → IsCounted o first old subject context r executed_old taken_old executed_was taken_was → IsTurn o r t old new
+    → IsOneMore r.pc t.pc executed_was taken_was executed_is taken_is → IsCounted o first new subject context t executed_old taken_old executed_is taken_is
+one_counted {S} {H} o first old new subject context r t executed_old taken_old executed_was taken_was executed_is taken_is sizes kinds h turn noted = record {
   under = under;
-  done = done;
   executed = λ more slot.
-      let same : is_at subject context (all more) slot n ≡ (r.pc == slot) = ap (λ (o : Option ℕ). is_slot o slot) (at_first more) in
+      let same : is_at subject context (all more) slot r.executed ≡ (r.pc == slot) = ap (λ (o : Option ℕ). is_slot o slot) (at_first more) in
       let one = ap (λ (b : Bool). cond {A = ℕ} b 1 0) same in
       let earlier = h.executed (on more) slot in
-      let again = ap (λ (rs : Replies). times (is_at subject context rs slot) n) (is_all more) in
+      let again = ap (λ (rs : Replies). times (is_at subject context rs slot) r.executed) (is_all more) in
       let more_one = noted.executed slot in
-      let counted = one_more (is_at subject context (all more) slot) n in
+      let counted = ap (times (is_at subject context (all more) slot)) turn.counted ∙ one_more (is_at subject context (all more) slot) r.executed in
       omega (arith, one, earlier, again, more_one, counted);
   taken = λ more slot.
-      let same : leaves subject context (all more) slot n ≡ ((r.pc == slot) && not (t.pc == slot + 1)) =
-      ap (λ (o : Option ℕ). is_slot o slot && not (is_at subject context (all more) (slot + 1) (n + 1))) (at_first more)
+      let same : leaves subject context (all more) slot r.executed ≡ ((r.pc == slot) && not (t.pc == slot + 1)) =
+      ap (λ (o : Option ℕ). is_slot o slot && not (is_at subject context (all more) (slot + 1) (r.executed + 1))) (at_first more)
       ∙ ap (λ (o : Option ℕ). (r.pc == slot) && not (is_slot o (slot + 1))) (at_last more) in
       let one = ap (λ (b : Bool). cond {A = ℕ} b 1 0) same in
       let earlier = h.taken (on more) slot in
-      let again = ap (λ (rs : Replies). times (leaves subject context rs slot) n) (is_all more) in
+      let again = ap (λ (rs : Replies). times (leaves subject context rs slot) r.executed) (is_all more) in
       let more_one = noted.taken slot in
-      let counted = one_more (leaves subject context (all more) slot) n in
+      let counted = ap (times (leaves subject context (all more) slot)) turn.counted ∙ one_more (leaves subject context (all more) slot) r.executed in
       omega (arith, one, earlier, again, more_one, counted);
 }
   where
     under : IsUnderWay o first new subject context t
     under = under_way o first old new subject context 1 r t sizes kinds h.under (record { run = r; store = old; before = (refl, refl); last = turn })
-
-    done : t.executed ≡ n + 1
-    done = omega (arith, turn.counted, h.done)
 
     known : o.kinds ≡ kinds_of r.subject.rows
     known = kinds ∙ ap (λ (s : Subject). kinds_of s.rows) (sym h.under.subject_is)
@@ -145,25 +123,105 @@ one_counted o first old new subject context n r t before was is sizes kinds h tu
     is_all : (more : Replies) → more_than (replies_of (seen_in o old r)) (on more) ≡ all more
     is_all more = sym (more_more (replies_of (seen_in o old r)) grew.0 more) ∙ ap (λ (rs : Replies). more_than rs more) (sym grew.1)
 
-    at_first : (more : Replies) → slot_after subject context (all more) n ≡ Some r.pc
-    at_first more = there (seen_in o old r) n subject context (all more) h.done h.under.subject_is h.under.context_is
+    at_first : (more : Replies) → slot_after subject context (all more) r.executed ≡ Some r.pc
+    at_first more = there (seen_in o old r) r.executed subject context (all more) refl h.under.subject_is h.under.context_is
         (subst (λ (rs : Replies). view_in (alone_after r.executed r.subject r.context rs).world 0 ≡ Some (seen_in o old r)) (is_all more) (alone_more (seen_in o old r) (on more) h.under.sound h.under.alone))
 
-    at_last : (more : Replies) → slot_after subject context (all more) (n + 1) ≡ Some t.pc
-    at_last more = there (seen_in o new t) (n + 1) subject context (all more) (omega (arith, done)) under.subject_is under.context_is (alone_more (seen_in o new t) more under.sound under.alone)
+    at_last : (more : Replies) → slot_after subject context (all more) (r.executed + 1) ≡ Some t.pc
+    at_last more = there (seen_in o new t) (r.executed + 1) subject context (all more) turn.counted under.subject_is under.context_is (alone_more (seen_in o new t) more under.sound under.alone)
+
+-- ---- a stretch
+
+-- n instructions that go straight on from a slot, and the run that is after them
+record IsOnTheWay {S H : Type 0} (o : Store S H) (first now : S) (subject : Subject) (context : List ℕ) (from n : ℕ) (t : RunState H) (executed_old taken_old executed_was taken_was : ℕ → ℕ) : Type 0 where
+  at : t.pc ≡ from + n
+  counted : IsCounted o first now subject context t executed_old taken_old (λ slot. executed_was slot + cond (is_within from n slot) 1 0) taken_was
+
+none_within : (at slot : ℕ) → cond {A = ℕ} (is_within at 0 slot) 1 0 ≡ 0
+none_within at slot = grind (arith, nat_tests)
+
+one_within : (at n slot : ℕ) → cond {A = ℕ} (is_within at (n + 1) slot) 1 0 ≡ cond {A = ℕ} (is_within at n slot) 1 0 + cond {A = ℕ} (at + n == slot) 1 0
+one_within at n slot = grind (arith, nat_tests)
+
+straight_counted : {S H : Type 0} (o : Store S H) (first old : S) (subject : Subject) (context : List ℕ) (r : RunState H) (executed_old taken_old executed_was taken_was : ℕ → ℕ)
+    → ((s : S) → HaveSizes o s) → o.kinds ≡ kinds_of subject.rows → IsCounted o first old subject context r executed_old taken_old executed_was taken_was
+    → (n : ℕ) → ((k : ℕ) → k < n → goes_on subject.program (r.pc + k) ≡ true) → (t : RunState H) (now : S) → AreTurns o n r t old now → t.exit ≡ None
+    → IsOnTheWay o first now subject context r.pc n t executed_old taken_old executed_was taken_was
+straight_counted {S} {H} o first old subject context r executed_old taken_old executed_was taken_was sizes kinds h zero on t now turns going = rw (turns.0, turns.1) (record {
+  at = omega arith;
+  counted = record {
+    under = h.under;
+    executed = λ more slot. let none = none_within r.pc slot in let was = h.executed more slot in omega (arith, none, was);
+    taken = h.taken;
+  };
+})
+straight_counted {S} {H} o first old subject context r executed_old taken_old executed_was taken_was sizes kinds h (suc n) on t now turns going =
+    on_the_way (straight_counted o first old subject context r executed_old taken_old executed_was taken_was sizes kinds h n (λ k below. on k (omega (arith, below))) turns.run turns.store turns.before turns.last.going)
+  where
+    not_left : (at to slot : ℕ) → to ≡ at + 1 → cond {A = ℕ} ((at == slot) && not (to == slot + 1)) 1 0 ≡ 0
+    not_left at to slot e = grind (arith, nat_tests)
+
+    on_the_way : IsOnTheWay o first turns.store subject context r.pc n turns.run executed_old taken_old executed_was taken_was → IsOnTheWay o first now subject context r.pc (suc n) t executed_old taken_old executed_was taken_was
+    on_the_way before =
+        let straight : goes_on turns.run.subject.program turns.run.pc ≡ true =
+        ap (λ (s : Subject). goes_on s.program turns.run.pc) before.counted.under.subject_is ∙ ap (goes_on subject.program) before.at ∙ on n (omega arith) in
+        let known : o.kinds ≡ kinds_of turns.run.subject.rows = kinds ∙ ap (λ (s : Subject). kinds_of s.rows) (sym before.counted.under.subject_is) in
+        let next : t.pc ≡ turns.run.pc + 1 = straight_on o turns.store now turns.run t (sizes turns.store) known before.counted.under.out before.counted.under.sound turns.last going straight in
+        record {
+          at = omega (arith, before.at, next);
+          counted = one_counted o first turns.store now subject context turns.run t executed_old taken_old _ _ _ _ sizes kinds before.counted turns.last (record {
+            executed = λ slot.
+                let one = one_within r.pc n slot in
+                let same = ap (λ (at : ℕ). cond {A = ℕ} (at == slot) 1 0) before.at in
+                let more : suc n ≡ n + 1 = omega arith in
+                let this = ap (λ (m : ℕ). cond {A = ℕ} (is_within r.pc m slot) 1 0) more in
+                omega (arith, one, same, this);
+            taken = λ slot. let none = not_left turns.run.pc t.pc slot next in omega (arith, none);
+          });
+        }
+
+-- a stretch as a whole
+pub stretch_counted : {S H : Type 0} (o : Store S H) (first old new : S) (subject : Subject) (context : List ℕ) (n : ℕ) (r t : RunState H) (executed_old taken_old : ℕ → ℕ) (was is : Tally)
+    → ((s : S) → HaveSizes o s) → o.kinds ≡ kinds_of subject.rows → IsTally subject.program was → get_or was.straight.items r.pc 0 ≡ n
+    → IsCounted o first old subject context r executed_old taken_old (executed_so_far subject.program was) (taken_so_far was) → AreTurnsWithin o (n + 1) r t old new
+    → t.executed ≡ r.executed + n + 1 → IsNoted r.pc (r.pc + n) t.pc was is
+    → IsCounted o first new subject context t executed_old taken_old (executed_so_far subject.program is) (taken_so_far is)
+stretch_counted {S} {H} o first old new subject context n r t executed_old taken_old was is sizes kinds tally straight h turns did noted = record {
+  under = whole.under;
+  executed = λ more slot. let all = passed_more (goes_on subject.program) (begun_at was) (begun_at is) r.pc n stretch noted.begun slot in let done = whole.executed more slot in omega (arith, all, done);
+  taken = λ more slot. let done = whole.taken more slot in done;
+}
+  where
+    stretch : IsStretch (goes_on subject.program) r.pc n
+    stretch = stretch_at subject.program was.straight.items tally.straight n r.pc straight
+
+    number : turns.number ≡ suc n
+    number = omega (arith, turns.counted, did)
+
+    are : AreTurns o (suc n) r t old new
+    are = subst (λ (m : ℕ). AreTurns o m r t old new) number turns.turns
+
+    before : IsOnTheWay o first are.store subject context r.pc n are.run executed_old taken_old (executed_so_far subject.program was) (taken_so_far was)
+    before = straight_counted o first old subject context r executed_old taken_old (executed_so_far subject.program was) (taken_so_far was) sizes kinds h n stretch.straight are.run are.store are.before are.last.going
+
+    whole : IsCounted o first new subject context t executed_old taken_old (λ slot. executed_so_far subject.program was slot + cond (is_within r.pc (n + 1) slot) 1 0) (taken_so_far is)
+    whole = one_counted o first are.store new subject context are.run t executed_old taken_old _ _ _ _ sizes kinds before.counted are.last (record {
+      executed = λ slot. let one = one_within r.pc n slot in let same = ap (λ (at : ℕ). cond {A = ℕ} (at == slot) 1 0) before.at in omega (arith, one, same);
+      taken = λ slot. noted.taken slot ∙ ap (λ (at : ℕ). taken_so_far was slot + cond ((at == slot) && not (t.pc == slot + 1)) 1 0) (sym before.at);
+    })
 
 -- a whole run that was answered what a report says
-pub run_counted : {S H : Type 0} (o : Store S H) (first now : S) (subject : Subject) (context : List ℕ) (n : ℕ) (r : RunState H) (old new : Counts) (ended report : Report)
-    → IsCounted o first now subject context n r old new → n ≡ report.executed → ended.answers ≡ r.replies → ended.taken ≡ r.taken
-    → ended.answers ≡ report.answers → ended.taken ≡ report.taken → IsRunCounted subject context report old new
-run_counted o first now subject context n r old new ended report h long answers taken same_answers same_taken = record {
-  executed = λ slot. by (is_at subject context) executed_at slot (h.executed (replies_from [] []) slot);
-  taken = λ slot. by (leaves subject context) taken_at slot (h.taken (replies_from [] []) slot);
+pub run_counted : {S H : Type 0} (o : Store S H) (first now : S) (subject : Subject) (context : List ℕ) (r : RunState H) (executed_old taken_old executed_new taken_new : ℕ → ℕ) (ended report : Report)
+    → IsCounted o first now subject context r executed_old taken_old executed_new taken_new → ended.executed ≡ r.executed → ended.answers ≡ r.replies → ended.taken ≡ r.taken
+    → ended.executed ≡ report.executed → ended.answers ≡ report.answers → ended.taken ≡ report.taken → IsRunCounted subject context report executed_old taken_old executed_new taken_new
+run_counted o first now subject context r executed_old taken_old executed_new taken_new ended report h long answers taken same_long same_answers same_taken = record {
+  executed = λ slot. by (is_at subject context) slot (executed_old slot) (executed_new slot) (h.executed (replies_from [] []) slot);
+  taken = λ slot. by (leaves subject context) slot (taken_old slot) (taken_new slot) (h.taken (replies_from [] []) slot);
 }
   where
     all : more_than (replies_of (seen_in o now r)) (replies_from [] []) ≡ replies_in report
     all = none_more (replies_of (seen_in o now r)) ∙ (λ i. replies_from ((sym answers ∙ same_answers) i) ((sym taken ∙ same_taken) i))
 
-    by : (is : Replies → ℕ → ℕ → Bool) (at : Counts → ℕ → ℕ) (slot : ℕ) → at new slot ≡ at old slot + times (is (more_than (replies_of (seen_in o now r)) (replies_from [] [])) slot) n
-        → at new slot ≡ at old slot + times (is (replies_in report) slot) report.executed
-    by is at slot e = e ∙ ap (λ (rs : Replies). at old slot + times (is rs slot) n) all ∙ ap (λ (m : ℕ). at old slot + times (is (replies_in report) slot) m) long
+    by : (is : Replies → ℕ → ℕ → Bool) (slot old new : ℕ) → new ≡ old + times (is (more_than (replies_of (seen_in o now r)) (replies_from [] [])) slot) r.executed
+        → new ≡ old + times (is (replies_in report) slot) report.executed
+    by is slot old new e = e ∙ ap (λ (rs : Replies). old + times (is rs slot) r.executed) all ∙ ap (λ (m : ℕ). old + times (is (replies_in report) slot) m) (sym long ∙ same_long)

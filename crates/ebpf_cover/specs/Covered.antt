@@ -67,15 +67,10 @@ executed_at c slot = get_or c.executed.items slot 0
 abbrev pub taken_at : Counts → ℕ → ℕ
 taken_at c slot = get_or c.taken.items slot 0
 
--- a run that was at a slot and then at another is counted
-pub record IsNoted (at next : ℕ) (old new : Counts) : Type 0 where
-  pub executed : (slot : ℕ) → executed_at new slot ≡ executed_at old slot + cond (at == slot) 1 0
-  pub taken : (slot : ℕ) → taken_at new slot ≡ taken_at old slot + cond ((at == slot) && not (next == slot + 1)) 1 0
-
--- so is a whole run, by its report
-pub record IsRunCounted (s : Subject) (context : List ℕ) (r : Report) (old new : Counts) : Type 0 where
-  pub executed : (slot : ℕ) → executed_at new slot ≡ executed_at old slot + executed_by s context slot r
-  pub taken : (slot : ℕ) → taken_at new slot ≡ taken_at old slot + taken_by s context slot r
+-- a whole run is counted, by its report: how often each slot was executed and left, before and after
+pub record IsRunCounted (s : Subject) (context : List ℕ) (r : Report) (executed_old taken_old executed_new taken_new : ℕ → ℕ) : Type 0 where
+  pub executed : (slot : ℕ) → executed_new slot ≡ executed_old slot + executed_by s context slot r
+  pub taken : (slot : ℕ) → taken_new slot ≡ taken_old slot + taken_by s context slot r
 
 -- the counts of a program over all jobs
 pub record AreCounts (s : Subject) (program : ℕ) (jobs : List Job) (reports : List Report) (c : Counts) : Type 0 where

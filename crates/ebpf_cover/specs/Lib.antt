@@ -1,3 +1,4 @@
 pub mod Covered
+pub mod Stretches
 pub mod Exchange
 pub mod Answering

@@ -1,12 +1,14 @@
 //! The counts of a program over jobs that were done.
 
-ghost use Rattle.std.specs.Prelude.{◌≡◌, length, true, IfOk, OnOk};
+ghost use Rattle.std.specs.Prelude.{◌≡◌, length, true, IfOk};
 ghost use Rattle.ebpf_machine.specs.World.{kinds_of};
 ghost use Rattle.ebpf_machine.specs.Kinds.{known_kinds};
-ghost use Rattle.ebpf_cover.specs.Covered.{AreLong, AreCounts, IsRunCounted};
+ghost use Rattle.ebpf_cover.specs.Covered.{AreCounts, IsRunCounted};
+ghost use Rattle.ebpf_cover.specs.Stretches.{IsTally, executed_so_far, taken_so_far};
 
 use crate::counts::Counts;
 use crate::replaying::Replaying;
+use crate::tally::Tally;
 use ebpf_machine::ended::Ended;
 use ebpf_machine::report::Reply;
 use ebpf_machine::run::Run;
@@ -30,7 +32,8 @@ pub fn cover(
     requires all { length reports.now ≡ length jobs.now }
     ensures { IfOk result (AreCounts verified.now program jobs.now reports.now) }
 {
-    let mut counts = Counts::none(alloc)?;
+    let mut tally = Tally::none(alloc, verified)?;
+    let mut workspace = Workspace::new(alloc)?;
     let mut left = reports.iter();
     'covered: for index in 0..jobs.len() {
         let Some(report) = left.next() else {
@@ -38,51 +41,69 @@ pub fn cover(
         };
         let job = &jobs[index];
         if job.program == program {
-            count_run(alloc, verified, &job.context.bytes, report, &mut counts)?;
+            workspace = count_run(
+                alloc,
+                workspace,
+                verified,
+                &job.context.bytes,
+                report,
+                &mut tally,
+            )?;
         }
     }
-    Ok(counts)
+    workspace.free();
+    tally.counts(verified)
 }
 
-// Counts what one run executed, by its report. It fails only where memory runs out, or a count would not fit 64 bits.
+// Counts what one run executed, by its report, in the memory of another, and gives the memory back. It fails only where memory runs
+// out, or a count would not fit 64 bits.
 fn count_run(
     alloc: Global,
+    workspace: Workspace<Object>,
     verified: &Verified,
     context: &[u8],
     report: &JobReport,
-    counts: &mut Counts,
-) -> Result<(), AllocError>
+    tally: &mut Tally,
+) -> Result<Workspace<Object>, AllocError>
     requires known { kinds_of verified.now.rows ≡ known_kinds }
-    requires long { AreLong counts.old }
-    ensures long { AreLong counts.new }
-    ensures counted { OnOk result (IsRunCounted verified.now context.now report.now counts.old counts.new) }
+    requires tally { IsTally verified.now.program tally.old }
+    ensures tally { IsTally verified.now.program tally.new }
+    ensures counted { IfOk result (λ _. IsRunCounted verified.now context.now report.now (executed_so_far verified.now.program tally.old) (taken_so_far tally.old) (executed_so_far verified.now.program tally.new) (taken_so_far tally.new)) }
 {
     let mut store = Replaying::new(alloc, report.answers(), report.taken());
-    let workspace = Workspace::new(alloc)?;
     let Ok(mut run) = Run::start_in(workspace, verified, context) else {
         return Err(AllocError);
     };
-    'counting: for _ in 0..report.executed() {
-        if run.exit().is_some() {
+    'counting: while run.exit().is_none() {
+        let first = run.pc();
+        let more = tally.straight_from(first);
+        let before = run.executed();
+        run.run(&mut store, more as u64 + 1);
+        if run.executed() - before != more as u64 + 1 {
             return Err(AllocError);
         }
-        let at = run.pc();
-        run.step(&mut store);
-        counts.note(at, run.pc())?;
+        tally.note(first, first + more, run.pc())?;
     }
     let ended = run.end_in_place(&mut store);
-    let same = is_answered_as(&ended, report);
-    ended.forget().free();
-    // The store answers otherwise than the report only where its memory runs out.
-    if same { Ok(()) } else { Err(AllocError) }
+    let same = is_done_as(&ended, report);
+    let workspace = ended.forget();
+    if !same {
+        workspace.free();
+        // The store answers otherwise than the report only where its memory runs out.
+        return Err(AllocError);
+    }
+    Ok(workspace)
 }
 
-// Whether a run was answered what the report says.
-fn is_answered_as(ended: &Ended<Object>, report: &JobReport) -> bool
+// Whether a run did as many instructions as the report says, and was answered what it says.
+fn is_done_as(ended: &Ended<Object>, report: &JobReport) -> bool
+    ensures executed { result ≡ true → ended.now.executed ≡ report.now.executed }
     ensures answers { result ≡ true → ended.now.answers ≡ report.now.answers }
     ensures taken { result ≡ true → ended.now.taken ≡ report.now.taken }
 {
-    are_same_replies(ended.answers(), report.answers()) && ended.taken() == report.taken()
+    ended.executed() == report.executed()
+        && are_same_replies(ended.answers(), report.answers())
+        && ended.taken() == report.taken()
 }
 
 // Whether two lists of replies are the same.

@@ -1,29 +1,39 @@
-use Rattle.std.proofs.Common.{◌≡◌, false, is_some, ap, rules}
+use Rattle.std.proofs.Common.{◌≡◌, ◌+◌, ℕ, get_or, ap, sym, ◌∙◌, subst, rules, arith}
 use Rattle.ebpf_machine.specs.RunState.{RunState}
 use Rattle.ebpf_machine.proofs.WholeRuns.Starts.{starts}
 use Rattle.ebpf_cover.specs.Answering.{answering}
-use Rattle.ebpf_cover.proofs.Counting.{none_if, none_counted, one_counted, run_counted, turn_of_step}
+use Rattle.ebpf_cover.specs.Stretches.{AreStraight}
+use Rattle.ebpf_cover.proofs.Counting.{none_counted, stretch_counted, run_counted}
 use Rattle.ebpf_cover.proofs.cover.count_run.Goals as goal
 
 pub counting-init : goal.counting-init
 counting-init c =
-    let s = c.new-store.result in
-    none_counted answering s _ _ c.in-Ok.run' c.args.counts.now c.requires.long
-    (starts answering s _ _ c.in-Ok.run' c.in-Ok.ensures.started (c.in-Ok.ensures.sound (λ o. o.bytes.items)))
-    (ap (λ (r : RunState _). r.executed) c.in-Ok.ensures.started)
+    let s = c.new-store.result in record {
+      tally = c.requires.tally;
+      counted =
+          none_counted answering s _ _ c.in-Ok.run' _ _
+          (starts answering s _ _ c.in-Ok.run' c.in-Ok.ensures.started (c.in-Ok.ensures.sound (λ o. o.bytes.items)))
+          (ap (λ (r : RunState _). r.executed) c.in-Ok.ensures.started);
+    }
 
 pub counting-preserved : goal.counting-preserved
 counting-preserved c =
-    let on : is_some c.counting.run.exit ≡ false = search rules in
-    let step = c.step.ensures in
-    one_counted answering _ _ _ _ _ c.counting.counter c.counting.run c.step.new.self _ c.counting.counts c.note.new.self (λ s o out. (out.sized.size, out.sized.known))
-    (let known = c.requires.known in search rules) c.counting.invariant (turn_of_step answering _ _ _ _ _ (none_if _ on) step.after step.step step.gone step.others step.counted)
-    c.in_ok-note.ensures.long (rw (← c.pc-at.ensures.value, ← c.pc.ensures.value) c.in_ok-note.ensures.noted)
+    let was = c.counting.tally in
+    let is = c.note.new.self in
+    let straight = ap (λ (slot : ℕ). get_or was.straight.items slot 0) (sym c.pc-first.ensures.value) ∙ sym c.straight_from-more.ensures.value in
+    let did : c.run.new.self.executed ≡ c.counting.run.executed + c.straight_from-more.result + 1 = omega (arith, c.if-executed-before.false, c.executed.ensures.value, c.executed-before.ensures.value, c.run.ensures.turns.counted) in record {
+      tally = record { wide = c.in_ok-note.ensures.wide; straight = subst (AreStraight c.args.verified.now.program) (sym c.in_ok-note.ensures.straight) c.counting.invariant.tally.straight };
+      counted =
+          stretch_counted answering _ _ _ c.args.verified.now _ c.straight_from-more.result c.counting.run c.run.new.self _ _ was is (λ s o out. (out.sized.size, out.sized.known)) (sym c.requires.known)
+          c.counting.invariant.tally straight c.counting.invariant.counted c.run.ensures.turns did
+          (rw (← c.pc-first.ensures.value, ← c.pc.ensures.value) c.in_ok-note.ensures.noted);
+    }
 
-pub returns-then-same-clause-counted : goal.returns-then-same-clause-counted
-returns-then-same-clause-counted c =
-    let long : c.counting.counter ≡ c.args.report.now.executed = search rules in
+pub returns-clause-counted : goal.returns-clause-counted
+returns-clause-counted c =
     let ended = c.end_in_place-ended.ensures in
-    run_counted answering _ _ _ _ c.counting.counter c.counting.run _ c.counting.counts c.end_in_place-ended.result c.args.report.now c.counting.invariant long ended.answers ended.taken
-    (let same : c.end_in_place-ended.result.answers ≡ c.args.report.now.answers = search rules in same)
-    (let same : c.end_in_place-ended.result.taken ≡ c.args.report.now.taken = search rules in same)
+    let report = c.args.report.now in
+    run_counted answering _ _ _ _ c.counting.run _ _ _ _ c.end_in_place-ended.result report c.counting.invariant.counted ended.executed ended.answers ended.taken
+    (let same : c.end_in_place-ended.result.executed ≡ report.executed = search rules in same)
+    (let same : c.end_in_place-ended.result.answers ≡ report.answers = search rules in same)
+    (let same : c.end_in_place-ended.result.taken ≡ report.taken = search rules in same)

@@ -1,13 +1,22 @@
 use Rattle.std.proofs.Common.{◌≡◌, ◌≢◌, ◌+◌, ◌∷◌, drop, length, get_or, ap, sym, ◌∙◌, subst, rules, arith}
 use Rattle.ebpf_pool.specs.declared.jobs.Job.{Job}
+use Rattle.ebpf_cover.specs.declared.tally.Tally.{Tally}
 use Rattle.ebpf_cover.specs.Covered.{IsRunCounted}
-use Rattle.ebpf_cover.proofs.Summing.{AreCountsTo, job_counted, job_passed, all_counted, is_same, is_other, next_is, rest_is, some_left}
-use Rattle.ebpf_cover.proofs.cover.cover.Goals.{then-job-program+in_ok-count_run, else-job-program}
+use Rattle.ebpf_cover.specs.Stretches.{IsTally, executed_so_far, taken_so_far}
+use Rattle.ebpf_cover.proofs.Summing.{AreCountsTo, none_before, job_counted, job_passed, all_ok, is_same, is_other, next_is, rest_is, some_left}
+use Rattle.ebpf_cover.proofs.cover.cover.Goals.{then-job-program+in_ok-workspace-2, else-job-program}
 use Rattle.ebpf_cover.proofs.cover.cover.Goals as goal
 
 pub unreachable-requires : goal.unreachable-requires
 unreachable-requires c =
     some_left c.args.reports.now c.covered.index (omega (arith, c.covered-test.true, c.requires.all)) (sym c.covered.invariant.left ∙ c.in_default.ensures.0)
+
+pub covered-init : goal.covered-init
+covered-init c = record {
+  left = c.iter-left.ensures;
+  tally = c.in_ok-tally.ensures.tally;
+  counted = none_before c.args.verified.now c.args.program c.args.jobs.now c.args.reports.now c.in_ok-tally.tally c.in_ok-tally.ensures.begun c.in_ok-tally.ensures.taken;
+}
 
 pub covered-preserved : goal.covered-preserved
 covered-preserved c =
@@ -22,9 +31,19 @@ covered-preserved c =
     let left : drop k reports ≡ report ∷ c.next.new.self = sym i.left ∙ (search rules) in
     let same : get_or reports k report ≡ report = next_is reports c.next.new.self k report left in record {
       left = rest_is reports c.next.new.self k report left;
-      counted = elim c.if-job-program.branch [ then-job-program+in_ok-count_run w ↦ subst (AreCountsTo s c.args.program jobs reports (k + 1)) (sym w.counts-is) (job_counted s c.args.program jobs reports k c.covered.counts w.count_run.new.counts job report c.covered-test.true c.requires.all there same (is_same job.program c.args.program (sym (ap (λ (j : Job). j.program) c.job.view_is) ∙ w.if-job-program.true)) i.counted w.in_ok-count_run.ensures.long (subst (λ bytes. IsRunCounted s bytes report c.covered.counts w.count_run.new.counts) (w.deref.ensures.value ∙ ap (λ (j : Job). j.context) c.job.view_is) w.in_ok-count_run.ensures.counted)) | else-job-program w ↦ subst (AreCountsTo s c.args.program jobs reports (k + 1)) (sym w.counts-is) (job_passed s c.args.program jobs reports k c.covered.counts job c.covered-test.true c.requires.all there (let others : job.program ≢ c.args.program = λ e. w.if-job-program.false (ap (λ (j : Job). j.program) c.job.view_is ∙ e) in is_other _ _ others) i.counted) ];
+      tally = elim c.if-job-program.branch [ then-job-program+in_ok-workspace-2 w ↦ subst (IsTally s.program) (sym w.tally-is) w.in_ok-workspace-2.ensures.tally | else-job-program w ↦ subst (IsTally s.program) (sym w.tally-is) i.tally ];
+      counted = elim c.if-job-program.branch [
+        | then-job-program+in_ok-workspace-2 w ↦
+            subst (λ (t : Tally). AreCountsTo s c.args.program jobs reports (k + 1) (executed_so_far s.program t) (taken_so_far t)) (sym w.tally-is)
+            (job_counted s c.args.program jobs reports k _ _ _ _ job report c.covered-test.true c.requires.all there same (is_same job.program c.args.program (sym (ap (λ (j : Job). j.program) c.job.view_is) ∙ w.if-job-program.true)) i.counted
+            (subst (λ bytes. IsRunCounted s bytes report (executed_so_far s.program c.covered.tally) (taken_so_far c.covered.tally) (executed_so_far s.program w.count_run.new.tally) (taken_so_far w.count_run.new.tally)) (w.deref.ensures.value ∙ ap (λ (j : Job). j.context) c.job.view_is) w.in_ok-workspace-2.ensures.counted))
+        | else-job-program w ↦
+            subst (λ (t : Tally). AreCountsTo s c.args.program jobs reports (k + 1) (executed_so_far s.program t) (taken_so_far t)) (sym w.tally-is)
+            (job_passed s c.args.program jobs reports k _ _ job c.covered-test.true c.requires.all there (let others : job.program ≢ c.args.program = λ e. w.if-job-program.false (ap (λ (j : Job). j.program) c.job.view_is ∙ e) in is_other _ _ others) i.counted)
+      ];
     }
 
 pub returns : goal.returns
 returns c =
-    all_counted _ _ _ _ c.covered.index c.covered.counts (let last : c.covered.index ≡ length c.args.jobs.now = search rules in last) c.requires.all c.covered.invariant.counted
+    let counts = c.counts.ensures in
+    all_ok _ _ _ _ c.covered.index _ _ c.counts.result (let last : c.covered.index ≡ length c.args.jobs.now = omega (arith, c.covered-test.false, c.covered.auto.index-end) in last) c.requires.all c.covered.invariant.counted counts.long counts.executed counts.taken
