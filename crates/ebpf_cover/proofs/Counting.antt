@@ -1,5 +1,6 @@
 -- A run that is counted instruction by instruction: its counts are those of the run alone, whatever replies come after its own.
 use Rattle.std.proofs.Common.{◌≡◌, ℕ, zero, suc, ◌+◌, ◌<◌, ◌==◌, get_or, true, ◌&&◌, not, cond, Bool, List, [], Option, Some, None, option_map, refl, sym, ap, ◌∙◌, subst, append_assoc, arith, add-zero, add-one}
+use Rattle.std.specs.Prelude.{IfNone}
 use Rattle.std.proofs.lemmas.Bool.Decides.{nat_tests}
 use Rattle.ebpf_verify.specs.Subject.{Subject}
 use Rattle.ebpf_machine.specs.World.{Going, kinds_of}
@@ -7,10 +8,11 @@ use Rattle.ebpf_machine.specs.Alone.{Replies, replies_from, alone_after}
 use Rattle.ebpf_machine.specs.Replies.{replies_of, replies_in, more_than}
 use Rattle.ebpf_machine.specs.View.{RunView, view_in, stepped}
 use Rattle.ebpf_machine.specs.RunState.{RunState, status_of}
-use Rattle.ebpf_machine.specs.Step.{seen_in, result_of}
+use Rattle.ebpf_machine.specs.Step.{IsStepOver, seen_in, result_of}
 use Rattle.ebpf_machine.specs.declared.report.Report.{Report}
-use Rattle.ebpf_machine.specs.Store.{Store}
-use Rattle.ebpf_machine.specs.Turns.{IsTurn, AreTurns, AreTurnsWithin}
+use Rattle.ebpf_machine.specs.declared.run.Turn.{Turn}
+use Rattle.ebpf_machine.specs.Store.{Store, AreGone, OthersStay}
+use Rattle.ebpf_machine.specs.Turns.{IsTurn, IsAfterSteps, AreTurns, AreTurnsWithin}
 use Rattle.ebpf_machine.proofs.World.Asking.{Asks, ForNothing, ForObject, ForShelf, asks_of}
 use Rattle.ebpf_machine.proofs.World.Lone.{alone_more, none_more}
 use Rattle.ebpf_machine.proofs.World.Replies.{one_told, one_swapped, replies_kept, replies_added, replies_swapped}
@@ -21,6 +23,31 @@ use Rattle.ebpf_cover.specs.Covered.{IsRunCounted, times, slot_after, is_slot, i
 use Rattle.ebpf_cover.specs.Stretches.{goes_on, IsTally, IsNoted, begun_at, executed_so_far, taken_so_far}
 use Rattle.ebpf_cover.proofs.Stretching.{IsStretch, stretch_at, is_within, passed_more}
 use Rattle.ebpf_cover.proofs.GoingOn.{straight_on}
+
+-- ---- steps
+
+-- a step of a run that has not exited
+pub turn_of_step : {S H : Type 0} (o : Store S H) (how : Turn) (old new : S) (r t : RunState H) → r.exit ≡ None → IsAfterSteps o how r t old new → IfNone r.exit (IsStepOver o r t old new)
+    → AreGone o new r.held t.held → OthersStay o old new r.held → IfNone r.exit (t.executed ≡ r.executed + 1) → IsTurn o r t old new
+turn_of_step o how old new r t going after step gone others counted = record {
+  going = going;
+  step = subst (λ (e : Option ℕ). IfNone e (IsStepOver o r t old new)) going step;
+  out = after.out;
+  alone = after.alone;
+  sound = after.sound;
+  same = after.same;
+  gone = gone;
+  others = others;
+  counted = subst (λ (e : Option ℕ). IfNone e (t.executed ≡ r.executed + 1)) going counted;
+}
+
+-- it is n steps and one, where n is 0
+pub one_turn : {S H : Type 0} (o : Store S H) (n : ℕ) (old new : S) (r t : RunState H) → n ≡ 0 → IsTurn o r t old new → AreTurns o (n + 1) r t old new
+one_turn {S} {H} o n old new r t none turn = let one : 1 ≡ n + 1 = omega (arith, none) in subst (λ (m : ℕ). AreTurns o m r t old new) one (record { run = r; store = old; before = (refl, refl); last = turn })
+
+-- n steps and one are all that a run does within this limit, where it counts as many
+pub all_turns : {S H : Type 0} (o : Store S H) (n : ℕ) (old new : S) (r t : RunState H) → AreTurnsWithin o (n + 1) r t old new → t.executed ≡ r.executed + n + 1 → AreTurns o (n + 1) r t old new
+all_turns o n old new r t turns did = let number : turns.number ≡ n + 1 = omega (arith, turns.counted, did) in subst (λ (m : ℕ). AreTurns o m r t old new) number turns.turns
 
 -- ---- the replies of a run after a step are those before, and maybe more
 
@@ -183,10 +210,10 @@ straight_counted {S} {H} o first old subject context r executed_old taken_old ex
 -- a stretch as a whole
 pub stretch_counted : {S H : Type 0} (o : Store S H) (first old new : S) (subject : Subject) (context : List ℕ) (n : ℕ) (r t : RunState H) (executed_old taken_old : ℕ → ℕ) (was is : Tally)
     → ((s : S) → HaveSizes o s) → o.kinds ≡ kinds_of subject.rows → IsTally subject.program was → get_or was.straight.items r.pc 0 ≡ n
-    → IsCounted o first old subject context r executed_old taken_old (executed_so_far subject.program was) (taken_so_far was) → AreTurnsWithin o (n + 1) r t old new
-    → t.executed ≡ r.executed + n + 1 → IsNoted r.pc (r.pc + n) t.pc was is
+    → IsCounted o first old subject context r executed_old taken_old (executed_so_far subject.program was) (taken_so_far was) → AreTurns o (n + 1) r t old new
+    → IsNoted r.pc (r.pc + n) t.pc was is
     → IsCounted o first new subject context t executed_old taken_old (executed_so_far subject.program is) (taken_so_far is)
-stretch_counted {S} {H} o first old new subject context n r t executed_old taken_old was is sizes kinds tally straight h turns did noted = record {
+stretch_counted {S} {H} o first old new subject context n r t executed_old taken_old was is sizes kinds tally straight h turns noted = record {
   under = whole.under;
   executed = λ more slot. let all = passed_more (goes_on subject.program) (begun_at was) (begun_at is) r.pc n stretch noted.begun slot in let done = whole.executed more slot in omega (arith, all, done);
   taken = λ more slot. let done = whole.taken more slot in done;
@@ -195,11 +222,8 @@ stretch_counted {S} {H} o first old new subject context n r t executed_old taken
     stretch : IsStretch (goes_on subject.program) r.pc n
     stretch = stretch_at subject.program was.straight.items tally.straight n r.pc straight
 
-    number : turns.number ≡ suc n
-    number = omega (arith, turns.counted, did)
-
     are : AreTurns o (suc n) r t old new
-    are = subst (λ (m : ℕ). AreTurns o m r t old new) number turns.turns
+    are = let same : n + 1 ≡ suc n = omega arith in subst (λ (m : ℕ). AreTurns o m r t old new) same turns
 
     before : IsOnTheWay o first are.store subject context r.pc n are.run executed_old taken_old (executed_so_far subject.program was) (taken_so_far was)
     before = straight_counted o first old subject context r executed_old taken_old (executed_so_far subject.program was) (taken_so_far was) sizes kinds h n stretch.straight are.run are.store are.before are.last.going

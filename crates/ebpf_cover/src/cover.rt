@@ -1,8 +1,15 @@
 //! The counts of a program over jobs that were done.
 
-ghost use Rattle.std.specs.Prelude.{◌≡◌, length, true, IfOk};
+ghost use Rattle.std.specs.Prelude.{◌≡◌, ◌<◌, ◌≤◌, ◌+◌, None, length, true, IfOk};
+ghost use Rattle.ebpf_insn.specs.declared.program.TheConstants.{MAX_SLOTS};
+ghost use Rattle.ebpf_insn.specs.Program.{instructions};
 ghost use Rattle.ebpf_machine.specs.World.{kinds_of};
 ghost use Rattle.ebpf_machine.specs.Kinds.{known_kinds};
+ghost use Rattle.ebpf_machine.specs.Sound.{IsAlone};
+ghost use Rattle.ebpf_machine.specs.Step.{seen_in};
+ghost use Rattle.ebpf_machine.specs.Store.{AreOut};
+ghost use Rattle.ebpf_machine.specs.Turns.{AreTurns};
+ghost use Rattle.ebpf_cover.specs.Answering.{answering};
 ghost use Rattle.ebpf_cover.specs.Covered.{AreCounts, IsRunCounted};
 ghost use Rattle.ebpf_cover.specs.Stretches.{IsTally, executed_so_far, taken_so_far};
 
@@ -77,9 +84,7 @@ fn count_run(
     'counting: while run.exit().is_none() {
         let first = run.pc();
         let more = tally.straight_from(first);
-        let before = run.executed();
-        run.run(&mut store, more as u64 + 1);
-        if run.executed() - before != more as u64 + 1 {
+        if !run_stretch(&mut run, &mut store, more as u64) {
             return Err(AllocError);
         }
         tally.note(first, first + more, run.pc())?;
@@ -93,6 +98,29 @@ fn count_run(
         return Err(AllocError);
     }
     Ok(workspace)
+}
+
+// Does n instructions of a run that goes on, and one more, and says whether all were done.
+#[inline(always)]
+fn run_stretch(run: &mut Run<'_, Object>, store: &mut Replaying<'_>, more: u64) -> bool
+    requires known { known_kinds ≡ kinds_of run.old.subject.rows }
+    requires out { AreOut answering store.old run.old.held }
+    requires alone { IsAlone (seen_in answering store.old run.old) }
+    requires going { run.old.exit ≡ None }
+    requires few { more < MAX_SLOTS }
+    ensures turns { result ≡ true → AreTurns answering (more + 1) run.old run.new store.old store.new }
+    ensures counted { result ≡ true → run.new.executed ≡ run.old.executed + more + 1 }
+    ensures bounded { run.new.executed ≤ length (instructions run.new.subject.program) }
+    ensures same { run.new.subject ≡ run.old.subject }
+{
+    // A step alone takes less time than a run of one instruction.
+    if more == 0 {
+        run.step(store);
+        return true;
+    }
+    let before = run.executed();
+    run.run(store, more + 1);
+    run.executed() - before == more + 1
 }
 
 // Whether a run did as many instructions as the report says, and was answered what it says.

@@ -1,4 +1,4 @@
-use Rattle.std.proofs.Common.{◌≡◌, ◌+◌, ℕ, get_or, ap, sym, ◌∙◌, subst, rules, arith}
+use Rattle.std.proofs.Common.{◌≡◌, ℕ, get_or, ap, sym, ◌∙◌, subst, rules}
 use Rattle.ebpf_machine.specs.RunState.{RunState}
 use Rattle.ebpf_machine.proofs.WholeRuns.Starts.{starts}
 use Rattle.ebpf_cover.specs.Answering.{answering}
@@ -20,12 +20,14 @@ pub counting-preserved : goal.counting-preserved
 counting-preserved c =
     let was = c.counting.tally in
     let is = c.note.new.self in
-    let straight = ap (λ (slot : ℕ). get_or was.straight.items slot 0) (sym c.pc-first.ensures.value) ∙ sym c.straight_from-more.ensures.value in
-    let did : c.run.new.self.executed ≡ c.counting.run.executed + c.straight_from-more.result + 1 = omega (arith, c.if-executed-before.false, c.executed.ensures.value, c.executed-before.ensures.value, c.run.ensures.turns.counted) in record {
-      tally = record { wide = c.in_ok-note.ensures.wide; straight = subst (AreStraight c.args.verified.now.program) (sym c.in_ok-note.ensures.straight) c.counting.invariant.tally.straight };
+    let straight = ap (λ (slot : ℕ). get_or was.straight.items slot 0) (sym c.pc-first.ensures.value) ∙ sym c.straight_from-more.ensures.value in record {
+      tally = record {
+        wide = c.in_ok-note.ensures.wide;
+        straight = subst (AreStraight c.args.verified.now.program) (sym c.in_ok-note.ensures.straight) c.counting.invariant.tally.straight;
+      };
       counted =
-          stretch_counted answering _ _ _ c.args.verified.now _ c.straight_from-more.result c.counting.run c.run.new.self _ _ was is (λ s o out. (out.sized.size, out.sized.known)) (sym c.requires.known)
-          c.counting.invariant.tally straight c.counting.invariant.counted c.run.ensures.turns did
+          stretch_counted answering _ _ _ c.args.verified.now _ c.straight_from-more.result c.counting.run c.run_stretch.new.run _ _ was is (λ s o out. (out.sized.size, out.sized.known)) (sym c.requires.known)
+          c.counting.invariant.tally straight c.counting.invariant.counted (c.run_stretch.ensures.turns c.if-not-run_stretch.false)
           (rw (← c.pc-first.ensures.value, ← c.pc.ensures.value) c.in_ok-note.ensures.noted);
     }
 
