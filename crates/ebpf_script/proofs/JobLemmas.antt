@@ -143,25 +143,8 @@ again_is script text name rest a is allowed first one line named number declared
 neither : (c : ℕ) → (c == 10 || is_gap c) ≡ false → ((c == 10) ≡ false) × (is_gap c ≡ false)
 neither c h = or_parts (c == 10) (is_gap c) h
 
-pub word_ends : (c : ℕ) → c ≡ 10 → (c == 10) ≡ true
-word_ends c ten = rw ten refl
-
-pub first_word : (text : List ℕ) (i : ℕ) → i ≤ length text → All (λ c. (c == 10 || is_gap c) ≡ false) (take i text)
-    → (i < length text → (get_or text i 0 == 10) ≡ true) → IsFirst text (take i text)
-first_word text i within none ends =
-    let long : length (take i text) ≡ i = length-take-le i text within in
-    record {
-      within = omega (arith, long, within);
-      begins = rw long refl;
-      one = λ k d below. (neither (get_or (take i text) k d) (none k d below)).0;
-      ends = rw long ends;
-    }
-
 pub one_word : (text : List ℕ) (i : ℕ) → i ≤ length text → 0 < i → All (λ c. (c == 10 || is_gap c) ≡ false) (take i text) → words (take i text) ≡ take i text ∷ []
 one_word text i within some none =
     let long : length (take i text) ≡ i = length-take-le i text within in
     let full : (length (take i text) == 0) ≡ false = grind (arith, nat_tests) in
     rw full at (words-whole (take i text) (λ k d below. (neither (get_or (take i text) k d) (none k d below)).1))
-
-pub some_bytes : (n : ℕ) → (n == 0) ≡ false → 0 < n
-some_bytes n other = grind (arith, nat_tests)

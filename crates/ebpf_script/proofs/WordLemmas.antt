@@ -1,12 +1,13 @@
 -- The words of a line, as its bytes are passed one after another.
-use Rattle.std.proofs.Common.{◌≡◌, ℕ, zero, suc, ◌+◌, ◌-◌, ◌<◌, ◌≤◌, Bool, true, false, not, ◌==◌, ◌||◌, cond, List, [], ◌∷◌, ◌++◌, length, take, drop, get_or, filter, refl, sym, ap, ◌∙◌, subst, arith, append_assoc, length-drop}
+use Rattle.std.proofs.Common.{◌≡◌, ℕ, zero, suc, ◌+◌, ◌-◌, ◌<◌, ◌≤◌, Bool, true, false, not, ◌==◌, cond, List, [], ◌∷◌, ◌++◌, length, take, drop, get_or, filter, refl, sym, ap, ◌∙◌, arith, append_assoc}
 use Rattle.std.specs.List.{slice_split, onto_first, All}
 use Rattle.std.proofs.lemmas.Bool.Decides.{nat_tests}
-use Rattle.std.proofs.lemmas.List.{take_more, take_all, get_or-drop}
-use Rattle.std.proofs.lemmas.List.Elements.{filter-append, All-more}
+use Rattle.std.proofs.lemmas.Bool.{or_parts}
+use Rattle.std.proofs.lemmas.List.{take_more, get_or-drop}
+use Rattle.std.proofs.lemmas.List.Elements.{filter-append, All-more, All-append, All-weaker}
 use Rattle.std.proofs.lemmas.List.Splits.{slice_split-cons_yes, slice_split_none, length-slice_split}
 use Rattle.std.proofs.Math.Seq.{take-add}
-use Rattle.ebpf_script.specs.Words.{is_gap, words}
+use Rattle.ebpf_script.specs.Words.{is_gap, is_end, IsUnbroken, words}
 
 append_nil : {X : Type 0} (xs : List X) → xs ++ [] ≡ xs
 append_nil [] = refl
@@ -110,35 +111,30 @@ passed_gap text start i found new p inside other gap is =
       kept = is ∙ ap (take 6) (sym same);
     }
 
--- a byte of a word is passed
-pub passed_byte : (text : List ℕ) (start i : ℕ) (found : List (List ℕ)) → Passed text start i found → i < length text
-    → (get_or text i 0 == 10) ≡ false → is_gap (get_or text i 0) ≡ false → Passed text start (i + 1) found
-passed_byte text start i found p inside other whole = record {
-  before = omega (arith, p.before);
-  one_line = All-more (λ c. (c == 10) ≡ false) text i 0 inside p.one_line other;
-  no_gap =
-      let long : i - start < length (drop start text) = omega (arith, p.before, length-drop start text) in
-      let here : get_or (drop start text) (i - start) 0 ≡ get_or text i 0 =
-      get_or-drop start text (i - start) 0 ∙ ap (λ (n : ℕ). get_or text n 0) (omega (arith, p.before)) in
-      let next : i - start + 1 ≡ i + 1 - start = omega (arith, p.before) in
-      rw next at (All-more (λ c. is_gap c ≡ false) (drop start text) (i - start) 0 long p.no_gap (ap is_gap here ∙ whole));
-  joins = p.joins;
-  kept = p.kept;
-}
-
--- all bytes are passed
-pub passed_all : (text : List ℕ) (start i : ℕ) (found new : List (List ℕ)) → Passed text start i found → i ≡ length text
-    → new ≡ cond (length (take (i - start) (drop start text)) == 0) found (take 6 (found ++ take (i - start) (drop start text) ∷ []))
-    → new ≡ take 6 (words text)
-passed_all text start i found new p all is =
-    is ∙ (passed_words text start i found p (omega (arith, all)) ∙ ap (λ (xs : List ℕ). take 6 (words xs)) (take_all i text (omega (arith, all))))
-
-pub one_line_all : (text : List ℕ) (start i : ℕ) (found : List (List ℕ)) → Passed text start i found → i ≡ length text → All (λ c. (c == 10) ≡ false) text
-one_line_all text start i found p all = subst (All (λ c. (c == 10) ≡ false)) (take_all i text (omega (arith, all))) p.one_line
+-- a word is passed, up to what may end it
+pub passed_word : (text : List ℕ) (start n : ℕ) (found : List (List ℕ)) → Passed text start start found
+    → IsUnbroken (take n (drop start text)) → Passed text start (start + n) found
+passed_word text start n found p whole =
+    let word = take n (drop start text) in
+    let parts = λ (c : ℕ) (is : is_end c ≡ false). or_parts (c == 10) (is_gap c) is in
+    let same : start + n - start ≡ n = omega arith in
+    record {
+      before = omega arith;
+      one_line = rw (take-add start n text)
+          (All-append (λ c. (c == 10) ≡ false) (take start text) word p.one_line (All-weaker (λ c. is_end c ≡ false) (λ c. (c == 10) ≡ false) (λ c is. (parts c is).0) word whole));
+      no_gap = rw same (All-weaker (λ c. is_end c ≡ false) (λ c. is_gap c ≡ false) (λ c is. (parts c is).1) word whole);
+      joins = p.joins;
+      kept = p.kept;
+    }
 
 pub no_newline : (c : ℕ) → (c ≡ 10 → ⊥) → (c == 10) ≡ false
 no_newline c other = grind (arith, nat_tests)
 
 -- a byte that ends a word and is no newline is a gap
-pub gap_here : (c : ℕ) → (c == 10) ≡ false → (c == 10 || is_gap c) ≡ true → is_gap c ≡ true
+pub gap_here : (c : ℕ) → (c == 10) ≡ false → is_end c ≡ true → is_gap c ≡ true
 gap_here c other ends = rw other at ends
+
+-- the byte after the first n that are left ends a word
+pub ends_there : (text : List ℕ) (start n : ℕ) → is_end (get_or (drop start text) n 0) ≡ true
+    → is_end (get_or text (start + n) 0) ≡ true
+ends_there text start n ends = rw (get_or-drop start text n 0) at ends

@@ -10,7 +10,7 @@ ghost use Rattle.ebpf_script.specs.Words.{words};
 
 use crate::reader::programs::last_program;
 use crate::reader::script::Script;
-use crate::reader::words::ends_word;
+use crate::reader::words::word_length;
 
 // What a job's line begins with.
 const RUN: &[u8] = b"run ";
@@ -52,15 +52,9 @@ fn only_word(text: &[u8]) -> Option<&[u8]>
     ensures first { IfSome result (λ word. IsFirst text.now word.now) }
     ensures word { IfSome result (λ word. words word.now ≡ word.now ∷ []) }
 {
-    for i in 0..text.len() {
-        let c = text[i];
-        if ends_word(c) {
-            return if c == b'\n' && i > 0 {
-                Some(&text[..i])
-            } else {
-                None
-            };
-        }
+    let length = word_length(text);
+    if length == 0 || length < text.len() && text[length] != b'\n' {
+        return None;
     }
-    if text.is_empty() { None } else { Some(text) }
+    Some(&text[..length])
 }

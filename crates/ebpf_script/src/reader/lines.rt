@@ -5,7 +5,7 @@ ghost use Rattle.std.specs.List.{list_all};
 ghost use Rattle.ebpf_script.specs.ScriptLines.{IsFirst, is_text_byte, is_text};
 ghost use Rattle.ebpf_script.specs.Words.{words};
 
-use crate::reader::words::{Words, ends_word};
+use crate::reader::words::{Words, word_length};
 
 /// A line of a text, and its first words.
 #[derive(Drop)]
@@ -35,18 +35,14 @@ fn split_line<'a>(text: &'a [u8], kept: &mut Words<'a>) -> usize
 {
     kept.restart();
     let mut start = 0;
-    for i in 0..text.len() {
-        let c = text[i];
-        if ends_word(c) {
-            kept.add(&text[start..i]);
-            if c == b'\n' {
-                return i;
-            }
-            start = i + 1;
+    loop {
+        let end = start + word_length(&text[start..]);
+        kept.add(&text[start..end]);
+        if end == text.len() || text[end] == b'\n' {
+            return end;
         }
+        start = end + 1;
     }
-    kept.add(&text[start..]);
-    text.len()
 }
 
 /// Whether a text has only newlines and the bytes that a line may have.

@@ -1,9 +1,8 @@
-use Rattle.std.proofs.Common.{◌≡◌, map, true, Some, None, refl, sym, ◌∙◌}
+use Rattle.std.proofs.Common.{◌≡◌, map, true, Some, None, refl, sym}
 use Rattle.ebpf_command.specs.HexText.{hex_or_dash}
 use Rattle.ebpf_script.specs.Names.{is_name}
-use Rattle.ebpf_script.specs.ReadScripts.{named, parsed_script}
+use Rattle.ebpf_script.specs.ReadScripts.{named}
 use Rattle.ebpf_script.specs.ParsedScript.{number_of, declared_by}
-use Rattle.ebpf_script.proofs.JobLemmas.{job_fault}
 use Rattle.ebpf_script.proofs.ScriptLemmas.{number_of-said, declared_by-said}
 use Rattle.ebpf_script.proofs.reader.job_line.job_on.Goals.{In-Some, In-Some-program_of}
 use Rattle.ebpf_script.proofs.reader.job_line.job_on.Goals as goal

@@ -1,37 +1,35 @@
-use Rattle.std.proofs.Common.{◌≡◌, ◌==◌, false, length, get_or, subst, sym, ◌∙◌, arith}
-use Rattle.std.proofs.lemmas.Bool.{or_parts}
-use Rattle.std.proofs.lemmas.List.{take_all}
-use Rattle.ebpf_script.specs.Words.{is_gap}
-use Rattle.ebpf_script.proofs.WordLemmas.{Passed, passed_none, passed_words, passed_gap, passed_byte, one_line_all, no_newline, gap_here}
-use Rattle.ebpf_script.proofs.reader.lines.split_line.Goals.{then-ends_word+else-c-eq10, else-ends_word}
+use Rattle.std.proofs.Common.{◌≡◌, ◌≤◌, ◌+◌, ◌==◌, ◌∙◌, false, get_or, length, length-drop, sym, subst, arith}
+use Rattle.std.proofs.lemmas.List.{take_rest}
+use Rattle.ebpf_script.proofs.WordLemmas.{Passed, passed_none, passed_word, passed_words, passed_gap, ends_there, no_newline, gap_here}
 use Rattle.ebpf_script.proofs.reader.lines.split_line.Goals as goal
 
-pub loop-i-init : goal.loop-i-init
-loop-i-init c = subst (Passed c.args.text.now 0 0) (sym c.restart.ensures) (passed_none c.args.text.now)
+pub loop-start-init : goal.loop-start-init
+loop-start-init c = (omega arith, subst (Passed c.args.text.now 0 0) (sym c.restart.ensures) (passed_none c.args.text.now))
 
-pub returns-then-c-eq10-clause-split : goal.returns-then-c-eq10-clause-split
-returns-then-c-eq10-clause-split c =
-    c.add.ensures ∙ passed_words c.args.text.now c.loop-i.start c.loop-i.i c.loop-i.kept c.loop-i.invariant (omega arith)
-
-pub loop-i-preserved : goal.loop-i-preserved
-loop-i-preserved c =
+pub returns-then-end-text-clause-whole : goal.returns-then-end-text-clause-whole
+returns-then-end-text-clause-whole c =
     let text = c.args.text.now in
-    let i = c.loop-i.i in
-    elim c.if-ends_word.branch [
-      | then-ends_word+else-c-eq10 w ↦
-          let other : (get_or text i 0 == 10) ≡ false = no_newline (get_or text i 0) w.if-c-eq10.false in
-          let gap = gap_here (get_or text i 0) other (sym c.ends_word.ensures ∙ w.if-ends_word.true) in
-          let words = w.add.ensures ∙ passed_words text c.loop-i.start i c.loop-i.kept c.loop-i.invariant (omega arith) in
-          rw (w.kept-is, w.start-is) (passed_gap text c.loop-i.start i c.loop-i.kept _ c.loop-i.invariant (omega arith) other gap words)
-      | else-ends_word w ↦
-          let parts = or_parts (get_or text i 0 == 10) (is_gap (get_or text i 0)) (sym c.ends_word.ensures ∙ w.if-ends_word.false) in
-          rw (w.kept-is, w.start-is) (passed_byte text c.loop-i.start i c.loop-i.kept c.loop-i.invariant (omega arith) parts.0 parts.1)
-    ]
+    let whole = rw (take_rest text c.loop-start.start) at c.word_length.ensures.whole in
+    (passed_word text c.loop-start.start c.word_length.result c.loop-start.kept c.loop-start.invariant.1 whole).one_line
 
-pub returns-clause-split : goal.returns-clause-split
-returns-clause-split c =
-    let all : c.loop-i.i ≡ length c.args.text.now = omega arith in
-    c.add-2.ensures ∙ passed_words c.args.text.now c.loop-i.start _ c.loop-i.kept (rw all at c.loop-i.invariant) (omega arith)
+pub returns-then-end-text-clause-split : goal.returns-then-end-text-clause-split
+returns-then-end-text-clause-split c =
+    let text = c.args.text.now in
+    let start = c.loop-start.start in
+    let whole = rw (take_rest text start) at c.word_length.ensures.whole in
+    let within = rw (take_rest text start) at c.word_length.ensures.within in
+    c.add.ensures ∙ passed_words text start (start + c.word_length.result) c.loop-start.kept
+    (passed_word text start c.word_length.result c.loop-start.kept c.loop-start.invariant.1 whole) (omega (arith, within, length-drop start text))
 
-pub returns-clause-whole : goal.returns-clause-whole
-returns-clause-whole c = rw (take_all (length c.args.text.now) c.args.text.now (omega arith)) (one_line_all c.args.text.now c.loop-i.start c.loop-i.i c.loop-i.kept c.loop-i.invariant (omega arith))
+pub loop-start-preserved : goal.loop-start-preserved
+loop-start-preserved c =
+    let text = c.args.text.now in
+    let start = c.loop-start.start in
+    let n = c.word_length.result in
+    let e = rw (take_rest text start) at c.word_length.ensures in
+    let passed = passed_word text start n c.loop-start.kept c.loop-start.invariant.1 e.whole in
+    let inside : start + n + 1 ≤ length text = omega (arith, e.within, length-drop start text) in
+    let other : (get_or text (start + n) 0 == 10) ≡ false = no_newline (get_or text (start + n) 0) c.if-text-end-eq10.false in
+    let gap = gap_here (get_or text (start + n) 0) other (ends_there text start n (e.end (omega (arith, inside, length-drop start text)))) in
+    let words = c.add.ensures ∙ passed_words text start (start + n) c.loop-start.kept passed (omega (arith, inside)) in
+    (inside, passed_gap text start (start + n) c.loop-start.kept _ passed (omega (arith, inside)) other gap words)
