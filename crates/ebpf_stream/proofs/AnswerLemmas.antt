@@ -1,5 +1,5 @@
 -- What one line is answered.
-use Rattle.std.proofs.Common.{◌≡◌, ◌≢◌, ℕ, zero, suc, ◌+◌, ◌<◌, ◌≤◌, true, List, [], ◌∷◌, ◌++◌, length, map, slice_get, get_or, Option, Some, None, Result, Ok, Err, OnOk, refl, sym, ap, ◌∙◌, subst, arith}
+use Rattle.std.proofs.Common.{◌≡◌, ℕ, zero, suc, ◌+◌, ◌<◌, true, List, [], ◌∷◌, ◌++◌, length, map, slice_get, get_or, Option, Some, None, Result, Ok, Err, OnOk, refl, sym, subst, arith}
 use Rattle.std.specs.Prelude.{IfSome, IfNone}
 use Rattle.ebpf_insn.specs.Program.{instructions}
 use Rattle.ebpf_verify.specs.Subject.{Subject}

@@ -1,5 +1,5 @@
 -- A stream whose bytes are taken and written, and its end.
-use Rattle.std.proofs.Common.{◌≡◌, ◌≤◌, ℕ, List, [], ◌∷◌, ◌++◌, length, take, Option, Some, None, Result, Ok, Err, inl, inr, refl, sym, ap, ◌∙◌, subst, arith, append_assoc, append-nil}
+use Rattle.std.proofs.Common.{◌≡◌, ◌≢◌, ℕ, List, [], ◌∷◌, ◌++◌, length, take, Option, Some, None, Result, Ok, Err, inl, inr, refl, sym, ap, ◌∙◌, subst, arith, append_assoc, append-nil}
 use Rattle.std.specs.Prelude.{string_bytes}
 use Rattle.std.specs.Io.KnownBytes.{Appends, Consumes, IsAtEnd}
 use Rattle.std.proofs.lemmas.List.{take_all}
@@ -29,15 +29,22 @@ take_zero (x ∷ xs) = refl
 module _ (s : Setting) where
   -- ---- all that is answered is written
 
-  pub all_taken : (a b c : Option (List ℕ)) (f g h : Feed) (bytes : List ℕ) → Takes s a b f g bytes (Ok tt) → Appends b c (string_bytes g.answers.text)
-      → string_bytes h.answers.text ≡ [] → h.kept.items ≡ g.kept.items → h.answers.place ≡ g.answers.place → TakesAll s a c f h bytes (Ok tt)
-  all_taken a b c f g h bytes takes written empty kept place = λ seen text fed.
+  pub all_written : (r : Result (Unit {0}) EngineFault) (a b c : Option (List ℕ)) (f g h : Feed) (bytes : List ℕ) → Takes s a b f g bytes r → r ≢ Err Output → Appends b c (string_bytes g.answers.text)
+      → string_bytes h.answers.text ≡ [] → h.kept.items ≡ g.kept.items → h.answers.place ≡ g.answers.place → TakesAll s a c f h bytes r
+  all_written (Ok done) a b c f g h bytes takes other written empty kept place = λ seen text fed.
       let t = takes seen text fed in
       (t.0, fed_same s (seen ++ bytes) (text ++ t.0) g h t.1 kept place, sends_all a b c _ _ t.0 t.2 written, empty)
+  all_written (Err Input) a b c f g h bytes takes other written empty kept place = λ seen text fed.
+      let t = takes seen text fed in
+      (t.0, t.1, t.2, fed_same s (seen ++ take t.0 bytes) (text ++ t.1) g h t.3 kept place, sends_all a b c _ _ t.1 t.4 written)
+  all_written (Err NoMemory) a b c f g h bytes takes other written empty kept place = λ seen text fed.
+      let t = takes seen text fed in
+      (t.0, t.1, t.2, fed_same s (seen ++ take t.0 bytes) (text ++ t.1) g h t.3 kept place, sends_all a b c _ _ t.1 t.4 written)
+  all_written (Err Output) a b c f g h bytes takes other written empty kept place = absurd (other refl)
 
-  pub all_unwritten : (a b c : Option (List ℕ)) (f g h : Feed) (bytes : List ℕ) → Takes s a b f g bytes (Ok tt) → AppendsBeginning b c (string_bytes g.answers.text)
+  pub part_written : (r : Result (Unit {0}) EngineFault) (a b c : Option (List ℕ)) (f g h : Feed) (bytes : List ℕ) → Takes s a b f g bytes r → r ≢ Err Output → AppendsBeginning b c (string_bytes g.answers.text)
       → h.kept.items ≡ g.kept.items → h.answers.place ≡ g.answers.place → TakesAll s a c f h bytes (Err Output)
-  all_unwritten a b c f g h bytes takes begun kept place = λ seen text fed.
+  part_written (Ok done) a b c f g h bytes takes other begun kept place = λ seen text fed.
       let t = takes seen text fed in (
         length bytes,
         t.0,
@@ -45,33 +52,13 @@ module _ (s : Setting) where
         rw (take_all (length bytes) bytes (omega arith)) (fed_same s (seen ++ bytes) (text ++ t.0) g h t.1 kept place),
         sends_part a b c _ _ t.0 t.2 begun,
       )
-
-  pub stopped_input : (a b c : Option (List ℕ)) (f g h : Feed) (bytes : List ℕ) → Takes s a b f g bytes (Err Input) → Appends b c (string_bytes g.answers.text)
-      → h.kept.items ≡ g.kept.items → h.answers.place ≡ g.answers.place → TakesAll s a c f h bytes (Err Input)
-  stopped_input a b c f g h bytes takes written kept place = λ seen text fed.
-      let t = takes seen text fed in
-      (t.0, t.1, t.2, fed_same s (seen ++ take t.0 bytes) (text ++ t.1) g h t.3 kept place, sends_all a b c _ _ t.1 t.4 written)
-
-  pub stopped_memory : (a b c : Option (List ℕ)) (f g h : Feed) (bytes : List ℕ) → Takes s a b f g bytes (Err NoMemory) → Appends b c (string_bytes g.answers.text)
-      → h.kept.items ≡ g.kept.items → h.answers.place ≡ g.answers.place → TakesAll s a c f h bytes (Err NoMemory)
-  stopped_memory a b c f g h bytes takes written kept place = λ seen text fed.
-      let t = takes seen text fed in
-      (t.0, t.1, t.2, fed_same s (seen ++ take t.0 bytes) (text ++ t.1) g h t.3 kept place, sends_all a b c _ _ t.1 t.4 written)
-
-  pub stopped_output : (a b : Option (List ℕ)) (f g : Feed) (bytes : List ℕ) → Takes s a b f g bytes (Err Output) → TakesAll s a b f g bytes (Err Output)
-  stopped_output a b f g bytes takes = takes
-
-  pub input_unwritten : (a b c : Option (List ℕ)) (f g h : Feed) (bytes : List ℕ) → Takes s a b f g bytes (Err Input) → AppendsBeginning b c (string_bytes g.answers.text)
-      → h.kept.items ≡ g.kept.items → h.answers.place ≡ g.answers.place → TakesAll s a c f h bytes (Err Output)
-  input_unwritten a b c f g h bytes takes begun kept place = λ seen text fed.
+  part_written (Err Input) a b c f g h bytes takes other begun kept place = λ seen text fed.
       let t = takes seen text fed in
       (t.0, t.1, t.2, fed_same s (seen ++ take t.0 bytes) (text ++ t.1) g h t.3 kept place, sends_part a b c _ _ t.1 t.4 begun)
-
-  pub memory_unwritten : (a b c : Option (List ℕ)) (f g h : Feed) (bytes : List ℕ) → Takes s a b f g bytes (Err NoMemory) → AppendsBeginning b c (string_bytes g.answers.text)
-      → h.kept.items ≡ g.kept.items → h.answers.place ≡ g.answers.place → TakesAll s a c f h bytes (Err Output)
-  memory_unwritten a b c f g h bytes takes begun kept place = λ seen text fed.
+  part_written (Err NoMemory) a b c f g h bytes takes other begun kept place = λ seen text fed.
       let t = takes seen text fed in
       (t.0, t.1, t.2, fed_same s (seen ++ take t.0 bytes) (text ++ t.1) g h t.3 kept place, sends_part a b c _ _ t.1 t.4 begun)
+  part_written (Err Output) a b c f g h bytes takes other begun kept place = absurd (other refl)
 
   -- ---- the end of a stream
 

@@ -1,5 +1,5 @@
 -- How far a stream of jobs has been answered, after some of its bytes.
-use Rattle.std.specs.Prelude.{◌≡◌, ◌⊎◌, ◌≤◌, ℕ, ◌==◌, ◌++◌, false, List, [], ◌∷◌, length, map, take, Option, Result, Ok, Err, IfSome, string_bytes}
+use Rattle.std.specs.Prelude.{◌≡◌, ◌⊎◌, ◌≤◌, ℕ, ◌==◌, ◌++◌, false, List, [], length, map, take, Option, Result, Ok, Err, IfSome, string_bytes}
 use Rattle.std.specs.List.{All}
 use Rattle.std.specs.Io.KnownBytes.{Appends}
 use Rattle.ebpf_command.specs.declared.done.EngineFault.{EngineFault}

@@ -4,7 +4,6 @@ use Rattle.std.specs.Prelude.{◌≡◌, ◌⊎◌, ℕ, ◌++◌, Bool, true, f
 use Rattle.ebpf_command.specs.declared.done.Done.{Done}
 use Rattle.ebpf_command.specs.declared.done.Done.TheVariants.{Clean, Refused}
 use Rattle.ebpf_command.specs.declared.format.Format.{Format}
-use Rattle.ebpf_command.specs.Response.{Response}
 use Rattle.ebpf_command.specs.Writing.{Responding}
 use Rattle.ebpf_script.specs.declared.reader.script.Dialect.TheVariants.{Setup}
 use Rattle.ebpf_script.specs.ParsedScript.{ParsedScript}

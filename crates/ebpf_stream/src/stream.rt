@@ -1,6 +1,6 @@
 //! The command `stream`: programs, and a machine that does the jobs of a stream one after another.
 
-ghost use Rattle.std.specs.Prelude.{◌≡◌, ◌≢◌, ◌⊎◌, ◌≤◌, [], Ok, IfOk, IfErr, OnOk, IfSome, string_bytes};
+ghost use Rattle.std.specs.Prelude.{◌≡◌, ◌≢◌, ◌⊎◌, ◌≤◌, [], true, false, Ok, Err, IfOk, IfErr, OnOk, IfSome, string_bytes};
 ghost use Rattle.std.specs.Io.KnownBytes.{Appends, IsAtEnd};
 ghost use Rattle.ebpf_command.specs.declared.done.Done.TheVariants.{Refused};
 ghost use Rattle.ebpf_command.specs.declared.done.EngineFault.TheVariants.{Output};
@@ -172,20 +172,26 @@ fn take_all<W: Write>(
 ) -> Result<(), EngineFault>
     ensures { TakesAll (set_up setup.now) (W.contents writer.old) (W.contents writer.new) feed.old feed.new bytes.now result }
 {
-    match feed.take(alloc, setup, writer, bytes) {
-        Ok(()) => match feed.flush(writer) {
-            Ok(()) => Ok(()),
-            Err(_) => Err(EngineFault::Output),
-        },
-        Err(EngineFault::Output) => Err(EngineFault::Output),
-        Err(EngineFault::Input) => match feed.flush(writer) {
-            Ok(()) => Err(EngineFault::Input),
-            Err(_) => Err(EngineFault::Output),
-        },
-        Err(EngineFault::NoMemory) => match feed.flush(writer) {
-            Ok(()) => Err(EngineFault::NoMemory),
-            Err(_) => Err(EngineFault::Output),
-        },
+    let taken = feed.take(alloc, setup, writer, bytes);
+    if is_lost(&taken) {
+        return Err(EngineFault::Output);
+    }
+    match feed.flush(writer) {
+        Ok(()) => taken,
+        Err(_) => Err(EngineFault::Output),
+    }
+}
+
+// Whether a write failed.
+fn is_lost(taken: &Result<(), EngineFault>) -> bool
+    ensures lost { result ≡ true → taken.now ≡ Err Output }
+    ensures other { result ≡ false → taken.now ≢ Err Output }
+{
+    match taken {
+        Err(EngineFault::Output) => true,
+        Err(EngineFault::Input) => false,
+        Err(EngineFault::NoMemory) => false,
+        Ok(()) => false,
     }
 }
 

@@ -1,4 +1,4 @@
-use Rattle.std.proofs.Common.{◌≡◌, List, ℕ, Ok, Err, inr, sym, ap, ◌∙◌, subst, map}
+use Rattle.std.proofs.Common.{List, ℕ, Ok, Err, inr, sym, ap, ◌∙◌, subst, map}
 use Rattle.std.specs.Prelude.{string_bytes}
 use Rattle.ebpf_verify.specs.Subject.{Subject}
 use Rattle.ebpf_command.specs.declared.done.Done.{Done}
