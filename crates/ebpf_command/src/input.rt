@@ -24,7 +24,7 @@ const CHUNK: usize = 4096;
 ///
 /// # Errors
 /// `Input` where a read failed, an interrupted one too; `NoMemory` where an allocation failed.
-pub(crate) fn read_input<R: Read>(alloc: Global, reader: &mut R) -> Result<Vec<u8>, EngineFault>
+pub fn read_input<R: Read>(alloc: Global, reader: &mut R) -> Result<Vec<u8>, EngineFault>
     ensures read { IfOk result (λ bytes. IfSome (R.remaining reader.old) (λ input. bytes.items ≡ read_of input)) }
     ensures few { IfOk result (λ bytes. length bytes.items ≤ MAX_INPUT + 1) }
     // What was read is gone from the reader, and nothing after it.

@@ -1,11 +1,10 @@
 //! The command `stream`: a machine does the jobs of a stream without end, one after another.
 //!
-//! To be read in this order: `place`, `setup`, `lines`, `job_text`, `totals`, `totals_text`, `answers`, `output`, `feed`, `input`, `stream`.
+//! To be read in this order: `place`, `setup`, `lines`, `job_text`, `totals`, `totals_text`, `answers`, `output`, `feed`, `stream`.
 #![tactic(auto)]
 
 mod answers;
 mod feed;
-mod input;
 mod job_text;
 mod lines;
 mod output;

@@ -14,12 +14,12 @@ ghost use Rattle.ebpf_stream.specs.Serving.{WritesStream, WritesPart, WritesFirs
 
 use crate::answers::Answers;
 use crate::feed::Feed;
-use crate::input::read_script_text;
 use crate::output::{flush, write_out};
 use crate::setup::{Setup, load_all};
 use ebpf_command::answer::{Answer, answer_fault_in};
 use ebpf_command::done::{Done, EngineFault};
 use ebpf_command::format::Format;
+use ebpf_command::input::read_input;
 use ebpf_host::machine::Machine;
 use ebpf_script::reader::read_script;
 use ebpf_script::reader::script::{Dialect, Script, ScriptStop};
@@ -51,7 +51,7 @@ pub fn stream<S: Read, I: Read, W: Write>(
     ensures stopped { IfErr result (λ fault. fault ≢ Output → (writer.new ≡ writer.old) ⊎ WritesFirst format (S.remaining script.old) (I.remaining reader.old) (W.contents writer.old) (W.contents writer.new)) }
     ensures beginning { WritesPart format (S.remaining script.old) (I.remaining reader.old) (W.contents writer.old) (W.contents writer.new) result }
 {
-    let text = read_script_text(alloc, script)?;
+    let text = read_input(alloc, script)?;
     match read_script(alloc, Dialect::Setup, &text) {
         Ok(script) => serve_script(alloc, format, script, reader, writer),
         Err(ScriptStop::Fault(fault)) => {
