@@ -80,18 +80,52 @@ replies_more v result sound sized going = by (asks_of v (next_of v sound sized g
 
 -- ---- n instructions
 
+-- one more: its replies, and that the run alone is where the run was before it, with these replies and any after them
+pub record IsTurned {S H : Type 0} (o : Store S H) (subject : Subject) (context : List ℕ) (number : ℕ) (r t : RunState H) (old new : S) : Type 0 where
+  pub told : Replies
+  pub replies : (more : Replies) → more_than (replies_of (seen_in o new t)) more ≡ more_than (replies_of (seen_in o old r)) (more_than told more)
+  pub alone : (more : Replies) → view_in (alone_after number subject context (more_than (replies_of (seen_in o old r)) more)).world 0 ≡ Some (seen_in o old r)
+  pub sized : AreSized (seen_in o old r)
+  pub going : (seen_in o old r).status ≡ Going
+
+pub turned : {S H : Type 0} (o : Store S H) (first : S) (subject : Subject) (context : List ℕ) (number : ℕ) (r t : RunState H) (old new : S) → HaveSizes o old
+    → o.kinds ≡ kinds_of subject.rows → IsUnderWay o first old subject context r → r.executed ≡ number → IsTurn o r t old new
+    → IsTurned o subject context number r t old new
+turned {S} {H} o first subject context number r t old new sizes kinds was executed turn = record {
+  told = told.0;
+  replies = λ more.
+      ap (λ (u : RunView). more_than (replies_of u) more) s.2.state ∙ ap (λ (x : Replies). more_than x more) told.1 ∙ more_again (replies_of v) told.0 more;
+  alone = λ more.
+      (λ i. view_in (alone_after (sym executed i) (sym was.subject_is i) (sym was.context_is i) (more_than (replies_of v) more)).world 0)
+      ∙ alone_more v more was.sound was.alone;
+  sized = sized;
+  going = ap status_of turn.going;
+}
+  where
+    v : RunView
+    v = seen_in o old r
+
+    s : IsStepOver o r t old new
+    s = turn.step
+
+    sized : AreSized (seen_in o old r)
+    sized = sized_out o old r sizes (kinds ∙ ap (λ (x : Subject). kinds_of x.rows) (sym was.subject_is)) was.out
+
+    told : (more : Replies) × (replies_of (stepped (result_of s.0) (seen_in o old r)) ≡ more_than (replies_of (seen_in o old r)) more)
+    told = replies_more (seen_in o old r) (result_of s.0) was.sound sized (ap status_of turn.going)
+
 module _ {S H : Type 0} (o : Store S H) (first : S) (subject : Subject) (context : List ℕ) (shelf : ℕ) (stood : Option Shelved) where
   -- what is on a shelf after n has the bytes that the run alone leaves there, whatever replies are after its own
-  record IsLeftSoFar (number : ℕ) (now : S) (r : RunState H) : Type 0 where
-    what : Option Shelved
-    stands : o.stand now shelf what
-    executed : r.executed ≡ number
-    bytes_are : (more : Replies) → bytes_on what ≡ left_after number subject context (more_than (replies_of (seen_in o now r)) more) shelf (bytes_on stood)
+  pub record IsLeftSoFar (number : ℕ) (now : S) (r : RunState H) : Type 0 where
+    pub what : Option Shelved
+    pub stands : o.stand now shelf what
+    pub executed : r.executed ≡ number
+    pub bytes_are : (more : Replies) → bytes_on what ≡ left_after number subject context (more_than (replies_of (seen_in o now r)) more) shelf (bytes_on stood)
 
-  -- one more
-  left_turn : (number : ℕ) (old new : S) (r t : RunState H) → HaveSizes o old → o.kinds ≡ kinds_of subject.rows
-      → IsUnderWay o first old subject context r → IsTurn o r t old new → IsLeftSoFar number old r → IsLeftSoFar (suc number) new t
-  left_turn number old new r t sizes kinds was turn before = record {
+  -- after one more
+  left_turn : (number : ℕ) (old new : S) (r t : RunState H) → IsTurned o subject context number r t old new → IsTurn o r t old new
+      → IsLeftSoFar number old r → IsLeftSoFar (suc number) new t
+  left_turn number old new r t it turn before = record {
     what = standing_after o old r.held (effect_of_view v) shelf before.what;
     stands = s.3 shelf before.what before.stands;
     executed = omega (arith, turn.counted, before.executed);
@@ -104,31 +138,17 @@ module _ {S H : Type 0} (o : Store S H) (first : S) (subject : Subject) (context
       s : IsStepOver o r t old new
       s = turn.step
 
-      known : o.kinds ≡ kinds_of r.subject.rows
-      known = kinds ∙ ap (λ (x : Subject). kinds_of x.rows) (sym was.subject_is)
-
-      told : (more : Replies) × (replies_of (stepped (result_of s.0) v) ≡ more_than (replies_of v) more)
-      told = replies_more v (result_of s.0) was.sound (sized_out o old r sizes known was.out) (ap status_of turn.going)
-
-      replies : (more : Replies) → more_than (replies_of (seen_in o new t)) more ≡ more_than (replies_of v) (more_than told.0 more)
-      replies more =
-          ap (λ (u : RunView). more_than (replies_of u) more) s.2.state ∙ ap (λ (x : Replies). more_than x more) told.1 ∙ more_again (replies_of v) told.0 more
-
-      seen : (more : Replies) → view_in (alone_after number subject context (more_than (replies_of v) more)).world 0 ≡ Some v
-      seen more = (λ i. view_in (alone_after (sym before.executed i) (sym was.subject_is i) (sym was.context_is i) (more_than (replies_of v) more)).world 0)
-          ∙ alone_more v more was.sound was.alone
-
       bytes : (more : Replies)
           → bytes_on (standing_after o old r.held (effect_of_view v) shelf before.what)
           ≡ left_after (suc number) subject context (more_than (replies_of (seen_in o new t)) more) shelf (bytes_on stood)
       bytes more =
-          let rest = more_than told.0 more in
+          let rest = more_than it.told more in
           done_told bytes_on (shelved_from (shelved_as o old) r.held) (bytes_given v) (given_told o old r) (effect_of_view v) shelf before.what
           ∙ ap (shelf_done (bytes_given v) (effect_of_view v) shelf) (before.bytes_are rest)
-          ∙ sym (left_next number subject context (more_than (replies_of v) rest) shelf (bytes_on stood) v (seen rest))
-          ∙ ap (λ (x : Replies). left_after (suc number) subject context x shelf (bytes_on stood)) (sym (replies more))
+          ∙ sym (left_next number subject context (more_than (replies_of v) rest) shelf (bytes_on stood) v (it.alone rest))
+          ∙ ap (λ (x : Replies). left_after (suc number) subject context x shelf (bytes_on stood)) (sym (it.replies more))
 
-  left_turns : (number : ℕ) (now : S) (r t : RunState H) → ((s : S) → HaveSizes o s) → o.kinds ≡ kinds_of subject.rows
+  pub left_turns : (number : ℕ) (now : S) (r t : RunState H) → ((s : S) → HaveSizes o s) → o.kinds ≡ kinds_of subject.rows
       → IsUnderWay o first first subject context r → r.executed ≡ 0 → o.stand first shelf stood → AreTurns o number r t first now
       → IsLeftSoFar number now t
   left_turns zero now r t sizes kinds start none stands turns =
@@ -140,9 +160,10 @@ module _ {S H : Type 0} (o : Store S H) (first : S) (subject : Subject) (context
             sym (left_none subject context (more_than (replies_of (seen_in o first r)) more) shelf (bytes_on stood));
       })
   left_turns (suc number) now r t sizes kinds start none stands turns =
-      left_turn number turns.store now turns.run t (sizes turns.store) kinds
-      (under_way o first first turns.store subject context number r turns.run sizes kinds start turns.before) turns.last
-      (left_turns number turns.store r turns.run sizes kinds start none stands turns.before)
+      let before = left_turns number turns.store r turns.run sizes kinds start none stands turns.before in
+      let was = under_way o first first turns.store subject context number r turns.run sizes kinds start turns.before in
+      left_turn number turns.store now turns.run t (turned o first subject context number turns.run t turns.store now (sizes turns.store) kinds was before.executed turns.last)
+      turns.last before
 
 -- ---- a run as a whole
 
@@ -163,7 +184,7 @@ leaves o first before now subject context number r t report sizes kinds start no
 -- ---- on a machine
 
 -- a number in place of a slot changes no bytes
-same_bytes : (s : Stocks) (shelf : ℕ) → bytes_on (standing_on s shelf) ≡ shelf_bytes s shelf
+pub same_bytes : (s : Stocks) (shelf : ℕ) → bytes_on (standing_on s shelf) ≡ shelf_bytes s shelf
 same_bytes s shelf = of (stock_of s shelf).shelf where
   of : (what : Option Shelved) → bytes_on (option_map (renumbered shelf) what) ≡ bytes_on what
   of None = refl

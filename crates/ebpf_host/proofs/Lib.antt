@@ -2,3 +2,4 @@ pub mod Stocking
 pub mod ByKind
 pub mod CutOff
 pub mod Leaving
+pub mod Finding

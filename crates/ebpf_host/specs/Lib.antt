@@ -2,4 +2,5 @@ pub mod Stock
 pub mod Stocks
 pub mod Reports
 pub mod Leaving
+pub mod Finding
 pub mod Loading

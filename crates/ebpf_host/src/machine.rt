@@ -3,6 +3,7 @@
 ghost use Rattle.std.specs.Prelude.{◌≡◌, ◌⊎◌, ◌<◌, ◌↔◌, ◌∷◌, [], ℕ, None, is_some, length, IfOk, IfErr, OnOk, OnErr};
 ghost use Rattle.vmem_arena.specs.declared.arena.TheConstants.{MAX_PAGES};
 ghost use Rattle.ebpf_machine.specs.Turns.{IsStartFault};
+ghost use Rattle.ebpf_host.specs.Finding.{AreFound};
 ghost use Rattle.ebpf_host.specs.Leaving.{AreLeft};
 ghost use Rattle.ebpf_host.specs.Reports.{IsReportWithin};
 ghost use Rattle.ebpf_host.specs.Stocks.{stock_of};
@@ -79,6 +80,8 @@ impl Machine {
         ensures report { IfOk result (IsReportWithin program.now.verified context.now limit) }
         ensures length { OnOk result (length context.now ≡ program.now.verified.decl.context) }
         ensures refused { IfErr result (IsStartFault (length context.now) program.now.verified.decl.context) }
+        // A call of `swap` finds what was on its shelf before the run, or what the run has put there since.
+        ensures found { IfOk result (AreFound self.old program.now.verified context.now) }
         // What is on the shelves afterwards is what the program alone leaves there.
         ensures shelves { IfOk result (AreLeft self.old self.new program.now.verified context.now) }
         ensures pages { self.new.arena.pages ≡ self.old.arena.pages }
@@ -104,6 +107,7 @@ impl Machine {
         ensures report { IfOk result (IsReportWithin program.now.verified context.now limit) }
         ensures length { OnOk result (length context.now ≡ program.now.verified.decl.context) }
         ensures refused { IfErr result (IsStartFault (length context.now) program.now.verified.decl.context) }
+        ensures found { IfOk result (AreFound self.old program.now.verified context.now) }
         ensures shelves { IfOk result (AreLeft self.old self.new program.now.verified context.now) }
         ensures pages { self.new.arena.pages ≡ self.old.arena.pages }
         ensures unchanged { OnErr result (self.new ≡ self.old) }

@@ -3,6 +3,7 @@
 ghost use Rattle.std.specs.Prelude.{◌≡◌, length, IfOk, IfErr, OnOk, OnErr};
 ghost use Rattle.ebpf_machine.specs.Kinds.{known_kinds};
 ghost use Rattle.ebpf_machine.specs.Turns.{IsStartFault};
+ghost use Rattle.ebpf_host.specs.Finding.{IsFound, TellsShelves};
 ghost use Rattle.ebpf_host.specs.Leaving.{IsLeft};
 ghost use Rattle.ebpf_host.specs.Reports.{IsReportWithin};
 
@@ -26,9 +27,11 @@ pub(crate) fn run_within<O: Objects>(
 ) -> Result<Ended<O::Held>, StartFault>
     requires kinds { O.store.kinds ≡ known_kinds }
     requires room { (store : O) → O.store.can_give store }
+    requires tells { TellsShelves O.store }
     ensures report { IfOk result (IsReportWithin program.now.verified context.now limit) }
     // The store went by the report's answers.
     ensures goes { IfOk result (λ r. O.store.goes objects.old r.answers objects.new) }
+    ensures found { IfOk result (λ r. IsFound O.store objects.old program.now.verified context.now r) }
     ensures shelves { IfOk result (λ r. IsLeft O.store objects.old objects.new program.now.verified context.now r) }
     ensures length { OnOk result (length context.now ≡ program.now.verified.decl.context) }
     ensures refused { IfErr result (IsStartFault (length context.now) program.now.verified.decl.context) }

@@ -1,10 +1,11 @@
-use Rattle.std.proofs.Common.{ap, sym, ◌∙◌}
+use Rattle.std.proofs.Common.{ap, sym, ◌∙◌, arith}
 use Rattle.ebpf_machine.specs.Alone.{replies_from}
 use Rattle.ebpf_machine.specs.RunState.{RunState}
 use Rattle.ebpf_machine.proofs.WholeRuns.Starts.{starts}
 use Rattle.ebpf_machine.proofs.WholeRuns.Told.{IsUnderWay, under_way}
 use Rattle.ebpf_machine.proofs.WholeRuns.Ends.{goes_last}
 use Rattle.ebpf_host.proofs.CutOff.{within}
+use Rattle.ebpf_host.proofs.Finding.{finds}
 use Rattle.ebpf_host.proofs.Leaving.{leaves}
 use Rattle.ebpf_host.proofs.within.run_within.Given.{Over}
 use Rattle.ebpf_host.proofs.within.run_within.Goals.{After-end_in_place}
@@ -43,4 +44,17 @@ returns-clause-shelves g c =
     (c.requires.kinds ∙ sym c.args.program.now.kinds)
     (starts o c.args.objects.now _ _ c.in_ok-run.run' started (c.in_ok-run.ensures.sound _)) (ap (λ (r : RunState _). r.executed) started)
     c.run.ensures.turns.turns end.shelves end.executed
+    (λ i. replies_from (end.answers i) (end.taken i))
+
+pub returns-clause-found : goal.returns-clause-found
+returns-clause-found g c =
+    let o = g.O.Objects.store in
+    let end = c.end_in_place.ensures in
+    let started = c.in_ok-run.ensures.started in
+    let turns = c.run.ensures.turns in
+    let none = ap (λ (r : RunState _). r.executed) started in
+    finds o c.args.objects.now c.run.new.objects _ _ turns.number c.in_ok-run.run' c.run.new.self c.end_in_place.result g.met.O.Objects.has_size
+    (c.requires.kinds ∙ sym c.args.program.now.kinds) c.requires.tells
+    (starts o c.args.objects.now _ _ c.in_ok-run.run' started (c.in_ok-run.ensures.sound _)) none turns.turns
+    (omega (arith, end.executed, turns.counted, none))
     (λ i. replies_from (end.answers i) (end.taken i))
