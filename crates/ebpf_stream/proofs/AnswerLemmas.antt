@@ -11,14 +11,13 @@ use Rattle.ebpf_command.specs.declared.done.FaultCode.{FaultCode}
 use Rattle.ebpf_command.specs.Json.{fault_in}
 use Rattle.ebpf_script.specs.JobLines.{job_of, stream_shape}
 use Rattle.ebpf_script.specs.Words.{words}
-use Rattle.ebpf_stream.specs.declared.place.Place.{Place}
-use Rattle.ebpf_stream.specs.Answering.{Setting, IsAnswered, IsDone, stream_fault}
+use Rattle.ebpf_stream.specs.Answering.{Setting, Position, IsAnswered, IsDone, stream_fault}
 
-pub answered_as : (s : Setting) (line : List ℕ) (job : Option Job) (a b : Place) (text : List ℕ) → stream_fault s.parsed line ≡ None
+pub answered_as : (s : Setting) (line : List ℕ) (job : Option Job) (a b : Position) (text : List ℕ) → stream_fault s.parsed line ≡ None
     → job ≡ job_of s.parsed (stream_shape (words line)) → IsDone s job a b text → IsAnswered s line a b text
 answered_as s line job a b text fine is done = rw (fine, sym is) done
 
-pub answered_fault : (s : Setting) (line : List ℕ) (code : FaultCode) (a b : Place) (text : List ℕ) → stream_fault s.parsed line ≡ Some code
+pub answered_fault : (s : Setting) (line : List ℕ) (code : FaultCode) (a b : Position) (text : List ℕ) → stream_fault s.parsed line ≡ Some code
     → b ≡ record a { lines = a.lines + 1; faulty = true } → text ≡ fault_in s.format code (a.lines + 1) → IsAnswered s line a b text
 answered_fault s line code a b text fault place is = rw fault (place, is)
 
@@ -48,7 +47,7 @@ element_of f (x ∷ xs) zero d inside = refl
 element_of f (x ∷ xs) (suc k) d inside = element_of f xs k d (omega (arith, inside))
 
 -- what a job did answers its line
-pub answered_job : {T E : Type 0} (r : Result T E) (s : Setting) (line : List ℕ) (job : Job) (a b : Place) (old new : List ℕ) → stream_fault s.parsed line ≡ None
+pub answered_job : {T E : Type 0} (r : Result T E) (s : Setting) (line : List ℕ) (job : Job) (a b : Position) (old new : List ℕ) → stream_fault s.parsed line ≡ None
     → Some job ≡ job_of s.parsed (stream_shape (words line)) → OnOk r ((here : List ℕ) × IsDone s (Some job) a b here × (new ≡ old ++ here))
     → OnOk r ((here : List ℕ) × IsAnswered s line a b here × (new ≡ old ++ here))
 answered_job (Err e) s line job a b old new fine is h = tt

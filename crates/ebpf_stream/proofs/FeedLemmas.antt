@@ -1,10 +1,10 @@
 -- A stream after more of its bytes.
-use Rattle.std.proofs.Common.{◌≡◌, ◌≢◌, ℕ, ◌+◌, ◌-◌, min, cond, ◌<◌, ◌≤◌, ◌==◌, false, List, [], ◌∷◌, ◌++◌, length, take, drop, get_or, Option, Some, None, Result, Ok, Err, is_ok, OnOk, OnErr, refl, sym, ap, ◌∙◌, subst, arith, append_assoc, append-nil, length-append, length-drop, add_assoc, inl, inr, eq-zero-or-pos}
+use Rattle.std.proofs.Common.{◌≡◌, ◌≢◌, ℕ, ◌+◌, ◌-◌, min, cond, ◌<◌, ◌≤◌, ◌==◌, false, List, [], ◌∷◌, ◌++◌, length, take, drop, get_or, Option, Some, None, Result, Ok, Err, is_ok, OnOk, refl, sym, ap, ◌∙◌, subst, arith, append_assoc, append-nil, length-append, length-drop, add_assoc, inl, inr, eq-zero-or-pos}
 use Rattle.std.specs.Prelude.{string_bytes}
 use Rattle.std.specs.List.{All}
 use Rattle.std.specs.Io.KnownBytes.{Appends, Keeps}
 use Rattle.std.proofs.lemmas.Grind.{common_steps}
-use Rattle.std.proofs.lemmas.List.{take-append-le, take-append-drop, take_all, take_more}
+use Rattle.std.proofs.lemmas.List.{take-append-drop, take_all, take_more}
 use Rattle.std.proofs.lemmas.List.Elements.{All-append}
 use Rattle.std.proofs.Math.Seq.{take-append-add, take-add}
 use Rattle.ebpf_command.specs.declared.done.EngineFault.{EngineFault}
@@ -13,9 +13,10 @@ use Rattle.ebpf_command.specs.Writing.{AppendsBeginning}
 use Rattle.ebpf_command.proofs.Known.{Appends-more}
 use Rattle.ebpf_stream.specs.declared.answers.Answers.{Answers}
 use Rattle.ebpf_stream.specs.declared.feed.Feed.{Feed}
-use Rattle.ebpf_stream.specs.Answering.{Setting, IsAnswered}
-use Rattle.ebpf_stream.specs.Feeding.{IsFed, Sends, Stops, Takes}
-use Rattle.ebpf_stream.proofs.LineLemmas.{answered_more, answered_whole, kept_more, nothing_kept, split_more, split_ended, take_short}
+use Rattle.ebpf_stream.specs.Answering.{Setting, AreAnswered, IsAnswered, position_of, start}
+use Rattle.ebpf_stream.specs.Feeding.{AnswersSome, IsFed, Sends, Stops, Takes}
+use Rattle.ebpf_stream.specs.Streaming.{AnswersFirst}
+use Rattle.ebpf_stream.proofs.LineLemmas.{answered_more, answered_whole, kept_more, nothing_kept, split_front, split_more, split_ended, take_short}
 
 -- ---- what is written, and what waits
 
@@ -63,7 +64,7 @@ sends_part a b c x y t h k =
 short_kept : (next kept : List ℕ) → kept ≡ take 65537 next → length kept ≤ 65537
 short_kept next kept is = rw is (take_short 65537 next)
 
-pub fed_same : (s : Setting) (seen text : List ℕ) (f g : Feed) → IsFed s seen f text → g.kept.items ≡ f.kept.items → g.answers.place ≡ f.answers.place
+pub fed_same : (s : Setting) (seen text : List ℕ) (f g : Feed) → IsFed s seen f text → g.kept.items ≡ f.kept.items → (position_of g.answers) ≡ (position_of f.answers)
     → IsFed s seen g text
 fed_same s seen text f g h kept place = record {
   lines = h.lines;
@@ -75,7 +76,7 @@ fed_same s seen text f g h kept place = record {
 }
 
 pub fed_piece : (s : Setting) (seen piece text : List ℕ) (f g : Feed) → IsFed s seen f text → All (λ c. (c == 10) ≡ false) piece
-    → (length f.kept.items ≤ 65537 → g.kept.items ≡ take 65537 (f.kept.items ++ piece)) → g.answers.place ≡ f.answers.place
+    → (length f.kept.items ≤ 65537 → g.kept.items ≡ take 65537 (f.kept.items ++ piece)) → (position_of g.answers) ≡ (position_of f.answers)
     → IsFed s (seen ++ piece) g text
 fed_piece s seen piece text f g h whole kept place = record {
   lines = h.lines;
@@ -86,10 +87,27 @@ fed_piece s seen piece text f g h whole kept place = record {
   answered = rw place h.answered;
 }
 
+-- ---- the first lines of a stream that goes on
+
+pub first_fed : (s : Setting) (seen text : List ℕ) (f : Feed) → IsFed s seen f text → AnswersSome s seen text
+first_fed s seen text f h = λ rest. (
+  length h.lines,
+  position_of f.answers,
+  subst (λ (lines : List (List ℕ)). AreAnswered s lines start (position_of f.answers) text) (sym (split_front seen rest h.lines h.next h.split)) h.answered,
+)
+
+pub some_more : (s : Setting) (seen more text : List ℕ) → AnswersSome s seen text → AnswersSome s (seen ++ more) text
+some_more s seen more text h = λ rest. subst (λ (xs : List ℕ). AnswersFirst s xs text) (sym (append_assoc seen more rest)) (h (more ++ rest))
+
+-- with nothing more answered
+pub some_fed : (s : Setting) (seen more text : List ℕ) (f : Feed) → IsFed s seen f text → AnswersSome s (seen ++ more) (text ++ [])
+some_fed s seen more text f h =
+    subst (λ (t : List ℕ). AnswersSome s (seen ++ more) t) (sym (append-nil text)) (some_more s seen more text (first_fed s seen text f h))
+
 -- ---- the end of a line
 
 fed_ended : (s : Setting) (seen piece text here : List ℕ) (f g : Feed) (h : IsFed s seen f text) → All (λ c. (c == 10) ≡ false) piece
-    → IsAnswered s (h.next ++ piece) f.answers.place g.answers.place here → g.kept.items ≡ []
+    → IsAnswered s (h.next ++ piece) (position_of f.answers) (position_of g.answers) here → g.kept.items ≡ []
     → IsFed s (seen ++ (piece ++ 10 ∷ [])) g (text ++ here)
 fed_ended s seen piece text here f g h whole answered empty =
     let one = All-append (λ c. (c == 10) ≡ false) h.next piece h.whole whole in
@@ -104,22 +122,22 @@ fed_ended s seen piece text here f g h whole answered empty =
 
 -- of which nothing came before
 pub fed_direct : (s : Setting) (seen piece text here : List ℕ) (f g : Feed) → IsFed s seen f text → All (λ c. (c == 10) ≡ false) piece
-    → f.kept.items ≡ [] → IsAnswered s piece f.answers.place g.answers.place here → g.kept.items ≡ []
+    → f.kept.items ≡ [] → IsAnswered s piece (position_of f.answers) (position_of g.answers) here → g.kept.items ≡ []
     → IsFed s (seen ++ (piece ++ 10 ∷ [])) g (text ++ here)
 fed_direct s seen piece text here f g h whole none answered empty =
     let nothing : h.next ≡ [] = nothing_kept h.next (sym h.kept ∙ none) in
     fed_ended s seen piece text here f g h whole
-    (subst (λ (xs : List ℕ). IsAnswered s xs f.answers.place g.answers.place here) (sym (ap (λ (xs : List ℕ). xs ++ piece) nothing)) answered) empty
+    (subst (λ (xs : List ℕ). IsAnswered s xs (position_of f.answers) (position_of g.answers) here) (sym (ap (λ (xs : List ℕ). xs ++ piece) nothing)) answered) empty
 
 -- which is kept
 pub fed_kept : (s : Setting) (seen piece text here : List ℕ) (f g : Feed) (kept : List ℕ) → IsFed s seen f text → All (λ c. (c == 10) ≡ false) piece
-    → (length f.kept.items ≤ 65537 → kept ≡ take 65537 (f.kept.items ++ piece)) → IsAnswered s kept f.answers.place g.answers.place here
+    → (length f.kept.items ≤ 65537 → kept ≡ take 65537 (f.kept.items ++ piece)) → IsAnswered s kept (position_of f.answers) (position_of g.answers) here
     → g.kept.items ≡ [] → IsFed s (seen ++ (piece ++ 10 ∷ [])) g (text ++ here)
 fed_kept s seen piece text here f g kept h whole is answered empty =
     let same : kept ≡ take 65537 (h.next ++ piece) =
     is (short_kept h.next f.kept.items h.kept) ∙ (ap (λ (xs : List ℕ). take 65537 (xs ++ piece)) h.kept ∙ kept_more h.next piece) in
     fed_ended s seen piece text here f g h whole
-    (answered_whole s (h.next ++ piece) _ _ here (subst (λ (xs : List ℕ). IsAnswered s xs f.answers.place g.answers.place here) same answered)) empty
+    (answered_whole s (h.next ++ piece) _ _ here (subst (λ (xs : List ℕ). IsAnswered s xs (position_of f.answers) (position_of g.answers) here) same answered)) empty
 
 -- ---- what the calls of a feed say
 
@@ -137,21 +155,9 @@ pub keeps : {T E : Type 0} (r : Result T E) (new kept piece : List ℕ) (n : ℕ
 keeps (Err e) new kept piece n is few = tt
 keeps (Ok x) new kept piece n is few = λ short. is ∙ front_kept kept piece n few short
 
-pub on_err : {T E : Type 0} (r : Result T E) {P : Type 0} → P → OnErr r P
-on_err (Ok x) h = tt
-on_err (Err e) h = h
-
-pub map_err : {T E : Type 0} (r : Result T E) {P Q : Type 0} → (P → Q) → OnErr r P → OnErr r Q
-map_err (Ok x) f h = tt
-map_err (Err e) f h = f h
-
-pub map_err_both : {T E : Type 0} (r : Result T E) {P Q R : Type 0} → (P → Q → R) → OnErr r P → OnErr r Q → OnErr r R
-map_err_both (Ok x) f h k = tt
-map_err_both (Err e) f h k = f h k
-
 pub ends_direct : {T E : Type 0} (r : Result T E) (s : Setting) (f g : Feed) (piece : List ℕ) → All (λ c. (c == 10) ≡ false) piece
     → f.kept.items ≡ [] → g.kept.items ≡ []
-    → OnOk r ((here : List ℕ) × IsAnswered s piece f.answers.place g.answers.place here × (string_bytes g.answers.text ≡ string_bytes f.answers.text ++ here))
+    → OnOk r ((here : List ℕ) × IsAnswered s piece (position_of f.answers) (position_of g.answers) here × (string_bytes g.answers.text ≡ string_bytes f.answers.text ++ here))
     → OnOk r ((seen text : List ℕ) → IsFed s seen f text
     → (here : List ℕ) × IsFed s (seen ++ (piece ++ 10 ∷ [])) g (text ++ here) × (string_bytes g.answers.text ≡ string_bytes f.answers.text ++ here))
 ends_direct (Err e) s f g piece whole none empty h = tt
@@ -160,7 +166,7 @@ ends_direct (Ok x) s f g piece whole none empty h = λ seen text fed.
 
 pub ends_kept : {T E : Type 0} (r : Result T E) (s : Setting) (f m g : Feed) (piece : List ℕ) → All (λ c. (c == 10) ≡ false) piece
     → (length f.kept.items ≤ 65537 → m.kept.items ≡ take 65537 (f.kept.items ++ piece)) → m.answers ≡ f.answers
-    → OnOk r ((here : List ℕ) × IsAnswered s m.kept.items m.answers.place g.answers.place here × (string_bytes g.answers.text ≡ string_bytes m.answers.text ++ here))
+    → OnOk r ((here : List ℕ) × IsAnswered s m.kept.items (position_of m.answers) (position_of g.answers) here × (string_bytes g.answers.text ≡ string_bytes m.answers.text ++ here))
     → OnOk r (g.kept.items ≡ [])
     → OnOk r ((seen text : List ℕ) → IsFed s seen f text
     → (here : List ℕ) × IsFed s (seen ++ (piece ++ 10 ∷ [])) g (text ++ here) × (string_bytes g.answers.text ≡ string_bytes f.answers.text ++ here))
@@ -168,27 +174,8 @@ ends_kept (Err e) s f m g piece whole kept same h empty = tt
 ends_kept (Ok x) s f m g piece whole kept same h empty = λ seen text fed. (
   h.0,
   fed_kept s seen piece text h.0 f g m.kept.items fed whole kept
-      (subst (λ (a : Answers). IsAnswered s m.kept.items a.place g.answers.place h.0) same h.1) empty,
+      (subst (λ (a : Answers). IsAnswered s m.kept.items (position_of a) (position_of g.answers) h.0) same h.1) empty,
   h.2 ∙ ap (λ (a : Answers). string_bytes a.text ++ h.0) same,
-)
-
-pub stops_direct : (s : Setting) (f g : Feed) (piece : List ℕ) → g.kept.items ≡ f.kept.items → g.answers.place ≡ f.answers.place
-    → (seen text : List ℕ) → IsFed s seen f text → (n : ℕ) × (n ≤ length piece) × IsFed s (seen ++ take n piece) g text
-stops_direct s f g piece kept place seen text fed = (
-  0,
-  omega arith,
-  subst (λ (bs : List ℕ). IsFed s bs g text) (sym (append-nil seen)) (fed_same s seen text f g fed kept place),
-)
-
-pub stops_kept : (s : Setting) (f m g : Feed) (piece : List ℕ) → All (λ c. (c == 10) ≡ false) piece
-    → (length f.kept.items ≤ 65537 → m.kept.items ≡ take 65537 (f.kept.items ++ piece)) → m.answers ≡ f.answers
-    → g.kept.items ≡ m.kept.items → g.answers.place ≡ m.answers.place
-    → (seen text : List ℕ) → IsFed s seen f text → (n : ℕ) × (n ≤ length piece) × IsFed s (seen ++ take n piece) g text
-stops_kept s f m g piece whole kept same still place seen text fed = (
-  length piece,
-  omega arith,
-  rw (take_all (length piece) piece (omega arith))
-      (fed_same s (seen ++ piece) text m g (fed_piece s seen piece text f m fed whole kept (ap (λ (a : Answers). a.place) same)) still place),
 )
 
 -- ---- bytes that are taken, one piece after another
@@ -218,12 +205,10 @@ module _ (s : Setting) where
   takes_stops fault a b c f g h xs ys first then = λ seen text fed.
       let one = first seen text fed in
       let two = then (seen ++ xs) (text ++ one.0) one.1 in (
-        length xs + two.0,
-        one.0 ++ two.1,
-        omega (arith, two.2, length-append xs ys),
-        rw (take-append-add xs ys two.0) (subst (λ (bs : List ℕ). IsFed s bs h (text ++ (one.0 ++ two.1))) (append_assoc seen xs (take two.0 ys))
-            (subst (λ (t : List ℕ). IsFed s ((seen ++ xs) ++ take two.0 ys) h t) (append_assoc text one.0 two.1) two.3)),
-        stops_more fault a b c _ _ _ one.0 two.1 one.2 two.4,
+        one.0 ++ two.0,
+        subst (λ (bs : List ℕ). AnswersSome s bs (text ++ (one.0 ++ two.0))) (append_assoc seen xs ys)
+            (subst (λ (t : List ℕ). AnswersSome s ((seen ++ xs) ++ ys) t) (append_assoc text one.0 two.0) two.1),
+        stops_more fault a b c _ _ _ one.0 two.0 one.2 two.2,
       )
 
   -- of more bytes no more are taken
@@ -231,7 +216,7 @@ module _ (s : Setting) where
       → Takes s a b f g (xs ++ ys) (Err fault)
   takes_fewer fault a b f g xs ys stops = λ seen text fed.
       let one = stops seen text fed in
-      (one.0, one.1, omega (arith, one.2, length-append xs ys), rw (take-append-le one.0 xs ys one.2) one.3, one.4)
+      (one.0, subst (λ (bs : List ℕ). AnswersSome s bs (text ++ one.0)) (append_assoc seen xs ys) (some_more s (seen ++ xs) ys (text ++ one.0) one.1), one.2)
 
   pub takes_nothing : (a : Option (List ℕ)) (f : Feed) → Takes s a a f f [] (Ok tt)
   takes_nothing a f = λ seen text fed. (
@@ -261,20 +246,14 @@ module _ (s : Setting) where
   takes_piece a f g piece whole kept same = λ seen text fed. (
     [],
     subst (λ (t : List ℕ). IsFed s (seen ++ piece) g t) (sym (append-nil text))
-        (fed_piece s seen piece text f g fed whole kept (ap (λ (x : Answers). x.place) same)),
+        (fed_piece s seen piece text f g fed whole kept (ap position_of same)),
     sends_none a _ _ (ap (λ (x : Answers). string_bytes x.text) same),
   )
 
   -- or can't be
-  pub takes_no_piece : (a : Option (List ℕ)) (f g : Feed) (piece : List ℕ) → g.kept.items ≡ f.kept.items → g.answers ≡ f.answers
-      → Takes s a a f g piece (Err NoMemory)
-  takes_no_piece a f g piece kept same = λ seen text fed. (
-    0,
-    [],
-    omega arith,
-    nothing_more s seen text g (fed_same s seen text f g fed kept (ap (λ (x : Answers). x.place) same)),
-    sends_none a _ _ (ap (λ (x : Answers). string_bytes x.text) same),
-  )
+  pub takes_no_piece : (a : Option (List ℕ)) (f g : Feed) (piece : List ℕ) → g.answers ≡ f.answers → Takes s a a f g piece (Err NoMemory)
+  takes_no_piece a f g piece same = λ seen text fed.
+      ([], some_fed s seen piece text f fed, sends_none a _ _ (ap (λ (x : Answers). string_bytes x.text) same))
 
   -- a line is ended
   pub takes_line : (a : Option (List ℕ)) (f g : Feed) (line : List ℕ)
@@ -292,19 +271,11 @@ module _ (s : Setting) where
   -- or can't be
   pub takes_no_line : (fault : EngineFault) (a : Option (List ℕ)) (f g : Feed) (piece : List ℕ) → fault ≢ Output
       → string_bytes g.answers.text ≡ string_bytes f.answers.text
-      → ((seen text : List ℕ) → IsFed s seen f text → (n : ℕ) × (n ≤ length piece) × IsFed s (seen ++ take n piece) g text)
       → Takes s a a f g piece (Err fault)
-  takes_no_line fault a f g piece other same stopped = λ seen text fed.
-      let e = stopped seen text fed in (
-        e.0,
-        [],
-        e.1,
-        subst (λ (t : List ℕ). IsFed s (seen ++ take e.0 piece) g t) (sym (append-nil text)) e.2,
-        stops_none fault a _ _ other same,
-      )
+  takes_no_line fault a f g piece other same = λ seen text fed. ([], some_fed s seen piece text f fed, stops_none fault a _ _ other same)
 
   -- what is answered is written, where it is long
-  pub takes_relief : (a b : Option (List ℕ)) (f g : Feed) → g.kept ≡ f.kept → g.answers.place ≡ f.answers.place
+  pub takes_relief : (a b : Option (List ℕ)) (f g : Feed) → g.kept ≡ f.kept → (position_of g.answers) ≡ (position_of f.answers)
       → Sends a b (string_bytes f.answers.text) (string_bytes g.answers.text) [] → Takes s a b f g [] (Ok tt)
   takes_relief a b f g kept place sends = λ seen text fed. (
     [],
@@ -313,15 +284,9 @@ module _ (s : Setting) where
   )
 
   -- or can't be
-  pub takes_no_relief : (a b : Option (List ℕ)) (f g : Feed) → g.kept ≡ f.kept → g.answers.place ≡ f.answers.place
-      → AppendsBeginning a b (string_bytes f.answers.text) → Takes s a b f g [] (Err Output)
-  takes_no_relief a b f g kept place begun = λ seen text fed. (
-    0,
-    [],
-    omega arith,
-    nothing_more s seen text g (fed_same s seen text f g fed (ap (λ v. v.items) kept) place),
-    subst (λ (xs : List ℕ). AppendsBeginning a b xs) (sym (append-nil (string_bytes f.answers.text))) begun,
-  )
+  pub takes_no_relief : (a b : Option (List ℕ)) (f g : Feed) → AppendsBeginning a b (string_bytes f.answers.text) → Takes s a b f g [] (Err Output)
+  takes_no_relief a b f g begun = λ seen text fed.
+      ([], some_fed s seen [] text f fed, subst (λ (xs : List ℕ). AppendsBeginning a b xs) (sym (append-nil (string_bytes f.answers.text))) begun)
 
   -- ---- all steps of a line, after those before
 

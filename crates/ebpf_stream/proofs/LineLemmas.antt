@@ -8,17 +8,16 @@ use Rattle.std.proofs.Math.Seq.{take-append_seam}
 use Rattle.ebpf_command.specs.declared.done.FaultCode.TheVariants.{InputTooLong}
 use Rattle.ebpf_script.specs.ParsedScript.{ParsedScript}
 use Rattle.ebpf_script.specs.ScriptLines.{script_lines}
-use Rattle.ebpf_stream.specs.declared.place.Place.{Place}
-use Rattle.ebpf_stream.specs.Answering.{Setting, IsAnswered, AreAnswered, stream_fault}
+use Rattle.ebpf_stream.specs.Answering.{Setting, Position, IsAnswered, AreAnswered, stream_fault}
 
 -- a line more is answered
-pub answered_more : (s : Setting) (lines : List (List ℕ)) (line : List ℕ) (a b c : Place) (t u : List ℕ)
+pub answered_more : (s : Setting) (lines : List (List ℕ)) (line : List ℕ) (a b c : Position) (t u : List ℕ)
     → AreAnswered s lines a b t → IsAnswered s line b c u → AreAnswered s (lines ++ line ∷ []) a c (t ++ u)
 answered_more s [] line a b c t u h here = (
   c,
   u,
   [],
-  subst (λ (p : Place). IsAnswered s line p c u) h.0 here,
+  subst (λ (p : Position). IsAnswered s line p c u) h.0 here,
   (refl, refl),
   ap (λ (xs : List ℕ). xs ++ u) h.1 ∙ sym (append-nil u),
 )
@@ -39,7 +38,7 @@ long_fault parsed line long =
     let test : nat_lt 65536 (length line) ≡ true = grind (arith, nat_tests) in
     rw test refl
 
-pub answered_whole : (s : Setting) (line : List ℕ) (a b : Place) (t : List ℕ) → IsAnswered s (take 65537 line) a b t → IsAnswered s line a b t
+pub answered_whole : (s : Setting) (line : List ℕ) (a b : Position) (t : List ℕ) → IsAnswered s (take 65537 line) a b t → IsAnswered s line a b t
 answered_whole s line a b t h = elim (eq-zero-or-pos (length line - 65537)) [
   | inl short ↦
       let same : take 65537 line ≡ line = take_all 65537 line (omega (arith, short)) in

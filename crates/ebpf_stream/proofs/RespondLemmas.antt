@@ -15,8 +15,7 @@ use Rattle.ebpf_script.specs.ParsedScript.{ParsedScript}
 use Rattle.ebpf_script.specs.ScriptText.{Doing, RespondsScript, RespondsUnless}
 use Rattle.ebpf_script.specs.Verdicts.{verdict_lines}
 use Rattle.ebpf_script.specs.VerdictsKept.{AreKept}
-use Rattle.ebpf_stream.specs.declared.place.Place.{Place}
-use Rattle.ebpf_stream.specs.Answering.{Setting}
+use Rattle.ebpf_stream.specs.Answering.{Setting, Position}
 use Rattle.ebpf_stream.specs.Feeding.{Serves}
 use Rattle.ebpf_stream.specs.Serving.{RespondsTo, RespondsFirstTo, RespondsPartTo, WritesFirstTo}
 use Rattle.ebpf_stream.specs.Streaming.{AnswersFirst, AnswersAll, DoesStream, DoesFirst, done_by, setting_of}
@@ -55,7 +54,7 @@ module _ (format : Format) (parsed : ParsedScript) (kept : Verdicts) (k : AreKep
     as_set : setting ≡ setting_of format parsed k.verdicts
     as_set = ap (λ (ss : List Subject). record { format = format; parsed = parsed; subjects = ss }) (same ∙ k.accepted)
 
-    pub responds_all : (input : List ℕ) (after : Place) (text : List ℕ) → AnswersAll (record { format = format; parsed = parsed; subjects = subjects }) input after text
+    pub responds_all : (input : List ℕ) (after : Position) (text : List ℕ) → AnswersAll (record { format = format; parsed = parsed; subjects = subjects }) input after text
         → RespondsTo format parsed input (record { text = string_bytes kept.text ++ text; done = done_by after.faulty })
     responds_all input after text h =
         let does : DoesStream format input parsed k.verdicts (record { text = string_bytes kept.text ++ text; done = done_by after.faulty }) = (
@@ -76,13 +75,13 @@ module _ (format : Format) (parsed : ParsedScript) (kept : Verdicts) (k : AreKep
         ) in
         unrefused (DoesFirst format input) (record { text = string_bytes kept.text ++ text; done = done }) fine does
 
-    pub writes_all : (input old new : Option (List ℕ)) (after : Place) → Serves (record { format = format; parsed = parsed; subjects = subjects }) input old new after (string_bytes kept.text) (Ok tt)
+    pub writes_all : (input old new : Option (List ℕ)) (after : Position) → Serves (record { format = format; parsed = parsed; subjects = subjects }) input old new after (string_bytes kept.text) (Ok tt)
         → Writes (RespondsTo format parsed) input old new (Ok (done_by after.faulty))
     writes_all None old new after h = tt
     writes_all (Some all) old new after h =
         (record { text = string_bytes kept.text ++ h.0; done = done_by after.faulty }, responds_all all after h.0 h.1, refl, h.2)
 
-    pub writes_first : (fault : EngineFault) (done : Done) (input old new : Option (List ℕ)) (after : Place)
+    pub writes_first : (fault : EngineFault) (done : Done) (input old new : Option (List ℕ)) (after : Position)
         → Serves (record { format = format; parsed = parsed; subjects = subjects }) input old new after (string_bytes kept.text) (Err fault) → fault ≢ Output
         → WritesFirstTo format parsed input old new
     writes_first fault done None old new after h other = tt
@@ -92,7 +91,7 @@ module _ (format : Format) (parsed : ParsedScript) (kept : Verdicts) (k : AreKep
     writes_first NoMemory done (Some all) old new after h other =
         (record { text = string_bytes kept.text ++ h.0; done = done }, responds_first all done h.0 h.1, h.2)
 
-    pub begins_part : (fault : EngineFault) (done : Done) (input old new : Option (List ℕ)) (after : Place)
+    pub begins_part : (fault : EngineFault) (done : Done) (input old new : Option (List ℕ)) (after : Position)
         → Serves (record { format = format; parsed = parsed; subjects = subjects }) input old new after (string_bytes kept.text) (Err fault)
         → WritesBeginning (RespondsPartTo format parsed) input old new (Err fault)
     begins_part fault done None old new after h = tt

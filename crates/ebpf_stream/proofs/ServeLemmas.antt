@@ -1,7 +1,7 @@
 -- A stream that is answered to its end, or to a fault.
-use Rattle.std.proofs.Common.{◌≡◌, ℕ, ◌+◌, List, [], ◌++◌, length, take, drop, Option, Some, None, Ok, Err, inl, refl, sym, ap, ◌∙◌, subst, arith, append_assoc, append-nil, length-append}
+use Rattle.std.proofs.Common.{◌≡◌, ℕ, ◌+◌, List, [], ◌++◌, length, take, Option, Some, None, Ok, Err, inl, refl, sym, ap, ◌∙◌, subst, arith, append_assoc, append-nil, length-append}
 use Rattle.std.specs.Io.KnownBytes.{Appends, Consumes, IsAtEnd}
-use Rattle.std.proofs.lemmas.List.{take_all, take-append-drop}
+use Rattle.std.proofs.lemmas.List.{take_all}
 use Rattle.std.proofs.Math.Seq.{take-append-add}
 use Rattle.ebpf_command.specs.declared.done.EngineFault.{EngineFault}
 use Rattle.ebpf_command.specs.declared.done.EngineFault.TheVariants.{Input, Output, NoMemory}
@@ -9,14 +9,13 @@ use Rattle.ebpf_command.specs.Writing.{AppendsBeginning}
 use Rattle.ebpf_command.proofs.Known.{Appends-more}
 use Rattle.ebpf_script.specs.ScriptLines.{script_lines}
 use Rattle.ebpf_stream.specs.declared.feed.Feed.{Feed}
-use Rattle.ebpf_stream.specs.declared.place.Place.{Place}
 use Rattle.ebpf_stream.specs.declared.totals.MachineTotals.{MachineTotals}
-use Rattle.ebpf_stream.specs.Answering.{Setting, IsAnswered, AreAnswered, start}
-use Rattle.ebpf_stream.specs.Feeding.{IsFed, AnswersPart, Leaves, Serves}
+use Rattle.ebpf_stream.specs.Answering.{Setting, Position, IsAnswered, AreAnswered, position_of, start}
+use Rattle.ebpf_stream.specs.Feeding.{IsFed, AnswersPart, AnswersSome, Leaves, Serves}
 use Rattle.ebpf_stream.specs.Streaming.{AnswersFirst, AnswersAll}
-use Rattle.ebpf_stream.specs.Totals.{totals_in}
-use Rattle.ebpf_stream.proofs.FeedLemmas.{Appends-none}
-use Rattle.ebpf_stream.proofs.LineLemmas.{answered_more, answered_whole, split_all, split_front}
+use Rattle.ebpf_stream.specs.Totals.{TellAllLeft, totals_in}
+use Rattle.ebpf_stream.proofs.FeedLemmas.{Appends-none, first_fed}
+use Rattle.ebpf_stream.proofs.LineLemmas.{answered_more, answered_whole, split_all}
 
 pub begins : (a b : Option (List ℕ)) (text : List ℕ) → Appends a b text → AppendsBeginning a b text
 begins a b text h = (length text, omega arith, subst (λ (xs : List ℕ). Appends a b xs) (sym (take_all (length text) text (omega arith))) h)
@@ -35,22 +34,15 @@ module _ (s : Setting) where
   pub first_none : (input : List ℕ) → AnswersFirst s input []
   first_none input = (0, start, (refl, refl))
 
-  pub first_fed : (seen rest text : List ℕ) (feed : Feed) → IsFed s seen feed text → AnswersFirst s (seen ++ rest) text
-  first_fed seen rest text feed h = (
-    length h.lines,
-    feed.answers.place,
-    subst (λ (lines : List (List ℕ)). AreAnswered s lines start feed.answers.place text) (sym (split_front seen rest h.lines h.next h.split)) h.answered,
-  )
-
   -- the last line is answered
-  pub all_lines : (seen text here : List ℕ) (feed : Feed) (after : Place) → IsFed s seen feed text → IsAnswered s feed.kept.items feed.answers.place after here
+  pub all_lines : (seen text here : List ℕ) (feed : Feed) (after : Position) → IsFed s seen feed text → IsAnswered s feed.kept.items (position_of feed.answers) after here
       → AreAnswered s (script_lines seen) start after (text ++ here)
   all_lines seen text here feed after h answered =
       subst (λ (lines : List (List ℕ)). AreAnswered s lines start after (text ++ here)) (sym (split_all seen h.lines h.next h.whole h.split))
-      (answered_more s h.lines h.next start feed.answers.place after text here h.answered
-      (answered_whole s h.next feed.answers.place after here (subst (λ (xs : List ℕ). IsAnswered s xs feed.answers.place after here) h.kept answered)))
+      (answered_more s h.lines h.next start (position_of feed.answers) after text here h.answered
+      (answered_whole s h.next (position_of feed.answers) after here (subst (λ (xs : List ℕ). IsAnswered s xs (position_of feed.answers) after here) h.kept answered)))
 
-  pub first_all : (seen text : List ℕ) (after : Place) → AreAnswered s (script_lines seen) start after text → AnswersFirst s seen text
+  pub first_all : (seen text : List ℕ) (after : Position) → AreAnswered s (script_lines seen) start after text → AnswersFirst s seen text
   first_all seen text after h = (
     length (script_lines seen),
     after,
@@ -58,9 +50,9 @@ module _ (s : Setting) where
   )
 
   -- and the end
-  pub all_ended : (seen text here : List ℕ) (after : Place) (totals : MachineTotals) → AreAnswered s (script_lines seen) start after (text ++ here)
-      → AnswersAll s seen after (text ++ (here ++ totals_in s.format totals))
-  all_ended seen text here after totals h = (text ++ here, totals, h, sym (append_assoc text here (totals_in s.format totals)))
+  pub all_ended : (seen text here : List ℕ) (after : Position) (totals : MachineTotals) → AreAnswered s (script_lines seen) start after (text ++ here)
+      → TellAllLeft after.shelves totals → AnswersAll s seen after (text ++ (here ++ totals_in s.format totals))
+  all_ended seen text here after totals h left = (text ++ here, totals, h, left, sym (append_assoc text here (totals_in s.format totals)))
 
   pub part_of : (fault : EngineFault) (input text : List ℕ) → AnswersFirst s input text → AnswersPart fault s input text
   part_of Output input text h = inl h
@@ -88,13 +80,13 @@ module _ (s : Setting) where
     pub written : Appends old new (waited ++ text)
 
   -- it ends with nothing more written
-  pub serves_stopped : (fault : EngineFault) (input left old new : Option (List ℕ)) (waited : List ℕ) (feed : Feed) (after : Place)
+  pub serves_stopped : (fault : EngineFault) (input left old new : Option (List ℕ)) (waited : List ℕ) (feed : Feed) (after : Position)
       → IsServed input left old new waited feed → Serves s input old new after waited (Err fault)
   serves_stopped fault None left old new waited feed after h = tt
   serves_stopped fault (Some all) None old new waited feed after h = absurd h.read
   serves_stopped fault (Some all) (Some rest) old new waited feed after h = (
     h.text,
-    part_of fault all h.text (subst (λ (xs : List ℕ). AnswersFirst s xs h.text) (sym h.read) (first_fed h.seen rest h.text feed h.fed)),
+    part_of fault all h.text (subst (λ (xs : List ℕ). AnswersFirst s xs h.text) (sym h.read) (first_fed s h.seen h.text feed h.fed rest)),
     leaves fault,
   )
     where
@@ -104,7 +96,7 @@ module _ (s : Setting) where
       leaves NoMemory = h.written
 
   -- nothing was read
-  pub serves_nothing : (input old new : Option (List ℕ)) (waited : List ℕ) (after : Place) → AppendsBeginning old new waited
+  pub serves_nothing : (input old new : Option (List ℕ)) (waited : List ℕ) (after : Position) → AppendsBeginning old new waited
       → Serves s input old new after waited (Err Output)
   serves_nothing None old new waited after h = tt
   serves_nothing (Some all) old new waited after h =
@@ -114,7 +106,7 @@ module _ (s : Setting) where
   all_read all left seen read end = sym (append-nil seen) ∙ (ap (λ (xs : List ℕ). seen ++ xs) (sym end) ∙ sym read)
 
   -- all was read, and the end is answered
-  pub serves_ended : (input left old mid new : Option (List ℕ)) (waited seen text more : List ℕ) (after : Place) → Consumes input left seen → IsAtEnd left
+  pub serves_ended : (input left old mid new : Option (List ℕ)) (waited seen text more : List ℕ) (after : Position) → Consumes input left seen → IsAtEnd left
       → Appends old mid (waited ++ text) → AnswersAll s seen after (text ++ more) → Appends mid new more → Serves s input old new after waited (Ok tt)
   serves_ended None left old mid new waited seen text more after read end written answers last = tt
   serves_ended (Some all) None old mid new waited seen text more after read end written answers last = absurd read
@@ -125,7 +117,7 @@ module _ (s : Setting) where
   )
 
   -- or it could not be
-  pub serves_cut : (fault : EngineFault) (input left old mid new : Option (List ℕ)) (waited seen text more : List ℕ) (after : Place) → Consumes input left seen → IsAtEnd left
+  pub serves_cut : (fault : EngineFault) (input left old mid new : Option (List ℕ)) (waited seen text more : List ℕ) (after : Position) → Consumes input left seen → IsAtEnd left
       → Appends old mid (waited ++ text) → AnswersPart fault s seen (text ++ more) → Leaves fault mid new more → Serves s input old new after waited (Err fault)
   serves_cut fault None left old mid new waited seen text more after read end written answers last = tt
   serves_cut fault (Some all) None old mid new waited seen text more after read end written answers last = absurd read
@@ -136,17 +128,13 @@ module _ (s : Setting) where
   )
 
   -- some of the bytes that were read could not be answered
-  pub serves_part : (fault : EngineFault) (input left old mid new : Option (List ℕ)) (waited seen text more bytes : List ℕ) (n : ℕ) (feed : Feed) (after : Place)
-      → Consumes input left (seen ++ bytes) → Appends old mid (waited ++ text) → IsFed s (seen ++ take n bytes) feed (text ++ more) → Leaves fault mid new more
+  pub serves_part : (fault : EngineFault) (input left old mid new : Option (List ℕ)) (waited seen text more : List ℕ) (after : Position)
+      → Consumes input left seen → Appends old mid (waited ++ text) → AnswersSome s seen (text ++ more) → Leaves fault mid new more
       → Serves s input old new after waited (Err fault)
-  serves_part fault None left old mid new waited seen text more bytes n feed after read written fed last = tt
-  serves_part fault (Some all) None old mid new waited seen text more bytes n feed after read written fed last = absurd read
-  serves_part fault (Some all) (Some left) old mid new waited seen text more bytes n feed after read written fed last =
-      let split : (seen ++ take n bytes) ++ (drop n bytes ++ left) ≡ all =
-      append_assoc seen (take n bytes) (drop n bytes ++ left)
-      ∙ (ap (λ (xs : List ℕ). seen ++ xs) (sym (append_assoc (take n bytes) (drop n bytes) left) ∙ ap (λ (xs : List ℕ). xs ++ left) (take-append-drop n bytes))
-      ∙ (sym (append_assoc seen bytes left) ∙ sym read)) in (
-        text ++ more,
-        part_of fault all (text ++ more) (subst (λ (xs : List ℕ). AnswersFirst s xs (text ++ more)) split (first_fed (seen ++ take n bytes) (drop n bytes ++ left) (text ++ more) feed fed)),
-        subst (λ (xs : List ℕ). Leaves fault old new xs) (append_assoc waited text more) (leaves_after fault old mid new (waited ++ text) more written last),
-      )
+  serves_part fault None left old mid new waited seen text more after read written answers last = tt
+  serves_part fault (Some all) None old mid new waited seen text more after read written answers last = absurd read
+  serves_part fault (Some all) (Some left) old mid new waited seen text more after read written answers last = (
+    text ++ more,
+    part_of fault all (text ++ more) (subst (λ (xs : List ℕ). AnswersFirst s xs (text ++ more)) (sym read) (answers left)),
+    subst (λ (xs : List ℕ). Leaves fault old new xs) (append_assoc waited text more) (leaves_after fault old mid new (waited ++ text) more written last),
+  )

@@ -1,5 +1,5 @@
 -- How far a stream of jobs has been answered, after some of its bytes.
-use Rattle.std.specs.Prelude.{◌≡◌, ◌⊎◌, ◌≤◌, ℕ, ◌==◌, ◌++◌, false, List, [], length, map, take, Option, Result, Ok, Err, IfSome, string_bytes}
+use Rattle.std.specs.Prelude.{◌≡◌, ◌⊎◌, ℕ, ◌==◌, ◌++◌, false, List, [], map, take, Option, Result, Ok, Err, IfSome, string_bytes}
 use Rattle.std.specs.List.{All}
 use Rattle.std.specs.Io.KnownBytes.{Appends}
 use Rattle.ebpf_command.specs.declared.done.EngineFault.{EngineFault}
@@ -8,9 +8,8 @@ use Rattle.ebpf_command.specs.Writing.{AppendsBeginning}
 use Rattle.ebpf_script.specs.ReadScripts.{parsed_script}
 use Rattle.ebpf_script.specs.ScriptLines.{script_lines}
 use Rattle.ebpf_stream.specs.declared.feed.Feed.{Feed}
-use Rattle.ebpf_stream.specs.declared.place.Place.{Place}
 use Rattle.ebpf_stream.specs.declared.setup.Setup.{Setup}
-use Rattle.ebpf_stream.specs.Answering.{Setting, AreAnswered, start}
+use Rattle.ebpf_stream.specs.Answering.{Setting, Position, AreAnswered, position_of, start}
 use Rattle.ebpf_stream.specs.Streaming.{AnswersFirst, AnswersAll}
 
 abbrev pub set_up : Setup → Setting
@@ -23,7 +22,11 @@ pub record IsFed (s : Setting) (seen : List ℕ) (feed : Feed) (text : List ℕ)
   pub split : (rest : List ℕ) → script_lines (seen ++ rest) ≡ lines ++ script_lines (next ++ rest)
   pub whole : All (λ c. (c == 10) ≡ false) next
   pub kept : feed.kept.items ≡ take 65537 next
-  pub answered : AreAnswered s lines start feed.answers.place text
+  pub answered : AreAnswered s lines start (position_of feed.answers) text
+
+-- the text answers the first lines of any stream that begins with these bytes
+abbrev pub AnswersSome : Setting → (seen text : List ℕ) → Type 0
+AnswersSome s seen text = (rest : List ℕ) → AnswersFirst s (seen ++ rest) text
 
 -- a text was written or waits to be, after what waited before
 pub record Sends (old new : Option (List ℕ)) (waited waits text : List ℕ) : Type 0 where
@@ -37,12 +40,12 @@ Stops Output old new waited waits text = AppendsBeginning old new (waited ++ tex
 Stops Input old new waited waits text = Sends old new waited waits text
 Stops NoMemory old new waited waits text = Sends old new waited waits text
 
--- all of these bytes were taken, or the first n of them where a fault came
+-- all of these bytes were taken, or a fault came
 abbrev pub Takes : Setting → (old new : Option (List ℕ)) → (before after : Feed) → List ℕ → Result (Unit {0}) EngineFault → Type 0
 Takes s old new before after bytes (Ok done) = (seen text : List ℕ) → IsFed s seen before text
     → (more : List ℕ) × IsFed s (seen ++ bytes) after (text ++ more) × Sends old new (string_bytes before.answers.text) (string_bytes after.answers.text) more
 Takes s old new before after bytes (Err fault) = (seen text : List ℕ) → IsFed s seen before text
-    → (n : ℕ) × (more : List ℕ) × (n ≤ length bytes) × IsFed s (seen ++ take n bytes) after (text ++ more)
+    → (more : List ℕ) × AnswersSome s (seen ++ bytes) (text ++ more)
     × Stops fault old new (string_bytes before.answers.text) (string_bytes after.answers.text) more
 
 -- all that was answered is written; where a write failed, a beginning of it
@@ -56,24 +59,24 @@ abbrev pub TakesAll : Setting → (old new : Option (List ℕ)) → (before afte
 TakesAll s old new before after bytes (Ok done) = (seen text : List ℕ) → IsFed s seen before text
     → (more : List ℕ) × IsFed s (seen ++ bytes) after (text ++ more) × Appends old new (string_bytes before.answers.text ++ more) × (string_bytes after.answers.text ≡ [])
 TakesAll s old new before after bytes (Err fault) = (seen text : List ℕ) → IsFed s seen before text
-    → (n : ℕ) × (more : List ℕ) × (n ≤ length bytes) × IsFed s (seen ++ take n bytes) after (text ++ more)
+    → (more : List ℕ) × AnswersSome s (seen ++ bytes) (text ++ more)
     × Leaves fault old new (string_bytes before.answers.text ++ more)
 
 -- how far a stream is answered where a fault ends it
 abbrev pub AnswersPart : EngineFault → Setting → List ℕ → List ℕ → Type 0
-AnswersPart Output s input text = AnswersFirst s input text ⊎ ((after : Place) × AnswersAll s input after text)
+AnswersPart Output s input text = AnswersFirst s input text ⊎ ((after : Position) × AnswersAll s input after text)
 AnswersPart Input s input text = AnswersFirst s input text
 AnswersPart NoMemory s input text = AnswersFirst s input text
 
 -- the last line and the end of a stream of these bytes are answered, after what was written already
 abbrev pub Finishes : Setting → (old new : Option (List ℕ)) → (before after : Feed) → Result (Unit {0}) EngineFault → Type 0
 Finishes s old new before after (Ok done) = (seen text : List ℕ) → IsFed s seen before text
-    → (more : List ℕ) × AnswersAll s seen after.answers.place (text ++ more) × Appends old new more
+    → (more : List ℕ) × AnswersAll s seen (position_of after.answers) (text ++ more) × Appends old new more
 Finishes s old new before after (Err fault) = (seen text : List ℕ) → IsFed s seen before text
     → (more : List ℕ) × AnswersPart fault s seen (text ++ more) × Leaves fault old new more
 
 -- a stream is answered, after what waited before
-abbrev pub Serves : Setting → (input old new : Option (List ℕ)) → Place → (waited : List ℕ) → Result (Unit {0}) EngineFault → Type 0
+abbrev pub Serves : Setting → (input old new : Option (List ℕ)) → Position → (waited : List ℕ) → Result (Unit {0}) EngineFault → Type 0
 Serves s input old new after waited (Ok done) =
     IfSome input (λ all. (text : List ℕ) × AnswersAll s all after text × Appends old new (waited ++ text))
 Serves s input old new after waited (Err fault) =

@@ -11,10 +11,9 @@ use Rattle.ebpf_script.specs.Scripts.{parsed_text}
 use Rattle.ebpf_script.specs.ScriptLines.{script_lines}
 use Rattle.ebpf_script.specs.ScriptText.{Doing, RespondsScript}
 use Rattle.ebpf_script.specs.Verdicts.{Verdict, verdict_lines, accepted_of}
-use Rattle.ebpf_stream.specs.declared.place.Place.{Place}
 use Rattle.ebpf_stream.specs.declared.totals.MachineTotals.{MachineTotals}
-use Rattle.ebpf_stream.specs.Answering.{Setting, AreAnswered, start}
-use Rattle.ebpf_stream.specs.Totals.{totals_in}
+use Rattle.ebpf_stream.specs.Answering.{Setting, Position, AreAnswered, start}
+use Rattle.ebpf_stream.specs.Totals.{TellAllLeft, totals_in}
 
 abbrev pub setting_of : Format → ParsedScript → List Verdict → Setting
 setting_of format parsed verdicts = record { format = format; parsed = parsed; subjects = accepted_of verdicts }
@@ -26,17 +25,18 @@ done_by false = Clean
 
 -- a text answers the first n lines of a stream, for some n
 abbrev pub AnswersFirst : Setting → List ℕ → List ℕ → Type 0
-AnswersFirst s input text = (n : ℕ) × (after : Place) × AreAnswered s (take n (script_lines input)) start after text
+AnswersFirst s input text = (n : ℕ) × (after : Position) × AreAnswered s (take n (script_lines input)) start after text
 
 -- it answers each line of a stream, and then its end
-abbrev pub AnswersAll : Setting → List ℕ → Place → List ℕ → Type 0
+abbrev pub AnswersAll : Setting → List ℕ → Position → List ℕ → Type 0
 AnswersAll s input after text =
-    (lines : List ℕ) × (totals : MachineTotals) × AreAnswered s (script_lines input) start after lines × (text ≡ lines ++ totals_in s.format totals)
+    (lines : List ℕ) × (totals : MachineTotals) × AreAnswered s (script_lines input) start after lines × TellAllLeft after.shelves totals
+    × (text ≡ lines ++ totals_in s.format totals)
 
 -- after the verdicts a stream is answered
 abbrev pub DoesStream : Format → List ℕ → Doing
 DoesStream format input parsed verdicts response =
-    (after : Place) × (text : List ℕ) × AnswersAll (setting_of format parsed verdicts) input after text
+    (after : Position) × (text : List ℕ) × AnswersAll (setting_of format parsed verdicts) input after text
     × (response ≡ record { text = verdict_lines format verdicts ++ text; done = done_by after.faulty })
 
 -- or only its first lines

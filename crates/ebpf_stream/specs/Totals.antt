@@ -1,5 +1,6 @@
 -- What a machine's caches and shelves did, as it is written at the end.
-use Rattle.std.specs.Prelude.{ℕ, ◌++◌, List, [], ◌∷◌, codes}
+use Rattle.std.specs.Prelude.{◌≡◌, ℕ, ◌++◌, List, [], ◌∷◌, codes, is_some, Option}
+use Rattle.std.specs.Int.{from_bool}
 use Rattle.ebpf_command.specs.declared.format.Format.{Format}
 use Rattle.ebpf_command.specs.declared.format.Format.TheVariants.{Text, Json}
 use Rattle.ebpf_script.specs.OutcomeLines.{cache_words, shelf_lines}
@@ -22,3 +23,13 @@ shelves_in Json t = shelf_objects (t.cells.shelf ∷ t.records.shelf ∷ t.block
 -- as `run` writes them
 abbrev pub totals_in : Format → MachineTotals → List ℕ
 totals_in format t = caches_in format t ++ shelves_in format t
+
+-- what is left on a shelf at the end is what is there: an object with these bytes, or nothing
+abbrev pub TellsLeft : Option (List ℕ) → KindTotals → Type 0
+TellsLeft bytes t = t.shelf.left ≡ from_bool (is_some bytes)
+
+-- on each of these shelves
+pub record TellAllLeft (shelves : ℕ → Option (List ℕ)) (t : MachineTotals) : Type 0 where
+  pub cells : TellsLeft (shelves 0) t.cells
+  pub records : TellsLeft (shelves 1) t.records
+  pub blocks : TellsLeft (shelves 2) t.blocks

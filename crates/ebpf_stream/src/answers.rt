@@ -1,12 +1,13 @@
 //! The answers to the lines of a stream.
 
 ghost use Rattle.std.specs.Prelude.{◌≡◌, ◌≢◌, ◌+◌, ◌++◌, ℕ, List, None, Some, length, map, slice_get, string_bytes, IfOk, OnOk, OnErr, IfErr, true};
+ghost use Rattle.ebpf_host.specs.Stocks.{stock_of};
 ghost use Rattle.ebpf_command.specs.Json.{fault_in};
 ghost use Rattle.ebpf_command.specs.declared.done.EngineFault.TheVariants.{Output};
 ghost use Rattle.ebpf_script.specs.ReadScripts.{parsed_script};
-ghost use Rattle.ebpf_stream.specs.Answering.{IsAnswered, IsDone, report_in, start};
+ghost use Rattle.ebpf_stream.specs.Answering.{IsAnswered, IsDone, position_of, report_in, start};
 ghost use Rattle.ebpf_stream.specs.Feeding.{set_up};
-ghost use Rattle.ebpf_stream.specs.Totals.{totals_in};
+ghost use Rattle.ebpf_stream.specs.Totals.{TellAllLeft, totals_in};
 ghost use Rattle.ebpf_stream.specs.declared.totals.MachineTotals.{MachineTotals};
 
 use crate::job_text::write_report;
@@ -28,7 +29,7 @@ use std::alloc::{AllocError, Global};
 /// The machine that does the jobs, how far the stream is, and what is answered and not yet written.
 #[derive(Drop)]
 pub(crate) struct Answers {
-    machine: Machine,
+    pub(crate) machine: Machine,
     // Where the text of a job is made, so that none is answered in part.
     whole: String,
     line: TextLine,
@@ -37,10 +38,11 @@ pub(crate) struct Answers {
 }
 
 impl Answers {
-    /// No line is answered yet, and this text waits.
+    /// No line is answered yet, nothing is on the shelves of the machine, and this text waits.
     pub(crate) fn new(alloc: Global, machine: Machine, text: String) -> Answers
+        requires { (kind : ℕ) → (stock_of machine kind).shelf ≡ None }
         ensures text { string_bytes result.text ≡ string_bytes text }
-        ensures place { result.place ≡ start }
+        ensures position { position_of result ≡ start }
     {
         Answers {
             machine,
@@ -65,8 +67,7 @@ impl Answers {
         setup: &Setup,
         line: &[u8],
     ) -> Result<(), EngineFault>
-        ensures answered { OnOk result ((here : List ℕ) × IsAnswered (set_up setup.now) line.now self.old.place self.new.place here × (string_bytes self.new.text ≡ string_bytes self.old.text ++ here)) }
-        ensures place { OnErr result (self.new.place ≡ self.old.place) }
+        ensures answered { OnOk result ((here : List ℕ) × IsAnswered (set_up setup.now) line.now (position_of self.old) (position_of self.new) here × (string_bytes self.new.text ≡ string_bytes self.old.text ++ here)) }
         ensures text { OnErr result (string_bytes self.new.text ≡ string_bytes self.old.text) }
         ensures fault { IfErr result (λ fault. fault ≢ Output) }
     {
@@ -97,8 +98,8 @@ impl Answers {
     ) -> Result<(), AllocError>
         ensures place { OnOk result (self.new.place ≡ record self.old.place { lines = lines; faulty = true }) }
         ensures answered { OnOk result (string_bytes self.new.text ≡ string_bytes self.old.text ++ fault_in format code lines) }
-        ensures same_place { OnErr result (self.new.place ≡ self.old.place) }
-        ensures same_text { OnErr result (string_bytes self.new.text ≡ string_bytes self.old.text) }
+        ensures machine { self.new.machine ≡ self.old.machine }
+        ensures text { OnErr result (string_bytes self.new.text ≡ string_bytes self.old.text) }
     {
         let fault = answer_fault_in(alloc, format, code, lines)?;
         self.text.push_str(fault.text.as_str())?;
@@ -111,8 +112,7 @@ impl Answers {
     fn run(&mut self, setup: &Setup, job: &Job, lines: usize) -> Result<(), EngineFault>
         requires declared { slice_get (map (λ p. p.context) (parsed_script setup.now.script).programs) job.now.program ≡ Some (length job.now.context) }
         requires next { lines ≡ self.old.place.lines + 1 }
-        ensures done { OnOk result ((here : List ℕ) × IsDone (set_up setup.now) (Some job.now) self.old.place self.new.place here × (string_bytes self.new.text ≡ string_bytes self.old.text ++ here)) }
-        ensures place { OnErr result (self.new.place ≡ self.old.place) }
+        ensures done { OnOk result ((here : List ℕ) × IsDone (set_up setup.now) (Some job.now) (position_of self.old) (position_of self.new) here × (string_bytes self.new.text ≡ string_bytes self.old.text ++ here)) }
         ensures text { OnErr result (string_bytes self.new.text ≡ string_bytes self.old.text) }
         ensures fault { IfErr result (λ fault. fault ≢ Output) }
     {
@@ -138,6 +138,7 @@ impl Answers {
         ensures told { OnOk result (string_bytes self.new.text ≡ string_bytes self.old.text ++ report_in format self.old.place.jobs report.now) }
         ensures text { OnErr result (string_bytes self.new.text ≡ string_bytes self.old.text) }
         ensures place { self.new.place ≡ self.old.place }
+        ensures machine { self.new.machine ≡ self.old.machine }
     {
         self.whole.clear();
         write_report(
@@ -152,9 +153,9 @@ impl Answers {
 
     /// Answers the end of the input, with what the caches and the shelves did. It fails only where an allocation fails.
     pub(crate) fn end(&mut self, format: Format) -> Result<(), AllocError>
-        ensures told { OnOk result ((totals : MachineTotals) × (string_bytes self.new.text ≡ string_bytes self.old.text ++ totals_in format totals)) }
+        ensures told { OnOk result ((totals : MachineTotals) × TellAllLeft (position_of self.old).shelves totals × (string_bytes self.new.text ≡ string_bytes self.old.text ++ totals_in format totals)) }
         ensures text { OnErr result (string_bytes self.new.text ≡ string_bytes self.old.text) }
-        ensures place { self.new.place ≡ self.old.place }
+        ensures position { position_of self.new ≡ position_of self.old }
     {
         let totals = totals_of(&self.machine);
         self.whole.clear();

@@ -5,7 +5,7 @@ ghost use Rattle.std.specs.List.{All};
 ghost use Rattle.std.specs.Io.KnownBytes.{Appends};
 ghost use Rattle.ebpf_command.specs.Writing.{AppendsBeginning};
 ghost use Rattle.ebpf_command.specs.declared.done.EngineFault.TheVariants.{Output};
-ghost use Rattle.ebpf_stream.specs.Answering.{IsAnswered};
+ghost use Rattle.ebpf_stream.specs.Answering.{IsAnswered, position_of};
 ghost use Rattle.ebpf_stream.specs.Feeding.{IsFed, Sends, Takes, set_up};
 
 use crate::answers::Answers;
@@ -68,7 +68,6 @@ impl Feed {
     fn end_line(&mut self, alloc: Global, setup: &Setup, piece: &[u8]) -> Result<(), EngineFault>
         requires { All (λ c. (c == 10) ≡ false) piece.now }
         ensures ended { OnOk result ((seen text : List ℕ) → IsFed (set_up setup.now) seen self.old text → (here : List ℕ) × IsFed (set_up setup.now) (seen ++ (piece.now ++ 10 ∷ [])) self.new (text ++ here) × (string_bytes self.new.answers.text ≡ string_bytes self.old.answers.text ++ here)) }
-        ensures stopped { OnErr result ((seen text : List ℕ) → IsFed (set_up setup.now) seen self.old text → (n : ℕ) × (n ≤ length piece.now) × IsFed (set_up setup.now) (seen ++ take n piece.now) self.new text) }
         ensures text { OnErr result (string_bytes self.new.answers.text ≡ string_bytes self.old.answers.text) }
         ensures fault { IfErr result (λ fault. fault ≢ Output) }
     {
@@ -84,10 +83,8 @@ impl Feed {
     /// # Errors
     /// `NoMemory` and `Input` where it could not be answered.
     pub(crate) fn end(&mut self, alloc: Global, setup: &Setup) -> Result<(), EngineFault>
-        ensures answered { OnOk result ((here : List ℕ) × IsAnswered (set_up setup.now) self.old.kept.items self.old.answers.place self.new.answers.place here × (string_bytes self.new.answers.text ≡ string_bytes self.old.answers.text ++ here)) }
+        ensures answered { OnOk result ((here : List ℕ) × IsAnswered (set_up setup.now) self.old.kept.items (position_of self.old.answers) (position_of self.new.answers) here × (string_bytes self.new.answers.text ≡ string_bytes self.old.answers.text ++ here)) }
         ensures kept { OnOk result (self.new.kept.items ≡ []) }
-        ensures same { OnErr result (self.new.kept ≡ self.old.kept) }
-        ensures place { OnErr result (self.new.answers.place ≡ self.old.answers.place) }
         ensures text { OnErr result (string_bytes self.new.answers.text ≡ string_bytes self.old.answers.text) }
         ensures fault { IfErr result (λ fault. fault ≢ Output) }
     {
@@ -99,7 +96,6 @@ impl Feed {
     // Keeps a piece of the next line, as far as there is room.
     fn keep(&mut self, piece: &[u8]) -> Result<(), AllocError>
         ensures kept { OnOk result (length self.old.kept.items ≤ 65537 → self.new.kept.items ≡ take 65537 (self.old.kept.items ++ piece.now)) }
-        ensures same { OnErr result (self.new.kept.items ≡ self.old.kept.items) }
         ensures answers { self.new.answers ≡ self.old.answers }
     {
         let room = KEPT.saturating_sub(self.kept.len());
@@ -110,7 +106,7 @@ impl Feed {
     fn relieve<W: Write>(&mut self, writer: &mut W) -> Result<(), EngineFault>
         ensures sent { OnOk result (Sends (W.contents writer.old) (W.contents writer.new) (string_bytes self.old.answers.text) (string_bytes self.new.answers.text) []) }
         ensures beginning { OnErr result (AppendsBeginning (W.contents writer.old) (W.contents writer.new) (string_bytes self.old.answers.text)) }
-        ensures place { self.new.answers.place ≡ self.old.answers.place }
+        ensures position { position_of self.new.answers ≡ position_of self.old.answers }
         ensures kept { self.new.kept ≡ self.old.kept }
         ensures fault { IfErr result (λ fault. fault ≡ Output) }
     {
@@ -128,7 +124,7 @@ impl Feed {
         ensures written { OnOk result (Appends (W.contents writer.old) (W.contents writer.new) (string_bytes self.old.answers.text)) }
         ensures empty { OnOk result (string_bytes self.new.answers.text ≡ []) }
         ensures beginning { OnErr result (AppendsBeginning (W.contents writer.old) (W.contents writer.new) (string_bytes self.old.answers.text)) }
-        ensures place { self.new.answers.place ≡ self.old.answers.place }
+        ensures position { position_of self.new.answers ≡ position_of self.old.answers }
         ensures kept { self.new.kept ≡ self.old.kept }
         ensures fault { IfErr result (λ fault. fault ≡ Output) }
     {

@@ -1,13 +1,15 @@
 //! The command `stream`: programs, and a machine that does the jobs of a stream one after another.
 
-ghost use Rattle.std.specs.Prelude.{◌≡◌, ◌≢◌, ◌⊎◌, ◌≤◌, [], true, false, Ok, Err, IfOk, IfErr, OnOk, IfSome, string_bytes};
+ghost use Rattle.std.specs.Prelude.{◌≡◌, ◌≢◌, ◌⊎◌, ◌≤◌, ℕ, [], true, false, None, Ok, Err, IfOk, IfErr, OnOk, IfSome, string_bytes, unwrap_or};
 ghost use Rattle.std.specs.Io.KnownBytes.{Appends, IsAtEnd};
+ghost use Rattle.vmem_arena.specs.declared.arena.TheConstants.{MAX_PAGES};
+ghost use Rattle.ebpf_host.specs.Stocks.{stock_of};
 ghost use Rattle.ebpf_command.specs.declared.done.Done.TheVariants.{Refused};
 ghost use Rattle.ebpf_command.specs.declared.done.EngineFault.TheVariants.{Output};
 ghost use Rattle.ebpf_command.specs.Writing.{Reads, Writes, WritesBeginning, AppendsBeginning};
 ghost use Rattle.ebpf_script.specs.ReadScripts.{parsed_script};
 ghost use Rattle.ebpf_script.specs.Runnable.{IsRunnable};
-ghost use Rattle.ebpf_stream.specs.Answering.{start};
+ghost use Rattle.ebpf_stream.specs.Answering.{position_of, start};
 ghost use Rattle.ebpf_stream.specs.Feeding.{Finishes, Serves, TakesAll, set_up};
 ghost use Rattle.ebpf_stream.specs.Streaming.{done_by};
 ghost use Rattle.ebpf_stream.specs.Serving.{WritesStream, WritesPart, WritesFirst, WritesFirstTo, RespondsTo, RespondsPartTo};
@@ -120,9 +122,11 @@ fn done_by(faulty: bool) -> Done
     if faulty { Done::Refused } else { Done::Clean }
 }
 
-// A machine with this many pages, or with the most. It fails only where an allocation fails.
+// A machine with this many pages, or with the most, and nothing on its shelves. It fails only where an allocation fails.
 fn machine_of(alloc: Global, pages: Option<u32>) -> Result<Machine, AllocError>
     requires { IfSome pages (λ n. (1 ≤ n) × (n ≤ 256)) }
+    ensures bare { IfOk result (λ m. (kind : ℕ) → (stock_of m kind).shelf ≡ None) }
+    ensures pages { IfOk result (λ m. m.arena.pages ≡ unwrap_or pages MAX_PAGES) }
 {
     match Machine::new(alloc, pages.unwrap_or(MAX_PAGES)) {
         Ok(machine) => Ok(machine),
@@ -140,8 +144,8 @@ fn serve<I: Read, W: Write>(
     writer: &mut W,
 ) -> Result<(), EngineFault>
     requires kept { feed.old.kept.items ≡ [] }
-    requires place { feed.old.answers.place ≡ start }
-    ensures served { Serves (set_up setup.now) (I.remaining reader.old) (W.contents writer.old) (W.contents writer.new) feed.new.answers.place (string_bytes feed.old.answers.text) result }
+    requires position { position_of feed.old.answers ≡ start }
+    ensures served { Serves (set_up setup.now) (I.remaining reader.old) (W.contents writer.old) (W.contents writer.new) (position_of feed.new.answers) (string_bytes feed.old.answers.text) result }
     ensures end { OnOk result (IsAtEnd (I.remaining reader.new)) }
 {
     let mut chunk = [0; CHUNK];
@@ -187,12 +191,7 @@ fn is_lost(taken: &Result<(), EngineFault>) -> bool
     ensures lost { result ≡ true → taken.now ≡ Err Output }
     ensures other { result ≡ false → taken.now ≢ Err Output }
 {
-    match taken {
-        Err(EngineFault::Output) => true,
-        Err(EngineFault::Input) => false,
-        Err(EngineFault::NoMemory) => false,
-        Ok(()) => false,
-    }
+    matches!(taken, Err(EngineFault::Output))
 }
 
 // Answers the last line, and then the end of the input.

@@ -1,5 +1,10 @@
 //! What the runs of a machine did to its caches and shelves.
 
+ghost use Rattle.std.specs.Prelude.{◌≡◌};
+ghost use Rattle.std.specs.Int.{from_bool};
+ghost use Rattle.ebpf_host.specs.Stocks.{shelf_bytes};
+ghost use Rattle.ebpf_stream.specs.Totals.{TellAllLeft};
+
 use ebpf_host::machine::Machine;
 use ebpf_host::stock::Counts;
 use ebpf_pool::ShelfTotals;
@@ -22,7 +27,9 @@ pub struct MachineTotals {
 }
 
 /// What the runs of a machine did, when what is on its shelves has gone back to the caches too.
-pub(crate) fn totals_of(machine: &Machine) -> MachineTotals {
+pub(crate) fn totals_of(machine: &Machine) -> MachineTotals
+    ensures { TellAllLeft (λ shelf. shelf_bytes machine.now shelf) result }
+{
     let [cells, records, blocks] = machine.counts();
     let [cell, record, block] = machine.shelved();
     MachineTotals {
@@ -33,7 +40,9 @@ pub(crate) fn totals_of(machine: &Machine) -> MachineTotals {
 }
 
 // What they did to a kind, where an object of it is on the shelf or none is.
-fn kind_totals(counts: Counts, is_shelved: bool) -> KindTotals {
+fn kind_totals(counts: Counts, is_shelved: bool) -> KindTotals
+    ensures { result.shelf.left ≡ from_bool is_shelved }
+{
     let left = u64::from(is_shelved);
     KindTotals {
         allocs: counts.allocs,

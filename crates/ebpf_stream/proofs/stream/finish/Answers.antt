@@ -2,10 +2,9 @@ use Rattle.std.proofs.Common.{◌≡◌, ◌++◌, List, ℕ, ap, sym, ◌∙◌
 use Rattle.std.specs.Prelude.{string_bytes}
 use Rattle.std.specs.Io.KnownBytes.{Appends}
 use Rattle.ebpf_command.specs.Writing.{AppendsBeginning}
-use Rattle.ebpf_stream.specs.declared.place.Place.{Place}
-use Rattle.ebpf_stream.specs.Answering.{IsAnswered}
+use Rattle.ebpf_stream.specs.Answering.{Position, IsAnswered, position_of}
 use Rattle.ebpf_stream.specs.Feeding.{set_up}
-use Rattle.ebpf_stream.specs.Totals.{totals_in}
+use Rattle.ebpf_stream.specs.Totals.{TellAllLeft, totals_in}
 use Rattle.ebpf_stream.proofs.EndLemmas.{finishes, finishes_unanswered, finishes_unended, finishes_untold, finishes_unwritten}
 use Rattle.ebpf_stream.proofs.stream.finish.Goals as goal
 
@@ -39,10 +38,11 @@ returns-in-Ok g c =
     let here = c.in_default.ensures.answered.0 in
     let told : string_bytes c.end.new.self.answers.text ≡ here = c.in_default.ensures.answered.2 ∙ ap (λ (xs : List ℕ). xs ++ here) c.requires in
     let end = c.in_default-end.ensures.told in
-    let rest = end.1 ∙ ap (λ (xs : List ℕ). xs ++ totals_in s.format end.0) c.in_default-flush.ensures.empty in
-    let place = c.flush-2.ensures.place ∙ (c.end-2.ensures.place ∙ c.flush.ensures.place) in
+    let rest = end.2 ∙ ap (λ (xs : List ℕ). xs ++ totals_in s.format end.0) c.in_default-flush.ensures.empty in
+    let position = c.flush-2.ensures.position ∙ (c.end-2.ensures.position ∙ c.flush.ensures.position) in
+    let left = subst (λ (p : Position). TellAllLeft p.shelves end.0) (sym (c.flush-2.ensures.position ∙ c.end-2.ensures.position)) end.1 in
     finishes s a b d c.args.feed.now c.flush-2.new.self here end.0
-    (subst (λ (p : Place). IsAnswered s c.args.feed.now.kept.items c.args.feed.now.answers.place p here) (sym place) c.in_default.ensures.answered.1)
+    (subst (λ (p : Position). IsAnswered s c.args.feed.now.kept.items (position_of c.args.feed.now.answers) p here) (sym position) c.in_default.ensures.answered.1) left
     (subst (λ (xs : List ℕ). Appends a b xs) told c.in_default-flush.ensures.written)
     (subst (λ (xs : List ℕ). Appends b d xs) rest c.in-Ok.ensures.written)
 
@@ -55,7 +55,8 @@ returns-in-Err-flush-2 g c =
     let here = c.in_default.ensures.answered.0 in
     let told : string_bytes c.end.new.self.answers.text ≡ here = c.in_default.ensures.answered.2 ∙ ap (λ (xs : List ℕ). xs ++ here) c.requires in
     let end = c.in_default-end.ensures.told in
-    let rest = end.1 ∙ ap (λ (xs : List ℕ). xs ++ totals_in s.format end.0) c.in_default-flush.ensures.empty in
-    finishes_unended s a b d c.args.feed.now c.end.new.self here end.0 c.in_default.ensures.answered.1
+    let rest = end.2 ∙ ap (λ (xs : List ℕ). xs ++ totals_in s.format end.0) c.in_default-flush.ensures.empty in
+    let left = subst (λ (p : Position). TellAllLeft p.shelves end.0) c.flush.ensures.position end.1 in
+    finishes_unended s a b d c.args.feed.now c.end.new.self here end.0 c.in_default.ensures.answered.1 left
     (subst (λ (xs : List ℕ). Appends a b xs) told c.in_default-flush.ensures.written)
     (subst (λ (xs : List ℕ). AppendsBeginning b d xs) rest c.in-Err-flush-2.ensures.beginning)

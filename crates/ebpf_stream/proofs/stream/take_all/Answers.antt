@@ -12,9 +12,9 @@ returns-then-is_lost g c =
 pub returns-in-Ok : goal.returns-in-Ok
 returns-in-Ok g c =
     all_written (set_up c.args.setup.now) c.take-taken.result (g.W.Write.contents c.args.writer.now) (g.W.Write.contents c.take-taken.new.writer) (g.W.Write.contents c.flush.new.writer) c.args.feed.now c.take-taken.new.self c.flush.new.self c.args.bytes.now
-    c.take-taken.ensures (c.is_lost.ensures.other c.if-is_lost.false) c.in-Ok.ensures.written c.in-Ok.ensures.empty (ap (λ v. v.items) c.flush.ensures.kept) c.flush.ensures.place
+    c.take-taken.ensures (c.is_lost.ensures.other c.if-is_lost.false) c.in-Ok.ensures.written c.in-Ok.ensures.empty (ap (λ v. v.items) c.flush.ensures.kept) c.flush.ensures.position
 
 pub returns-in-Err : goal.returns-in-Err
 returns-in-Err g c =
     part_written (set_up c.args.setup.now) c.take-taken.result (g.W.Write.contents c.args.writer.now) (g.W.Write.contents c.take-taken.new.writer) (g.W.Write.contents c.flush.new.writer) c.args.feed.now c.take-taken.new.self c.flush.new.self c.args.bytes.now
-    c.take-taken.ensures (c.is_lost.ensures.other c.if-is_lost.false) c.in-Err.ensures.beginning (ap (λ v. v.items) c.flush.ensures.kept) c.flush.ensures.place
+    c.take-taken.ensures (c.is_lost.ensures.other c.if-is_lost.false) c.in-Err.ensures.beginning

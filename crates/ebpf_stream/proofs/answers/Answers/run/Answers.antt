@@ -1,6 +1,9 @@
 use Rattle.std.proofs.Common.{rules, ◌≡◌, ◌+◌, ℕ, List, length, map, get_or, slice_get, Some, sym, ap, ◌∙◌, subst}
 use Rattle.ebpf_insn.specs.Program.{instructions}
+use Rattle.ebpf_host.specs.Finding.{FindsIn}
+use Rattle.ebpf_host.specs.Leaving.{AreLeft}
 use Rattle.ebpf_host.specs.Reports.{IsReportWithin}
+use Rattle.ebpf_host.specs.Stocks.{shelf_bytes}
 use Rattle.ebpf_stream.specs.Answering.{report_in}
 use Rattle.ebpf_stream.proofs.AnswerLemmas.{element_inside, element_of, report_whole}
 use Rattle.ebpf_stream.proofs.answers.Answers.run.Goals as goal
@@ -19,6 +22,8 @@ returns-clause-done c =
     let report = subst (λ (n : ℕ). IsReportWithin p.verified c.deref.result.now n c.in-Ok.report) limit c.in-Ok.ensures.report in
     let context : c.deref.result.now ≡ c.args.job.now.context = search rules in
     let within = subst (λ (xs : List ℕ). IsReportWithin p.verified xs (length (instructions p.verified.program) + 1) c.in-Ok.report) context report in
+    let found = subst (λ (xs : List ℕ). (shelf : ℕ) → FindsIn p.verified xs c.in-Ok.report shelf (shelf_bytes c.args.self.now.machine shelf)) context c.in-Ok.ensures.found in
+    let left = subst (λ (xs : List ℕ). AreLeft c.args.self.now.machine c.run.new.self p.verified xs c.in-Ok.report) context c.in-Ok.ensures.shelves in
     let jobs : c.in-Some.jobs ≡ c.args.self.now.place.jobs + 1 = search rules in
     let faulty = ap (λ q. q.faulty) c.tell.ensures.place in (
       report_in c.args.setup.now.format c.args.self.now.place.jobs c.in-Ok.report,
@@ -27,7 +32,8 @@ returns-clause-done c =
         c.in-Ok.report,
         subject,
         report_whole p.verified c.args.job.now.context c.in-Ok.report within,
-        (λ i. record { jobs = jobs i; lines = c.requires.next i; faulty = faulty i }),
+        found,
+        (λ i. record { jobs = jobs i; lines = c.requires.next i; faulty = faulty i; shelves = λ shelf. (ap (λ m. shelf_bytes m shelf) c.tell.ensures.machine ∙ left shelf) i }),
         (λ i. report_in c.args.setup.now.format c.args.self.now.place.jobs c.in-Ok.report),
       ),
       c.in_ok-tell.ensures.told,

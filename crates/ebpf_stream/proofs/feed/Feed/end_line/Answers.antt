@@ -1,6 +1,6 @@
-use Rattle.std.proofs.Common.{vec_len, refl, sym, ◌∙◌, arith}
+use Rattle.std.proofs.Common.{vec_len, sym, ◌∙◌, arith}
 use Rattle.ebpf_stream.specs.Feeding.{set_up}
-use Rattle.ebpf_stream.proofs.FeedLemmas.{ends_direct, ends_kept, on_err, stops_direct, stops_kept, map_err, map_err_both}
+use Rattle.ebpf_stream.proofs.FeedLemmas.{ends_direct, ends_kept}
 use Rattle.ebpf_stream.proofs.LineLemmas.{is_zero, none_in}
 use Rattle.ebpf_stream.proofs.feed.Feed.end_line.Goals as goal
 
@@ -10,18 +10,6 @@ returns-then-is_empty-clause-ended c =
     let none = none_in c.args.self.now.kept.items (omega (arith, zero_test, c.args.self.now.kept.ok.0)) in
     ends_direct c.answer.result (set_up c.args.setup.now) c.args.self.now _ c.args.piece.now c.requires none none c.answer.ensures.answered
 
-pub returns-then-is_empty-clause-stopped : goal.returns-then-is_empty-clause-stopped
-returns-then-is_empty-clause-stopped c =
-    map_err c.answer.result (λ place. stops_direct (set_up c.args.setup.now) c.args.self.now _ c.args.piece.now refl place) c.answer.ensures.place
-
-pub returns-in_err-keep-clause-stopped : goal.returns-in_err-keep-clause-stopped
-returns-in_err-keep-clause-stopped c =
-    on_err c.from_residual.result (stops_direct (set_up c.args.setup.now) c.args.self.now c.keep.new.self c.args.piece.now c.in_err-keep.ensures.same (λ i. (c.keep.ensures.answers i).place))
-
 pub returns-clause-ended : goal.returns-clause-ended
 returns-clause-ended c =
     ends_kept c.end.result (set_up c.args.setup.now) c.args.self.now c.keep.new.self c.end.new.self c.args.piece.now c.requires c.in_ok-keep.ensures.kept c.keep.ensures.answers c.end.ensures.answered c.end.ensures.kept
-
-pub returns-clause-stopped : goal.returns-clause-stopped
-returns-clause-stopped c =
-    map_err_both c.end.result (λ kept place. stops_kept (set_up c.args.setup.now) c.args.self.now c.keep.new.self c.end.new.self c.args.piece.now c.requires c.in_ok-keep.ensures.kept c.keep.ensures.answers (λ i. (kept i).items) place) c.end.ensures.same c.end.ensures.place

@@ -26,7 +26,7 @@ returns-in-Err g c =
     let from = c.taking.from in
     let b = g.W.Write.contents c.taking.writer in
     takes_until s NoMemory (g.W.Write.contents c.args.writer.now) b b c.args.self.now c.taking.self c.keep.new.self bytes (take (length bytes - from) (drop from bytes)) from (length bytes - from) refl
-    c.taking.invariant.1 (takes_no_piece s b c.taking.self c.keep.new.self (take (length bytes - from) (drop from bytes)) c.in-Err.ensures.same c.keep.ensures.answers)
+    c.taking.invariant.1 (takes_no_piece s b c.taking.self c.keep.new.self (take (length bytes - from) (drop from bytes)) c.keep.ensures.answers)
 
 pub returns-in-Err-end_line : goal.returns-in-Err-end_line
 returns-in-Err-end_line g c =
@@ -38,7 +38,7 @@ returns-in-Err-end_line g c =
     let b = g.W.Write.contents c.taking.writer in
     takes_until s c.in-Err-end_line.fault (g.W.Write.contents c.args.writer.now) b b c.args.self.now c.taking.self c.end_line.new.self bytes (take n rest) from n
     (ap (λ (xs : List ℕ). take n xs) (take_rest bytes from))
-    c.taking.invariant.1 (takes_no_line s c.in-Err-end_line.fault b c.taking.self c.end_line.new.self (take n rest) c.in-Err-end_line.ensures.fault c.in-Err-end_line.ensures.text c.in-Err-end_line.ensures.stopped)
+    c.taking.invariant.1 (takes_no_line s c.in-Err-end_line.fault b c.taking.self c.end_line.new.self (take n rest) c.in-Err-end_line.ensures.fault c.in-Err-end_line.ensures.text)
 
 pub returns-in-Err-relieve : goal.returns-in-Err-relieve
 returns-in-Err-relieve g c =
@@ -55,7 +55,7 @@ returns-in-Err-relieve g c =
     let line = takes_line s b c.taking.self c.end_line.new.self (take n rest ++ 10 ∷ []) c.in_default.ensures.ended in
     takes_until_relief s (g.W.Write.contents c.args.writer.now) b d c.args.self.now c.taking.self c.end_line.new.self c.relieve.new.self bytes from n inside ten c.taking.invariant.1
     (subst (λ (xs : List ℕ). Takes s b b c.taking.self c.end_line.new.self (take n xs ++ 10 ∷ []) (Ok tt)) is line)
-    (takes_no_relief s b d c.end_line.new.self c.relieve.new.self c.relieve.ensures.kept c.relieve.ensures.place c.in-Err-relieve.ensures.beginning)
+    (takes_no_relief s b d c.end_line.new.self c.relieve.new.self c.in-Err-relieve.ensures.beginning)
 
 pub taking-preserved : goal.taking-preserved
 taking-preserved g c =
@@ -73,7 +73,7 @@ taking-preserved g c =
     let line = takes_line s b c.taking.self c.end_line.new.self (take n rest ++ 10 ∷ []) c.in_default.ensures.ended in
     let next = takes_next s a b d c.args.self.now c.taking.self c.end_line.new.self c.relieve.new.self bytes from n inside ten c.taking.invariant.1
     (subst (λ (xs : List ℕ). Takes s b b c.taking.self c.end_line.new.self (take n xs ++ 10 ∷ []) (Ok tt)) is line)
-    (takes_relief s b d c.end_line.new.self c.relieve.new.self c.relieve.ensures.kept c.relieve.ensures.place c.in_default-relieve.ensures.sent) in (
+    (takes_relief s b d c.end_line.new.self c.relieve.new.self c.relieve.ensures.kept c.relieve.ensures.position c.in_default-relieve.ensures.sent) in (
       omega (arith, inside),
       subst (λ (k : ℕ). Takes s a d c.args.self.now c.relieve.new.self (take k bytes) (Ok tt)) (add_assoc from n 1) next,
     )
