@@ -68,6 +68,7 @@ pub fn write_exit(
 }
 
 /// Writes the output of a job after a text. It fails only where an allocation fails.
+#[inline]
 pub fn write_output(
     text: &mut String,
     line: &mut TextLine,
@@ -83,6 +84,7 @@ pub fn write_output(
 }
 
 // Writes a number of the output of a job.
+#[inline(never)]
 fn write_emit(
     text: &mut String,
     line: &mut TextLine,

@@ -206,6 +206,7 @@ pub(crate) fn read_job_again(
 }
 
 // Adds a job of a program that declares this many bytes of context.
+#[inline]
 fn add_job(script: &mut Script, program: usize, declared: u32, bytes: Vec<u8>) -> Result<(), Stop>
     ensures fits { OnOk result (length bytes.items ≡ declared) }
     ensures added { OnOk result (parsed_script script.new ≡ with_job (parsed_script script.old) (record { program = program; context = bytes.items })) }
