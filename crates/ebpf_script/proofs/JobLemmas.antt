@@ -1,5 +1,5 @@
 -- The lines of jobs.
-use Rattle.std.proofs.Common.{◌≡◌, ℕ, ◌+◌, ◌-◌, ◌<◌, ◌≤◌, true, false, not, ◌==◌, ◌||◌, nat_le, Bool, List, [], ◌∷◌, ◌++◌, length, take, drop, get_or, codes, Some, Result, Ok, Err, OnOk, refl, sym, ap, ◌∙◌, arith, append_assoc, length-append, length-take-le}
+use Rattle.std.proofs.Common.{◌≡◌, ℕ, ◌+◌, ◌-◌, ◌<◌, ◌≤◌, true, false, not, ◌==◌, ◌||◌, nat_le, Bool, List, [], ◌∷◌, ◌++◌, length, take, drop, get_or, codes, Option, Some, None, IfSome, Result, Ok, Err, OnOk, refl, sym, ap, ◌∙◌, subst, arith, append_assoc, length-append, length-take-le}
 use Rattle.std.specs.List.{list_all, All}
 use Rattle.std.proofs.lemmas.Bool.{and_parts, or_parts}
 use Rattle.std.proofs.lemmas.Bool.Decides.{nat_tests}
@@ -7,13 +7,14 @@ use Rattle.std.proofs.lemmas.List.{get_or-append-add}
 use Rattle.std.proofs.lemmas.List.Elements.{All-append, All-cons}
 use Rattle.std.proofs.Math.Seq.{take-append-add, take-append_seam}
 use Rattle.ebpf_script.specs.declared.reader.again.Again.{Again}
+use Rattle.ebpf_script.specs.declared.reader.again.Beginning.{Beginning}
 use Rattle.ebpf_script.specs.declared.reader.script.Dialect.TheVariants.{Jobs}
 use Rattle.ebpf_script.specs.declared.reader.script.Script.{Script}
-use Rattle.ebpf_script.specs.Again.{IsAgain}
+use Rattle.ebpf_script.specs.Again.{IsAgain, IsBeginning}
 use Rattle.ebpf_command.specs.HexText.{hex_or_dash}
 use Rattle.ebpf_script.specs.LineFaults.{line_fault, shape_fault, length_fault}
 use Rattle.ebpf_script.specs.Names.{is_name, is_name_byte}
-use Rattle.ebpf_script.specs.ParsedScript.{ParsedScript, number_of, declared_by, with_job}
+use Rattle.ebpf_script.specs.ParsedScript.{Named, ParsedScript, number_of, declared_by, with_job}
 use Rattle.ebpf_script.specs.ReadScripts.{parsed_script, Adds}
 use Rattle.ebpf_script.specs.ScriptLines.{IsFirst, is_text}
 use Rattle.ebpf_script.specs.Shapes.{JobLine, shape_of}
@@ -116,26 +117,53 @@ name_there name rest =
     let long : 4 + length name - 4 ≡ length name = omega arith in
     rw long (take-append_seam name (32 ∷ rest))
 
-line_there : (name rest hex : List ℕ) → IsFirst rest hex
-    → take (4 + length name + 1 + length hex) (codes "run " ++ (name ++ 32 ∷ rest)) ≡ (codes "run " ++ (name ++ 32 ∷ [])) ++ hex
-line_there name rest hex first =
+start_there : (name rest : List ℕ) → take (4 + length name + 1) (codes "run " ++ (name ++ 32 ∷ rest)) ≡ codes "run " ++ (name ++ 32 ∷ [])
+start_there name rest =
     let start = codes "run " ++ (name ++ 32 ∷ []) in
-    let long : 4 + length name + 1 + length hex ≡ length start + length hex = omega (arith, length-append name (32 ∷ [])) in
-    rw (long, joined name rest) (take-append-add start rest (length hex) ∙ ap (λ (xs : List ℕ). start ++ xs) (sym first.begins))
+    let long : 4 + length name + 1 ≡ length start = omega (arith, length-append name (32 ∷ [])) in
+    ap (λ (n : ℕ). take n (codes "run " ++ (name ++ 32 ∷ rest))) long ∙ (ap (take (length start)) (joined name rest) ∙ take-append_seam start rest)
 
-pub again_is : (script : Script) (text name rest : List ℕ) (a : Again) → text ≡ codes "run " ++ (name ++ 32 ∷ rest) → is_name name ≡ true
-    → IsFirst rest a.hex.now → words a.hex.now ≡ a.hex.now ∷ []
-    → a.line.now ≡ take (4 + length name + 1 + length a.hex.now) text → a.name.now ≡ take (4 + length name - 4) (drop 4 text)
-    → number_of (parsed_script script).programs name ≡ Some a.program → declared_by (parsed_script script).programs name ≡ Some a.declared
-    → IsAgain script text a
-again_is script text name rest a is allowed first one line named number declared =
-    let start = codes "run " ++ (name ++ 32 ∷ []) in
-    let whole : a.line.now ≡ start ++ a.hex.now = rw is at line ∙ line_there name rest a.hex.now first in
-    let same : a.name.now ≡ name = rw is at named ∙ name_there name rest in
+pub beginning_is : (script : Script) (text name rest : List ℕ) (b : Beginning) → text ≡ codes "run " ++ (name ++ 32 ∷ rest) → is_name name ≡ true
+    → b.bytes.now ≡ take (4 + length name + 1) text → b.name.now ≡ take (4 + length name - 4) (drop 4 text)
+    → number_of (parsed_script script).programs name ≡ Some b.program → declared_by (parsed_script script).programs name ≡ Some b.declared
+    → IsBeginning script b
+beginning_is script text name rest b is allowed bytes named number declared =
+    let same : b.name.now ≡ name = rw is at named ∙ name_there name rest in
     record {
-      first = rw (is ∙ joined name rest, whole) (first_after start rest a.hex.now (start_of_again name allowed) first);
-      split = rw (whole, sym (joined name a.hex.now), same) (again_words name a.hex.now allowed one);
-      known = record { allowed = rw same allowed; number = rw same number; declared = rw same declared };
+      whole = rw is at bytes ∙ (start_there name rest ∙ ap (λ (xs : List ℕ). codes "run " ++ (xs ++ 32 ∷ [])) (sym same));
+      allowed = rw same allowed;
+      number = rw same number;
+      declared = rw same declared;
+    }
+
+pub again_is : (script : Script) (text rest : List ℕ) (a : Again) → IsBeginning script a.beginning → text ≡ a.beginning.bytes.now ++ rest
+    → IsFirst rest a.hex.now → words a.hex.now ≡ a.hex.now ∷ [] → a.line.now ≡ take (length a.beginning.bytes.now + length a.hex.now) text
+    → IsAgain script text a
+again_is script text rest a known is first one line =
+    let name = a.beginning.name.now in
+    let start = a.beginning.bytes.now in
+    let none : All (λ c. (c == 10) ≡ false) start = subst (All (λ c. (c == 10) ≡ false)) (sym known.whole) (start_of_again name known.allowed) in
+    let whole : a.line.now ≡ start ++ a.hex.now =
+    rw is at line ∙ (take-append-add start rest (length a.hex.now) ∙ ap (λ (xs : List ℕ). start ++ xs) (sym first.begins)) in
+    record {
+      first = rw (is, whole) (first_after start rest a.hex.now none first);
+      split = ap words (whole ∙ (ap (λ (xs : List ℕ). xs ++ a.hex.now) known.whole ∙ sym (joined name a.hex.now)))
+          ∙ again_words name a.hex.now known.allowed one;
+      known = known;
+    }
+
+-- a job more changes no program
+pub begins_still : {T E : Type 0} (r : Result T E) (kept : Option Beginning) (name hex : List ℕ) (old new : Script) → IfSome kept (IsBeginning old)
+    → OnOk r (Adds (JobLine name hex) old new) → OnOk r (IfSome kept (IsBeginning new))
+begins_still (Err e) kept name hex old new begins adds = tt
+begins_still (Ok x) None name hex old new begins adds = tt
+begins_still (Ok x) (Some b) name hex old new begins adds =
+    let same : (parsed_script new).programs ≡ (parsed_script old).programs = ap (λ (s : ParsedScript). s.programs) adds.parsed in
+    record {
+      whole = begins.whole;
+      allowed = begins.allowed;
+      number = ap (λ (ps : List Named). number_of ps b.name.now) same ∙ begins.number;
+      declared = ap (λ (ps : List Named). declared_by ps b.name.now) same ∙ begins.declared;
     }
 
 -- ---- a word that is alone on its line

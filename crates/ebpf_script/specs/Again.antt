@@ -1,6 +1,7 @@
 -- A line of a job whose program is the last job's.
-use Rattle.std.specs.Prelude.{◌≡◌, true, List, ℕ, [], ◌∷◌, codes, Some}
+use Rattle.std.specs.Prelude.{◌≡◌, ◌++◌, true, List, ℕ, [], ◌∷◌, codes, Some}
 use Rattle.ebpf_script.specs.declared.reader.again.Again.{Again}
+use Rattle.ebpf_script.specs.declared.reader.again.Beginning.{Beginning}
 use Rattle.ebpf_script.specs.declared.reader.script.Script.{Script}
 use Rattle.ebpf_script.specs.Names.{is_name}
 use Rattle.ebpf_script.specs.ParsedScript.{number_of, declared_by}
@@ -8,14 +9,15 @@ use Rattle.ebpf_script.specs.ReadScripts.{parsed_script}
 use Rattle.ebpf_script.specs.ScriptLines.{IsFirst}
 use Rattle.ebpf_script.specs.Words.{words}
 
--- the program of the name has this number, and declares this many bytes
-pub record IsKnown (script : Script) (a : Again) : Type 0 where
-  pub allowed : is_name a.name.now ≡ true
-  pub number : number_of (parsed_script script).programs a.name.now ≡ Some a.program
-  pub declared : declared_by (parsed_script script).programs a.name.now ≡ Some a.declared
+-- the bytes are `run`, such a name and a space after each; the program of the name has this number, and declares this many bytes
+pub record IsBeginning (script : Script) (b : Beginning) : Type 0 where
+  pub whole : b.bytes.now ≡ codes "run " ++ (b.name.now ++ 32 ∷ [])
+  pub allowed : is_name b.name.now ≡ true
+  pub number : number_of (parsed_script script).programs b.name.now ≡ Some b.program
+  pub declared : declared_by (parsed_script script).programs b.name.now ≡ Some b.declared
 
 -- the first line of a text is this: `run`, such a name and a word more
 pub record IsAgain (script : Script) (text : List ℕ) (a : Again) : Type 0 where
   pub first : IsFirst text a.line.now
-  pub split : words a.line.now ≡ codes "run" ∷ a.name.now ∷ a.hex.now ∷ []
-  pub known : IsKnown script a
+  pub split : words a.line.now ≡ codes "run" ∷ a.beginning.name.now ∷ a.hex.now ∷ []
+  pub known : IsBeginning script a.beginning

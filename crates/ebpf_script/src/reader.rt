@@ -56,11 +56,20 @@ pub fn read_script(alloc: Global, dialect: Dialect, text: &[u8]) -> Result<Scrip
     };
     let is_text = is_script_text(text);
     let mut words = Words::none();
+    let mut beginning = None;
     let mut from = 0;
     let mut number = 0;
     while from <= text.len() {
         let left = &text[from..];
-        let (length, read) = read_next(alloc, dialect, &mut script, left, &mut words, is_text);
+        let (length, read) = read_next(
+            alloc,
+            dialect,
+            &mut script,
+            left,
+            &mut words,
+            &mut beginning,
+            is_text,
+        );
         from += length + 1;
         number += 1;
         if let Err(stop) = read {

@@ -1,10 +1,12 @@
 //! A line of a job whose program is the last job's.
 //!
 //! Jobs of one program often follow one another, and most are written by programs. Then each line begins as the one before it, with
-//! `run`, the name and a space, and one word is left. So the words need not be looked for, nor the name.
+//! `run`, the name and a space, and one word is left. So the words need not be looked for, nor the name: the beginning is kept from
+//! line to line, and compared at once.
 
 ghost use Rattle.std.specs.Prelude.{◌≡◌, [], ◌∷◌, IfSome};
-ghost use Rattle.ebpf_script.specs.Again.{IsAgain};
+ghost use Rattle.ebpf_script.specs.Again.{IsAgain, IsBeginning};
+ghost use Rattle.ebpf_script.specs.declared.reader.script.Script.{Script};
 ghost use Rattle.ebpf_script.specs.ScriptLines.{IsFirst};
 ghost use Rattle.ebpf_script.specs.Words.{words};
 
@@ -15,33 +17,74 @@ use crate::reader::words::word_length;
 // What a job's line begins with.
 const RUN: &[u8] = b"run ";
 
-/// The line of a job of the last job's program.
+/// How the line of a job begins, up to its last word.
 #[derive(Clone, Copy)]
-pub(crate) struct Again<'a> {
-    pub(crate) line: &'a [u8],
+pub(crate) struct Beginning<'a> {
+    /// `run`, the name, and a space after each.
+    pub(crate) bytes: &'a [u8],
     pub(crate) name: &'a [u8],
-    /// The word after the name.
-    pub(crate) hex: &'a [u8],
     pub(crate) program: usize,
     /// How many bytes of context the program declares.
     pub(crate) declared: u32,
 }
 
-/// The first line of a text, where it begins as a line of a job of the last job's program does and has one word more.
+/// A line of a job that begins so.
+#[derive(Clone, Copy)]
+pub(crate) struct Again<'a> {
+    pub(crate) line: &'a [u8],
+    pub(crate) beginning: Beginning<'a>,
+    /// The word after the name.
+    pub(crate) hex: &'a [u8],
+}
+
+/// The first line of a text, where it begins as a line of a job of the last job's program does and has one word more. The beginning
+/// is that of the line before, where that is known.
 #[inline]
-pub(crate) fn job_again<'a>(script: &Script, text: &'a [u8]) -> Option<Again<'a>>
-    ensures { IfSome result (IsAgain script.now text.now) }
+pub(crate) fn job_again<'a>(
+    script: &Script,
+    kept: &mut Option<Beginning<'a>>,
+    text: &'a [u8],
+) -> Option<Again<'a>>
+    requires { IfSome kept.old (IsBeginning script.now) }
+    ensures again { IfSome result (IsAgain script.now text.now) }
+    ensures kept { IfSome kept.new (IsBeginning script.now) }
+{
+    if let Some(beginning) = *kept {
+        if let Some(again) = line_after(&beginning, text) {
+            return Some(again);
+        }
+    }
+    *kept = beginning_of(script, text);
+    let beginning = (*kept)?;
+    line_after(&beginning, text)
+}
+
+// The first line of a text, where it begins so and has one word more.
+#[inline]
+fn line_after<'a>(beginning: &Beginning<'a>, text: &'a [u8]) -> Option<Again<'a>>
+    ensures { (script : Script) → IsBeginning script beginning.now → IfSome result (IsAgain script text.now) }
+{
+    let rest = text.strip_prefix(beginning.bytes)?;
+    let hex = only_word(rest)?;
+    Some(Again {
+        line: &text[..beginning.bytes.len() + hex.len()],
+        beginning: *beginning,
+        hex,
+    })
+}
+
+// How a text begins, where that is as a line of a job of the last job's program does.
+fn beginning_of<'a>(script: &Script, text: &'a [u8]) -> Option<Beginning<'a>>
+    ensures { IfSome result (IsBeginning script.now) }
 {
     let (program, name, declared) = last_program(script)?;
     let rest = text.strip_prefix(RUN)?;
     let rest = rest.strip_prefix(name.as_bytes())?;
-    let rest = rest.strip_prefix(b" ".as_slice())?;
-    let hex = only_word(rest)?;
+    rest.strip_prefix(b" ".as_slice())?;
     let end = RUN.len() + name.len();
-    Some(Again {
-        line: &text[..end + 1 + hex.len()],
+    Some(Beginning {
+        bytes: &text[..end + 1],
         name: &text[RUN.len()..end],
-        hex,
         program,
         declared: declared.decl.context,
     })

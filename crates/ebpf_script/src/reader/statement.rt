@@ -2,7 +2,7 @@
 
 ghost use Rattle.std.specs.Prelude.{◌≡◌, length, IfErr, OnOk};
 ghost use Rattle.ebpf_command.specs.Stops.{IsStop};
-ghost use Rattle.ebpf_script.specs.Again.{IsKnown};
+ghost use Rattle.ebpf_script.specs.Again.{IsBeginning};
 ghost use Rattle.ebpf_script.specs.LineFaults.{shape_fault, length_fault};
 ghost use Rattle.ebpf_script.specs.ReadScripts.{parsed_script, Adds, HasRoom};
 ghost use Rattle.ebpf_script.specs.ParsedScript.{answer_of, with_job};
@@ -195,14 +195,15 @@ pub(crate) fn read_job_again(
     script: &mut Script,
     again: &Again<'_>,
 ) -> Result<(), Stop>
-    requires { IsKnown script.now again.now }
-    ensures ok { OnOk result (Adds (JobLine again.now.name.now again.now.hex.now) script.old script.new) }
-    ensures refused { IfErr result (IsStop (shape_fault (parsed_script script.old) (JobLine again.now.name.now again.now.hex.now))) }
+    requires { IsBeginning script.now again.now.beginning }
+    ensures ok { OnOk result (Adds (JobLine again.now.beginning.name.now again.now.hex.now) script.old script.new) }
+    ensures refused { IfErr result (IsStop (shape_fault (parsed_script script.old) (JobLine again.now.beginning.name.now again.now.hex.now))) }
 {
     let Some(bytes) = hex_or_dash(alloc, again.hex)? else {
         return Err(Stop::Fault(FaultCode::BadHex));
     };
-    add_job(script, again.program, again.declared, bytes)
+    let beginning = &again.beginning;
+    add_job(script, beginning.program, beginning.declared, bytes)
 }
 
 // Adds a job of a program that declares this many bytes of context.

@@ -40,6 +40,7 @@ loop-from-preserved c =
       within = omega (arith, e.within, length-drop from text);
       number = omega (arith, c.loop-from.invariant.number);
       few = omega (arith, one_pass _ _ _ ok, c.loop-from.invariant.few);
+      begins = rw c.in_default.is at e.begins;
       behind = lines_fine c.args.dialect c.loop-from.number (parsed_script c.loop-from.script) (parsed_script c.read_next-length.new.script) line _ _ here
           (rw (take_rest text from, c.in_default.is) at e.fine) ok.parsed ∙ c.loop-from.invariant.behind;
     }
