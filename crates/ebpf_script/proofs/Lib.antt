@@ -1,5 +1,6 @@
 pub mod NameLemmas
 pub mod NumberLemmas
+pub mod CountLemmas
 pub mod WordLemmas
 pub mod LinesLeft
 pub mod JobLemmas

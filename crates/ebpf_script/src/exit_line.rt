@@ -1,7 +1,8 @@
 //! The line that says how a job ended, for one job after another.
 //!
-//! *The idea.* Many jobs of a batch end alike. So what comes after the number of a job is kept, and it is written anew only where the
-//! next job ends in another way.
+//! *The idea.* Many jobs of a batch end alike, and each has the number after that of the job before it. So the line of a job is kept for
+//! the next one. What comes after the number is written anew only where that job ends in another way, and of the number only the last digit
+//! changes unless that is a 9.
 
 ghost use Rattle.std.specs.Prelude.{◌≡◌, ◌+◌, ◌++◌, ◌≤◌, codes, decimal, length, string_bytes, Some, OnOk};
 ghost use Rattle.ebpf_script.specs.OutcomeLines.{ending_words, job_line};
@@ -9,24 +10,32 @@ ghost use Rattle.ebpf_script.specs.OutcomeLines.{ending_words, job_line};
 use crate::text_line::TextLine;
 use std::alloc::AllocError;
 
-/// What comes after the number of a job, and how that job ended.
+/// The line of a job, and how that job ended.
 #[derive(Drop)]
 pub(crate) struct ExitLine {
-    ending: TextLine,
+    line: TextLine,
+    // How many bytes come after the number of the job.
+    after: usize,
+    job: usize,
     exit: u64,
     executed: u64,
     peak: u64,
-    ghost text: { ending ≡ ending_words exit executed peak },
-    ghost few: { length ending ≤ 83 },
+    ghost text: { line ≡ codes "job " ++ (decimal job ++ ending_words exit executed peak) },
+    ghost after_is: { after ≡ length (ending_words exit executed peak) },
+    ghost few: { after ≤ 83 },
 }
 
 impl ExitLine {
     /// Before any job.
     pub(crate) fn new() -> ExitLine {
-        let mut ending = TextLine::end();
-        write_ending(&mut ending, 0, 0, 0);
+        let mut line = TextLine::end();
+        write_ending(&mut line, 0, 0, 0);
+        let after = line.len();
+        write_number(&mut line, 0);
         ExitLine {
-            ending,
+            line,
+            after,
+            job: 0,
             exit: 0,
             executed: 0,
             peak: 0,
@@ -45,19 +54,47 @@ impl ExitLine {
         ensures { OnOk result (string_bytes text.new ≡ string_bytes text.old ++ job_line job (Some exit) executed peak) }
     {
         if exit != self.exit || executed != self.executed || peak != self.peak {
-            self.end_with(exit, executed, peak);
+            self.end_with(job, exit, executed, peak);
         }
-        write_numbered(text, &mut self.ending, job)
+        self.number(job);
+        text.push_str(self.line.as_str())
     }
 
     // Another job ended in this way.
-    fn end_with(&mut self, exit: u64, executed: u64, peak: u64)
+    fn end_with(&mut self, job: usize, exit: u64, executed: u64, peak: u64)
         ensures { (self.new.exit ≡ exit) × (self.new.executed ≡ executed) × (self.new.peak ≡ peak) }
     {
-        write_ending(&mut self.ending, exit, executed, peak);
+        write_ending(&mut self.line, exit, executed, peak);
+        self.after = self.line.len();
+        write_number(&mut self.line, job);
+        self.job = job;
         self.exit = exit;
         self.executed = executed;
         self.peak = peak;
+    }
+
+    // A job of this number ended in the same way.
+    #[inline]
+    fn number(&mut self, job: usize)
+        ensures job { self.new.job ≡ job }
+        ensures same { (self.new.exit ≡ self.old.exit) × (self.new.executed ≡ self.old.executed) × (self.new.peak ≡ self.old.peak) }
+    {
+        if self.job < job && job - self.job == 1 && self.line.count_on(self.after) {
+            self.job = job;
+        } else if job != self.job {
+            self.number_anew(job);
+        }
+    }
+
+    // The number is written, whatever it was before.
+    #[inline(never)]
+    fn number_anew(&mut self, job: usize)
+        ensures job { self.new.job ≡ job }
+        ensures same { (self.new.exit ≡ self.old.exit) × (self.new.executed ≡ self.old.executed) × (self.new.peak ≡ self.old.peak) }
+    {
+        self.line.keep_last(self.after);
+        write_number(&mut self.line, job);
+        self.job = job;
     }
 }
 
@@ -75,20 +112,11 @@ pub(crate) fn write_ending(line: &mut TextLine, exit: u64, executed: u64, peak: 
     line.words(b" exit ");
 }
 
-/// Writes a job's number and what comes after it, after a text. It fails only where an allocation fails.
-pub(crate) fn write_numbered(
-    text: &mut String,
-    ending: &mut TextLine,
-    job: usize,
-) -> Result<(), AllocError>
+/// Writes the number of a job before what comes after it.
+pub(crate) fn write_number(ending: &mut TextLine, job: usize)
     requires { length ending.old ≤ 83 }
-    ensures text { OnOk result (string_bytes text.new ≡ string_bytes text.old ++ (codes "job " ++ (decimal job ++ ending.old))) }
-    ensures same { ending.new ≡ ending.old }
+    ensures { ending.new ≡ codes "job " ++ (decimal job ++ ending.old) }
 {
-    let length = ending.len();
     ending.number(job as u64);
     ending.words(b"job ");
-    let pushed = text.push_str(ending.as_str());
-    ending.keep_last(length);
-    pushed
 }

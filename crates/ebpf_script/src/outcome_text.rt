@@ -4,7 +4,7 @@ ghost use Rattle.std.specs.Prelude.{◌≡◌, ◌++◌, string_bytes, Some, OnO
 ghost use Rattle.std.specs.List.{flat_map};
 ghost use Rattle.ebpf_script.specs.OutcomeLines.{job_emit_line, job_line, report_lines, reports_from, cache_words, cache_line, cache_lines, shelf_line, shelf_lines, outcome_lines};
 
-use crate::exit_line::{ExitLine, write_ending, write_numbered};
+use crate::exit_line::{ExitLine, write_ending, write_number};
 use crate::text_line::TextLine;
 use ebpf_pool::{JobReport, Outcome, Reports, ShelfTotals};
 use object_cache::Totals;
@@ -64,7 +64,8 @@ pub fn write_exit(
     ensures { OnOk result (string_bytes text.new ≡ string_bytes text.old ++ job_line job (Some exit) executed peak) }
 {
     write_ending(line, exit, executed, peak);
-    write_numbered(text, line, job)
+    write_number(line, job);
+    text.push_str(line.as_str())
 }
 
 /// Writes the output of a job after a text. It fails only where an allocation fails.

@@ -1,7 +1,7 @@
 //! A line of text, or a part of one, that is written from its end to its beginning: each number is written where it stays, and
 //! all is appended at once.
 
-ghost use Rattle.std.specs.Prelude.{◌≡◌, ◌+◌, ◌-◌, ◌≤◌, ◌++◌, [], IsAscii, codes, decimal, drop, length};
+ghost use Rattle.std.specs.Prelude.{◌≡◌, ◌+◌, ◌-◌, ◌≤◌, ◌<◌, ◌++◌, [], IsAscii, codes, decimal, drop, length, slice_index, slice_set, true, false};
 
 use itoa::write_digits;
 use std::marker::Model;
@@ -70,6 +70,22 @@ impl TextLine {
         ensures { self.new ≡ drop (length self.old - n) self.old }
     {
         self.start += self.len() - n;
+    }
+
+    /// Adds one to the digit that this many bytes come after, unless it is a 9, and returns whether it could.
+    #[inline]
+    pub(crate) fn count_on(&mut self, after: usize) -> bool
+        requires { after < length self.old }
+        ensures counted { result ≡ true → (slice_index self.old (length self.old - after - 1) < 57) × (self.new ≡ slice_set self.old (length self.old - after - 1) (slice_index self.old (length self.old - after - 1) + 1)) }
+        ensures same { result ≡ false → self.new ≡ self.old }
+    {
+        let before = self.len() - after - 1;
+        let at = self.start + before;
+        if self.bytes[at] >= b'9' {
+            return false;
+        }
+        self.bytes[at] += 1;
+        true
     }
 
     /// Writes a number before the rest.
