@@ -124,13 +124,16 @@ start_there name rest =
     ap (λ (n : ℕ). take n (codes "run " ++ (name ++ 32 ∷ rest))) long ∙ (ap (take (length start)) (joined name rest) ∙ take-append_seam start rest)
 
 pub beginning_is : (script : Script) (text name rest : List ℕ) (b : Beginning) → text ≡ codes "run " ++ (name ++ 32 ∷ rest) → is_name name ≡ true
-    → b.bytes.now ≡ take (4 + length name + 1) text → b.name.now ≡ take (4 + length name - 4) (drop 4 text)
+    → b.bytes.now ≡ take (4 + length name + 1) text → b.text.now ≡ text → b.name.now ≡ take (4 + length name - 4) (drop 4 text)
     → number_of (parsed_script script).programs name ≡ Some b.program → declared_by (parsed_script script).programs name ≡ Some b.declared
     → IsBeginning script b
-beginning_is script text name rest b is allowed bytes named number declared =
+beginning_is script text name rest b is allowed bytes whole named number declared =
     let same : b.name.now ≡ name = rw is at named ∙ name_there name rest in
+    let start : b.bytes.now ≡ codes "run " ++ (name ++ 32 ∷ []) = rw is at bytes ∙ start_there name rest in
+    let long : 4 + length name + 1 ≡ length b.bytes.now = omega (arith, ap length start, length-append name (32 ∷ [])) in
     record {
-      whole = rw is at bytes ∙ (start_there name rest ∙ ap (λ (xs : List ℕ). codes "run " ++ (xs ++ 32 ∷ [])) (sym same));
+      whole = start ∙ ap (λ (xs : List ℕ). codes "run " ++ (xs ++ 32 ∷ [])) (sym same);
+      begins = bytes ∙ (ap (λ (n : ℕ). take n text) long ∙ ap (take (length b.bytes.now)) (sym whole));
       allowed = rw same allowed;
       number = rw same number;
       declared = rw same declared;
@@ -161,6 +164,7 @@ begins_still (Ok x) (Some b) name hex old new begins adds =
     let same : (parsed_script new).programs ≡ (parsed_script old).programs = ap (λ (s : ParsedScript). s.programs) adds.parsed in
     record {
       whole = begins.whole;
+      begins = begins.begins;
       allowed = begins.allowed;
       number = ap (λ (ps : List Named). number_of ps b.name.now) same ∙ begins.number;
       declared = ap (λ (ps : List Named). declared_by ps b.name.now) same ∙ begins.declared;

@@ -1,6 +1,7 @@
 pub mod NameLemmas
 pub mod NumberLemmas
 pub mod CountLemmas
+pub mod LaneLemmas
 pub mod WordLemmas
 pub mod LinesLeft
 pub mod JobLemmas

@@ -1,5 +1,5 @@
 -- A line of a job whose program is the last job's.
-use Rattle.std.specs.Prelude.{◌≡◌, ◌++◌, true, List, ℕ, [], ◌∷◌, codes, Some}
+use Rattle.std.specs.Prelude.{◌≡◌, ◌++◌, true, List, ℕ, [], ◌∷◌, codes, length, take, Some}
 use Rattle.ebpf_script.specs.declared.reader.again.Again.{Again}
 use Rattle.ebpf_script.specs.declared.reader.again.Beginning.{Beginning}
 use Rattle.ebpf_script.specs.declared.reader.script.Script.{Script}
@@ -9,9 +9,10 @@ use Rattle.ebpf_script.specs.ReadScripts.{parsed_script}
 use Rattle.ebpf_script.specs.ScriptLines.{IsFirst}
 use Rattle.ebpf_script.specs.Words.{words}
 
--- the bytes are `run`, such a name and a space after each; the program of the name has this number, and declares this many bytes
+-- the bytes that begin the text are `run`, such a name and a space after each; its program has this number, and declares this many bytes
 pub record IsBeginning (script : Script) (b : Beginning) : Type 0 where
   pub whole : b.bytes.now ≡ codes "run " ++ (b.name.now ++ 32 ∷ [])
+  pub begins : b.bytes.now ≡ take (length b.bytes.now) b.text.now
   pub allowed : is_name b.name.now ≡ true
   pub number : number_of (parsed_script script).programs b.name.now ≡ Some b.program
   pub declared : declared_by (parsed_script script).programs b.name.now ≡ Some b.declared

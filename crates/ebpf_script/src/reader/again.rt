@@ -4,7 +4,7 @@
 //! `run`, the name and a space, and one word is left. So the words need not be looked for, nor the name: the beginning is kept from
 //! line to line, and compared at once.
 
-ghost use Rattle.std.specs.Prelude.{◌≡◌, [], ◌∷◌, IfSome};
+ghost use Rattle.std.specs.Prelude.{◌≡◌, ◌≤◌, ◌++◌, [], ◌∷◌, IfSome, length, take};
 ghost use Rattle.ebpf_script.specs.Again.{IsAgain, IsBeginning};
 ghost use Rattle.ebpf_script.specs.declared.reader.script.Script.{Script};
 ghost use Rattle.ebpf_script.specs.ScriptLines.{IsFirst};
@@ -12,7 +12,8 @@ ghost use Rattle.ebpf_script.specs.Words.{words};
 
 use crate::reader::programs::last_program;
 use crate::reader::script::Script;
-use crate::reader::words::word_length;
+use crate::reader::words::{LANES, word_length};
+use std::simd::prelude::*;
 
 // What a job's line begins with.
 const RUN: &[u8] = b"run ";
@@ -22,6 +23,8 @@ const RUN: &[u8] = b"run ";
 pub(crate) struct Beginning<'a> {
     /// `run`, the name, and a space after each.
     pub(crate) bytes: &'a [u8],
+    /// The text that begins with these bytes.
+    pub(crate) text: &'a [u8],
     pub(crate) name: &'a [u8],
     pub(crate) program: usize,
     /// How many bytes of context the program declares.
@@ -62,15 +65,52 @@ pub(crate) fn job_again<'a>(
 // The first line of a text, where it begins so and has one word more.
 #[inline]
 fn line_after<'a>(beginning: &Beginning<'a>, text: &'a [u8]) -> Option<Again<'a>>
+    requires { beginning.now.bytes.now ≡ take (length beginning.now.bytes.now) beginning.now.text.now }
     ensures { (script : Script) → IsBeginning script beginning.now → IfSome result (IsAgain script text.now) }
 {
-    let rest = text.strip_prefix(beginning.bytes)?;
+    let rest = rest_after(beginning, text)?;
     let hex = only_word(rest)?;
     Some(Again {
         line: &text[..beginning.bytes.len() + hex.len()],
         beginning: *beginning,
         hex,
     })
+}
+
+// What comes after these bytes in a text that begins so too.
+#[inline]
+fn rest_after<'a>(beginning: &Beginning<'_>, text: &'a [u8]) -> Option<&'a [u8]>
+    requires { beginning.now.bytes.now ≡ take (length beginning.now.bytes.now) beginning.now.text.now }
+    ensures { IfSome result (λ rest. text.now ≡ beginning.now.bytes.now ++ rest.now) }
+{
+    let length = beginning.bytes.len();
+    // One comparison does for a short name, unless the text ends here.
+    if length <= LANES
+        && LANES <= text.len()
+        && LANES <= beginning.text.len()
+        && length <= same_run(text, beginning.text)
+    {
+        return Some(&text[length..]);
+    }
+    text.strip_prefix(beginning.bytes)
+}
+
+// How many of the first sixteen bytes of two texts are the same before the first that differ.
+#[inline]
+fn same_run(a: &[u8], b: &[u8]) -> usize
+    requires a { 16 ≤ length a.now }
+    requires b { 16 ≤ length b.now }
+    ensures within { result ≤ 16 }
+    ensures same { take result a.now ≡ take result b.now }
+{
+    let others = u8x16::from_slice(a)
+        .simd_ne(u8x16::from_slice(b))
+        .to_bitmask();
+    if others == 0 {
+        LANES
+    } else {
+        others.trailing_zeros() as usize
+    }
 }
 
 // How a text begins, where that is as a line of a job of the last job's program does.
@@ -84,6 +124,7 @@ fn beginning_of<'a>(script: &Script, text: &'a [u8]) -> Option<Beginning<'a>>
     let end = RUN.len() + name.len();
     Some(Beginning {
         bytes: &text[..end + 1],
+        text,
         name: &text[RUN.len()..end],
         program,
         declared: declared.decl.context,

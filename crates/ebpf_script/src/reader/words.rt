@@ -9,8 +9,8 @@ use std::simd::prelude::*;
 // More words than a line that is no comment may have.
 const MOST: usize = 6;
 
-// How many bytes one comparison looks at.
-const LANES: usize = 16;
+/// How many bytes one comparison looks at.
+pub(crate) const LANES: usize = 16;
 
 /// The first words of a line, six at most. Contracts see the list of their bytes.
 #[derive(Drop)]

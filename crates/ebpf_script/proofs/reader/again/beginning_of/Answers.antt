@@ -12,4 +12,4 @@ returns c =
     let begun : c.args.text.now ≡ codes "run " ++ (c.in_ok-program.name.now ++ 32 ∷ c.in_ok-strip_prefix.field-0.now) =
     text ∙ rw (name, c.as_bytes.ensures.value, space, c.as_slice.ensures) refl in
     beginning_is c.args.script.now c.args.text.now c.in_ok-program.name.now c.in_ok-strip_prefix.field-0.now _ begun c.in_ok-program.ensures.allowed
-    refl refl c.in_ok-program.ensures.number c.in_ok-program.ensures.declared
+    refl refl refl c.in_ok-program.ensures.number c.in_ok-program.ensures.declared
