@@ -1,10 +1,11 @@
 //! The report of a job, as it is kept until all jobs are done.
 //!
-//! A short job takes mostly the time of memory that is touched for the first time. So a report takes 32 bytes: its numbers have the
-//! size that a program's bounds leave them, a few answers are in it, and longer lists are in a box.
+//! A short job takes mostly the time of memory that is touched for the first time. So a report takes 24 bytes: its numbers have the
+//! size that a program's bounds leave them, a few answers are in it, and longer lists are in a box. The small numbers are in each
+//! variant of `Kept`, where they share a word with its tag.
 
 ghost use Rattle.std.specs.Prelude.{◌≡◌, ◌<◌, true, None, is_some};
-ghost use Rattle.ebpf_pool.specs.JobReports.{lists_in};
+ghost use Rattle.ebpf_pool.specs.JobReports.{lists_in, numbers_in};
 
 use crate::few_answers::{FEW, FewAnswers};
 use ebpf_machine::ended::Ended;
@@ -39,31 +40,49 @@ impl Lists {
     }
 }
 
-/// How the lists of a report are kept.
+/// The small numbers of a report.
+#[derive(Clone, Copy)]
+pub(crate) struct Numbers {
+    executed: u16,
+    peak: u8,
+    exited: bool,
+}
+
+/// The small numbers of a report, and how its lists are kept.
 #[derive(Drop)]
 pub(crate) enum Kept {
     /// Nothing was added to the output, and nothing was taken off a shelf.
-    Answered(FewAnswers),
-    All(Box<Lists>),
+    Answered(Numbers, FewAnswers),
+    All(Numbers, Box<Lists>),
+}
+
+impl Kept {
+    /// The small numbers.
+    pub(crate) fn numbers(&self) -> &Numbers
+        ensures { result.now ≡ numbers_in self.now }
+    {
+        match self {
+            Kept::Answered(numbers, _) | Kept::All(numbers, _) => numbers,
+        }
+    }
 }
 
 /// The report of a job. Contracts see it as the [`Report`] of its run.
 #[derive(Drop)]
 pub struct JobReport {
     exit: u64,
-    exited: bool,
-    peak: u8,
-    executed: u16,
-    lists: Kept,
+    kept: Kept,
 }
+
+const _: () = prove!(size_of::<JobReport>() <= 24);
 
 impl Model for JobReport {
     ghost use Rattle.ebpf_machine.specs.declared.report.Report.{Report};
-    ghost use Rattle.ebpf_pool.specs.JobReports.{exit_of, report_of, lists_in};
+    ghost use Rattle.ebpf_pool.specs.JobReports.{lists_in, numbers_in, report_of};
 
     ghost Value = { Report };
 
-    ghost view = { λ r. report_of (exit_of r.exited r.exit) r.executed r.peak (lists_in r.lists) };
+    ghost view = { λ r. report_of r.exit (numbers_in r.kept) (lists_in r.kept) };
 }
 
 impl JobReport {
@@ -71,12 +90,14 @@ impl JobReport {
     pub(crate) fn none() -> JobReport
         ensures { result.exit ≡ None }
     {
+        let numbers = Numbers {
+            executed: 0,
+            peak: 0,
+            exited: false,
+        };
         JobReport {
             exit: 0,
-            exited: false,
-            peak: 0,
-            executed: 0,
-            lists: Kept::Answered(FewAnswers::of(&[])),
+            kept: Kept::Answered(numbers, FewAnswers::of(&[])),
         }
     }
 
@@ -91,15 +112,15 @@ impl JobReport {
         ensures { result.0 ≡ ended }
     {
         let exit = ended.exit();
-        let peak = ended.peak() as u8;
-        let executed = ended.executed() as u16;
-        let (lists, workspace) = lists_kept(ended, spare);
+        let numbers = Numbers {
+            executed: ended.executed() as u16,
+            peak: ended.peak() as u8,
+            exited: exit.is_some(),
+        };
+        let (kept, workspace) = lists_kept(numbers, ended, spare);
         let report = JobReport {
             exit: exit.unwrap_or(0),
-            exited: exit.is_some(),
-            peak,
-            executed,
-            lists,
+            kept,
         };
         (report, workspace)
     }
@@ -108,30 +129,34 @@ impl JobReport {
     pub fn exit(&self) -> Option<u64>
         ensures { result ≡ self.now.exit }
     {
-        if self.exited { Some(self.exit) } else { None }
+        if self.kept.numbers().exited {
+            Some(self.exit)
+        } else {
+            None
+        }
     }
 
     /// How many instructions the run did.
     pub fn executed(&self) -> u64
         ensures { result ≡ self.now.executed }
     {
-        u64::from(self.executed)
+        u64::from(self.kept.numbers().executed)
     }
 
     /// The most objects that the run held at one time.
     pub fn peak(&self) -> u64
         ensures { result ≡ self.now.peak }
     {
-        u64::from(self.peak)
+        u64::from(self.kept.numbers().peak)
     }
 
     /// What the run added to its output.
     pub fn output(&self) -> &[u64]
         ensures { result.now ≡ self.now.output }
     {
-        match &self.lists {
-            Kept::All(lists) => &lists.output.numbers,
-            Kept::Answered(_) => &[],
+        match &self.kept {
+            Kept::All(_, lists) => &lists.output.numbers,
+            Kept::Answered(_, _) => &[],
         }
     }
 
@@ -139,9 +164,9 @@ impl JobReport {
     pub fn answers(&self) -> &[Reply]
         ensures { result.now ≡ self.now.answers }
     {
-        match &self.lists {
-            Kept::Answered(few) => few.replies(),
-            Kept::All(lists) => &lists.answers.replies,
+        match &self.kept {
+            Kept::Answered(_, few) => few.replies(),
+            Kept::All(_, lists) => &lists.answers.replies,
         }
     }
 
@@ -149,22 +174,27 @@ impl JobReport {
     pub fn taken(&self) -> &[u8]
         ensures { result.now ≡ self.now.taken }
     {
-        match &self.lists {
-            Kept::All(lists) => &lists.taken.bytes,
-            Kept::Answered(_) => &[],
+        match &self.kept {
+            Kept::All(_, lists) => &lists.taken.bytes,
+            Kept::Answered(_, _) => &[],
         }
     }
 }
 
-// How the lists of a run that has ended are kept, in the spare box where they need one, and the memory of that run.
-fn lists_kept<H>(ended: Ended<H>, spare: &mut Option<Box<Lists>>) -> (Kept, Workspace<H>)
+// These numbers beside the lists of a run that has ended, in the spare box where they need one, and the memory of that run.
+fn lists_kept<H>(
+    numbers: Numbers,
+    ended: Ended<H>,
+    spare: &mut Option<Box<Lists>>,
+) -> (Kept, Workspace<H>)
     requires { is_some spare.old ≡ true }
-    ensures { lists_in result.0 ≡ record { output = ended.output; answers = ended.answers; taken = ended.taken } }
+    ensures numbers { numbers_in result.0 ≡ numbers }
+    ensures lists { lists_in result.0 ≡ record { output = ended.output; answers = ended.answers; taken = ended.taken } }
 {
     let answers = ended.answers();
     if ended.output().is_empty() && ended.taken().is_empty() && answers.len() <= FEW {
         let few = FewAnswers::of(answers);
-        return (Kept::Answered(few), ended.forget());
+        return (Kept::Answered(numbers, few), ended.forget());
     }
     let Some(mut room) = spare.take() else {
         unreachable!()
@@ -175,5 +205,5 @@ fn lists_kept<H>(ended: Ended<H>, spare: &mut Option<Box<Lists>>) -> (Kept, Work
         answers: report.answers,
         taken: report.taken,
     };
-    (Kept::All(room), workspace)
+    (Kept::All(numbers, room), workspace)
 }
