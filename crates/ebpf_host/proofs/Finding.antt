@@ -97,7 +97,7 @@ module _ {S H : Type 0} (o : Store S H) (tells : TellsShelves o) (s : S) (v : Ru
 -- ---- n instructions
 
 module _ {S H : Type 0} (o : Store S H) (first : S) (subject : Subject) (context : List ℕ) (shelf : ℕ) (stood : Option Shelved) where
-  -- the calls of the first n find so, whatever replies are after the run's own
+  -- the calls of the first n find so, with any replies after the run's own
   abbrev IsFoundSoFar : ℕ → S → RunState H → Type 0
   IsFoundSoFar number now r = (more : Replies) → FindsOn number subject context (more_than (replies_of (seen_in o now r)) more) shelf (bytes_on stood)
 

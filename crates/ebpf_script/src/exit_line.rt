@@ -86,7 +86,7 @@ impl ExitLine {
         }
     }
 
-    // The number is written, whatever it was before.
+    // All digits of the number are written.
     #[inline(never)]
     fn number_anew(&mut self, job: usize)
         ensures job { self.new.job ≡ job }
