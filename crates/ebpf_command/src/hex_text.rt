@@ -1,6 +1,6 @@
 //! Bytes that are written as hex digits.
 
-ghost use Rattle.std.specs.Prelude.{◌≡◌, ◌%◌, IfOk, OnErr, option_map, length};
+ghost use Rattle.std.specs.Prelude.{◌≡◌, ◌%◌, if◌then◌else◌, IfOk, OnErr, None, Some, option_map, length};
 ghost use Rattle.ebpf_command.specs.HexText.{hex_bytes, hex_or_dash, is_dash};
 
 use hex::FromHexError;
@@ -28,6 +28,20 @@ pub fn hex_or_dash(alloc: Global, text: &[u8]) -> Result<Option<Vec<u8>>, AllocE
         return Ok(Some(Vec::new(alloc)));
     }
     hex_bytes(alloc, text)
+}
+
+/// The same in memory that is lent: what it had is gone, and the answer is whether the text is readable. It fails only where an
+/// allocation fails.
+#[inline]
+pub fn hex_or_dash_in(bytes: &mut Vec<u8>, text: &[u8]) -> Result<bool, AllocError>
+    ensures { IfOk result (λ is_readable. (if is_readable then Some bytes.new.items else None) ≡ hex_or_dash text.now) }
+{
+    bytes.clear();
+    if is_dash(text) {
+        return Ok(true);
+    }
+    bytes.resize(text.len() / 2, 0)?;
+    Ok(hex::decode_to_slice(text, bytes.as_mut_slice()).is_ok())
 }
 
 // A lone `-`.

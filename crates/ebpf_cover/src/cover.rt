@@ -20,7 +20,7 @@ use ebpf_machine::ended::Ended;
 use ebpf_machine::report::Reply;
 use ebpf_machine::run::Run;
 use ebpf_machine::workspace::Workspace;
-use ebpf_pool::{Job, JobReport, Reports};
+use ebpf_pool::{JobReport, Jobs, Reports};
 use ebpf_shelves::object::Object;
 use ebpf_verify::verified::Verified;
 use std::alloc::{AllocError, Global};
@@ -32,7 +32,7 @@ pub fn cover(
     alloc: Global,
     program: usize,
     verified: &Verified,
-    jobs: &[Job],
+    jobs: &Jobs,
     reports: &Reports,
 ) -> Result<Counts, AllocError>
     requires known { kinds_of verified.now.rows ≡ known_kinds }
@@ -46,16 +46,9 @@ pub fn cover(
         let Some(report) = left.next() else {
             unreachable!()
         };
-        let job = &jobs[index];
+        let job = jobs.job(index);
         if job.program == program {
-            workspace = count_run(
-                alloc,
-                workspace,
-                verified,
-                &job.context.bytes,
-                report,
-                &mut tally,
-            )?;
+            workspace = count_run(alloc, workspace, verified, job.context, report, &mut tally)?;
         }
     }
     workspace.free();

@@ -17,5 +17,7 @@ pub mod Turned
 pub mod Dismissing
 pub mod Shares
 pub mod Serving
+pub mod JobLists
+pub mod Searching
 pub mod Admitted
 pub mod Outcoming

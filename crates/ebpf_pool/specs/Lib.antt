@@ -14,6 +14,7 @@ pub mod Places
 pub mod Serving
 pub mod Stocks
 pub mod Supplies
+pub mod JobLists
 pub mod Working
 pub mod Settling
 pub mod Sharing

@@ -1,9 +1,10 @@
 //! What is asked of jobs before any worker is started, and why they were not done.
 
 ghost use Rattle.std.specs.Prelude.{◌≡◌, ◌↔◌, ◌≤◌, ◌<◌, Ok, Err, All, length, slice_get, position, IfSome, IfNone, IfErr, IfOk, OnOk};
+ghost use Rattle.ebpf_pool.specs.JobLists.{job_of};
 ghost use Rattle.ebpf_pool.specs.Admission.{has_program, has_context, without_program, without_context, pool_fault};
 
-use crate::jobs::Job;
+use crate::job_list::{JobRef, Jobs};
 use crate::outcome::{Host, MAX_JOBS, MAX_WORKERS};
 use ebpf_verify::verified::Verified;
 use thiserror::Error;
@@ -34,7 +35,7 @@ pub enum PoolFault {
 
 /// The first fault of the jobs, of what they are run with, or of the number of workers.
 #[tactic(auto, unfolding(crate::specs::Admission::pool_fault))]
-pub(crate) fn pool_fault(host: &Host, workers: usize, jobs: &[Job]) -> Option<PoolFault>
+pub(crate) fn pool_fault(host: &Host, workers: usize, jobs: &Jobs) -> Option<PoolFault>
     ensures { result ≡ pool_fault host.now workers jobs.now }
 {
     if host.pages == 0 || host.pages > MAX_PAGES {
@@ -56,32 +57,42 @@ pub(crate) fn pool_fault(host: &Host, workers: usize, jobs: &[Job]) -> Option<Po
 }
 
 // The first job whose program isn't there.
-fn without_program(programs: &[Verified], jobs: &[Job]) -> Option<usize>
+fn without_program(programs: &[Verified], jobs: &Jobs) -> Option<usize>
     ensures { result ≡ without_program programs.now jobs.now }
 {
-    jobs.iter().position(|job| !has_program(programs, job))
+    'known: for number in 0..jobs.len() {
+        if !has_program(programs, jobs.job(number)) {
+            return Some(number);
+        }
+    }
+    None
 }
 
 // The first job whose context doesn't have the length that its program declares.
-fn without_context(programs: &[Verified], jobs: &[Job]) -> Option<usize>
+fn without_context(programs: &[Verified], jobs: &Jobs) -> Option<usize>
     ensures { result ≡ without_context programs.now jobs.now }
 {
-    jobs.iter().position(|job| !has_context(programs, job))
+    'fitting: for number in 0..jobs.len() {
+        if !has_context(programs, jobs.job(number)) {
+            return Some(number);
+        }
+    }
+    None
 }
 
 // Whether the job's program is there.
-fn has_program(programs: &[Verified], job: &Job) -> bool
-    ensures { result ≡ has_program programs.now job.now }
+fn has_program(programs: &[Verified], job: JobRef) -> bool
+    ensures { result ≡ has_program programs.now (job_of job.entry) }
 {
     job.program < programs.len()
 }
 
 // Whether the job's context has the length that its program declares.
-fn has_context(programs: &[Verified], job: &Job) -> bool
-    ensures { result ≡ has_context programs.now job.now }
+fn has_context(programs: &[Verified], job: JobRef) -> bool
+    ensures { result ≡ has_context programs.now (job_of job.entry) }
 {
     match programs.get(job.program) {
-        Some(verified) => job.context.bytes.len() == verified.decl().context as usize,
+        Some(verified) => job.context.len() == verified.decl().context as usize,
         None => false,
     }
 }

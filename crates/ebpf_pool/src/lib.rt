@@ -19,7 +19,7 @@
 //! job is in one bundle.
 //!
 //! To be read in this order: `ledgers`, `hands`, `supply`, `count`, `client`, `owned`, `stock`, `stocks`, `store`, `few_answers`,
-//! `job_report`, `jobs`, `gate`, `worker`, `crew`, `reports`, `outcome`, `admission`, `setup`, `place`, `pool`.
+//! `job_report`, `jobs`, `job_list`, `gate`, `worker`, `crew`, `reports`, `outcome`, `admission`, `setup`, `place`, `pool`.
 #![tactic(auto)]
 
 mod admission;
@@ -29,6 +29,7 @@ mod crew;
 mod few_answers;
 mod gate;
 mod hands;
+mod job_list;
 mod job_report;
 mod jobs;
 mod ledgers;
@@ -46,6 +47,7 @@ mod worker;
 
 pub use admission::PoolFault;
 pub use gate::{Gate, NoGate, Point};
+pub use job_list::{JobRef, Jobs};
 pub use job_report::JobReport;
 pub use jobs::Job;
 pub use outcome::{Host, MAX_JOBS, MAX_WORKERS, Outcome, ShelfTotals};

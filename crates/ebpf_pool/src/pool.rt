@@ -22,8 +22,8 @@ ghost use Rattle.ebpf_pool.specs.Working.{AreReady};
 use crate::admission::{PoolFault, pool_fault};
 use crate::crew::{Done, Parts, dismiss, recruit, work_and_reap};
 use crate::gate::Gate;
+use crate::job_list::Jobs;
 use crate::job_report::JobReport;
-use crate::jobs::Job;
 use crate::ledgers::Names;
 use crate::outcome::{Host, Outcome};
 use crate::place::{count_all, gather};
@@ -44,7 +44,7 @@ struct Given<'a, G: Gate, R: Wait> {
     alloc: Global,
     host: &'a Host,
     owners: &'a Owners,
-    jobs: &'a [Job],
+    jobs: &'a Jobs,
     reaps: u32,
     gate: &'a G,
     ghost slots: { 65536 ≤ owners.now.slots },
@@ -65,7 +65,7 @@ pub fn run_jobs<G: Gate + Sync, R: Threads + Wait + Sync>(
     host: &Host,
     owners: &Owners,
     seats: Vec<OwnerSeat>,
-    jobs: &[Job],
+    jobs: &Jobs,
     reaps: u32,
     gate: &G,
 ) -> (Vec<OwnerSeat>, Result<Outcome, PoolFault>)

@@ -24,8 +24,9 @@ ghost use Rattle.ebpf_pool.specs.Working.{IsFresh, IsUnused, IsEven, IsDone, IsS
 use crate::client::Client;
 use crate::gate::{Gate, Point};
 use crate::hands::Tools;
+use crate::job_list::Jobs;
 use crate::job_report::{JobReport, Lists};
-use crate::jobs::{Answered, Bundle, Job};
+use crate::jobs::{Answered, Bundle};
 use crate::ledgers::Names;
 use crate::owned::Owned;
 use crate::stocks::Stocks;
@@ -51,7 +52,7 @@ pub(crate) struct Shared<'a, L: Names, G: Gate, R: Wait> {
     pub(crate) owners: &'a Owners,
     pub(crate) supplies: &'a Supplies<L>,
     pub(crate) programs: &'a [Verified],
-    pub(crate) jobs: &'a [Job],
+    pub(crate) jobs: &'a Jobs,
     /// How many jobs a bundle has.
     pub(crate) size: u64,
     pub(crate) tickets: &'a Tickets,
@@ -251,7 +252,7 @@ fn answer<'a, L: Names, G: Gate + 'a, R: Wait + 'a>(
         reports.old.items reports.new.items) }
     ensures capacity { vec_capacity reports.new ≡ vec_capacity reports.old }
 {
-    let job = &shared.jobs[number as usize];
+    let job = shared.jobs.job(number as usize);
     let Ok(()) = room_for_lists(shared.alloc, spare) else {
         workspace.free();
         return Err(AllocError);
@@ -259,8 +260,7 @@ fn answer<'a, L: Names, G: Gate + 'a, R: Wait + 'a>(
     shared.gate.at(number, Point::Begin);
     store.client.job = number as u32;
     let verified = &shared.programs[job.program];
-    let context = &job.context.bytes;
-    let Ok(ended) = run_in_place(workspace, verified, context, store) else {
+    let Ok(ended) = run_in_place(workspace, verified, job.context, store) else {
         return Err(AllocError);
     };
     // Read for what they promise: a report's numbers are small.

@@ -18,7 +18,7 @@ named p = record { name = string_bytes p.0; bytes = p.1.bytes.items; context = p
 
 -- a script, as the definition has it
 abbrev pub parsed_script : Script → ParsedScript
-parsed_script s = record { programs = map named s.programs.entries; events = s.events.items; pages = s.pages; jobs = s.jobs.items; passes = s.passes }
+parsed_script s = record { programs = map named s.programs.entries; events = s.events.items; pages = s.pages; jobs = s.jobs; passes = s.passes }
 
 -- a pass more can be counted
 abbrev pub HasRoom : Script → Type 0

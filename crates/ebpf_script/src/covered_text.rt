@@ -14,7 +14,7 @@ use ebpf_cover::counts::Counts;
 use ebpf_cover::cover::cover;
 use ebpf_insn::insn::Insn;
 use ebpf_insn::program::Program;
-use ebpf_pool::{Job, Reports};
+use ebpf_pool::{Jobs, Reports};
 use ebpf_text::line::write_insn;
 use ebpf_verify::verified::Verified;
 use std::alloc::{AllocError, Global};
@@ -28,7 +28,7 @@ pub(crate) fn write_covered_in(
     format: Format,
     programs: &Programs,
     accepted: &[Verified],
-    jobs: &[Job],
+    jobs: &Jobs,
     reports: &Reports,
 ) -> Result<(), AllocError>
     requires known { AreKnown accepted.now }
@@ -48,7 +48,7 @@ fn write_covered(
     format: Format,
     programs: &Programs,
     accepted: &[Verified],
-    jobs: &[Job],
+    jobs: &Jobs,
     reports: &Reports,
 ) -> Result<(), AllocError>
     requires known { AreKnown accepted.now }

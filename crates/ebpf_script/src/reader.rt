@@ -1,6 +1,6 @@
 //! Reads a script: from the bytes of a text to its programs and its events or jobs, or to its first fault.
 //!
-//! To be read in this order: `words`, `lines`, `numbers`, `names`, `script`, `programs`, `again`, `statement`, `line`, `job_line`.
+//! To be read in this order: `words`, `lines`, `numbers`, `names`, `script`, `programs`, `again`, `kept`, `statement`, `line`, `job_line`.
 
 ghost use Rattle.std.specs.Prelude.{◌≡◌, ◌≤◌, ◌<◌, ◌+◌, IfOk, IfErr, Err, length};
 ghost use Rattle.ebpf_command.specs.declared.input.TheConstants.{MAX_INPUT};
@@ -9,6 +9,7 @@ ghost use Rattle.ebpf_script.specs.Scripts.{parsed_text};
 
 mod again;
 pub mod job_line;
+mod kept;
 mod line;
 mod lines;
 mod names;
@@ -18,12 +19,13 @@ pub mod script;
 mod statement;
 mod words;
 
+use crate::reader::kept::Kept;
 use crate::reader::line::read_next;
 use crate::reader::lines::is_script_text;
 use crate::reader::script::{Dialect, Script, ScriptFault, ScriptStop};
-use crate::reader::words::Words;
 use ebpf_command::done::FaultCode;
 use ebpf_command::input::MAX_INPUT;
+use ebpf_pool::Jobs;
 use indexmap::IndexMap;
 use std::alloc::Global;
 use std::hash::BuildHasherDefault;
@@ -51,25 +53,16 @@ pub fn read_script(alloc: Global, dialect: Dialect, text: &[u8]) -> Result<Scrip
         programs: IndexMap::with_hasher(alloc, BuildHasherDefault::new()),
         events: Vec::new(alloc),
         pages: None,
-        jobs: Vec::new(alloc),
+        jobs: Jobs::new(alloc),
         passes: 0,
     };
     let is_text = is_script_text(text);
-    let mut words = Words::none();
-    let mut beginning = None;
+    let mut kept = Kept::new(alloc);
     let mut from = 0;
     let mut number = 0;
     while from <= text.len() {
         let left = &text[from..];
-        let (length, read) = read_next(
-            alloc,
-            dialect,
-            &mut script,
-            left,
-            &mut words,
-            &mut beginning,
-            is_text,
-        );
+        let (length, read) = read_next(alloc, dialect, &mut script, left, &mut kept, is_text);
         from += length + 1;
         number += 1;
         if let Err(stop) = read {

@@ -22,7 +22,7 @@ use crate::verdicts::verdicts_on;
 use ebpf_command::answer::{Answer, answer_fault_in, respond};
 use ebpf_command::done::{Done, EngineFault};
 use ebpf_command::format::Format;
-use ebpf_pool::{Host, Job, NoGate, Outcome, PoolFault, run_jobs};
+use ebpf_pool::{Host, Jobs, NoGate, Outcome, PoolFault, run_jobs};
 use owners_table::owners::Owners;
 use std::alloc::{AllocError, Global};
 use std::io::{Read, Write};
@@ -159,7 +159,7 @@ fn outcome_of<R: Threads + Wait + Sync>(
     rt: &R,
     alloc: Global,
     host: &Host,
-    jobs: &[Job],
+    jobs: &Jobs,
     workers: u32,
     reaps: u32,
 ) -> Result<Outcome, AllocError>

@@ -9,46 +9,47 @@ ghost use Rattle.ebpf_script.specs.ScriptLines.{IsFirst, is_text};
 ghost use Rattle.ebpf_script.specs.Shapes.{is_comment, event_shape, job_shape, setup_shape, program_shape, shape_of};
 ghost use Rattle.ebpf_script.specs.Words.{words};
 
-use crate::reader::again::{Beginning, job_again};
+use crate::reader::again::job_again;
+use crate::reader::kept::Kept;
 use crate::reader::lines::{Line, first_line, is_text};
 use crate::reader::script::{Dialect, Script};
 use crate::reader::statement::{
     read_answered, read_arena, read_exec, read_grow, read_job, read_job_again, read_pass,
     read_program, read_reap, read_start,
 };
-use crate::reader::words::Words;
 use ebpf_command::done::{FaultCode, Stop};
 use std::alloc::Global;
 
 /// Reads the first line of a text after those that the script has, and returns its length; whether it is text is looked at unless
-/// that is known. Where it stops, nothing is promised of the script. The words are kept in the memory that is lent, and so is how the
-/// line of a job begins.
+/// that is known. Where it stops, nothing is promised of the script.
 pub(crate) fn read_next<'a>(
     alloc: Global,
     dialect: Dialect,
     script: &mut Script,
     text: &'a [u8],
-    kept: &mut Words<'a>,
-    beginning: &mut Option<Beginning<'a>>,
+    kept: &mut Kept<'a>,
     is_known: bool,
 ) -> (usize, Result<(), Stop>)
     requires room { HasRoom script.now }
-    requires begins { IfSome beginning.old (IsBeginning script.now) }
+    requires begins { IfSome kept.old.beginning (IsBeginning script.now) }
     requires known { is_known ≡ true → (line : List ℕ) → IsFirst text.now line → is_text line ≡ true }
     ensures within { result.0 ≤ length text.now }
     ensures first { IsFirst text.now (take result.0 text.now) }
     ensures fine { OnOk result.1 (line_fault dialect (parsed_script script.old) (take result.0 text.now) ≡ None) }
     ensures ok { OnOk result.1 (Adds (shape_of dialect (words (take result.0 text.now))) script.old script.new) }
     ensures refused { IfErr result.1 (IsStop (line_fault dialect (parsed_script script.old) (take result.0 text.now))) }
-    ensures begins { OnOk result.1 (IfSome beginning.new (IsBeginning script.new)) }
+    ensures begins { OnOk result.1 (IfSome kept.new.beginning (IsBeginning script.new)) }
 {
     if is_known && matches!(dialect, Dialect::Jobs) {
-        if let Some(again) = job_again(script, beginning, text) {
-            return (again.line.len(), read_job_again(alloc, script, &again));
+        if let Some(again) = job_again(script, &mut kept.beginning, text) {
+            return (
+                again.line.len(),
+                read_job_again(script, &again, &mut kept.context),
+            );
         }
     }
-    *beginning = None;
-    let line = first_line(text, kept);
+    kept.beginning = None;
+    let line = first_line(text, &mut kept.words);
     let length = line.bytes.len();
     (length, read_line(alloc, dialect, script, &line, is_known))
 }

@@ -23,7 +23,11 @@ pub(crate) fn last_program(script: &Script) -> Option<(usize, &str, &ProgramText
     ensures number { IfSome result (λ p. number_of (parsed_script script.now).programs p.1.now ≡ Some p.0) }
     ensures declared { IfSome result (λ p. declared_by (parsed_script script.now).programs p.1.now ≡ Some p.2.now.decl.context) }
 {
-    let program = script.jobs.last()?.program;
+    let jobs = script.jobs.len();
+    if jobs == 0 {
+        return None;
+    }
+    let program = script.jobs.job(jobs - 1).program;
     if program >= script.programs.len() {
         return None;
     }

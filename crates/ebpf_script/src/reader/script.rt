@@ -5,7 +5,7 @@ ghost use Rattle.std.specs.List.{list_all};
 ghost use Rattle.ebpf_script.specs.Names.{is_name};
 
 use ebpf_command::done::{FaultCode, Stop};
-use ebpf_pool::Job;
+use ebpf_pool::Jobs;
 use ebpf_verify::decl::Decl;
 use ebpf_world::event::Event;
 use indexmap::IndexMap;
@@ -40,7 +40,7 @@ pub struct Script {
     pub events: Vec<Event>,
     /// The pages of the arena, where a line says how many.
     pub pages: Option<u32>,
-    pub jobs: Vec<Job>,
+    pub jobs: Jobs,
     /// How many passes the reaper is to make for the script's lines.
     pub passes: u32,
     ghost named: { list_all (λ p. is_name (string_bytes p.0)) programs.entries ≡ true },

@@ -14,9 +14,8 @@ use crate::reader::numbers::{context_of, held_of, kind_of, pages_of, run_of, slo
 use crate::reader::programs::program_of;
 use crate::reader::script::{ProgramText, Script};
 use ebpf_command::done::{FaultCode, Stop};
-use ebpf_command::hex_text::hex_or_dash;
+use ebpf_command::hex_text::{hex_or_dash, hex_or_dash_in};
 use ebpf_machine::context::Context;
-use ebpf_pool::Job;
 use ebpf_verify::decl::Decl;
 use ebpf_world::event::{Answer, Event};
 use std::alloc::Global;
@@ -185,39 +184,38 @@ pub(crate) fn read_job(
         return Err(Stop::Fault(FaultCode::UndefinedName));
     };
     let declared = text.decl.context;
-    add_job(script, program, declared, bytes)
+    add_job(script, program, declared, &bytes)
 }
 
-/// Reads the rest of such a line where its program is known.
+/// Reads the rest of such a line where its program is known. The context is decoded in memory that is lent.
 #[inline]
 pub(crate) fn read_job_again(
-    alloc: Global,
     script: &mut Script,
     again: &Again<'_>,
+    context: &mut Vec<u8>,
 ) -> Result<(), Stop>
     requires { IsBeginning script.now again.now.beginning }
     ensures ok { OnOk result (Adds (JobLine again.now.beginning.name.now again.now.hex.now) script.old script.new) }
     ensures refused { IfErr result (IsStop (shape_fault (parsed_script script.old) (JobLine again.now.beginning.name.now again.now.hex.now))) }
 {
-    let Some(bytes) = hex_or_dash(alloc, again.hex)? else {
+    if !hex_or_dash_in(context, again.hex)? {
         return Err(Stop::Fault(FaultCode::BadHex));
-    };
+    }
     let beginning = &again.beginning;
-    add_job(script, beginning.program, beginning.declared, bytes)
+    add_job(script, beginning.program, beginning.declared, context)
 }
 
 // Adds a job of a program that declares this many bytes of context.
 #[inline]
-fn add_job(script: &mut Script, program: usize, declared: u32, bytes: Vec<u8>) -> Result<(), Stop>
-    ensures fits { OnOk result (length bytes.items ≡ declared) }
-    ensures added { OnOk result (parsed_script script.new ≡ with_job (parsed_script script.old) (record { program = program; context = bytes.items })) }
-    ensures refused { IfErr result (IsStop (length_fault declared bytes.items)) }
+fn add_job(script: &mut Script, program: usize, declared: u32, context: &[u8]) -> Result<(), Stop>
+    ensures fits { OnOk result (length context.now ≡ declared) }
+    ensures added { OnOk result (parsed_script script.new ≡ with_job (parsed_script script.old) (record { program = program; context = context.now })) }
+    ensures refused { IfErr result (IsStop (length_fault declared context.now)) }
 {
-    if bytes.len() != declared as usize {
+    if context.len() != declared as usize {
         return Err(Stop::Fault(FaultCode::WrongContextLength));
     }
-    let context = Context { bytes };
-    script.jobs.push(Job { program, context })?;
+    script.jobs.push(program, context)?;
     Ok(())
 }
 

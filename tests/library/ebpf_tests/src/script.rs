@@ -6,7 +6,7 @@ use crate::programs::{holds, is_told};
 use ebpf_command::answer::{Answer, respond};
 use ebpf_command::codes::RefusalCode;
 use ebpf_command::done::{Done, FaultCode};
-use ebpf_command::hex_text::{hex_bytes, hex_or_dash};
+use ebpf_command::hex_text::{hex_bytes, hex_or_dash, hex_or_dash_in};
 use ebpf_command::text::fault_line;
 use ebpf_flow::fault::FlowCode;
 use ebpf_insn::fault::DecodeCode;
@@ -15,7 +15,7 @@ use ebpf_verify::fault::VerifyCode;
 use std::alloc::{AllocError, Global};
 use std::process::Abort;
 use std::test::*;
-use ebpf_pool::Job;
+use ebpf_pool::JobRef;
 
 const SCRIPT: &str = "# two programs\nprogram add 4 2 b7000000\n\tprogram Count-1_x 0 64 -\r\n\n\
 start add 00Ff\nstart Count-1_x -\n  # runs\nstart add -\n\
@@ -57,8 +57,8 @@ fn tell_program(told: &mut String, name: &str, program: &ProgramText) -> Result<
 }
 
 // A job in words, a line more.
-fn tell_job(told: &mut String, job: &Job) -> Result<(), AllocError> {
-    let (program, bytes) = (job.program, job.context.bytes.as_slice());
+fn tell_job(told: &mut String, job: JobRef) -> Result<(), AllocError> {
+    let (program, bytes) = (job.program, job.context);
     write!(told, "run {program} {bytes:?}\n")
 }
 
@@ -71,8 +71,8 @@ fn script_words(rt: &impl Abort, alloc: Global, script: &Script) -> String {
     for event in script.events.iter() {
         tell_event(&mut told, event).expect(rt, "out of memory");
     }
-    for job in script.jobs.iter() {
-        tell_job(&mut told, job).expect(rt, "out of memory");
+    for number in 0..script.jobs.len() {
+        tell_job(&mut told, script.jobs.job(number)).expect(rt, "out of memory");
     }
     let (pages, passes) = (script.pages, script.passes);
     write!(told, "pages {pages:?}, passes {passes}\n").expect(rt, "out of memory");
@@ -102,6 +102,11 @@ fn is_read(rt: &impl Abort, alloc: Global, row: &str) {
     let (word, expected) = row.split_once(' ').expect(rt, "a row has three columns");
     let bytes = hex_bytes(alloc, word.as_bytes()).expect(rt, "out of memory");
     let dashed = hex_or_dash(alloc, word.as_bytes()).expect(rt, "out of memory");
+    let told = format!(in alloc; "{bytes:?} {dashed:?}").expect(rt, "out of memory");
+    is_told(rt, row, told.as_str(), expected);
+    let mut lent = vec![in alloc; 1; 3].expect(rt, "out of memory");
+    let is_readable = hex_or_dash_in(&mut lent, word.as_bytes()).expect(rt, "out of memory");
+    let dashed = if is_readable { Some(lent) } else { None };
     let told = format!(in alloc; "{bytes:?} {dashed:?}").expect(rt, "out of memory");
     is_told(rt, row, told.as_str(), expected);
 }

@@ -11,7 +11,7 @@ use std::alloc::{AllocError, Global};
 use std::process::Abort;
 use std::sync::Wait;
 use std::thread::Threads;
-use ebpf_pool::{Gate, Host, Job, JobReport, Outcome, PoolFault, run_jobs};
+use ebpf_pool::{Gate, Host, JobReport, Jobs, Outcome, PoolFault, run_jobs};
 
 // Does the jobs of a setting, and tells what came of them: the fault or the outcome.
 pub(crate) fn done<G: Gate + Sync, R: Threads + Wait + Abort + Sync>(
@@ -79,16 +79,17 @@ fn compared(
     rt: &impl Abort,
     alloc: Global,
     programs: &[Verified],
-    jobs: &[Job],
+    jobs: &Jobs,
     outcome: &Outcome,
 ) -> Result<Sums, AllocError> {
     let reports = reports_in(alloc, outcome)?;
     holds(rt, "there is a report a job", reports.len() == jobs.len());
     holds(rt, "as many as are said", outcome.reports.len() == jobs.len());
     let mut all = Sums::new();
-    for (job, report) in jobs.iter().zip(&reports) {
+    for (number, report) in reports.iter().enumerate() {
+        let job = jobs.job(number);
         let verified = programs.get(job.program).ok_or(AllocError)?;
-        let context = job.context.bytes.to_vec(alloc)?;
+        let context = job.context.to_vec(alloc)?;
         let given = Given {
             answers: report.answers().to_vec(alloc)?,
             taken: report.taken().to_vec(alloc)?,

@@ -1,9 +1,8 @@
 //! Jobs, and what they are done with, from a row of a text.
 
-use ebpf_machine::context::Context;
 use ebpf_verify::verified::Verified;
 use std::alloc::{AllocError, Global};
-use ebpf_pool::Job;
+use ebpf_pool::Jobs;
 
 // What jobs are done with: how many workers, pages and passes of the reaper, and how many of the first slots another seat has
 // claimed; then how many jobs, and of which programs, over and over.
@@ -36,23 +35,23 @@ pub(crate) fn setting_of(row: &str) -> Setting<'_> {
     }
 }
 
-// The job of a letter: a small one is the name of its program, and a capital one too, but then its context is a byte too long.
-// There is no program of another letter. The context has the job's number.
+// The program of a letter and the context of its job: a small one is the name of its program, and a capital one too, but then its
+// context is a byte too long. There is no program of another letter. The context has the job's number.
 fn job_of(
     alloc: Global,
     programs: &[Verified],
     letter: u8,
     number: u32,
-) -> Result<Job, AllocError> {
+) -> Result<(usize, Vec<u8>), AllocError> {
     let program = usize::from(letter.to_ascii_lowercase().wrapping_sub(b'a'));
     let declared = match programs.get(program) {
         Some(verified) => verified.decl().context,
         None => 0,
     };
     let excess = u32::from(letter.is_ascii_uppercase());
-    let mut bytes = Vec::new(alloc);
+    let mut context = Vec::new(alloc);
     for place in 0..declared.saturating_add(excess) {
-        bytes.push(
+        context.push(
             number
                 .to_le_bytes()
                 .get(place as usize)
@@ -60,10 +59,7 @@ fn job_of(
                 .unwrap_or(0),
         )?;
     }
-    Ok(Job {
-        program,
-        context: Context { bytes },
-    })
+    Ok((program, context))
 }
 
 // The jobs of a setting.
@@ -71,12 +67,12 @@ pub(crate) fn jobs_of(
     alloc: Global,
     programs: &[Verified],
     setting: &Setting<'_>,
-) -> Result<Vec<Job>, AllocError> {
-    let mut jobs = Vec::with_capacity(alloc, setting.count as usize)?;
+) -> Result<Jobs, AllocError> {
+    let mut jobs = Jobs::new(alloc);
     let letters = setting.letters.as_bytes();
     for (letter, number) in letters.iter().cycle().zip(0..setting.count) {
-        let job = job_of(alloc, programs, *letter, number)?;
-        jobs.push(job)?;
+        let (program, context) = job_of(alloc, programs, *letter, number)?;
+        jobs.push(program, &context)?;
     }
     Ok(jobs)
 }

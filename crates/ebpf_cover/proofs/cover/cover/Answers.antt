@@ -1,7 +1,7 @@
-use Rattle.std.proofs.Common.{◌≡◌, ◌≢◌, ◌+◌, ◌∷◌, drop, length, get_or, ap, sym, ◌∙◌, subst, rules, arith}
-use Rattle.ebpf_pool.specs.declared.jobs.Job.{Job}
+use Rattle.std.proofs.Common.{◌≡◌, ◌<◌, ◌+◌, ◌∷◌, drop, length, get_or, sym, ◌∙◌, subst, rules, arith}
+use Rattle.ebpf_pool.specs.JobLists.{job_of}
+use Rattle.std.proofs.lemmas.Option.{get_or_from_slice_get}
 use Rattle.ebpf_cover.specs.declared.tally.Tally.{Tally}
-use Rattle.ebpf_cover.specs.Covered.{IsRunCounted}
 use Rattle.ebpf_cover.specs.Stretches.{IsTally, executed_so_far, taken_so_far}
 use Rattle.ebpf_cover.proofs.Summing.{AreCountsTo, none_before, job_counted, job_passed, all_ok, is_same, is_other, next_is, rest_is, some_left}
 use Rattle.ebpf_cover.proofs.cover.cover.Goals.{then-job-program+in_ok-workspace-2, else-job-program}
@@ -9,7 +9,7 @@ use Rattle.ebpf_cover.proofs.cover.cover.Goals as goal
 
 pub unreachable-requires : goal.unreachable-requires
 unreachable-requires c =
-    some_left c.args.reports.now c.covered.index (omega (arith, c.covered-test.true, c.requires.all)) (sym c.covered.invariant.left ∙ c.in_default.ensures.0)
+    some_left c.args.reports.now c.covered.index (omega (arith, c.covered-test.true, c.len-index-end.ensures, c.requires.all)) (sym c.covered.invariant.left ∙ c.in_default.ensures.0)
 
 pub covered-init : goal.covered-init
 covered-init c = record {
@@ -25,9 +25,10 @@ covered-preserved c =
     let reports = c.args.reports.now in
     let k = c.covered.index in
     let i = c.covered.invariant in
-    let job = c.index-jobs-index.result in
+    let job = job_of c.job-job.result in
     let report = c.in-Some.report.now in
-    let there : get_or jobs k job ≡ job = search rules in
+    let inside : k < length jobs = omega (arith, c.covered-test.true, c.len-index-end.ensures) in
+    let there : get_or jobs k job ≡ job = get_or_from_slice_get jobs k job job c.job-job.ensures in
     let left : drop k reports ≡ report ∷ c.next.new.self = sym i.left ∙ (search rules) in
     let same : get_or reports k report ≡ report = next_is reports c.next.new.self k report left in record {
       left = rest_is reports c.next.new.self k report left;
@@ -35,11 +36,11 @@ covered-preserved c =
       counted = elim c.if-job-program.branch [
         | then-job-program+in_ok-workspace-2 w ↦
             subst (λ (t : Tally). AreCountsTo s c.args.program jobs reports (k + 1) (executed_so_far s.program t) (taken_so_far t)) (sym w.tally-is)
-            (job_counted s c.args.program jobs reports k _ _ _ _ job report c.covered-test.true c.requires.all there same (is_same job.program c.args.program (sym (ap (λ (j : Job). j.program) c.job.view_is) ∙ w.if-job-program.true)) i.counted
-            (subst (λ bytes. IsRunCounted s bytes report (executed_so_far s.program c.covered.tally) (taken_so_far c.covered.tally) (executed_so_far s.program w.count_run.new.tally) (taken_so_far w.count_run.new.tally)) (w.deref.ensures.value ∙ ap (λ (j : Job). j.context) c.job.view_is) w.in_ok-workspace-2.ensures.counted))
+            (job_counted s c.args.program jobs reports k _ _ _ _ job report inside c.requires.all there same (is_same job.program c.args.program w.if-job-program.true) i.counted
+            w.in_ok-workspace-2.ensures.counted)
         | else-job-program w ↦
             subst (λ (t : Tally). AreCountsTo s c.args.program jobs reports (k + 1) (executed_so_far s.program t) (taken_so_far t)) (sym w.tally-is)
-            (job_passed s c.args.program jobs reports k _ _ job c.covered-test.true c.requires.all there (let others : job.program ≢ c.args.program = λ e. w.if-job-program.false (ap (λ (j : Job). j.program) c.job.view_is ∙ e) in is_other _ _ others) i.counted)
+            (job_passed s c.args.program jobs reports k _ _ job inside c.requires.all there (is_other _ _ w.if-job-program.false) i.counted)
       ];
     }
 

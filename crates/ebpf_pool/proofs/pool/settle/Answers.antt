@@ -1,4 +1,5 @@
 use Rattle.std.proofs.Common.{rules, ◌≡◌, ◌<◌, ℕ, All, List, length, map, vec_len, refl, sym, ap, subst, ◌∙◌, arith}
+use Rattle.std.specs.Int.{div_ceil}
 use Rattle.owners_table.specs.Drawing.{NeverWraps}
 use Rattle.ebpf_pool.specs.declared.worker.Ending.TheVariants.{Through}
 use Rattle.ebpf_pool.specs.declared.outcome.Outcome.{Outcome}
@@ -12,6 +13,7 @@ use Rattle.ebpf_pool.specs.declared.jobs.Job.{Job}
 use Rattle.ebpf_pool.specs.declared.outcome.ShelfTotals.{ShelfTotals}
 use Rattle.ebpf_pool.specs.declared.jobs.Bundle.{Bundle}
 use Rattle.ebpf_pool.specs.Outcomes.{AreIdleAgain}
+use Rattle.ebpf_pool.specs.Numbering.{bundles_in}
 use Rattle.ebpf_pool.specs.Places.{bundles_of, counted}
 use Rattle.ebpf_pool.specs.Serving.{AreServed}
 use Rattle.ebpf_pool.specs.Supplies.{AreClosed}
@@ -25,6 +27,10 @@ again : {L : Type 0} {programs : List Subject} {jobs : List Job} {o : OwnersView
     → (before : List SeatView) → AreServed programs jobs o size t before p done → AreClosed o p.hands p.seats.items after shelves ts → AreIdleAgain o before after
 again before s closed = record { all = closed.all ∙ s.seats_all; idle = closed.idle }
 
+-- how many bundles n jobs are
+many_are : (count n size jobs : ℕ) → count ≡ div_ceil n size → n ≡ jobs → count ≡ bundles_in size jobs
+many_are count n size jobs is same = is ∙ ap (λ (k : ℕ). div_ceil k size) same
+
 -- the first part is that what is passed is not too large
 pub close-requires : goal.close-requires
 close-requires g c =
@@ -36,13 +42,13 @@ pub gather-lists-requires-clause-none : goal.gather-lists-requires-clause-none
 gather-lists-requires-clause-none g c = c.requires.left.1.places_are.0
 
 pub gather-lists-requires-clause-room : goal.gather-lists-requires-clause-room
-gather-lists-requires-clause-room g c = omega (arith, c.div_ceil-bundles.ensures, c.requires.left.1.places_are.1)
+gather-lists-requires-clause-room g c = omega (arith, many_are _ _ _ _ c.div_ceil-bundles.ensures c.len.ensures, c.requires.left.1.places_are.1)
 
 pub gather-lists-requires-clause-inside : goal.gather-lists-requires-clause-inside
 gather-lists-requires-clause-inside g c =
     let through : c.args.done.ending ≡ Through = search rules in
     let inside = bundles_inside _ _ _ _ _ _ _ _ through c.requires.left.1.served in
-    subst (λ (n : ℕ). All (λ (b : Bundle). b.number < n) (bundles_of c.args.parts.answered.items)) (sym c.div_ceil-bundles.ensures) inside
+    subst (λ (n : ℕ). All (λ (b : Bundle). b.number < n) (bundles_of c.args.parts.answered.items)) (sym (many_are _ _ _ _ c.div_ceil-bundles.ensures c.len.ensures)) inside
 
 pub gather-lists-requires-clause-once : goal.gather-lists-requires-clause-once
 gather-lists-requires-clause-once g c =
@@ -58,7 +64,7 @@ gather-lists-requires-clause-once g c =
     let fits : NeverWraps c.args.room.tickets.limit c.args.room.tickets.seats = search rules in
     let all : vec_len c.args.parts.drawers ≡ c.args.room.tickets.seats = search rules in
     λ x below. placed_once _ _ _ _ _ _ _ _ through s (λ y lt. c.close-2.ensures.each fits all (s.through through) y (omega (arith, lt, limit))) x
-    (omega (arith, below, c.div_ceil-bundles.ensures))
+    (omega (arith, below, many_are _ _ _ _ c.div_ceil-bundles.ensures c.len.ensures))
 
 pub of-requires : goal.of-requires
 of-requires g c =
@@ -74,8 +80,8 @@ of-requires g c =
     let fits : NeverWraps c.args.room.tickets.limit c.args.room.tickets.seats = search rules in
     let all : vec_len c.args.parts.drawers ≡ c.args.room.tickets.seats = search rules in
     let e = c.gather-lists.ensures in
-    let many = c.div_ceil-bundles.ensures in
-    sym (reports_len _ _ _ _ _ _ _ _ through s (λ y lt. c.close-2.ensures.each fits all (s.through through) y (omega (arith, lt, limit))) can.size.0 few_jobs
+    let many = many_are _ _ _ _ c.div_ceil-bundles.ensures c.len.ensures in
+    c.len-2.ensures ∙ sym (reports_len _ _ _ _ _ _ _ _ through s (λ y lt. c.close-2.ensures.each fits all (s.through through) y (omega (arith, lt, limit))) can.size.0 few_jobs
     c.gather-lists.result.items (omega (arith, e.len, c.gather-lists.result.ok.0, many)) (λ x lt. e.there x (omega (arith, lt, many))) e.weighed)
 
 pub returns : goal.returns
@@ -91,7 +97,7 @@ returns g c = λ before can.
     let fits : NeverWraps c.args.room.tickets.limit c.args.room.tickets.seats = search rules in
     let all : vec_len c.args.parts.drawers ≡ c.args.room.tickets.seats = search rules in
     let e = c.gather-lists.ensures in
-    let many = c.div_ceil-bundles.ensures in
+    let many = many_are _ _ _ _ c.div_ceil-bundles.ensures c.len.ensures in
     let made : Outcome = record {
       reports = c.of.result;
       totals = c.close.result.1;

@@ -1,8 +1,8 @@
-use Rattle.std.proofs.Common.{◌≡◌, ◌<◌, length, ℕ, List, [], ◌∷◌, ◌++◌, refl, sym, ap, subst, ◌∙◌, rules}
-use Rattle.std.proofs.Math.ListN.{get_or}
-use Rattle.std.proofs.lemmas.Option.{slice_get_read}
+use Rattle.std.proofs.Common.{◌≡◌, ◌<◌, length, [], ◌∷◌, ◌++◌, refl, sym, ap, subst, ◌∙◌}
+use Rattle.std.proofs.lemmas.Option.{get_or_from_slice_get, slice_get_read}
 use Rattle.ebpf_verify.specs.Subject.{Subject}
 use Rattle.ebpf_pool.specs.declared.jobs.Job.{Job}
+use Rattle.ebpf_pool.specs.JobLists.{job_of}
 use Rattle.ebpf_pool.specs.Numbering.{Numbered}
 use Rattle.ebpf_machine.specs.declared.report.Report.{Report}
 use Rattle.ebpf_machine.specs.Whole.{IsReportOf}
@@ -25,26 +25,17 @@ returns-clause-answered g c = record { made = made; good = answered; kept = item
   items = c.push_reserved.ensures.items ∙ ap (λ (r : Report). c.args.reports.now.items ++ r ∷ []) c.of-report.ensures
 
   -- the job that is read is the one of the number
-  program : c.job.inside.0.0 ≡ c.index-shared-number.result.program
-  program = ap (λ (j : Job). j.program) (c.job.view_is ∙ sym c.index-shared-number.is)
+  job : Job
+  job = job_of c.job-job.result
 
-  same : c.deref.result.now ≡ c.index-shared-number.result.context
-  same = let context = ap (λ (j : Job). j.context) (c.job.view_is ∙ sym c.index-shared-number.is) in search rules
-
-  inside : c.index-shared-number.result.program < length c.args.shared.now.programs.now
-  inside = subst (λ (j : Job). j.program < length c.args.shared.now.programs.now) (sym c.index-shared-number.is) (c.requires.ready.can c.args.number c.index-shared-number.result c.requires.number).inside
-
-  report : IsReportOf c.index-shared-job.result c.deref.result.now c.in-Ok-run_in_place.ended
-  report = subst (λ (v : Subject). IsReportOf v c.deref.result.now c.in-Ok-run_in_place.ended) (sym c.index-shared-job.is) c.in-Ok-run_in_place.ensures.report
-
-  there : c.index-shared-job.result ≡ get_or c.args.shared.now.programs.now c.index-shared-number.result.program c.index-shared-job.result
-  there = subst (λ (p : ℕ). c.index-shared-job.result ≡ get_or c.args.shared.now.programs.now p c.index-shared-job.result) program c.index-shared-job.is
+  inside : job.program < length c.args.shared.now.programs.now
+  inside = subst (λ (j : Job). j.program < length c.args.shared.now.programs.now) (get_or_from_slice_get c.args.shared.now.jobs.now c.args.number job job c.job-job.ensures) (c.requires.ready.can c.args.number job c.requires.number).inside
 
   answered : Answers c.args.shared.now.programs.now c.args.shared.now.jobs.now n
   answered = record {
-    job = c.index-shared-number.result;
-    job_is = slice_get_read _ _ _ _ refl c.requires.number c.index-shared-number.is;
+    job = job;
+    job_is = c.job-job.ensures;
     subject = c.index-shared-job.result;
-    subject_is = slice_get_read c.args.shared.now.programs.now _ c.index-shared-number.result.program c.index-shared-job.result refl inside there;
-    report = subst (λ (l : List ℕ). IsReportOf c.index-shared-job.result l c.in-Ok-run_in_place.ended) same report;
+    subject_is = slice_get_read c.args.shared.now.programs.now _ job.program c.index-shared-job.result refl inside c.index-shared-job.is;
+    report = subst (λ (v : Subject). IsReportOf v job.context c.in-Ok-run_in_place.ended) (sym c.index-shared-job.is) c.in-Ok-run_in_place.ensures.report;
   }

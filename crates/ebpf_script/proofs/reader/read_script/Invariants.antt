@@ -12,7 +12,7 @@ invariant-loop-from l = record {
   within : l.from ≤ length l.text + 1;
   number : l.number ≤ l.from;
   few : l.script.passes ≤ l.number;
-  begins : IfSome l.beginning (IsBeginning l.script);
+  begins : IfSome l.kept.beginning (IsBeginning l.script);
   behind : parsed_lines l.dialect (l.number + 1) (parsed_script l.script) (lines_from l.text l.from)
       ≡ parsed_lines l.dialect 1 empty_script (script_lines l.text);
 }

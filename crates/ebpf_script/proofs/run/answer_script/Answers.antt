@@ -23,7 +23,7 @@ outcome_of-requires-clause-fine g c κs within =
     let runnable = c.requires.runnable in
     let pages = pages_or c.args.script.pages runnable.pages in
     let declared = contexts_kept _ _ c.in_ok-verdicts.verdicts c.in_ok-verdicts.ensures c.if-verdicts.false in
-    rw (c.deref.ensures.value, c.unwrap_or.ensures) (none_due _ c.args.workers c.args.script.jobs.items pages.0 pages.1 c.requires.workers.0 c.requires.workers.1 runnable.few (λ k d lt. rw declared (runnable.declared k d lt)))
+    rw (c.unwrap_or.ensures) (none_due _ c.args.workers c.args.script.jobs pages.0 pages.1 c.requires.workers.0 c.requires.workers.1 runnable.few (λ k d lt. rw declared (runnable.declared k d lt)))
 
 -- the text after verdicts that are kept, where an outcome may come of the jobs
 told : (covered : Bool) (format : Format) (parsed : ParsedScript) (kept : Verdicts) (k : AreKept format parsed.programs kept) (o : Outcome) (text : List ℕ) → kept.refused ≡ false
@@ -53,10 +53,10 @@ returns g c =
     let kept = c.in_ok-verdicts.verdicts in
     let o = c.in_ok-outcome.outcome in
     let programs = (parsed_script c.args.script).programs in
-    let jobs = c.args.script.jobs.items in
+    let jobs = c.args.script.jobs in
     let mid = string_bytes c.write_outcome_in.new.text in
     let more : string_bytes c.write_covered_in.new.text ≡ mid ++ covered_lines c.args.covered c.args.format programs kept.accepted.items jobs o.reports =
-    c.in_ok-write_covered_in.ensures ∙ (λ n. mid ++ covered_lines c.args.covered c.args.format programs (c.deref-2.ensures.value n) (c.deref-3.ensures.value n) o.reports) in
+    c.in_ok-write_covered_in.ensures ∙ (λ n. mid ++ covered_lines c.args.covered c.args.format programs (c.deref.ensures.value n) jobs o.reports) in
     told c.args.covered c.args.format (parsed_script c.args.script) kept c.in_ok-verdicts.ensures o _ c.if-verdicts.false
-    (subst (λ jobs. MayCome kept.accepted.items jobs o) c.deref.ensures.value c.in_ok-outcome.ensures)
+    c.in_ok-outcome.ensures
     (joined (string_bytes kept.text) (outcome_in c.args.format o) (covered_lines c.args.covered c.args.format programs kept.accepted.items jobs o.reports) mid (string_bytes c.write_covered_in.new.text) c.in_ok-write_outcome_in.ensures more)

@@ -33,10 +33,10 @@ returns-clause-refused c =
     let at = goal.at.returns-clause-refused c in
     let allowed : is_name c.args.name.now ≡ true = sym c.in-Some-name_of.ensures.allowed in
     let left = job_fault (parsed_script c.args.script.now) c.args.name.now c.args.hex.now _ _ _ (bytes-are at.In-Some) allowed (number-is at.In-Some-program_of) (declared-is at.In-Some-program_of) in
-    subst (λ (fault : Option FaultCode). IfErr c.add_job.result (IsStop fault)) (sym left) c.add_job.ensures.refused
+    subst (λ (fault : Option FaultCode). IfErr c.add_job.result (IsStop fault)) (sym left) (rw c.deref.ensures.value at c.add_job.ensures.refused)
 
 pub returns-clause-ok : goal.returns-clause-ok
 returns-clause-ok c =
     let at = goal.at.returns-clause-ok c in
     let allowed : is_name c.args.name.now ≡ true = sym c.in-Some-name_of.ensures.allowed in
-    job_adds c.add_job.result c.args.script.now _ c.args.name.now c.args.hex.now _ _ _ (bytes-are at.In-Some) allowed (number-is at.In-Some-program_of) (declared-is at.In-Some-program_of) c.add_job.ensures.fits c.add_job.ensures.added
+    job_adds c.add_job.result c.args.script.now _ c.args.name.now c.args.hex.now _ _ _ (bytes-are at.In-Some) allowed (number-is at.In-Some-program_of) (declared-is at.In-Some-program_of) (rw c.deref.ensures.value at c.add_job.ensures.fits) (rw c.deref.ensures.value at c.add_job.ensures.added)
