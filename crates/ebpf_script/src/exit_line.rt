@@ -1,6 +1,6 @@
 //! The line that says how a job ended, for one job after another.
 //!
-//! *The idea.* Many jobs of a batch end alike, and each has the number after that of the job before it. So the line of a job is kept for
+//! *The idea.* Many jobs end alike, and each has the number after that of the job before it. So the line of a job is kept for
 //! the next one. What comes after the number is written anew only where that job ends in another way, and of the number only the last digit
 //! changes unless that is a 9.
 
@@ -10,9 +10,9 @@ ghost use Rattle.ebpf_script.specs.OutcomeLines.{ending_words, job_line};
 use crate::text_line::TextLine;
 use std::alloc::AllocError;
 
-/// The line of a job, and how that job ended.
+/// The line of a job, kept for the next job, and how that job ended.
 #[derive(Drop)]
-pub(crate) struct ExitLine {
+pub struct ExitLine {
     line: TextLine,
     // How many bytes come after the number of the job.
     after: usize,
@@ -27,7 +27,7 @@ pub(crate) struct ExitLine {
 
 impl ExitLine {
     /// Before any job.
-    pub(crate) fn new() -> ExitLine {
+    pub fn new() -> ExitLine {
         let mut line = TextLine::end();
         write_ending(&mut line, 0, 0, 0);
         let after = line.len();
@@ -43,7 +43,7 @@ impl ExitLine {
     }
 
     /// Writes how a job ended, after a text. It fails only where an allocation fails.
-    pub(crate) fn write(
+    pub fn write(
         &mut self,
         text: &mut String,
         job: usize,
@@ -98,8 +98,8 @@ impl ExitLine {
     }
 }
 
-/// Makes a line the part that comes after the number of a job.
-pub(crate) fn write_ending(line: &mut TextLine, exit: u64, executed: u64, peak: u64)
+// Makes a line the part that comes after the number of a job.
+fn write_ending(line: &mut TextLine, exit: u64, executed: u64, peak: u64)
     ensures text { line.new ≡ ending_words exit executed peak }
     ensures few { length line.new ≤ 83 }
 {
@@ -112,8 +112,8 @@ pub(crate) fn write_ending(line: &mut TextLine, exit: u64, executed: u64, peak: 
     line.words(b" exit ");
 }
 
-/// Writes the number of a job before what comes after it.
-pub(crate) fn write_number(ending: &mut TextLine, job: usize)
+// Writes the number of a job before what comes after it.
+fn write_number(ending: &mut TextLine, job: usize)
     requires { length ending.old ≤ 83 }
     ensures { ending.new ≡ codes "job " ++ (decimal job ++ ending.old) }
 {

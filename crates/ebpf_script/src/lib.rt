@@ -14,7 +14,7 @@
 pub mod check;
 mod covered_text;
 mod event_codes;
-mod exit_line;
+pub mod exit_line;
 pub mod explained_check;
 pub mod meter;
 pub mod outcome_json;

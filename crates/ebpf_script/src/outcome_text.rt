@@ -1,10 +1,10 @@
 //! The lines of an outcome.
 
-ghost use Rattle.std.specs.Prelude.{◌≡◌, ◌++◌, string_bytes, Some, OnOk};
+ghost use Rattle.std.specs.Prelude.{◌≡◌, ◌++◌, string_bytes, OnOk};
 ghost use Rattle.std.specs.List.{flat_map};
-ghost use Rattle.ebpf_script.specs.OutcomeLines.{job_emit_line, job_line, report_lines, reports_from, cache_words, cache_line, cache_lines, shelf_line, shelf_lines, outcome_lines};
+ghost use Rattle.ebpf_script.specs.OutcomeLines.{job_emit_line, report_lines, reports_from, cache_words, cache_line, cache_lines, shelf_line, shelf_lines, outcome_lines};
 
-use crate::exit_line::{ExitLine, write_ending, write_number};
+use crate::exit_line::ExitLine;
 use crate::text_line::TextLine;
 use ebpf_pool::{JobReport, Outcome, Reports, ShelfTotals};
 use object_cache::Totals;
@@ -50,22 +50,6 @@ fn write_report(
         return Ok(());
     };
     exits.write(text, job, exit, report.executed(), report.peak())
-}
-
-/// Writes how a job ended, after a text. It fails only where an allocation fails.
-pub fn write_exit(
-    text: &mut String,
-    line: &mut TextLine,
-    job: usize,
-    exit: u64,
-    executed: u64,
-    peak: u64,
-) -> Result<(), AllocError>
-    ensures { OnOk result (string_bytes text.new ≡ string_bytes text.old ++ job_line job (Some exit) executed peak) }
-{
-    write_ending(line, exit, executed, peak);
-    write_number(line, job);
-    text.push_str(line.as_str())
 }
 
 /// Writes the output of a job after a text. It fails only where an allocation fails.

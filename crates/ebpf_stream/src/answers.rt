@@ -23,6 +23,7 @@ use ebpf_host::machine::Machine;
 use ebpf_machine::report::Report;
 use ebpf_machine::run::StartFault;
 use ebpf_pool::Job;
+use ebpf_script::exit_line::ExitLine;
 use ebpf_script::text_line::TextLine;
 use std::alloc::{AllocError, Global};
 
@@ -33,6 +34,7 @@ pub(crate) struct Answers {
     // Where the text of a job is made, so that none is answered in part.
     whole: String,
     line: TextLine,
+    exits: ExitLine,
     pub(crate) text: String,
     pub(crate) place: Place,
 }
@@ -48,6 +50,7 @@ impl Answers {
             machine,
             whole: String::new(alloc),
             line: TextLine::end(),
+            exits: ExitLine::new(),
             text,
             place: Place {
                 jobs: 0,
@@ -144,6 +147,7 @@ impl Answers {
         write_report(
             &mut self.whole,
             &mut self.line,
+            &mut self.exits,
             format,
             self.place.jobs,
             report,

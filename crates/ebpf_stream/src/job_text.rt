@@ -8,8 +8,9 @@ ghost use Rattle.ebpf_stream.specs.Answering.{report_in};
 use ebpf_command::format::Format;
 use ebpf_command::json::write_numbers;
 use ebpf_machine::report::Report;
+use ebpf_script::exit_line::ExitLine;
 use ebpf_script::outcome_json::write_job_members;
-use ebpf_script::outcome_text::{write_exit, write_output};
+use ebpf_script::outcome_text::write_output;
 use ebpf_script::text_line::TextLine;
 use std::alloc::AllocError;
 
@@ -17,6 +18,7 @@ use std::alloc::AllocError;
 pub(crate) fn write_report(
     text: &mut String,
     line: &mut TextLine,
+    exits: &mut ExitLine,
     format: Format,
     job: usize,
     report: &Report,
@@ -24,7 +26,7 @@ pub(crate) fn write_report(
     ensures { OnOk result (string_bytes text.new ≡ string_bytes text.old ++ report_in format job report.now) }
 {
     match format {
-        Format::Text => write_lines(text, line, job, report),
+        Format::Text => write_lines(text, line, exits, job, report),
         Format::Json => write_object(text, line, job, report),
     }
 }
@@ -33,6 +35,7 @@ pub(crate) fn write_report(
 fn write_lines(
     text: &mut String,
     line: &mut TextLine,
+    exits: &mut ExitLine,
     job: usize,
     report: &Report,
 ) -> Result<(), AllocError>
@@ -40,7 +43,7 @@ fn write_lines(
 {
     write_output(text, line, job, &report.output.numbers)?;
     match report.exit {
-        Some(exit) => write_exit(text, line, job, exit, report.executed, report.peak),
+        Some(exit) => exits.write(text, job, exit, report.executed, report.peak),
         None => Ok(()),
     }
 }
