@@ -37,6 +37,8 @@ pub(crate) struct Answers {
     exits: ExitLine,
     pub(crate) text: String,
     pub(crate) place: Place,
+    // The number of the last job's program.
+    last: Option<usize>,
 }
 
 impl Answers {
@@ -57,6 +59,7 @@ impl Answers {
                 lines: 0,
                 faulty: false,
             },
+            last: None,
         }
     }
 
@@ -77,7 +80,7 @@ impl Answers {
         let Some(lines) = self.place.lines.checked_add(1) else {
             return Err(EngineFault::Input);
         };
-        match read_line(alloc, &setup.script, line) {
+        match read_line(alloc, &setup.script, self.last, line) {
             Ok(Some(job)) => self.run(setup, &job, lines),
             Ok(None) => {
                 self.place.lines = lines;
@@ -133,6 +136,7 @@ impl Answers {
         self.tell(setup.format, &report)?;
         self.place.jobs = jobs;
         self.place.lines = lines;
+        self.last = Some(job.program);
         Ok(())
     }
 

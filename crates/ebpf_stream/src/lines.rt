@@ -16,12 +16,18 @@ use std::alloc::Global;
 // The most bytes of a line, its newline aside.
 pub(crate) const MAX_LINE: usize = 65_536;
 
-/// The job that a line asks for; `None` where it is blank or a comment.
+/// The job that a line asks for; `None` where it is blank or a comment. The number of the last job's program, where it is given, spares
+/// a search.
 ///
 /// # Errors
 /// `Fault` with the line's first code, `S1` where it is too long; `NoMemory` where an allocation failed.
 #[tactic(auto, unfolding(crate::specs::Answering::stream_fault))]
-pub(crate) fn read_line(alloc: Global, script: &Script, line: &[u8]) -> Result<Option<Job>, Stop>
+pub(crate) fn read_line(
+    alloc: Global,
+    script: &Script,
+    last: Option<usize>,
+    line: &[u8],
+) -> Result<Option<Job>, Stop>
     ensures fine { IfOk result (λ job. stream_fault (parsed_script script.now) line.now ≡ None) }
     ensures job { IfOk result (λ job. job ≡ job_of (parsed_script script.now) (stream_shape (words line.now))) }
     ensures declared { IfOk result (λ job. IfSome job (λ j. slice_get (map (λ p. p.context) (parsed_script script.now).programs) j.program ≡ Some (length j.context))) }
@@ -30,5 +36,5 @@ pub(crate) fn read_line(alloc: Global, script: &Script, line: &[u8]) -> Result<O
     if line.len() > MAX_LINE {
         return Err(Stop::Fault(FaultCode::InputTooLong));
     }
-    read_job_line(alloc, script, line)
+    read_job_line(alloc, script, last, line)
 }

@@ -10,7 +10,7 @@ ghost use Rattle.ebpf_script.specs.Shapes.{JobLine};
 use crate::reader::line::is_comment;
 use crate::reader::lines::{first_line, is_text};
 use crate::reader::names::name_of;
-use crate::reader::programs::program_of;
+use crate::reader::programs::program_after;
 use crate::reader::script::Script;
 use crate::reader::words::Words;
 use ebpf_command::done::{FaultCode, Stop};
@@ -19,11 +19,17 @@ use ebpf_machine::context::Context;
 use ebpf_pool::Job;
 use std::alloc::Global;
 
-/// The job that a line asks for, of a program of this script; `None` where the line is blank or a comment.
+/// The job that a line asks for, of a program of this script; `None` where the line is blank or a comment. The program of the last job
+/// is looked at first, so its number spares a search; any other number, or none, gives the same job.
 ///
 /// # Errors
 /// `Fault` with the line's first code; `NoMemory` where an allocation failed.
-pub fn read_job_line(alloc: Global, script: &Script, line: &[u8]) -> Result<Option<Job>, Stop>
+pub fn read_job_line(
+    alloc: Global,
+    script: &Script,
+    last: Option<usize>,
+    line: &[u8],
+) -> Result<Option<Job>, Stop>
     ensures read { IfOk result (IsReadAs (parsed_script script.now) line.now) }
     ensures refused { IfErr result (IsStop (job_line_fault (parsed_script script.now) line.now)) }
 {
@@ -32,11 +38,16 @@ pub fn read_job_line(alloc: Global, script: &Script, line: &[u8]) -> Result<Opti
     }
     let mut kept = Words::none();
     let line = first_line(line, &mut kept);
-    read_words(alloc, script, line.words)
+    read_words(alloc, script, last, line.words)
 }
 
 // The job of the words of a line.
-fn read_words(alloc: Global, script: &Script, words: &[&[u8]]) -> Result<Option<Job>, Stop>
+fn read_words(
+    alloc: Global,
+    script: &Script,
+    last: Option<usize>,
+    words: &[&[u8]],
+) -> Result<Option<Job>, Stop>
     ensures fine { IfOk result (λ job. shape_fault (parsed_script script.now) (stream_shape (map (λ w. w.now) words.now)) ≡ None) }
     ensures job { IfOk result (λ job. job ≡ job_of (parsed_script script.now) (stream_shape (map (λ w. w.now) words.now))) }
     ensures refused { IfErr result (IsStop (shape_fault (parsed_script script.now) (stream_shape (map (λ w. w.now) words.now)))) }
@@ -47,13 +58,14 @@ fn read_words(alloc: Global, script: &Script, words: &[&[u8]]) -> Result<Option<
     if is_comment(first) {
         return Ok(None);
     }
-    read_run_words(alloc, script, first, rest)
+    read_run_words(alloc, script, last, first, rest)
 }
 
 // The job of a line's first word and those after it.
 fn read_run_words(
     alloc: Global,
     script: &Script,
+    last: Option<usize>,
     first: &[u8],
     rest: &[&[u8]],
 ) -> Result<Option<Job>, Stop>
@@ -62,13 +74,21 @@ fn read_run_words(
     ensures refused { IfErr result (IsStop (shape_fault (parsed_script script.now) (run_shape first.now (map (λ w. w.now) rest.now)))) }
 {
     match rest {
-        [name, hex] if first == b"run".as_slice() => Ok(Some(job_on(alloc, script, name, hex)?)),
+        [name, hex] if first == b"run".as_slice() => {
+            Ok(Some(job_on(alloc, script, last, name, hex)?))
+        }
         _ => Err(Stop::Fault(FaultCode::UnknownLine)),
     }
 }
 
 // The job of `run NAME HEX`.
-fn job_on(alloc: Global, script: &Script, name: &[u8], hex: &[u8]) -> Result<Job, Stop>
+fn job_on(
+    alloc: Global,
+    script: &Script,
+    last: Option<usize>,
+    name: &[u8],
+    hex: &[u8],
+) -> Result<Job, Stop>
     ensures fine { IfOk result (λ job. shape_fault (parsed_script script.now) (JobLine name.now hex.now) ≡ None) }
     ensures job { IfOk result (λ job. Some job ≡ job_of (parsed_script script.now) (JobLine name.now hex.now)) }
     ensures refused { IfErr result (IsStop (shape_fault (parsed_script script.now) (JobLine name.now hex.now))) }
@@ -79,7 +99,7 @@ fn job_on(alloc: Global, script: &Script, name: &[u8], hex: &[u8]) -> Result<Job
     let Some(name) = name_of(name) else {
         return Err(Stop::Fault(FaultCode::BadName));
     };
-    let Some((program, text)) = program_of(script, name) else {
+    let Some((program, text)) = program_after(script, last, name) else {
         return Err(Stop::Fault(FaultCode::UndefinedName));
     };
     if bytes.len() != text.decl.context as usize {
