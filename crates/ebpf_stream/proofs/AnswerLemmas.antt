@@ -19,7 +19,7 @@ answered_as s line job a b text fine is done = rw (fine, sym is) done
 
 pub answered_fault : (s : Setting) (line : List ℕ) (code : FaultCode) (a b : Position) (text : List ℕ) → stream_fault s.parsed line ≡ Some code
     → b ≡ record a { lines = a.lines + 1; faulty = true } → text ≡ fault_in s.format code (a.lines + 1) → IsAnswered s line a b text
-answered_fault s line code a b text fault place is = rw fault (place, is)
+answered_fault s line code a b text fault position is = rw fault (position, is)
 
 -- a run that may do more instructions than its program has exits
 pub report_whole : (s : Subject) (context : List ℕ) (r : Report) → IsReportWithin s context (length (instructions s.program) + 1) r → IsReportOf s context r

@@ -9,12 +9,12 @@ use Rattle.ebpf_command.proofs.Known.{Appends-more, Consumes-more}
 use Rattle.ebpf_stream.specs.declared.feed.Feed.{Feed}
 use Rattle.ebpf_stream.specs.declared.totals.MachineTotals.{MachineTotals}
 use Rattle.ebpf_stream.specs.Answering.{Setting, Position, IsAnswered, position_of, start}
-use Rattle.ebpf_stream.specs.Feeding.{Finishes, IsFed, Leaves, Serves, Takes, TakesAll}
+use Rattle.ebpf_stream.specs.Feeding.{Finishes, IsFed, Leaves, Sends, Serves, Stops, Takes, TakesAll}
 use Rattle.ebpf_stream.specs.Streaming.{AnswersFirst}
 use Rattle.ebpf_stream.specs.Totals.{TellAllLeft, totals_in}
 use Rattle.ebpf_stream.proofs.FeedLemmas.{fed_same, first_fed, sends_all, sends_part}
 use Rattle.ebpf_stream.proofs.LineLemmas.{split_none}
-use Rattle.ebpf_stream.proofs.ServeLemmas.{IsServed, all_ended, all_lines, begins_after, first_all, leaves_none, part_of, serves_cut, serves_ended, serves_part}
+use Rattle.ebpf_stream.proofs.ServeLemmas.{IsServed, all_ended, all_lines, begins_after, first_all, leaves_all, leaves_none, part_of, serves_cut, serves_ended, serves_part}
 
 Consumes-none : (a : Option (List ℕ)) → Consumes a a []
 Consumes-none None = tt
@@ -27,26 +27,30 @@ take_zero (x ∷ xs) = refl
 module _ (s : Setting) where
   -- ---- all that is answered is written
 
+  -- where no write failed, what was answered before a fault was sent or waits
+  stops_sends : (fault : EngineFault) (a b : Option (List ℕ)) (x y t : List ℕ) → fault ≢ Output → Stops fault a b x y t → Sends a b x y t
+  stops_sends Output a b x y t other h = absurd (other refl)
+  stops_sends Input a b x y t other h = h
+  stops_sends NoMemory a b x y t other h = h
+
   pub all_written : (r : Result (Unit {0}) EngineFault) (a b c : Option (List ℕ)) (f g h : Feed) (bytes : List ℕ) → Takes s a b f g bytes r → r ≢ Err Output → Appends b c (string_bytes g.answers.text)
-      → string_bytes h.answers.text ≡ [] → h.kept.items ≡ g.kept.items → (position_of h.answers) ≡ (position_of g.answers) → TakesAll s a c f h bytes r
-  all_written (Ok done) a b c f g h bytes takes other written empty kept place = λ seen text fed.
+      → string_bytes h.answers.text ≡ [] → h.kept.items ≡ g.kept.items → position_of h.answers ≡ position_of g.answers → TakesAll s a c f h bytes r
+  all_written (Ok done) a b c f g h bytes takes other written empty kept position = λ seen text fed.
       let t = takes seen text fed in
-      (t.0, fed_same s (seen ++ bytes) (text ++ t.0) g h t.1 kept place, sends_all a b c _ _ t.0 t.2 written, empty)
-  all_written (Err Input) a b c f g h bytes takes other written empty kept place = λ seen text fed.
-      let t = takes seen text fed in (t.0, t.1, sends_all a b c _ _ t.0 t.2 written)
-  all_written (Err NoMemory) a b c f g h bytes takes other written empty kept place = λ seen text fed.
-      let t = takes seen text fed in (t.0, t.1, sends_all a b c _ _ t.0 t.2 written)
-  all_written (Err Output) a b c f g h bytes takes other written empty kept place = absurd (other refl)
+      (t.0, fed_same s (seen ++ bytes) (text ++ t.0) g h t.1 kept position, sends_all a b c _ _ t.0 t.2 written, empty)
+  all_written (Err fault) a b c f g h bytes takes other written empty kept position = λ seen text fed.
+      let t = takes seen text fed in
+      let sends = stops_sends fault a b _ _ t.0 (λ same. other (ap Err same)) t.2 in
+      (t.0, t.1, leaves_all fault a c _ (sends_all a b c _ _ t.0 sends written))
 
   pub part_written : (r : Result (Unit {0}) EngineFault) (a b c : Option (List ℕ)) (f g h : Feed) (bytes : List ℕ) → Takes s a b f g bytes r → r ≢ Err Output → AppendsBeginning b c (string_bytes g.answers.text)
       → TakesAll s a c f h bytes (Err Output)
   part_written (Ok done) a b c f g h bytes takes other begun = λ seen text fed.
       let t = takes seen text fed in (t.0, first_fed s (seen ++ bytes) (text ++ t.0) g t.1, sends_part a b c _ _ t.0 t.2 begun)
-  part_written (Err Input) a b c f g h bytes takes other begun = λ seen text fed.
-      let t = takes seen text fed in (t.0, t.1, sends_part a b c _ _ t.0 t.2 begun)
-  part_written (Err NoMemory) a b c f g h bytes takes other begun = λ seen text fed.
-      let t = takes seen text fed in (t.0, t.1, sends_part a b c _ _ t.0 t.2 begun)
-  part_written (Err Output) a b c f g h bytes takes other begun = absurd (other refl)
+  part_written (Err fault) a b c f g h bytes takes other begun = λ seen text fed.
+      let t = takes seen text fed in
+      let sends = stops_sends fault a b _ _ t.0 (λ same. other (ap Err same)) t.2 in
+      (t.0, t.1, sends_part a b c _ _ t.0 sends begun)
 
   -- ---- the end of a stream
 
@@ -85,13 +89,13 @@ module _ (s : Setting) where
 
   -- ---- what the loop over a stream knows
 
-  pub served_first : (input old new : Option (List ℕ)) (waited : List ℕ) (f : Feed) → f.kept.items ≡ [] → (position_of f.answers) ≡ start → Appends old new waited
+  pub served_first : (input old new : Option (List ℕ)) (waited : List ℕ) (f : Feed) → f.kept.items ≡ [] → position_of f.answers ≡ start → Appends old new waited
       → IsServed s input input old new waited f
-  served_first input old new waited f kept place written = record {
+  served_first input old new waited f kept position written = record {
     seen = [];
     text = [];
     read = Consumes-none input;
-    fed = record { lines = []; next = []; split = split_none; whole = λ k d below. absurd (omega (arith, below)); kept = kept; answered = (place, refl) };
+    fed = record { lines = []; next = []; split = split_none; whole = λ k d below. absurd (omega (arith, below)); kept = kept; answered = (position, refl) };
     written = subst (λ (xs : List ℕ). Appends old new xs) (sym (append-nil waited)) written;
   }
 

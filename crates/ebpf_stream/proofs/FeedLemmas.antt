@@ -64,27 +64,27 @@ sends_part a b c x y t h k =
 short_kept : (next kept : List ℕ) → kept ≡ take 65537 next → length kept ≤ 65537
 short_kept next kept is = rw is (take_short 65537 next)
 
-pub fed_same : (s : Setting) (seen text : List ℕ) (f g : Feed) → IsFed s seen f text → g.kept.items ≡ f.kept.items → (position_of g.answers) ≡ (position_of f.answers)
+pub fed_same : (s : Setting) (seen text : List ℕ) (f g : Feed) → IsFed s seen f text → g.kept.items ≡ f.kept.items → position_of g.answers ≡ position_of f.answers
     → IsFed s seen g text
-fed_same s seen text f g h kept place = record {
+fed_same s seen text f g h kept position = record {
   lines = h.lines;
   next = h.next;
   split = h.split;
   whole = h.whole;
   kept = kept ∙ h.kept;
-  answered = rw place h.answered;
+  answered = rw position h.answered;
 }
 
 pub fed_piece : (s : Setting) (seen piece text : List ℕ) (f g : Feed) → IsFed s seen f text → All (λ c. (c == 10) ≡ false) piece
-    → (length f.kept.items ≤ 65537 → g.kept.items ≡ take 65537 (f.kept.items ++ piece)) → (position_of g.answers) ≡ (position_of f.answers)
+    → (length f.kept.items ≤ 65537 → g.kept.items ≡ take 65537 (f.kept.items ++ piece)) → position_of g.answers ≡ position_of f.answers
     → IsFed s (seen ++ piece) g text
-fed_piece s seen piece text f g h whole kept place = record {
+fed_piece s seen piece text f g h whole kept position = record {
   lines = h.lines;
   next = h.next ++ piece;
   split = split_more seen h.lines h.next piece h.split;
   whole = All-append (λ c. (c == 10) ≡ false) h.next piece h.whole whole;
   kept = kept (short_kept h.next f.kept.items h.kept) ∙ (ap (λ (xs : List ℕ). take 65537 (xs ++ piece)) h.kept ∙ kept_more h.next piece);
-  answered = rw place h.answered;
+  answered = rw position h.answered;
 }
 
 -- ---- the first lines of a stream that goes on
@@ -275,11 +275,11 @@ module _ (s : Setting) where
   takes_no_line fault a f g piece other same = λ seen text fed. ([], some_fed s seen piece text f fed, stops_none fault a _ _ other same)
 
   -- what is answered is written, where it is long
-  pub takes_relief : (a b : Option (List ℕ)) (f g : Feed) → g.kept ≡ f.kept → (position_of g.answers) ≡ (position_of f.answers)
+  pub takes_relief : (a b : Option (List ℕ)) (f g : Feed) → g.kept ≡ f.kept → position_of g.answers ≡ position_of f.answers
       → Sends a b (string_bytes f.answers.text) (string_bytes g.answers.text) [] → Takes s a b f g [] (Ok tt)
-  takes_relief a b f g kept place sends = λ seen text fed. (
+  takes_relief a b f g kept position sends = λ seen text fed. (
     [],
-    nothing_more s seen text g (fed_same s seen text f g fed (ap (λ v. v.items) kept) place),
+    nothing_more s seen text g (fed_same s seen text f g fed (ap (λ v. v.items) kept) position),
     sends,
   )
 

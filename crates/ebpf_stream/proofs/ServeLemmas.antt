@@ -28,6 +28,12 @@ begins_after a b c x y h k = (
   subst (λ (xs : List ℕ). Appends a c xs) (sym (take-append-add x y k.0)) (Appends-more a b c x (take k.0 y) h k.2),
 )
 
+-- all of it was written, whatever fault comes then
+pub leaves_all : (fault : EngineFault) (a b : Option (List ℕ)) (text : List ℕ) → Appends a b text → Leaves fault a b text
+leaves_all Output a b text h = begins a b text h
+leaves_all Input a b text h = h
+leaves_all NoMemory a b text h = h
+
 module _ (s : Setting) where
   -- ---- how far a stream is answered
 
@@ -60,9 +66,7 @@ module _ (s : Setting) where
   part_of NoMemory input text h = h
 
   pub leaves_none : (fault : EngineFault) (a : Option (List ℕ)) → Leaves fault a a []
-  leaves_none Output a = begins a a [] (Appends-none a)
-  leaves_none Input a = Appends-none a
-  leaves_none NoMemory a = Appends-none a
+  leaves_none fault a = leaves_all fault a a [] (Appends-none a)
 
   pub leaves_after : (fault : EngineFault) (a b c : Option (List ℕ)) (x y : List ℕ) → Appends a b x → Leaves fault b c y → Leaves fault a c (x ++ y)
   leaves_after Output a b c x y h k = begins_after a b c x y h k
@@ -87,13 +91,8 @@ module _ (s : Setting) where
   serves_stopped fault (Some all) (Some rest) old new waited feed after h = (
     h.text,
     part_of fault all h.text (subst (λ (xs : List ℕ). AnswersFirst s xs h.text) (sym h.read) (first_fed s h.seen h.text feed h.fed rest)),
-    leaves fault,
+    leaves_all fault old new (waited ++ h.text) h.written,
   )
-    where
-      leaves : (fault : EngineFault) → Leaves fault old new (waited ++ h.text)
-      leaves Output = begins old new (waited ++ h.text) h.written
-      leaves Input = h.written
-      leaves NoMemory = h.written
 
   -- nothing was read
   pub serves_nothing : (input old new : Option (List ℕ)) (waited : List ℕ) (after : Position) → AppendsBeginning old new waited
