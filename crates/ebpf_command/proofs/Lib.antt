@@ -1,4 +1,5 @@
 pub mod Known
+pub mod Sending
 pub mod KindLemmas
 pub mod JudgedRows
 pub mod Written

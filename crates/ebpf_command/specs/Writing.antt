@@ -1,5 +1,5 @@
 -- What a command reads and writes, where the reader and the writer tell their bytes.
-use Rattle.std.specs.Prelude.{◌≡◌, ◌≤◌, ℕ, List, length, take, Option, Result, Ok, IfOk, IfErr, IfSome}
+use Rattle.std.specs.Prelude.{◌≡◌, ◌≤◌, ℕ, List, ◌++◌, length, take, Option, Result, Ok, Err, IfOk, IfErr, IfSome}
 use Rattle.std.specs.Borrow.{Bor}
 use Rattle.std.specs.Fn.{Once, FnOnceReturnsAt}
 use Rattle.std.specs.Io.KnownBytes.{Appends, Consumes}
@@ -20,6 +20,17 @@ AnsweredBy g f input response = FnOnceReturnsAt g f (read_of input) (Ok response
 -- a beginning of a text is written
 abbrev pub AppendsBeginning : Option (List ℕ) → Option (List ℕ) → List ℕ → Type 0
 AppendsBeginning old new text = (n : ℕ) × (n ≤ length text) × Appends old new (take n text)
+
+-- a text was written or waits to be, after what waited before
+pub record Sends (old new : Option (List ℕ)) (waited waits text : List ℕ) : Type 0 where
+  pub sent : List ℕ
+  pub written : Appends old new sent
+  pub all : sent ++ waits ≡ waited ++ text
+
+-- or a write failed: then a beginning of what waited and of the text was written
+abbrev pub Puts : (old new : Option (List ℕ)) → (waited waits text : List ℕ) → Result (Unit {0}) EngineFault → Type 0
+Puts old new waited waits text (Ok done) = Sends old new waited waits text
+Puts old new waited waits text (Err fault) = (fault ≡ Output) × AppendsBeginning old new (waited ++ text)
 
 -- where a command ends, it wrote the text of a response to the input, and ends as the response says
 abbrev pub Writes : Responding → (input old new : Option (List ℕ)) → Result Done EngineFault → Type 0

@@ -3,7 +3,7 @@
 //! A command writes a whole text or a beginning of it, and writes nothing else. So each command is a function from what is
 //! read to an [`answer::Answer`], and [`answer::respond`] reads and writes around it.
 //!
-//! To be read in this order: `done`, `input`, `hex_text`, `codes`, `judge`, `text`, `format`, `json`, `output`, `answer`.
+//! To be read in this order: `done`, `input`, `hex_text`, `codes`, `judge`, `text`, `format`, `json`, `output`, `piece`, `answer`.
 #![tactic(auto)]
 
 pub mod answer;
@@ -14,5 +14,6 @@ pub mod hex_text;
 pub mod input;
 pub mod json;
 pub mod judge;
-mod output;
+pub mod output;
+pub mod piece;
 pub mod text;

@@ -14,7 +14,9 @@ pub mod WorldLemmas
 pub mod RunnableLemmas
 pub mod JobLineLemmas
 pub mod PoolLemmas
+pub mod PutLemmas
 pub mod ScriptTextLemmas
+pub mod RunLemmas
 pub mod TripleLemmas
 pub mod ObjectLemmas
 pub mod CoveredLemmas

@@ -30,4 +30,5 @@ pub mod ScriptFaults
 pub mod ExplainedCheckText
 pub mod ReplayText
 pub mod CoveredLines
+pub mod RunAnswers
 pub mod RunText

@@ -4,11 +4,10 @@
 //! the next one. What comes after the number is written anew only where that job ends in another way, and of the number only the last digit
 //! changes unless that is a 9.
 
-ghost use Rattle.std.specs.Prelude.{◌≡◌, ◌+◌, ◌++◌, ◌≤◌, codes, decimal, length, string_bytes, Some, OnOk};
+ghost use Rattle.std.specs.Prelude.{◌≡◌, ◌+◌, ◌++◌, ◌≤◌, codes, decimal, length, Some};
 ghost use Rattle.ebpf_script.specs.OutcomeLines.{ending_words, job_line};
 
 use crate::text_line::TextLine;
-use std::alloc::AllocError;
 
 /// The line of a job, kept for the next job, and how that job ended.
 #[derive(Drop)]
@@ -42,22 +41,24 @@ impl ExitLine {
         }
     }
 
-    /// Writes how a job ended, after a text. It fails only where an allocation fails.
-    pub fn write(
-        &mut self,
-        text: &mut String,
-        job: usize,
-        exit: u64,
-        executed: u64,
-        peak: u64,
-    ) -> Result<(), AllocError>
-        ensures { OnOk result (string_bytes text.new ≡ string_bytes text.old ++ job_line job (Some exit) executed peak) }
+    /// Makes it the line of this job.
+    // It has two callers, and is a third of what they do: it must be part of both.
+    #[inline(always)]
+    pub fn set(&mut self, job: usize, exit: u64, executed: u64, peak: u64)
+        ensures { self.new.line ≡ job_line job (Some exit) executed peak }
     {
         if exit != self.exit || executed != self.executed || peak != self.peak {
             self.end_with(job, exit, executed, peak);
         }
         self.number(job);
-        text.push_str(self.line.as_str())
+    }
+
+    /// The line.
+    #[inline]
+    pub fn as_str(&self) -> &str
+        ensures { result.now ≡ self.now.line }
+    {
+        self.line.as_str()
     }
 
     // Another job ended in this way.

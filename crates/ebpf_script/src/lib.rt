@@ -7,7 +7,7 @@
 //! [`run::run`].
 //!
 //! To be read in this order: `reader`, `verdict_text`, `verdicts`, `check`, `script_fault`, `explained_check`, `event_codes`, `world_text`,
-//! `text_line`, `world_json`, `replay`, `exit_line`, `outcome_text`, `outcome_json`, `stats`, `outcome_stats`, `meter`, `covered_text`, `run`,
+//! `text_line`, `world_json`, `replay`, `exit_line`, `outcome_text`, `outcome_json`, `stats`, `outcome_stats`, `meter`, `covered_text`, `run_answer`, `run`,
 //! `stats_text`, `stats_json`, `watch`.
 #![tactic(auto)]
 
@@ -23,6 +23,7 @@ pub mod outcome_text;
 pub mod reader;
 pub mod replay;
 pub mod run;
+mod run_answer;
 mod script_fault;
 pub mod stats;
 mod stats_json;

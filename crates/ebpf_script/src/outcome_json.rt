@@ -1,57 +1,89 @@
-//! The objects of an outcome.
+//! The objects of an outcome: those of the jobs are written in pieces, and those after them to a text.
 
 ghost use Rattle.std.specs.Prelude.{◌≡◌, ◌+◌, ◌≤◌, ◌++◌, length, string_bytes, OnOk};
-ghost use Rattle.ebpf_script.specs.OutcomeObjects.{exit_member, job_members, job_object, jobs_from, cache_members, cache_object, cache_objects, shelf_object, shelf_objects, outcome_objects};
+ghost use Rattle.std.specs.List.{flat_map};
+ghost use Rattle.ebpf_command.specs.Json.{later_number, number_list};
+ghost use Rattle.ebpf_command.specs.Writing.{Puts};
+ghost use Rattle.ebpf_script.specs.OutcomeObjects.{exit_member, job_members, job_object, jobs_from, cache_members, cache_object, cache_objects, shelf_object, shelf_objects};
 
 use crate::text_line::TextLine;
-use ebpf_command::json::write_numbers;
-use ebpf_pool::{JobReport, Outcome, Reports, ShelfTotals};
+use ebpf_command::done::EngineFault;
+use ebpf_command::piece::Piece;
+use ebpf_pool::{JobReport, Reports, ShelfTotals};
 use object_cache::Totals;
 use std::alloc::AllocError;
+use std::io::Write;
 
-/// Writes the objects of an outcome after a text: each job in order, then the cache of each kind, and then each shelf that was
-/// used. It fails only where an allocation fails.
-pub(crate) fn write_outcome_objects(text: &mut String, outcome: &Outcome) -> Result<(), AllocError>
-    ensures { OnOk result (string_bytes text.new ≡ string_bytes text.old ++ outcome_objects outcome.now) }
-{
-    write_jobs(text, &outcome.reports)?;
-    write_caches(text, &outcome.totals)?;
-    write_shelves(text, &outcome.shelves)
-}
-
-// Writes what each job did.
-fn write_jobs(text: &mut String, reports: &Reports) -> Result<(), AllocError>
-    ensures { OnOk result (string_bytes text.new ≡ string_bytes text.old ++ jobs_from 0 reports.now) }
+/// Writes what each job did, in order.
+///
+/// # Errors
+/// `Output` where a write failed or took nothing.
+pub(crate) fn put_jobs<W: Write>(
+    writer: &mut W,
+    piece: &mut Piece,
+    reports: &Reports,
+) -> Result<(), EngineFault>
+    ensures { Puts (W.contents writer.old) (W.contents writer.new) piece.old piece.new (jobs_from 0 reports.now) result }
 {
     let mut line = TextLine::end();
     let mut left = reports.iter();
     for job in 0..reports.len() {
         if let Some(report) = left.next() {
-            write_job(text, &mut line, job, report)?;
+            put_job(writer, piece, &mut line, job, report)?;
         }
     }
     Ok(())
 }
 
 // Writes what a job did.
-fn write_job(
-    text: &mut String,
+fn put_job<W: Write>(
+    writer: &mut W,
+    piece: &mut Piece,
     line: &mut TextLine,
     job: usize,
     report: &JobReport,
-) -> Result<(), AllocError>
-    ensures { OnOk result (string_bytes text.new ≡ string_bytes text.old ++ job_object job report.now) }
+) -> Result<(), EngineFault>
+    ensures { Puts (W.contents writer.old) (W.contents writer.new) piece.old piece.new (job_object job report.now) result }
 {
-    write_job_members(
-        text,
-        line,
-        job,
-        report.exit(),
-        report.executed(),
-        report.peak(),
-    )?;
-    write_numbers(text, report.output())?;
-    text.push_str("]}\n")?;
+    set_members(line, job, report.exit(), report.executed(), report.peak());
+    piece.put(writer, line.as_str().as_bytes())?;
+    put_numbers(writer, piece, line, report.output())?;
+    piece.put(writer, b"]}\n")
+}
+
+// Writes numbers, with a comma between two.
+fn put_numbers<W: Write>(
+    writer: &mut W,
+    piece: &mut Piece,
+    line: &mut TextLine,
+    numbers: &[u64],
+) -> Result<(), EngineFault>
+    ensures { Puts (W.contents writer.old) (W.contents writer.new) piece.old piece.new (number_list numbers.now) result }
+{
+    let Some((first, later)) = numbers.split_first() else {
+        return Ok(());
+    };
+    line.clear();
+    line.number(*first);
+    piece.put(writer, line.as_str().as_bytes())?;
+    put_later_numbers(writer, piece, line, later)
+}
+
+// Writes numbers, a comma before each.
+fn put_later_numbers<W: Write>(
+    writer: &mut W,
+    piece: &mut Piece,
+    line: &mut TextLine,
+    numbers: &[u64],
+) -> Result<(), EngineFault>
+    ensures { Puts (W.contents writer.old) (W.contents writer.new) piece.old piece.new (flat_map later_number numbers.now) result }
+{
+    for number in numbers {
+        line.clear();
+        line.number(*number);
+        line.words(b",");
+        piece.put(writer, line.as_str().as_bytes())?;
+    }
     Ok(())
 }
 
@@ -66,6 +98,15 @@ pub fn write_job_members(
 ) -> Result<(), AllocError>
     ensures { OnOk result (string_bytes text.new ≡ string_bytes text.old ++ job_members job exit executed peak) }
 {
+    set_members(line, job, exit, executed, peak);
+    text.push_str(line.as_str())
+}
+
+// Makes a line what is before the numbers of a job's output.
+#[inline]
+fn set_members(line: &mut TextLine, job: usize, exit: Option<u64>, executed: u64, peak: u64)
+    ensures { line.new ≡ job_members job exit executed peak }
+{
     line.clear();
     line.words(b",\"output\":[");
     line.number(peak);
@@ -75,7 +116,6 @@ pub fn write_job_members(
     write_exit(line, exit);
     line.number(job as u64);
     line.words(b"{\"job\":");
-    text.push_str(line.as_str())
 }
 
 // Writes with which number a job exited, if it did.
@@ -88,6 +128,18 @@ fn write_exit(line: &mut TextLine, exit: Option<u64>)
         line.number(exit);
         line.words(b",\"exit\":");
     }
+}
+
+/// Writes the cache of each kind after a text, and then each shelf that was used. It fails only where an allocation fails.
+pub(crate) fn write_total_objects(
+    text: &mut String,
+    totals: &[Totals; 3],
+    shelves: &[ShelfTotals; 3],
+) -> Result<(), AllocError>
+    ensures { OnOk result (string_bytes text.new ≡ string_bytes text.old ++ (cache_objects totals.now ++ shelf_objects shelves.now)) }
+{
+    write_caches(text, totals)?;
+    write_shelves(text, shelves)
 }
 
 // Writes what the cache of each kind did.

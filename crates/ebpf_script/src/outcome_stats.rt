@@ -7,11 +7,12 @@ ghost use Rattle.ebpf_script.specs.Stats.{AreStatsOf, steps_in};
 use crate::stats::Stats;
 use ebpf_pool::{Outcome, Reports};
 
-/// The stats of an outcome that adds up.
-pub(crate) fn stats_of(outcome: Outcome) -> Stats
+/// The reports of an outcome that adds up, and its stats.
+pub(crate) fn stats_of(outcome: Outcome) -> (Reports, Stats)
     requires even { All IsEvenTotal outcome.totals }
     requires done { sum_by (λ n. n) outcome.jobs_done.items ≡ length outcome.reports }
-    ensures { AreStatsOf outcome result }
+    ensures reports { result.0 ≡ outcome.reports }
+    ensures stats { AreStatsOf outcome result.1 }
 {
     let Outcome {
         reports,
@@ -21,14 +22,15 @@ pub(crate) fn stats_of(outcome: Outcome) -> Stats
         strays,
         jobs_done,
     } = outcome;
-    Stats {
+    let stats = Stats {
         totals,
         clashes,
         strays,
         jobs: reports.len(),
         steps: steps_in(&reports),
         jobs_done,
-    }
+    };
+    (reports, stats)
 }
 
 // How many instructions the reports tell.

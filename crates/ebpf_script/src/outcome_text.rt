@@ -1,55 +1,77 @@
-//! The lines of an outcome.
+//! The lines of an outcome: those of the jobs are written in pieces, and those after them to a text.
 
 ghost use Rattle.std.specs.Prelude.{◌≡◌, ◌++◌, string_bytes, OnOk};
 ghost use Rattle.std.specs.List.{flat_map};
-ghost use Rattle.ebpf_script.specs.OutcomeLines.{job_emit_line, report_lines, reports_from, cache_words, cache_line, cache_lines, shelf_line, shelf_lines, outcome_lines};
+ghost use Rattle.ebpf_command.specs.Writing.{Puts};
+ghost use Rattle.ebpf_script.specs.OutcomeLines.{job_emit_line, report_lines, reports_from, cache_words, cache_line, cache_lines, shelf_line, shelf_lines};
 
 use crate::exit_line::ExitLine;
 use crate::text_line::TextLine;
-use ebpf_pool::{JobReport, Outcome, Reports, ShelfTotals};
+use ebpf_command::done::EngineFault;
+use ebpf_command::piece::Piece;
+use ebpf_pool::{JobReport, Reports, ShelfTotals};
 use object_cache::Totals;
 use std::alloc::AllocError;
+use std::io::Write;
 
-/// Writes an outcome after a text: each job in order, then the cache of each kind, and then each shelf that was used. It fails
-/// only where an allocation fails.
-pub(crate) fn write_outcome(text: &mut String, outcome: &Outcome) -> Result<(), AllocError>
-    ensures { OnOk result (string_bytes text.new ≡ string_bytes text.old ++ outcome_lines outcome.now) }
-{
-    write_reports(text, &outcome.reports)?;
-    write_caches(text, &outcome.totals)?;
-    write_shelves(text, &outcome.shelves)
-}
-
-// Writes what each job did.
-fn write_reports(text: &mut String, reports: &Reports) -> Result<(), AllocError>
-    ensures { OnOk result (string_bytes text.new ≡ string_bytes text.old ++ reports_from 0 reports.now) }
+/// Writes what each job did, in order.
+///
+/// # Errors
+/// `Output` where a write failed or took nothing.
+pub(crate) fn put_reports<W: Write>(
+    writer: &mut W,
+    piece: &mut Piece,
+    reports: &Reports,
+) -> Result<(), EngineFault>
+    ensures { Puts (W.contents writer.old) (W.contents writer.new) piece.old piece.new (reports_from 0 reports.now) result }
 {
     let mut line = TextLine::end();
     let mut exits = ExitLine::new();
     let mut left = reports.iter();
     for job in 0..reports.len() {
         if let Some(report) = left.next() {
-            write_report(text, &mut line, &mut exits, job, report)?;
+            put_report(writer, piece, &mut line, &mut exits, job, report)?;
         }
     }
     Ok(())
 }
 
 // Writes what a job did: what it added to its output, and how it ended.
-fn write_report(
-    text: &mut String,
+#[inline(always)]
+fn put_report<W: Write>(
+    writer: &mut W,
+    piece: &mut Piece,
     line: &mut TextLine,
     exits: &mut ExitLine,
     job: usize,
     report: &JobReport,
-) -> Result<(), AllocError>
-    ensures { OnOk result (string_bytes text.new ≡ string_bytes text.old ++ report_lines job report.now) }
+) -> Result<(), EngineFault>
+    ensures { Puts (W.contents writer.old) (W.contents writer.new) piece.old piece.new (report_lines job report.now) result }
 {
-    write_output(text, line, job, report.output())?;
+    put_output(writer, piece, line, job, report.output())?;
     let Some(exit) = report.exit() else {
         return Ok(());
     };
-    exits.write(text, job, exit, report.executed(), report.peak())
+    exits.set(job, exit, report.executed(), report.peak());
+    piece.put(writer, exits.as_str().as_bytes())
+}
+
+// Writes the output of a job.
+#[inline]
+fn put_output<W: Write>(
+    writer: &mut W,
+    piece: &mut Piece,
+    line: &mut TextLine,
+    job: usize,
+    output: &[u64],
+) -> Result<(), EngineFault>
+    ensures { Puts (W.contents writer.old) (W.contents writer.new) piece.old piece.new (flat_map (job_emit_line job) output.now) result }
+{
+    for value in output {
+        set_emit(line, job, *value);
+        piece.put(writer, line.as_str().as_bytes())?;
+    }
+    Ok(())
 }
 
 /// Writes the output of a job after a text. It fails only where an allocation fails.
@@ -63,27 +85,34 @@ pub fn write_output(
     ensures { OnOk result (string_bytes text.new ≡ string_bytes text.old ++ flat_map (job_emit_line job) output.now) }
 {
     for value in output {
-        write_emit(text, line, job, *value)?;
+        set_emit(line, job, *value);
+        text.push_str(line.as_str())?;
     }
     Ok(())
 }
 
-// Writes a number of the output of a job.
+// Makes a line that of a number of a job's output.
 #[inline(never)]
-fn write_emit(
-    text: &mut String,
-    line: &mut TextLine,
-    job: usize,
-    value: u64,
-) -> Result<(), AllocError>
-    ensures { OnOk result (string_bytes text.new ≡ string_bytes text.old ++ job_emit_line job value) }
+fn set_emit(line: &mut TextLine, job: usize, value: u64)
+    ensures { line.new ≡ job_emit_line job value }
 {
     line.restart();
     line.number(value);
     line.words(b" ");
     line.number(job as u64);
     line.words(b"emit ");
-    text.push_str(line.as_str())
+}
+
+/// Writes the cache of each kind after a text, and then each shelf that was used. It fails only where an allocation fails.
+pub(crate) fn write_totals(
+    text: &mut String,
+    totals: &[Totals; 3],
+    shelves: &[ShelfTotals; 3],
+) -> Result<(), AllocError>
+    ensures { OnOk result (string_bytes text.new ≡ string_bytes text.old ++ (cache_lines totals.now ++ shelf_lines shelves.now)) }
+{
+    write_caches(text, totals)?;
+    write_shelves(text, shelves)
 }
 
 // Writes what the cache of each kind did.

@@ -7,21 +7,24 @@ ghost use Rattle.ebpf_command.specs.declared.done.EngineFault.TheVariants.{Outpu
 ghost use Rattle.ebpf_command.specs.Writing.{Writes, WritesBeginning, Reads};
 ghost use Rattle.ebpf_script.specs.ReadScripts.{parsed_script};
 ghost use Rattle.ebpf_script.specs.Runnable.{IsRunnable};
-ghost use Rattle.ebpf_script.specs.RunText.{RespondsRun, DoesRun, MayCome, outcome_in};
+ghost use Rattle.ebpf_script.specs.RunAnswers.{run_response, totals_in};
+ghost use Rattle.ebpf_script.specs.RunText.{RespondsRun, DoesRun, MayCome};
 ghost use Rattle.ebpf_script.specs.ScriptText.{RespondsScript};
 
 use crate::covered_text::write_covered_in;
 use crate::meter::{Meter, Stage};
-use crate::outcome_json::write_outcome_objects;
+use crate::outcome_json::write_total_objects;
 use crate::outcome_stats::stats_of;
-use crate::outcome_text::write_outcome;
+use crate::outcome_text::write_totals;
 use crate::reader::numbers::SLOTS;
 use crate::reader::read_script;
 use crate::reader::script::{Dialect, Script, ScriptStop};
+use crate::run_answer::{JobsAnswer, RunAnswer};
 use crate::verdicts::verdicts_on;
-use ebpf_command::answer::{Answer, answer_fault_in, respond};
+use ebpf_command::answer::{Answer, answer_fault_in};
 use ebpf_command::done::{Done, EngineFault};
 use ebpf_command::format::Format;
+use ebpf_command::input::read_input;
 use ebpf_pool::{Host, Jobs, NoGate, Outcome, PoolFault, run_jobs};
 use owners_table::owners::Owners;
 use std::alloc::{AllocError, Global};
@@ -56,16 +59,12 @@ pub fn run<R: Threads + Wait + Sync, I: Read, W: Write, M: Meter>(
     ensures untouched { IfErr result (λ fault. fault ≢ Output → writer.new ≡ writer.old) }
     ensures beginning { WritesBeginning (RespondsRun covered format) (I.remaining reader.old) (W.contents writer.old) (W.contents writer.new) result }
 {
-    let done = respond(
-        alloc,
-        reader,
-        writer,
-        |input|
-            requires { (1 ≤ workers) × (workers ≤ 64) × (reaps ≤ 1000) }
-        { answer_text(rt, alloc, format, covered, input, workers, reaps, meter) },
-    );
+    let input = read_input(alloc, reader)?;
+    meter.ended(Stage::Reading);
+    let answer = answer_text(rt, alloc, format, covered, &input, workers, reaps, meter)?;
+    let done = answer.write(alloc, writer)?;
     meter.ended(Stage::Writing);
-    done
+    Ok(done)
 }
 
 // The response to a text.
@@ -78,15 +77,20 @@ fn answer_text<R: Threads + Wait + Sync, M: Meter>(
     workers: u32,
     reaps: u32,
     meter: &mut M,
-) -> Result<Answer, AllocError>
+) -> Result<RunAnswer, AllocError>
     requires workers { (1 ≤ workers) × (workers ≤ 64) }
     requires reaps { reaps ≤ 1000 }
-    ensures { IfOk result (RespondsRun covered format text.now) }
+    ensures { IfOk result (λ answer. RespondsRun covered format text.now (run_response answer)) }
 {
-    meter.ended(Stage::Reading);
     match read_script(alloc, Dialect::Jobs, text) {
         Ok(script) => answer_script(rt, alloc, format, covered, script, workers, reaps, meter),
-        Err(ScriptStop::Fault(fault)) => answer_fault_in(alloc, format, fault.code, fault.line),
+        Err(ScriptStop::Fault(fault)) => {
+            let beginning = answer_fault_in(alloc, format, fault.code, fault.line)?;
+            Ok(RunAnswer {
+                beginning,
+                jobs: None,
+            })
+        }
         Err(ScriptStop::NoMemory) => Err(AllocError),
     }
 }
@@ -101,17 +105,23 @@ fn answer_script<R: Threads + Wait + Sync, M: Meter>(
     workers: u32,
     reaps: u32,
     meter: &mut M,
-) -> Result<Answer, AllocError>
+) -> Result<RunAnswer, AllocError>
     requires workers { (1 ≤ workers) × (workers ≤ 64) }
     requires reaps { reaps + script.passes < 2 ^ 32 }
     requires runnable { IsRunnable (parsed_script script) }
-    ensures { IfOk result (RespondsScript format (DoesRun covered format) (Ok (parsed_script script))) }
+    ensures { IfOk result (λ answer. RespondsScript format (DoesRun covered format) (Ok (parsed_script script)) (run_response answer)) }
 {
     let verdicts = verdicts_on(alloc, format, &script.programs)?;
     if verdicts.refused {
-        return Ok(verdicts.into_answer());
+        return Ok(RunAnswer {
+            beginning: verdicts.into_answer(),
+            jobs: None,
+        });
     }
-    let mut text = verdicts.text;
+    let beginning = Answer {
+        text: verdicts.text,
+        done: Done::Clean,
+    };
     meter.ended(Stage::Judging);
     let host = Host {
         pages: script.pages.unwrap_or(MAX_PAGES),
@@ -126,10 +136,11 @@ fn answer_script<R: Threads + Wait + Sync, M: Meter>(
         reaps + script.passes,
     )?;
     meter.ended(Stage::Running);
-    write_outcome_in(&mut text, format, &outcome)?;
+    let mut totals = String::new(alloc);
+    write_totals_in(&mut totals, format, &outcome)?;
     write_covered_in(
         alloc,
-        &mut text,
+        &mut totals,
         covered,
         format,
         &script.programs,
@@ -137,20 +148,25 @@ fn answer_script<R: Threads + Wait + Sync, M: Meter>(
         &script.jobs,
         &outcome.reports,
     )?;
-    meter.came(stats_of(outcome));
-    Ok(Answer {
-        text,
-        done: Done::Clean,
+    let (reports, stats) = stats_of(outcome);
+    meter.came(stats);
+    Ok(RunAnswer {
+        beginning,
+        jobs: Some(JobsAnswer {
+            format,
+            reports,
+            totals,
+        }),
     })
 }
 
-// Writes an outcome after a text.
-fn write_outcome_in(text: &mut String, format: Format, outcome: &Outcome) -> Result<(), AllocError>
-    ensures { OnOk result (string_bytes text.new ≡ string_bytes text.old ++ outcome_in format outcome.now) }
+// Writes what an outcome says of the caches and the shelves.
+fn write_totals_in(text: &mut String, format: Format, outcome: &Outcome) -> Result<(), AllocError>
+    ensures { OnOk result (string_bytes text.new ≡ string_bytes text.old ++ totals_in format outcome.now) }
 {
     match format {
-        Format::Text => write_outcome(text, outcome),
-        Format::Json => write_outcome_objects(text, outcome),
+        Format::Text => write_totals(text, &outcome.totals, &outcome.shelves),
+        Format::Json => write_total_objects(text, &outcome.totals, &outcome.shelves),
     }
 }
 

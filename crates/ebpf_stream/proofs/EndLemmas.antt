@@ -4,17 +4,18 @@ use Rattle.std.specs.Prelude.{string_bytes}
 use Rattle.std.specs.Io.KnownBytes.{Appends, Consumes, IsAtEnd}
 use Rattle.ebpf_command.specs.declared.done.EngineFault.{EngineFault}
 use Rattle.ebpf_command.specs.declared.done.EngineFault.TheVariants.{Input, Output, NoMemory}
-use Rattle.ebpf_command.specs.Writing.{AppendsBeginning}
+use Rattle.ebpf_command.specs.Writing.{AppendsBeginning, Sends}
 use Rattle.ebpf_command.proofs.Known.{Appends-more, Consumes-more}
+use Rattle.ebpf_command.proofs.Sending.{begins_after, sends_all, sends_part}
 use Rattle.ebpf_stream.specs.declared.feed.Feed.{Feed}
 use Rattle.ebpf_stream.specs.declared.totals.MachineTotals.{MachineTotals}
 use Rattle.ebpf_stream.specs.Answering.{Setting, Position, IsAnswered, position_of, start}
-use Rattle.ebpf_stream.specs.Feeding.{Finishes, IsFed, Leaves, Sends, Serves, Stops, Takes, TakesAll}
+use Rattle.ebpf_stream.specs.Feeding.{Finishes, IsFed, Leaves, Serves, Stops, Takes, TakesAll}
 use Rattle.ebpf_stream.specs.Streaming.{AnswersFirst}
 use Rattle.ebpf_stream.specs.Totals.{TellAllLeft, totals_in}
-use Rattle.ebpf_stream.proofs.FeedLemmas.{fed_same, first_fed, sends_all, sends_part}
+use Rattle.ebpf_stream.proofs.FeedLemmas.{fed_same, first_fed}
 use Rattle.ebpf_stream.proofs.LineLemmas.{split_none}
-use Rattle.ebpf_stream.proofs.ServeLemmas.{IsServed, all_ended, all_lines, begins_after, first_all, leaves_all, leaves_none, part_of, serves_cut, serves_ended, serves_part}
+use Rattle.ebpf_stream.proofs.ServeLemmas.{IsServed, all_ended, all_lines, first_all, leaves_all, leaves_none, part_of, serves_cut, serves_ended, serves_part}
 
 Consumes-none : (a : Option (List ℕ)) → Consumes a a []
 Consumes-none None = tt

@@ -1,63 +1,21 @@
 -- A stream after more of its bytes.
-use Rattle.std.proofs.Common.{◌≡◌, ◌≢◌, ℕ, ◌+◌, ◌-◌, min, cond, ◌<◌, ◌≤◌, ◌==◌, false, List, [], ◌∷◌, ◌++◌, length, take, drop, get_or, Option, Some, None, Result, Ok, Err, is_ok, OnOk, refl, sym, ap, ◌∙◌, subst, arith, append_assoc, append-nil, length-append, length-drop, add_assoc, inl, inr, eq-zero-or-pos}
+use Rattle.std.proofs.Common.{◌≡◌, ◌≢◌, ℕ, ◌+◌, ◌-◌, min, cond, ◌<◌, ◌≤◌, ◌==◌, false, List, [], ◌∷◌, ◌++◌, length, take, drop, get_or, Option, Result, Ok, Err, is_ok, OnOk, refl, sym, ap, ◌∙◌, subst, arith, append_assoc, append-nil, length-drop, add_assoc, inl, inr, eq-zero-or-pos}
 use Rattle.std.specs.Prelude.{string_bytes}
 use Rattle.std.specs.List.{All}
-use Rattle.std.specs.Io.KnownBytes.{Appends, Keeps}
 use Rattle.std.proofs.lemmas.Grind.{common_steps}
 use Rattle.std.proofs.lemmas.List.{take-append-drop, take_all, take_more}
 use Rattle.std.proofs.lemmas.List.Elements.{All-append}
 use Rattle.std.proofs.Math.Seq.{take-append-add, take-add}
 use Rattle.ebpf_command.specs.declared.done.EngineFault.{EngineFault}
 use Rattle.ebpf_command.specs.declared.done.EngineFault.TheVariants.{Input, Output, NoMemory}
-use Rattle.ebpf_command.specs.Writing.{AppendsBeginning}
-use Rattle.ebpf_command.proofs.Known.{Appends-more}
+use Rattle.ebpf_command.specs.Writing.{AppendsBeginning, Sends}
+use Rattle.ebpf_command.proofs.Sending.{sends_answered, sends_more, sends_none, sends_part}
 use Rattle.ebpf_stream.specs.declared.answers.Answers.{Answers}
 use Rattle.ebpf_stream.specs.declared.feed.Feed.{Feed}
 use Rattle.ebpf_stream.specs.Answering.{Setting, AreAnswered, IsAnswered, position_of, start}
-use Rattle.ebpf_stream.specs.Feeding.{AnswersSome, IsFed, Sends, Stops, Takes}
+use Rattle.ebpf_stream.specs.Feeding.{AnswersSome, IsFed, Stops, Takes}
 use Rattle.ebpf_stream.specs.Streaming.{AnswersFirst}
 use Rattle.ebpf_stream.proofs.LineLemmas.{answered_more, answered_whole, kept_more, nothing_kept, split_front, split_more, split_ended, take_short}
-
--- ---- what is written, and what waits
-
-pub Appends-none : (a : Option (List ℕ)) → Appends a a []
-Appends-none None = tt
-Appends-none (Some xs) = sym (append-nil xs)
-
-pub Appends-kept : (a b c : Option (List ℕ)) (xs : List ℕ) → Appends a b xs → Keeps b c → Appends a c xs
-Appends-kept None b c xs h k = tt
-Appends-kept (Some old) None c xs h k = absurd h
-Appends-kept (Some old) (Some mid) None xs h k = absurd k
-Appends-kept (Some old) (Some mid) (Some new) xs h k = k ∙ h
-
-pub sends_answered : (a : Option (List ℕ)) (x y t : List ℕ) → y ≡ x ++ t → Sends a a x y t
-sends_answered a x y t is = record { sent = []; written = Appends-none a; all = is }
-
-pub sends_none : (a : Option (List ℕ)) (x y : List ℕ) → y ≡ x → Sends a a x y []
-sends_none a x y same = sends_answered a x y [] (same ∙ sym (append-nil x))
-
-pub sends_more : (a b c : Option (List ℕ)) (x y z t u : List ℕ) → Sends a b x y t → Sends b c y z u → Sends a c x z (t ++ u)
-sends_more a b c x y z t u h k = record {
-  sent = h.sent ++ k.sent;
-  written = Appends-more a b c h.sent k.sent h.written k.written;
-  all =
-      append_assoc h.sent k.sent z
-      ∙ (ap (λ (xs : List ℕ). h.sent ++ xs) k.all ∙ (sym (append_assoc h.sent y u)
-      ∙ (ap (λ (xs : List ℕ). xs ++ u) h.all ∙ append_assoc x t u)));
-}
-
--- what waits is written
-pub sends_all : (a b c : Option (List ℕ)) (x y t : List ℕ) → Sends a b x y t → Appends b c y → Appends a c (x ++ t)
-sends_all a b c x y t h k = subst (λ (xs : List ℕ). Appends a c xs) h.all (Appends-more a b c h.sent y h.written k)
-
--- a beginning of it is written
-pub sends_part : (a b c : Option (List ℕ)) (x y t : List ℕ) → Sends a b x y t → AppendsBeginning b c y → AppendsBeginning a c (x ++ t)
-sends_part a b c x y t h k =
-    subst (λ (xs : List ℕ). AppendsBeginning a c xs) h.all (
-      length h.sent + k.0,
-      omega (arith, k.1, length-append h.sent y),
-      subst (λ (xs : List ℕ). Appends a c xs) (sym (take-append-add h.sent y k.0)) (Appends-more a b c h.sent (take k.0 y) h.written k.2),
-    )
 
 -- ---- a piece of a line
 

@@ -1,12 +1,12 @@
 -- A stream that is answered to its end, or to a fault.
-use Rattle.std.proofs.Common.{◌≡◌, ℕ, ◌+◌, List, [], ◌++◌, length, take, Option, Some, None, Ok, Err, inl, refl, sym, ap, ◌∙◌, subst, arith, append_assoc, append-nil, length-append}
+use Rattle.std.proofs.Common.{◌≡◌, ℕ, List, [], ◌++◌, length, Option, Some, None, Ok, Err, inl, refl, sym, ap, ◌∙◌, subst, arith, append_assoc, append-nil}
 use Rattle.std.specs.Io.KnownBytes.{Appends, Consumes, IsAtEnd}
 use Rattle.std.proofs.lemmas.List.{take_all}
-use Rattle.std.proofs.Math.Seq.{take-append-add}
 use Rattle.ebpf_command.specs.declared.done.EngineFault.{EngineFault}
 use Rattle.ebpf_command.specs.declared.done.EngineFault.TheVariants.{Input, Output, NoMemory}
 use Rattle.ebpf_command.specs.Writing.{AppendsBeginning}
 use Rattle.ebpf_command.proofs.Known.{Appends-more}
+use Rattle.ebpf_command.proofs.Sending.{Appends-none, begins, begins_after}
 use Rattle.ebpf_script.specs.ScriptLines.{script_lines}
 use Rattle.ebpf_stream.specs.declared.feed.Feed.{Feed}
 use Rattle.ebpf_stream.specs.declared.totals.MachineTotals.{MachineTotals}
@@ -14,19 +14,8 @@ use Rattle.ebpf_stream.specs.Answering.{Setting, Position, IsAnswered, AreAnswer
 use Rattle.ebpf_stream.specs.Feeding.{IsFed, AnswersPart, AnswersSome, Leaves, Serves}
 use Rattle.ebpf_stream.specs.Streaming.{AnswersFirst, AnswersAll}
 use Rattle.ebpf_stream.specs.Totals.{TellAllLeft, totals_in}
-use Rattle.ebpf_stream.proofs.FeedLemmas.{Appends-none, first_fed}
+use Rattle.ebpf_stream.proofs.FeedLemmas.{first_fed}
 use Rattle.ebpf_stream.proofs.LineLemmas.{answered_more, answered_whole, split_all}
-
-pub begins : (a b : Option (List ℕ)) (text : List ℕ) → Appends a b text → AppendsBeginning a b text
-begins a b text h = (length text, omega arith, subst (λ (xs : List ℕ). Appends a b xs) (sym (take_all (length text) text (omega arith))) h)
-
--- a text was written, and a beginning of another
-pub begins_after : (a b c : Option (List ℕ)) (x y : List ℕ) → Appends a b x → AppendsBeginning b c y → AppendsBeginning a c (x ++ y)
-begins_after a b c x y h k = (
-  length x + k.0,
-  omega (arith, k.1, length-append x y),
-  subst (λ (xs : List ℕ). Appends a c xs) (sym (take-append-add x y k.0)) (Appends-more a b c x (take k.0 y) h k.2),
-)
 
 -- all of it was written, whatever fault comes then
 pub leaves_all : (fault : EngineFault) (a b : Option (List ℕ)) (text : List ℕ) → Appends a b text → Leaves fault a b text

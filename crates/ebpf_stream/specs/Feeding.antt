@@ -4,7 +4,7 @@ use Rattle.std.specs.List.{All}
 use Rattle.std.specs.Io.KnownBytes.{Appends}
 use Rattle.ebpf_command.specs.declared.done.EngineFault.{EngineFault}
 use Rattle.ebpf_command.specs.declared.done.EngineFault.TheVariants.{Input, Output, NoMemory}
-use Rattle.ebpf_command.specs.Writing.{AppendsBeginning}
+use Rattle.ebpf_command.specs.Writing.{AppendsBeginning, Sends}
 use Rattle.ebpf_script.specs.ReadScripts.{parsed_script}
 use Rattle.ebpf_script.specs.ScriptLines.{script_lines}
 use Rattle.ebpf_stream.specs.declared.feed.Feed.{Feed}
@@ -27,12 +27,6 @@ pub record IsFed (s : Setting) (seen : List ℕ) (feed : Feed) (text : List ℕ)
 -- the text answers the first lines of any stream that begins with these bytes
 abbrev pub AnswersSome : Setting → (seen text : List ℕ) → Type 0
 AnswersSome s seen text = (rest : List ℕ) → AnswersFirst s (seen ++ rest) text
-
--- a text was written or waits to be, after what waited before
-pub record Sends (old new : Option (List ℕ)) (waited waits text : List ℕ) : Type 0 where
-  pub sent : List ℕ
-  pub written : Appends old new sent
-  pub all : sent ++ waits ≡ waited ++ text
 
 -- where a write failed, a beginning of it was written
 abbrev pub Stops : EngineFault → (old new : Option (List ℕ)) → (waited waits text : List ℕ) → Type 0

@@ -3,16 +3,17 @@
 ghost use Rattle.std.specs.Prelude.{◌≡◌, ◌≢◌, ◌≤◌, ◌<◌, ◌==◌, ◌++◌, ◌∷◌, [], ℕ, List, false, true, take, length, slice_index, string_bytes, OnOk, OnErr, IfErr};
 ghost use Rattle.std.specs.List.{All};
 ghost use Rattle.std.specs.Io.KnownBytes.{Appends};
-ghost use Rattle.ebpf_command.specs.Writing.{AppendsBeginning};
+ghost use Rattle.ebpf_command.specs.Writing.{AppendsBeginning, Sends};
 ghost use Rattle.ebpf_command.specs.declared.done.EngineFault.TheVariants.{Output};
 ghost use Rattle.ebpf_stream.specs.Answering.{IsAnswered, position_of};
-ghost use Rattle.ebpf_stream.specs.Feeding.{IsFed, Sends, Takes, set_up};
+ghost use Rattle.ebpf_stream.specs.Feeding.{IsFed, Takes, set_up};
 
 use crate::answers::Answers;
 use crate::lines::MAX_LINE;
-use crate::output::{flush, write_out};
+use crate::output::write_out;
 use crate::setup::Setup;
 use ebpf_command::done::EngineFault;
+use ebpf_command::output::flush;
 use std::alloc::{AllocError, Global};
 use std::io::Write;
 

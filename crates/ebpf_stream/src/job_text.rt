@@ -43,7 +43,10 @@ fn write_lines(
 {
     write_output(text, line, job, &report.output.numbers)?;
     match report.exit {
-        Some(exit) => exits.write(text, job, exit, report.executed, report.peak),
+        Some(exit) => {
+            exits.set(job, exit, report.executed, report.peak);
+            text.push_str(exits.as_str())
+        }
         None => Ok(()),
     }
 }

@@ -16,12 +16,13 @@ ghost use Rattle.ebpf_stream.specs.Serving.{WritesStream, WritesPart, WritesFirs
 
 use crate::answers::Answers;
 use crate::feed::Feed;
-use crate::output::{flush, write_out};
+use crate::output::write_out;
 use crate::setup::{Setup, load_all};
 use ebpf_command::answer::{Answer, answer_fault_in};
 use ebpf_command::done::{Done, EngineFault};
 use ebpf_command::format::Format;
 use ebpf_command::input::read_input;
+use ebpf_command::output::flush;
 use ebpf_host::machine::Machine;
 use ebpf_script::reader::read_script;
 use ebpf_script::reader::script::{Dialect, Script, ScriptStop};

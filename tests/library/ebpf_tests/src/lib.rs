@@ -41,6 +41,8 @@ mod one;
 #[cfg(test)]
 mod operation;
 #[cfg(test)]
+mod pieces;
+#[cfg(test)]
 mod programs;
 #[cfg(test)]
 mod range;

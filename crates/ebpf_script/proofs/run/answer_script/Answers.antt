@@ -1,4 +1,4 @@
-use Rattle.std.proofs.Common.{◌≡◌, ◌++◌, ℕ, Bool, false, List, string_bytes, Ok, sym, ap, subst, append_assoc, ◌∙◌, rules}
+use Rattle.std.proofs.Common.{◌≡◌, ◌++◌, ℕ, Bool, false, List, string_bytes, Ok, sym, ap, subst, ◌∙◌, rules}
 use Rattle.ebpf_verify.specs.Subject.{Subject}
 use Rattle.ebpf_pool.specs.declared.outcome.Outcome.{Outcome}
 use Rattle.ebpf_command.specs.declared.format.Format.{Format}
@@ -6,13 +6,15 @@ use Rattle.ebpf_command.specs.Response.{clean_response}
 use Rattle.ebpf_script.specs.declared.verdicts.Verdicts.{Verdicts}
 use Rattle.ebpf_script.specs.ParsedScript.{ParsedScript}
 use Rattle.ebpf_script.specs.ReadScripts.{parsed_script}
-use Rattle.ebpf_script.specs.RunText.{DoesRun, MayCome, outcome_in, outcome_text}
+use Rattle.ebpf_script.specs.RunAnswers.{totals_in}
+use Rattle.ebpf_script.specs.RunText.{DoesRun, MayCome, outcome_text}
 use Rattle.ebpf_script.specs.CoveredLines.{covered_lines}
 use Rattle.ebpf_script.specs.ScriptText.{RespondsScript, RespondsUnless}
 use Rattle.ebpf_script.specs.Verdicts.{verdict_lines}
 use Rattle.ebpf_script.specs.VerdictsKept.{AreKept}
 use Rattle.ebpf_script.proofs.VerdictLemmas.{known_kept, contexts_kept}
 use Rattle.ebpf_script.proofs.PoolLemmas.{pages_or, none_due}
+use Rattle.ebpf_script.proofs.RunLemmas.{run_text_is}
 use Rattle.ebpf_script.proofs.run.answer_script.Goals as goal
 
 pub outcome_of-requires-clause-known : goal.outcome_of-requires-clause-known
@@ -44,19 +46,19 @@ told covered format parsed kept k o text fine came is = (
 pub write_covered_in-requires-clause-known : goal.write_covered_in-requires-clause-known
 write_covered_in-requires-clause-known g c = let known = known_kept _ _ c.in_ok-verdicts.verdicts c.in_ok-verdicts.ensures in search (rules, known)
 
--- two pieces after a text
-joined : (before a b mid text : List ℕ) → mid ≡ before ++ a → text ≡ mid ++ b → text ≡ before ++ (a ++ b)
-joined before a b mid text first then = then ∙ ap (λ (xs : List ℕ). xs ++ b) first ∙ append_assoc before a b
-
 pub returns : goal.returns
 returns g c =
     let kept = c.in_ok-verdicts.verdicts in
     let o = c.in_ok-outcome.outcome in
+    let format = c.args.format in
     let programs = (parsed_script c.args.script).programs in
     let jobs = c.args.script.jobs in
-    let mid = string_bytes c.write_outcome_in.new.text in
-    let more : string_bytes c.write_covered_in.new.text ≡ mid ++ covered_lines c.args.covered c.args.format programs kept.accepted.items jobs o.reports =
-    c.in_ok-write_covered_in.ensures ∙ (λ n. mid ++ covered_lines c.args.covered c.args.format programs (c.deref.ensures.value n) jobs o.reports) in
-    told c.args.covered c.args.format (parsed_script c.args.script) kept c.in_ok-verdicts.ensures o _ c.if-verdicts.false
-    c.in_ok-outcome.ensures
-    (joined (string_bytes kept.text) (outcome_in c.args.format o) (covered_lines c.args.covered c.args.format programs kept.accepted.items jobs o.reports) mid (string_bytes c.write_covered_in.new.text) c.in_ok-write_outcome_in.ensures more)
+    let covered = covered_lines c.args.covered format programs kept.accepted.items jobs o.reports in
+    let totals : string_bytes c.write_totals_in.new.text ≡ totals_in format o =
+    c.in_ok-write_totals_in.ensures ∙ ap (λ (xs : List ℕ). xs ++ totals_in format o) c.new-totals.ensures.bytes in
+    let after : string_bytes c.write_covered_in.new.text ≡ totals_in format o ++ covered =
+    c.in_ok-write_covered_in.ensures
+    ∙ (λ n. string_bytes c.write_totals_in.new.text ++ covered_lines c.args.covered format programs (c.deref.ensures.value n) jobs o.reports)
+    ∙ ap (λ (xs : List ℕ). xs ++ covered) totals in
+    told c.args.covered format (parsed_script c.args.script) kept c.in_ok-verdicts.ensures o _ c.if-verdicts.false c.in_ok-outcome.ensures
+    (run_text_is format o (string_bytes kept.text) covered _ _ c.stats_of-reports.ensures.reports after)

@@ -1,6 +1,6 @@
 use Rattle.std.proofs.Common.{◌≤◌, ◌-◌, length, take}
 use Rattle.std.specs.Io.KnownBytes.{Appends}
-use Rattle.ebpf_stream.proofs.output.write_bytes.Given as goal
+use Rattle.ebpf_command.proofs.output.write_bytes.Given as goal
 
 abbrev pub invariant-writing : goal.invariant-writing
 invariant-writing g l = Appends (g.W.Write.contents l.initial.writer) (g.W.Write.contents l.writer) (take l.at l.bytes) × (l.at ≤ length l.bytes)

@@ -1,0 +1,93 @@
+//! What `run` answers. Its text has a line or an object for each job, so it is not made as a whole: it is written in pieces.
+
+ghost use Rattle.std.specs.Prelude.{◌≡◌, ◌≢◌, ◌++◌, [], IfOk, IfErr, OnOk, OnErr};
+ghost use Rattle.std.specs.Io.KnownBytes.{Appends};
+ghost use Rattle.ebpf_command.specs.declared.done.EngineFault.TheVariants.{Output};
+ghost use Rattle.ebpf_command.specs.Writing.{AppendsBeginning, Puts};
+ghost use Rattle.ebpf_script.specs.RunAnswers.{jobs_in, jobs_text, run_text};
+
+use crate::outcome_json::put_jobs;
+use crate::outcome_text::put_reports;
+use ebpf_command::answer::Answer;
+use ebpf_command::done::{Done, EngineFault};
+use ebpf_command::format::Format;
+use ebpf_command::output::flush;
+use ebpf_command::piece::Piece;
+use ebpf_pool::Reports;
+use std::alloc::Global;
+use std::io::Write;
+
+/// The beginning of a text, what jobs came to, which follows it, and how the command ends.
+#[derive(Drop)]
+pub(crate) struct RunAnswer {
+    // A fault, or the verdicts.
+    pub(crate) beginning: Answer,
+    pub(crate) jobs: Option<JobsAnswer>,
+}
+
+/// What jobs came to: their reports, and what follows those.
+#[derive(Drop)]
+pub(crate) struct JobsAnswer {
+    pub(crate) format: Format,
+    pub(crate) reports: Reports,
+    pub(crate) totals: String,
+}
+
+impl RunAnswer {
+    /// Writes the text, and flushes the writer. All memory that this takes is had before the first byte is written.
+    ///
+    /// # Errors
+    /// `NoMemory` where an allocation failed: nothing was written then. `Output` where a write failed or took nothing.
+    pub(crate) fn write<W: Write>(&self, alloc: Global, writer: &mut W) -> Result<Done, EngineFault>
+        ensures done { IfOk result (λ done. done ≡ self.now.beginning.done) }
+        ensures written { IfOk result (λ done. Appends (W.contents writer.old) (W.contents writer.new) (run_text self.now)) }
+        ensures beginning { IfErr result (λ fault. fault ≡ Output → AppendsBeginning (W.contents writer.old) (W.contents writer.new) (run_text self.now)) }
+        ensures untouched { IfErr result (λ fault. fault ≢ Output → writer.new ≡ writer.old) }
+    {
+        let mut piece = Piece::new(alloc)?;
+        self.write_by(writer, &mut piece)?;
+        Ok(self.beginning.done)
+    }
+
+    // Writes the text in pieces, and flushes the writer.
+    fn write_by<W: Write>(&self, writer: &mut W, piece: &mut Piece) -> Result<(), EngineFault>
+        ensures written { OnOk result (Appends (W.contents writer.old) (W.contents writer.new) (piece.old ++ run_text self.now)) }
+        ensures beginning { OnErr result (AppendsBeginning (W.contents writer.old) (W.contents writer.new) (piece.old ++ run_text self.now)) }
+        ensures err { IfErr result (λ e. e ≡ Output) }
+    {
+        self.put(writer, piece)?;
+        piece.write_out(writer)?;
+        flush(writer)
+    }
+
+    // Writes the text, but for what waits then.
+    fn put<W: Write>(&self, writer: &mut W, piece: &mut Piece) -> Result<(), EngineFault>
+        ensures { Puts (W.contents writer.old) (W.contents writer.new) piece.old piece.new (run_text self.now) result }
+    {
+        piece.put(writer, self.beginning.text.as_bytes())?;
+        match &self.jobs {
+            Some(jobs) => jobs.put(writer, piece),
+            None => Ok(()),
+        }
+    }
+}
+
+impl JobsAnswer {
+    // Writes it, but for what waits then.
+    fn put<W: Write>(&self, writer: &mut W, piece: &mut Piece) -> Result<(), EngineFault>
+        ensures { Puts (W.contents writer.old) (W.contents writer.new) piece.old piece.new (jobs_text self.now) result }
+    {
+        self.put_reports(writer, piece)?;
+        piece.put(writer, self.totals.as_bytes())
+    }
+
+    // Writes the reports.
+    fn put_reports<W: Write>(&self, writer: &mut W, piece: &mut Piece) -> Result<(), EngineFault>
+        ensures { Puts (W.contents writer.old) (W.contents writer.new) piece.old piece.new (jobs_in self.now.format self.now.reports) result }
+    {
+        match self.format {
+            Format::Text => put_reports(writer, piece, &self.reports),
+            Format::Json => put_jobs(writer, piece, &self.reports),
+        }
+    }
+}
