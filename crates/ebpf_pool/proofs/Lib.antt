@@ -19,5 +19,6 @@ pub mod Shares
 pub mod Serving
 pub mod JobLists
 pub mod Searching
+pub mod Admitting
 pub mod Admitted
 pub mod Outcoming

@@ -15,11 +15,12 @@ abbrev pub AreInOrder : (start : ℕ) → (bytes : List ℕ) → List Entry → 
 AreInOrder start bytes [] = start ≡ length bytes
 AreInOrder start bytes (e ∷ rest) = (start ≤ e.end) × AreInOrder e.end bytes rest
 
--- where the context of this number begins: where the one before it ends, and the first at `start`
+-- where the context of this entry ends
 abbrev pub end_of : Option Entry → ℕ
 end_of None = 0
 end_of (Some e) = e.end
 
+-- where the context of this number begins: where the one before it ends, and the first at `start`
 abbrev pub start_of : (start : ℕ) → List Entry → ℕ → ℕ
 start_of start entries zero = start
 start_of start entries (suc n) = end_of (slice_get entries n)

@@ -2,7 +2,7 @@
 
 ghost use Rattle.std.specs.Prelude.{◌≡◌, ◌↔◌, ◌≤◌, ◌<◌, Ok, Err, All, length, slice_get, position, IfSome, IfNone, IfErr, IfOk, OnOk};
 ghost use Rattle.ebpf_pool.specs.JobLists.{job_of};
-ghost use Rattle.ebpf_pool.specs.Admission.{has_program, has_context, without_program, without_context, pool_fault};
+ghost use Rattle.ebpf_pool.specs.Admission.{has_program, has_context, without_program, without_context, job_fault, pool_fault};
 
 use crate::job_list::{JobRef, Jobs};
 use crate::outcome::{Host, MAX_JOBS, MAX_WORKERS};
@@ -47,13 +47,21 @@ pub(crate) fn pool_fault(host: &Host, workers: usize, jobs: &Jobs) -> Option<Poo
     if jobs.len() as u64 > MAX_JOBS {
         return Some(PoolFault::Jobs);
     }
-    if let Some(job) = without_program(&host.programs, jobs) {
-        return Some(PoolFault::Program { job });
+    job_fault(&host.programs, jobs)
+}
+
+// The fault of the first job without its program, or else of the first without its context.
+fn job_fault(programs: &[Verified], jobs: &Jobs) -> Option<PoolFault>
+    ensures { result ≡ job_fault (without_program programs.now jobs.now) (without_context programs.now jobs.now) }
+{
+    // Without its program a job has no context that fits, so jobs with no fault are looked through once.
+    let Some(job) = without_context(programs, jobs) else {
+        return None;
+    };
+    match without_program(programs, jobs) {
+        Some(job) => Some(PoolFault::Program { job }),
+        None => Some(PoolFault::Context { job }),
     }
-    if let Some(job) = without_context(&host.programs, jobs) {
-        return Some(PoolFault::Context { job });
-    }
-    None
 }
 
 // The first job whose program isn't there.
