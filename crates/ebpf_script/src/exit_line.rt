@@ -42,7 +42,7 @@ impl ExitLine {
     }
 
     /// Makes it the line of this job.
-    // It has two callers, and is a third of what they do: it must be part of both.
+    // Else it would be a call for each job, since it has two callers: 38 host instructions more.
     #[inline(always)]
     pub fn set(&mut self, job: usize, exit: u64, executed: u64, peak: u64)
         ensures { self.new.line ≡ job_line job (Some exit) executed peak }
