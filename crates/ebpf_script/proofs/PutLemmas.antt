@@ -35,6 +35,3 @@ module _ (a b c : Option (List ℕ)) (x y z left text : List ℕ) (h : SendsFirs
 
   pub first_last : (r : Result (Unit {0}) EngineFault) → Puts b c y z left r → Puts a c x z text r
   first_last r k = subst (λ (xs : List ℕ). Puts a c x z xs r) h.all (puts_then a b c x y z h.told left r h.sent k)
-
-pub first_all : (a b : Option (List ℕ)) (x y text : List ℕ) → SendsFirst a b x y [] text → Sends a b x y text
-first_all a b x y text h = subst (λ (xs : List ℕ). Sends a b x y xs) (sym (append-nil h.told) ∙ h.all) h.sent

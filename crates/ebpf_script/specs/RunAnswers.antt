@@ -20,13 +20,16 @@ abbrev pub totals_in : Format → Outcome → List ℕ
 totals_in Text o = cache_lines o.totals ++ shelf_lines o.shelves
 totals_in Json o = cache_objects o.totals ++ shelf_objects o.shelves
 
+-- what jobs came to: what each did, and what follows
 abbrev pub jobs_text : JobsAnswer → List ℕ
 jobs_text j = jobs_in j.format j.reports ++ string_bytes j.totals
 
+-- nothing where a fault or a refusal is all
 abbrev pub any_jobs_text : Option JobsAnswer → List ℕ
 any_jobs_text None = []
 any_jobs_text (Some j) = jobs_text j
 
+-- the fault or the verdicts, and then what the jobs came to
 abbrev pub run_text : RunAnswer → List ℕ
 run_text a = a.beginning.text ++ any_jobs_text a.jobs
 

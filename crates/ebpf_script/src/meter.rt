@@ -17,7 +17,7 @@ pub enum Stage {
 
 /// Learns how far `run` is.
 pub trait Meter {
-    /// A stage is over. Where there are no jobs to be done, or memory runs out, some stages do not come.
+    /// A stage is over. Where there are no jobs to be done, or a read, an allocation or a write fails, some stages do not come.
     fn ended(&mut self, stage: Stage);
 
     /// The jobs came to this.
