@@ -20,7 +20,7 @@ use ebpf_machine::ended::Ended;
 use ebpf_machine::report::Reply;
 use ebpf_machine::run::Run;
 use ebpf_machine::workspace::Workspace;
-use ebpf_pool::{JobReport, Jobs, Reports};
+use ebpf_pool::{FEW_ANSWERS, JobReport, Jobs, Reports};
 use ebpf_shelves::object::Object;
 use ebpf_verify::verified::Verified;
 use std::alloc::{AllocError, Global};
@@ -70,7 +70,9 @@ fn count_run(
     ensures tally { IsTally verified.now.program tally.new }
     ensures counted { IfOk result (λ _. IsRunCounted verified.now context.now report.now (executed_so_far verified.now.program tally.old) (taken_so_far tally.old) (executed_so_far verified.now.program tally.new) (taken_so_far tally.new)) }
 {
-    let mut store = Replaying::new(alloc, report.answers(), report.taken());
+    let mut room = [Reply::Null; FEW_ANSWERS];
+    let answers = report.answers(&mut room);
+    let mut store = Replaying::new(alloc, answers, report.taken());
     let Ok(mut run) = Run::start_in(workspace, verified, context) else {
         return Err(AllocError);
     };
@@ -83,7 +85,7 @@ fn count_run(
         tally.note(first, first + more, run.pc())?;
     }
     let ended = run.end_in_place(&mut store);
-    let same = is_done_as(&ended, report);
+    let same = is_done_as(&ended, report, answers);
     let workspace = ended.forget();
     if !same {
         workspace.free();
@@ -117,13 +119,14 @@ fn run_stretch(run: &mut Run<'_, Object>, store: &mut Replaying<'_>, more: u64) 
 }
 
 // Whether a run did as many instructions as the report says, and was answered what it says.
-fn is_done_as(ended: &Ended<Object>, report: &JobReport) -> bool
+fn is_done_as(ended: &Ended<Object>, report: &JobReport, answers: &[Reply]) -> bool
+    requires { answers.now ≡ report.now.answers }
     ensures executed { result ≡ true → ended.now.executed ≡ report.now.executed }
     ensures answers { result ≡ true → ended.now.answers ≡ report.now.answers }
     ensures taken { result ≡ true → ended.now.taken ≡ report.now.taken }
 {
     ended.executed() == report.executed()
-        && are_same_replies(ended.answers(), report.answers())
+        && are_same_replies(ended.answers(), answers)
         && ended.taken() == report.taken()
 }
 

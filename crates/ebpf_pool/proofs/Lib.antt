@@ -20,5 +20,6 @@ pub mod Serving
 pub mod JobLists
 pub mod Searching
 pub mod Admitting
+pub mod Packing
 pub mod Admitted
 pub mod Outcoming

@@ -3,8 +3,8 @@ use Rattle.std.specs.Prelude.{ℕ, Bool, true, false, [], Option, Some, None}
 use Rattle.ebpf_machine.specs.declared.report.Report.{Report}
 use Rattle.ebpf_pool.specs.declared.job_report.Kept.{Kept}
 use Rattle.ebpf_pool.specs.declared.job_report.Kept.TheVariants.{Answered, All}
-use Rattle.ebpf_pool.specs.declared.job_report.Lists.{Lists}
 use Rattle.ebpf_pool.specs.declared.job_report.Numbers.{Numbers}
+use Rattle.ebpf_pool.specs.declared.job_report.Rest.{Rest}
 
 -- the number that a run returned, where it exited
 abbrev pub exit_of : (exited : Bool) → (exit : ℕ) → Option ℕ
@@ -12,20 +12,20 @@ exit_of true exit = Some exit
 exit_of false exit = None
 
 abbrev pub numbers_in : Kept → Numbers
-numbers_in (Answered numbers few) = numbers
-numbers_in (All numbers lists) = numbers
+numbers_in (Answered few numbers exit) = numbers
+numbers_in (All numbers rest) = numbers
 
--- the lists that are kept: those that are not are empty
-abbrev pub lists_in : Kept → Lists
-lists_in (Answered numbers few) = record { output = []; answers = few; taken = [] }
-lists_in (All numbers lists) = lists.value
+-- the rest that is kept: lists that are not are empty
+abbrev pub rest_in : Kept → Rest
+rest_in (Answered few numbers exit) = record { exit = exit; output = []; answers = few; taken = [] }
+rest_in (All numbers rest) = rest.value
 
-abbrev pub report_of : (exit : ℕ) → Numbers → Lists → Report
-report_of exit numbers lists = record {
-  exit = exit_of numbers.exited exit;
-  output = lists.output;
+abbrev pub report_of : Numbers → Rest → Report
+report_of numbers rest = record {
+  exit = exit_of numbers.exited rest.exit;
+  output = rest.output;
   executed = numbers.executed;
-  answers = lists.answers;
-  taken = lists.taken;
+  answers = rest.answers;
+  taken = rest.taken;
   peak = numbers.peak;
 }

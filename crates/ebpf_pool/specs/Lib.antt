@@ -6,6 +6,7 @@ pub mod Counts
 pub mod Crews
 pub mod Going
 pub mod Hands
+pub mod FewAnswers
 pub mod JobReports
 pub mod Moves
 pub mod Numbering

@@ -1,54 +1,88 @@
-//! A few answers, as a report has them in itself.
+//! A few answers, packed as a report has them in itself.
 
-ghost use Rattle.std.specs.Prelude.{◌≡◌, ◌≤◌, [], length};
-ghost use Rattle.ebpf_pool.specs.declared.few_answers.TheConstants.{FEW};
+ghost use Rattle.std.specs.Prelude.{◌≡◌, ◌≤◌, length};
+ghost use Rattle.ebpf_pool.specs.FewAnswers.{code_of, reply_of};
+ghost use Rattle.ebpf_pool.specs.declared.few_answers.TheConstants.{FEW_ANSWERS};
 
 use ebpf_machine::report::Reply;
 use std::marker::Model;
 
-/// How many answers a report has in itself, at most.
-pub(crate) const FEW: usize = 7;
+/// How many answers a report packs into itself, at most: those that two bytes have room for.
+pub const FEW_ANSWERS: usize = 8;
 
-/// At most [`FEW`] answers. Contracts see them as the list.
+/// At most [`FEW_ANSWERS`] answers in three bytes. Contracts see them as the list.
 #[derive(Drop)]
 pub(crate) struct FewAnswers {
     count: u8,
-    replies: [Reply; FEW],
+    // two bits for each, those of the first one lowest; as bytes, since a number of two bytes would lie at an even address
+    codes: [u8; 2],
 }
 
 impl Model for FewAnswers {
-    ghost use Rattle.std.specs.Prelude.{List, take, ◌≤◌};
+    ghost use Rattle.std.specs.Prelude.{List, ◌≤◌};
+    ghost use Rattle.std.specs.Int.{from_le_bytes, w16};
     ghost use Rattle.ebpf_machine.specs.declared.report.Reply.{Reply};
-    ghost use Rattle.ebpf_pool.specs.declared.few_answers.TheConstants.{FEW};
+    ghost use Rattle.ebpf_pool.specs.FewAnswers.{replies_from};
+    ghost use Rattle.ebpf_pool.specs.declared.few_answers.TheConstants.{FEW_ANSWERS};
 
     ghost Value = { List Reply };
 
-    ghost view = { λ f. take f.count f.replies };
+    ghost view = { λ f. replies_from f.count (from_le_bytes w16 f.codes) };
 
-    ghost invariant = { λ f. f.count ≤ FEW };
+    ghost invariant = { λ f. f.count ≤ FEW_ANSWERS };
 }
 
 impl FewAnswers {
     /// These answers.
     pub(crate) fn of(answers: &[Reply]) -> FewAnswers
-        requires { length answers.now ≤ FEW }
+        requires { length answers.now ≤ FEW_ANSWERS }
         ensures { result ≡ answers.now }
     {
-        let mut replies = [Reply::Null; FEW];
-        // Most runs were answered nothing, and a copy is a call.
-        if !answers.is_empty() {
-            replies[..answers.len()].copy_from_slice(answers);
+        let count = answers.len();
+        let mut codes: u16 = 0;
+        'packing: for done in 0..count {
+            codes = codes * 4 + code_of(answers[count - 1 - done]);
         }
         FewAnswers {
-            count: answers.len() as u8,
-            replies,
+            count: count as u8,
+            codes: codes.to_le_bytes(),
         }
     }
 
-    /// The answers.
-    pub(crate) fn replies(&self) -> &[Reply]
+    /// The answers, unpacked into memory that is lent for them.
+    pub(crate) fn replies<'a>(&self, room: &'a mut [Reply; FEW_ANSWERS]) -> &'a [Reply]
         ensures { result.now ≡ self.now }
     {
-        &self.replies[..usize::from(self.count)]
+        let count = usize::from(self.count);
+        let mut codes = u16::from_le_bytes(self.codes);
+        'unpacking: for done in 0..count {
+            room[done] = reply_of(codes % 4);
+            codes = codes / 4;
+        }
+        &room[..count]
+    }
+}
+
+// The two bits of a reply.
+fn code_of(reply: Reply) -> u16
+    ensures { result ≡ code_of reply }
+{
+    match reply {
+        Reply::Null => 0,
+        Reply::Granted => 1,
+        Reply::Empty => 2,
+        Reply::Shelf => 3,
+    }
+}
+
+// The reply of two bits.
+fn reply_of(code: u16) -> Reply
+    ensures { result ≡ reply_of code }
+{
+    match code {
+        0 => Reply::Null,
+        1 => Reply::Granted,
+        2 => Reply::Empty,
+        _ => Reply::Shelf,
     }
 }

@@ -1,31 +1,33 @@
 //! The report of a job, as it is kept until all jobs are done.
 //!
-//! A short job takes mostly the time of memory that is touched for the first time. So a report takes 24 bytes: its numbers have the
-//! size that a program's bounds leave them, a few answers are in it, and longer lists are in a box. The small numbers are in each
-//! variant of `Kept`, where they share a word with its tag.
+//! A short job takes mostly the time of memory that is touched for the first time. So a report takes 16 bytes: its numbers have the
+//! size that a program's bounds leave them, a few answers are packed in it, and longer lists are in a box. The small numbers are in each
+//! variant of `Kept`, where they share a word with its tag and with the few answers.
 
 ghost use Rattle.std.specs.Prelude.{◌≡◌, ◌<◌, true, None, is_some};
-ghost use Rattle.ebpf_pool.specs.JobReports.{lists_in, numbers_in};
+ghost use Rattle.ebpf_pool.specs.JobReports.{exit_of, numbers_in, rest_in};
 
-use crate::few_answers::{FEW, FewAnswers};
+use crate::few_answers::{FEW_ANSWERS, FewAnswers};
 use ebpf_machine::ended::Ended;
 use ebpf_machine::report::{Answers, Output, Reply, Taken};
 use ebpf_machine::workspace::Workspace;
 use std::alloc::{AllocError, Global};
 use std::marker::Model;
 
-/// The lists of a report.
+/// What a report says beside its small numbers: its exit, which is 0 where there is none, and its lists.
 #[derive(Drop)]
-pub(crate) struct Lists {
+pub(crate) struct Rest {
+    exit: u64,
     output: Output,
     answers: Answers,
     taken: Taken,
 }
 
-impl Lists {
-    /// A box with empty lists. It fails only where an allocation fails.
-    pub(crate) fn boxed(alloc: Global) -> Result<Box<Lists>, AllocError> {
-        let lists = Lists {
+impl Rest {
+    /// A box for it, with empty lists. It fails only where an allocation fails.
+    pub(crate) fn boxed(alloc: Global) -> Result<Box<Rest>, AllocError> {
+        let rest = Rest {
+            exit: 0,
             output: Output {
                 numbers: Vec::new(alloc),
             },
@@ -36,7 +38,7 @@ impl Lists {
                 bytes: Vec::new(alloc),
             },
         };
-        Ok(Box::new(alloc, lists)?)
+        Ok(Box::new(alloc, rest)?)
     }
 }
 
@@ -48,12 +50,12 @@ pub(crate) struct Numbers {
     exited: bool,
 }
 
-/// The small numbers of a report, and how its lists are kept.
+/// The small numbers of a report, and how the rest is kept.
 #[derive(Drop)]
 pub(crate) enum Kept {
-    /// Nothing was added to the output, and nothing was taken off a shelf.
-    Answered(Numbers, FewAnswers),
-    All(Numbers, Box<Lists>),
+    /// Nothing was added to the output, and nothing was taken off a shelf: a few answers and the exit are left.
+    Answered(FewAnswers, Numbers, u64),
+    All(Numbers, Box<Rest>),
 }
 
 impl Kept {
@@ -62,7 +64,17 @@ impl Kept {
         ensures { result.now ≡ numbers_in self.now }
     {
         match self {
-            Kept::Answered(numbers, _) | Kept::All(numbers, _) => numbers,
+            Kept::Answered(_, numbers, _) | Kept::All(numbers, _) => numbers,
+        }
+    }
+
+    /// The exit, or 0 where there is none.
+    fn exit(&self) -> u64
+        ensures { result ≡ (rest_in self.now).exit }
+    {
+        match self {
+            Kept::Answered(_, _, exit) => *exit,
+            Kept::All(_, rest) => rest.exit,
         }
     }
 }
@@ -70,19 +82,18 @@ impl Kept {
 /// The report of a job. Contracts see it as the [`Report`] of its run.
 #[derive(Drop)]
 pub struct JobReport {
-    exit: u64,
     kept: Kept,
 }
 
-const _: () = prove!(size_of::<JobReport>() <= 24);
+const _: () = prove!(size_of::<JobReport>() <= 16);
 
 impl Model for JobReport {
     ghost use Rattle.ebpf_machine.specs.declared.report.Report.{Report};
-    ghost use Rattle.ebpf_pool.specs.JobReports.{lists_in, numbers_in, report_of};
+    ghost use Rattle.ebpf_pool.specs.JobReports.{numbers_in, report_of, rest_in};
 
     ghost Value = { Report };
 
-    ghost view = { λ r. report_of r.exit (numbers_in r.kept) (lists_in r.kept) };
+    ghost view = { λ r. report_of (numbers_in r.kept) (rest_in r.kept) };
 }
 
 impl JobReport {
@@ -96,33 +107,27 @@ impl JobReport {
             exited: false,
         };
         JobReport {
-            exit: 0,
-            kept: Kept::Answered(numbers, FewAnswers::of(&[])),
+            kept: Kept::Answered(FewAnswers::of(&[]), numbers, 0),
         }
     }
 
     /// The report of a run that has ended, and the memory of that run. It takes the spare box where its lists need one.
     pub(crate) fn of<H>(
         ended: Ended<H>,
-        spare: &mut Option<Box<Lists>>,
+        spare: &mut Option<Box<Rest>>,
     ) -> (JobReport, Workspace<H>)
         requires spare { is_some spare.old ≡ true }
         requires executed { ended.executed < 65536 }
         requires peak { ended.peak < 256 }
         ensures { result.0 ≡ ended }
     {
-        let exit = ended.exit();
         let numbers = Numbers {
             executed: ended.executed() as u16,
             peak: ended.peak() as u8,
-            exited: exit.is_some(),
+            exited: ended.exit().is_some(),
         };
-        let (kept, workspace) = lists_kept(numbers, ended, spare);
-        let report = JobReport {
-            exit: exit.unwrap_or(0),
-            kept,
-        };
-        (report, workspace)
+        let (kept, workspace) = rest_kept(numbers, ended, spare);
+        (JobReport { kept }, workspace)
     }
 
     /// The number that the run returned.
@@ -130,7 +135,7 @@ impl JobReport {
         ensures { result ≡ self.now.exit }
     {
         if self.kept.numbers().exited {
-            Some(self.exit)
+            Some(self.kept.exit())
         } else {
             None
         }
@@ -155,18 +160,18 @@ impl JobReport {
         ensures { result.now ≡ self.now.output }
     {
         match &self.kept {
-            Kept::All(_, lists) => &lists.output.numbers,
-            Kept::Answered(_, _) => &[],
+            Kept::All(_, rest) => &rest.output.numbers,
+            Kept::Answered(_, _, _) => &[],
         }
     }
 
-    /// What each call of `new` and of `swap` was answered.
-    pub fn answers(&self) -> &[Reply]
+    /// What each call of `new` and of `swap` was answered. A few answers are packed in the report: they are unpacked into `room`.
+    pub fn answers<'a>(&'a self, room: &'a mut [Reply; FEW_ANSWERS]) -> &'a [Reply]
         ensures { result.now ≡ self.now.answers }
     {
         match &self.kept {
-            Kept::Answered(_, few) => few.replies(),
-            Kept::All(_, lists) => &lists.answers.replies,
+            Kept::Answered(few, _, _) => few.replies(room),
+            Kept::All(_, rest) => &rest.answers.replies,
         }
     }
 
@@ -175,35 +180,41 @@ impl JobReport {
         ensures { result.now ≡ self.now.taken }
     {
         match &self.kept {
-            Kept::All(_, lists) => &lists.taken.bytes,
-            Kept::Answered(_, _) => &[],
+            Kept::All(_, rest) => &rest.taken.bytes,
+            Kept::Answered(_, _, _) => &[],
         }
     }
 }
 
-// These numbers beside the lists of a run that has ended, in the spare box where they need one, and the memory of that run.
-fn lists_kept<H>(
+// These numbers beside the rest of a run that has ended, in the spare box where its lists need one, and the memory of that run.
+fn rest_kept<H>(
     numbers: Numbers,
     ended: Ended<H>,
-    spare: &mut Option<Box<Lists>>,
+    spare: &mut Option<Box<Rest>>,
 ) -> (Kept, Workspace<H>)
-    requires { is_some spare.old ≡ true }
+    requires spare { is_some spare.old ≡ true }
+    requires exited { numbers.exited ≡ is_some ended.exit }
     ensures numbers { numbers_in result.0 ≡ numbers }
-    ensures lists { lists_in result.0 ≡ record { output = ended.output; answers = ended.answers; taken = ended.taken } }
+    ensures exit { exit_of numbers.exited (rest_in result.0).exit ≡ ended.exit }
+    ensures output { (rest_in result.0).output ≡ ended.output }
+    ensures answers { (rest_in result.0).answers ≡ ended.answers }
+    ensures taken { (rest_in result.0).taken ≡ ended.taken }
 {
+    let exit = ended.exit().unwrap_or(0);
     let answers = ended.answers();
-    if ended.output().is_empty() && ended.taken().is_empty() && answers.len() <= FEW {
+    if ended.output().is_empty() && ended.taken().is_empty() && answers.len() <= FEW_ANSWERS {
         let few = FewAnswers::of(answers);
-        return (Kept::Answered(numbers, few), ended.forget());
+        return (Kept::Answered(few, numbers, exit), ended.forget());
     }
-    let Some(mut room) = spare.take() else {
+    let Some(mut boxed) = spare.take() else {
         unreachable!()
     };
     let (report, workspace) = ended.report();
-    *room = Lists {
+    *boxed = Rest {
+        exit,
         output: report.output,
         answers: report.answers,
         taken: report.taken,
     };
-    (Kept::All(numbers, room), workspace)
+    (Kept::All(numbers, boxed), workspace)
 }

@@ -46,6 +46,7 @@ mod supply;
 mod worker;
 
 pub use admission::PoolFault;
+pub use few_answers::FEW_ANSWERS;
 pub use gate::{Gate, NoGate, Point};
 pub use job_list::{JobRef, Jobs};
 pub use job_report::JobReport;

@@ -25,7 +25,7 @@ use crate::client::Client;
 use crate::gate::{Gate, Point};
 use crate::hands::Tools;
 use crate::job_list::Jobs;
-use crate::job_report::{JobReport, Lists};
+use crate::job_report::{JobReport, Rest};
 use crate::jobs::{Answered, Bundle};
 use crate::ledgers::Names;
 use crate::owned::Owned;
@@ -210,7 +210,7 @@ fn answer_bundle<'a, L: Names, G: Gate + 'a, R: Wait + 'a>(
     bundle: u64,
     store: &mut Store<'a, L, R>,
     reports: &mut Vec<JobReport>,
-    spare: &mut Option<Box<Lists>>,
+    spare: &mut Option<Box<Rest>>,
     workspace: Workspace<Owned>,
 ) -> Result<Workspace<Owned>, AllocError>
     requires ready { AreReady shared.now.programs.now shared.now.jobs.now }
@@ -238,7 +238,7 @@ fn answer<'a, L: Names, G: Gate + 'a, R: Wait + 'a>(
     number: u64,
     store: &mut Store<'a, L, R>,
     reports: &mut Vec<JobReport>,
-    spare: &mut Option<Box<Lists>>,
+    spare: &mut Option<Box<Rest>>,
     workspace: Workspace<Owned>,
 ) -> Result<Workspace<Owned>, AllocError>
     requires ready { AreReady shared.now.programs.now shared.now.jobs.now }
@@ -253,7 +253,7 @@ fn answer<'a, L: Names, G: Gate + 'a, R: Wait + 'a>(
     ensures capacity { vec_capacity reports.new ≡ vec_capacity reports.old }
 {
     let job = shared.jobs.job(number as usize);
-    let Ok(()) = room_for_lists(shared.alloc, spare) else {
+    let Ok(()) = room_for_rest(shared.alloc, spare) else {
         workspace.free();
         return Err(AllocError);
     };
@@ -271,12 +271,12 @@ fn answer<'a, L: Names, G: Gate + 'a, R: Wait + 'a>(
     Ok(workspace)
 }
 
-// A box for the lists of a report.
-fn room_for_lists(alloc: Global, spare: &mut Option<Box<Lists>>) -> Result<(), AllocError>
+// A spare box for the rest of a report.
+fn room_for_rest(alloc: Global, spare: &mut Option<Box<Rest>>) -> Result<(), AllocError>
     ensures { OnOk result (is_some spare.new ≡ true) }
 {
     if spare.is_none() {
-        *spare = Some(Lists::boxed(alloc)?);
+        *spare = Some(Rest::boxed(alloc)?);
     }
     Ok(())
 }

@@ -3,7 +3,7 @@
 use crate::store::{Given, Store, Sums};
 use ebpf_machine::report::{Reply, Report};
 use ebpf_machine::whole::run_to_exit;
-use ebpf_pool::JobReport;
+use ebpf_pool::{FEW_ANSWERS, JobReport};
 use ebpf_verify::verified::Verified;
 use std::alloc::{AllocError, Global};
 use std::marker::Brand;
@@ -45,7 +45,8 @@ pub(crate) fn tell(alloc: Global, report: &Report) -> Result<String, AllocError>
 // A report of a job in words.
 pub(crate) fn tell_job(alloc: Global, report: &JobReport) -> Result<String, AllocError> {
     let numbers = (report.exit(), report.executed(), report.peak());
-    in_words(alloc, numbers, report.output(), report.answers())
+    let mut room = [Reply::Null; FEW_ANSWERS];
+    in_words(alloc, numbers, report.output(), report.answers(&mut room))
 }
 
 // What is reported in words: the exit, the instructions and the most objects, the output, and the answers, a letter each.

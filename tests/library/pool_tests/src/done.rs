@@ -11,7 +11,7 @@ use std::alloc::{AllocError, Global};
 use std::process::Abort;
 use std::sync::Wait;
 use std::thread::Threads;
-use ebpf_pool::{Gate, Host, JobReport, Jobs, Outcome, PoolFault, run_jobs};
+use ebpf_pool::{FEW_ANSWERS, Gate, Host, JobReport, Jobs, Outcome, PoolFault, run_jobs};
 
 // Does the jobs of a setting, and tells what came of them: the fault or the outcome.
 pub(crate) fn done<G: Gate + Sync, R: Threads + Wait + Abort + Sync>(
@@ -91,7 +91,9 @@ fn compared(
         let verified = programs.get(job.program).ok_or(AllocError)?;
         let context = job.context.to_vec(alloc)?;
         let given = Given {
-            answers: report.answers().to_vec(alloc)?,
+            answers: report
+                .answers(&mut [Reply::Null; FEW_ANSWERS])
+                .to_vec(alloc)?,
             taken: report.taken().to_vec(alloc)?,
         };
         let (expected, sums) = alone(alloc, verified, context, given)?;
