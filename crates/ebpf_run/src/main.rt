@@ -22,6 +22,7 @@ use ebpf_assemble::assemble::assemble;
 use ebpf_command::done::{Done, EngineFault};
 use ebpf_script::check::check;
 use ebpf_script::explained_check::explained_check;
+use ebpf_script::meter::{Meter, NoMeter};
 use ebpf_script::replay::replay;
 use ebpf_script::run::run as run_script;
 use ebpf_script::watch::{TABLE_BYTES, Watch};
@@ -139,31 +140,39 @@ fn run_jobs<R: AllocGlobal + Clock + Eprint + Threads + Wait + Sync, I: Read, W:
     writer: &mut W,
     options: RunOptions,
 ) -> Result<Done, EngineFault> {
-    let alloc = rt.alloc();
-    // Room for the table comes first, so that where there is none nothing is run.
-    let mut table = String::new(alloc);
-    if options.stats {
-        table.reserve(TABLE_BYTES)?;
+    if !options.stats {
+        return run_with(rt, reader, writer, options, &mut NoMeter);
     }
+    // Room for the table comes first, so that where there is none nothing is run.
+    let mut table = String::with_capacity(rt.alloc(), TABLE_BYTES)?;
     let mut watch = Watch::start(rt);
-    let done = run_script(
+    let done = run_with(rt, reader, writer, options, &mut watch)?;
+    watch.write_table(options.format, &mut table)?;
+    if eprint!(rt; "{table}").is_err() {
+        return Err(EngineFault::Output);
+    }
+    Ok(done)
+}
+
+// Does the jobs of a script, with a meter.
+fn run_with<R: AllocGlobal + Threads + Wait + Sync, I: Read, W: Write, M: Meter>(
+    rt: &R,
+    reader: &mut I,
+    writer: &mut W,
+    options: RunOptions,
+    meter: &mut M,
+) -> Result<Done, EngineFault> {
+    run_script(
         rt,
-        alloc,
+        rt.alloc(),
         reader,
         writer,
         options.format,
         options.covered,
         options.workers,
         options.reaps,
-        &mut watch,
-    )?;
-    if options.stats {
-        watch.write_table(options.format, &mut table)?;
-        if eprint!(rt; "{table}").is_err() {
-            return Err(EngineFault::Output);
-        }
-    }
-    Ok(done)
+        meter,
+    )
 }
 
 // Prints why a file can't be opened, and gives the exit status.

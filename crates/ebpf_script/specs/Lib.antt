@@ -29,6 +29,7 @@ pub mod CheckText
 pub mod ScriptFaults
 pub mod ExplainedCheckText
 pub mod ReplayText
+pub mod ReportForms
 pub mod CoveredLines
 pub mod RunAnswers
 pub mod RunText

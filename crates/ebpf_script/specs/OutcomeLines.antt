@@ -1,10 +1,11 @@
 -- The lines of an outcome: what each job did, then what the cache of each kind did, and then what each shelf did that was used.
-use Rattle.std.specs.Prelude.{ℕ, ◌+◌, ◌++◌, ◌==◌, if◌then◌else◌, List, [], ◌∷◌, codes, decimal, Option, Some, None}
+use Rattle.std.specs.Prelude.{ℕ, ◌++◌, ◌==◌, if◌then◌else◌, List, [], ◌∷◌, codes, decimal, Option, Some, None}
 use Rattle.std.specs.List.{flat_map}
 use Rattle.ebpf_machine.specs.declared.report.Report.{Report}
 use Rattle.object_cache.specs.declared.totals.Totals.{Totals}
 use Rattle.ebpf_pool.specs.declared.outcome.Outcome.{Outcome}
 use Rattle.ebpf_pool.specs.declared.outcome.ShelfTotals.{ShelfTotals}
+use Rattle.ebpf_script.specs.ReportForms.{each_from}
 
 -- a number of a job's output
 abbrev pub job_emit_line : ℕ → ℕ → List ℕ
@@ -22,11 +23,6 @@ job_line job (Some exit) executed peak = codes "job " ++ (decimal job ++ ending_
 
 abbrev pub report_lines : ℕ → Report → List ℕ
 report_lines job r = flat_map (job_emit_line job) r.output ++ job_line job r.exit r.executed r.peak
-
--- the reports of the jobs from this number on, in order
-abbrev pub reports_from : ℕ → List Report → List ℕ
-reports_from job [] = []
-reports_from job (r ∷ reports) = report_lines job r ++ reports_from (job + 1) reports
 
 -- what a cache was asked for, and what came back to it
 abbrev pub cache_words : List ℕ → (allocs frees nulls missing : ℕ) → List ℕ
@@ -56,4 +52,4 @@ shelf_lines (cells ∷ records ∷ blocks ∷ []) = shelf_line 0 cells ++ (shelf
 shelf_lines _ = []
 
 abbrev pub outcome_lines : Outcome → List ℕ
-outcome_lines o = reports_from 0 o.reports ++ (cache_lines o.totals ++ shelf_lines o.shelves)
+outcome_lines o = each_from report_lines 0 o.reports ++ (cache_lines o.totals ++ shelf_lines o.shelves)

@@ -1,9 +1,10 @@
 -- The objects of an outcome, in the order of its lines: each job with its output, the cache of each kind, and each shelf that was used.
-use Rattle.std.specs.Prelude.{ℕ, ◌+◌, ◌++◌, ◌==◌, if◌then◌else◌, List, [], ◌∷◌, codes, decimal, Option, Some, None}
+use Rattle.std.specs.Prelude.{ℕ, ◌++◌, ◌==◌, if◌then◌else◌, List, [], ◌∷◌, codes, decimal, Option, Some, None}
 use Rattle.ebpf_machine.specs.declared.report.Report.{Report}
 use Rattle.object_cache.specs.declared.totals.Totals.{Totals}
 use Rattle.ebpf_pool.specs.declared.outcome.Outcome.{Outcome}
 use Rattle.ebpf_pool.specs.declared.outcome.ShelfTotals.{ShelfTotals}
+use Rattle.ebpf_script.specs.ReportForms.{each_from}
 use Rattle.ebpf_command.specs.Json.{number_list}
 
 -- with which number a job exited, where it did
@@ -19,11 +20,6 @@ job_members job exit executed peak =
 
 abbrev pub job_object : ℕ → Report → List ℕ
 job_object job r = job_members job r.exit r.executed r.peak ++ (number_list r.output ++ codes "]}\n")
-
--- the jobs from this number on, in order
-abbrev pub jobs_from : ℕ → List Report → List ℕ
-jobs_from job [] = []
-jobs_from job (r ∷ reports) = job_object job r ++ jobs_from (job + 1) reports
 
 -- what a cache was asked for, and what came back to it
 abbrev pub cache_members : List ℕ → (allocs frees nulls missing : ℕ) → List ℕ
@@ -51,4 +47,4 @@ shelf_objects (cells ∷ records ∷ blocks ∷ []) = shelf_object 0 cells ++ (s
 shelf_objects _ = []
 
 abbrev pub outcome_objects : Outcome → List ℕ
-outcome_objects o = jobs_from 0 o.reports ++ (cache_objects o.totals ++ shelf_objects o.shelves)
+outcome_objects o = each_from job_object 0 o.reports ++ (cache_objects o.totals ++ shelf_objects o.shelves)

@@ -7,13 +7,14 @@ use Rattle.ebpf_command.specs.declared.format.Format.TheVariants.{Text, Json}
 use Rattle.ebpf_command.specs.Response.{Response}
 use Rattle.ebpf_script.specs.declared.run_answer.JobsAnswer.{JobsAnswer}
 use Rattle.ebpf_script.specs.declared.run_answer.RunAnswer.{RunAnswer}
-use Rattle.ebpf_script.specs.OutcomeLines.{cache_lines, reports_from, shelf_lines}
-use Rattle.ebpf_script.specs.OutcomeObjects.{cache_objects, jobs_from, shelf_objects}
+use Rattle.ebpf_script.specs.OutcomeLines.{cache_lines, report_lines, shelf_lines}
+use Rattle.ebpf_script.specs.OutcomeObjects.{cache_objects, job_object, shelf_objects}
+use Rattle.ebpf_script.specs.ReportForms.{each_from}
 
 -- what each job did
 abbrev pub jobs_in : Format → List Report → List ℕ
-jobs_in Text reports = reports_from 0 reports
-jobs_in Json reports = jobs_from 0 reports
+jobs_in Text reports = each_from report_lines 0 reports
+jobs_in Json reports = each_from job_object 0 reports
 
 -- what follows in the text of an outcome: what the caches and the shelves did
 abbrev pub totals_in : Format → Outcome → List ℕ

@@ -7,7 +7,7 @@
 //! [`run::run`].
 //!
 //! To be read in this order: `reader`, `verdict_text`, `verdicts`, `check`, `script_fault`, `explained_check`, `event_codes`, `world_text`,
-//! `text_line`, `world_json`, `replay`, `exit_line`, `outcome_text`, `outcome_json`, `stats`, `outcome_stats`, `meter`, `covered_text`,
+//! `text_line`, `world_json`, `replay`, `exit_line`, `report_form`, `outcome_text`, `outcome_json`, `stats`, `outcome_stats`, `meter`, `covered_text`,
 //! `run_answer`, `run`, `stats_text`, `stats_json`, `watch`.
 #![tactic(auto)]
 
@@ -22,6 +22,7 @@ mod outcome_stats;
 pub mod outcome_text;
 pub mod reader;
 pub mod replay;
+mod report_form;
 pub mod run;
 mod run_answer;
 mod script_fault;

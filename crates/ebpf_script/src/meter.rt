@@ -1,6 +1,9 @@
 //! Who learns how far `run` is, and what came of its jobs.
 
-use crate::stats::Stats;
+ghost use Rattle.std.specs.Prelude.{◌≡◌, All, length, sum_by};
+ghost use Rattle.ebpf_pool.specs.Outcomes.{IsEvenTotal};
+
+use ebpf_pool::{Outcome, Reports};
 
 /// A part of what `run` does. Each follows the one before.
 #[derive(Clone, Copy)]
@@ -20,8 +23,11 @@ pub trait Meter {
     /// A stage is over. Where there are no jobs to be done, or a read, an allocation or a write fails, some stages do not come.
     fn ended(&mut self, stage: Stage);
 
-    /// The jobs came to this.
-    fn came(&mut self, stats: Stats);
+    /// The jobs came to this. The reports are handed back, since they are written after that.
+    fn came(&mut self, outcome: Outcome) -> Reports
+        requires even { All IsEvenTotal outcome.totals }
+        requires done { sum_by (λ n. n) outcome.jobs_done.items ≡ length outcome.reports }
+        ensures { result ≡ outcome.reports };
 }
 
 /// A meter that does nothing.
@@ -31,5 +37,8 @@ pub struct NoMeter;
 impl Meter for NoMeter {
     fn ended(&mut self, _stage: Stage) {}
 
-    fn came(&mut self, _stats: Stats) {}
+    fn came(&mut self, outcome: Outcome) -> Reports {
+        let Outcome { reports, .. } = outcome;
+        reports
+    }
 }

@@ -4,35 +4,46 @@ ghost use Rattle.std.specs.Prelude.{◌≡◌, ◌+◌, ◌≤◌, ◌++◌, len
 ghost use Rattle.std.specs.List.{flat_map};
 ghost use Rattle.ebpf_command.specs.Json.{later_number, number_list};
 ghost use Rattle.ebpf_command.specs.Writing.{Puts};
-ghost use Rattle.ebpf_script.specs.OutcomeObjects.{exit_member, job_members, job_object, jobs_from, cache_members, cache_object, cache_objects, shelf_object, shelf_objects};
+ghost use Rattle.ebpf_script.specs.OutcomeObjects.{exit_member, job_members, job_object, cache_members, cache_object, cache_objects, shelf_object, shelf_objects};
 
+use crate::report_form::ReportForm;
 use crate::text_line::TextLine;
 use ebpf_command::done::EngineFault;
 use ebpf_command::piece::Piece;
-use ebpf_pool::{JobReport, Reports, ShelfTotals};
+use ebpf_pool::{JobReport, ShelfTotals};
 use object_cache::Totals;
 use std::alloc::AllocError;
 use std::io::Write;
 
-/// Writes what each job did, in order.
-///
-/// # Errors
-/// `Output` where a write failed or took nothing.
-pub(crate) fn put_jobs<W: Write>(
-    writer: &mut W,
-    piece: &mut Piece,
-    reports: &Reports,
-) -> Result<(), EngineFault>
-    ensures { Puts (W.contents writer.old) (W.contents writer.new) piece.old piece.new (jobs_from 0 reports.now) result }
-{
-    let mut line = TextLine::end();
-    let mut left = reports.iter();
-    for job in 0..reports.len() {
-        if let Some(report) = left.next() {
-            put_job(writer, piece, &mut line, job, report)?;
+/// Reports as objects.
+#[derive(Drop)]
+pub(crate) struct ReportObjects {
+    line: TextLine,
+}
+
+impl ReportObjects {
+    /// The form, before the first report.
+    pub(crate) fn new() -> ReportObjects {
+        ReportObjects {
+            line: TextLine::end(),
         }
     }
-    Ok(())
+}
+
+impl ReportForm for ReportObjects {
+    ghost use Rattle.ebpf_script.specs.OutcomeObjects.{job_object};
+
+    ghost text = { job_object };
+
+    fn put<W: Write>(
+        &mut self,
+        writer: &mut W,
+        piece: &mut Piece,
+        job: usize,
+        report: &JobReport,
+    ) -> Result<(), EngineFault> {
+        put_job(writer, piece, &mut self.line, job, report)
+    }
 }
 
 // Writes what a job did.

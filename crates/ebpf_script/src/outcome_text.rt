@@ -3,37 +3,50 @@
 ghost use Rattle.std.specs.Prelude.{◌≡◌, ◌++◌, string_bytes, OnOk};
 ghost use Rattle.std.specs.List.{flat_map};
 ghost use Rattle.ebpf_command.specs.Writing.{Puts};
-ghost use Rattle.ebpf_script.specs.OutcomeLines.{job_emit_line, report_lines, reports_from, cache_words, cache_line, cache_lines, shelf_line, shelf_lines};
+ghost use Rattle.ebpf_script.specs.OutcomeLines.{job_emit_line, report_lines, cache_words, cache_line, cache_lines, shelf_line, shelf_lines};
 
 use crate::exit_line::ExitLine;
+use crate::report_form::ReportForm;
 use crate::text_line::TextLine;
 use ebpf_command::done::EngineFault;
 use ebpf_command::piece::Piece;
-use ebpf_pool::{JobReport, Reports, ShelfTotals};
+use ebpf_pool::{JobReport, ShelfTotals};
 use object_cache::Totals;
 use std::alloc::AllocError;
 use std::io::Write;
 
-/// Writes what each job did, in order.
-///
-/// # Errors
-/// `Output` where a write failed or took nothing.
-pub(crate) fn put_reports<W: Write>(
-    writer: &mut W,
-    piece: &mut Piece,
-    reports: &Reports,
-) -> Result<(), EngineFault>
-    ensures { Puts (W.contents writer.old) (W.contents writer.new) piece.old piece.new (reports_from 0 reports.now) result }
-{
-    let mut line = TextLine::end();
-    let mut exits = ExitLine::new();
-    let mut left = reports.iter();
-    for job in 0..reports.len() {
-        if let Some(report) = left.next() {
-            put_report(writer, piece, &mut line, &mut exits, job, report)?;
+/// Reports as lines: the numbers that a job added to its output, and how it ended.
+#[derive(Drop)]
+pub(crate) struct ReportLines {
+    line: TextLine,
+    exits: ExitLine,
+}
+
+impl ReportLines {
+    /// The form, before the first report.
+    pub(crate) fn new() -> ReportLines {
+        ReportLines {
+            line: TextLine::end(),
+            exits: ExitLine::new(),
         }
     }
-    Ok(())
+}
+
+impl ReportForm for ReportLines {
+    ghost use Rattle.ebpf_script.specs.OutcomeLines.{report_lines};
+
+    ghost text = { report_lines };
+
+    #[inline(always)]
+    fn put<W: Write>(
+        &mut self,
+        writer: &mut W,
+        piece: &mut Piece,
+        job: usize,
+        report: &JobReport,
+    ) -> Result<(), EngineFault> {
+        put_report(writer, piece, &mut self.line, &mut self.exits, job, report)
+    }
 }
 
 // Writes what a job did: what it added to its output, and how it ended.

@@ -14,7 +14,6 @@ ghost use Rattle.ebpf_script.specs.ScriptText.{RespondsScript};
 use crate::covered_text::write_covered_in;
 use crate::meter::{Meter, Stage};
 use crate::outcome_json::write_total_objects;
-use crate::outcome_stats::stats_of;
 use crate::outcome_text::write_totals;
 use crate::reader::numbers::SLOTS;
 use crate::reader::read_script;
@@ -148,13 +147,11 @@ fn answer_script<R: Threads + Wait + Sync, M: Meter>(
         &script.jobs,
         &outcome.reports,
     )?;
-    let (reports, stats) = stats_of(outcome);
-    meter.came(stats);
     Ok(RunAnswer {
         beginning,
         jobs: Some(JobsAnswer {
             format,
-            reports,
+            reports: meter.came(outcome),
             totals,
         }),
     })

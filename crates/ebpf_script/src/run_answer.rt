@@ -6,8 +6,9 @@ ghost use Rattle.ebpf_command.specs.declared.done.EngineFault.TheVariants.{Outpu
 ghost use Rattle.ebpf_command.specs.Writing.{AppendsBeginning, Puts};
 ghost use Rattle.ebpf_script.specs.RunAnswers.{jobs_in, jobs_text, run_text};
 
-use crate::outcome_json::put_jobs;
-use crate::outcome_text::put_reports;
+use crate::outcome_json::ReportObjects;
+use crate::outcome_text::ReportLines;
+use crate::report_form::put_each;
 use ebpf_command::answer::Answer;
 use ebpf_command::done::{Done, EngineFault};
 use ebpf_command::format::Format;
@@ -86,8 +87,8 @@ impl JobsAnswer {
         ensures { Puts (W.contents writer.old) (W.contents writer.new) piece.old piece.new (jobs_in self.now.format self.now.reports) result }
     {
         match self.format {
-            Format::Text => put_reports(writer, piece, &self.reports),
-            Format::Json => put_jobs(writer, piece, &self.reports),
+            Format::Text => put_each(writer, piece, &mut ReportLines::new(), &self.reports),
+            Format::Json => put_each(writer, piece, &mut ReportObjects::new(), &self.reports),
         }
     }
 }

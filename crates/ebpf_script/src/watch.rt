@@ -1,14 +1,16 @@
 //! A meter that takes the time of each stage, and makes a table of it and of what it learns.
 
-ghost use Rattle.std.specs.Prelude.{◌≡◌, ◌++◌, None, Some, string_bytes, OnOk};
+ghost use Rattle.std.specs.Prelude.{◌≡◌, ◌++◌, None, string_bytes, OnOk};
 ghost use Rattle.ebpf_script.specs.Tables.{table_if, table_in};
 ghost use Rattle.ebpf_script.specs.Timing.{micros_between, with_time};
 
 use crate::meter::{Meter, Stage};
+use crate::outcome_stats::stats_of;
 use crate::stats::Stats;
 use crate::stats_json::write_table_objects;
 use crate::stats_text::write_table;
 use ebpf_command::format::Format;
+use ebpf_pool::{Outcome, Reports};
 use std::alloc::AllocError;
 use std::rt::Clock;
 use std::time::Instant;
@@ -65,7 +67,9 @@ impl<'a, C: Clock> Watch<'a, C> {
 }
 
 impl<'a, C: Clock> Meter for Watch<'a, C> {
-    ghost use Rattle.std.specs.Prelude.{◌≡◌, Some};
+    ghost use Rattle.std.specs.Prelude.{◌≡◌, All, length, sum_by, IsSomeAnd};
+    ghost use Rattle.ebpf_pool.specs.Outcomes.{IsEvenTotal};
+    ghost use Rattle.ebpf_script.specs.Stats.{AreStatsOf};
     ghost use Rattle.ebpf_script.specs.Timing.{micros_between, with_time};
 
     // The time is that of this stage, from the last reading of the clock to the one that is kept. The other stages keep theirs.
@@ -84,10 +88,16 @@ impl<'a, C: Clock> Meter for Watch<'a, C> {
         self.since = now;
     }
 
-    fn came(&mut self, stats: Stats)
-        ensures { self.new.stats ≡ Some stats }
+    fn came(&mut self, outcome: Outcome) -> Reports
+        requires even { All IsEvenTotal outcome.totals }
+        requires done { sum_by (λ n. n) outcome.jobs_done.items ≡ length outcome.reports }
+        ensures reports { result ≡ outcome.reports }
+        ensures stats { IsSomeAnd self.new.stats (AreStatsOf outcome) }
+        ensures times { self.new.times ≡ self.old.times }
     {
+        let (reports, stats) = stats_of(outcome);
         self.stats = Some(stats);
+        reports
     }
 }
 

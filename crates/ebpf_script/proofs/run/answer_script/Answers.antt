@@ -61,4 +61,4 @@ returns g c =
     ∙ (λ n. string_bytes c.write_totals_in.new.text ++ covered_lines c.args.covered format programs (c.deref.ensures.value n) jobs o.reports)
     ∙ ap (λ (xs : List ℕ). xs ++ covered) totals in
     told c.args.covered format (parsed_script c.args.script) kept c.in_ok-verdicts.ensures o _ c.if-verdicts.false c.in_ok-outcome.ensures
-    (run_text_is format o (string_bytes kept.text) covered _ _ c.stats_of-reports.ensures.reports after)
+    (run_text_is format o (string_bytes kept.text) covered _ _ c.came.ensures after)
