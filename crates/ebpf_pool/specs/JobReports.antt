@@ -13,12 +13,12 @@ exit_of false exit = None
 
 abbrev pub numbers_in : Kept → Numbers
 numbers_in (Answered few numbers exit) = numbers
-numbers_in (All numbers rest) = numbers
+numbers_in (All few numbers rest) = numbers
 
 -- the rest that is kept: lists that are not are empty
 abbrev pub rest_in : Kept → Rest
 rest_in (Answered few numbers exit) = record { exit = exit; output = []; answers = few; taken = [] }
-rest_in (All numbers rest) = rest.value
+rest_in (All few numbers rest) = rest.value
 
 abbrev pub report_of : Numbers → Rest → Report
 report_of numbers rest = record {

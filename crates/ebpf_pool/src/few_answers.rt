@@ -14,12 +14,13 @@ pub const FEW_ANSWERS: usize = 8;
 #[derive(Drop)]
 pub(crate) struct FewAnswers {
     count: u8,
-    // two bits for each, those of the first one lowest; as bytes, since a number of two bytes would lie at an even address
-    codes: [u8; 2],
+    // Two bits for each, those of the first one lowest. A number of two bytes would lie at an even address, and leave a byte empty.
+    low: u8,
+    high: u8,
 }
 
 impl Model for FewAnswers {
-    ghost use Rattle.std.specs.Prelude.{List, ◌≤◌};
+    ghost use Rattle.std.specs.Prelude.{List, [], ◌∷◌, ◌≤◌};
     ghost use Rattle.std.specs.Int.{from_le_bytes, w16};
     ghost use Rattle.ebpf_machine.specs.declared.report.Reply.{Reply};
     ghost use Rattle.ebpf_pool.specs.FewAnswers.{replies_from};
@@ -27,7 +28,7 @@ impl Model for FewAnswers {
 
     ghost Value = { List Reply };
 
-    ghost view = { λ f. replies_from f.count (from_le_bytes w16 f.codes) };
+    ghost view = { λ f. replies_from f.count (from_le_bytes w16 (f.low ∷ f.high ∷ [])) };
 
     ghost invariant = { λ f. f.count ≤ FEW_ANSWERS };
 }
@@ -43,9 +44,11 @@ impl FewAnswers {
         'packing: for done in 0..count {
             codes = codes * 4 + code_of(answers[count - 1 - done]);
         }
+        let [low, high] = codes.to_le_bytes();
         FewAnswers {
             count: count as u8,
-            codes: codes.to_le_bytes(),
+            low,
+            high,
         }
     }
 
@@ -54,7 +57,7 @@ impl FewAnswers {
         ensures { result.now ≡ self.now }
     {
         let count = usize::from(self.count);
-        let mut codes = u16::from_le_bytes(self.codes);
+        let mut codes = u16::from_le_bytes([self.low, self.high]);
         'unpacking: for done in 0..count {
             room[done] = reply_of(codes % 4);
             codes = codes / 4;

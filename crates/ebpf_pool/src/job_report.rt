@@ -50,12 +50,14 @@ pub(crate) struct Numbers {
     exited: bool,
 }
 
-/// The small numbers of a report, and how the rest is kept.
+/// The small numbers of a report, and how the rest is kept. They lie at one place in both variants, so that a report is made in
+/// registers.
 #[derive(Drop)]
 pub(crate) enum Kept {
     /// Nothing was added to the output, and nothing was taken off a shelf: a few answers and the exit are left.
     Answered(FewAnswers, Numbers, u64),
-    All(Numbers, Box<Rest>),
+    /// The rest is in a box, and there are no answers here.
+    All(FewAnswers, Numbers, Box<Rest>),
 }
 
 impl Kept {
@@ -64,7 +66,7 @@ impl Kept {
         ensures { result.now ≡ numbers_in self.now }
     {
         match self {
-            Kept::Answered(_, numbers, _) | Kept::All(numbers, _) => numbers,
+            Kept::Answered(_, numbers, _) | Kept::All(_, numbers, _) => numbers,
         }
     }
 
@@ -74,7 +76,7 @@ impl Kept {
     {
         match self {
             Kept::Answered(_, _, exit) => *exit,
-            Kept::All(_, rest) => rest.exit,
+            Kept::All(_, _, rest) => rest.exit,
         }
     }
 }
@@ -112,10 +114,7 @@ impl JobReport {
     }
 
     /// The report of a run that has ended, and the memory of that run. It takes the spare box where its lists need one.
-    pub(crate) fn of<H>(
-        ended: Ended<H>,
-        spare: &mut Option<Box<Rest>>,
-    ) -> (JobReport, Workspace<H>)
+    pub(crate) fn of<H>(ended: Ended<H>, spare: &mut Option<Box<Rest>>) -> (JobReport, Workspace<H>)
         requires spare { is_some spare.old ≡ true }
         requires executed { ended.executed < 65536 }
         requires peak { ended.peak < 256 }
@@ -160,7 +159,7 @@ impl JobReport {
         ensures { result.now ≡ self.now.output }
     {
         match &self.kept {
-            Kept::All(_, rest) => &rest.output.numbers,
+            Kept::All(_, _, rest) => &rest.output.numbers,
             Kept::Answered(_, _, _) => &[],
         }
     }
@@ -171,7 +170,7 @@ impl JobReport {
     {
         match &self.kept {
             Kept::Answered(few, _, _) => few.replies(room),
-            Kept::All(_, rest) => &rest.answers.replies,
+            Kept::All(_, _, rest) => &rest.answers.replies,
         }
     }
 
@@ -180,7 +179,7 @@ impl JobReport {
         ensures { result.now ≡ self.now.taken }
     {
         match &self.kept {
-            Kept::All(_, rest) => &rest.taken.bytes,
+            Kept::All(_, _, rest) => &rest.taken.bytes,
             Kept::Answered(_, _, _) => &[],
         }
     }
@@ -216,5 +215,5 @@ fn rest_kept<H>(
         answers: report.answers,
         taken: report.taken,
     };
-    (Kept::All(numbers, boxed), workspace)
+    (Kept::All(FewAnswers::of(&[]), numbers, boxed), workspace)
 }
