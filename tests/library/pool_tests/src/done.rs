@@ -5,13 +5,14 @@ use crate::facts::holds;
 use crate::jobs::{Setting, jobs_of};
 use crate::store::{Given, Sums};
 use crate::table::{are_free, claim_first, table_of};
+use ebpf_machine::report::Reply;
+use ebpf_pool::{FEW_ANSWERS, Gate, Host, JobReport, Jobs, Outcome, PoolFault, run_jobs};
 use ebpf_verify::verified::Verified;
 use object_cache::Totals;
 use std::alloc::{AllocError, Global};
 use std::process::Abort;
 use std::sync::Wait;
 use std::thread::Threads;
-use ebpf_pool::{FEW_ANSWERS, Gate, Host, JobReport, Jobs, Outcome, PoolFault, run_jobs};
 
 // Does the jobs of a setting, and tells what came of them: the fault or the outcome.
 pub(crate) fn done<G: Gate + Sync, R: Threads + Wait + Abort + Sync>(
