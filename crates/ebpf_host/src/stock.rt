@@ -43,7 +43,7 @@ impl<K: Kind> Model for Stock<K> {
 
     ghost Value = { StockView };
 
-    ghost view = { λ s. record { pages = s.slabs; shelf = option_map (λ o. shelved_at o.slot o.bytes.items) s.shelf } };
+    ghost view = { λ s. record { pages = s.slabs; shelf = option_map (λ o. shelved_at o.slot o.bytes.value.items) s.shelf } };
 
     ghost invariant = { λ s. IfSome s.shelf (λ o. IsOut s.slabs o.slot) };
 }
@@ -99,7 +99,7 @@ impl<K: Kind> Stock<K> {
     /// Takes an object with its kind's image, after a page more where none is home. None where the arena has no page, or
     /// memory for its objects ran out; then nothing changed here.
     pub(crate) fn take(&mut self, arena: &mut Arena) -> Option<Obj<K, Held>>
-        ensures image { IfSome result (λ o. o.bytes.items ≡ replicate K.SIZE K.FILL) }
+        ensures image { IfSome result (λ o. o.bytes.value.items ≡ replicate K.SIZE K.FILL) }
         ensures taken { IfSome result (λ o. Takes self.old self.new o.slot) }
         ensures none { IfNone result (self.new ≡ self.old) }
         ensures pages { arena.new.pages ≡ arena.old.pages }
@@ -128,7 +128,7 @@ impl<K: Kind> Stock<K> {
     /// Exchanges what is given, if anything, for what is on the shelf.
     pub(crate) fn swap(&mut self, given: Option<Obj<K, Held>>) -> Option<Obj<K, Held>>
         requires { IfSome given (λ o. IsHeld self.old o.slot) }
-        ensures { Exchanges self.old self.new (option_map (λ o. shelved_at o.slot o.bytes.items) given) (option_map (λ o. shelved_at o.slot o.bytes.items) result) }
+        ensures { Exchanges self.old self.new (option_map (λ o. shelved_at o.slot o.bytes.value.items) given) (option_map (λ o. shelved_at o.slot o.bytes.value.items) result) }
     {
         self.counts.puts = self.counts.puts.wrapping_add(u64::from(given.is_some()));
         self.counts.gets = self

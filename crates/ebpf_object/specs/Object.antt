@@ -17,9 +17,9 @@ slot_of (Record o) = o.slot
 slot_of (Block o) = o.slot
 
 abbrev pub bytes_of : Object → List ℕ
-bytes_of (Cell o) = o.bytes.items
-bytes_of (Record o) = o.bytes.items
-bytes_of (Block o) = o.bytes.items
+bytes_of (Cell o) = o.bytes.value.items
+bytes_of (Record o) = o.bytes.value.items
+bytes_of (Block o) = o.bytes.value.items
 
 -- each object has its kind's size, and is of a kind that there is
 pub has_size : (o : Object) → (length (bytes_of o) ≡ length (image_at known_kinds (kind_of o))) × (kind_of o < length known_kinds)

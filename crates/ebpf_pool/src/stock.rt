@@ -38,7 +38,7 @@ impl<'a, K: Kind, L: Names> Stock<'a, K, L> {
 
     /// Takes an object. None where the cache has none.
     pub(crate) fn take<R: Wait>(&mut self, rt: &R, arena: &ArenaLock) -> Option<Obj<K, Held>>
-        ensures image { IfSome result (λ o. o.bytes.items ≡ replicate K.SIZE K.FILL) }
+        ensures image { IfSome result (λ o. o.bytes.value.items ≡ replicate K.SIZE K.FILL) }
         ensures taken { IfSome result (λ _. Moved 1 0 0 0 0 self.old.pair self.new.pair) }
         ensures refused { IfNone result (Moved 0 0 1 0 0 self.old.pair self.new.pair) }
     {

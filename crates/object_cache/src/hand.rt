@@ -66,8 +66,8 @@ impl<K: Kind, A: Ledger, B: Ledger> Hand<K, A, B> {
         cache: &Cache<K, A, B>,
         arena: &ArenaLock,
     ) -> Result<Obj<K, Held>, TakeFault>
-        ensures size { IfOk result (λ object. length object.bytes.items ≡ K.SIZE) }
-        ensures image { IfOk result (λ object. object.bytes.items ≡ replicate K.SIZE K.FILL) }
+        ensures size { IfOk result (λ object. length object.bytes.value.items ≡ K.SIZE) }
+        ensures image { IfOk result (λ object. object.bytes.value.items ≡ replicate K.SIZE K.FILL) }
         ensures allocs { MatchResult result (λ _. self.new.allocs ≡ self.old.allocs + 1) (λ _. self.new.allocs ≡ self.old.allocs) }
         ensures nulls { MatchResult result (λ _. self.new.nulls ≡ self.old.nulls) (λ _. self.new.nulls ≡ self.old.nulls + 1) }
         ensures frees { self.new.frees ≡ self.old.frees }

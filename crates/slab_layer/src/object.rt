@@ -66,11 +66,12 @@ fn write_image<K: Kind>(bytes: &mut [u8])
 pub struct Obj<K: Kind, S: State> {
     // A whole word, so that an object is moved word by word.
     slot: u64,
-    bytes: Vec<u8>,
+    // In a box, so that these words are two: an object is moved often between its slab and its client.
+    bytes: Box<Vec<u8>>,
     of: PhantomData<(K, S)>,
     pub ghost placed: { slot < SLOTS },
-    pub ghost sized: { length bytes.items ≡ K.SIZE },
-    pub ghost image: { (if S.imaged then bytes.items else replicate K.SIZE K.FILL) ≡ replicate K.SIZE K.FILL },
+    pub ghost sized: { length bytes.value.items ≡ K.SIZE },
+    pub ghost image: { (if S.imaged then bytes.value.items else replicate K.SIZE K.FILL) ≡ replicate K.SIZE K.FILL },
 }
 
 impl<K: Kind, S: State> Obj<K, S> {
@@ -84,9 +85,9 @@ impl<K: Kind, S: State> Obj<K, S> {
 
 impl<K: Kind> Obj<K, Home> {
     /// An object of this slot, which owns these bytes from now on.
-    pub(crate) fn new(slot: u32, bytes: Vec<u8>) -> Obj<K, Home>
+    pub(crate) fn new(slot: u32, bytes: Box<Vec<u8>>) -> Obj<K, Home>
         requires placed { slot < SLOTS }
-        requires sized { length bytes.items ≡ K.SIZE }
+        requires sized { length bytes.value.items ≡ K.SIZE }
         ensures { result.slot ≡ slot }
     {
         Obj {
@@ -108,7 +109,7 @@ impl<K: Kind> Obj<K, Home> {
     /// Writes the image, as a constructor does (Bonwick 1994, section 2.1).
     pub fn construct(self) -> Obj<K, Ready>
         ensures slot { result.slot ≡ self.slot }
-        ensures image { result.bytes.items ≡ replicate K.SIZE K.FILL }
+        ensures image { result.bytes.value.items ≡ replicate K.SIZE K.FILL }
     {
         let Obj {
             slot,
@@ -128,8 +129,8 @@ impl<K: Kind> Obj<K, Ready> {
     /// Gives the object to a client, who finds the image.
     pub fn hold(self) -> Obj<K, Held>
         ensures slot { result.slot ≡ self.slot }
-        ensures bytes { result.bytes.items ≡ self.bytes.items }
-        ensures image { result.bytes.items ≡ replicate K.SIZE K.FILL }
+        ensures bytes { result.bytes.value.items ≡ self.bytes.value.items }
+        ensures image { result.bytes.value.items ≡ replicate K.SIZE K.FILL }
     {
         let Obj { slot, bytes, of: _ } = self;
         Obj {
@@ -142,7 +143,7 @@ impl<K: Kind> Obj<K, Ready> {
     /// Sends the object home, to a slab.
     pub fn retire(self) -> Obj<K, Home>
         ensures slot { result.slot ≡ self.slot }
-        ensures bytes { result.bytes.items ≡ self.bytes.items }
+        ensures bytes { result.bytes.value.items ≡ self.bytes.value.items }
     {
         let Obj { of: _, slot, bytes } = self;
         Obj {
@@ -156,7 +157,7 @@ impl<K: Kind> Obj<K, Ready> {
 impl<K: Kind> Obj<K, Held> {
     /// The bytes, as many as the kind says.
     pub fn bytes(&self) -> &[u8]
-        ensures value { result.now ≡ self.now.bytes.items }
+        ensures value { result.now ≡ self.now.bytes.value.items }
         ensures size { length result.now ≡ K.SIZE }
     {
         self.bytes.as_slice()
@@ -166,16 +167,22 @@ impl<K: Kind> Obj<K, Held> {
     pub fn write(&mut self, place: usize, with: &[u8])
         requires { place + length with.now ≤ K.SIZE }
         ensures slot { self.new.slot ≡ self.old.slot }
-        ensures bytes { self.new.bytes.items ≡ patched self.old.bytes.items place with.now }
+        ensures bytes { self.new.bytes.value.items ≡ patched self.old.bytes.value.items place with.now }
     {
+        let bytes = self.bytes.as_mut_slice();
+        // Most writes are of a word: one move, where the number of bytes is known when this is compiled.
+        if with.len() == 8 {
+            bytes[place..place + 8].copy_from_slice(&with[..8]);
+            return;
+        }
         let end = place + with.len();
-        self.bytes.as_mut_slice()[place..end].copy_from_slice(with);
+        bytes[place..end].copy_from_slice(with);
     }
 
     /// Writes the image again, when the client is done with the object.
     pub fn restore(self) -> Obj<K, Ready>
         ensures slot { result.slot ≡ self.slot }
-        ensures image { result.bytes.items ≡ replicate K.SIZE K.FILL }
+        ensures image { result.bytes.value.items ≡ replicate K.SIZE K.FILL }
     {
         let Obj {
             slot,

@@ -24,10 +24,10 @@ const APART: usize = 48;
 
 /// Memory for the objects of a page and for the tables of their slab.
 pub struct Room<K: Kind> {
-    pub bytes: Vec<Vec<u8>>,
+    pub bytes: Vec<Box<Vec<u8>>>,
     pub places: Vec<Place>,
     pub home: Vec<Obj<K, Home>>,
-    ghost each: { All (λ b. length b.items ≡ K.SIZE) bytes.items },
+    ghost each: { All (λ b. length b.value.items ≡ K.SIZE) bytes.items },
     ghost all: { vec_len bytes ≡ PAGE_BYTES / K.SIZE },
     ghost no_places: { vec_len places ≡ 0 },
     ghost few_places: { PAGE_BYTES / K.SIZE ≤ vec_capacity places },
@@ -43,7 +43,7 @@ impl<K: Kind> Room<K> {
         for _index in 0..count {
             let mut own = Vec::with_capacity(alloc, K::SIZE + APART)?;
             own.resize(K::SIZE, 0)?;
-            bytes.push_reserved(own);
+            bytes.push_reserved(Box::new(alloc, own)?);
         }
         let places = Vec::with_capacity(alloc, count)?;
         let home = Vec::with_capacity(alloc, count)?;

@@ -26,8 +26,8 @@ returns-clause-taken g c =
     let same = ap out_count c.in_default.ensures.unchanged in
     let one = taken.ensures.counted in
     let counts : out_count c.take-2.new.self ≡ out_count c.self.inside.slabs + 1 = omega (arith, one, more, same) in
-    let shelf = option_map (λ o. shelved_at o.slot o.bytes.items) c.self.inside.shelf in
+    let shelf = option_map (λ o. shelved_at o.slot o.bytes.value.items) c.self.inside.shelf in
     let now : StockView = record { pages = c.take-2.new.self; shelf = shelf } in
     subst (λ (v : StockView). Takes v now taken.object.slot) c.self.view_is
     (takes_as (record { pages = c.self.inside.slabs; shelf = shelf }) now taken.object.slot
-    (told c.self.inside.shelf (λ o. shelved_at o.slot o.bytes.items) (IsOut c.self.inside.slabs) c.self.invariant) refl out counts)
+    (told c.self.inside.shelf (λ o. shelved_at o.slot o.bytes.value.items) (IsOut c.self.inside.slabs) c.self.invariant) refl out counts)

@@ -23,7 +23,7 @@ loop-index-preserved g c =
     let wide = ap length l.invariant.places ∙ length-replicate l.index Home in
     let place : c.first-page.result * 256 + l.index ≡ c.first-page.result * 256 + length l.places.items = omega arith in
     record {
-      each = (All-pop (λ b. length b.items ≡ g.K.Kind.SIZE) _ _ _ c.pop.ensures.items l.invariant.each).0;
+      each = (All-pop (λ b. length b.value.items ≡ g.K.Kind.SIZE) _ _ _ c.pop.ensures.items l.invariant.each).0;
       left = omega (arith, c.in-Some.ensures.cases, l.invariant.left);
       places = c.push_reserved-in-loop-index.ensures.items ∙ (ap (λ r. r ++ Home ∷ []) l.invariant.places ∙ replicate_more l.index Home);
       few_places = omega (arith, c.push_reserved-in-loop-index.ensures.capacity, l.invariant.few_places);
@@ -32,7 +32,7 @@ loop-index-preserved g c =
     }
 
 pub new-requires-clause-sized : goal.new-requires-clause-sized
-new-requires-clause-sized g c = (All-pop (λ b. length b.items ≡ g.K.Kind.SIZE) _ _ (Some c.in-Some.own) c.in-Some.ensures.items c.loop-index.invariant.each).1
+new-requires-clause-sized g c = (All-pop (λ b. length b.value.items ≡ g.K.Kind.SIZE) _ _ (Some c.in-Some.own) c.in-Some.ensures.items c.loop-index.invariant.each).1
 
 -- an object's slot, from its page and its index
 page_low : (page first len : ℕ) → page ≡ first → 0 < len → first + len ≤ 256 → page < 256

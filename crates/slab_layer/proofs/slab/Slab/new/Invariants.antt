@@ -7,7 +7,7 @@ use Rattle.slab_layer.proofs.slab.Slab.new.Given as goal
 
 abbrev pub invariant-loop-index : goal.invariant-loop-index
 invariant-loop-index g l = record {
-  each : All (λ b. length b.items ≡ g.K.Kind.SIZE) l.bytes.items;
+  each : All (λ b. length b.value.items ≡ g.K.Kind.SIZE) l.bytes.items;
   left : vec_len l.bytes + l.index ≡ 4096 / g.K.Kind.SIZE;
   places : l.places.items ≡ replicate l.index Home;
   few_places : 4096 / g.K.Kind.SIZE ≤ vec_capacity l.places;
