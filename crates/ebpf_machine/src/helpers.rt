@@ -14,7 +14,7 @@ ghost use Rattle.ebpf_machine.specs.World.{kinds_of};
 ghost use Rattle.ebpf_machine.specs.Parts.{state_of, largest, HasCapacity, HasRoomAt, HasRoomFrom};
 ghost use Rattle.ebpf_machine.specs.Advance.{IsReady, IsAdvanced};
 
-use crate::holding::{Holding, place_of};
+use crate::holding::{Holding, place_of, take_at};
 use crate::objects::Objects;
 use crate::parts::Parts;
 use crate::report::Reply;
@@ -24,6 +24,9 @@ use ebpf_operation::helper::Helper;
 use ebpf_verify::verified::Verified;
 
 /// Does a call of a helper, but of `emit`.
+///
+/// Out of line: what it keeps in registers is not saved at the start of a run that makes no call.
+#[inline(never)]
 pub(crate) fn call<O: Objects>(
     verified: &Verified,
     parts: &mut Parts<O::Held>,
@@ -119,7 +122,7 @@ fn give_back<O: Objects>(verified: &Verified, parts: &mut Parts<O::Held>, object
         call: _,
         kind,
         object,
-    } = parts.held.remove(place);
+    } = take_at(&mut parts.held, place);
     objects.give(kind, object);
     answer(verified, parts, Value::Number(0));
 }
@@ -168,7 +171,7 @@ fn part_with<H>(verified: &Verified, parts: &mut Parts<H>) -> Option<H>
         call: _,
         kind: _,
         object,
-    } = parts.held.remove(place);
+    } = take_at(&mut parts.held, place);
     Some(object)
 }
 

@@ -1,6 +1,7 @@
 //! The objects that a run holds.
 
-ghost use Rattle.std.specs.Prelude.{◌≡◌, ◌≢◌, ◌<◌, ℕ, length, map, Contains, slice_index_or};
+ghost use Rattle.std.specs.Prelude.{◌≡◌, ◌≢◌, ◌<◌, ℕ, length, map, Contains, slice_index_or, vec_len, vec_capacity};
+ghost use Rattle.std.specs.List.{remove};
 ghost use Rattle.ebpf_machine.specs.declared.holding.Holding.{Holding};
 
 /// An object, with the call that was granted it and its kind.
@@ -25,4 +26,29 @@ pub(crate) fn place_of<H>(held: &[Holding<H>], call: u16) -> usize
         }
     }
     unreachable!()
+}
+
+/// Takes the object at a place from those that are held. It is mostly the last one, and then no other is moved.
+#[inline(always)]
+pub(crate) fn take_at<H>(held: &mut Vec<Holding<H>>, place: usize) -> Holding<H>
+    requires { place < vec_len held.old }
+    ensures value { result ≡ slice_index_or held.old.items place result }
+    ensures items { held.new.items ≡ remove held.old.items place }
+    ensures capacity { vec_capacity held.new ≡ vec_capacity held.old }
+{
+    if place + 1 == held.len() {
+        return held.take_last();
+    }
+    take_from_within(held, place)
+}
+
+// The same where others are after it. Out of line: it is seldom called, and takes more registers.
+#[inline(never)]
+fn take_from_within<H>(held: &mut Vec<Holding<H>>, place: usize) -> Holding<H>
+    requires { place < vec_len held.old }
+    ensures value { result ≡ slice_index_or held.old.items place result }
+    ensures items { held.new.items ≡ remove held.old.items place }
+    ensures capacity { vec_capacity held.new ≡ vec_capacity held.old }
+{
+    held.remove(place)
 }

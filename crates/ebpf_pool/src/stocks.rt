@@ -86,6 +86,7 @@ impl<'a, L: Names> Stocks<'a, L> {
     }
 
     /// Gives an object back to the cache of its kind.
+    #[inline(always)]
     pub(crate) fn give<R: Wait>(&mut self, rt: &R, object: Object)
         ensures { HasMoved (kind_of object) 0 1 0 0 0 (hands_of self.old) (hands_of self.new) }
     {

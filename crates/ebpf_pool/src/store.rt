@@ -115,6 +115,7 @@ impl<'a, L: Names, R: Wait> Objects for Store<'a, L, R> {
         }
     }
 
+    #[inline(always)]
     fn give(&mut self, _kind: u8, object: Owned) {
         let bare = object.release(&mut self.client);
         self.stocks.give(self.client.rt, bare);

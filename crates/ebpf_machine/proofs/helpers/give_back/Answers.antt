@@ -27,9 +27,9 @@ returns-clause-advanced g c =
     let items = c.deref.ensures.value in
     let inside : c.place_of-place.result < length c.args.parts.now.held.items =
     subst (λ (hs : List (Holding _)). c.place_of-place.result < length hs) items c.place_of-place.ensures.inside in
-    let named : (get_or c.args.parts.now.held.items c.place_of-place.result c.remove-kind.result).call ≡ c.object.result = subst (λ (hs : List (Holding _)). (get_or hs c.place_of-place.result c.remove-kind.result).call ≡ c.object.result) items (c.place_of-place.ensures.value c.remove-kind.result) in
-    free_here _ (state_of c.args.verified.now c.args.parts.now) (state_of c.args.verified.now c.answer.new.parts) c.place_of-place.result c.object.result c.remove-kind.result c.args.objects.now c.give.new.self c.requires.ready c.requires.at (ap object_in (sym c.get.ensures.value) ∙ c.object.ensures) inside c.remove-kind.ensures.value named
-    (c.answer.ensures.state ∙ ap (λ (hs : List (Holding _)). record (state_of c.args.verified.now c.args.parts.now) { held = hs; pc = c.args.parts.now.pc + 1; registers = registers_answered c.args.parts.now.registers (Number 0); executed = c.args.parts.now.executed + 1 }) c.remove-kind.ensures.items) (record { back = c.give.ensures.back; others = c.give.ensures.others; goes = c.give.ensures.goes; outs = c.give.ensures.outs; shelves = c.give.ensures.shelves })
+    let named : (get_or c.args.parts.now.held.items c.place_of-place.result c.take_at-kind.result).call ≡ c.object.result = subst (λ (hs : List (Holding _)). (get_or hs c.place_of-place.result c.take_at-kind.result).call ≡ c.object.result) items (c.place_of-place.ensures.value c.take_at-kind.result) in
+    free_here _ (state_of c.args.verified.now c.args.parts.now) (state_of c.args.verified.now c.answer.new.parts) c.place_of-place.result c.object.result c.take_at-kind.result c.args.objects.now c.give.new.self c.requires.ready c.requires.at (ap object_in (sym c.get.ensures.value) ∙ c.object.ensures) inside c.take_at-kind.ensures.value named
+    (c.answer.ensures.state ∙ ap (λ (hs : List (Holding _)). record (state_of c.args.verified.now c.args.parts.now) { held = hs; pc = c.args.parts.now.pc + 1; registers = registers_answered c.args.parts.now.registers (Number 0); executed = c.args.parts.now.executed + 1 }) c.take_at-kind.ensures.items) (record { back = c.give.ensures.back; others = c.give.ensures.others; goes = c.give.ensures.goes; outs = c.give.ensures.outs; shelves = c.give.ensures.shelves })
 
 pub answer-requires-clause-room : goal.answer-requires-clause-room
 answer-requires-clause-room g c =
