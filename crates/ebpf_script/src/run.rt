@@ -60,28 +60,30 @@ pub fn run<R: Threads + Wait + Sync, I: Read, W: Write, M: Meter>(
 {
     let input = read_input(alloc, reader)?;
     meter.ended(Stage::Reading);
-    let answer = answer_text(rt, alloc, format, covered, &input, workers, reaps, meter)?;
+    let answer = answer_text(rt, alloc, format, covered, input, workers, reaps, meter)?;
     let done = answer.write(alloc, writer)?;
     meter.ended(Stage::Writing);
     Ok(done)
 }
 
-// The response to a text.
+// The response to a text, whose memory is given back before the jobs are done: their reports take it.
 fn answer_text<R: Threads + Wait + Sync, M: Meter>(
     rt: &R,
     alloc: Global,
     format: Format,
     covered: bool,
-    text: &[u8],
+    text: Vec<u8>,
     workers: u32,
     reaps: u32,
     meter: &mut M,
 ) -> Result<RunAnswer, AllocError>
     requires workers { (1 ≤ workers) × (workers ≤ 64) }
     requires reaps { reaps ≤ 1000 }
-    ensures { IfOk result (λ answer. RespondsRun covered format text.now (run_response answer)) }
+    ensures { IfOk result (λ answer. RespondsRun covered format text.items (run_response answer)) }
 {
-    match read_script(alloc, Dialect::Jobs, text) {
+    let script = read_script(alloc, Dialect::Jobs, &text);
+    drop(text);
+    match script {
         Ok(script) => answer_script(rt, alloc, format, covered, script, workers, reaps, meter),
         Err(ScriptStop::Fault(fault)) => {
             let beginning = answer_fault_in(alloc, format, fault.code, fault.line)?;

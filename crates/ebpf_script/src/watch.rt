@@ -94,6 +94,7 @@ impl<'a, C: Clock> Meter for Watch<'a, C> {
         ensures reports { result ≡ outcome.reports }
         ensures stats { IsSomeAnd self.new.stats (AreStatsOf outcome) }
         ensures times { self.new.times ≡ self.old.times }
+        ensures since { self.new.since ≡ self.old.since }
     {
         let (reports, stats) = stats_of(outcome);
         self.stats = Some(stats);
