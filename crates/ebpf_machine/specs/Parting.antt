@@ -1,9 +1,16 @@
--- How an object leaves a run for a shelf.
-use Rattle.std.specs.Prelude.{◌≡◌, ◌<◌, ℕ, length, Option, Some, None, slice_index_or}
+-- How an object leaves a run.
+use Rattle.std.proofs.Common.{Vec, Global}
+use Rattle.std.specs.Prelude.{◌≡◌, ◌<◌, ℕ, length, Option, Some, None, slice_index_or, vec_capacity}
 use Rattle.std.specs.List.{remove}
 use Rattle.ebpf_machine.specs.declared.holding.Holding.{Holding}
 use Rattle.ebpf_machine.specs.Flows.{object_in}
 use Rattle.ebpf_machine.specs.RunState.{RunState}
+
+-- what was at a place is taken from those that are held, and the others stay in their order
+pub record IsTaken {H : Type 0} (place : ℕ) (before after : Vec (Holding H) Global) (taken : Holding H) : Type 0 where
+  pub value : taken ≡ slice_index_or before.items place taken
+  pub items : after.items ≡ remove before.items place
+  pub capacity : vec_capacity after ≡ vec_capacity before
 
 -- an object left the run, and nothing else did
 pub record IsHandedOut {H : Type 0} (h : Holding H) (r t : RunState H) : Type 0 where

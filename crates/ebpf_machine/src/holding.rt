@@ -1,7 +1,7 @@
 //! The objects that a run holds.
 
-ghost use Rattle.std.specs.Prelude.{◌≡◌, ◌≢◌, ◌<◌, ℕ, length, map, Contains, slice_index_or, vec_len, vec_capacity};
-ghost use Rattle.std.specs.List.{remove};
+ghost use Rattle.std.specs.Prelude.{◌≡◌, ◌≢◌, ◌<◌, ℕ, length, map, Contains, slice_index_or, vec_len};
+ghost use Rattle.ebpf_machine.specs.Parting.{IsTaken};
 ghost use Rattle.ebpf_machine.specs.declared.holding.Holding.{Holding};
 
 /// An object, with the call that was granted it and its kind.
@@ -32,9 +32,7 @@ pub(crate) fn place_of<H>(held: &[Holding<H>], call: u16) -> usize
 #[inline(always)]
 pub(crate) fn take_at<H>(held: &mut Vec<Holding<H>>, place: usize) -> Holding<H>
     requires { place < vec_len held.old }
-    ensures value { result ≡ slice_index_or held.old.items place result }
-    ensures items { held.new.items ≡ remove held.old.items place }
-    ensures capacity { vec_capacity held.new ≡ vec_capacity held.old }
+    ensures { IsTaken place held.old held.new result }
 {
     if place + 1 == held.len() {
         return held.take_last();
@@ -46,9 +44,7 @@ pub(crate) fn take_at<H>(held: &mut Vec<Holding<H>>, place: usize) -> Holding<H>
 #[inline(never)]
 fn take_from_within<H>(held: &mut Vec<Holding<H>>, place: usize) -> Holding<H>
     requires { place < vec_len held.old }
-    ensures value { result ≡ slice_index_or held.old.items place result }
-    ensures items { held.new.items ≡ remove held.old.items place }
-    ensures capacity { vec_capacity held.new ≡ vec_capacity held.old }
+    ensures { IsTaken place held.old held.new result }
 {
     held.remove(place)
 }

@@ -2,7 +2,8 @@
 use Rattle.std.specs.Prelude.{◌≡◌, ℕ, ◌+◌, ◌==◌, not, List, [], ◌∷◌, ◌++◌, length, count_by, Option, Some, None, IfSome, option_map}
 use Rattle.object_cache.specs.ShelfView.{one_if}
 use Rattle.owners_table.specs.Owning.{Holds, SeatView, without}
-use Rattle.ebpf_object.specs.Object.{kind_of, slot_of}
+use Rattle.ebpf_object.specs.Object.{kind_of}
+use Rattle.ebpf_pool.specs.OwnersSlots.{owners_slot_of}
 use Rattle.ebpf_object.specs.declared.object.Object.{Object}
 
 -- how many claims found an owner, where each is noted with the word that it found
@@ -35,8 +36,8 @@ pub record HasPassed (given got : Option ℕ) (word : ℕ) (held held' : List (�
 
 -- the same of objects, by their slots
 abbrev pub HasSwapped : (given got : Option Object) (word : ℕ) (held held' : List (ℕ × ℕ)) → Type 0
-HasSwapped given got word held held' = HasPassed (option_map slot_of given) (option_map slot_of got) word held held'
+HasSwapped given got word held held' = HasPassed (option_map owners_slot_of given) (option_map owners_slot_of got) word held held'
 
 -- what is given is held, and of the shelf's kind
 abbrev pub IsSwappable : Option Object → (shelf : ℕ) (held : List (ℕ × ℕ)) → Type 0
-IsSwappable given shelf held = IfSome given (λ g. Holds (slot_of g) held × (kind_of g ≡ shelf))
+IsSwappable given shelf held = IfSome given (λ g. Holds (owners_slot_of g) held × (kind_of g ≡ shelf))

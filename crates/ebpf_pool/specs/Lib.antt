@@ -11,6 +11,7 @@ pub mod JobReports
 pub mod Moves
 pub mod Numbering
 pub mod Outcomes
+pub mod OwnersSlots
 pub mod Places
 pub mod Serving
 pub mod Stocks

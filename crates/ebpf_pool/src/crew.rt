@@ -84,7 +84,7 @@ fn reap<'a, L: Names, G: Gate + 'a, R: Wait + 'a>(shared: &Shared<'a, L, G, R>, 
     }
 }
 
-/// All workers, and beside them the reaper.
+/// All workers, and beside them the reaper, where it has passes to make: it takes a thread.
 pub(crate) fn work_and_reap<
     'a,
     L: Names + Send + Sync,
@@ -94,6 +94,10 @@ pub(crate) fn work_and_reap<
     requires { CanBeginWith shared.now workers.old }
     ensures { AreDoneWith shared.now workers.old workers.new }
 {
+    if reaps == 0 {
+        work_all(shared, workers);
+        return;
+    }
     join_mut(
         shared.rt,
         &mut || reap(shared, reaps),

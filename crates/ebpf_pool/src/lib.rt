@@ -18,7 +18,7 @@
 //! ebpf_machine, so all that is proved of a run over any store holds over this one; each bundle is drawn once, and each
 //! job is in one bundle.
 //!
-//! To be read in this order: `ledgers`, `hands`, `supply`, `count`, `client`, `owned`, `stock`, `stocks`, `store`, `few_answers`,
+//! To be read in this order: `ledgers`, `hands`, `supply`, `count`, `client`, `owners_slots`, `owned`, `stock`, `stocks`, `store`, `few_answers`,
 //! `job_report`, `jobs`, `job_list`, `gate`, `worker`, `crew`, `reports`, `outcome`, `admission`, `setup`, `place`, `pool`.
 #![tactic(auto)]
 
@@ -35,6 +35,7 @@ mod jobs;
 mod ledgers;
 mod outcome;
 mod owned;
+mod owners_slots;
 mod place;
 mod pool;
 mod reports;
@@ -52,5 +53,6 @@ pub use job_list::{JobRef, Jobs};
 pub use job_report::JobReport;
 pub use jobs::Job;
 pub use outcome::{Host, MAX_JOBS, MAX_WORKERS, Outcome, ShelfTotals};
+pub use owners_slots::owners_slot;
 pub use pool::run_jobs;
 pub use reports::{Reports, ReportsLeft};

@@ -12,11 +12,13 @@ ghost use Rattle.owners_table.specs.Marking.{mark_word};
 ghost use Rattle.owners_table.specs.Owning.{Holds, without};
 ghost use Rattle.owners_table.specs.declared.mark.TheConstants.{SHELVES, WORDS_OF_A_RUN};
 ghost use Rattle.ebpf_pool.specs.Claims.{IsClaimed, shelved_by, lost};
-ghost use Rattle.ebpf_object.specs.Object.{bytes_of, kind_of, slot_of};
+ghost use Rattle.ebpf_object.specs.Object.{bytes_of, kind_of};
+ghost use Rattle.ebpf_pool.specs.OwnersSlots.{owners_slot_of};
 ghost use Rattle.slab_layer.specs.Images.{patched};
 
 use crate::client::Client;
 use crate::count::count;
+use crate::owners_slots::owners_slot;
 use ebpf_object::Object;
 use owners_table::mark::Mark;
 use std::marker::Model;
@@ -47,7 +49,7 @@ impl Owned {
     ) -> Result<Owned, Object>
         requires at { at < WORDS_OF_A_RUN }
         ensures object { IfOk result (λ o. o ≡ object) }
-        ensures claimed { OnOk result (IsClaimed (slot_of object) (mark_word client.old.job at) client.old.seat.held client.new.seat.held) }
+        ensures claimed { OnOk result (IsClaimed (owners_slot_of object) (mark_word client.old.job at) client.old.seat.held client.new.seat.held) }
         ensures no_clash { OnOk result (client.new.clashes ≡ client.old.clashes) }
         ensures back { IfErr result (λ o. o ≡ object) }
         ensures clash { OnErr result ((client.new.seat.held ≡ client.old.seat.held) × (client.new.clashes ≡ client.old.clashes + 1)) }
@@ -69,9 +71,9 @@ impl Owned {
 
     /// Releases the slot, and then hands out the object.
     pub(crate) fn release<R: Wait>(self, client: &mut Client<'_, R>) -> Object
-        requires held { Holds (slot_of self) client.old.seat.held }
+        requires held { Holds (owners_slot_of self) client.old.seat.held }
         ensures object { result ≡ self }
-        ensures seat { client.new.seat ≡ record client.old.seat { held = without (slot_of self) client.old.seat.held } }
+        ensures seat { client.new.seat ≡ record client.old.seat { held = without (owners_slot_of self) client.old.seat.held } }
         ensures rest { (client.new.clashes ≡ client.old.clashes) × (client.new.strays ≡ client.old.strays) × (client.new.job ≡ client.old.job) }
     {
         let Owned { object } = self;
@@ -81,11 +83,11 @@ impl Owned {
 
     /// Passes the slot to the shelf of this number, which is that of the object's kind, and then hands out the object.
     pub(crate) fn shelve<R: Wait>(self, client: &mut Client<'_, R>, shelf: u8) -> Object
-        requires held { Holds (slot_of self) client.old.seat.held }
+        requires held { Holds (owners_slot_of self) client.old.seat.held }
         requires shelf { shelf < SHELVES }
         requires kind { kind_of self ≡ shelf }
         ensures object { result ≡ self }
-        ensures seat { client.new.seat ≡ shelved_by client.old.seat (slot_of self) shelf }
+        ensures seat { client.new.seat ≡ shelved_by client.old.seat (owners_slot_of self) shelf }
         ensures rest { (client.new.clashes ≡ client.old.clashes) × (client.new.strays ≡ client.old.strays) × (client.new.job ≡ client.old.job) }
     {
         let Owned { object } = self;
@@ -110,8 +112,8 @@ impl Owned {
         requires kind { kind_of object ≡ shelf }
         requires at { at < WORDS_OF_A_RUN }
         ensures object { IfOk result (λ o. o ≡ object) }
-        ensures fetched { OnOk result (IsClaimed (slot_of object) (mark_word client.old.job at) client.old.seat.held client.new.seat.held) }
-        ensures apart { OnOk result (left ≢ Some (slot_of object)) }
+        ensures fetched { OnOk result (IsClaimed (owners_slot_of object) (mark_word client.old.job at) client.old.seat.held client.new.seat.held) }
+        ensures apart { OnOk result (left ≢ Some (owners_slot_of object)) }
         ensures no_stray { OnOk result (client.new.strays ≡ client.old.strays) }
         ensures back { IfErr result (λ o. o ≡ object) }
         ensures stray { OnErr result ((client.new.seat.held ≡ client.old.seat.held) × (client.new.strays ≡ client.old.strays + 1)) }
@@ -136,9 +138,9 @@ impl Owned {
         Ok(Owned { object })
     }
 
-    /// The number of its slot.
+    /// The table's slot for its own.
     pub(crate) fn slot(&self) -> u32
-        ensures { result ≡ slot_of self.now }
+        ensures { result ≡ owners_slot_of self.now }
     {
         slot(&self.object)
     }
@@ -154,21 +156,21 @@ impl Owned {
     pub(crate) fn write(&mut self, place: usize, with: &[u8])
         requires { place + length with.now ≤ length (bytes_of self.old) }
         ensures kind { kind_of self.new ≡ kind_of self.old }
-        ensures slot { slot_of self.new ≡ slot_of self.old }
+        ensures slot { owners_slot_of self.new ≡ owners_slot_of self.old }
         ensures bytes { bytes_of self.new ≡ patched (bytes_of self.old) place with.now }
     {
         self.object.write(place, with);
     }
 }
 
-// The number of an object's slot.
+// The table's slot for an object's.
 fn slot(object: &Object) -> u32
-    ensures is { result ≡ slot_of object.now }
+    ensures is { result ≡ owners_slot_of object.now }
     ensures below { result < 65536 }
 {
-    match object {
+    owners_slot(match object {
         Object::Cell(object) => object.slot(),
         Object::Record(object) => object.slot(),
         Object::Block(object) => object.slot(),
-    }
+    })
 }

@@ -53,9 +53,9 @@ struct Given<'a, G: Gate, R: Wait> {
 /// Does each job once, by a worker a seat, with the reaper beside them, and gives the seats back.
 ///
 /// Which worker does a job is open, and which calls of `new` are answered null where objects run out. Of many jobs a worker does up to
-/// 64 neighbours, one after another, before it looks for more. The gate learns how far each job and the reaper are. A worker that
-/// can't be started leaves its jobs to the others, or to the calling thread, and so does one that finds no memory to begin with; a
-/// reaper that can't be started makes its passes when the jobs are done.
+/// 512 neighbours, one after another, before it looks for more. In the table a slot of the arena has the word that `owners_slot` says. The
+/// gate learns how far each job and the reaper are. A worker that can't be started leaves its jobs to the others, or to the calling
+/// thread, and so does one that finds no memory to begin with; a reaper that can't be started makes its passes when the jobs are done.
 ///
 /// # Errors
 /// The faults of [`PoolFault`], in its order.

@@ -19,7 +19,7 @@ use std::alloc::{AllocError, Global};
 use std::sync::Wait;
 
 /// The most jobs of one ticket.
-pub(crate) const MAX_BUNDLE: u64 = 64;
+pub(crate) const MAX_BUNDLE: u64 = 512;
 
 /// How many tickets there are for each worker, at least, where one is of more than one job: so workers end together.
 pub(crate) const MIN_BUNDLES: u64 = 64;

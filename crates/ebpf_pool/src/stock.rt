@@ -49,6 +49,7 @@ impl<'a, K: Kind, L: Names> Stock<'a, K, L> {
     }
 
     /// Gives an object back.
+    #[inline(always)]
     pub(crate) fn give<R: Wait>(&mut self, rt: &R, object: Obj<K, Held>)
         ensures { Moved 0 1 0 0 0 self.old.pair self.new.pair }
     {

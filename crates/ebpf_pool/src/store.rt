@@ -11,7 +11,8 @@ ghost use Rattle.ebpf_pool.specs.Hands.{unused_hands};
 ghost use Rattle.ebpf_pool.specs.Counts.{all_allocs, all_come, all_gone, all_gets, outs_of};
 ghost use Rattle.ebpf_pool.specs.Going.{HasAnswered, GoesBy, answered_on, none_answered, tools_of};
 ghost use Rattle.ebpf_pool.specs.Stocks.{hands_of};
-ghost use Rattle.ebpf_object.specs.Object.{kind_of, slot_of};
+ghost use Rattle.ebpf_object.specs.Object.{kind_of};
+ghost use Rattle.ebpf_pool.specs.OwnersSlots.{owners_slot_of};
 
 use crate::client::Client;
 use crate::hands::Tools;
@@ -77,7 +78,8 @@ impl<'a, L: Names, R: Wait> Objects for Store<'a, L, R> {
     ghost use Rattle.ebpf_pool.specs.Counts.{outs_of};
     ghost use Rattle.ebpf_pool.specs.Going.{HasAnswered, GoesBy, answered_on, none_answered, tools_of};
     ghost use Rattle.ebpf_pool.specs.Stocks.{hands_of};
-    ghost use Rattle.ebpf_object.specs.Object.{kind_of, slot_of, bytes_of, has_size};
+    ghost use Rattle.ebpf_object.specs.Object.{kind_of, bytes_of, has_size};
+    ghost use Rattle.ebpf_pool.specs.OwnersSlots.{owners_slot_of};
 
     type Held = Owned;
 
@@ -86,8 +88,8 @@ impl<'a, L: Names, R: Wait> Objects for Store<'a, L, R> {
     ghost store = { record {
       kinds = known_kinds;
       kind_of = λ o. kind_of o;
-      slot_of = λ o. slot_of o;
-      is_out = λ s o. Holds (slot_of o) s.client.seat.held;
+      slot_of = λ o. owners_slot_of o;
+      is_out = λ s o. Holds (owners_slot_of o) s.client.seat.held;
       bytes_of = λ s o. bytes_of o;
       can_grant = λ s kind at slot. Unit {0};
       can_refuse = λ s kind. Unit {0};
@@ -162,7 +164,7 @@ impl<'a, L: Names, R: Wait> Objects for Store<'a, L, R> {
 
 // The slot of an object, if there is one.
 fn slot_in(owned: &Option<Owned>) -> Option<u32>
-    ensures { result ≡ option_map slot_of owned.now }
+    ensures { result ≡ option_map owners_slot_of owned.now }
 {
     match owned {
         Some(owned) => Some(owned.slot()),
@@ -175,7 +177,7 @@ fn shelved<R: Wait>(given: Option<Owned>, client: &mut Client<'_, R>, shelf: u8)
     requires given { IsSwappable given shelf client.old.seat.held }
     requires shelf { shelf < SHELVES }
     ensures same { result ≡ given }
-    ensures held { client.new.seat.held ≡ less (option_map slot_of given) client.old.seat.held }
+    ensures held { client.new.seat.held ≡ less (option_map owners_slot_of given) client.old.seat.held }
     ensures notes { (client.new.seat.notes ≡ client.old.seat.notes) × (client.new.seat.fetches ≡ client.old.seat.fetches) }
     ensures table { client.new.seat.table ≡ client.old.seat.table }
     ensures rest { (client.new.clashes ≡ client.old.clashes) × (client.new.strays ≡ client.old.strays) × (client.new.job ≡ client.old.job) }

@@ -14,6 +14,7 @@ ghost use Rattle.ebpf_pool.specs.Supplies.{IsOpened, AreOpened, HasMade, HaveMad
 use crate::hands::{FreeHands, FreePairs, HandPair};
 use crate::ledgers::{Gets, Ins, Names, Outs, Puts};
 use crate::outcome::ShelfTotals;
+use crate::owners_slots::owners_slot;
 use object_cache::{ArenaLock, Cache, Hand, Left, Shelf, Totals};
 use owners_table::mark::Mark;
 use owners_table::owners::{OwnerSeat, Owners};
@@ -212,12 +213,12 @@ impl<'a, R: Wait> Closing<'a, R> {
         let Some(object) = object else {
             return 0;
         };
-        self.free(K::NUMBER, object.slot(), seat);
+        self.free(K::NUMBER, owners_slot(object.slot()), seat);
         hand.give(self.rt, cache, object);
         1
     }
 
-    // Frees the slot, where the table has it as this shelf's.
+    // Frees the table's slot, where it is this shelf's.
     fn free(&self, shelf: u8, slot: u32, seat: &mut OwnerSeat)
         requires shelf { shelf < SHELVES }
         requires slot { slot < 65536 }

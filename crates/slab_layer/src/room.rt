@@ -18,8 +18,9 @@ use crate::object::{Home, Obj};
 use crate::place::Place;
 use std::alloc::{AllocError, Global};
 
-// How many bytes are unused after those of each object. So no two objects have bytes on one line of the processor's cache, of 64 bytes,
-// where blocks of memory begin at multiples of 16. Neighbours mostly go to different workers, who would write one line.
+// How many bytes are unused after those of each object, whose box is got before them. So these bytes are on no line of the processor's
+// cache, of 64 bytes, on which the next object has its box or its bytes, where blocks of memory begin at multiples of 16. Neighbours mostly
+// go to different workers: what one writes, the other would wait for.
 const APART: usize = 48;
 
 /// Memory for the objects of a page and for the tables of their slab.
@@ -41,9 +42,10 @@ impl<K: Kind> Room<K> {
         let count = objects_of_a_page::<K>();
         let mut bytes = Vec::with_capacity(alloc, count)?;
         for _index in 0..count {
-            let mut own = Vec::with_capacity(alloc, K::SIZE + APART)?;
+            let mut own = Box::new(alloc, Vec::new(alloc))?;
+            own.reserve_exact(K::SIZE + APART)?;
             own.resize(K::SIZE, 0)?;
-            bytes.push_reserved(Box::new(alloc, own)?);
+            bytes.push_reserved(own);
         }
         let places = Vec::with_capacity(alloc, count)?;
         let home = Vec::with_capacity(alloc, count)?;

@@ -11,7 +11,7 @@ use std::alloc::{AllocError, Global};
 use std::sync::atomic::{AtomicU64, Ordering};
 use std::sync::{Mutex, Wait};
 use std::thread::yield_now;
-use ebpf_pool::{Gate, Host, Point, run_jobs};
+use ebpf_pool::{Gate, Host, Point, owners_slot, run_jobs};
 
 // The slots of cells on the one page of the arena.
 const SLOTS: u32 = 256;
@@ -64,7 +64,7 @@ struct Witness<'a, R: Wait> {
 }
 
 impl<R: Wait> Witness<'_, R> {
-    // Whether one more mark was found in a slot.
+    // Whether one more mark was found in a slot of the table.
     fn has_found(&self, outsider: &mut Outsider<'_>, slot: u32) -> bool {
         let job = self.begun.load(Ordering::SeqCst);
         let Some(mark) = outsider.mark_of(slot) else {
@@ -89,7 +89,7 @@ impl<R: Wait> Witness<'_, R> {
         let mut outsider = self.outsider.lock(self.rt);
         let outsider = &mut *outsider;
         for turn in 0..TURNS {
-            let is_found = self.has_found(outsider, turn % SLOTS);
+            let is_found = self.has_found(outsider, owners_slot(turn % SLOTS));
             if is_found || self.answered.load(Ordering::SeqCst) == OTHERS {
                 return;
             }

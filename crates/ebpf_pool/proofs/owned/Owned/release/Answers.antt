@@ -1,5 +1,5 @@
 use Rattle.std.proofs.Common.{ap, ◌∙◌, arith}
-use Rattle.ebpf_object.specs.Object.{slot_of}
+use Rattle.ebpf_pool.specs.OwnersSlots.{owners_slot_of}
 use Rattle.ebpf_pool.specs.Claims.{lost}
 use Rattle.ebpf_pool.proofs.Holding.{once_released}
 use Rattle.ebpf_pool.proofs.owned.Owned.release.Goals as goal
@@ -10,7 +10,7 @@ invariant_of-client g c =
     let is = c.release.ensures in record {
       slots = client.slots;
       seated = ap (λ s. s.table) is ∙ client.seated;
-      once = once_released _ _ client.seat.held _ (c.slot.ensures.is ∙ ap slot_of c.self.view_is) (ap (λ s. s.held) is) c.requires.held client.once;
+      once = once_released _ _ client.seat.held _ (c.slot.ensures.is ∙ ap owners_slot_of c.self.view_is) (ap (λ s. s.held) is) c.requires.held client.once;
       few = client.few;
       clashed = let same = ap (λ s. lost s.notes) is in omega (arith, same, client.clashed);
     }

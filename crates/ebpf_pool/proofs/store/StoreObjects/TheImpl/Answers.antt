@@ -1,7 +1,8 @@
 -- An exchange keeps the laws of swap.
 use Rattle.std.proofs.Common.{◌≡◌, refl}
 use Rattle.owners_table.specs.Owning.{Holds}
-use Rattle.ebpf_object.specs.Object.{slot_of, kind_of}
+use Rattle.ebpf_object.specs.Object.{kind_of}
+use Rattle.ebpf_pool.specs.OwnersSlots.{owners_slot_of}
 use Rattle.ebpf_pool.proofs.Passing.{slots, whatever, even_none, swapped_goes, is_held, is_apart, is_gone, is_still_held, first_of}
 use Rattle.ebpf_pool.proofs.store.StoreObjects.TheImpl.Goals as goal
 
@@ -9,7 +10,7 @@ pub swap-tells : goal.swap-tells
 swap-tells g c =
     let e = c.ensures in
     let held = c.args.self.now.client.seat.held in
-    let given = first_of c.args.given (λ o. Holds (slot_of o) held) (λ o. kind_of o ≡ c.args.shelf) c.requires.given in record {
+    let given = first_of c.args.given (λ o. Holds (owners_slot_of o) held) (λ o. kind_of o ≡ c.args.shelf) c.requires.given in record {
       fetched = whatever c.result;
       missed = even_none c.result;
       out = is_held (slots c.args.given) c.result c.args.shelf _ held _ e.seat e.kind;

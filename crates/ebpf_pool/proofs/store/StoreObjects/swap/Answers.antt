@@ -2,7 +2,8 @@ use Rattle.std.proofs.Common.{◌≡◌, ℕ, length, sym, ap, ◌∙◌, arith}
 use Rattle.object_cache.specs.ShelfView.{one_if}
 use Rattle.owners_table.specs.Marking.{mark_word}
 use Rattle.owners_table.specs.Owning.{Holds}
-use Rattle.ebpf_object.specs.Object.{kind_of, slot_of}
+use Rattle.ebpf_object.specs.Object.{kind_of}
+use Rattle.ebpf_pool.specs.OwnersSlots.{owners_slot_of}
 use Rattle.ebpf_pool.specs.Claims.{less, lost}
 use Rattle.ebpf_pool.proofs.Exchanging.{passed_some}
 use Rattle.ebpf_pool.proofs.Passing.{first_of, length_less}
@@ -56,9 +57,9 @@ returns-in-Ok-clause-seat g c =
     let left = c.slot_in-left.ensures in
     let s = c.shelved-given.ensures in
     let f = c.in-Ok.ensures in
-    passed_some slot_of c.args.given c.slot_in-left.result held left (first_of c.args.given (λ o. Holds (slot_of o) held) (λ o. kind_of o ≡ c.args.shelf) c.requires.given)
-    (slot_of c.in-Ok.owned) (slot_of c.in-Some.object) (mark_word c.args.self.now.client.job c.args.at) (mark_word c.shelved-given.new.client.job c.args.at) c.shelved-given.new.client.seat.held c.fetch.new.client.seat.held
-    (s.held ∙ ap (λ l. less l held) (sym left)) (ap slot_of (sym c.in-Ok.ensures.object)) (ap (λ (j : ℕ). mark_word j c.args.at) s.rest.2) f.fetched.0 f.fetched.1 f.apart
+    passed_some owners_slot_of c.args.given c.slot_in-left.result held left (first_of c.args.given (λ o. Holds (owners_slot_of o) held) (λ o. kind_of o ≡ c.args.shelf) c.requires.given)
+    (owners_slot_of c.in-Ok.owned) (owners_slot_of c.in-Some.object) (mark_word c.args.self.now.client.job c.args.at) (mark_word c.shelved-given.new.client.job c.args.at) c.shelved-given.new.client.seat.held c.fetch.new.client.seat.held
+    (s.held ∙ ap (λ l. less l held) (sym left)) (ap owners_slot_of (sym c.in-Ok.ensures.object)) (ap (λ (j : ℕ). mark_word j c.args.at) s.rest.2) f.fetched.0 f.fetched.1 f.apart
 
 pub returns-in_default-clause-goes : goal.returns-in_default-clause-goes
 returns-in_default-clause-goes g c =
