@@ -15,7 +15,6 @@ use crate::covered_text::write_covered_in;
 use crate::meter::{Meter, Stage};
 use crate::outcome_json::write_total_objects;
 use crate::outcome_text::write_totals;
-use crate::reader::numbers::SLOTS;
 use crate::reader::read_script;
 use crate::reader::script::{Dialect, Script, ScriptStop};
 use crate::run_answer::{JobsAnswer, RunAnswer};
@@ -183,7 +182,7 @@ fn outcome_of<R: Threads + Wait + Sync>(
     requires fine { pool_fault host.now workers jobs.now ≡ None }
     ensures { IfOk result (MayCome host.now.programs.items jobs.now) }
 {
-    let (owners, seats) = Owners::new(alloc, SLOTS, workers)?;
+    let (owners, seats) = Owners::of_arena(alloc, workers)?;
     let (_, result) = run_jobs(rt, alloc, host, &owners, seats, jobs, reaps, &NoGate);
     match result {
         Ok(outcome) => Ok(outcome),

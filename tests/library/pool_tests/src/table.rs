@@ -15,7 +15,7 @@ pub(crate) fn table_of(
     alloc: Global,
     count: u32,
 ) -> Result<(Owners, Vec<OwnerSeat>, OwnerSeat), AllocError> {
-    let (owners, mut seats) = Owners::new(alloc, SLOTS, count.min(65) + 1)?;
+    let (owners, mut seats) = Owners::of_arena(alloc, count.min(65) + 1)?;
     let Some(other) = seats.pop() else {
         unreachable!()
     };

@@ -1,7 +1,7 @@
 use Rattle.std.proofs.Common.{◌≡◌, ◌+◌, ◌-◌, ◌≤◌, suc, [], replicate, vec_len, All}
 use Rattle.std.specs.Vec.{vec_capacity}
 use Rattle.owners_table.specs.Owning.{blank, fresh}
-use Rattle.owners_table.proofs.owners.Owners.new.Given as goal
+use Rattle.owners_table.proofs.owners.dealt.Given as goal
 
 abbrev pub invariant-loop-i : goal.invariant-loop-i
 invariant-loop-i l = record {
