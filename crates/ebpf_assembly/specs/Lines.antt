@@ -1,4 +1,5 @@
--- Which program a text without names is of: its lines are those that a listing writes, but for gaps, comments, blank lines and missing slots.
+-- Which program a text without names is of: its lines are those that a listing writes, but for gaps, comments, blank lines and missing
+-- slots.
 use Rattle.std.specs.Prelude.{◌≡◌, ◌⊎◌, ℕ, ◌+◌, Bool, true, false, ◌==◌, ◌||◌, if◌then◌else◌, List, [], ◌∷◌, ◌++◌, filter, Option, codes, decimal}
 use Rattle.std.specs.List.{slice_split}
 use Rattle.ebpf_insn.specs.declared.insn.Insn.{Insn}

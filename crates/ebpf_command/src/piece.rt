@@ -1,7 +1,7 @@
 //! A text that is written in pieces.
 //!
-//! *The idea.* A long text need not be there as a whole: its first lines can be written before its last ones are made. A piece is the part that is
-//! made and not yet written. All memory that it takes is had before the first byte is written.
+//! *The idea.* A long text need not be there as a whole: its first lines can be written before its last ones are made. A piece is the part
+//! that is made and not yet written. All memory that it takes is had before the first byte is written.
 
 ghost use Rattle.std.specs.Prelude.{◌≡◌, ◌+◌, ◌-◌, ◌<◌, ◌≤◌, ◌++◌, [], length, vec_len, vec_capacity, IfOk, IfErr, OnOk, OnErr};
 ghost use Rattle.std.specs.Io.KnownBytes.{Appends};

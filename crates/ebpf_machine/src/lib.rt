@@ -4,8 +4,8 @@
 //! `Verified`, so no instruction of it traps and none is tested at run time. What it computes is defined in specs/ by a
 //! machine that tests every access: the world of many runs, one event of it, and a run alone in a world of its own.
 //!
-//! To be read in this order: `value`, `kinds`, `context`, `objects`, `holding`, `number`, `stack`, `memory`, `registers`, `arithmetic`, `operate`,
-//! `report`, `answer`, `parts`, `workspace`, `ended`, `overwrite`, `helpers`, `going`, `burst`, `advance`, `run`, `whole`.
+//! To be read in this order: `value`, `kinds`, `context`, `objects`, `holding`, `number`, `stack`, `memory`, `registers`, `arithmetic`,
+//! `operate`, `report`, `answer`, `parts`, `workspace`, `ended`, `overwrite`, `helpers`, `going`, `burst`, `advance`, `run`, `whole`.
 #![tactic(auto)]
 
 mod advance;

@@ -6,8 +6,8 @@
 //! and is refused with the slot and the symbol. Nothing is allocated, and the time is
 //! linear in the size of the file: names have at most 255 bytes, and no table is read more than a few times.
 //!
-//! To be read in this order: `fault`, `field`, `header`, `section`, `text`, `symbol`, `relocation`, `call`, `functions`, `symbol_name`, `outside`,
-//! `object_fault`, `function`, `lines`, `shown`, `slot_lines`, `source`.
+//! To be read in this order: `fault`, `field`, `header`, `section`, `text`, `symbol`, `relocation`, `call`, `functions`, `symbol_name`,
+//! `outside`, `object_fault`, `function`, `lines`, `shown`, `slot_lines`, `source`.
 #![tactic(auto)]
 
 mod call;

@@ -1,4 +1,5 @@
--- The response of `explain` to an object file: that to the slots of the function that is asked for, with its lines of C where the file has them.
+-- The response of `explain` to an object file: that to the slots of the function that is asked for, with its lines of C where the file has
+-- them.
 use Rattle.std.specs.Prelude.{◌≡◌, ◌≤◌, ◌<◌, ◌⊎◌, ◌/◌, ℕ, Bool, true, false, List, length, Some}
 use Rattle.ebpf_object_file.specs.declared.fault.FileFault.{FileFault}
 use Rattle.ebpf_object_file.specs.declared.function.Function.{Function}

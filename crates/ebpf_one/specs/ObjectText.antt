@@ -1,5 +1,5 @@
--- The response of a command to an object file: its response to the slots of the function that is asked for, as raw bytes, or why the file has
--- no such program.
+-- The response of a command to an object file: its response to the slots of the function that is asked for, as raw bytes, or why the file
+-- has no such program.
 use Rattle.std.specs.Prelude.{◌≡◌, ◌≤◌, ◌<◌, ◌⊎◌, ℕ, ◌++◌, List, length, codes, Option, Some, Result}
 use Rattle.ebpf_object_file.specs.declared.function.Function.{Function}
 use Rattle.ebpf_object_file.specs.declared.object_fault.ObjectFault.{ObjectFault}

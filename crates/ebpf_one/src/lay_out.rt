@@ -26,8 +26,8 @@ use ebpf_layout::layout::lay_out as lay_out_program;
 use std::alloc::{AllocError, Global};
 use std::io::{Read, Write};
 
-/// Reads a program in a form and writes it in a format as hex with its instructions in an order in which every jump leads forward, without those
-/// that are not reached; or which edge closes a loop, or why the program can't be laid out else.
+/// Reads a program in a form and writes it in a format as hex with its instructions in an order in which every jump leads forward, without
+/// those that are not reached; or which edge closes a loop, or why the program can't be laid out else.
 ///
 /// # Errors
 /// `Input` where a read failed and `NoMemory` where an allocation failed: nothing was written then. `Output` where a write

@@ -71,9 +71,9 @@ lost_by seats = sum_by (λ s. lost s.notes) seats
 abbrev pub fetches_by : List SeatView → ℕ
 fetches_by seats = sum_by (λ s. length s.fetches) seats
 
--- What came of the jobs, over seats that were these before and are those after, a seat a worker. A clash is an object that was given and went back
--- since its slot had an owner: its call was answered null. A stray is one that came off a shelf and went back since its slot wasn't
--- the shelf's.
+-- What came of the jobs, over seats that were these before and are those after, a seat a worker. A clash is an object that was given and
+-- went back since its slot had an owner: its call was answered null. A stray is one that came off a shelf and went back since its slot
+-- wasn't the shelf's.
 pub record IsOutcome (programs : List Subject) (jobs : List Job) (before after : List SeatView) (o : Outcome) : Type 0 where
   pub reports : AreReportsFor programs jobs o.reports
   pub even : All IsEvenTotal o.totals

@@ -1,6 +1,7 @@
 //! The client of all caches that a worker is.
 
 ghost use Rattle.std.specs.Prelude.{◌≡◌, ◌≤◌, ◌^◌, ◌==◌, [], ℕ, count_by};
+ghost use Rattle.owners_table.specs.declared.owners.TheConstants.{ARENA_SLOTS};
 ghost use Rattle.ebpf_pool.specs.Claims.{lost};
 
 use object_cache::ArenaLock;
@@ -21,7 +22,7 @@ pub struct Client<'a, R: Wait> {
     pub(crate) clashes: u64,
     /// How many objects that came off a shelf went back since the table had their slots as another's.
     pub(crate) strays: u64,
-    ghost slots: { 65536 ≤ owners.now.slots },
+    ghost slots: { ARENA_SLOTS ≤ owners.now.slots },
     ghost seated: { seat.table ≡ owners.now.table },
     ghost once: { (slot : ℕ) → count_by (λ e. e.0 == slot) seat.held ≤ 1 },
     ghost few: { (clashes ≤ 2 ^ 56) × (strays ≤ 2 ^ 56) },
@@ -36,7 +37,7 @@ impl<'a, R: Wait> Client<'a, R> {
         owners: &'a Owners,
         seat: OwnerSeat,
     ) -> Client<'a, R>
-        requires slots { 65536 ≤ owners.now.slots }
+        requires slots { ARENA_SLOTS ≤ owners.now.slots }
         requires seated { seat.table ≡ owners.now.table }
         requires empty { seat.held ≡ [] }
         ensures seat { result.seat ≡ seat }

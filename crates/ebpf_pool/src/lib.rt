@@ -18,8 +18,8 @@
 //! ebpf_machine, so all that is proved of a run over any store holds over this one; each bundle is drawn once, and each
 //! job is in one bundle.
 //!
-//! To be read in this order: `ledgers`, `hands`, `supply`, `count`, `client`, `owners_slots`, `owned`, `stock`, `stocks`, `store`, `few_answers`,
-//! `job_report`, `jobs`, `job_list`, `gate`, `worker`, `crew`, `reports`, `outcome`, `admission`, `setup`, `place`, `pool`.
+//! To be read in this order: `ledgers`, `hands`, `supply`, `count`, `client`, `owners_slots`, `owned`, `stock`, `stocks`, `store`,
+//! `few_answers`, `job_report`, `jobs`, `job_list`, `gate`, `worker`, `crew`, `reports`, `outcome`, `admission`, `setup`, `place`, `pool`.
 #![tactic(auto)]
 
 mod admission;

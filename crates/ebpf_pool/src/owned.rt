@@ -11,8 +11,9 @@ ghost use Rattle.std.specs.Prelude.{◌≡◌, ◌≢◌, ◌+◌, ◌<◌, ◌�
 ghost use Rattle.owners_table.specs.Marking.{mark_word};
 ghost use Rattle.owners_table.specs.Owning.{Holds, without};
 ghost use Rattle.owners_table.specs.declared.mark.TheConstants.{SHELVES, WORDS_OF_A_RUN};
+ghost use Rattle.owners_table.specs.declared.owners.TheConstants.{ARENA_SLOTS};
 ghost use Rattle.ebpf_pool.specs.Claims.{IsClaimed, shelved_by, lost};
-ghost use Rattle.ebpf_object.specs.Object.{bytes_of, kind_of};
+ghost use Rattle.ebpf_object.specs.Object.{bytes_of, kind_of, slot_of};
 ghost use Rattle.ebpf_pool.specs.OwnersSlots.{owners_slot_of};
 ghost use Rattle.slab_layer.specs.Images.{patched};
 
@@ -156,7 +157,7 @@ impl Owned {
     pub(crate) fn write(&mut self, place: usize, with: &[u8])
         requires { place + length with.now ≤ length (bytes_of self.old) }
         ensures kind { kind_of self.new ≡ kind_of self.old }
-        ensures slot { owners_slot_of self.new ≡ owners_slot_of self.old }
+        ensures slot { slot_of self.new ≡ slot_of self.old }
         ensures bytes { bytes_of self.new ≡ patched (bytes_of self.old) place with.now }
     {
         self.object.write(place, with);
@@ -166,7 +167,7 @@ impl Owned {
 // The table's slot for an object's.
 fn slot(object: &Object) -> u32
     ensures is { result ≡ owners_slot_of object.now }
-    ensures below { result < 65536 }
+    ensures below { result < ARENA_SLOTS }
 {
     owners_slot(match object {
         Object::Cell(object) => object.slot(),

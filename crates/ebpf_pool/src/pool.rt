@@ -9,6 +9,7 @@
 
 ghost use Rattle.std.specs.Prelude.{◌≡◌, ◌≤◌, ◌<◌, [], None, All, length, vec_len, vec_capacity, IfOk, IfErr, OnOk};
 ghost use Rattle.ebpf_machine.specs.Kinds.{AreKnown};
+ghost use Rattle.owners_table.specs.declared.owners.TheConstants.{ARENA_SLOTS};
 ghost use Rattle.ebpf_pool.specs.Admission.{pool_fault};
 ghost use Rattle.ebpf_pool.specs.Bundles.{IsBundleSize};
 ghost use Rattle.ebpf_pool.specs.Numbering.{bundles_in};
@@ -47,7 +48,7 @@ struct Given<'a, G: Gate, R: Wait> {
     jobs: &'a Jobs,
     reaps: u32,
     gate: &'a G,
-    ghost slots: { 65536 ≤ owners.now.slots },
+    ghost slots: { ARENA_SLOTS ≤ owners.now.slots },
 }
 
 /// Does each job once, by a worker a seat, with the reaper beside them, and gives the seats back.
@@ -72,7 +73,7 @@ pub fn run_jobs<G: Gate + Sync, R: Threads + Wait + Sync>(
     // A program can be run only if it was verified against the kinds that the caches have.
     requires known { AreKnown host.now.programs.items }
     // There is a word for each slot of any arena.
-    requires slots { 65536 ≤ owners.now.slots }
+    requires slots { ARENA_SLOTS ≤ owners.now.slots }
     requires seats { All (IsIdle owners.now) seats.items }
     ensures done { IfOk result.1 (IsOutcome host.now.programs.items jobs.now seats.items result.0.items) }
     ensures due { OnOk result.1 (pool_fault host.now (vec_len seats) jobs.now ≡ None) }

@@ -6,6 +6,7 @@
 ghost use Rattle.std.specs.Prelude.{◌≡◌, ◌≤◌, ◌<◌, All, vec_len, IfOk, OnOk};
 ghost use Rattle.object_cache.specs.ShelfView.{new_hand, one_if};
 ghost use Rattle.owners_table.specs.declared.mark.TheConstants.{SHELVES};
+ghost use Rattle.owners_table.specs.declared.owners.TheConstants.{ARENA_SLOTS};
 ghost use Rattle.ebpf_pool.specs.Books.{AreWhole, AreAllWhole, AreFor, AreAllFor};
 ghost use Rattle.ebpf_pool.specs.Hands.{AreUnused, HasHand, HaveHands, IsNone};
 ghost use Rattle.ebpf_pool.specs.Outcomes.{IsIdle};
@@ -87,7 +88,7 @@ pub(crate) struct Closing<'a, R: Wait> {
     pub(crate) rt: &'a R,
     pub(crate) arena: &'a ArenaLock,
     pub(crate) owners: &'a Owners,
-    ghost slots: { 65536 ≤ owners.now.slots },
+    ghost slots: { ARENA_SLOTS ≤ owners.now.slots },
 }
 
 impl<K: Kind, L: Names> Supply<K, L> {
@@ -221,7 +222,7 @@ impl<'a, R: Wait> Closing<'a, R> {
     // Frees the table's slot, where it is this shelf's.
     fn free(&self, shelf: u8, slot: u32, seat: &mut OwnerSeat)
         requires shelf { shelf < SHELVES }
-        requires slot { slot < 65536 }
+        requires slot { slot < ARENA_SLOTS }
         requires idle { IsIdle self.now.owners.now seat.old }
         ensures { HasFetched 1 seat.old seat.new }
     {

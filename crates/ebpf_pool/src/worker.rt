@@ -14,6 +14,7 @@
 
 ghost use Rattle.std.specs.Prelude.{◌≡◌, ◌≢◌, ◌⊎◌, ◌≤◌, ◌<◌, ◌*◌, [], All, length, true, false, is_some, vec_len, vec_capacity, IfOk, OnOk, OnErr};
 ghost use Rattle.owners_table.specs.Drawing.{IsOf};
+ghost use Rattle.owners_table.specs.declared.owners.TheConstants.{ARENA_SLOTS};
 ghost use Rattle.ebpf_pool.specs.declared.worker.Ending.TheVariants.{Through, OutOfMemory};
 ghost use Rattle.ebpf_pool.specs.Bundles.{IsBundleSize};
 ghost use Rattle.ebpf_pool.specs.Going.{AreAnswered, HasAnsweredAll, IsAnswered, IsUnanswered, tools_of};
@@ -57,7 +58,7 @@ pub(crate) struct Shared<'a, L: Names, G: Gate, R: Wait> {
     pub(crate) size: u64,
     pub(crate) tickets: &'a Tickets,
     pub(crate) gate: &'a G,
-    ghost slots: { 65536 ≤ owners.now.slots },
+    ghost slots: { ARENA_SLOTS ≤ owners.now.slots },
     ghost sized: { IsBundleSize size },
     ghost limit: { tickets.now.limit ≡ bundles_in size (length jobs.now) },
 }

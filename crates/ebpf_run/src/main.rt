@@ -1,12 +1,12 @@
 //! Runs small eBPF programs from the command line.
 //!
-//! This crate reads the command line, opens the file that is named and has the standard streams. What a command writes is a function of what it reads and
-//! of its options, errors included, and it writes nothing else. That is the contract of [`ebpf_one::one::one`],
-//! [`ebpf_one::list::list`], [`ebpf_one::explain::explain`], [`ebpf_one::graph::graph`] and [`ebpf_one::lay_out::lay_out`], of the same over an object
-//! file ([`ebpf_one::object_commands`], [`ebpf_one::source_list`], [`ebpf_one::explain_object`]), of [`ebpf_assemble::assemble::assemble`],
-//! of [`ebpf_script::check::check`], [`ebpf_script::explained_check::explained_check`] and [`ebpf_script::replay::replay`]. What `run` writes is such a
-//! text for some outcome of the jobs, since threads decide which requests for objects are granted and what is found on a shelf: that
-//! is the contract of [`ebpf_script::run::run`]. These are all that it calls.
+//! This crate reads the command line, opens the file that is named and has the standard streams. What a command writes is a function of
+//! what it reads and of its options, errors included, and it writes nothing else. That is the contract of [`ebpf_one::one::one`],
+//! [`ebpf_one::list::list`], [`ebpf_one::explain::explain`], [`ebpf_one::graph::graph`] and [`ebpf_one::lay_out::lay_out`], of the same
+//! over an object file ([`ebpf_one::object_commands`], [`ebpf_one::source_list`], [`ebpf_one::explain_object`]), of
+//! [`ebpf_assemble::assemble::assemble`], of [`ebpf_script::check::check`], [`ebpf_script::explained_check::explained_check`] and
+//! [`ebpf_script::replay::replay`]. What `run` writes is such a text for some outcome of the jobs, since threads decide which requests for
+//! objects are granted and what is found on a shelf: that is the contract of [`ebpf_script::run::run`]. These are all that it calls.
 #![tactic(auto)]
 
 mod command;

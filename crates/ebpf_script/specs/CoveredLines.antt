@@ -1,5 +1,5 @@
--- What `run --covered` writes: for each program and each slot of an instruction how often all jobs executed it, and for a branch how often it
--- was taken.
+-- What `run --covered` writes: for each program and each slot of an instruction how often all jobs executed it, and for a branch how often
+-- it was taken.
 use Rattle.std.specs.Prelude.{ℕ, ◌+◌, ◌++◌, Bool, true, false, List, [], ◌∷◌, codes, decimal, Option, Some, None}
 use Rattle.ebpf_insn.specs.declared.insn.Insn.{Insn}
 use Rattle.ebpf_insn.specs.declared.insn.Insn.TheVariants as insn

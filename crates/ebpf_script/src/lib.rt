@@ -7,8 +7,8 @@
 //! [`run::run`].
 //!
 //! To be read in this order: `reader`, `verdict_text`, `verdicts`, `check`, `script_fault`, `explained_check`, `event_codes`, `world_text`,
-//! `text_line`, `world_json`, `replay`, `exit_line`, `report_form`, `outcome_text`, `outcome_json`, `stats`, `outcome_stats`, `meter`, `covered_text`,
-//! `run_answer`, `run`, `stats_text`, `stats_json`, `watch`.
+//! `text_line`, `world_json`, `replay`, `exit_line`, `report_form`, `outcome_text`, `outcome_json`, `stats`, `outcome_stats`, `meter`,
+//! `covered_text`, `run_answer`, `run`, `stats_text`, `stats_json`, `watch`.
 #![tactic(auto)]
 
 pub mod check;

@@ -31,9 +31,9 @@ use std::sync::Wait;
 use std::thread::Threads;
 use vmem_arena::MAX_PAGES;
 
-/// Reads a script of jobs, judges its programs, has the jobs done by this many workers, and writes what came of each, of the
-/// caches and of the shelves, and where that is asked for how often all jobs executed each instruction. The reaper makes this many passes beside them, and those of the script's lines. The meter learns how far
-/// it is, and what the caches and the workers did.
+/// Reads a script of jobs, judges its programs, has the jobs done by this many workers, and writes what came of each, of the caches and of
+/// the shelves, and where that is asked for how often all jobs executed each instruction. The reaper makes this many passes beside them,
+/// and those of the script's lines. The meter learns how far it is, and what the caches and the workers did.
 ///
 /// # Errors
 /// `Input` where a read failed and `NoMemory` where an allocation failed: nothing was written then. `Output` where a write

@@ -1,5 +1,5 @@
--- The response of `stream` to a script and a stream: the fault of the script, or the verdict on each program and then, where none is refused, what
--- each line is answered and what the caches and shelves did.
+-- The response of `stream` to a script and a stream: the fault of the script, or the verdict on each program and then, where none is
+-- refused, what each line is answered and what the caches and shelves did.
 use Rattle.std.specs.Prelude.{◌≡◌, ◌⊎◌, ℕ, ◌++◌, Bool, true, false, List, take}
 use Rattle.ebpf_command.specs.declared.done.Done.{Done}
 use Rattle.ebpf_command.specs.declared.done.Done.TheVariants.{Clean, Refused}

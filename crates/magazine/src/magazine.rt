@@ -14,8 +14,9 @@ use slab_layer::{Kind, Obj, Ready};
 use std::alloc::{AllocError, Global};
 use std::marker::Model;
 
-// How many rounds could be put after those of a magazine, and never are: 64 bytes. So no two magazines have rounds on one line of
-// the processor's cache, which two workers would write.
+// How many rounds could be put after those of a magazine, and never are: 32 bytes. An allocator keeps 16 more before the next block, and
+// blocks begin at multiples of 16. So no two magazines have rounds on one line of the processor's cache, of 64 bytes, which two workers
+// would write.
 const APART: usize = 2;
 
 /// At most `K::ROUNDS` ready objects. It must be ended by `end`, when it is empty.

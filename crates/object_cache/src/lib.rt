@@ -24,8 +24,8 @@
 //! *Shelves.* A [`Shelf`] has room for one object that a worker leaves for another. Each exchanges what is there by a
 //! [`ShelfHand`] of its own, under the shelf's lock, and its totals are exact for the same reason.
 //!
-//! *Lines of the processor's cache.* What two workers write is on cache lines of its own: parts, shelves, and below them the bytes of objects,
-//! the rounds of magazines and the stacks of a depot.
+//! *Lines of the processor's cache.* What two workers write is on cache lines of its own: parts, shelves, and below them the bytes of
+//! objects, the rounds of magazines and the stacks of a depot.
 //!
 //! Hands, caches and shelves must be spent by `close`, and can't be dropped.
 //!

@@ -47,6 +47,9 @@ impl<K: Kind> Room<K> {
             own.resize(K::SIZE, 0)?;
             bytes.push_reserved(own);
         }
+        // The first blocks may lie where others were given back, beside what workers write. So they become the objects that are handed
+        // out last.
+        bytes.reverse();
         let places = Vec::with_capacity(alloc, count)?;
         let home = Vec::with_capacity(alloc, count)?;
         Ok(Room {

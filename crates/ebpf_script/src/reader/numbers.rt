@@ -5,11 +5,8 @@ ghost use Rattle.ebpf_verify.specs.declared.decl.TheConstants.{MAX_CONTEXT, MAX_
 ghost use Rattle.ebpf_script.specs.Numbers.{number_to, context_of, held_of, run_of, kind_of, slot_of, pages_of};
 
 use ebpf_verify::decl::{MAX_CONTEXT, MAX_HELD};
-use slab_layer::SLOTS_OF_A_PAGE;
+use slab_layer::SLOTS;
 use vmem_arena::MAX_PAGES;
-
-/// How many slots there are in an arena of the most pages.
-pub(crate) const SLOTS: u32 = MAX_PAGES * SLOTS_OF_A_PAGE;
 
 /// The length of a context, 0 to [`MAX_CONTEXT`].
 pub(crate) fn context_of(word: &[u8]) -> Option<u32>
