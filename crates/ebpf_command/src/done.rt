@@ -15,17 +15,17 @@ pub enum Done {
     Refused,
 }
 
-/// Why a command didn't write its whole text.
+/// Why a command didn't write its whole text. The program writes these words after its name to standard error.
 #[derive(Clone, Copy, Debug, Error)]
 pub enum EngineFault {
     /// A read failed. Nothing was written.
-    #[error("the input can't be read")]
+    #[error("input")]
     Input,
     /// A write failed, or took nothing. What was written is a beginning of the text.
-    #[error("the output can't be written")]
+    #[error("output")]
     Output,
     /// An allocation failed. Nothing was written.
-    #[error("out of memory")]
+    #[error("no memory")]
     NoMemory,
 }
 

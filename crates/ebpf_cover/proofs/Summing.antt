@@ -3,7 +3,7 @@ use Rattle.std.proofs.Common.{◌≡◌, ◌≢◌, ℕ, zero, suc, ◌+◌, ◌
 use Rattle.std.specs.Prelude.{IfOk}
 use Rattle.std.proofs.lemmas.Bool.Decides.{nat_tests}
 use Rattle.ebpf_machine.specs.declared.report.Report.{Report}
-use Rattle.ebpf_pool.specs.declared.jobs.Job.{Job}
+use Rattle.worker_pool.specs.declared.jobs.Job.{Job}
 use Rattle.ebpf_verify.specs.Subject.{Subject}
 use Rattle.ebpf_cover.specs.declared.counts.Counts.{Counts}
 use Rattle.ebpf_cover.specs.declared.tally.Tally.{Tally}

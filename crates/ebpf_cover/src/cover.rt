@@ -20,10 +20,10 @@ use ebpf_machine::ended::Ended;
 use ebpf_machine::report::Reply;
 use ebpf_machine::run::Run;
 use ebpf_machine::workspace::Workspace;
-use ebpf_pool::{FEW_ANSWERS, JobReport, Jobs, Reports};
 use ebpf_shelves::object::Object;
 use ebpf_verify::verified::Verified;
 use std::alloc::{AllocError, Global};
+use worker_pool::{FEW_ANSWERS, JobReport, Jobs, PackedReports};
 
 /// Counts what the jobs of the program of this number executed, by their reports: each is run once more, alone.
 ///
@@ -33,7 +33,7 @@ pub fn cover(
     program: usize,
     verified: &Verified,
     jobs: &Jobs,
-    reports: &Reports,
+    reports: &PackedReports,
 ) -> Result<Counts, AllocError>
     requires known { kinds_of verified.now.rows ≡ known_kinds }
     requires all { length reports.now ≡ length jobs.now }

@@ -1,34 +1,38 @@
 //! Runs small eBPF programs from the command line.
 //!
 //! This crate reads the command line, opens the file that is named and has the standard streams. What a command writes is a function of
-//! what it reads and of its options, errors included, and it writes nothing else. That is the contract of [`ebpf_one::one::one`],
-//! [`ebpf_one::list::list`], [`ebpf_one::explain::explain`], [`ebpf_one::graph::graph`] and [`ebpf_one::lay_out::lay_out`], of the same
-//! over an object file ([`ebpf_one::object_commands`], [`ebpf_one::source_list`], [`ebpf_one::explain_object`]), of
-//! [`ebpf_assemble::assemble::assemble`], of [`ebpf_script::check::check`], [`ebpf_script::explained_check::explained_check`] and
-//! [`ebpf_script::replay::replay`]. What `run` writes is such a text for some outcome of the jobs, since threads decide which requests for
-//! objects are granted and what is found on a shelf: that is the contract of [`ebpf_script::run::run`]. These are all that it calls.
+//! what it reads and of its options, errors included, and it writes nothing else. That is the contract of [`one`] and [`list`], which
+//! read hex and write plain text; of [`ebpf_one::one::one`], [`ebpf_one::list::list`], [`ebpf_one::explain::explain`],
+//! [`ebpf_one::graph::graph`] and [`ebpf_one::lay_out::lay_out`]; of the same over an object file ([`ebpf_one::object_commands`],
+//! [`ebpf_one::source_list`], [`ebpf_one::explain_object`]); of [`ebpf_assemble::assemble::assemble`],
+//! [`ebpf_script::check_script::check_script`], [`ebpf_script::explained_check::explained_check`] and
+//! [`ebpf_script::replay_script::replay_script`]. What `run` writes is such a text for some outcome of the jobs, since threads decide which
+//! requests for objects are granted and what is found on a shelf: that is the contract of [`ebpf_script::run_script::run_script`]. `stream`
+//! answers each line of its input, and has its own contract: [`ebpf_stream::stream::stream`]. These are all that it calls.
 #![tactic(auto)]
 
 mod command;
 mod format;
+mod plain;
 mod programs;
 mod source;
 
 use crate::command::{CheckOptions, Request, RunOptions, Task, command, request_of};
+pub use crate::plain::{list, one};
 use crate::programs::{perform_explain, perform_graph, perform_lay_out, perform_list, perform_one};
 use clap::Error;
 use clap::error::ErrorKind;
 use ebpf_assemble::assemble::assemble;
 use ebpf_command::done::{Done, EngineFault};
-use ebpf_script::check::check;
+use ebpf_script::check_script::check_script;
 use ebpf_script::explained_check::explained_check;
 use ebpf_script::meter::{Meter, NoMeter};
-use ebpf_script::replay::replay;
-use ebpf_script::run::run as run_script;
+use ebpf_script::replay_script::replay_script;
+use ebpf_script::run_script::run_script;
 use ebpf_script::watch::{TABLE_BYTES, Watch};
 use ebpf_stream::stream::stream;
 use std::alloc::Global;
-use std::fs::File;
+use std::fs::{File, OpenFile};
 use std::io::{Read, Write};
 use std::process::ExitCode;
 use std::rt::{Clock, Env, Files};
@@ -83,13 +87,20 @@ fn serve<R: AllocGlobal + Clock + Eprint + Files + Input + Print + Threads + Wai
     let Some(path) = request.file else {
         return perform(rt, &mut rt.reader(), request.task);
     };
-    match File::open(rt, path) {
+    match open(rt, path) {
         Ok(file) => {
             let mut file = file;
             perform(rt, &mut file, request.task)
         }
         Err(error) => tell_unopened(rt, path, &error),
     }
+}
+
+// Opens a file to read. If standard input is closed, the system gives its number to the next file that is opened, and `stream` would
+// read its script as its input; a copy gets a number above those of the standard streams.
+fn open<R: Files>(rt: &R, path: &str) -> io::Result<R::File> {
+    let file = File::open(rt, path)?;
+    file.try_clone()
 }
 
 // Does a task on an input and standard output, and gives the exit status.
@@ -108,7 +119,7 @@ fn perform<R: AllocGlobal + Clock + Eprint + Input + Print + Threads + Wait + Sy
         Task::LayOut(options) => perform_lay_out(alloc, reader, &mut writer, options),
         Task::Assemble => assemble(alloc, reader, &mut writer),
         Task::Check(options) => perform_check(alloc, reader, &mut writer, options),
-        Task::Replay(format) => replay(alloc, reader, &mut writer, format),
+        Task::Replay(format) => replay_script(alloc, reader, &mut writer, format),
         Task::Run(options) => run_jobs(rt, reader, &mut writer, options),
         Task::Stream(format) => stream(alloc, reader, &mut rt.reader(), &mut writer, format),
     }?;
@@ -129,7 +140,7 @@ fn perform_check<I: Read, W: Write>(
     if explain {
         explained_check(alloc, reader, writer, format)
     } else {
-        check(alloc, reader, writer, format)
+        check_script(alloc, reader, writer, format)
     }
 }
 

@@ -1,15 +1,18 @@
 //! The commands over one program, by what their input is.
 
 use crate::command::{GraphOptions, LayOutOptions, ListOptions, OneOptions};
+use crate::plain::{list, one};
 use crate::source::Source;
 use ebpf_command::done::{Done, EngineFault};
+use ebpf_command::format::Format;
 use ebpf_one::explain::explain;
 use ebpf_one::explain_object::explain_object;
+use ebpf_one::form::Form;
 use ebpf_one::graph::{graph, graph_object};
 use ebpf_one::lay_out::lay_out;
-use ebpf_one::list::list;
+use ebpf_one::list::list as list_program;
 use ebpf_one::object_commands::{lay_out_object, list_object, one_object};
-use ebpf_one::one::one;
+use ebpf_one::one::one as run_program;
 use ebpf_one::source_list::list_source;
 use std::alloc::Global;
 use std::io::{Read, Write};
@@ -29,9 +32,14 @@ pub fn perform_one<R: Read, W: Write>(
         format,
         ..
     } = options;
-    match source {
-        Source::Program(form) => one(alloc, reader, writer, format, form, context, held, nulls),
-        Source::Object(name) => {
+    match (source, format) {
+        (Source::Program(Form::Hex), Format::Text) => {
+            one(alloc, reader, writer, context, held, nulls)
+        }
+        (Source::Program(form), _) => {
+            run_program(alloc, reader, writer, format, form, context, held, nulls)
+        }
+        (Source::Object(name), _) => {
             one_object(alloc, reader, writer, format, name, context, held, nulls)
         }
     }
@@ -49,10 +57,11 @@ pub fn perform_list<R: Read, W: Write>(
         lines,
         format,
     } = options;
-    match source {
-        Source::Program(form) => list(alloc, reader, writer, format, form),
-        Source::Object(name) if lines => list_source(alloc, reader, writer, format, name),
-        Source::Object(name) => list_object(alloc, reader, writer, format, name),
+    match (source, format) {
+        (Source::Program(Form::Hex), Format::Text) => list(alloc, reader, writer),
+        (Source::Program(form), _) => list_program(alloc, reader, writer, format, form),
+        (Source::Object(name), _) if lines => list_source(alloc, reader, writer, format, name),
+        (Source::Object(name), _) => list_object(alloc, reader, writer, format, name),
     }
 }
 

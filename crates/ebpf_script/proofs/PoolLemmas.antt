@@ -5,9 +5,9 @@ use Rattle.std.proofs.lemmas.List.Elements.{All-head, All-tail}
 use Rattle.std.proofs.lemmas.Option.{slice_get-map, slice_get_within}
 use Rattle.std.specs.List.{prefix_len}
 use Rattle.ebpf_verify.specs.Subject.{Subject}
-use Rattle.ebpf_pool.specs.declared.jobs.Job.{Job}
-use Rattle.ebpf_pool.specs.declared.outcome.Host.{Host}
-use Rattle.ebpf_pool.specs.Admission.{pool_fault, has_program, has_context}
+use Rattle.worker_pool.specs.declared.jobs.Job.{Job}
+use Rattle.worker_pool.specs.declared.outcome.Host.{Host}
+use Rattle.worker_pool.specs.Admission.{pool_fault, has_program, has_context}
 
 passed : {X : Type 0} (fault : X → Bool) (xs : List X) → All (λ x. fault x ≡ false) xs → prefix_len (λ x. not (fault x)) xs ≡ length xs
 passed fault [] h = refl

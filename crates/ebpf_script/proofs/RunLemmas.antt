@@ -3,7 +3,7 @@ use Rattle.std.proofs.Common.{◌≡◌, ℕ, List, ◌++◌, Option, Some, None
 use Rattle.std.specs.Prelude.{IfSome, IsErrAnd}
 use Rattle.std.specs.Io.KnownBytes.{Appends}
 use Rattle.ebpf_machine.specs.declared.report.Report.{Report}
-use Rattle.ebpf_pool.specs.declared.outcome.Outcome.{Outcome}
+use Rattle.worker_pool.specs.Outcomes.{JobsOutcome}
 use Rattle.ebpf_command.specs.declared.done.Done.{Done}
 use Rattle.ebpf_command.specs.declared.done.EngineFault.{EngineFault}
 use Rattle.ebpf_command.specs.declared.done.EngineFault.TheVariants.{Output}
@@ -39,12 +39,12 @@ module _ (Responds : Responding) (cuts : CutsLong Responds) (input old new : Opt
 -- ---- the text of an outcome
 
 -- it is that of the jobs and what follows
-outcome_parts : (format : Format) (o : Outcome) → outcome_in format o ≡ jobs_in format o.reports ++ totals_in format o
+outcome_parts : (format : Format) (o : JobsOutcome) → outcome_in format o ≡ jobs_in format o.reports ++ totals_in format o
 outcome_parts Text o = refl
 outcome_parts Json o = refl
 
 -- what was covered follows that
-pub run_text_is : (format : Format) (o : Outcome) (before covered after : List ℕ) (reports : List Report) → reports ≡ o.reports → after ≡ totals_in format o ++ covered
+pub run_text_is : (format : Format) (o : JobsOutcome) (before covered after : List ℕ) (reports : List Report) → reports ≡ o.reports → after ≡ totals_in format o ++ covered
     → before ++ (jobs_in format reports ++ after) ≡ before ++ (outcome_in format o ++ covered)
 run_text_is format o before covered after reports same is =
     ap (λ (xs : List ℕ). before ++ xs)

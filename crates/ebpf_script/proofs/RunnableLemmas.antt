@@ -11,7 +11,7 @@ use Rattle.std.proofs.lemmas.Option.{slice_get-map, slice_get_within}
 use Rattle.ebpf_command.specs.declared.done.FaultCode.{FaultCode}
 use Rattle.ebpf_command.specs.declared.done.FaultCode.TheVariants.{InputTooLong, UnprintableByte, BadHex, BadName, UndefinedName, WrongContextLength}
 use Rattle.ebpf_command.specs.HexText.{hex_or_dash}
-use Rattle.ebpf_pool.specs.declared.jobs.Job.{Job}
+use Rattle.worker_pool.specs.declared.jobs.Job.{Job}
 use Rattle.ebpf_script.specs.declared.reader.script.Dialect.{Dialect}
 use Rattle.ebpf_script.specs.LineFaults.{shape_fault, line_fault, is_as_declared}
 use Rattle.ebpf_script.specs.Names.{is_name}

@@ -3,8 +3,8 @@ use Rattle.std.specs.Prelude.{ℕ, ◌++◌, ◌==◌, if◌then◌else◌, List
 use Rattle.std.specs.List.{flat_map}
 use Rattle.ebpf_machine.specs.declared.report.Report.{Report}
 use Rattle.object_cache.specs.declared.totals.Totals.{Totals}
-use Rattle.ebpf_pool.specs.declared.outcome.Outcome.{Outcome}
-use Rattle.ebpf_pool.specs.declared.outcome.ShelfTotals.{ShelfTotals}
+use Rattle.worker_pool.specs.Outcomes.{JobsOutcome}
+use Rattle.worker_pool.specs.declared.outcome.ShelfTotals.{ShelfTotals}
 use Rattle.ebpf_script.specs.ReportForms.{each_from}
 
 -- a number of a job's output
@@ -51,5 +51,5 @@ abbrev pub shelf_lines : List ShelfTotals → List ℕ
 shelf_lines (cells ∷ records ∷ blocks ∷ []) = shelf_line 0 cells ++ (shelf_line 1 records ++ shelf_line 2 blocks)
 shelf_lines _ = []
 
-abbrev pub outcome_lines : Outcome → List ℕ
+abbrev pub outcome_lines : JobsOutcome → List ℕ
 outcome_lines o = each_from report_lines 0 o.reports ++ (cache_lines o.totals ++ shelf_lines o.shelves)

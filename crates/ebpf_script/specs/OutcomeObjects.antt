@@ -2,8 +2,8 @@
 use Rattle.std.specs.Prelude.{ℕ, ◌++◌, ◌==◌, if◌then◌else◌, List, [], ◌∷◌, codes, decimal, Option, Some, None}
 use Rattle.ebpf_machine.specs.declared.report.Report.{Report}
 use Rattle.object_cache.specs.declared.totals.Totals.{Totals}
-use Rattle.ebpf_pool.specs.declared.outcome.Outcome.{Outcome}
-use Rattle.ebpf_pool.specs.declared.outcome.ShelfTotals.{ShelfTotals}
+use Rattle.worker_pool.specs.Outcomes.{JobsOutcome}
+use Rattle.worker_pool.specs.declared.outcome.ShelfTotals.{ShelfTotals}
 use Rattle.ebpf_script.specs.ReportForms.{each_from}
 use Rattle.ebpf_command.specs.Json.{number_list}
 
@@ -46,5 +46,5 @@ abbrev pub shelf_objects : List ShelfTotals → List ℕ
 shelf_objects (cells ∷ records ∷ blocks ∷ []) = shelf_object 0 cells ++ (shelf_object 1 records ++ shelf_object 2 blocks)
 shelf_objects _ = []
 
-abbrev pub outcome_objects : Outcome → List ℕ
+abbrev pub outcome_objects : JobsOutcome → List ℕ
 outcome_objects o = each_from job_object 0 o.reports ++ (cache_objects o.totals ++ shelf_objects o.shelves)

@@ -3,9 +3,9 @@
 use Rattle.std.specs.Prelude.{◌≡◌, ℕ, ◌++◌, List, Result, Ok, Err, codes, decimal}
 use Rattle.ebpf_machine.specs.World.{World}
 use Rattle.ebpf_machine.specs.Events.{Illegal}
-use Rattle.ebpf_world.specs.declared.fault.ApplyCode.{ApplyCode}
-use Rattle.ebpf_world.specs.Faults.{code_of}
-use Rattle.ebpf_world.specs.Replay.{world_after}
+use Rattle.ebpf_core.specs.declared.fault.ApplyCode.{ApplyCode}
+use Rattle.ebpf_core.specs.Faults.{code_of}
+use Rattle.ebpf_core.specs.Replay.{world_after}
 use Rattle.ebpf_command.specs.declared.format.Format.{Format}
 use Rattle.ebpf_command.specs.declared.format.Format.TheVariants.{Text, Json}
 use Rattle.ebpf_command.specs.Response.{Response, refused_response, clean_response}

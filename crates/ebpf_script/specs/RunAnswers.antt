@@ -1,7 +1,7 @@
 -- The text that `run` writes in pieces.
 use Rattle.std.specs.Prelude.{ℕ, ◌++◌, List, [], Option, Some, None, string_bytes}
 use Rattle.ebpf_machine.specs.declared.report.Report.{Report}
-use Rattle.ebpf_pool.specs.declared.outcome.Outcome.{Outcome}
+use Rattle.worker_pool.specs.Outcomes.{JobsOutcome}
 use Rattle.ebpf_command.specs.declared.format.Format.{Format}
 use Rattle.ebpf_command.specs.declared.format.Format.TheVariants.{Text, Json}
 use Rattle.ebpf_command.specs.Response.{Response}
@@ -17,7 +17,7 @@ jobs_in Text reports = each_from report_lines 0 reports
 jobs_in Json reports = each_from job_object 0 reports
 
 -- what follows in the text of an outcome: what the caches and the shelves did
-abbrev pub totals_in : Format → Outcome → List ℕ
+abbrev pub totals_in : Format → JobsOutcome → List ℕ
 totals_in Text o = cache_lines o.totals ++ shelf_lines o.shelves
 totals_in Json o = cache_objects o.totals ++ shelf_objects o.shelves
 

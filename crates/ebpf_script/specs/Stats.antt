@@ -1,14 +1,14 @@
 -- What is said of an outcome beside its text.
 use Rattle.std.specs.Prelude.{◌≡◌, ℕ, List, length, sum_by}
 use Rattle.ebpf_machine.specs.declared.report.Report.{Report}
-use Rattle.ebpf_pool.specs.declared.outcome.Outcome.{Outcome}
+use Rattle.worker_pool.specs.Outcomes.{JobsOutcome}
 use Rattle.ebpf_script.specs.declared.stats.Stats.{Stats}
 
 -- how many instructions the reports tell
 abbrev pub steps_in : List Report → ℕ
 steps_in reports = sum_by (λ r. r.executed) reports
 
-pub record AreStatsOf (o : Outcome) (s : Stats) : Type 0 where
+pub record AreStatsOf (o : JobsOutcome) (s : Stats) : Type 0 where
   pub totals : s.totals ≡ o.totals
   pub clashes : s.clashes ≡ o.clashes
   pub strays : s.strays ≡ o.strays

@@ -2,9 +2,9 @@
 use Rattle.std.specs.Prelude.{ℕ, zero, suc, ◌++◌, List, [], length, codes, decimal, count_by, Option, Some, None, is_some}
 use Rattle.std.specs.List.{flat_map}
 use Rattle.ebpf_machine.specs.World.{World}
-use Rattle.ebpf_world.specs.declared.world.Status.{Status}
-use Rattle.ebpf_world.specs.declared.world.Status.TheVariants.{Going, Exited}
-use Rattle.ebpf_world.specs.Readers.{status_in, output_in, executed_in, owner_in, ledger_in, shelf_in}
+use Rattle.ebpf_core.specs.declared.world.Status.{Status}
+use Rattle.ebpf_core.specs.declared.world.Status.TheVariants.{Going, Exited}
+use Rattle.ebpf_core.specs.Readers.{status_in, output_in, executed_in, owner_in, ledger_in, shelf_in}
 
 -- a number of a run's output
 abbrev pub run_emit_line : ℕ → ℕ → List ℕ

@@ -1,9 +1,9 @@
 -- The objects of a world, in the order of its lines: each run with its output, the slots of each kind, and the slot on each shelf.
 use Rattle.std.specs.Prelude.{ℕ, zero, suc, ◌++◌, List, [], length, codes, decimal, Option, Some, None, unwrap_or}
 use Rattle.ebpf_machine.specs.World.{World}
-use Rattle.ebpf_world.specs.declared.world.Status.{Status}
-use Rattle.ebpf_world.specs.declared.world.Status.TheVariants.{Going, Exited}
-use Rattle.ebpf_world.specs.Readers.{status_in, output_in, executed_in, ledger_in, shelf_in}
+use Rattle.ebpf_core.specs.declared.world.Status.{Status}
+use Rattle.ebpf_core.specs.declared.world.Status.TheVariants.{Going, Exited}
+use Rattle.ebpf_core.specs.Readers.{status_in, output_in, executed_in, ledger_in, shelf_in}
 use Rattle.ebpf_command.specs.Json.{number_list}
 use Rattle.ebpf_script.specs.WorldLines.{held_in}
 

@@ -14,10 +14,10 @@ use ebpf_cover::counts::Counts;
 use ebpf_cover::cover::cover;
 use ebpf_insn::insn::Insn;
 use ebpf_insn::program::Program;
-use ebpf_pool::{Jobs, Reports};
 use ebpf_text::line::write_insn;
 use ebpf_verify::verified::Verified;
 use std::alloc::{AllocError, Global};
+use worker_pool::{Jobs, PackedReports};
 
 /// Writes after a text what the jobs of each program executed, where that is asked for. It fails only where memory runs out, or a count
 /// would not fit 64 bits.
@@ -29,7 +29,7 @@ pub(crate) fn write_covered_in(
     programs: &Programs,
     accepted: &[Verified],
     jobs: &Jobs,
-    reports: &Reports,
+    reports: &PackedReports,
 ) -> Result<(), AllocError>
     requires known { AreKnown accepted.now }
     requires all { length reports.now ≡ length jobs.now }
@@ -49,7 +49,7 @@ fn write_covered(
     programs: &Programs,
     accepted: &[Verified],
     jobs: &Jobs,
-    reports: &Reports,
+    reports: &PackedReports,
 ) -> Result<(), AllocError>
     requires known { AreKnown accepted.now }
     requires all { length reports.now ≡ length jobs.now }

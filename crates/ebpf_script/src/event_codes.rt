@@ -3,7 +3,7 @@
 ghost use Rattle.std.specs.Prelude.{◌≡◌};
 ghost use Rattle.ebpf_script.specs.EventCodes.{apply_name};
 
-use ebpf_world::fault::ApplyCode;
+use ebpf_core::fault::ApplyCode;
 
 /// The code of an event that isn't legal.
 pub(crate) fn apply_name(code: ApplyCode) -> &'static str

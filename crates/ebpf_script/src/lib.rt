@@ -3,15 +3,17 @@
 //!
 //! What `check` and `replay` write is a function of what they read, errors included; of what `run` writes that much is open which
 //! calls of `new` found no object, and what calls of `swap` found on a shelf. They write nothing else: that is the contract of
-//! [`check::check`], of [`explained_check::explained_check`], which says why programs are refused as well, of [`replay::replay`] and of
-//! [`run::run`].
+//! [`check`], [`replay`] and [`run`], which write plain text. In a format, text or JSON, it is the contract of
+//! [`check_script::check_script`], of [`explained_check::explained_check`], which says why programs are refused as well, of
+//! [`replay_script::replay_script`] and of [`run_script::run_script`].
 //!
-//! To be read in this order: `reader`, `verdict_text`, `verdicts`, `check`, `script_fault`, `explained_check`, `event_codes`, `world_text`,
-//! `text_line`, `world_json`, `replay`, `exit_line`, `report_form`, `outcome_text`, `outcome_json`, `stats`, `outcome_stats`, `meter`,
-//! `covered_text`, `run_answer`, `run`, `stats_text`, `stats_json`, `watch`.
+//! To be read in this order: `reader`, `verdict_text`, `verdicts`, `check_script`, `script_fault`, `explained_check`, `event_codes`,
+//! `world_text`, `text_line`, `world_json`, `replay_script`, `exit_line`, `report_form`, `outcome_text`, `outcome_json`, `stats`,
+//! `outcome_stats`, `meter`, `covered_text`, `run_answer`, `run_script`, `stats_text`, `stats_json`, `watch`, `commands`.
 #![tactic(auto)]
 
-pub mod check;
+pub mod check_script;
+mod commands;
 mod covered_text;
 mod event_codes;
 pub mod exit_line;
@@ -21,10 +23,10 @@ pub mod outcome_json;
 mod outcome_stats;
 pub mod outcome_text;
 pub mod reader;
-pub mod replay;
+pub mod replay_script;
 mod report_form;
-pub mod run;
 mod run_answer;
+pub mod run_script;
 mod script_fault;
 pub mod stats;
 mod stats_json;
@@ -35,3 +37,6 @@ pub mod verdicts;
 pub mod watch;
 mod world_json;
 mod world_text;
+
+pub use commands::{check, replay, run};
+pub use ebpf_command::done::{Done, EngineFault};

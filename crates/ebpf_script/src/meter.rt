@@ -1,9 +1,9 @@
 //! Who learns how far `run` is, and what came of its jobs.
 
 ghost use Rattle.std.specs.Prelude.{◌≡◌, All, length, sum_by};
-ghost use Rattle.ebpf_pool.specs.Outcomes.{IsEvenTotal};
+ghost use Rattle.worker_pool.specs.Outcomes.{IsEvenTotal};
 
-use ebpf_pool::{Outcome, Reports};
+use worker_pool::{Outcome, PackedReports};
 
 /// A part of what `run` does. Each follows the one before.
 #[derive(Clone, Copy)]
@@ -24,7 +24,7 @@ pub trait Meter {
     fn ended(&mut self, stage: Stage);
 
     /// The jobs came to this. The reports are handed back, since they are written after that.
-    fn came(&mut self, outcome: Outcome) -> Reports
+    fn came(&mut self, outcome: Outcome<PackedReports>) -> PackedReports
         requires even { All IsEvenTotal outcome.totals }
         requires done { sum_by (λ n. n) outcome.jobs_done.items ≡ length outcome.reports }
         ensures { result ≡ outcome.reports };
@@ -37,7 +37,7 @@ pub struct NoMeter;
 impl Meter for NoMeter {
     fn ended(&mut self, _stage: Stage) {}
 
-    fn came(&mut self, outcome: Outcome) -> Reports {
+    fn came(&mut self, outcome: Outcome<PackedReports>) -> PackedReports {
         let Outcome { reports, .. } = outcome;
         reports
     }

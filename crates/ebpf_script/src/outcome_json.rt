@@ -10,10 +10,10 @@ use crate::report_form::ReportForm;
 use crate::text_line::TextLine;
 use ebpf_command::done::EngineFault;
 use ebpf_command::piece::Piece;
-use ebpf_pool::{JobReport, ShelfTotals};
 use object_cache::Totals;
 use std::alloc::AllocError;
 use std::io::Write;
+use worker_pool::{JobReport, ShelfTotals};
 
 /// Reports as objects.
 #[derive(Drop)]

@@ -1,14 +1,14 @@
 //! The counts of an outcome.
 
 ghost use Rattle.std.specs.Prelude.{◌≡◌, All, length, sum_by};
-ghost use Rattle.ebpf_pool.specs.Outcomes.{IsEvenTotal};
+ghost use Rattle.worker_pool.specs.Outcomes.{IsEvenTotal};
 ghost use Rattle.ebpf_script.specs.Stats.{AreStatsOf, steps_in};
 
 use crate::stats::Stats;
-use ebpf_pool::{Outcome, Reports};
+use worker_pool::{Outcome, PackedReports};
 
 /// The reports of an outcome that adds up, and its stats.
-pub(crate) fn stats_of(outcome: Outcome) -> (Reports, Stats)
+pub(crate) fn stats_of(outcome: Outcome<PackedReports>) -> (PackedReports, Stats)
     requires even { All IsEvenTotal outcome.totals }
     requires done { sum_by (λ n. n) outcome.jobs_done.items ≡ length outcome.reports }
     ensures reports { result.0 ≡ outcome.reports }
@@ -34,7 +34,7 @@ pub(crate) fn stats_of(outcome: Outcome) -> (Reports, Stats)
 }
 
 // How many instructions the reports tell.
-fn steps_in(reports: &Reports) -> u128
+fn steps_in(reports: &PackedReports) -> u128
     ensures { result ≡ steps_in reports.now }
 {
     let mut steps = 0;

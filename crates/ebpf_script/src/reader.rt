@@ -25,10 +25,10 @@ use crate::reader::lines::is_script_text;
 use crate::reader::script::{Dialect, Script, ScriptFault, ScriptStop};
 use ebpf_command::done::FaultCode;
 use ebpf_command::input::MAX_INPUT;
-use ebpf_pool::Jobs;
 use indexmap::IndexMap;
 use std::alloc::Global;
 use std::hash::BuildHasherDefault;
+use worker_pool::Jobs;
 
 /// The script that a text of this dialect is parsed to.
 ///

@@ -7,8 +7,8 @@ ghost use Rattle.ebpf_script.specs.ReportForms.{each_from};
 
 use ebpf_command::done::EngineFault;
 use ebpf_command::piece::Piece;
-use ebpf_pool::{JobReport, Reports};
 use std::io::Write;
+use worker_pool::{JobReport, PackedReports};
 
 /// A form of reports: lines or objects.
 pub(crate) trait ReportForm {
@@ -37,7 +37,7 @@ pub(crate) fn put_each<F: ReportForm, W: Write>(
     writer: &mut W,
     piece: &mut Piece,
     form: &mut F,
-    reports: &Reports,
+    reports: &PackedReports,
 ) -> Result<(), EngineFault>
     ensures { Puts (W.contents writer.old) (W.contents writer.new) piece.old piece.new (each_from F.text 0 reports.now) result }
 {

@@ -14,9 +14,9 @@ use ebpf_command::done::{Done, EngineFault};
 use ebpf_command::format::Format;
 use ebpf_command::output::flush;
 use ebpf_command::piece::Piece;
-use ebpf_pool::Reports;
 use std::alloc::Global;
 use std::io::Write;
+use worker_pool::PackedReports;
 
 /// The beginning of a text, what jobs came to, which follows it, and how the command ends.
 #[derive(Drop)]
@@ -30,7 +30,7 @@ pub(crate) struct RunAnswer {
 #[derive(Drop)]
 pub(crate) struct JobsAnswer {
     pub(crate) format: Format,
-    pub(crate) reports: Reports,
+    pub(crate) reports: PackedReports,
     pub(crate) totals: String,
 }
 

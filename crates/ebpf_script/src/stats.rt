@@ -1,7 +1,7 @@
 //! What the caches and the workers did while jobs were done.
 
 ghost use Rattle.std.specs.Prelude.{◌≡◌, All, sum_by};
-ghost use Rattle.ebpf_pool.specs.Outcomes.{IsEvenTotal};
+ghost use Rattle.worker_pool.specs.Outcomes.{IsEvenTotal};
 
 use object_cache::Totals;
 

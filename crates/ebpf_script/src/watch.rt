@@ -10,10 +10,10 @@ use crate::stats::Stats;
 use crate::stats_json::write_table_objects;
 use crate::stats_text::write_table;
 use ebpf_command::format::Format;
-use ebpf_pool::{Outcome, Reports};
 use std::alloc::AllocError;
 use std::rt::Clock;
 use std::time::Instant;
+use worker_pool::{Outcome, PackedReports};
 
 /// The bytes that a table has at most, of 64 workers and the largest numbers.
 pub const TABLE_BYTES: usize = 4096;
@@ -68,7 +68,7 @@ impl<'a, C: Clock> Watch<'a, C> {
 
 impl<'a, C: Clock> Meter for Watch<'a, C> {
     ghost use Rattle.std.specs.Prelude.{◌≡◌, All, length, sum_by, IsSomeAnd};
-    ghost use Rattle.ebpf_pool.specs.Outcomes.{IsEvenTotal};
+    ghost use Rattle.worker_pool.specs.Outcomes.{IsEvenTotal};
     ghost use Rattle.ebpf_script.specs.Stats.{AreStatsOf};
     ghost use Rattle.ebpf_script.specs.Timing.{micros_between, with_time};
 
@@ -88,7 +88,7 @@ impl<'a, C: Clock> Meter for Watch<'a, C> {
         self.since = now;
     }
 
-    fn came(&mut self, outcome: Outcome) -> Reports
+    fn came(&mut self, outcome: Outcome<PackedReports>) -> PackedReports
         requires even { All IsEvenTotal outcome.totals }
         requires done { sum_by (λ n. n) outcome.jobs_done.items ≡ length outcome.reports }
         ensures reports { result ≡ outcome.reports }

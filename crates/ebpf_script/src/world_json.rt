@@ -1,15 +1,15 @@
 //! The objects of a world.
 
 ghost use Rattle.std.specs.Prelude.{◌≡◌, ◌++◌, [], string_bytes, length, unwrap_or, OnOk};
-ghost use Rattle.ebpf_world.specs.Shown.{OfWorld};
-ghost use Rattle.ebpf_world.specs.Readers.{status_in, output_in, executed_in, shelf_in};
+ghost use Rattle.ebpf_core.specs.Shown.{OfWorld};
+ghost use Rattle.ebpf_core.specs.Readers.{status_in, output_in, executed_in, shelf_in};
 ghost use Rattle.ebpf_command.specs.Json.{number_list};
 ghost use Rattle.ebpf_script.specs.WorldObjects.{status_members, run_object, run_objects_below, kind_object, kind_objects, shelf_object, shelf_objects, world_objects};
 
 use crate::text_line::TextLine;
 use crate::world_text::held_of;
 use ebpf_command::json::write_numbers;
-use ebpf_world::world::{Status, World};
+use ebpf_core::world::{Status, World};
 use std::alloc::AllocError;
 
 /// Writes the objects of a world after a text: each run in order, then the slots of each kind, and then what is on the shelves. It

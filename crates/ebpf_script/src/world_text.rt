@@ -2,11 +2,11 @@
 
 ghost use Rattle.std.specs.Prelude.{◌≡◌, ◌++◌, string_bytes, length, slice_get, IfOk, OnOk};
 ghost use Rattle.std.specs.List.{flat_map};
-ghost use Rattle.ebpf_world.specs.Shown.{OfWorld};
+ghost use Rattle.ebpf_core.specs.Shown.{OfWorld};
 ghost use Rattle.ebpf_script.specs.WorldLines.{run_emit_line, run_lines, runs_below, held_in, kind_line, kind_lines, shelf_line, shelf_lines, world_lines};
-ghost use Rattle.ebpf_world.specs.Readers.{shelf_in};
+ghost use Rattle.ebpf_core.specs.Readers.{shelf_in};
 
-use ebpf_world::world::{Status, World};
+use ebpf_core::world::{Status, World};
 use std::alloc::{AllocError, Global};
 
 /// Writes a world after a text: each run in order, then the slots of each kind, and then what is on the shelves. It fails

@@ -22,10 +22,10 @@ use ebpf_command::format::Format;
 use ebpf_host::machine::Machine;
 use ebpf_machine::report::Report;
 use ebpf_machine::run::StartFault;
-use ebpf_pool::Job;
 use ebpf_script::exit_line::ExitLine;
 use ebpf_script::text_line::TextLine;
 use std::alloc::{AllocError, Global};
+use worker_pool::Job;
 
 /// The machine that does the jobs, how far the stream is, and what is answered and not yet written.
 #[derive(Drop)]

@@ -8,10 +8,10 @@ ghost use Rattle.ebpf_script.specs.Words.{words};
 ghost use Rattle.ebpf_stream.specs.Answering.{stream_fault};
 
 use ebpf_command::done::{FaultCode, Stop};
-use ebpf_pool::Job;
 use ebpf_script::reader::job_line::read_job_line;
 use ebpf_script::reader::script::Script;
 use std::alloc::Global;
+use worker_pool::Job;
 
 // The most bytes of a line, its newline aside.
 pub(crate) const MAX_LINE: usize = 65_536;

@@ -7,7 +7,7 @@ ghost use Rattle.ebpf_stream.specs.Totals.{TellAllLeft};
 
 use ebpf_host::machine::Machine;
 use ebpf_host::stock::Counts;
-use ebpf_pool::ShelfTotals;
+use worker_pool::ShelfTotals;
 
 /// What they did to the cache and the shelf of a kind.
 #[derive(Clone, Copy)]

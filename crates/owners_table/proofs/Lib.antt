@@ -1,4 +1,5 @@
 pub mod Sums
+pub mod PlaceLemmas
 pub mod Lists
 pub mod Dealing
 pub mod Joining

@@ -1,11 +1,13 @@
 -- Lists of entries, and the words of slots, by what they weigh.
-use Rattle.std.proofs.Common.{◌≡◌, ◌≢◌, ℕ, zero, suc, ◌+◌, ◌<◌, ◌≤◌, Bool, true, false, List, [], ◌∷◌, length, get_or, set, sym, refl, ap, ◌∙◌, arith}
-use Rattle.std.specs.Prelude.{if◌then◌else◌, cond, ◌==◌, sum_by, flat_map}
+use Rattle.std.proofs.Common.{◌≡◌, ◌≢◌, ℕ, zero, suc, ◌+◌, ◌<◌, ◌≤◌, Bool, true, false, List, [], ◌∷◌, length, get_or, set, sym, refl, ap, ◌∙◌, subst, arith}
+use Rattle.std.specs.Prelude.{if◌then◌else◌, cond, ◌==◌, nat_lt, sum_by, flat_map}
 use Rattle.std.proofs.lemmas.Bool.Decides.{nat_tests}
 use Rattle.std.proofs.lemmas.List.Sums.{sum_by-cons, sum_by-append}
 use mathlib.Core.Logic.{dite}
-use native.Mathlib.Decide.{dec_le}
-use Rattle.owners_table.specs.Owning.{entries_of, Holds, word_at, without, weigh, weigh_word, weigh_words, weigh_shelf, weigh_shelves}
+use native.Mathlib.Decide.{ℕ_discrete, dec_le}
+use Rattle.owners_table.specs.Owning.{entries_of, Holds, word_at, without, weigh, by_place, weigh_word, weigh_words, weigh_shelf, weigh_shelves}
+use Rattle.owners_table.specs.Place.{place, slot_at}
+use Rattle.owners_table.proofs.PlaceLemmas.{slot_at-place, slot_at-injective}
 
 -- only the entries of the slot count
 abbrev pub only : ℕ → (ℕ → ℕ) → ℕ → ℕ → ℕ
@@ -106,6 +108,22 @@ words-once slot ws = dite (dec_le (length ws) slot)
   where
     at_most : (slot w : ℕ) → weigh_word (only slot once) slot w ≤ 1
     at_most slot w = grind (arith, nat_tests)
+
+-- where one slot counts, its place does
+only-place : (p : ℕ) (g : ℕ → ℕ) (k w : ℕ) → by_place (only (slot_at p) g) k w ≡ only p g k w
+only-place p g k w = dite (ℕ_discrete k p)
+    (λ e. only-same (slot_at p) g (slot_at k) w (ap slot_at e) ∙ sym (only-same p g k w e))
+    (λ ne. only-other (slot_at p) g (slot_at k) w (λ e. ne (slot_at-injective k p e)) ∙ sym (only-other p g k w ne))
+
+pub words-place : (p : ℕ) (g : ℕ → ℕ) (k : ℕ) (ws : List ℕ) → weigh_words (by_place (only (slot_at p) g)) k ws ≡ weigh_words (only p g) k ws
+words-place p g k [] = refl
+words-place p g k (w ∷ ws) =
+    λ i. (if nat_lt w 4096 then 0 else only-place p g k w i) + words-place p g (suc k) ws i
+
+-- the same of a slot
+pub words-slot : (slot : ℕ) (g : ℕ → ℕ) (ws : List ℕ) → weigh_words (by_place (only slot g)) 0 ws ≡ weigh_words (only (place slot) g) 0 ws
+words-slot slot g ws =
+    subst (λ (s : ℕ). weigh_words (by_place (only s g)) 0 ws ≡ weigh_words (only (place slot) g) 0 ws) (slot_at-place slot) (words-place (place slot) g 0 ws)
 
 -- an entry of the slot that is taken out
 pub weigh-without : (h : ℕ → ℕ → ℕ) (slot : ℕ) (es : List (ℕ × ℕ)) → Holds slot es → weigh h (without slot es) + h slot (word_at slot es) ≡ weigh h es

@@ -1,8 +1,9 @@
 -- The rule of the owners holds at the start, and a seat with all sheets deals them out.
-use Rattle.std.proofs.Common.{◌≡◌, ℕ, zero, suc, ◌+◌, ◌<◌, [], ◌∷◌, get_or, replicate, refl, arith}
-use Rattle.std.proofs.lemmas.List.{length-replicate, get_or-replicate}
+use Rattle.std.proofs.Common.{◌≡◌, ℕ, zero, suc, ◌<◌, [], ◌∷◌, get_or, replicate, refl, arith}
+use Rattle.std.proofs.lemmas.List.{length-replicate}
 use Rattle.std.proofs.lemmas.List.Folds.{sum_by-replicate}
-use Rattle.owners_table.specs.Owning.{Owned, blank, weigh_words, weigh_shelves}
+use Rattle.owners_table.specs.Owning.{Owned, blank, by_place, weigh_words, weigh_shelves}
+use Rattle.owners_table.specs.Place.{words_in}
 use Rattle.owners_table.proofs.Lists.{word-none, shelf-free}
 use Rattle.owners_table.proofs.OwningSteps.{listed, put, taken}
 
@@ -23,15 +24,15 @@ zeros (suc n) zero = refl
 zeros (suc n) (suc i) = zeros n i
 
 -- all slots are free, and one seat has all sheets
-pub begins : (slots seats : ℕ) → Owned slots seats record { words = replicate (slots + 1) 0; homes = []; views = replicate seats blank ∷ [] }
+pub begins : (slots seats : ℕ) → Owned slots seats record { words = replicate (words_in slots) 0; homes = []; views = replicate seats blank ∷ [] }
 begins slots seats = record {
-  wide = length-replicate (slots + 1) 0;
-  spare = get_or-replicate (slots + 1) slots 0 0 (omega arith);
-  words = λ slot high. absurd (none slot (omega arith));
-  sheets = let l = length-replicate seats blank in omega arith;
-  listed = λ h. let z = words-zero h 0 (slots + 1) in let s = sum_by-replicate (listed h) seats blank in omega arith;
-  shelved = λ h. let z = shelves-zero h 0 (slots + 1) in let s = sum_by-replicate (put h) seats blank in let t = sum_by-replicate (taken h) seats blank in omega arith;
+  wide = length-replicate (words_in slots) 0;
+  spare = λ place _. zeros (words_in slots) place;
+  words = λ place high. absurd (none place (omega (arith, high)));
+  sheets = let l = length-replicate seats blank in omega (arith, l);
+  listed = λ h. let z = words-zero (by_place h) 0 (words_in slots) in let s = sum_by-replicate (listed h) seats blank in omega (arith, z, s);
+  shelved = λ h. let z = shelves-zero (by_place h) 0 (words_in slots) in let s = sum_by-replicate (put h) seats blank in let t = sum_by-replicate (taken h) seats blank in omega (arith, z, s, t);
 }
   where
-    none : (slot : ℕ) → 0 < get_or (replicate (slots + 1) 0) slot 0 → ⊥
-    none slot some = let z = zeros (slots + 1) slot in let some' : nought < get_or (replicate (slots + 1) nought) slot nought = some in omega (arith, z, some')
+    none : (place : ℕ) → 0 < get_or (replicate (words_in slots) 0) place 0 → ⊥
+    none place some = let z = zeros (words_in slots) place in let some' : nought < get_or (replicate (words_in slots) nought) place nought = some in omega (arith, z, some')

@@ -16,10 +16,12 @@ use Rattle.owners_table.specs.declared.mark.Owner.TheVariants.{Run, Shelf}
 use Rattle.owners_table.specs.declared.mark.TheConstants.{SHELVES}
 use Rattle.owners_table.specs.declared.owning.OwnerSheet.{OwnerSheet}
 use Rattle.owners_table.specs.Marking.{IsMarkWord}
-use Rattle.owners_table.specs.Owning.{SeatView, seat_view, IsSlotWord, IsOwn, owner_word, Owned, Holds, word_at, without, weigh, weigh_word, weigh_words, weigh_shelf, blank, gained, after_claim, after_release, after_shelve, after_fetch, claimed, released, was_shelved, fetched, looked}
+use Rattle.owners_table.specs.Owning.{SeatView, seat_view, IsSlotWord, IsOwn, owner_word, Owned, Holds, word_at, without, weigh, by_place, weigh_word, weigh_words, weigh_shelf, blank, gained, after_claim, after_release, after_shelve, after_fetch, claimed, released, was_shelved, fetched, looked}
+use Rattle.owners_table.specs.Place.{place, slot_at}
 use Rattle.owners_table.specs.Sheets.{first_or, sheet_of}
+use Rattle.owners_table.proofs.PlaceLemmas.{inside}
 use Rattle.owners_table.proofs.Sums.{sum_by-change, sum_by-member, sum_by-split, sum_by-join, sum-is_additive, length-is_additive}
-use Rattle.owners_table.proofs.Lists.{only, once, differs, differs-same, word-none, word-some, words-change, shelf-none, shelf-free, shelf-some, shelves-change, words-of_run, words-of_none, words-once, weigh-without, word_at-same}
+use Rattle.owners_table.proofs.Lists.{only, once, differs, differs-same, word-none, word-some, words-change, shelf-none, shelf-free, shelf-some, shelves-change, words-of_run, words-of_none, words-once, words-place, words-slot, weigh-without, word_at-same}
 
 abbrev pub View : Type 0
 View = List OwnerSheet
@@ -40,60 +42,64 @@ taken h t = weigh h t.got
 single : (f : OwnerSheet → ℕ) (t : OwnerSheet) → sum_by f (t ∷ []) ≡ f t
 single f t = omega arith
 
--- a step that changes one word and the view of one seat
-placed : (slots seats : ℕ) (st : Table) → Owned slots seats st → (id : ℕ) (v w : View) (slot x : ℕ) (carried : List (ℕ × Unit {0}))
-    → get_elem? st.views id ≡ some v → slot < slots → IsSlotWord x → length w ≡ length v
-    → ((h : ℕ → ℕ → ℕ) → sum_by (listed h) w + weigh_word h slot (get_or st.words slot 0) ≡ sum_by (listed h) v + weigh_word h slot x)
-    → ((h : ℕ → ℕ → ℕ) → sum_by (put h) w + weigh_shelf h slot (get_or st.words slot 0) + sum_by (taken h) v ≡ sum_by (put h) v + weigh_shelf h slot x + sum_by (taken h) w)
-    → Owned slots seats (stepped st slot x id carried w keeps)
-placed slots seats st r id v w slot x carried at inside ok as_many moved passed =
-    let wide = r.wide in let within : slot < length st.words = omega arith in record {
-      wide = length-set st.words slot x ∙ r.wide;
-      spare = get_or-set_other st.words slot slots x 0 (λ e. omega arith) ∙ r.spare;
-      words = λ k. dite (ℕ_discrete k slot)
-          (λ e. subst IsSlotWord (sym (ap (λ (j : ℕ). get_or (set st.words slot x) j 0) e ∙ get_or-set_same st.words slot x 0 within)) ok)
-          (λ ne. subst IsSlotWord (sym (get_or-set_other st.words slot k x 0 ne)) (r.words k));
-      sheets = let c = sum_by-change (λ (u : View). length u) st.views id v w at in let q = r.sheets in omega arith;
+-- a step that changes the word of a slot, at a place, and the view of one seat
+placed : (slots seats : ℕ) (st : Table) → Owned slots seats st → (id : ℕ) (v w : View) (p x : ℕ) (carried : List (ℕ × Unit {0}))
+    → get_elem? st.views id ≡ some v → slot_at p < slots → IsSlotWord x → length w ≡ length v
+    → ((h : ℕ → ℕ → ℕ) → sum_by (listed h) w + weigh_word h (slot_at p) (get_or st.words p 0) ≡ sum_by (listed h) v + weigh_word h (slot_at p) x)
+    → ((h : ℕ → ℕ → ℕ) → sum_by (put h) w + weigh_shelf h (slot_at p) (get_or st.words p 0) + sum_by (taken h) v ≡ sum_by (put h) v + weigh_shelf h (slot_at p) x + sum_by (taken h) w)
+    → Owned slots seats (stepped st p x id carried w keeps)
+placed slots seats st r id v w p x carried at low ok as_many moved passed =
+    let wide = r.wide in let there = inside slots p low in let within : p < length st.words = omega (arith, wide, there) in record {
+      wide = length-set st.words p x ∙ r.wide;
+      spare = λ k past. get_or-set_other st.words p k x 0 (λ e. let same = ap slot_at e in omega (arith, same, past, low)) ∙ r.spare k past;
+      words = λ k. dite (ℕ_discrete k p)
+          (λ e. subst IsSlotWord (sym (ap (λ (j : ℕ). get_or (set st.words p x) j 0) e ∙ get_or-set_same st.words p x 0 within)) ok)
+          (λ ne. subst IsSlotWord (sym (get_or-set_other st.words p k x 0 ne)) (r.words k));
+      sheets = let c = sum_by-change (λ (u : View). length u) st.views id v w at in let q = r.sheets in omega (arith, c, q, as_many);
       listed = λ h.
           let c = sum_by-change (sum_by (listed h)) st.views id v w at in
           let q = r.listed h in
           let m = moved h in
-          let s = words-change h 0 st.words slot x within in
-          let z : 0 + slot ≡ slot = omega arith in
+          let s = words-change (by_place h) 0 st.words p x within in
+          let z : 0 + p ≡ p = omega arith in
           let s' = rw z at s in
-          omega arith;
+          omega (arith, c, q, m, s');
       shelved = λ h.
           let c = sum_by-change (sum_by (put h)) st.views id v w at in
           let d = sum_by-change (sum_by (taken h)) st.views id v w at in
           let q = r.shelved h in
           let m = passed h in
-          let s = shelves-change h 0 st.words slot x within in
-          let z : 0 + slot ≡ slot = omega arith in
+          let s = shelves-change (by_place h) 0 st.words p x within in
+          let z : 0 + p ≡ p = omega arith in
           let s' = rw z at s in
-          omega arith;
+          omega (arith, c, d, q, m, s');
     }
 
 -- what a seat holds weighs no more than the words
 below : (slots seats : ℕ) (st : Table) → Owned slots seats st → (h : ℕ → ℕ → ℕ) (id : ℕ) (v : View) → get_elem? st.views id ≡ some v
-    → sum_by (listed h) v ≤ weigh_words h 0 st.words
+    → sum_by (listed h) v ≤ weigh_words (by_place h) 0 st.words
 below slots seats st r h id v at = let a = sum_by-member (sum_by (listed h)) st.views id v at in let q = r.listed h in omega arith
 
--- what the rule says of a slot that a seat holds: its word is a run's, and the one in the list
-mine : (slots seats : ℕ) (st : Table) → Owned slots seats st → (id : ℕ) (t : OwnerSheet) (slot : ℕ)
-    → get_elem? st.views id ≡ some (t ∷ []) → slot < slots → Holds slot t.held
-    → (4096 ≤ get_or st.words slot 0) × (word_at slot t.held ≡ get_or st.words slot 0)
-mine slots seats st r id t slot at inside has =
+-- what the rule says of a slot that a seat holds, at its place: its word is a run's, and the one in the list
+mine : (slots seats : ℕ) (st : Table) → Owned slots seats st → (id : ℕ) (t : OwnerSheet) (p : ℕ)
+    → get_elem? st.views id ≡ some (t ∷ []) → slot_at p < slots → Holds (slot_at p) t.held
+    → (4096 ≤ get_or st.words p 0) × (word_at (slot_at p) t.held ≡ get_or st.words p 0)
+mine slots seats st r id t p at low has =
     let wide = r.wide in
-    let within : slot < length st.words = omega arith in
-    let n : ℕ = get_or st.words slot 0 in
+    let there = inside slots p low in
+    let within : p < length st.words = omega (arith, wide, there) in
+    let slot : ℕ = slot_at p in
+    let n : ℕ = get_or st.words p 0 in
     let a = below slots seats st r (only slot once) id (t ∷ []) at in
     let s = single (listed (only slot once)) t in
-    let run : 4096 ≤ n = dite (dec_le 4096 n) (λ run. run) (λ free. let z = words-of_none slot once st.words within (omega arith) in absurd (omega arith)) in
+    let e = words-place p once 0 st.words in
+    let run : 4096 ≤ n = dite (dec_le 4096 n) (λ run. run) (λ free. let z = words-of_none p once st.words within (omega arith) in absurd (omega (arith, a, s, e, z, has))) in
     let b = below slots seats st r (only slot (differs n)) id (t ∷ []) at in
     let u = single (listed (only slot (differs n))) t in
-    let z = words-of_run slot (differs n) st.words within run in
+    let f = words-place p (differs n) 0 st.words in
+    let z = words-of_run p (differs n) st.words within run in
     let d = differs-same n in
-    (run, word_at-same slot n t.held has (omega arith))
+    (run, word_at-same slot n t.held has (omega (arith, b, u, f, z, d)))
 
 -- the list after an exchange that found the word that it looked for, and after one that did not
 pub held-won : (slot from word n : ℕ) (es : List (ℕ × ℕ)) → n ≡ from → gained slot from word n es ≡ (slot, word) ∷ es
@@ -104,28 +110,28 @@ held-lost slot from word n es other = ap (λ (b : Bool). if b then (slot, word) 
 
 -- a compare-exchange from a word that is no run's to that of a mark, after which the seat's one sheet has the list that is due
 takes : (slots seats : ℕ) (st : Table) → Owned slots seats st
-    → (id : ℕ) (t u : OwnerSheet) (slot from word : ℕ) (carried : List (ℕ × Unit {0})) → get_elem? st.views id ≡ some (t ∷ [])
-    → slot < slots → from < 4096 → IsMarkWord word
-    → u.held ≡ gained slot from word (get_or st.words slot 0) t.held
+    → (id : ℕ) (t u : OwnerSheet) (p from word : ℕ) (carried : List (ℕ × Unit {0})) → get_elem? st.views id ≡ some (t ∷ [])
+    → slot_at p < slots → from < 4096 → IsMarkWord word
+    → u.held ≡ gained (slot_at p) from word (get_or st.words p 0) t.held
     → u.shelved ≡ t.shelved
-    → (get_or st.words slot 0 ≡ from → (h : ℕ → ℕ → ℕ) → weigh h u.got ≡ weigh h t.got + weigh_shelf h slot from)
-    → (get_or st.words slot 0 ≢ from → u.got ≡ t.got)
-    → Owned slots seats (stepped st slot (either (eqb (get_or st.words slot 0) from) word (get_or st.words slot 0)) id carried (u ∷ []) keeps)
-takes slots seats st r id t u slot from word carried here inside low run is stays won lost =
-    let n : ℕ = get_or st.words slot 0 in
-    exchanged n from word (λ z. Owned slots seats (stepped st slot z id carried (u ∷ []) keeps))
-    (λ found. placed slots seats st r id (t ∷ []) (u ∷ []) slot word carried here inside (λ _. run) refl
+    → (get_or st.words p 0 ≡ from → (h : ℕ → ℕ → ℕ) → weigh h u.got ≡ weigh h t.got + weigh_shelf h (slot_at p) from)
+    → (get_or st.words p 0 ≢ from → u.got ≡ t.got)
+    → Owned slots seats (stepped st p (either (eqb (get_or st.words p 0) from) word (get_or st.words p 0)) id carried (u ∷ []) keeps)
+takes slots seats st r id t u p from word carried here inside low run is stays won lost =
+    let n : ℕ = get_or st.words p 0 in
+    exchanged n from word (λ z. Owned slots seats (stepped st p z id carried (u ∷ []) keeps))
+    (λ found. placed slots seats st r id (t ∷ []) (u ∷ []) p word carried here inside (λ _. run) refl
     (λ h.
-    let a = word-none h slot n (omega arith) in
-    let b = word-some h slot word run.0 in
-    let c = ap (weigh h) (is ∙ held-won slot from word n t.held found) in
-    let d = sum_by-cons (λ e. h e.0 e.1) (slot, word) t.held in
+    let a = word-none h (slot_at p) n (omega arith) in
+    let b = word-some h (slot_at p) word run.0 in
+    let c = ap (weigh h) (is ∙ held-won (slot_at p) from word n t.held found) in
+    let d = sum_by-cons (λ e. h e.0 e.1) (slot_at p, word) t.held in
     let e = single (listed h) t in
     let f = single (listed h) u in
     omega arith)
     (λ h.
-    let a = ap (weigh_shelf h slot) found in
-    let b = shelf-none h slot word run.0 in
+    let a = ap (weigh_shelf h (slot_at p)) found in
+    let b = shelf-none h (slot_at p) word run.0 in
     let c = won found h in
     let d = ap (weigh h) stays in
     let e = single (put h) t in
@@ -133,9 +139,9 @@ takes slots seats st r id t u slot from word carried here inside low run is stay
     let g = single (taken h) t in
     let i = single (taken h) u in
     omega arith))
-    (λ other. placed slots seats st r id (t ∷ []) (u ∷ []) slot n carried here inside (r.words slot) refl
+    (λ other. placed slots seats st r id (t ∷ []) (u ∷ []) p n carried here inside (r.words p) refl
     (λ h.
-    let c = ap (weigh h) (is ∙ held-lost slot from word n t.held other) in
+    let c = ap (weigh h) (is ∙ held-lost (slot_at p) from word n t.held other) in
     let e = single (listed h) t in
     let f = single (listed h) u in
     omega arith)
@@ -150,27 +156,27 @@ takes slots seats st r id t u slot from word carried here inside low run is stay
 
 -- an exchange to a word that is no run's, after which the seat's one sheet lacks the slot that it held
 leaves : (slots seats : ℕ) (st : Table) → Owned slots seats st
-    → (id : ℕ) (t u : OwnerSheet) (slot word : ℕ) (carried : List (ℕ × Unit {0})) → get_elem? st.views id ≡ some (t ∷ [])
-    → slot < slots → word ≤ SHELVES → Holds slot t.held
-    → u.held ≡ without slot t.held
+    → (id : ℕ) (t u : OwnerSheet) (p word : ℕ) (carried : List (ℕ × Unit {0})) → get_elem? st.views id ≡ some (t ∷ [])
+    → slot_at p < slots → word ≤ SHELVES → Holds (slot_at p) t.held
+    → u.held ≡ without (slot_at p) t.held
     → u.got ≡ t.got
-    → ((h : ℕ → ℕ → ℕ) → weigh h u.shelved ≡ weigh h t.shelved + weigh_shelf h slot word)
-    → Owned slots seats (stepped st slot word id carried (u ∷ []) keeps)
-leaves slots seats st r id t u slot word carried here inside low has is stays adds =
-    let n : ℕ = get_or st.words slot 0 in
-    let m = mine slots seats st r id t slot here inside has in
-    placed slots seats st r id (t ∷ []) (u ∷ []) slot word carried here inside (λ l. absurd (omega arith)) refl
+    → ((h : ℕ → ℕ → ℕ) → weigh h u.shelved ≡ weigh h t.shelved + weigh_shelf h (slot_at p) word)
+    → Owned slots seats (stepped st p word id carried (u ∷ []) keeps)
+leaves slots seats st r id t u p word carried here inside low has is stays adds =
+    let n : ℕ = get_or st.words p 0 in
+    let m = mine slots seats st r id t p here inside has in
+    placed slots seats st r id (t ∷ []) (u ∷ []) p word carried here inside (λ l. absurd (omega arith)) refl
     (λ h.
-    let a = word-some h slot n m.0 in
-    let z = word-none h slot word (omega arith) in
-    let e = weigh-without h slot t.held has in
-    let f = ap (h slot) m.1 in
+    let a = word-some h (slot_at p) n m.0 in
+    let z = word-none h (slot_at p) word (omega arith) in
+    let e = weigh-without h (slot_at p) t.held has in
+    let f = ap (h (slot_at p)) m.1 in
     let g = ap (weigh h) is in
     let c = single (listed h) t in
     let d = single (listed h) u in
     omega arith)
     (λ h.
-    let a = shelf-none h slot n m.0 in
+    let a = shelf-none h (slot_at p) n m.0 in
     let c = adds h in
     let d = ap (weigh h) stays in
     let e = single (put h) t in
@@ -180,60 +186,60 @@ leaves slots seats st r id t u slot word carried here inside low has is stays ad
     omega arith)
 
 -- what a claim or a fetch finds where the seat's one sheet has the slot
-own : (slots seats : ℕ) (st : Table) → Owned slots seats st → (id : ℕ) (t : OwnerSheet) (slot : ℕ)
-    → get_elem? st.views id ≡ some (t ∷ []) → slot < slots → IsOwn slot (get_or st.words slot 0) t.held
-own slots seats st r id t slot at inside has = let m = mine slots seats st r id t slot at inside has in (m.0, sym m.1)
+own : (slots seats : ℕ) (st : Table) → Owned slots seats st → (id : ℕ) (t : OwnerSheet) (p : ℕ)
+    → get_elem? st.views id ≡ some (t ∷ []) → slot_at p < slots → IsOwn (slot_at p) (get_or st.words p 0) t.held
+own slots seats st r id t p at inside has = let m = mine slots seats st r id t p at inside has in (m.0, sym m.1)
 
-pub claims : (slots seats homes id : ℕ) (me : Me (Unit {0}) View) (slot word : ℕ) (t : OwnerSheet) → me.0 ≡ t ∷ [] → slot < slots → IsMarkWord word
-    → Allows (Owned slots seats) homes id me slot (λ n. either (eqb n 0) word n) (claimed (step homes slot 0 word none) me)
-claims slots seats homes id me slot word t one inside run st r _ at _ =
-    let n : ℕ = get_or st.words slot 0 in (
-      after_claim slot word n t ∷ [],
+pub claims : (slots seats homes id : ℕ) (me : Me (Unit {0}) View) (p word : ℕ) (t : OwnerSheet) → me.0 ≡ t ∷ [] → slot_at p < slots → IsMarkWord word
+    → Allows (Owned slots seats) homes id me p (λ n. either (eqb n 0) word n) (claimed (step homes p 0 word none) me)
+claims slots seats homes id me p word t one inside run st r _ at _ =
+    let n : ℕ = get_or st.words p 0 in (
+      after_claim (slot_at p) word n t ∷ [],
       keeps,
       tt,
-      takes slots seats st r id t (after_claim slot word n t) slot 0 word me.1 (at ∙ ap some one) inside (omega arith) run refl refl (λ _ h. let z = shelf-free h slot in omega arith) (λ _. refl),
+      takes slots seats st r id t (after_claim (slot_at p) word n t) p 0 word me.1 (at ∙ ap some one) inside (omega arith) run refl refl (λ _ h. let z = shelf-free h (slot_at p) in omega arith) (λ _. refl),
       (
         refl,
-        r.words slot,
-        λ u e. let same : t ≡ u = ap (first_or blank) (sym one ∙ e) in (ap (λ (x : OwnerSheet). after_claim slot word n x ∷ []) same, own slots seats st r id u slot (at ∙ ap some e) inside),
+        r.words p,
+        λ u e. let same : t ≡ u = ap (first_or blank) (sym one ∙ e) in (ap (λ (x : OwnerSheet). after_claim (slot_at p) word n x ∷ []) same, own slots seats st r id u p (at ∙ ap some e) inside),
       ),
     )
 
-pub fetches : (slots seats homes id : ℕ) (me : Me (Unit {0}) View) (slot from word : ℕ) (t : OwnerSheet) → me.0 ≡ t ∷ []
-    → slot < slots → 0 < from → from ≤ SHELVES → IsMarkWord word
-    → Allows (Owned slots seats) homes id me slot (λ n. either (eqb n from) word n) (fetched (step homes slot from word none) me)
-fetches slots seats homes id me slot from word t one inside some_shelf low run st r _ at _ =
-    let n : ℕ = get_or st.words slot 0 in (
-      after_fetch slot from word n t ∷ [],
+pub fetches : (slots seats homes id : ℕ) (me : Me (Unit {0}) View) (p from word : ℕ) (t : OwnerSheet) → me.0 ≡ t ∷ []
+    → slot_at p < slots → 0 < from → from ≤ SHELVES → IsMarkWord word
+    → Allows (Owned slots seats) homes id me p (λ n. either (eqb n from) word n) (fetched (step homes p from word none) me)
+fetches slots seats homes id me p from word t one inside some_shelf low run st r _ at _ =
+    let n : ℕ = get_or st.words p 0 in (
+      after_fetch (slot_at p) from word n t ∷ [],
       keeps,
       tt,
-      takes slots seats st r id t (after_fetch slot from word n t) slot from word me.1 (at ∙ ap some one) inside (omega arith) run refl refl (λ won h. let a = ap (weigh h) (held-won slot from from n t.got won) in let b = sum_by-cons (λ e. h e.0 e.1) (slot, from) t.got in let c = shelf-some h slot from some_shelf (omega arith) in omega arith) (λ lost. held-lost slot from from n t.got lost),
+      takes slots seats st r id t (after_fetch (slot_at p) from word n t) p from word me.1 (at ∙ ap some one) inside (omega arith) run refl refl (λ won h. let a = ap (weigh h) (held-won (slot_at p) from from n t.got won) in let b = sum_by-cons (λ e. h e.0 e.1) (slot_at p, from) t.got in let c = shelf-some h (slot_at p) from some_shelf (omega arith) in omega arith) (λ lost. held-lost (slot_at p) from from n t.got lost),
       (
         refl,
-        r.words slot,
-        λ u e. let same : t ≡ u = ap (first_or blank) (sym one ∙ e) in (ap (λ (x : OwnerSheet). after_fetch slot from word n x ∷ []) same, own slots seats st r id u slot (at ∙ ap some e) inside),
+        r.words p,
+        λ u e. let same : t ≡ u = ap (first_or blank) (sym one ∙ e) in (ap (λ (x : OwnerSheet). after_fetch (slot_at p) from word n x ∷ []) same, own slots seats st r id u p (at ∙ ap some e) inside),
       ),
     )
 
-pub releases : (slots seats homes id : ℕ) (me : Me (Unit {0}) View) (slot : ℕ) (t : OwnerSheet) → me.0 ≡ t ∷ [] → slot < slots → Holds slot t.held
-    → Allows (Owned slots seats) homes id me slot (λ _. 0) (released (step homes slot 0 0 none) me)
-releases slots seats homes id me slot t one inside has st r _ at _ = (
-  after_release slot t ∷ [],
+pub releases : (slots seats homes id : ℕ) (me : Me (Unit {0}) View) (p : ℕ) (t : OwnerSheet) → me.0 ≡ t ∷ [] → slot_at p < slots → Holds (slot_at p) t.held
+    → Allows (Owned slots seats) homes id me p (λ _. 0) (released (step homes p 0 0 none) me)
+releases slots seats homes id me p t one inside has st r _ at _ = (
+  after_release (slot_at p) t ∷ [],
   keeps,
   tt,
-  leaves slots seats st r id t (after_release slot t) slot 0 me.1 (at ∙ ap some one) inside (omega arith) has refl refl (λ h. let z = shelf-free h slot in omega arith),
-  (refl, λ u e. let same : t ≡ u = ap (first_or blank) (sym one ∙ e) in ap (λ (x : OwnerSheet). after_release slot x ∷ []) same),
+  leaves slots seats st r id t (after_release (slot_at p) t) p 0 me.1 (at ∙ ap some one) inside (omega arith) has refl refl (λ h. let z = shelf-free h (slot_at p) in omega arith),
+  (refl, λ u e. let same : t ≡ u = ap (first_or blank) (sym one ∙ e) in ap (λ (x : OwnerSheet). after_release (slot_at p) x ∷ []) same),
 )
 
-pub shelves : (slots seats homes id : ℕ) (me : Me (Unit {0}) View) (slot word : ℕ) (t : OwnerSheet) → me.0 ≡ t ∷ [] → slot < slots
-    → 0 < word → word ≤ SHELVES → Holds slot t.held
-    → Allows (Owned slots seats) homes id me slot (λ _. word) (was_shelved (step homes slot word 0 none) me)
-shelves slots seats homes id me slot word t one inside some_shelf low has st r _ at _ = (
-  after_shelve slot word t ∷ [],
+pub shelves : (slots seats homes id : ℕ) (me : Me (Unit {0}) View) (p word : ℕ) (t : OwnerSheet) → me.0 ≡ t ∷ [] → slot_at p < slots
+    → 0 < word → word ≤ SHELVES → Holds (slot_at p) t.held
+    → Allows (Owned slots seats) homes id me p (λ _. word) (was_shelved (step homes p word 0 none) me)
+shelves slots seats homes id me p word t one inside some_shelf low has st r _ at _ = (
+  after_shelve (slot_at p) word t ∷ [],
   keeps,
   tt,
-  leaves slots seats st r id t (after_shelve slot word t) slot word me.1 (at ∙ ap some one) inside low has refl refl (λ h. let a = sum_by-append (λ (e : ℕ × ℕ). h e.0 e.1) t.shelved ((slot, word) ∷ []) in let b = sum_by-cons (λ (e : ℕ × ℕ). h e.0 e.1) (slot, word) [] in let c = shelf-some h slot word some_shelf (omega arith) in omega arith),
-  (refl, λ u e. let same : t ≡ u = ap (first_or blank) (sym one ∙ e) in ap (λ (x : OwnerSheet). after_shelve slot word x ∷ []) same),
+  leaves slots seats st r id t (after_shelve (slot_at p) word t) p word me.1 (at ∙ ap some one) inside low has refl refl (λ h. let a = sum_by-append (λ (e : ℕ × ℕ). h e.0 e.1) t.shelved ((slot_at p, word) ∷ []) in let b = sum_by-cons (λ (e : ℕ × ℕ). h e.0 e.1) (slot_at p, word) [] in let c = shelf-some h (slot_at p) word some_shelf (omega arith) in omega arith),
+  (refl, λ u e. let same : t ≡ u = ap (first_or blank) (sym one ∙ e) in ap (λ (x : OwnerSheet). after_shelve (slot_at p) word x ∷ []) same),
 )
 
 -- an owner's word is not that of a free slot
@@ -273,8 +279,9 @@ looks slots seats homes id me i st r _ at _ = (
         let a = below slots seats st r (only slot once) id (t ∷ u ∷ []) (at ∙ ap some e) in
         let c = sum_by-cons (listed (only slot once)) t (u ∷ []) in
         let s = single (listed (only slot once)) u in
-        let b = words-once slot st.words in
-        omega arith,
+        let b = words-once (place slot) st.words in
+        let f = words-slot slot once st.words in
+        omega (arith, a, c, s, b, f, has, too),
   ),
 )
 

@@ -1,4 +1,5 @@
 pub mod Marking
+pub mod Place
 pub mod Sheets
 pub mod Owning
 pub mod Drawing

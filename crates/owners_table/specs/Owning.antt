@@ -10,6 +10,7 @@ use Rattle.owners_table.specs.declared.mark.Owner.{Owner}
 use Rattle.owners_table.specs.declared.mark.Owner.TheVariants.{Run, Shelf}
 use Rattle.owners_table.specs.declared.mark.TheConstants.{SHELVES, WORDS_OF_A_RUN}
 use Rattle.owners_table.specs.Marking.{mark_word, IsMarkWord}
+use Rattle.owners_table.specs.Place.{place, slot_at, words_in}
 use Rattle.owners_table.specs.Sheets.{tally, sheet_count, sheet_of}
 
 -- what the word of a slot can be: past that of the last shelf, only the word of a mark
@@ -61,6 +62,10 @@ Apart xs ys = (slot : ℕ) → Holds slot xs → Holds slot ys → ⊥
 abbrev pub weigh : (ℕ → ℕ → ℕ) → List (ℕ × ℕ) → ℕ
 weigh h es = sum_by (λ e. h e.0 e.1) es
 
+-- the weight of slots and their words, as one of places in the table and their words
+abbrev pub by_place : (ℕ → ℕ → ℕ) → ℕ → ℕ → ℕ
+by_place h place w = h (slot_at place) w
+
 -- a slot's word weighs nothing where it is no run's
 abbrev pub weigh_word : (ℕ → ℕ → ℕ) → ℕ → ℕ → ℕ
 weigh_word h slot w = if nat_lt w WORDS_OF_A_RUN then 0 else h slot w
@@ -81,13 +86,13 @@ weigh_shelves h slot (w ∷ ws) = weigh_shelf h slot w + weigh_shelves h (suc sl
 -- The rule of the table. There is a sheet for each seat made. However slots and words are weighed, the lists of all sheets weigh
 -- what the words of runs weigh: they have those entries, each once, and no other.
 pub record Owned (slots seats : ℕ) (s : State (Unit {0}) (List OwnerSheet)) : Type 0 where
-  pub wide : length s.words ≡ slots + 1
-  pub spare : slice_index s.words slots ≡ 0
-  pub words : (slot : ℕ) → IsSlotWord (slice_index s.words slot)
+  pub wide : length s.words ≡ words_in slots
+  pub spare : (place : ℕ) → slots ≤ slot_at place → slice_index s.words place ≡ 0
+  pub words : (place : ℕ) → IsSlotWord (slice_index s.words place)
   pub sheets : sheet_count s.views ≡ seats
-  pub listed : (h : ℕ → ℕ → ℕ) → tally (λ t. weigh h t.held) s.views ≡ weigh_words h 0 s.words
+  pub listed : (h : ℕ → ℕ → ℕ) → tally (λ t. weigh h t.held) s.views ≡ weigh_words (by_place h) 0 s.words
   -- what was shelved was got, but for what the words of shelves say
-  pub shelved : (h : ℕ → ℕ → ℕ) → tally (λ t. weigh h t.shelved) s.views ≡ weigh_shelves h 0 s.words + tally (λ t. weigh h t.got) s.views
+  pub shelved : (h : ℕ → ℕ → ℕ) → tally (λ t. weigh h t.shelved) s.views ≡ weigh_shelves (by_place h) 0 s.words + tally (λ t. weigh h t.got) s.views
 
 -- the entries of all lists
 abbrev pub all_held : List (List OwnerSheet) → List (ℕ × ℕ)
@@ -97,13 +102,14 @@ all_held views = flat_map (λ sheets. flat_map (λ t. t.held) sheets) views
 abbrev pub owner_of : ℕ → ℕ → List (ℕ × ℕ)
 owner_of slot w = if nat_lt w WORDS_OF_A_RUN then [] else (slot, w) ∷ []
 
--- all the entries of the slot, in any list, are what its word says
-abbrev pub HasOneOwner : List ℕ → List (ℕ × ℕ) → ℕ → Type 0
-HasOneOwner words es slot = entries_of slot es ≡ owner_of slot (slice_index words slot)
+-- all the entries of the slot, in any list, are what this word says
+abbrev pub HasOneOwner : ℕ → List (ℕ × ℕ) → ℕ → Type 0
+HasOneOwner word es slot = entries_of slot es ≡ owner_of slot word
 
--- the rule says this of each slot
+-- the rule says this of each slot and its word
 abbrev pub EachHasOneOwner : Type 0
-EachHasOneOwner = (slots seats : ℕ) (s : State (Unit {0}) (List OwnerSheet)) → Owned slots seats s → (slot : ℕ) → slot < slots → HasOneOwner s.words (all_held s.views) slot
+EachHasOneOwner = (slots seats : ℕ) (s : State (Unit {0}) (List OwnerSheet)) → Owned slots seats s → (slot : ℕ) → slot < slots
+    → HasOneOwner (slice_index s.words (place slot)) (all_held s.views) slot
 
 abbrev pub blank : OwnerSheet
 blank = record { held = []; tries = 0; notes = []; fetches = []; shelved = []; got = [] }
@@ -134,19 +140,19 @@ IsOwn slot found es = Holds slot es → (WORDS_OF_A_RUN ≤ found) × (found ≡
 
 -- What a claim shows a seat of one sheet: what it found, and that this was the seat's own word where it had the slot
 abbrev pub claimed : Step (Unit {0}) → Me (Unit {0}) (List OwnerSheet) → ℕ → Me (Unit {0}) (List OwnerSheet) → Type 0
-claimed st m found m' = (m'.1 ≡ m.1) × IsSlotWord found × ((t : OwnerSheet) → m.0 ≡ t ∷ [] → (m'.0 ≡ after_claim st.word st.second found t ∷ []) × IsOwn st.word found t.held)
+claimed st m found m' = (m'.1 ≡ m.1) × IsSlotWord found × ((t : OwnerSheet) → m.0 ≡ t ∷ [] → (m'.0 ≡ after_claim (slot_at st.word) st.second found t ∷ []) × IsOwn (slot_at st.word) found t.held)
 
 -- what a fetch shows a seat of one sheet: the same
 abbrev pub fetched : Step (Unit {0}) → Me (Unit {0}) (List OwnerSheet) → ℕ → Me (Unit {0}) (List OwnerSheet) → Type 0
-fetched st m found m' = (m'.1 ≡ m.1) × IsSlotWord found × ((t : OwnerSheet) → m.0 ≡ t ∷ [] → (m'.0 ≡ after_fetch st.word st.first st.second found t ∷ []) × IsOwn st.word found t.held)
+fetched st m found m' = (m'.1 ≡ m.1) × IsSlotWord found × ((t : OwnerSheet) → m.0 ≡ t ∷ [] → (m'.0 ≡ after_fetch (slot_at st.word) st.first st.second found t ∷ []) × IsOwn (slot_at st.word) found t.held)
 
 -- what a release shows a seat of one sheet
 abbrev pub released : Step (Unit {0}) → Me (Unit {0}) (List OwnerSheet) → ℕ → Me (Unit {0}) (List OwnerSheet) → Type 0
-released st m found m' = (m'.1 ≡ m.1) × ((t : OwnerSheet) → m.0 ≡ t ∷ [] → m'.0 ≡ after_release st.word t ∷ [])
+released st m found m' = (m'.1 ≡ m.1) × ((t : OwnerSheet) → m.0 ≡ t ∷ [] → m'.0 ≡ after_release (slot_at st.word) t ∷ [])
 
 -- what shelving shows a seat of one sheet
 abbrev pub was_shelved : Step (Unit {0}) → Me (Unit {0}) (List OwnerSheet) → ℕ → Me (Unit {0}) (List OwnerSheet) → Type 0
-was_shelved st m found m' = (m'.1 ≡ m.1) × ((t : OwnerSheet) → m.0 ≡ t ∷ [] → m'.0 ≡ after_shelve st.word st.first t ∷ [])
+was_shelved st m found m' = (m'.1 ≡ m.1) × ((t : OwnerSheet) → m.0 ≡ t ∷ [] → m'.0 ≡ after_shelve (slot_at st.word) st.first t ∷ [])
 
 -- what a look shows a seat of two sheets: their lists have no slot in common
 abbrev pub looked : Step (Unit {0}) → Me (Unit {0}) (List OwnerSheet) → ℕ → Me (Unit {0}) (List OwnerSheet) → Type 0
@@ -207,8 +213,8 @@ sheet s = record { held = s.held; tries = s.tries; notes = s.notes; fetches = s.
 -- What is left of a table that was closed with these seats: the words keep the rule, the seats' lists weigh no more than they do,
 -- and as much where these are all the seats that were made
 pub record IsLeft (table : OwnersView) (seats : List SeatView) (ws : List ℕ) : Type 0 where
-  pub wide : length ws ≡ table.slots + 1
-  pub words : (slot : ℕ) → IsSlotWord (slice_index ws slot)
-  pub spare : slice_index ws table.slots ≡ 0
-  pub some : (h : ℕ → ℕ → ℕ) → weigh h (held_by seats) ≤ weigh_words h 0 ws
-  pub all : length seats ≡ table.seats → (h : ℕ → ℕ → ℕ) → weigh h (held_by seats) ≡ weigh_words h 0 ws
+  pub wide : length ws ≡ words_in table.slots
+  pub words : (place : ℕ) → IsSlotWord (slice_index ws place)
+  pub spare : (place : ℕ) → table.slots ≤ slot_at place → slice_index ws place ≡ 0
+  pub some : (h : ℕ → ℕ → ℕ) → weigh h (held_by seats) ≤ weigh_words (by_place h) 0 ws
+  pub all : length seats ≡ table.seats → (h : ℕ → ℕ → ℕ) → weigh h (held_by seats) ≡ weigh_words (by_place h) 0 ws

@@ -14,5 +14,6 @@ mod drawing;
 pub mod mark;
 pub mod owners;
 mod owning;
+mod place;
 mod sheets;
 pub mod tickets;

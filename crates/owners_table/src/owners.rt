@@ -3,12 +3,14 @@
 ghost use Rattle.std.specs.Prelude.{◌≡◌, ◌+◌, ◌<◌, ◌≤◌, [], ◌∷◌, ◌++◌, ℕ, map, replicate, reverse, slice_index, vec_len, All, IfSome, IfNone, IfOk, OnOk, IfErr, IsErrAnd};
 ghost use Rattle.std.specs.Slots.{slots_items, slots_len, IsFull};
 ghost use Rattle.owners_table.specs.Marking.{mark_word};
+ghost use Rattle.owners_table.specs.Place.{words_in};
 ghost use Rattle.owners_table.specs.Owning.{Holds, Apart, HasOneOwner, EachHasOneOwner, IsLeft, IsOwner, IsSlotWord, IsClaimed, IsTaken, IsFetched, IsElsewhere, fresh, sheet, held_by, blank, owner_word, found_word, run_word, without, word_at};
 ghost use Rattle.owners_table.specs.declared.mark.TheConstants.{SHELVES};
 ghost use Rattle.owners_table.specs.declared.owners.TheConstants.{ARENA_SLOTS};
 
 use crate::mark::{Mark, Owner, SHELVES};
 use crate::owning::{Claim, Fetch, Look, OwnerSheet, Owning, Release, Shelve, Size};
+use crate::place::{place, words_in};
 use crate::sheets::Sheets;
 use atomic_table::{Closed, Seat, Table};
 use std::alloc::{AllocError, Global};
@@ -18,7 +20,7 @@ use std::marker::Model;
 /// How many slots an arena has at most: 256 pages of 256 objects.
 pub const ARENA_SLOTS: u32 = 65_536;
 
-// The words of an arena's slots, which are all free, and one more. The compiler knows them, so a table is filled without a list of them,
+// The words of a table of as many slots, which are all free. The compiler knows them, so a table is filled without a list of them,
 // whose memory would be touched for the first time.
 static FREE: [u64; 65_537] = [0; 65_537];
 
@@ -34,23 +36,25 @@ pub struct Other {
     pub found: Option<Owner>,
 }
 
-/// A word for each slot, and one more that stays 0, with which seats are joined and parted.
+/// A word for each slot, which says who owns it, and words between and after them that stay 0.
 ///
 /// Contracts see which table it is, its slots, and how many seats were made.
 #[derive(Drop)]
 pub struct Owners {
     table: Table<(), LinkedList<OwnerSheet>, Size, Owning, Global>,
+    slots: u32,
 }
 
 impl Model for Owners {
-    ghost use Rattle.std.specs.Prelude.{◌≡◌, ◌+◌};
+    ghost use Rattle.std.specs.Prelude.{◌≡◌};
     ghost use Rattle.owners_table.specs.Owning.{OwnersView};
+    ghost use Rattle.owners_table.specs.Place.{words_in};
 
     ghost Value = { OwnersView };
 
-    ghost view = { λ o. record { table = o.table.shared.table_id; slots = o.table.shared.key.slots; seats = o.table.shared.key.seats } };
+    ghost view = { λ o. record { table = o.table.shared.table_id; slots = o.slots; seats = o.table.shared.key.seats } };
 
-    ghost invariant = { λ o. (o.table.shared.table_id.words ≡ o.table.shared.key.slots + 1) × (o.table.shared.table_id.slots ≡ 0) };
+    ghost invariant = { λ o. (o.table.shared.table_id.words ≡ words_in o.slots) × (o.table.shared.table_id.slots ≡ 0) × (o.table.shared.key.slots ≡ o.slots) };
 }
 
 /// What a thread claims slots with. It has no bytes. One that is dropped leaves its slots owned.
@@ -87,13 +91,13 @@ impl Owners {
         ensures table { IfOk result (λ r. (r.0.slots ≡ slots) × (r.0.seats ≡ seats)) }
         ensures seats { IfOk result (λ r. (vec_len r.1 ≡ seats) × All (λ s. s ≡ fresh r.0.table) r.1.items) }
     {
-        let free = vec![in alloc; 0; slots as usize + 1]?;
+        let free = vec![in alloc; 0; words_in(slots)]?;
         let size = Size {
             slots: u64::from(slots),
             seats: u64::from(seats),
         };
         let (table, rest) = Table::of_words(alloc, free.as_slice(), &size)?;
-        dealt(alloc, table, rest, seats)
+        dealt(alloc, table, rest, slots, seats)
     }
 
     /// As [`Owners::new`] with [`ARENA_SLOTS`] slots, in half the time.
@@ -110,7 +114,7 @@ impl Owners {
             seats: u64::from(seats),
         };
         let (table, rest) = Table::of_words(alloc, &FREE, &size)?;
-        dealt(alloc, table, rest, seats)
+        dealt(alloc, table, rest, ARENA_SLOTS, seats)
     }
 
     /// Takes the slot for the mark where it is free, by one compare-exchange, which is when the claim takes effect.
@@ -133,7 +137,7 @@ impl Owners {
         let found = self
             .table
             .shared
-            .compare_exchange::<Claim>(&mut seat.seat, slot as usize, 0, mark.word());
+            .compare_exchange::<Claim>(&mut seat.seat, place(slot), 0, mark.word());
         let Some(owner) = owner_with(found) else {
             return Ok(());
         };
@@ -149,7 +153,7 @@ impl Owners {
     {
         self.table
             .shared
-            .swap::<Release>(&mut seat.seat, slot as usize, 0);
+            .swap::<Release>(&mut seat.seat, place(slot), 0);
     }
 
     /// Gives the slot up to the shelf of this number, below `SHELVES`, by one exchange, which is when the shelf owns the slot.
@@ -162,7 +166,7 @@ impl Owners {
     {
         self.table
             .shared
-            .swap::<Shelve>(&mut seat.seat, slot as usize, u64::from(shelf) + 1);
+            .swap::<Shelve>(&mut seat.seat, place(slot), u64::from(shelf) + 1);
     }
 
     /// Takes the slot for the mark where the shelf of this number, below `SHELVES`, owns it, by one compare-exchange, which is
@@ -188,7 +192,7 @@ impl Owners {
         let found = self
             .table
             .shared
-            .compare_exchange::<Fetch>(&mut seat.seat, slot as usize, wanted, mark.word());
+            .compare_exchange::<Fetch>(&mut seat.seat, place(slot), wanted, mark.word());
         if found != wanted {
             return Err(Other {
                 found: owner_with(found),
@@ -230,11 +234,11 @@ impl Owners {
     // Ends the table, and leaves its words.
     fn ended(self, seats: Vec<OwnerSeat>) -> Closed<(), Global>
         requires { All (λ s. s.table ≡ self.table) seats.items }
-        ensures full { IsFull result.words × (slots_len result.words ≡ self.slots + 1) × (slots_len result.slots ≡ 0) }
+        ensures full { IsFull result.words × (slots_len result.words ≡ words_in self.slots) × (slots_len result.slots ≡ 0) }
         ensures left { IsLeft self seats.items (slots_items result.words) }
     {
         let joined = self.joined(seats);
-        let Owners { table } = self;
+        let Owners { table, slots: _ } = self;
         let Some(all) = joined else {
             return table.close();
         };
@@ -260,15 +264,15 @@ impl Owners {
         ensures words { IfOk result (λ ws. vec_len seats ≡ self.seats → (slot : ℕ) → slot < self.slots →
             run_word (slice_index ws.items slot) ≡ word_at slot (held_by seats.items)) }
         ensures one { IfOk result (λ ws. vec_len seats ≡ self.seats → (slot : ℕ) → slot < self.slots →
-            HasOneOwner ws.items (held_by seats.items) slot) }
+            HasOneOwner (slice_index ws.items slot) (held_by seats.items) slot) }
         // Where besides they hold nothing, each slot is free or a shelf's.
         ensures free { IfOk result (λ ws. vec_len seats ≡ self.seats → All (λ s. s.held ≡ []) seats.items → All (λ w. w ≤ SHELVES) ws.items) }
     {
-        let count = self.table.word_count() - 1;
-        let mut words = Vec::with_capacity(alloc, count)?;
+        let slots = self.slots;
+        let mut words = Vec::with_capacity(alloc, slots as usize)?;
         let closed = self.ended(seats);
-        for slot in 0..count {
-            words.push_reserved(closed.word(slot));
+        for slot in 0..slots {
+            words.push_reserved(closed.word(place(slot)));
         }
         closed.free();
         Ok(words)
@@ -301,13 +305,15 @@ fn dealt(
     alloc: Global,
     table: Table<(), LinkedList<OwnerSheet>, Size, Owning, Global>,
     mut rest: Seat<(), LinkedList<OwnerSheet>>,
+    slots: u32,
     seats: u32,
 ) -> Result<(Owners, Vec<OwnerSeat>), AllocError>
     requires some { 0 < seats }
-    requires words { (table.shared.table_id.words ≡ table.shared.key.slots + 1) × (table.shared.table_id.slots ≡ 0) }
+    requires words { (table.shared.table_id.words ≡ words_in slots) × (table.shared.table_id.slots ≡ 0) }
+    requires slots { table.shared.key.slots ≡ slots }
     requires seats { table.shared.key.seats ≡ seats }
     requires rest { (rest.table_id ≡ table.shared.table_id) × (rest.me ≡ (replicate seats blank, [])) }
-    ensures table { IfOk result (λ r. (r.0.slots ≡ table.shared.key.slots) × (r.0.seats ≡ seats)) }
+    ensures table { IfOk result (λ r. (r.0.slots ≡ slots) × (r.0.seats ≡ seats)) }
     ensures seats { IfOk result (λ r. (vec_len r.1 ≡ seats) × All (λ s. s ≡ fresh r.0.table) r.1.items) }
 {
     let mut all = Vec::with_capacity(alloc, seats as usize)?;
@@ -316,5 +322,5 @@ fn dealt(
         all.push_reserved(OwnerSeat { seat });
     }
     all.push_reserved(OwnerSeat { seat: rest });
-    Ok((Owners { table }, all))
+    Ok((Owners { table, slots }, all))
 }

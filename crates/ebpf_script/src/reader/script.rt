@@ -5,11 +5,11 @@ ghost use Rattle.std.specs.List.{list_all};
 ghost use Rattle.ebpf_script.specs.Names.{is_name};
 
 use ebpf_command::done::{FaultCode, Stop};
-use ebpf_pool::Jobs;
+use ebpf_core::event::Event;
 use ebpf_verify::decl::Decl;
-use ebpf_world::event::Event;
 use indexmap::IndexMap;
 use std::hash::{BuildHasherDefault, DefaultHasher};
+use worker_pool::Jobs;
 
 /// Which lines a script may have beside its programs.
 #[derive(Clone, Copy)]

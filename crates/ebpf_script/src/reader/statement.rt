@@ -15,9 +15,9 @@ use crate::reader::programs::program_of;
 use crate::reader::script::{ProgramText, Script};
 use ebpf_command::done::{FaultCode, Stop};
 use ebpf_command::hex_text::{hex_or_dash, hex_or_dash_in};
+use ebpf_core::event::{Answer, Event};
 use ebpf_machine::context::Context;
 use ebpf_verify::decl::Decl;
-use ebpf_world::event::{Answer, Event};
 use std::alloc::Global;
 
 /// Reads `program NAME CONTEXT HELD HEX`.

@@ -3,7 +3,7 @@
 //! A contract says what a call does, and each is proved where it is. Tried here is what no contract says: that the
 //! calls succeed where memory is there, and that the definitions mean the numbers that a person expects. Also what a pass of the
 //! reaper does, and that threads really take, give, exchange, claim, release and draw side by side. The crates themselves have no
-//! tests, so that they are proved once.
+//! tests, so that they are proved once. `surface` makes each public call once, so it is the module to read first.
 
 #[cfg(test)]
 mod arena;
@@ -21,3 +21,5 @@ mod owners;
 mod shelves;
 #[cfg(test)]
 mod slabs;
+#[cfg(test)]
+mod surface;

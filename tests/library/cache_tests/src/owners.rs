@@ -117,6 +117,26 @@ fn a_seat_that_is_gone_leaves_its_slots_owned(rt: HostRuntime) {
     assert!(&rt; matches!(words.as_slice(), [0, 4099]));
 }
 
+// Claims each slot of a table for the run of its own number, and finds its mark in the word of the slot.
+fn has_a_word_a_slot(rt: &impl Abort, alloc: Global, slots: u32) {
+    let (owners, mut a, b) = table_of(rt, alloc, slots);
+    for slot in 0..slots {
+        holds(rt, owners.claim(&mut a, slot, Mark { run: slot, at: 1 }).is_ok());
+    }
+    let words = words_of(rt, alloc, owners, a, b);
+    assert!(rt; words.len() == slots as usize, "{slots} slots");
+    for (slot, word) in words.iter().enumerate() {
+        assert!(rt; *word == (slot as u64 + 1) * 4096 + 1, "slot {slot} of {slots}");
+    }
+}
+
+#[test]
+fn tables_of_all_sizes_have_a_word_a_slot(rt: HostRuntime) {
+    for slots in [0, 1, 15, 16, 17, 4_095, 4_096, 4_097, 65_535, 65_536, 65_537, 131_072] {
+        has_a_word_a_slot(&rt, rt.alloc(), slots);
+    }
+}
+
 // The claim found that the run of the mark owns the slot, by the call of the mark.
 fn is_taken(claim: Result<(), Taken>, mark: Mark) -> bool {
     match claim {

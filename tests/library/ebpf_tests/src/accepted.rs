@@ -2,7 +2,7 @@
 
 use crate::programs::holds;
 use ebpf_command::judge::{Judged, judge};
-use ebpf_world::event::Event;
+use ebpf_core::event::Event;
 use ebpf_script::reader::read_script;
 use ebpf_script::reader::script::{Dialect, ProgramText, Script};
 use ebpf_state::kinds::kinds;

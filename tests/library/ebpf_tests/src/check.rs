@@ -3,7 +3,7 @@
 use crate::programs::{column, holds, is_told};
 use ebpf_command::done::Done;
 use ebpf_command::format::Format;
-use ebpf_script::check::check;
+use ebpf_script::check;
 use ebpf_script::explained_check::explained_check;
 use std::alloc::Global;
 use std::process::Abort;
@@ -34,6 +34,14 @@ run a -;program a! 0 0 -; | fault S7 line 1;
 arena 16;arena 16;run a -; | fault S8 line 2;
 program a 1 0 95;run a 0000;arena 1;arena 1; | fault S9 line 2;
 program b 0 0 9500000000000000;run b 00;reap; | fault S9 line 2;
+# of one line with three faults the lowest code is told; and one fault alone
+program ! 9999 0 9; | fault S4 line 1;
+program a 0 0 9; | fault S5 line 1;
+program a 0 0 -; | a refused I1 0;
+program a 0 0 -;program a 0 0 -; | fault S6 line 2;
+arena 1;arena 2; | fault S8 line 2;
+program a 2 0 95;run a 00; | fault S9 line 2;
+start a -; | fault S3 line 1;
 # the lines of events, and what is no line of jobs
 start a - | fault S3 line 1;
 exec 0 | fault S3 line 1;
@@ -86,7 +94,7 @@ fn is_checked(rt: &impl Abort, alloc: Global, row: &str, explains: bool) {
     let done = if explains {
         explained_check(alloc, &mut reader, &mut written, Format::Text)
     } else {
-        check(alloc, &mut reader, &mut written, Format::Text)
+        check(alloc, &mut reader, &mut written)
     };
     let done = done.expect(rt, "it is told");
     let told = str::from_utf8(&written).expect(rt, "it is a text");

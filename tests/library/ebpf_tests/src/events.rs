@@ -1,9 +1,8 @@
 //! Events in words, as a script has them, and what `replay` tells of them.
 
 use crate::programs::{column, is_told};
-use ebpf_command::format::Format;
-use ebpf_world::event::{Answer, Event};
-use ebpf_script::replay::replay;
+use ebpf_core::event::{Answer, Event};
+use ebpf_script::replay;
 use std::alloc::{AllocError, Global};
 use std::process::Abort;
 
@@ -43,7 +42,7 @@ pub(crate) fn is_replayed(
     let expected = format!(in alloc; "{verdicts}{expected}").expect(rt, "out of memory");
     let mut reader = script.as_bytes();
     let mut written = Vec::new(alloc);
-    let _ = replay(alloc, &mut reader, &mut written, Format::Text).expect(rt, "it is told");
+    let _ = replay(alloc, &mut reader, &mut written).expect(rt, "it is told");
     let told = str::from_utf8(&written).expect(rt, "it is a text");
     is_told(rt, row, told, expected.as_str());
 }

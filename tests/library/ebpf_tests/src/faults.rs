@@ -18,9 +18,9 @@ the paths that meet hold different references
 out of memory
 the context doesn't have the declared length
 out of memory
-the input can't be read
-the output can't be written
-out of memory
+input
+output
+no memory
 ";
 
 // The faults of the crates below the commands, and those of the commands, in words.

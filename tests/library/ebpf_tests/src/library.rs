@@ -1,8 +1,8 @@
 //! The library as its users call it: a run in a world.
 
 use crate::programs::{bytes_of, holds};
-use ebpf_world::event::{Answer, Event};
-use ebpf_world::world::{Status, World};
+use ebpf_core::event::{Answer, Event};
+use ebpf_core::world::{Status, World};
 use ebpf_flow::check::check;
 use ebpf_insn::decode::decode;
 use ebpf_machine::context::Context;

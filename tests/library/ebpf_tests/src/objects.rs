@@ -3,8 +3,8 @@
 use crate::accepted::read;
 use crate::events::is_replayed;
 use crate::programs::is_told;
-use ebpf_world::event::Event;
-use ebpf_world::world::World;
+use ebpf_core::event::Event;
+use ebpf_core::world::World;
 use std::alloc::AllocError;
 use std::process::Abort;
 use std::test::*;

@@ -152,3 +152,48 @@ fn raw_bytes_are_read_as_they_are(rt: HostRuntime) {
         is_told_of_raw(&rt, rt.alloc(), command, told);
     }
 }
+
+// Asks for a cell, writes to it, reads it and frees it.
+const ASKS: &str = "b701000000000000850000000100000015000500000000007a000000050000007906000000000000bf010000000000008500000002000000bf600000000000009500000000000000";
+
+// What is told of so many of its first bytes.
+fn told_of_first(bytes: usize) -> &'static str {
+    match bytes {
+        // its second slot, the call, is not there, or what follows it, or what the branch jumps to
+        8 => "refused F4 0\n",
+        16 => "refused F4 1\n",
+        24 | 32 | 40 | 48 | 56 | 64 => "refused F1 2\n",
+        72 => "accepted 9\nexit 5 executed 9 peak 1\n",
+        _ => "refused I1 0\n",
+    }
+}
+
+// Tries so many of its first bytes.
+fn is_told_of_first(rt: &impl Abort, alloc: Global, bytes: usize) {
+    let mut reader = &ASKS.as_bytes()[..2 * bytes];
+    let mut written = Vec::new(alloc);
+    let done = one(
+        alloc,
+        &mut reader,
+        &mut written,
+        Format::Text,
+        Form::Hex,
+        "-",
+        1,
+        false,
+    )
+    .expect(rt, "it is told");
+    let told = told_of_first(bytes);
+    let is_clean = matches!(done, Done::Clean);
+    assert!(rt;
+        is_clean == (bytes == 72) && written.as_slice() == told.as_bytes(),
+        "{bytes} bytes"
+    );
+}
+
+#[test]
+fn a_program_that_is_cut_off_is_refused(rt: HostRuntime) {
+    for bytes in 0..=72 {
+        is_told_of_first(&rt, rt.alloc(), bytes);
+    }
+}

@@ -2,13 +2,11 @@
 
 use crate::programs::holds;
 use ebpf_command::done::{Done, EngineFault};
-use ebpf_command::format::Format;
 use ebpf_command::output::{flush, write_bytes};
 use ebpf_command::piece::Piece;
 use ebpf_script::exit_line::ExitLine;
-use ebpf_script::meter::NoMeter;
 use ebpf_script::outcome_text::write_output;
-use ebpf_script::run::run;
+use ebpf_script::run;
 use ebpf_script::text_line::TextLine;
 use std::alloc::Global;
 use std::io;
@@ -136,7 +134,7 @@ fn comes<R: Abort + Threads + Wait + Sync>(
 ) {
     let mut reader = script.as_bytes();
     let mut writer = narrow(alloc, room);
-    let done = run(rt, alloc, &mut reader, &mut writer, Format::Text, false, 2, 0, &mut NoMeter);
+    let done = run(rt, alloc, &mut reader, &mut writer, 2, 0);
     let is_told = match done {
         Ok(Done::Clean) => room >= text.len(),
         Err(EngineFault::Output) => room < text.len(),

@@ -3,9 +3,9 @@
 
 use crate::accepted::{accepted, accepted_once, script_of};
 use crate::programs::holds;
-use ebpf_world::event::Event;
-use ebpf_world::fault::ApplyFault;
-use ebpf_world::world::{Status, World};
+use ebpf_core::event::Event;
+use ebpf_core::fault::ApplyFault;
+use ebpf_core::world::{Status, World};
 use ebpf_script::reader::read_script;
 use ebpf_script::reader::script::{Dialect, Script, ScriptStop};
 use ebpf_verify::verified::Verified;

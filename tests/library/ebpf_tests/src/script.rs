@@ -15,7 +15,7 @@ use ebpf_verify::fault::VerifyCode;
 use std::alloc::{AllocError, Global};
 use std::process::Abort;
 use std::test::*;
-use ebpf_pool::JobRef;
+use worker_pool::JobRef;
 
 const SCRIPT: &str = "# two programs\nprogram add 4 2 b7000000\n\tprogram Count-1_x 0 64 -\r\n\n\
 start add 00Ff\nstart Count-1_x -\n  # runs\nstart add -\n\

@@ -7,11 +7,8 @@ use ebpf_one::explain::explain;
 use ebpf_one::form::Form;
 use ebpf_one::list::list;
 use ebpf_one::one::one;
-use ebpf_script::check::check;
 use ebpf_script::explained_check::explained_check;
-use ebpf_script::meter::NoMeter;
-use ebpf_script::replay::replay;
-use ebpf_script::run::run;
+use ebpf_script::{check, replay, run};
 use std::alloc::Global;
 use std::io;
 use std::io::{Read, Write};
@@ -177,10 +174,10 @@ fn call<R: Threads + Wait + Sync>(
         "one" => one(alloc, reader, writer, Format::Text, Form::Hex, "-", 0, false),
         "list" => list(alloc, reader, writer, Format::Text, Form::Hex),
         "explain" => explain(alloc, reader, writer, Format::Text, Form::Hex, "-", 0),
-        "check" => check(alloc, reader, writer, Format::Text),
+        "check" => check(alloc, reader, writer),
         "check --explain" => explained_check(alloc, reader, writer, Format::Text),
-        "replay" => replay(alloc, reader, writer, Format::Text),
-        _ => run(rt, alloc, reader, writer, Format::Text, false, 2, 1, &mut NoMeter),
+        "replay" => replay(alloc, reader, writer),
+        _ => run(rt, alloc, reader, writer, 2, 1),
     }
 }
 

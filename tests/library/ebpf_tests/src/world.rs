@@ -3,10 +3,10 @@
 
 use crate::accepted::read;
 use crate::programs::{column, holds, is_told};
-use ebpf_world::event::{Answer, Event};
-use ebpf_world::fault::{ApplyCode, ApplyFault, ReplayFault};
-use ebpf_world::replay::replay;
-use ebpf_world::world::{Status, World};
+use ebpf_core::event::{Answer, Event};
+use ebpf_core::fault::{ApplyCode, ApplyFault, ReplayFault};
+use ebpf_core::replay::replay;
+use ebpf_core::world::{Status, World};
 use ebpf_machine::context::Context;
 use ebpf_verify::verified::Verified;
 use std::alloc::{AllocError, Global};

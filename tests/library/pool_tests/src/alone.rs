@@ -3,11 +3,11 @@
 use crate::store::{Given, Store, Sums};
 use ebpf_machine::report::{Reply, Report};
 use ebpf_machine::whole::run_to_exit;
-use ebpf_pool::{FEW_ANSWERS, JobReport};
 use ebpf_verify::verified::Verified;
 use std::alloc::{AllocError, Global};
 use std::marker::Brand;
 use std::sync::ledger::{Blank, Ledger};
+use worker_pool::{FEW_ANSWERS, JobReport};
 
 // Runs a program alone, with what its calls are given: its report, and what it was granted and refused of each kind, and put on
 // shelves and got from there.
@@ -36,14 +36,14 @@ fn alone_in<L: Ledger>(
     Ok((report, sums))
 }
 
-// A report of a run alone in words.
+// A report in words.
 pub(crate) fn tell(alloc: Global, report: &Report) -> Result<String, AllocError> {
     let numbers = (report.exit, report.executed, report.peak);
     in_words(alloc, numbers, &report.output.numbers, &report.answers.replies)
 }
 
-// A report of a job in words.
-pub(crate) fn tell_job(alloc: Global, report: &JobReport) -> Result<String, AllocError> {
+// A packed report in words.
+pub(crate) fn tell_packed(alloc: Global, report: &JobReport) -> Result<String, AllocError> {
     let numbers = (report.exit(), report.executed(), report.peak());
     let mut room = [Reply::Null; FEW_ANSWERS];
     in_words(alloc, numbers, report.output(), report.answers(&mut room))

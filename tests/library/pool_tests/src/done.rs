@@ -1,18 +1,17 @@
 //! Jobs that are done, and what comes of them.
 
-use crate::alone::{alone, tell, tell_job};
+use crate::alone::{alone, tell};
 use crate::facts::holds;
 use crate::jobs::{Setting, jobs_of};
 use crate::store::{Given, Sums};
 use crate::table::{are_free, claim_first, table_of};
-use ebpf_machine::report::Reply;
-use ebpf_pool::{FEW_ANSWERS, Gate, Host, JobReport, Jobs, Outcome, PoolFault, run_jobs};
 use ebpf_verify::verified::Verified;
 use object_cache::Totals;
 use std::alloc::{AllocError, Global};
 use std::process::Abort;
 use std::sync::Wait;
 use std::thread::Threads;
+use worker_pool::{Gate, Host, Job, Outcome, PoolFault, run_jobs};
 
 // Does the jobs of a setting, and tells what came of them: the fault or the outcome.
 pub(crate) fn done<G: Gate + Sync, R: Threads + Wait + Abort + Sync>(
@@ -64,41 +63,27 @@ pub(crate) fn outcome_of<G: Gate + Sync, R: Threads + Wait + Abort + Sync>(
     }
 }
 
-// All reports, in the order of the jobs.
-pub(crate) fn reports_in(alloc: Global, outcome: &Outcome) -> Result<Vec<&JobReport>, AllocError> {
-    let mut reports = Vec::new(alloc);
-    let mut left = outcome.reports.iter();
-    while let Some(report) = left.next() {
-        reports.push(report)?;
-    }
-    Ok(reports)
-}
-
 // Compares each report with its program run alone, and adds up what was granted and refused of each kind, and put on its shelf and
 // got from there.
 fn compared(
     rt: &impl Abort,
     alloc: Global,
     programs: &[Verified],
-    jobs: &Jobs,
+    jobs: &[Job],
     outcome: &Outcome,
 ) -> Result<Sums, AllocError> {
-    let reports = reports_in(alloc, outcome)?;
+    let reports = &outcome.reports.reports;
     holds(rt, "there is a report a job", reports.len() == jobs.len());
-    holds(rt, "as many as are said", outcome.reports.len() == jobs.len());
     let mut all = Sums::new();
-    for (number, report) in reports.iter().enumerate() {
-        let job = jobs.job(number);
+    for (job, report) in jobs.iter().zip(reports) {
         let verified = programs.get(job.program).ok_or(AllocError)?;
-        let context = job.context.to_vec(alloc)?;
+        let context = job.context.bytes.as_slice().to_vec(alloc)?;
         let given = Given {
-            answers: report
-                .answers(&mut [Reply::Null; FEW_ANSWERS])
-                .to_vec(alloc)?,
-            taken: report.taken().to_vec(alloc)?,
+            answers: report.answers.replies.as_slice().to_vec(alloc)?,
+            taken: report.taken.bytes.as_slice().to_vec(alloc)?,
         };
         let (expected, sums) = alone(alloc, verified, context, given)?;
-        let is_same = tell_job(alloc, report)? == tell(alloc, &expected)?;
+        let is_same = tell(alloc, report)? == tell(alloc, &expected)?;
         holds(rt, "a job is done as its program alone", is_same);
         add(&mut all.granted, &sums.granted);
         add(&mut all.refused, &sums.refused);
@@ -159,8 +144,8 @@ fn reports_told(alloc: Global, outcome: &Outcome) -> Result<String, AllocError> 
     let mut told = String::new(alloc);
     let mut last = String::new(alloc);
     let mut count: u64 = 0;
-    for report in &reports_in(alloc, outcome)? {
-        let next = tell_job(alloc, report)?;
+    for report in &outcome.reports.reports {
+        let next = tell(alloc, report)?;
         if count > 0 && next != last {
             write!(told, "{count} of {last}; ")?;
             count = 0;
@@ -175,7 +160,7 @@ fn reports_told(alloc: Global, outcome: &Outcome) -> Result<String, AllocError> 
 }
 
 // The totals of the caches in words, the clashes, what each shelf did that anything was put on, and the strays where there are any.
-pub(crate) fn totals_told(alloc: Global, outcome: &Outcome) -> Result<String, AllocError> {
+pub(crate) fn totals_told<R>(alloc: Global, outcome: &Outcome<R>) -> Result<String, AllocError> {
     let mut told = String::new(alloc);
     for totals in &outcome.totals {
         write!(told, "{}/{}/{} ", totals.allocs, totals.frees, totals.nulls)?;
@@ -189,7 +174,7 @@ pub(crate) fn totals_told(alloc: Global, outcome: &Outcome) -> Result<String, Al
 }
 
 // Adds what each shelf did that anything was put on: what was put there, what was got from there and what was left.
-fn tell_shelves(told: &mut String, outcome: &Outcome) -> Result<(), AllocError> {
+fn tell_shelves<R>(told: &mut String, outcome: &Outcome<R>) -> Result<(), AllocError> {
     for (number, shelf) in outcome.shelves.iter().enumerate() {
         if shelf.puts > 0 {
             write!(

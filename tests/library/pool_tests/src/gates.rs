@@ -9,7 +9,7 @@ use std::process::Abort;
 use std::sync::Wait;
 use std::sync::atomic::{AtomicU64, Ordering};
 use std::thread::{Threads, yield_now};
-use ebpf_pool::{Gate, Point};
+use worker_pool::{Gate, Point};
 
 // Who waits: the job or the pass of this number. For what: that job 0 has begun; that this many jobs after it were answered, from job
 // 1 on; and that this many passes were reported.

@@ -1,8 +1,9 @@
 //! Jobs, and what they are done with, from a row of a text.
 
+use ebpf_machine::context::Context;
 use ebpf_verify::verified::Verified;
 use std::alloc::{AllocError, Global};
-use ebpf_pool::Jobs;
+use worker_pool::{Job, Jobs};
 
 // What jobs are done with: how many workers, pages and passes of the reaper, and how many of the first slots another seat has
 // claimed; then how many jobs, and of which programs, over and over.
@@ -42,16 +43,16 @@ fn job_of(
     programs: &[Verified],
     letter: u8,
     number: u32,
-) -> Result<(usize, Vec<u8>), AllocError> {
+) -> Result<Job, AllocError> {
     let program = usize::from(letter.to_ascii_lowercase().wrapping_sub(b'a'));
     let declared = match programs.get(program) {
         Some(verified) => verified.decl().context,
         None => 0,
     };
     let excess = u32::from(letter.is_ascii_uppercase());
-    let mut context = Vec::new(alloc);
+    let mut bytes = Vec::new(alloc);
     for place in 0..declared.saturating_add(excess) {
-        context.push(
+        bytes.push(
             number
                 .to_le_bytes()
                 .get(place as usize)
@@ -59,7 +60,10 @@ fn job_of(
                 .unwrap_or(0),
         )?;
     }
-    Ok((program, context))
+    Ok(Job {
+        program,
+        context: Context { bytes },
+    })
 }
 
 // The jobs of a setting.
@@ -67,12 +71,20 @@ pub(crate) fn jobs_of(
     alloc: Global,
     programs: &[Verified],
     setting: &Setting<'_>,
-) -> Result<Jobs, AllocError> {
-    let mut jobs = Jobs::new(alloc);
+) -> Result<Vec<Job>, AllocError> {
+    let mut jobs = Vec::new(alloc);
     let letters = setting.letters.as_bytes();
     for (letter, number) in letters.iter().cycle().zip(0..setting.count) {
-        let (program, context) = job_of(alloc, programs, *letter, number)?;
-        jobs.push(program, &context)?;
+        jobs.push(job_of(alloc, programs, *letter, number)?)?;
     }
     Ok(jobs)
+}
+
+// The same jobs, one after another in one list.
+pub(crate) fn list_of(alloc: Global, jobs: &[Job]) -> Result<Jobs, AllocError> {
+    let mut list = Jobs::new(alloc);
+    for job in jobs {
+        list.push(job.program, &job.context.bytes)?;
+    }
+    Ok(list)
 }

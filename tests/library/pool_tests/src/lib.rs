@@ -5,6 +5,8 @@
 //! person expects. One fault of several is reported, and every want of memory is answered. Where there are many cases they are rows of one text. What a job reports is compared with its program run
 //! alone, over a store of the tests' own.
 //!
+//! `surface` makes each public call once, so it is the module to read first.
+//!
 //! The store is no test, since the definitions that speak of it are read without the tests too.
 
 #[cfg(test)]
@@ -22,6 +24,8 @@ mod marks;
 #[cfg(test)]
 mod memory;
 #[cfg(test)]
+mod packed;
+#[cfg(test)]
 mod programs;
 #[cfg(test)]
 mod rows;
@@ -30,6 +34,8 @@ mod shelves;
 mod store;
 #[cfg(test)]
 mod strays;
+#[cfg(test)]
+mod surface;
 #[cfg(test)]
 mod table;
 #[cfg(test)]

@@ -11,7 +11,7 @@ use std::alloc::{AllocError, Global};
 use std::sync::atomic::{AtomicU64, Ordering};
 use std::sync::{Mutex, Wait};
 use std::thread::yield_now;
-use ebpf_pool::{Gate, Host, Point, owners_slot, run_jobs};
+use worker_pool::{Gate, Host, Point, run_jobs};
 
 // The slots of cells on the one page of the arena.
 const SLOTS: u32 = 256;
@@ -89,7 +89,7 @@ impl<R: Wait> Witness<'_, R> {
         let mut outsider = self.outsider.lock(self.rt);
         let outsider = &mut *outsider;
         for turn in 0..TURNS {
-            let is_found = self.has_found(outsider, owners_slot(turn % SLOTS));
+            let is_found = self.has_found(outsider, turn % SLOTS);
             if is_found || self.answered.load(Ordering::SeqCst) == OTHERS {
                 return;
             }

@@ -7,7 +7,7 @@ use std::alloc::Global;
 use std::process::Abort;
 use std::sync::Wait;
 use std::thread::Threads;
-use ebpf_pool::NoGate;
+use worker_pool::NoGate;
 
 // Whatever is refused, the jobs of a setting are done and add up, or want of memory is reported, with all seats back.
 fn is_answered<R: Threads + Wait + Abort + Print + Sync>(rt: &R, alloc: Global, setting: &str) {

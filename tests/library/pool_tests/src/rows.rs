@@ -8,7 +8,7 @@ use std::alloc::{AllocError, Global};
 use std::process::Abort;
 use std::sync::Wait;
 use std::thread::Threads;
-use ebpf_pool::NoGate;
+use worker_pool::NoGate;
 
 // A row: what it shows; the workers, the pages, the passes of the reaper, the slots that another seat claimed, and how many
 // jobs there are, of which programs; and what is reported. A total says what was given, what came back and what was refused.

@@ -1,14 +1,15 @@
 //! Objects that jobs leave on shelves for one another, each with the number of the job that made it in its bytes.
 
-use crate::done::{outcome_of, reports_in, totals_told};
+use crate::done::{outcome_of, totals_told};
 use crate::facts::{holds, is_told};
 use crate::jobs::{Setting, setting_of};
 use crate::programs::programs_of;
+use ebpf_machine::report::Report;
 use std::alloc::{AllocError, Global};
 use std::process::Abort;
 use std::sync::Wait;
 use std::thread::Threads;
-use ebpf_pool::{JobReport, NoGate, Outcome};
+use worker_pool::{NoGate, Outcome};
 
 // What comes of the jobs of a setting, where there is no fault.
 fn outcome_for<R: Threads + Wait + Abort + Sync>(
@@ -24,19 +25,19 @@ fn outcome_for<R: Threads + Wait + Abort + Sync>(
 }
 
 // The job put an object on the shelf and found nothing there.
-fn is_first(report: &JobReport) -> bool {
-    matches!(report.exit(), Some(1)) && report.executed() == 10 && report.peak() == 1
+fn is_first(report: &Report) -> bool {
+    matches!(report.exit, Some(1)) && report.executed == 10 && report.peak == 1
 }
 
 // The job put an object on the shelf and freed what it found there.
-fn is_later(report: &JobReport) -> bool {
-    matches!(report.exit(), Some(1)) && report.executed() == 12 && report.peak() == 1
+fn is_later(report: &Report) -> bool {
+    matches!(report.exit, Some(1)) && report.executed == 12 && report.peak == 1
 }
 
 #[test]
 fn one_job_of_a_hundred_finds_its_shelf_empty(rt: HostRuntime) -> Result<(), AllocError> {
     let outcome = outcome_for(&rt, rt.alloc(), &setting_of("64 16 0 0 100 h"))?;
-    let reports = reports_in(rt.alloc(), &outcome)?;
+    let reports = &outcome.reports.reports;
     let first = reports.iter().filter(|report| is_first(report)).count();
     let later = reports.iter().filter(|report| is_later(report)).count();
     holds(&rt, "one found nothing", first == 1 && later == 99);
@@ -47,8 +48,8 @@ fn one_job_of_a_hundred_finds_its_shelf_empty(rt: HostRuntime) -> Result<(), All
 }
 
 // The number that a job read in what it took off a shelf, if it took anything: it is at both ends.
-fn number_in(rt: &impl Abort, report: &JobReport) -> Option<u64> {
-    match report.output() {
+fn number_in(rt: &impl Abort, report: &Report) -> Option<u64> {
+    match report.output.numbers.as_slice() {
         [first, last] => {
             holds(rt, "an object is not torn", first == last);
             Some(*first)
@@ -61,9 +62,9 @@ fn number_in(rt: &impl Abort, report: &JobReport) -> Option<u64> {
 }
 
 // The job of this number left an object on a shelf.
-fn has_left(reports: &[&JobReport], number: u64) -> bool {
+fn has_left(reports: &[Report], number: u64) -> bool {
     match reports.get(number as usize) {
-        Some(report) => matches!(report.exit(), Some(1)),
+        Some(report) => matches!(report.exit, Some(1)),
         None => false,
     }
 }
@@ -85,7 +86,7 @@ fn is_new(seen: &mut [bool], number: u64) -> bool {
 fn count_read(
     rt: &impl Abort,
     alloc: Global,
-    reports: &[&JobReport],
+    reports: &[Report],
     kinds: u64,
 ) -> Result<u64, AllocError> {
     let mut seen = vec![in alloc; false; reports.len()]?;
@@ -118,12 +119,12 @@ fn is_handed_over(
     outcome: &Outcome,
     kinds: u64,
 ) -> Result<(), AllocError> {
-    let reports = reports_in(alloc, outcome)?;
+    let reports = &outcome.reports.reports;
     let put = reports
         .iter()
-        .filter(|report| matches!(report.exit(), Some(1)))
+        .filter(|report| matches!(report.exit, Some(1)))
         .count();
-    let read = count_read(rt, alloc, &reports, kinds)?;
+    let read = count_read(rt, alloc, reports, kinds)?;
     let kept = read.wrapping_add(left_in(outcome));
     holds(rt, "no object is lost", put as u64 == kept);
     holds(rt, "objects were handed over", read > 0);

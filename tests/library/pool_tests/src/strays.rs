@@ -11,7 +11,7 @@ use std::alloc::{AllocError, Global};
 use std::process::Abort;
 use std::sync::{Mutex, Wait};
 use std::thread::Threads;
-use ebpf_pool::{Gate, Host, Point, owners_slot, run_jobs};
+use worker_pool::{Gate, Host, Point, run_jobs};
 
 // The slots of cells on the first page of an arena.
 const SLOTS: u32 = 256;
@@ -68,7 +68,7 @@ impl<R: Wait> Gate for Thief<'_, R> {
             let mut outsider = self.outsider.lock(self.rt);
             let outsider = &mut *outsider;
             for slot in 0..SLOTS {
-                outsider.fetch(owners_slot(slot), self.deed);
+                outsider.fetch(slot, self.deed);
             }
         }
     }

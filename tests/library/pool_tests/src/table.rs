@@ -5,7 +5,6 @@ use owners_table::mark::{Mark, WORDS_OF_A_RUN};
 use owners_table::owners::{OwnerSeat, Owners};
 use std::alloc::{AllocError, Global};
 use std::process::Abort;
-use ebpf_pool::owners_slot;
 
 // A slot for each object of any arena.
 const SLOTS: u32 = 65_536;
@@ -22,15 +21,15 @@ pub(crate) fn table_of(
     Ok((owners, seats, other))
 }
 
-// The seat claims this many of the first slots of an arena.
+// The seat claims this many of the first slots.
 pub(crate) fn claim_first(rt: &impl Abort, owners: &Owners, seat: &mut OwnerSeat, count: u32) {
     for slot in 0..count.min(SLOTS) {
-        let claim = owners.claim(seat, owners_slot(slot), Mark { run: 0, at: 0 });
+        let claim = owners.claim(seat, slot, Mark { run: 0, at: 0 });
         holds(rt, "the slot was free", claim.is_ok());
     }
 }
 
-// That runs have this many of the first slots of an arena, and no others, and that no shelf has one, once the table is closed.
+// That runs have this many of the first slots, and no others, and that no shelf has one, once the table is closed.
 pub(crate) fn are_free(
     rt: &impl Abort,
     alloc: Global,
@@ -42,7 +41,7 @@ pub(crate) fn are_free(
     let mut seats = seats;
     seats.push(other)?;
     let words = owners.close(alloc, seats)?;
-    let owned = (0..SLOTS).take_while(|slot| is_of_a_run(words[owners_slot(*slot) as usize])).count();
+    let owned = (0..SLOTS).take_while(|slot| is_of_a_run(words[*slot as usize])).count();
     let free = words.iter().filter(|word| **word == 0).count();
     holds(
         rt,

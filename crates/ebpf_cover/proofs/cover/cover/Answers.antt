@@ -1,5 +1,5 @@
 use Rattle.std.proofs.Common.{◌≡◌, ◌<◌, ◌+◌, ◌∷◌, drop, length, get_or, sym, ◌∙◌, subst, rules, arith}
-use Rattle.ebpf_pool.specs.JobLists.{job_of}
+use Rattle.worker_pool.specs.JobLists.{job_of}
 use Rattle.std.proofs.lemmas.Option.{get_or_from_slice_get}
 use Rattle.ebpf_cover.specs.declared.tally.Tally.{Tally}
 use Rattle.ebpf_cover.specs.Stretches.{IsTally, executed_so_far, taken_so_far}

@@ -1,7 +1,7 @@
 use Rattle.std.proofs.Common.{◌≡◌, ◌≤◌, take}
 use Rattle.std.specs.Prelude.{count_by, is_some}
-use Rattle.ebpf_world.specs.Shown.{OfWorld}
-use Rattle.ebpf_world.specs.Readers.{owner_in}
+use Rattle.ebpf_core.specs.Shown.{OfWorld}
+use Rattle.ebpf_core.specs.Readers.{owner_in}
 use Rattle.ebpf_script.proofs.world_text.held_of.Given as goal
 
 abbrev pub invariant-loop-slot : goal.invariant-loop-slot

@@ -1,5 +1,5 @@
 use Rattle.std.proofs.Common.{◌≡◌, ◌++◌, string_bytes}
-use Rattle.ebpf_world.specs.Shown.{OfWorld}
+use Rattle.ebpf_core.specs.Shown.{OfWorld}
 use Rattle.ebpf_script.specs.WorldLines.{runs_below}
 use Rattle.ebpf_script.proofs.world_text.write_runs.Given as goal
 

@@ -2,7 +2,8 @@ use Rattle.std.proofs.Common.{ℕ, [], ◌∷◌, ◌++◌, List, refl, sym, ap,
 use Rattle.owners_table.specs.declared.owning.OwnerSheet.{OwnerSheet}
 use Rattle.owners_table.specs.Marking.{mark_word}
 use Rattle.owners_table.specs.Sheets.{first_or, sheet_of}
-use Rattle.owners_table.specs.Owning.{SeatView, OwnersView, Holds, owner_word, blank}
+use Rattle.owners_table.specs.Owning.{SeatView, OwnersView, Holds, IsOwn, after_claim, owner_word, word_at, blank}
+use Rattle.owners_table.proofs.PlaceLemmas.{inside}
 use Rattle.owners_table.proofs.Dealing.{only-first}
 use Rattle.owners_table.proofs.OwningSteps.{counts-try, claim-rest, claims, held-won, held-lost, owner-there}
 use Rattle.owners_table.proofs.owners.Owners.claim.Goals as goal
@@ -11,7 +12,10 @@ pub compare_exchange-found-requires : goal.compare_exchange-found-requires
 compare_exchange-found-requires c =
     let wide = c.self.invariant.0 in
     let slots = ap (λ (o : OwnersView). o.slots) c.self.view_is in
-    let inside = c.requires.slot in (
+    let back = c.place.ensures.back in
+    let low = c.requires.slot in
+    let key = c.self.invariant.2 in
+    let there = inside c.self.inside.slots c.place.result (omega (arith, slots, back, low)) in (
       ap (λ (v : SeatView). v.table) c.seat.view_is ∙ (c.requires.table ∙ sym (ap (λ (o : OwnersView). o.table) c.self.view_is)),
       omega arith,
       claims _ _ _ _ _ _ _ _ c.seat.invariant.0 (omega arith) c.word.ensures.range,
@@ -30,7 +34,8 @@ returns-in_default-clause-tries c =
 
 pub returns-in_default-clause-ok : goal.returns-in_default-clause-ok
 returns-in_default-clause-ok c =
-    let e = (c.compare_exchange-found.ensures.2.2 _ c.seat.invariant.0).0 in
+    let back = ap (λ (s : ℕ). after_claim s c.word.result c.compare_exchange-found.result (sheet_of blank c.seat.inside.seat) ∷ []) c.place.ensures.back in
+    let e = (c.compare_exchange-found.ensures.2.2 _ c.seat.invariant.0).0 ∙ back in
     let free = sym c.in_default.ensures.word in
     let slot = c.args.slot in
     let sheet = sheet_of blank c.seat.inside.seat in (
@@ -42,12 +47,13 @@ returns-in_default-clause-ok c =
 
 pub returns-in_default-clause-rest : goal.returns-in_default-clause-rest
 returns-in_default-clause-rest c =
-    let e = (c.compare_exchange-found.ensures.2.2 _ c.seat.invariant.0).0 in
+    let back = ap (λ (s : ℕ). after_claim s c.word.result c.compare_exchange-found.result (sheet_of blank c.seat.inside.seat) ∷ []) c.place.ensures.back in
+    let e = (c.compare_exchange-found.ensures.2.2 _ c.seat.invariant.0).0 ∙ back in
     claim-rest c.args.slot c.word.result c.compare_exchange-found.result _ c.seat.inside.seat _ e c.seat.view_is
 
 pub returns-in_default-clause-own : goal.returns-in_default-clause-own
 returns-in_default-clause-own c has =
-    let own = (c.compare_exchange-found.ensures.2.2 _ c.seat.invariant.0).1 (subst (λ (v : SeatView). Holds c.args.slot v.held) (sym c.seat.view_is) has) in
+    let own = subst (λ (s : ℕ). IsOwn s c.compare_exchange-found.result (sheet_of blank c.seat.inside.seat).held) c.place.ensures.back ((c.compare_exchange-found.ensures.2.2 _ c.seat.invariant.0).1) (subst (λ (v : SeatView). Holds c.args.slot v.held) (sym c.seat.view_is) has) in
     let run = own.0 in
     let free = c.in_default.ensures.word in
     omega arith
@@ -65,7 +71,8 @@ returns-clause-tries c =
 
 pub returns-clause-taken : goal.returns-clause-taken
 returns-clause-taken c =
-    let e = (c.compare_exchange-found.ensures.2.2 _ c.seat.invariant.0).0 in
+    let back = ap (λ (s : ℕ). after_claim s c.word.result c.compare_exchange-found.result (sheet_of blank c.seat.inside.seat) ∷ []) c.place.ensures.back in
+    let e = (c.compare_exchange-found.ensures.2.2 _ c.seat.invariant.0).0 ∙ back in
     let found = c.in-Some.ensures.word in
     let slot = c.args.slot in
     let sheet = sheet_of blank c.seat.inside.seat in (
@@ -77,5 +84,11 @@ returns-clause-taken c =
 
 pub returns-clause-rest : goal.returns-clause-rest
 returns-clause-rest c =
-    let e = (c.compare_exchange-found.ensures.2.2 _ c.seat.invariant.0).0 in
+    let back = ap (λ (s : ℕ). after_claim s c.word.result c.compare_exchange-found.result (sheet_of blank c.seat.inside.seat) ∷ []) c.place.ensures.back in
+    let e = (c.compare_exchange-found.ensures.2.2 _ c.seat.invariant.0).0 ∙ back in
     claim-rest c.args.slot c.word.result c.compare_exchange-found.result _ c.seat.inside.seat _ e c.seat.view_is
+
+pub returns-clause-own : goal.returns-clause-own
+returns-clause-own c has =
+    let own = subst (λ (s : ℕ). IsOwn s c.compare_exchange-found.result (sheet_of blank c.seat.inside.seat).held) c.place.ensures.back ((c.compare_exchange-found.ensures.2.2 _ c.seat.invariant.0).1) (subst (λ (v : SeatView). Holds c.args.slot v.held) (sym c.seat.view_is) has) in
+    c.in-Some.ensures.word ∙ (own.1 ∙ ap (λ (v : SeatView). word_at c.args.slot v.held) c.seat.view_is)

@@ -2,7 +2,8 @@ use Rattle.std.proofs.Common.{ℕ, ◌+◌, [], ◌∷◌, ◌++◌, List, refl,
 use Rattle.owners_table.specs.declared.owning.OwnerSheet.{OwnerSheet}
 use Rattle.owners_table.specs.Marking.{mark_word}
 use Rattle.owners_table.specs.Sheets.{first_or, sheet_of}
-use Rattle.owners_table.specs.Owning.{SeatView, OwnersView, Holds, found_word, blank}
+use Rattle.owners_table.specs.Owning.{SeatView, OwnersView, Holds, IsOwn, after_fetch, found_word, word_at, blank}
+use Rattle.owners_table.proofs.PlaceLemmas.{inside}
 use Rattle.owners_table.proofs.Dealing.{only-first}
 use Rattle.owners_table.proofs.OwningSteps.{counts-try, fetch-rest, fetches, held-won, held-lost}
 use Rattle.owners_table.proofs.owners.Owners.fetch.Goals as goal
@@ -11,7 +12,10 @@ pub compare_exchange-found-requires : goal.compare_exchange-found-requires
 compare_exchange-found-requires c =
     let wide = c.self.invariant.0 in
     let slots = ap (λ (o : OwnersView). o.slots) c.self.view_is in
-    let inside = c.requires.slot in
+    let back = c.place.ensures.back in
+    let low = c.requires.slot in
+    let key = c.self.invariant.2 in
+    let there = inside c.self.inside.slots c.place.result (omega (arith, slots, back, low)) in
     let shelf = c.requires.shelf in
     let same = c.from-wanted.ensures in (
       ap (λ (v : SeatView). v.table) c.seat.view_is ∙ (c.requires.table ∙ sym (ap (λ (o : OwnersView). o.table) c.self.view_is)),
@@ -32,7 +36,8 @@ returns-then-found-wanted-clause-tries c =
 
 pub returns-then-found-wanted-clause-other : goal.returns-then-found-wanted-clause-other
 returns-then-found-wanted-clause-other c =
-    let e = (c.compare_exchange-found.ensures.2.2 _ c.seat.invariant.0).0 in
+    let back = ap (λ (s : ℕ). after_fetch s (c.from-wanted.result + 1) c.word.result c.compare_exchange-found.result (sheet_of blank c.seat.inside.seat) ∷ []) c.place.ensures.back in
+    let e = (c.compare_exchange-found.ensures.2.2 _ c.seat.invariant.0).0 ∙ back in
     let found = c.owner_with.ensures.word in
     let wanted = c.from-wanted.ensures in
     let other = c.if-found-wanted.true in
@@ -49,7 +54,8 @@ returns-then-found-wanted-clause-other c =
 
 pub returns-then-found-wanted-clause-rest : goal.returns-then-found-wanted-clause-rest
 returns-then-found-wanted-clause-rest c =
-    let e = (c.compare_exchange-found.ensures.2.2 _ c.seat.invariant.0).0 in
+    let back = ap (λ (s : ℕ). after_fetch s (c.from-wanted.result + 1) c.word.result c.compare_exchange-found.result (sheet_of blank c.seat.inside.seat) ∷ []) c.place.ensures.back in
+    let e = (c.compare_exchange-found.ensures.2.2 _ c.seat.invariant.0).0 ∙ back in
     fetch-rest c.args.slot (c.from-wanted.result + 1) c.word.result c.compare_exchange-found.result _ c.seat.inside.seat _ e c.seat.view_is
 
 pub invariant_of-seat-2 : goal.invariant_of-seat-2
@@ -65,7 +71,8 @@ returns-clause-tries c =
 
 pub returns-clause-ok : goal.returns-clause-ok
 returns-clause-ok c =
-    let e = (c.compare_exchange-found.ensures.2.2 _ c.seat.invariant.0).0 in
+    let back = ap (λ (s : ℕ). after_fetch s (c.from-wanted.result + 1) c.word.result c.compare_exchange-found.result (sheet_of blank c.seat.inside.seat) ∷ []) c.place.ensures.back in
+    let e = (c.compare_exchange-found.ensures.2.2 _ c.seat.invariant.0).0 ∙ back in
     let found = c.if-found-wanted.false in
     let slot = c.args.slot in
     let sheet = sheet_of blank c.seat.inside.seat in (
@@ -81,14 +88,20 @@ returns-clause-ok c =
 
 pub returns-clause-rest : goal.returns-clause-rest
 returns-clause-rest c =
-    let e = (c.compare_exchange-found.ensures.2.2 _ c.seat.invariant.0).0 in
+    let back = ap (λ (s : ℕ). after_fetch s (c.from-wanted.result + 1) c.word.result c.compare_exchange-found.result (sheet_of blank c.seat.inside.seat) ∷ []) c.place.ensures.back in
+    let e = (c.compare_exchange-found.ensures.2.2 _ c.seat.invariant.0).0 ∙ back in
     fetch-rest c.args.slot (c.from-wanted.result + 1) c.word.result c.compare_exchange-found.result _ c.seat.inside.seat _ e c.seat.view_is
 
 pub returns-clause-own : goal.returns-clause-own
 returns-clause-own c has =
-    let own = (c.compare_exchange-found.ensures.2.2 _ c.seat.invariant.0).1 (subst (λ (v : SeatView). Holds c.args.slot v.held) (sym c.seat.view_is) has) in
+    let own = subst (λ (s : ℕ). IsOwn s c.compare_exchange-found.result (sheet_of blank c.seat.inside.seat).held) c.place.ensures.back ((c.compare_exchange-found.ensures.2.2 _ c.seat.invariant.0).1) (subst (λ (v : SeatView). Holds c.args.slot v.held) (sym c.seat.view_is) has) in
     let run = own.0 in
     let found = c.if-found-wanted.false in
     let shelf = c.requires.shelf in
     let same = c.from-wanted.ensures in
     omega arith
+
+pub returns-then-found-wanted-clause-own : goal.returns-then-found-wanted-clause-own
+returns-then-found-wanted-clause-own c has =
+    let own = subst (λ (s : ℕ). IsOwn s c.compare_exchange-found.result (sheet_of blank c.seat.inside.seat).held) c.place.ensures.back ((c.compare_exchange-found.ensures.2.2 _ c.seat.invariant.0).1) (subst (λ (v : SeatView). Holds c.args.slot v.held) (sym c.seat.view_is) has) in
+    c.owner_with.ensures.word ∙ (own.1 ∙ ap (λ (v : SeatView). word_at c.args.slot v.held) c.seat.view_is)

@@ -1,4 +1,0 @@
-use Rattle.ebpf_script.proofs.replay.write_stop_object.Goals as goal
-
-pub returns : goal.returns
-returns c = rw (← c.apply_name-code.ensures) c.write.ensures.bytes

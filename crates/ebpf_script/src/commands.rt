@@ -1,0 +1,95 @@
+//! The commands in plain text: no JSON, no counts of what was executed, and no meter.
+//!
+//! A caller that wants one of these calls `check_script`, `replay_script` or `run_script`, which do the work.
+
+ghost use Rattle.std.specs.Prelude.{◌≡◌, ◌≢◌, ◌≤◌, false, IfErr};
+ghost use Rattle.ebpf_command.specs.declared.done.EngineFault.TheVariants.{Output};
+ghost use Rattle.ebpf_command.specs.declared.format.Format.TheVariants.{Text};
+ghost use Rattle.ebpf_command.specs.Writing.{Writes, WritesBeginning, Reads};
+ghost use Rattle.ebpf_script.specs.CheckText.{RespondsCheck};
+ghost use Rattle.ebpf_script.specs.ReplayText.{RespondsReplay};
+ghost use Rattle.ebpf_script.specs.RunText.{RespondsRun};
+
+use crate::check_script::check_script;
+use crate::meter::NoMeter;
+use crate::replay_script::replay_script;
+use crate::run_script::run_script;
+use ebpf_command::done::{Done, EngineFault};
+use ebpf_command::format::Format;
+use std::alloc::Global;
+use std::io::{Read, Write};
+use std::sync::Wait;
+use std::thread::Threads;
+
+/// Reads a script of jobs, judges its programs, and writes the verdict on each. No job is done.
+///
+/// # Errors
+/// `Input` where a read failed and `NoMemory` where an allocation failed: nothing was written then. `Output` where a write
+/// failed or took nothing.
+pub fn check<R: Read, W: Write>(
+    alloc: Global,
+    reader: &mut R,
+    writer: &mut W,
+) -> Result<Done, EngineFault>
+    // The text of the input is written, and nothing else.
+    ensures response { Writes (RespondsCheck Text) (R.remaining reader.old) (W.contents writer.old) (W.contents writer.new) result }
+    ensures consumed { Reads (R.remaining reader.old) (R.remaining reader.new) result }
+    ensures untouched { IfErr result (λ fault. fault ≢ Output → writer.new ≡ writer.old) }
+    ensures beginning { WritesBeginning (RespondsCheck Text) (R.remaining reader.old) (W.contents writer.old) (W.contents writer.new) result }
+{
+    check_script(alloc, reader, writer, Format::Text)
+}
+
+/// Reads a script of events, judges its programs, makes the world after the events, and writes what became of each run.
+///
+/// # Errors
+/// `Input` where a read failed and `NoMemory` where an allocation failed: nothing was written then. `Output` where a write
+/// failed or took nothing.
+pub fn replay<R: Read, W: Write>(
+    alloc: Global,
+    reader: &mut R,
+    writer: &mut W,
+) -> Result<Done, EngineFault>
+    // The text of the input is written, and nothing else.
+    ensures response { Writes (RespondsReplay Text) (R.remaining reader.old) (W.contents writer.old) (W.contents writer.new) result }
+    ensures consumed { Reads (R.remaining reader.old) (R.remaining reader.new) result }
+    ensures untouched { IfErr result (λ fault. fault ≢ Output → writer.new ≡ writer.old) }
+    ensures beginning { WritesBeginning (RespondsReplay Text) (R.remaining reader.old) (W.contents writer.old) (W.contents writer.new) result }
+{
+    replay_script(alloc, reader, writer, Format::Text)
+}
+
+/// Reads a script of jobs, judges its programs, has the jobs done by this many workers, and writes what came of each job, of the
+/// caches and of the shelves. Beside the workers the reaper makes this many passes, and those that the script asks for.
+///
+/// # Errors
+/// `Input` where a read failed and `NoMemory` where an allocation failed: nothing was written then. `Output` where a write
+/// failed or took nothing.
+pub fn run<R: Threads + Wait + Sync, I: Read, W: Write>(
+    rt: &R,
+    alloc: Global,
+    reader: &mut I,
+    writer: &mut W,
+    workers: u32,
+    reaps: u32,
+) -> Result<Done, EngineFault>
+    requires workers { (1 ≤ workers) × (workers ≤ 64) }
+    requires reaps { reaps ≤ 1000 }
+    // A text of the input is written, and nothing else.
+    ensures response { Writes (RespondsRun false Text) (I.remaining reader.old) (W.contents writer.old) (W.contents writer.new) result }
+    ensures consumed { Reads (I.remaining reader.old) (I.remaining reader.new) result }
+    ensures untouched { IfErr result (λ fault. fault ≢ Output → writer.new ≡ writer.old) }
+    ensures beginning { WritesBeginning (RespondsRun false Text) (I.remaining reader.old) (W.contents writer.old) (W.contents writer.new) result }
+{
+    run_script(
+        rt,
+        alloc,
+        reader,
+        writer,
+        Format::Text,
+        false,
+        workers,
+        reaps,
+        &mut NoMeter,
+    )
+}

@@ -1,0 +1,196 @@
+//! The command `run`: programs, and jobs that workers do with them.
+
+ghost use Rattle.std.specs.Prelude.{◌≡◌, ◌≢◌, ◌+◌, ◌≤◌, ◌<◌, ◌^◌, ◌++◌, string_bytes, None, Ok, IfOk, IfErr, OnOk};
+ghost use Rattle.ebpf_machine.specs.Kinds.{AreKnown};
+ghost use Rattle.worker_pool.specs.Admission.{pool_fault};
+ghost use Rattle.ebpf_command.specs.declared.done.EngineFault.TheVariants.{Output};
+ghost use Rattle.ebpf_command.specs.Writing.{Writes, WritesBeginning, Reads};
+ghost use Rattle.ebpf_script.specs.ReadScripts.{parsed_script};
+ghost use Rattle.ebpf_script.specs.Runnable.{IsRunnable};
+ghost use Rattle.ebpf_script.specs.RunAnswers.{run_response, totals_in};
+ghost use Rattle.ebpf_script.specs.RunText.{RespondsRun, DoesRun, MayCome};
+ghost use Rattle.ebpf_script.specs.ScriptText.{RespondsScript};
+
+use crate::covered_text::write_covered_in;
+use crate::meter::{Meter, Stage};
+use crate::outcome_json::write_total_objects;
+use crate::outcome_text::write_totals;
+use crate::reader::read_script;
+use crate::reader::script::{Dialect, Script, ScriptStop};
+use crate::run_answer::{JobsAnswer, RunAnswer};
+use crate::verdicts::verdicts_on;
+use ebpf_command::answer::{Answer, answer_fault_in};
+use ebpf_command::done::{Done, EngineFault};
+use ebpf_command::format::Format;
+use ebpf_command::input::read_input;
+use owners_table::owners::Owners;
+use std::alloc::{AllocError, Global};
+use std::io::{Read, Write};
+use std::sync::Wait;
+use std::thread::Threads;
+use vmem_arena::MAX_PAGES;
+use worker_pool::{Host, Jobs, NoGate, Outcome, PackedReports, PoolFault, run_job_list};
+
+/// Reads a script of jobs, judges its programs, has the jobs done by this many workers, and writes what came of each, of the caches and of
+/// the shelves, and where that is asked for how often all jobs executed each instruction. The reaper makes this many passes beside them,
+/// and those of the script's lines. The meter learns how far it is, and what the caches and the workers did.
+///
+/// # Errors
+/// `Input` where a read failed and `NoMemory` where an allocation failed: nothing was written then. `Output` where a write
+/// failed or took nothing.
+pub fn run_script<R: Threads + Wait + Sync, I: Read, W: Write, M: Meter>(
+    rt: &R,
+    alloc: Global,
+    reader: &mut I,
+    writer: &mut W,
+    format: Format,
+    covered: bool,
+    workers: u32,
+    reaps: u32,
+    meter: &mut M,
+) -> Result<Done, EngineFault>
+    requires workers { (1 ≤ workers) × (workers ≤ 64) }
+    requires reaps { reaps ≤ 1000 }
+    // A text of the input is written, and nothing else.
+    ensures response { Writes (RespondsRun covered format) (I.remaining reader.old) (W.contents writer.old) (W.contents writer.new) result }
+    ensures consumed { Reads (I.remaining reader.old) (I.remaining reader.new) result }
+    ensures untouched { IfErr result (λ fault. fault ≢ Output → writer.new ≡ writer.old) }
+    ensures beginning { WritesBeginning (RespondsRun covered format) (I.remaining reader.old) (W.contents writer.old) (W.contents writer.new) result }
+{
+    let input = read_input(alloc, reader)?;
+    meter.ended(Stage::Reading);
+    let answer = answer_text(rt, alloc, format, covered, input, workers, reaps, meter)?;
+    let done = answer.write(alloc, writer)?;
+    meter.ended(Stage::Writing);
+    Ok(done)
+}
+
+// The response to a text, whose memory is given back before the jobs are done: their reports take it.
+fn answer_text<R: Threads + Wait + Sync, M: Meter>(
+    rt: &R,
+    alloc: Global,
+    format: Format,
+    covered: bool,
+    text: Vec<u8>,
+    workers: u32,
+    reaps: u32,
+    meter: &mut M,
+) -> Result<RunAnswer, AllocError>
+    requires workers { (1 ≤ workers) × (workers ≤ 64) }
+    requires reaps { reaps ≤ 1000 }
+    ensures { IfOk result (λ answer. RespondsRun covered format text.items (run_response answer)) }
+{
+    let script = read_script(alloc, Dialect::Jobs, &text);
+    drop(text);
+    match script {
+        Ok(script) => answer_script(rt, alloc, format, covered, script, workers, reaps, meter),
+        Err(ScriptStop::Fault(fault)) => {
+            let beginning = answer_fault_in(alloc, format, fault.code, fault.line)?;
+            Ok(RunAnswer {
+                beginning,
+                jobs: None,
+            })
+        }
+        Err(ScriptStop::NoMemory) => Err(AllocError),
+    }
+}
+
+// The response to a script.
+fn answer_script<R: Threads + Wait + Sync, M: Meter>(
+    rt: &R,
+    alloc: Global,
+    format: Format,
+    covered: bool,
+    script: Script,
+    workers: u32,
+    reaps: u32,
+    meter: &mut M,
+) -> Result<RunAnswer, AllocError>
+    requires workers { (1 ≤ workers) × (workers ≤ 64) }
+    requires reaps { reaps + script.passes < 2 ^ 32 }
+    requires runnable { IsRunnable (parsed_script script) }
+    ensures { IfOk result (λ answer. RespondsScript format (DoesRun covered format) (Ok (parsed_script script)) (run_response answer)) }
+{
+    let verdicts = verdicts_on(alloc, format, &script.programs)?;
+    if verdicts.refused {
+        return Ok(RunAnswer {
+            beginning: verdicts.into_answer(),
+            jobs: None,
+        });
+    }
+    let beginning = Answer {
+        text: verdicts.text,
+        done: Done::Clean,
+    };
+    meter.ended(Stage::Judging);
+    let host = Host {
+        pages: script.pages.unwrap_or(MAX_PAGES),
+        programs: verdicts.accepted,
+    };
+    let outcome = outcome_of(
+        rt,
+        alloc,
+        &host,
+        &script.jobs,
+        workers,
+        reaps + script.passes,
+    )?;
+    meter.ended(Stage::Running);
+    let mut totals = String::new(alloc);
+    write_totals_in(&mut totals, format, &outcome)?;
+    write_covered_in(
+        alloc,
+        &mut totals,
+        covered,
+        format,
+        &script.programs,
+        &host.programs,
+        &script.jobs,
+        &outcome.reports,
+    )?;
+    Ok(RunAnswer {
+        beginning,
+        jobs: Some(JobsAnswer {
+            format,
+            reports: meter.came(outcome),
+            totals,
+        }),
+    })
+}
+
+// Writes what an outcome says of the caches and the shelves.
+fn write_totals_in(
+    text: &mut String,
+    format: Format,
+    outcome: &Outcome<PackedReports>,
+) -> Result<(), AllocError>
+    ensures { OnOk result (string_bytes text.new ≡ string_bytes text.old ++ totals_in format outcome.now) }
+{
+    match format {
+        Format::Text => write_totals(text, &outcome.totals, &outcome.shelves),
+        Format::Json => write_total_objects(text, &outcome.totals, &outcome.shelves),
+    }
+}
+
+// What comes of jobs that can be done.
+fn outcome_of<R: Threads + Wait + Sync>(
+    rt: &R,
+    alloc: Global,
+    host: &Host,
+    jobs: &Jobs,
+    workers: u32,
+    reaps: u32,
+) -> Result<Outcome<PackedReports>, AllocError>
+    requires known { AreKnown host.now.programs.items }
+    requires workers { 1 ≤ workers }
+    requires fine { pool_fault host.now workers jobs.now ≡ None }
+    ensures { IfOk result (MayCome host.now.programs.items jobs.now) }
+{
+    let (owners, seats) = Owners::of_arena(alloc, workers)?;
+    let (_, result) = run_job_list(rt, alloc, host, &owners, seats, jobs, reaps, &NoGate);
+    match result {
+        Ok(outcome) => Ok(outcome),
+        Err(PoolFault::NoMemory) => Err(AllocError),
+        Err(_) => unreachable!(),
+    }
+}

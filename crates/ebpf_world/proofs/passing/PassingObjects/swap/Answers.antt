@@ -1,7 +1,0 @@
-use Rattle.ebpf_world.proofs.Shelving.{away_then}
-use Rattle.ebpf_world.proofs.passing.PassingObjects.swap.Goals as goal
-
-pub invariant_of-self : goal.invariant_of-self
-invariant_of-self c =
-    let p = c.args.self.now in
-    record { image = p.image; known = p.known; away = away_then p.object c.exchange.ensures p.away c.requires.given }

@@ -1,9 +1,0 @@
-use Rattle.std.proofs.Common.{Some, sym, ap, ◌∙◌}
-use Rattle.ebpf_world.proofs.Reading.{executed_none, executed_some}
-use Rattle.ebpf_world.proofs.world.World.executed.Goals as goal
-
-pub returns : goal.returns
-returns c = λ w h. ap Some c.executed.ensures.value ∙ executed_some w _ c.args.run c.in_ok-run_at.field-0.now h (sym c.in_ok-run_at.ensures)
-
-pub returns-in_err-run_at : goal.returns-in_err-run_at
-returns-in_err-run_at c = λ w h. c.from_residual.ensures ∙ executed_none w _ c.args.run h (sym c.in_err-run_at.ensures)

@@ -1,0 +1,101 @@
+use Rattle.std.proofs.Common.{rules, ◌≡◌, ◌≤◌, ◌<◌, ◌+◌, ◌*◌, ◌^◌, ℕ, List, [], ◌∷◌, ◌++◌, length, length-append, map, ap, ◌∙◌, arith}
+use Rattle.std.proofs.lemmas.List.{nil_from_length, length-map}
+use Rattle.worker_pool.proofs.Pairs.{at_most, same_rooms}
+use Rattle.worker_pool.proofs.Dismissing.{last_back, few_more, one_apart, none_apart, done_are, all_dismissed}
+use Rattle.worker_pool.proofs.crew.dismiss.Goals as goal
+
+-- what is parted from the workers so far leaves room for one worker's more
+fits : {A W : Type 0} (items : List A) (f : W → A) (done left rest : List W) (w : W) (n all room : ℕ) → n ≡ length items
+    → items ≡ map f done → length done + length left ≡ all → left ≡ rest ++ w ∷ [] → all ≤ room → n < room
+fits items f done left rest w n all room many are sum is holds =
+    let same = ap length are ∙ length-map done f in
+    let more = ap length is ∙ length-append rest (w ∷ []) in
+    omega (arith, many, same, sum, more, holds)
+
+pub loop-worker-init : goal.loop-worker-init
+loop-worker-init g c =
+    let n = c.requires.none in record {
+      apart = none_apart c.args.workers.now.items c.args.parts.now c.requires.back n;
+      room = record {
+        hands = record { cells = n.hands.cells.room; records = n.hands.records.room; blocks = n.hands.blocks.room };
+        seats = n.seats.1;
+        drawers = n.drawers.1;
+        answered = n.answered.1;
+      };
+      len = omega arith;
+    }
+
+pub unreachable-requires : goal.unreachable-requires
+unreachable-requires g c =
+    let i = c.loop-worker.invariant.apart in
+    let back = last_back _ _ _ c.take_last-tools.result _ _ c.take_last-tools.ensures.items i in
+    c.in_default.not-Some back.tools back.tools_are
+
+pub overflow_add-done : goal.overflow_add-done
+overflow_add-done g c =
+    let i = c.loop-worker.invariant in
+    let few = few_more _ _ _ c.take_last-tools.result c.in-Some.field-0 _ _ c.take_last-tools.ensures.items c.in-Some.is i.apart in
+    let done = done_are _ _ _ _ i.apart in
+    let all = c.requires.few in
+    let most : length i.apart.done * 2 ^ 56 ≤ 64 * 2 ^ 56 = omega (arith, done, all) in
+    omega (arith, few.0, most, i.apart.few.0)
+
+pub overflow_add-done-in-loop-worker : goal.overflow_add-done-in-loop-worker
+overflow_add-done-in-loop-worker g c =
+    let i = c.loop-worker.invariant in
+    let few = few_more _ _ _ c.take_last-tools.result c.in-Some.field-0 _ _ c.take_last-tools.ensures.items c.in-Some.is i.apart in
+    let done = done_are _ _ _ _ i.apart in
+    let all = c.requires.few in
+    let most : length i.apart.done * 2 ^ 56 ≤ 64 * 2 ^ 56 = omega (arith, done, all) in
+    omega (arith, few.1, most, i.apart.few.1)
+
+pub loop-worker-preserved : goal.loop-worker-preserved
+loop-worker-preserved g c =
+    let i = c.loop-worker.invariant in
+    let n = length c.args.workers.now.items in record {
+      apart = one_apart _ _ _ c.take_last-tools.result c.in-Some.field-0 _ _ c.take_last-tools.ensures.items c.in-Some.is i.apart _ _ c.with-done.ensures.kept c.with-done.ensures.through
+          c.push_reserved.ensures c.push_reserved-in-loop-worker.ensures.items c.push_reserved-in-loop-worker-2.ensures.items c.push_reserved-in-loop-worker-3.ensures.items;
+      room = record {
+        hands = same_rooms n _ _ _ i.room.hands c.push_reserved.ensures;
+        seats = at_most n _ _ i.room.seats c.push_reserved-in-loop-worker.ensures.capacity;
+        drawers = at_most n _ _ i.room.drawers c.push_reserved-in-loop-worker-2.ensures.capacity;
+        answered = at_most n _ _ i.room.answered c.push_reserved-in-loop-worker-3.ensures.capacity;
+      };
+      len = search rules;
+    }
+
+pub returns-clause-dismissed : goal.returns-clause-dismissed
+returns-clause-dismissed g c =
+    let zero : length c.loop-worker.workers.items ≡ 0 = search rules in
+    let none = nil_from_length c.loop-worker.workers.items zero in
+    all_dismissed _ _ _ _ none c.loop-worker.invariant.apart
+
+pub push_reserved-requires : goal.push_reserved-requires
+push_reserved-requires g c =
+    let i = c.loop-worker.invariant in
+    let h = c.loop-worker.parts.hands in
+    let sum = done_are _ _ _ _ i.apart in
+    let is = c.take_last-tools.ensures.items in record {
+      cells = record {
+        hands = fits _ _ i.apart.done _ _ _ _ _ _ h.cells.hands.ok.0 i.apart.parts.hands.cells.hands sum is i.room.hands.cells.hands;
+        shelf_hands = fits _ _ i.apart.done _ _ _ _ _ _ h.cells.shelf_hands.ok.0 i.apart.parts.hands.cells.shelf_hands sum is i.room.hands.cells.shelf_hands;
+      };
+      records = record {
+        hands = fits _ _ i.apart.done _ _ _ _ _ _ h.records.hands.ok.0 i.apart.parts.hands.records.hands sum is i.room.hands.records.hands;
+        shelf_hands =
+            fits _ _ i.apart.done _ _ _ _ _ _ h.records.shelf_hands.ok.0 i.apart.parts.hands.records.shelf_hands sum is i.room.hands.records.shelf_hands;
+      };
+      blocks = record {
+        hands = fits _ _ i.apart.done _ _ _ _ _ _ h.blocks.hands.ok.0 i.apart.parts.hands.blocks.hands sum is i.room.hands.blocks.hands;
+        shelf_hands = fits _ _ i.apart.done _ _ _ _ _ _ h.blocks.shelf_hands.ok.0 i.apart.parts.hands.blocks.shelf_hands sum is i.room.hands.blocks.shelf_hands;
+      };
+    }
+
+pub push_reserved-requires-in-loop-worker : goal.push_reserved-requires-in-loop-worker
+push_reserved-requires-in-loop-worker g c = let i = c.loop-worker.invariant in fits _ _ i.apart.done _ _ _ _ _ _ c.loop-worker.parts.seats.ok.0 i.apart.parts.seats (done_are _ _ _ _ i.apart) c.take_last-tools.ensures.items i.room.seats
+
+pub push_reserved-requires-in-loop-worker-2 : goal.push_reserved-requires-in-loop-worker-2
+push_reserved-requires-in-loop-worker-2 g c = let i = c.loop-worker.invariant in fits _ _ i.apart.done _ _ _ _ _ _ c.loop-worker.parts.drawers.ok.0 i.apart.parts.drawers (done_are _ _ _ _ i.apart) c.take_last-tools.ensures.items i.room.drawers
+
+pub push_reserved-requires-in-loop-worker-3 : goal.push_reserved-requires-in-loop-worker-3
+push_reserved-requires-in-loop-worker-3 g c = let i = c.loop-worker.invariant in fits _ _ i.apart.done _ _ _ _ _ _ c.loop-worker.parts.answered.ok.0 i.apart.parts.answered (done_are _ _ _ _ i.apart) c.take_last-tools.ensures.items i.room.answered

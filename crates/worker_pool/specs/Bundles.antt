@@ -1,0 +1,17 @@
+-- Neighbouring jobs of one ticket.
+use Rattle.std.specs.Prelude.{◌≡◌, ◌⊎◌, ◌*◌, ◌<◌, ◌≤◌, ℕ, List}
+use Rattle.owners_table.specs.Drawing.{times}
+use Rattle.worker_pool.specs.Numbering.{times_of}
+use Rattle.worker_pool.specs.declared.jobs.Bundle.{Bundle}
+use Rattle.worker_pool.specs.declared.setup.TheConstants.{MAX_BUNDLE, MIN_BUNDLES}
+
+abbrev pub IsBundleSize : ℕ → Type 0
+IsBundleSize size = (0 < size) × (size ≤ MAX_BUNDLE)
+
+-- n jobs make at least that many bundles for each worker, where a bundle has more than one job
+abbrev pub IsShared : (size workers count : ℕ) → Type 0
+IsShared size workers count = (size ≡ 1) ⊎ (size * (workers * MIN_BUNDLES) ≤ count)
+
+-- each bundle that there is was answered as often as it was drawn
+abbrev pub AreAsDrawn : (limit : ℕ) → (drawn : List ℕ) → List Bundle → Type 0
+AreAsDrawn limit drawn bundles = (x : ℕ) → x < limit → times x drawn ≡ times_of x bundles

@@ -1,0 +1,44 @@
+//! What jobs are run with, and what comes of them.
+
+use crate::reports::Reports;
+use ebpf_verify::verified::Verified;
+use object_cache::Totals;
+
+/// The most workers.
+pub const MAX_WORKERS: usize = 64;
+
+/// The most jobs: a mark has room for the number of each.
+pub const MAX_JOBS: u64 = 1 << 20;
+
+/// What all jobs share: the pages of the arena, 1 to [`vmem_arena::MAX_PAGES`], and the programs.
+#[derive(Drop)]
+pub struct Host {
+    pub pages: u32,
+    pub programs: Vec<Verified>,
+}
+
+/// What a shelf did: how often an object was put there and how often one was got from there by runs, and how many, one at most, it
+/// held at the end.
+#[derive(Clone, Copy, Debug, PartialEq, Eq)]
+pub struct ShelfTotals {
+    pub puts: u64,
+    pub gets: u64,
+    pub left: u64,
+}
+
+/// What came of all jobs, with their reports in some form: [`Reports`], or as [`crate::PackedReports`].
+#[derive(Drop)]
+pub struct Outcome<R = Reports> {
+    /// A report for each job, in the order of the jobs.
+    pub reports: R,
+    /// What each cache did, in the order of the kinds' numbers.
+    pub totals: [Totals; 3],
+    /// How many objects went back to their cache since their slot had an owner.
+    pub clashes: u64,
+    /// What each shelf did, in the order of the kinds' numbers. What it held at the end went back to its cache.
+    pub shelves: [ShelfTotals; 3],
+    /// How many objects that came off a shelf went back to their cache since the table had their slots as another's.
+    pub strays: u64,
+    /// How many jobs each worker did, in the order of their seats.
+    pub jobs_done: Vec<u64>,
+}
