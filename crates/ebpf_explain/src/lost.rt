@@ -4,7 +4,7 @@ ghost use Rattle.std.specs.Prelude.{◌≡◌, ◌++◌, string_bytes, IfOk, OnO
 ghost use Rattle.std.specs.List.{flat_map};
 ghost use Rattle.ebpf_explain.specs.Lost.{apart_from, first_apart, first_without, headed, is_lost, known_by, known_from, known_there, line_with, lost_among, lost_at, lost_line, lost_places, other_than, place_name, slots_lost, value_at};
 ghost use Rattle.ebpf_explain.specs.declared.lost.Place.TheVariants.{Register};
-ghost use Rattle.ebpf_state.specs.Abstract.{IsProper, is_unset, joined_value};
+ghost use Rattle.ebpf_state.specs.Abstract.{is_unset, joined_value};
 
 use crate::known::REGISTERS;
 use crate::values::write_value;
@@ -174,8 +174,7 @@ fn are_apart(place: Place, left: &State, right: &State) -> bool
 
 // What a state knows of a place: of a word, what was stored as a whole.
 fn value_at(place: Place, state: &State) -> Abs
-    ensures value { result ≡ value_at place state.now }
-    ensures proper { IsProper result }
+    ensures { result ≡ value_at place state.now }
 {
     match place {
         Place::Register(register) => state.reg(register),

@@ -1,3 +1,4 @@
+pub mod Spans
 pub mod Wraps
 pub mod OperationLemmas
 pub mod RowLemmas

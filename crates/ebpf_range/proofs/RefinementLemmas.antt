@@ -1,15 +1,15 @@
 -- The table of ranges after a branch keeps each pair of numbers for which the branch goes that way.
 use Rattle.std.proofs.Common.{◌≡◌, ℕ, ◌+◌, ◌-◌, ◌/◌, ◌^◌, ◌<◌, ◌≤◌, ℤ, pos, negsuc, Bool, true, false, cond, not, eqb, nat_lt, nat_le, ◌==◌, ◌&&◌, ◌||◌, min, max, Option, Some, None, IfSome, IsSomeAnd, ◌⊎◌, inl, inr, ⊎_elim, refl, sym, ap, ap₂, ◌∙◌, arith, ltb-true, leb-true, ltb-false, leb-false, eqb-true, eq-eqb, le-leb, lt-ltb, int_lt, int_le}
 use Rattle.std.proofs.Math.Nat.{mod-eq_of_lt}
-use Rattle.std.proofs.lemmas.Bool.{and_parts, and_from, cond_both, or_parts, or_cases, cases_lt, not-true, not-false, true≢false}
+use Rattle.std.proofs.lemmas.Bool.{and_parts, and_from, cond_both, or_cases, cases_lt, not-true, not-false, true≢false}
 use Rattle.ebpf_insn.specs.declared.insn.Width.{Width}
 use Rattle.ebpf_insn.specs.declared.insn.Width.TheVariants.{W32, W64}
 use Rattle.ebpf_insn.specs.declared.insn.Cond.{Cond}
 use Rattle.ebpf_insn.specs.declared.insn.Cond.TheVariants as on
 use Rattle.ebpf_insn.specs.Arithmetic.{modulus, kept_at, signed_at, comparison, is_met}
 use Rattle.ebpf_range.specs.declared.range.Range.{Range}
-use Rattle.ebpf_range.specs.Interval.{IsWithin}
-use Rattle.ebpf_range.specs.Results.{span, is_constant}
+use Rattle.ebpf_range.specs.Interval.{IsWithin, span}
+use Rattle.ebpf_range.specs.Results.{is_constant}
 use Rattle.ebpf_range.specs.Refinements.{after_eq, without, after_ne, after_gt, after_ge, exchange, unless_false, have_no_sign, after, after_not, fits, refinement}
 use Rattle.ebpf_range.proofs.OperationLemmas.{signed_at-low}
 use Rattle.ebpf_range.proofs.RowLemmas.{same_end}
@@ -17,9 +17,6 @@ use Rattle.ebpf_range.proofs.RowLemmas.{same_end}
 -- both numbers stay
 abbrev pub Keeps : ℕ → ℕ → Option (Range × Range) → Type 0
 Keeps x y known = IsSomeAnd known (λ p. IsWithin x p.0 × IsWithin y p.1)
-
-abbrev pub AreOrdered : Option (Range × Range) → Type 0
-AreOrdered known = IfSome known (λ p. (p.0.lo ≤ p.0.hi) × (p.1.lo ≤ p.1.hi))
 
 -- ---- rows
 
@@ -41,7 +38,7 @@ without-keeps a n x other h = by (eqb a.lo n) (eqb a.hi n) refl refl
       where
         from_other : a.lo ≡ n → a.lo < x
         from_other low = ⊎_elim (λ (o : a.lo < x). o) (λ (o : x ≤ a.lo). absurd (other (omega arith))) (cases_lt a.lo x)
-    by false true e f = let high = eqb-true a.hi n f in let under : x < a.hi = from_other high in (h.0, omega arith)
+    by false true e f = let high = eqb-true a.hi n f in let under : x < a.hi = from_other high in (omega arith, omega arith)
       where
         from_other : a.hi ≡ n → x < a.hi
         from_other high = ⊎_elim (λ (o : x < a.hi). o) (λ (o : a.hi ≤ x). absurd (other (omega arith))) (cases_lt x a.hi)
@@ -66,13 +63,13 @@ gt-keeps : (a b : Range) (x y : ℕ) → y < x → IsWithin x a → IsWithin y b
 gt-keeps a b x y o h k =
     cond_both (nat_le a.hi b.lo) None (Some (span (max a.lo (b.lo + 1)) a.hi, span b.lo (min b.hi (a.hi - 1)))) (Keeps x y)
     (λ t. let under = leb-true a.hi b.lo t in absurd (omega arith))
-    (λ t. ((omega arith, h.1), (k.0, omega arith)))
+    (λ t. ((omega arith, h.1), (omega arith, omega arith)))
 
 ge-keeps : (a b : Range) (x y : ℕ) → y ≤ x → IsWithin x a → IsWithin y b → Keeps x y (after_ge a b)
 ge-keeps a b x y o h k =
     cond_both (nat_lt a.hi b.lo) None (Some (span (max a.lo b.lo) a.hi, span b.lo (min b.hi a.hi))) (Keeps x y)
     (λ t. let under = ltb-true a.hi b.lo t in absurd (omega arith))
-    (λ t. ((omega arith, h.1), (k.0, omega arith)))
+    (λ t. ((omega arith, h.1), (omega arith, omega arith)))
 
 exchange-keeps : (known : Option (Range × Range)) (x y : ℕ) → Keeps y x known → Keeps x y (exchange known)
 exchange-keeps None x y h = h
@@ -189,88 +186,6 @@ refinement-keeps c w a b taken x y p q h k e =
     by : (t : Bool) → fits w a b ≡ true → is_met c w x y ≡ t → Keeps x y (cond t (after c w a b) (after_not c w a b))
     by true f m = after-keeps c w a b x y m (sym (compared c w a b x y p q f h k) ∙ m) h k
     by false f m = after_not-keeps c w a b x y p q f m h k
-
--- ---- ordered ranges
-
-without-ordered : (a : Range) (n : ℕ) → a.lo ≤ a.hi → (a.lo ≡ a.hi → a.lo ≡ n → ⊥) → (without n a).lo ≤ (without n a).hi
-without-ordered a n o other = by (eqb a.lo n) (eqb a.hi n) refl refl
-  where
-    by : (s t : Bool) → eqb a.lo n ≡ s → eqb a.hi n ≡ t
-        → (cond s (span (a.lo + 1) a.hi) (cond t (span a.lo (a.hi - 1)) a)).lo ≤ (cond s (span (a.lo + 1) a.hi) (cond t (span a.lo (a.hi - 1)) a)).hi
-    by true t e f = ⊎_elim (λ (l : a.lo < a.hi). omega arith) (λ (l : a.hi ≤ a.lo). absurd (other (omega arith) (eqb-true a.lo n e))) (cases_lt a.lo a.hi)
-    by false true e f = ⊎_elim (λ (l : a.lo < a.hi). omega arith) (λ (l : a.hi ≤ a.lo). absurd (other (omega arith) (let high = eqb-true a.hi n f in omega arith))) (cases_lt a.lo a.hi)
-    by false false e f = o
-
-ne-ordered : (a b : Range) → a.lo ≤ a.hi → b.lo ≤ b.hi → AreOrdered (after_ne a b)
-ne-ordered a b o p =
-    cond_both (is_constant a && is_constant b && (a.lo == b.lo)) None (cond (is_constant b) (Some (without b.lo a, b)) (cond (is_constant a) (Some (a, without a.lo b)) (Some (a, b)))) AreOrdered
-    (λ t. tt)
-    (λ t. cond_both (is_constant b) (Some (without b.lo a, b)) (cond (is_constant a) (Some (a, without a.lo b)) (Some (a, b))) AreOrdered
-    (λ e. (without-ordered a b.lo o (λ c d. true≢false (sym (and_from (is_constant a && is_constant b) (a.lo == b.lo) (and_from (is_constant a) (is_constant b) (eq-eqb a.lo a.hi c) e) (eq-eqb a.lo b.lo d)) ∙ t)), p))
-    (λ e. cond_both (is_constant a) (Some (a, without a.lo b)) (Some (a, b)) AreOrdered
-    (λ f. (o, without-ordered b a.lo p (λ c d. true≢false (sym (eq-eqb b.lo b.hi c) ∙ e))))
-    (λ f. (o, p))))
-
-eq-ordered : (a b : Range) → a.lo ≤ a.hi → b.lo ≤ b.hi → AreOrdered (after_eq a b)
-eq-ordered a b o p =
-    cond_both (nat_lt a.hi b.lo || nat_lt b.hi a.lo) None (Some (span (max a.lo b.lo) (min a.hi b.hi), span (max a.lo b.lo) (min a.hi b.hi))) AreOrdered
-    (λ t. tt)
-    (λ t. let parts = or_parts (nat_lt a.hi b.lo) (nat_lt b.hi a.lo) t in let left = ltb-false a.hi b.lo parts.0 in let right = ltb-false b.hi a.lo parts.1 in (omega arith, omega arith))
-
-gt-ordered : (a b : Range) → a.lo ≤ a.hi → b.lo ≤ b.hi → AreOrdered (after_gt a b)
-gt-ordered a b o p =
-    cond_both (nat_le a.hi b.lo) None (Some (span (max a.lo (b.lo + 1)) a.hi, span b.lo (min b.hi (a.hi - 1)))) AreOrdered
-    (λ t. tt) (λ t. let over = leb-false a.hi b.lo t in (omega arith, omega arith))
-
-ge-ordered : (a b : Range) → a.lo ≤ a.hi → b.lo ≤ b.hi → AreOrdered (after_ge a b)
-ge-ordered a b o p =
-    cond_both (nat_lt a.hi b.lo) None (Some (span (max a.lo b.lo) a.hi, span b.lo (min b.hi a.hi))) AreOrdered
-    (λ t. tt) (λ t. let over = ltb-false a.hi b.lo t in (omega arith, omega arith))
-
-exchange-ordered : (known : Option (Range × Range)) → AreOrdered known → AreOrdered (exchange known)
-exchange-ordered None h = h
-exchange-ordered (Some p) h = (h.1, h.0)
-
-unless-ordered : (holds : Bool) (a b : Range) → a.lo ≤ a.hi → b.lo ≤ b.hi → AreOrdered (unless_false holds a b)
-unless-ordered holds a b o p = cond_both (is_constant a && is_constant b && not holds) None (Some (a, b)) AreOrdered (λ t. tt) (λ t. (o, p))
-
-signed-ordered : (w : Width) (a b : Range) (unsigned : Option (Range × Range)) (holds : Bool) → a.lo ≤ a.hi → b.lo ≤ b.hi
-    → AreOrdered unsigned → AreOrdered (cond (have_no_sign w a b) unsigned (unless_false holds a b))
-signed-ordered w a b unsigned holds o p h =
-    cond_both (have_no_sign w a b) unsigned (unless_false holds a b) AreOrdered (λ t. h) (λ t. unless-ordered holds a b o p)
-
-after-ordered : (c : Cond) (w : Width) (a b : Range) → a.lo ≤ a.hi → b.lo ≤ b.hi → AreOrdered (after c w a b)
-after-ordered on.Eq w a b o p = eq-ordered a b o p
-after-ordered on.Ne w a b o p = ne-ordered a b o p
-after-ordered on.Gt w a b o p = gt-ordered a b o p
-after-ordered on.Ge w a b o p = ge-ordered a b o p
-after-ordered on.Lt w a b o p = exchange-ordered (after_gt b a) (gt-ordered b a p o)
-after-ordered on.Le w a b o p = exchange-ordered (after_ge b a) (ge-ordered b a p o)
-after-ordered on.Set w a b o p = unless-ordered (is_met on.Set w a.lo b.lo) a b o p
-after-ordered on.SGt w a b o p = signed-ordered w a b (after_gt a b) (is_met on.SGt w a.lo b.lo) o p (gt-ordered a b o p)
-after-ordered on.SGe w a b o p = signed-ordered w a b (after_ge a b) (is_met on.SGe w a.lo b.lo) o p (ge-ordered a b o p)
-after-ordered on.SLt w a b o p =
-    signed-ordered w a b (exchange (after_gt b a)) (is_met on.SLt w a.lo b.lo) o p (exchange-ordered (after_gt b a) (gt-ordered b a p o))
-after-ordered on.SLe w a b o p =
-    signed-ordered w a b (exchange (after_ge b a)) (is_met on.SLe w a.lo b.lo) o p (exchange-ordered (after_ge b a) (ge-ordered b a p o))
-
-after_not-ordered : (c : Cond) (w : Width) (a b : Range) → a.lo ≤ a.hi → b.lo ≤ b.hi → AreOrdered (after_not c w a b)
-after_not-ordered on.Eq w a b o p = after-ordered on.Ne w a b o p
-after_not-ordered on.Ne w a b o p = after-ordered on.Eq w a b o p
-after_not-ordered on.Gt w a b o p = after-ordered on.Le w a b o p
-after_not-ordered on.Ge w a b o p = after-ordered on.Lt w a b o p
-after_not-ordered on.Lt w a b o p = after-ordered on.Ge w a b o p
-after_not-ordered on.Le w a b o p = after-ordered on.Gt w a b o p
-after_not-ordered on.Set w a b o p = unless-ordered (not (is_met on.Set w a.lo b.lo)) a b o p
-after_not-ordered on.SGt w a b o p = after-ordered on.SLe w a b o p
-after_not-ordered on.SGe w a b o p = after-ordered on.SLt w a b o p
-after_not-ordered on.SLt w a b o p = after-ordered on.SGe w a b o p
-after_not-ordered on.SLe w a b o p = after-ordered on.SGt w a b o p
-
-pub refinement-ordered : (c : Cond) (w : Width) (a b : Range) (taken : Bool) → a.lo ≤ a.hi → b.lo ≤ b.hi → AreOrdered (refinement c w a b taken)
-refinement-ordered c w a b taken o p =
-    cond_both (not (fits w a b)) (Some (a, b)) (cond taken (after c w a b) (after_not c w a b)) AreOrdered (λ t. (o, p))
-    (λ t. cond_both taken (after c w a b) (after_not c w a b) AreOrdered (λ e. after-ordered c w a b o p) (λ e. after_not-ordered c w a b o p))
 
 -- ---- the high ends
 

@@ -14,8 +14,8 @@ use Rattle.ebpf_insn.specs.Arithmetic.{modulus, kept_at, factor_at, operation, r
 use Rattle.ebpf_insn.specs.declared.insn.Order.{Order}
 use Rattle.ebpf_insn.specs.declared.insn.Order.TheVariants.{Little, Big, Flip}
 use Rattle.ebpf_range.specs.declared.range.Range.{Range}
-use Rattle.ebpf_range.specs.Interval.{IsWithin, constant, all_below, low}
-use Rattle.ebpf_range.specs.Results.{span, up, is_constant, sum_of, difference_of, product_of, quotient_of, remainder_of, left_shift_of, right_shift_of, signed_shift_of, row, low_at, row_or_constant, result_range, extension_range, swap_range, negation_range}
+use Rattle.ebpf_range.specs.Interval.{IsWithin, constant, span, up_to, all_below, low}
+use Rattle.ebpf_range.specs.Results.{up, is_constant, sum_of, difference_of, product_of, quotient_of, remainder_of, left_shift_of, right_shift_of, signed_shift_of, row, low_at, row_or_constant, result_range, extension_range, swap_range, negation_range}
 use Rattle.ebpf_range.proofs.OperationLemmas.{some_numbers, result-below}
 use Rattle.ebpf_range.proofs.RowLemmas.{within_all, small, up-least, row-sound}
 
@@ -70,26 +70,26 @@ sum-below m a b some p q =
     (λ e. ltb-true (a.hi + b.hi) m e)
     (λ e. cond_both (nat_le m (a.lo + b.lo)) (span (a.lo + b.lo - m) (a.hi + b.hi - m)) (all_below m) (λ (r : Range). r.hi < m) (λ f. omega arith) (λ f. all-below m some))
 
-difference-below : (m : ℕ) (a b : Range) → 0 < m → b.lo ≤ b.hi → a.hi < m → (difference_of m a b).hi < m
-difference-below m a b some o p =
+difference-below : (m : ℕ) (a b : Range) → 0 < m → a.hi < m → (difference_of m a b).hi < m
+difference-below m a b some p =
     cond_both (nat_le b.hi a.lo) (span (a.lo - b.hi) (a.hi - b.lo)) (cond (nat_lt a.hi b.lo) (span (a.lo + m - b.hi) (a.hi + m - b.lo)) (all_below m)) (λ (r : Range). r.hi < m)
     (λ e. omega arith)
-    (λ e. cond_both (nat_lt a.hi b.lo) (span (a.lo + m - b.hi) (a.hi + m - b.lo)) (all_below m) (λ (r : Range). r.hi < m) (λ f. let apart = ltb-true a.hi b.lo f in omega arith) (λ f. all-below m some))
+    (λ e. cond_both (nat_lt a.hi b.lo) (span (a.lo + m - b.hi) (a.hi + m - b.lo)) (all_below m) (λ (r : Range). r.hi < m) (λ f. let apart = ltb-true a.hi b.lo f in omega (arith, b.ordered)) (λ f. all-below m some))
 
 product-below : (m : ℕ) (a b : Range) → 0 < m → (product_of m a b).hi < m
 product-below m a b some = cond_both (nat_lt (a.hi * b.hi) m) (span (a.lo * b.lo) (a.hi * b.hi)) (all_below m) (λ (r : Range). r.hi < m) (λ e. ltb-true (a.hi * b.hi) m e) (λ e. all-below m some)
 
 quotient-below : (m : ℕ) (a b : Range) → a.hi < m → (quotient_of a b).hi < m
-quotient-below m a b p = cond_both (nat_lt 0 b.lo) (span (a.lo / b.hi) (a.hi / b.lo)) (span 0 a.hi) (λ (r : Range). r.hi < m) (λ e. lt_of_le_of_lt (div-le_self a.hi b.lo) p) (λ e. p)
+quotient-below m a b p = cond_both (nat_lt 0 b.lo) (span (a.lo / b.hi) (a.hi / b.lo)) (up_to a.hi) (λ (r : Range). r.hi < m) (λ e. lt_of_le_of_lt (div-le_self a.hi b.lo) p) (λ e. p)
 
 remainder-below : (m : ℕ) (a b : Range) → a.hi < m → (remainder_of a b).hi < m
-remainder-below m a b p = cond_both (nat_lt 0 b.lo) (span 0 (min a.hi (b.hi - 1))) (span 0 a.hi) (λ (r : Range). r.hi < m) (λ e. omega arith) (λ e. p)
+remainder-below m a b p = cond_both (nat_lt 0 b.lo) (up_to (min a.hi (b.hi - 1))) (up_to a.hi) (λ (r : Range). r.hi < m) (λ e. omega arith) (λ e. p)
 
 left_shift-below : (w : Width) (a b : Range) → (left_shift_of w a b).hi < modulus w
 left_shift-below w a b = cond_both (is_constant b) (product_of (modulus w) a (constant (factor_at w b.lo))) (all_below (modulus w)) (λ (r : Range). r.hi < (modulus w)) (λ e. product-below (modulus w) a (constant (factor_at w b.lo)) (some_numbers w)) (λ e. all-below (modulus w) (some_numbers w))
 
 right_shift-below : (w : Width) (a b : Range) → a.hi < modulus w → (right_shift_of w a b).hi < modulus w
-right_shift-below w a b p = cond_both (is_constant b) (quotient_of a (constant (factor_at w b.lo))) (span 0 a.hi) (λ (r : Range). r.hi < (modulus w)) (λ e. quotient-below (modulus w) a (constant (factor_at w b.lo)) p) (λ e. p)
+right_shift-below w a b p = cond_both (is_constant b) (quotient_of a (constant (factor_at w b.lo))) (up_to a.hi) (λ (r : Range). r.hi < (modulus w)) (λ e. quotient-below (modulus w) a (constant (factor_at w b.lo)) p) (λ e. p)
 
 signed_shift-below : (w : Width) (a b : Range) → a.hi < modulus w → (signed_shift_of w a b).hi < modulus w
 signed_shift-below w a b p = cond_both (is_constant b && nat_lt a.hi (modulus w / 2)) (right_shift_of w a b) (all_below (modulus w)) (λ (r : Range). r.hi < (modulus w)) (λ e. right_shift-below w a b p) (λ e. all-below (modulus w) (some_numbers w))
@@ -98,24 +98,24 @@ up-below : (w : Width) (a b : Range) → a.hi < modulus w → b.hi < modulus w �
 up-below W32 a b p q = up-least a b 32 (small W32 a.hi p) (small W32 b.hi q) p q
 up-below W64 a b p q = up-least a b 64 p q p q
 
-row-below : (o : AluOp) (w : Width) (a b : Range) → b.lo ≤ b.hi → a.hi < modulus w → b.hi < modulus w → (row o w a b).hi < modulus w
-row-below op.Add w a b o p q = sum-below (modulus w) a b (some_numbers w) p q
-row-below op.Sub w a b o p q = difference-below (modulus w) a b (some_numbers w) o p
-row-below op.Mul w a b o p q = product-below (modulus w) a b (some_numbers w)
-row-below op.Div w a b o p q = quotient-below (modulus w) a b p
-row-below op.SDiv w a b o p q = all-below (modulus w) (some_numbers w)
-row-below op.Or w a b o p q = up-below w a b p q
-row-below op.And w a b o p q = omega arith
-row-below op.Lsh w a b o p q = left_shift-below w a b
-row-below op.Rsh w a b o p q = right_shift-below w a b p
-row-below op.Rem w a b o p q = remainder-below (modulus w) a b p
-row-below op.SRem w a b o p q = all-below (modulus w) (some_numbers w)
-row-below op.Xor w a b o p q = up-below w a b p q
-row-below op.Mov w a b o p q = q
-row-below op.Arsh w a b o p q = signed_shift-below w a b p
+row-below : (o : AluOp) (w : Width) (a b : Range) → a.hi < modulus w → b.hi < modulus w → (row o w a b).hi < modulus w
+row-below op.Add w a b p q = sum-below (modulus w) a b (some_numbers w) p q
+row-below op.Sub w a b p q = difference-below (modulus w) a b (some_numbers w) p
+row-below op.Mul w a b p q = product-below (modulus w) a b (some_numbers w)
+row-below op.Div w a b p q = quotient-below (modulus w) a b p
+row-below op.SDiv w a b p q = all-below (modulus w) (some_numbers w)
+row-below op.Or w a b p q = up-below w a b p q
+row-below op.And w a b p q = omega arith
+row-below op.Lsh w a b p q = left_shift-below w a b
+row-below op.Rsh w a b p q = right_shift-below w a b p
+row-below op.Rem w a b p q = remainder-below (modulus w) a b p
+row-below op.SRem w a b p q = all-below (modulus w) (some_numbers w)
+row-below op.Xor w a b p q = up-below w a b p q
+row-below op.Mov w a b p q = q
+row-below op.Arsh w a b p q = signed_shift-below w a b p
 
-pub row_or_constant-below : (o : AluOp) (w : Width) (a b : Range) → b.lo ≤ b.hi → a.hi < modulus w → b.hi < modulus w → (row_or_constant o w a b).hi < modulus w
-row_or_constant-below o w a b l p q = cond_both (is_constant a && is_constant b) (constant (result_at o w a.lo b.lo)) (row o w a b) (λ (r : Range). r.hi < (modulus w)) (λ e. result-below o w a.lo b.lo) (λ e. row-below o w a b l p q)
+pub row_or_constant-below : (o : AluOp) (w : Width) (a b : Range) → a.hi < modulus w → b.hi < modulus w → (row_or_constant o w a b).hi < modulus w
+row_or_constant-below o w a b p q = cond_both (is_constant a && is_constant b) (constant (result_at o w a.lo b.lo)) (row o w a b) (λ (r : Range). r.hi < (modulus w)) (λ e. result-below o w a.lo b.lo) (λ e. row-below o w a b p q)
 
 -- ---- one operand
 
@@ -181,32 +181,27 @@ pub modulus-at_most : (w : Width) → modulus w ≤ 2 ^ 64
 modulus-at_most W32 = omega arith
 modulus-at_most W64 = omega arith
 
--- what is known of a number has its ends in order, and below 2^64
+-- what is known of a number lies below 2^64
 abbrev pub IsBounded : Range → Type 0
-IsBounded a = (a.lo ≤ a.hi) × (a.hi < 2 ^ 64)
+IsBounded a = a.hi < 2 ^ 64
 
--- a range of results that holds one number, and whose high end is below a modulus
-bounded_by : (w : Width) (a : Range) (n : ℕ) → IsWithin n a → a.hi < modulus w → IsBounded a
-bounded_by w a n h below = let most = modulus-at_most w in (omega (arith, h.0, h.1), omega (arith, below, most))
-
-low_at-ordered : (w : Width) (a : Range) → IsBounded a → (low_at w a).lo ≤ (low_at w a).hi
-low_at-ordered w a h = let in_it = low_at-sound w a a.lo h.1 (omega arith, h.0) in omega (arith, in_it.0, in_it.1)
+-- a range whose high end is below a modulus
+bounded_by : (w : Width) (a : Range) → a.hi < modulus w → IsBounded a
+bounded_by w a below = let most = modulus-at_most w in omega (arith, below, most)
 
 pub result-bounded : (o : AluOp) (w : Width) (a b : Range) → IsBounded a → IsBounded b → IsBounded (result_range o w a b)
 result-bounded o w a b h k =
-    bounded_by w (result_range o w a b) (result_at o w a.lo b.lo) (result-sound o w a b a.lo b.lo h.1 k.1 (omega arith, h.0) (omega arith, k.0))
-    (row_or_constant-below o w (low_at w a) (low_at w b) (low_at-ordered w b k) (low_at-below w a h.1) (low_at-below w b k.1))
+    bounded_by w (result_range o w a b) (row_or_constant-below o w (low_at w a) (low_at w b) (low_at-below w a h) (low_at-below w b k))
 
 pub low-bounded : (a : Range) → IsBounded a → IsBounded (low a)
-low-bounded a h = bounded_by W32 (low a) (kept_at W32 a.lo) (low_at-sound W32 a a.lo h.1 (omega arith, h.0)) (low_at-below W32 a h.1)
+low-bounded a h = bounded_by W32 (low a) (low_at-below W32 a h)
 
 one-below : (f : ℕ → ℕ) (m : ℕ) (a : Range) → ((n : ℕ) → f n < m) → 0 < m → (cond (is_constant a) (constant (f a.lo)) (all_below m)).hi < m
 one-below f m a below some = cond_both (is_constant a) (constant (f a.lo)) (all_below m) (λ (r : Range). r.hi < m) (λ e. below a.lo) (λ e. all-below m some)
 
-pub extension-bounded : (w : Width) (bits : ℕ) (a : Range) → IsBounded a → IsBounded (extension_range w bits a)
-extension-bounded w bits a h =
-    bounded_by w (extension_range w bits a) (extension_at w bits a.lo) (extension-sound w bits a a.lo h.1 (omega arith, h.0))
-    (one-below (extension_at w bits) (modulus w) (low_at w a) (extension-below w bits) (some_numbers w))
+pub extension-bounded : (w : Width) (bits : ℕ) (a : Range) → IsBounded (extension_range w bits a)
+extension-bounded w bits a =
+    bounded_by w (extension_range w bits a) (one-below (extension_at w bits) (modulus w) (low_at w a) (extension-below w bits) (some_numbers w))
 
 kept-kept : (w : Width) (n : ℕ) → kept_at w (kept_at w n) ≡ kept_at w n
 kept-kept W32 n = omega arith
@@ -217,19 +212,13 @@ negation-sound w a n p h =
     subst (λ (k : ℕ). IsWithin (operation op.Sub w (kept_at w 0) k) (negation_range w a)) (kept-kept w n)
     (one-sound (negation_at w) (modulus w) (low_at w a) (kept_at w n) (result-below op.Sub w 0 (kept_at w n)) (low_at-sound w a n p h))
 
-pub negation-bounded : (w : Width) (a : Range) → IsBounded a → IsBounded (negation_range w a)
-negation-bounded w a h =
-    bounded_by w (negation_range w a) (negation_at w a.lo) (negation-sound w a a.lo h.1 (omega arith, h.0))
-    (one-below (negation_at w) (modulus w) (low_at w a) (result-below op.Sub w 0) (some_numbers w))
+pub negation-bounded : (w : Width) (a : Range) → IsBounded (negation_range w a)
+negation-bounded w a = bounded_by w (negation_range w a) (one-below (negation_at w) (modulus w) (low_at w a) (result-below op.Sub w 0) (some_numbers w))
 
 pub swapped_bits-few : (bits : ℕ) → 2 ^ swapped_bits bits ≤ 2 ^ 64
 swapped_bits-few bits =
     cond_both (eqb bits 16) 16 (cond (eqb bits 32) 32 64) (λ (k : ℕ). 2 ^ k ≤ 2 ^ 64) (λ e. omega arith)
     (λ e. cond_both (eqb bits 32) 32 64 (λ (k : ℕ). 2 ^ k ≤ 2 ^ 64) (λ f. omega arith) (λ f. omega arith))
 
-pub swap-bounded : (order : Order) (bits : ℕ) (a : Range) → IsBounded a → IsBounded (swap_range order bits a)
-swap-bounded order bits a h =
-    let in_it = swap-sound order bits a a.lo (omega arith, h.0) in
-    let below = swap_range-below order bits a in
-    let few = swapped_bits-few bits in
-    (omega (arith, in_it.0, in_it.1), omega (arith, below, few))
+pub swap-bounded : (order : Order) (bits : ℕ) (a : Range) → IsBounded (swap_range order bits a)
+swap-bounded order bits a = let below = swap_range-below order bits a in let few = swapped_bits-few bits in omega (arith, below, few)

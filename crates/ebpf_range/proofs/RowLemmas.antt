@@ -1,7 +1,7 @@
 -- Each row of the table of results holds what its operation gives on numbers of its operands' ranges.
 use Rattle.std.proofs.Common.{◌≡◌, ℕ, ◌+◌, ◌-◌, ◌*◌, ◌/◌, ◌%◌, ◌^◌, ◌<◌, ◌≤◌, Bool, true, false, cond, eqb, nat_lt, nat_le, ◌&&◌, ◌⊎◌, ⊎_elim, pow-suc, min, max, refl, sym, ap, ◌∙◌, subst, arith, bit_and, bit_or, bit_xor, ltb-true, leb-true, eqb-true}
 use Rattle.std.specs.Int.{w64, leading_zeros, int_shr}
-use Rattle.std.proofs.Math.Nat.{mod-lt, mod-le, mod-eq_of_lt, div-le_self, div-mul-le_self, le_refl, le_trans, pow-le-pow_right}
+use Rattle.std.proofs.Math.Nat.{min-le_left, mod-lt, mod-le, mod-eq_of_lt, div-le_self, div-mul-le_self, le_refl, le_trans, pow-le-pow_right}
 use Rattle.std.proofs.lemmas.Nat.{pow_pos, mul-le, le-div, or_lt, xor_lt, and_le_l, and_le_r, le_or_l, le_or_r, leading_length}
 use Rattle.std.proofs.lemmas.Bool.{and_parts, cases_lt, cond_both}
 use Rattle.ebpf_insn.specs.declared.insn.Width.{Width}
@@ -10,13 +10,16 @@ use Rattle.ebpf_insn.specs.declared.insn.AluOp.{AluOp}
 use Rattle.ebpf_insn.specs.declared.insn.AluOp.TheVariants as op
 use Rattle.ebpf_insn.specs.Arithmetic.{modulus, bits_of, factor_at, unsigned_at, operation}
 use Rattle.ebpf_range.specs.declared.range.Range.{Range}
-use Rattle.ebpf_range.specs.Interval.{IsWithin, constant, all_below}
-use Rattle.ebpf_range.specs.Results.{span, up, is_constant, sum_of, difference_of, product_of, quotient_of, remainder_of, left_shift_of, right_shift_of, signed_shift_of, row}
+use Rattle.ebpf_range.specs.Interval.{IsWithin, constant, span, up_to, all_below}
+use Rattle.ebpf_range.specs.Results.{up, is_constant, sum_of, difference_of, product_of, quotient_of, remainder_of, left_shift_of, right_shift_of, signed_shift_of, row}
 use Rattle.ebpf_range.proofs.Wraps.{mod-wraps}
 use Rattle.ebpf_range.proofs.OperationLemmas.{some_numbers, operation-below, signed_at-low, unsigned_at-pos}
 
 pub within_all : (m n : ℕ) → n < m → IsWithin n (all_below m)
 within_all m n h = (omega arith, omega arith)
+
+pub within_span : {n lo hi : ℕ} → (lo ≤ n) × (n ≤ hi) → IsWithin n (span lo hi)
+within_span {lo = lo} {hi = hi} h = (le_trans (min-le_left lo hi) h.0, h.1)
 
 -- ---- sums and differences
 
@@ -29,9 +32,9 @@ all_wrap m x y lo hi above lx ly l h = let wraps = mod-wraps (x + y) m (omega ar
 sum-sound : (m : ℕ) (a b : Range) (x y : ℕ) → 0 < m → x < m → y < m → IsWithin x a → IsWithin y b → IsWithin ((x + y) % m) (sum_of m a b)
 sum-sound m a b x y some lx ly h k =
     cond_both (nat_lt (a.hi + b.hi) m) (span (a.lo + b.lo) (a.hi + b.hi)) (cond (nat_le m (a.lo + b.lo)) (span (a.lo + b.lo - m) (a.hi + b.hi - m)) (all_below m)) (IsWithin ((x + y) % m))
-    (λ e. none_wraps m x y (a.lo + b.lo) (a.hi + b.hi) (ltb-true (a.hi + b.hi) m e) (omega arith) (omega arith))
+    (λ e. within_span (none_wraps m x y (a.lo + b.lo) (a.hi + b.hi) (ltb-true (a.hi + b.hi) m e) (omega arith) (omega arith)))
     (λ e. cond_both (nat_le m (a.lo + b.lo)) (span (a.lo + b.lo - m) (a.hi + b.hi - m)) (all_below m) (IsWithin ((x + y) % m))
-    (λ f. all_wrap m x y (a.lo + b.lo) (a.hi + b.hi) (leb-true m (a.lo + b.lo) f) lx ly (omega arith) (omega arith))
+    (λ f. within_span (all_wrap m x y (a.lo + b.lo) (a.hi + b.hi) (leb-true m (a.lo + b.lo) f) lx ly (omega arith) (omega arith)))
     (λ f. within_all m ((x + y) % m) (mod-lt (x + y) some)))
 
 no_difference_wraps : (m x y al ah bl bh : ℕ) → bh ≤ al → al ≤ x → x ≤ ah → bl ≤ y → y ≤ bh → x < m → y < m
@@ -47,9 +50,9 @@ each_difference_wraps m x y al ah bl bh apart l h l' h' ly =
 difference-sound : (m : ℕ) (a b : Range) (x y : ℕ) → 0 < m → x < m → y < m → IsWithin x a → IsWithin y b → IsWithin ((x + (m - y)) % m) (difference_of m a b)
 difference-sound m a b x y some lx ly h k =
     cond_both (nat_le b.hi a.lo) (span (a.lo - b.hi) (a.hi - b.lo)) (cond (nat_lt a.hi b.lo) (span (a.lo + m - b.hi) (a.hi + m - b.lo)) (all_below m)) (IsWithin ((x + (m - y)) % m))
-    (λ e. no_difference_wraps m x y a.lo a.hi b.lo b.hi (leb-true b.hi a.lo e) h.0 h.1 k.0 k.1 lx ly)
+    (λ e. within_span (no_difference_wraps m x y a.lo a.hi b.lo b.hi (leb-true b.hi a.lo e) h.0 h.1 k.0 k.1 lx ly))
     (λ e. cond_both (nat_lt a.hi b.lo) (span (a.lo + m - b.hi) (a.hi + m - b.lo)) (all_below m) (IsWithin ((x + (m - y)) % m))
-    (λ f. each_difference_wraps m x y a.lo a.hi b.lo b.hi (ltb-true a.hi b.lo f) h.0 h.1 k.0 k.1 ly)
+    (λ f. within_span (each_difference_wraps m x y a.lo a.hi b.lo b.hi (ltb-true a.hi b.lo f) h.0 h.1 k.0 k.1 ly))
     (λ f. within_all m ((x + (m - y)) % m) (mod-lt (x + (m - y)) some)))
 
 -- ---- products and quotients
@@ -61,10 +64,10 @@ product-sound m a b x y some h k =
     (λ e. within_all m ((x * y) % m) (mod-lt (x * y) some))
   where
     none : a.lo * b.lo ≤ x * y → x * y ≤ a.hi * b.hi → a.hi * b.hi < m → IsWithin ((x * y) % m) (span (a.lo * b.lo) (a.hi * b.hi))
-    none l u below = let small : x * y < m = omega arith in let same = mod-eq_of_lt small in (omega (arith, same), omega (arith, same))
+    none l u below = let small : x * y < m = omega arith in let same = mod-eq_of_lt small in within_span (omega (arith, same), omega (arith, same))
 
 quotient-within : (a b : Range) (x y : ℕ) → 0 < b.lo → IsWithin x a → IsWithin y b → IsWithin (x / y) (span (a.lo / b.hi) (a.hi / b.lo))
-quotient-within a b x y some h k = (
+quotient-within a b x y some h k = within_span (
   le-div (a.lo / b.hi) x y (omega arith) (le_trans (mul-le (a.lo / b.hi) y (a.lo / b.hi) b.hi (le_refl (a.lo / b.hi)) k.1) (le_trans (div-mul-le_self a.lo b.hi) h.0)),
   le-div (x / y) a.hi b.lo some (le_trans (mul-le (x / y) b.lo (x / y) y (le_refl (x / y)) k.0) (le_trans (div-mul-le_self x y) h.1)),
 )
@@ -72,7 +75,7 @@ quotient-within a b x y some h k = (
 -- a divisor that may be zero
 divided-sound : (a b : Range) (x y : ℕ) → IsWithin x a → IsWithin y b → IsWithin (x / y) (quotient_of a b)
 divided-sound a b x y h k =
-    cond_both (nat_lt 0 b.lo) (span (a.lo / b.hi) (a.hi / b.lo)) (span 0 a.hi) (IsWithin (x / y))
+    cond_both (nat_lt 0 b.lo) (span (a.lo / b.hi) (a.hi / b.lo)) (up_to a.hi) (IsWithin (x / y))
     (λ e. quotient-within a b x y (ltb-true 0 b.lo e) h k)
     (λ e. (omega arith, le_trans (div-le_self x y) h.1))
 
@@ -80,15 +83,15 @@ quotient-sound : (w : Width) (a b : Range) (x y : ℕ) → IsWithin x a → IsWi
 quotient-sound w a b x y h k = by (eqb y 0) refl
   where
     by : (t : Bool) → eqb y 0 ≡ t → IsWithin (cond t 0 (x / y)) (quotient_of a b)
-    by true e = let none : y ≡ 0 = eqb-true y 0 e in cond_both (nat_lt 0 b.lo) (span (a.lo / b.hi) (a.hi / b.lo)) (span 0 a.hi) (IsWithin 0) (λ f. let some = ltb-true 0 b.lo f in absurd (omega arith)) (λ f. (omega arith, omega arith))
+    by true e = let none : y ≡ 0 = eqb-true y 0 e in cond_both (nat_lt 0 b.lo) (span (a.lo / b.hi) (a.hi / b.lo)) (up_to a.hi) (IsWithin 0) (λ f. let some = ltb-true 0 b.lo f in absurd (omega arith)) (λ f. (omega arith, omega arith))
     by false e = divided-sound a b x y h k
 
 remainder-sound : (w : Width) (a b : Range) (x y : ℕ) → IsWithin x a → IsWithin y b → IsWithin (operation op.Rem w x y) (remainder_of a b)
 remainder-sound w a b x y h k = by (eqb y 0) refl
   where
     by : (t : Bool) → eqb y 0 ≡ t → IsWithin (cond t x (x % y)) (remainder_of a b)
-    by true e = let none : y ≡ 0 = eqb-true y 0 e in cond_both (nat_lt 0 b.lo) (span 0 (min a.hi (b.hi - 1))) (span 0 a.hi) (IsWithin x) (λ f. let some = ltb-true 0 b.lo f in absurd (omega arith)) (λ f. (omega arith, h.1))
-    by false e = cond_both (nat_lt 0 b.lo) (span 0 (min a.hi (b.hi - 1))) (span 0 a.hi) (IsWithin (x % y)) (λ f. let some = ltb-true 0 b.lo f in (omega arith, omega (arith, mod-le x y))) (λ f. (omega arith, le_trans (mod-le x y) h.1))
+    by true e = let none : y ≡ 0 = eqb-true y 0 e in cond_both (nat_lt 0 b.lo) (up_to (min a.hi (b.hi - 1))) (up_to a.hi) (IsWithin x) (λ f. let some = ltb-true 0 b.lo f in absurd (omega arith)) (λ f. (omega arith, h.1))
+    by false e = cond_both (nat_lt 0 b.lo) (up_to (min a.hi (b.hi - 1))) (up_to a.hi) (IsWithin (x % y)) (λ f. let some = ltb-true 0 b.lo f in (omega arith, omega (arith, mod-le x y))) (λ f. (omega arith, le_trans (mod-le x y) h.1))
 
 -- ---- bits
 
@@ -124,12 +127,12 @@ up-least a b k h h' p q =
     subst (λ (j : ℕ). 2 ^ j - 1 < 2 ^ k) (sym bits.1) (omega (arith, pow_pos k, pow_pos bits.0))
 
 or-sound : (a b : Range) (x y : ℕ) → a.hi < 2 ^ 64 → b.hi < 2 ^ 64 → IsWithin x a → IsWithin y b → IsWithin (bit_or x y) (span (max a.lo b.lo) (up a b))
-or-sound a b x y p q h k = (omega (arith, le_or_l x y, le_or_r x y), up-holds a b (bit_or x y) p q (λ n i j. or_lt n x y (omega arith) (omega arith)))
+or-sound a b x y p q h k = within_span (omega (arith, le_or_l x y, le_or_r x y), up-holds a b (bit_or x y) p q (λ n i j. or_lt n x y (omega arith) (omega arith)))
 
-xor-sound : (a b : Range) (x y : ℕ) → a.hi < 2 ^ 64 → b.hi < 2 ^ 64 → IsWithin x a → IsWithin y b → IsWithin (bit_xor x y) (span 0 (up a b))
+xor-sound : (a b : Range) (x y : ℕ) → a.hi < 2 ^ 64 → b.hi < 2 ^ 64 → IsWithin x a → IsWithin y b → IsWithin (bit_xor x y) (up_to (up a b))
 xor-sound a b x y p q h k = (omega arith, up-holds a b (bit_xor x y) p q (λ n i j. xor_lt n x y (omega arith) (omega arith)))
 
-and-sound : (a b : Range) (x y : ℕ) → IsWithin x a → IsWithin y b → IsWithin (bit_and x y) (span 0 (min a.hi b.hi))
+and-sound : (a b : Range) (x y : ℕ) → IsWithin x a → IsWithin y b → IsWithin (bit_and x y) (up_to (min a.hi b.hi))
 and-sound a b x y h k = (omega arith, omega (arith, and_le_l x y, and_le_r x y))
 
 -- ---- shifts
@@ -149,7 +152,7 @@ left_shift-sound w a b x y h k =
 
 right_shift-sound : (w : Width) (a b : Range) (x y : ℕ) → IsWithin x a → IsWithin y b → IsWithin (x / factor_at w y) (right_shift_of w a b)
 right_shift-sound w a b x y h k =
-    cond_both (is_constant b) (quotient_of a (constant (factor_at w b.lo))) (span 0 a.hi) (IsWithin (x / factor_at w y))
+    cond_both (is_constant b) (quotient_of a (constant (factor_at w b.lo))) (up_to a.hi) (IsWithin (x / factor_at w y))
     (λ e. divided-sound a (constant (factor_at w b.lo)) x (factor_at w y) h (of_constant (factor_at w y) (factor_at w b.lo) (ap (factor_at w) (same_end b y e k))))
     (λ e. (omega arith, le_trans (div-le_self x (factor_at w y)) h.1))
 

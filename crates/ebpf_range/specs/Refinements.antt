@@ -7,7 +7,8 @@ use Rattle.ebpf_insn.specs.declared.insn.Cond.{Cond}
 use Rattle.ebpf_insn.specs.declared.insn.Cond.TheVariants as on
 use Rattle.ebpf_insn.specs.Arithmetic.{modulus, is_met}
 use Rattle.ebpf_range.specs.declared.range.Range.{Range}
-use Rattle.ebpf_range.specs.Results.{is_constant, span}
+use Rattle.ebpf_range.specs.Interval.{span}
+use Rattle.ebpf_range.specs.Results.{is_constant}
 
 -- what both ranges hold
 abbrev pub after_eq : Range → Range → Option (Range × Range)

@@ -8,13 +8,10 @@ use Rattle.ebpf_insn.specs.declared.insn.AluOp.TheVariants as op
 use Rattle.ebpf_insn.specs.declared.insn.Order.{Order}
 use Rattle.ebpf_insn.specs.Arithmetic.{modulus, factor_at, result_at, extension_at, negation_at, swapped_bits, swap_of}
 use Rattle.ebpf_range.specs.declared.range.Range.{Range}
-use Rattle.ebpf_range.specs.Interval.{constant, all_below, low}
+use Rattle.ebpf_range.specs.Interval.{constant, span, up_to, all_below, low}
 
 abbrev pub is_constant : Range → Bool
 is_constant a = a.lo == a.hi
-
-abbrev pub span : ℕ → ℕ → Range
-span lo hi = record { lo = lo; hi = hi }
 
 -- 2^n - 1 for the least n such that both ranges lie below 2^n: 64 less the zeros above the highest bit
 abbrev pub up : Range → Range → ℕ
@@ -41,17 +38,17 @@ product_of m a b = if nat_lt (a.hi * b.hi) m then span (a.lo * b.lo) (a.hi * b.h
 
 -- a divisor may be zero where the range begins there
 abbrev pub quotient_of : Range → Range → Range
-quotient_of a b = if nat_lt 0 b.lo then span (a.lo / b.hi) (a.hi / b.lo) else span 0 a.hi
+quotient_of a b = if nat_lt 0 b.lo then span (a.lo / b.hi) (a.hi / b.lo) else up_to a.hi
 
 abbrev pub remainder_of : Range → Range → Range
-remainder_of a b = if nat_lt 0 b.lo then span 0 (min a.hi (b.hi - 1)) else span 0 a.hi
+remainder_of a b = if nat_lt 0 b.lo then up_to (min a.hi (b.hi - 1)) else up_to a.hi
 
 -- a shift by a known count is a product, or a quotient
 abbrev pub left_shift_of : Width → Range → Range → Range
 left_shift_of width a b = if is_constant b then product_of (modulus width) a (constant (factor_at width b.lo)) else all_below (modulus width)
 
 abbrev pub right_shift_of : Width → Range → Range → Range
-right_shift_of width a b = if is_constant b then quotient_of a (constant (factor_at width b.lo)) else span 0 a.hi
+right_shift_of width a b = if is_constant b then quotient_of a (constant (factor_at width b.lo)) else up_to a.hi
 
 -- and so it is with copies of the sign where there is none
 abbrev pub signed_shift_of : Width → Range → Range → Range
@@ -66,12 +63,12 @@ row op.Mul width a b = product_of (modulus width) a b
 row op.Div width a b = quotient_of a b
 row op.SDiv width a b = all_below (modulus width)
 row op.Or width a b = span (max a.lo b.lo) (up a b)
-row op.And width a b = span 0 (min a.hi b.hi)
+row op.And width a b = up_to (min a.hi b.hi)
 row op.Lsh width a b = left_shift_of width a b
 row op.Rsh width a b = right_shift_of width a b
 row op.Rem width a b = remainder_of a b
 row op.SRem width a b = all_below (modulus width)
-row op.Xor width a b = span 0 (up a b)
+row op.Xor width a b = up_to (up a b)
 row op.Mov width a b = b
 row op.Arsh width a b = signed_shift_of width a b
 

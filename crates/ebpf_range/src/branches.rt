@@ -15,10 +15,7 @@ use ebpf_insn::insn::{Cond, Width};
 // Callers ask for both ways, one after the other: in line, what each way tests alike is tested once.
 #[inline(always)]
 pub fn refine(cond: Cond, width: Width, a: Range, b: Range, taken: bool) -> Option<(Range, Range)>
-    requires left { a.lo ≤ a.hi }
-    requires right { b.lo ≤ b.hi }
     ensures value { result ≡ refinement cond width a b taken }
-    ensures ordered { IfSome result (λ p. (p.0.lo ≤ p.0.hi) × (p.1.lo ≤ p.1.hi)) }
     ensures keeps { (x y : ℕ) → IsWithin x a → IsWithin y b → is_met cond width x y ≡ taken → IsSomeAnd result (λ p. IsWithin x p.0 × IsWithin y p.1) }
 {
     refinement(cond, width, a, b, taken)
@@ -27,8 +24,6 @@ pub fn refine(cond: Cond, width: Width, a: Range, b: Range, taken: bool) -> Opti
 // What the table says of a branch.
 #[inline(always)]
 fn refinement(cond: Cond, width: Width, a: Range, b: Range, taken: bool) -> Option<(Range, Range)>
-    requires left { a.lo ≤ a.hi }
-    requires right { b.lo ≤ b.hi }
     ensures { result ≡ refinement cond width a b taken }
 {
     if !fits(width, a, b) {
@@ -52,8 +47,6 @@ fn fits(width: Width, a: Range, b: Range) -> bool
 
 // What is known where the condition holds.
 fn after(cond: Cond, width: Width, a: Range, b: Range) -> Option<(Range, Range)>
-    requires left { a.lo ≤ a.hi }
-    requires right { b.lo ≤ b.hi }
     ensures { result ≡ after cond width a b }
 {
     match cond {
@@ -77,8 +70,6 @@ fn after(cond: Cond, width: Width, a: Range, b: Range) -> Option<(Range, Range)>
 
 // What is known where the condition doesn't hold.
 fn after_not(cond: Cond, width: Width, a: Range, b: Range) -> Option<(Range, Range)>
-    requires left { a.lo ≤ a.hi }
-    requires right { b.lo ≤ b.hi }
     ensures { result ≡ after_not cond width a b }
 {
     match cond {
@@ -112,8 +103,6 @@ fn after_eq(a: Range, b: Range) -> Option<(Range, Range)>
 
 // A constant is no longer in the other range, where it was an end of it.
 fn after_ne(a: Range, b: Range) -> Option<(Range, Range)>
-    requires left { a.lo ≤ a.hi }
-    requires right { b.lo ≤ b.hi }
     ensures { result ≡ after_ne a b }
 {
     if a.lo == a.hi && b.lo == b.hi && a.lo == b.lo {
@@ -129,8 +118,7 @@ fn after_ne(a: Range, b: Range) -> Option<(Range, Range)>
 
 // A range without one number, where that is an end of it.
 fn without(number: u64, a: Range) -> Range
-    requires ordered { a.lo ≤ a.hi }
-    requires other { a.lo ≡ number → a.lo < a.hi }
+    requires { a.lo ≡ number → a.lo < a.hi }
     ensures { result ≡ without number a }
 {
     if a.lo == number {

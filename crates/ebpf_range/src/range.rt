@@ -1,20 +1,24 @@
-//! A range, and the hull of two.
+//! A range.
 
-ghost use Rattle.std.specs.Prelude.{◌≡◌, ◌≤◌, ℕ, SomeIff};
-ghost use Rattle.ebpf_range.specs.Interval.{constant, hull, IsWithin};
+ghost use Rattle.std.specs.Prelude.{◌≡◌, ◌≤◌, ◌↔◌, IsSome, IfSome};
 
-/// The unsigned 64-bit numbers from `lo` to `hi`, both among them. Where `hi` is below `lo` it is no range: the
-/// functions of this crate require ranges and give ranges.
+pub use crate::hull::hull;
+
+/// The unsigned 64-bit numbers from `lo` to `hi`, both among them: `lo` is at most `hi`.
 #[derive(Clone, Copy)]
 pub struct Range {
     pub lo: u64,
     pub hi: u64,
+    pub ghost ordered: { lo ≤ hi },
 }
 
 impl Range {
+    ghost use Rattle.ebpf_range.specs.Interval.{constant};
+
     /// The range with these ends, or `None` where `hi` is below `lo`.
     pub fn new(lo: u64, hi: u64) -> Option<Range>
-        ensures { SomeIff result (lo ≤ hi) (record { lo = lo; hi = hi }) }
+        ensures some { IsSome result ↔ (lo ≤ hi) }
+        ensures value { IfSome result (λ a. (a.lo ≡ lo) × (a.hi ≡ hi)) }
     {
         if lo <= hi {
             Some(Range { lo, hi })
@@ -25,27 +29,11 @@ impl Range {
 
     /// The range of one number.
     pub fn constant(number: u64) -> Range
-        ensures value { result ≡ constant number }
-        ensures ordered { result.lo ≤ result.hi }
+        ensures { result ≡ constant number }
     {
         Range {
             lo: number,
             hi: number,
         }
-    }
-}
-
-/// The smallest range that holds both: what is known where two paths meet.
-pub fn hull(a: Range, b: Range) -> Range
-    requires left { a.lo ≤ a.hi }
-    requires right { b.lo ≤ b.hi }
-    ensures value { result ≡ hull a b }
-    ensures ordered { result.lo ≤ result.hi }
-    ensures holds_left { (n : ℕ) → IsWithin n a → IsWithin n result }
-    ensures holds_right { (n : ℕ) → IsWithin n b → IsWithin n result }
-{
-    Range {
-        lo: a.lo.min(b.lo),
-        hi: a.hi.max(b.hi),
     }
 }

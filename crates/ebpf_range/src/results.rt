@@ -16,10 +16,7 @@ use ebpf_insn::insn::{AluOp, Order, Width};
 
 /// What is known of the result of an operation: its row of the table of results.
 pub fn alu(op: AluOp, width: Width, a: Range, b: Range) -> Range
-    requires left { a.lo ≤ a.hi }
-    requires right { b.lo ≤ b.hi }
     ensures value { result ≡ result_range op width a b }
-    ensures ordered { result.lo ≤ result.hi }
     ensures below { result.hi < modulus width }
     ensures holds { (x y : ℕ) → IsWithin x a → IsWithin y b → IsWithin (result_at op width x y) result }
 {
@@ -28,10 +25,8 @@ pub fn alu(op: AluOp, width: Width, a: Range, b: Range) -> Range
 
 /// What is known of the low 32 bits of a number of the range, which is what the table says of `mov` at 32 bits.
 pub fn low(a: Range) -> Range
-    requires { a.lo ≤ a.hi }
     ensures value { result ≡ low a }
     ensures table { result ≡ result_range AluOp.Mov Width.W32 a a }
-    ensures ordered { result.lo ≤ result.hi }
     ensures half { result.hi < 2 ^ 32 }
     ensures holds { (n : ℕ) → IsWithin n a → IsWithin (n % 2 ^ 32) result }
 {
@@ -52,9 +47,7 @@ pub fn low(a: Range) -> Range
 
 // What an operation of a width reads of its operand.
 fn low_at(width: Width, a: Range) -> Range
-    requires { a.lo ≤ a.hi }
     ensures value { result ≡ low_at width a }
-    ensures ordered { result.lo ≤ result.hi }
     ensures below { result.hi < modulus width }
 {
     match width {
@@ -110,9 +103,7 @@ fn row(op: AluOp, width: Width, a: Range, b: Range) -> Range
 /// What is known of a number whose low bits are extended with their sign: the result where it is constant, else all numbers
 /// of the width.
 pub fn sext(width: Width, bits: u8, a: Range) -> Range
-    requires { a.lo ≤ a.hi }
     ensures value { result ≡ extension_range width bits a }
-    ensures ordered { result.lo ≤ result.hi }
     ensures below { result.hi < modulus width }
     ensures holds { (n : ℕ) → IsWithin n a → IsWithin (extension_at width bits n) result }
 {
@@ -132,9 +123,7 @@ fn extension_or_any(width: Width, bits: u8, a: Range) -> Range
 
 /// What is known of zero less a number: the result where it is constant, else all numbers of the width.
 pub fn neg(width: Width, a: Range) -> Range
-    requires { a.lo ≤ a.hi }
     ensures value { result ≡ negation_range width a }
-    ensures ordered { result.lo ≤ result.hi }
     ensures below { result.hi < modulus width }
     ensures holds { (n : ℕ) → IsWithin n a → IsWithin (negation_at width n) result }
 {
@@ -155,9 +144,7 @@ fn negation_or_any(width: Width, a: Range) -> Range
 /// What is known of the low bits of a number with their bytes in another order: the result where the number is constant,
 /// else all numbers of n bits. Any number of bits but 16 and 32 counts as 64.
 pub fn swap(order: Order, bits: u8, a: Range) -> Range
-    requires { a.lo ≤ a.hi }
     ensures value { result ≡ swap_range order bits a }
-    ensures ordered { result.lo ≤ result.hi }
     ensures below { result.hi < 2 ^ swapped_bits bits }
     ensures holds { (n : ℕ) → IsWithin n a → IsWithin (swap_of order bits n) result }
 {

@@ -20,6 +20,7 @@ pub(crate) fn all_at(width: Width) -> Range
 }
 
 // The sum, which wraps.
+#[tactic(auto, using(crate::proofs::Spans::same_ends))]
 pub(crate) fn sum(width: Width, a: Range, b: Range) -> Range
     requires { AreBelow (modulus width) a b }
     ensures { result ≡ sum_of (modulus width) a b }
@@ -43,6 +44,7 @@ pub(crate) fn sum(width: Width, a: Range, b: Range) -> Range
 }
 
 // The difference, which wraps below zero.
+#[tactic(auto, using(crate::proofs::Spans::same_ends))]
 pub(crate) fn difference(width: Width, a: Range, b: Range) -> Range
     requires { AreBelow (modulus width) a b }
     ensures { result ≡ difference_of (modulus width) a b }
@@ -63,9 +65,8 @@ pub(crate) fn difference(width: Width, a: Range, b: Range) -> Range
 }
 
 // The product, which wraps.
+#[tactic(auto, using(crate::proofs::Spans::same_ends))]
 pub(crate) fn product(width: Width, a: Range, b: Range) -> Range
-    requires left { a.lo ≤ a.hi }
-    requires right { b.lo ≤ b.hi }
     ensures { result ≡ product_of (modulus width) a b }
 {
     let hi = a.hi as u128 * b.hi as u128;
@@ -80,8 +81,8 @@ pub(crate) fn product(width: Width, a: Range, b: Range) -> Range
 }
 
 // The quotient, which is 0 where the divisor is.
+#[tactic(auto, using(crate::proofs::Spans::same_ends))]
 pub(crate) fn quotient(a: Range, b: Range) -> Range
-    requires { b.lo ≤ b.hi }
     ensures { result ≡ quotient_of a b }
 {
     if 0 < b.lo {
@@ -96,7 +97,6 @@ pub(crate) fn quotient(a: Range, b: Range) -> Range
 
 // The remainder, which is the dividend where the divisor is 0.
 pub(crate) fn remainder(a: Range, b: Range) -> Range
-    requires { b.lo ≤ b.hi }
     ensures { result ≡ remainder_of a b }
 {
     if 0 < b.lo {
@@ -111,8 +111,6 @@ pub(crate) fn remainder(a: Range, b: Range) -> Range
 
 // The number shifted to the left.
 pub(crate) fn left_shift(width: Width, a: Range, b: Range) -> Range
-    requires left { a.lo ≤ a.hi }
-    requires right { b.lo ≤ b.hi }
     ensures { result ≡ left_shift_of width a b }
 {
     if b.lo == b.hi {
@@ -123,6 +121,7 @@ pub(crate) fn left_shift(width: Width, a: Range, b: Range) -> Range
 }
 
 // The number shifted to the right, with zeros.
+#[tactic(auto, using(crate::proofs::Spans::same_ends))]
 pub(crate) fn right_shift(width: Width, a: Range, b: Range) -> Range
     ensures { result ≡ right_shift_of width a b }
 {

@@ -1,8 +1,7 @@
 -- Two lists that are joined, element by element.
 use Rattle.std.proofs.Common.{◌≡◌, ◌≢◌, ℕ, zero, suc, ◌+◌, ◌<◌, ◌≤◌, List, [], ◌∷◌, length, get_or, set, refl, sym, ap, ◌∙◌, arith, below_more, length-set}
-use Rattle.std.specs.Prelude.{All, map}
+use Rattle.std.specs.Prelude.{map}
 use Rattle.std.proofs.lemmas.List.{ext_get_or, get_or-set_same, get_or-set_other}
-use Rattle.std.proofs.lemmas.List.Elements.{All-set}
 use Rattle.ebpf_state.specs.States.{joined_list}
 
 pub joined_list-length : {X : Type 0} (join : X → X → X) (s t : List X) → length s ≡ length t → length (joined_list join s t) ≡ length s
@@ -18,35 +17,33 @@ joined_list-index join d (a ∷ s) (b ∷ t) zero e lt = refl
 joined_list-index join d (a ∷ s) (b ∷ t) (suc k) e lt = joined_list-index join d s t k (omega arith) (omega arith)
 
 -- a list whose first i elements are joined, and whose others are those of the left one
-pub record IsJoining {X : Type 0} (join : X → X → X) (P : X → Type 0) (d : X) (left right joined : List X) (i : ℕ) : Type 0 where
+pub record IsJoining {X : Type 0} (join : X → X → X) (d : X) (left right joined : List X) (i : ℕ) : Type 0 where
   pub whole : length joined ≡ length left
   pub same : length left ≡ length right
-  pub proper : All P joined
   pub done : (k : ℕ) → k < i → get_or joined k d ≡ join (get_or left k d) (get_or right k d)
   pub rest : (k : ℕ) → i ≤ k → get_or joined k d ≡ get_or left k d
 
-pub joining_none : {X : Type 0} (join : X → X → X) (P : X → Type 0) (d : X) (left right : List X) → length left ≡ length right
-    → All P left → IsJoining join P d left right left 0
-joining_none join P d left right e proper = record { whole = refl; same = e; proper = proper; done = λ k lt. absurd (omega arith); rest = λ k le. refl }
+pub joining_none : {X : Type 0} (join : X → X → X) (d : X) (left right : List X) → length left ≡ length right
+    → IsJoining join d left right left 0
+joining_none join d left right e = record { whole = refl; same = e; done = λ k lt. absurd (omega arith); rest = λ k le. refl }
 
-pub joining_more : {X : Type 0} (join : X → X → X) (P : X → Type 0) (d : X) (left right joined : List X) (i : ℕ) (x : X)
-    → i < length left → IsJoining join P d left right joined i → x ≡ join (get_or joined i d) (get_or right i d) → P x
-    → IsJoining join P d left right (set joined i x) (i + 1)
-joining_more join P d left right joined i x lt h e p =
+pub joining_more : {X : Type 0} (join : X → X → X) (d : X) (left right joined : List X) (i : ℕ) (x : X)
+    → i < length left → IsJoining join d left right joined i → x ≡ join (get_or joined i d) (get_or right i d)
+    → IsJoining join d left right (set joined i x) (i + 1)
+joining_more join d left right joined i x lt h e =
     let inside : i < length joined = omega (arith, h.whole) in
     record {
       whole = length-set joined i x ∙ h.whole;
       same = h.same;
-      proper = All-set P joined i x p h.proper;
       done = below_more _ _
           (λ k below. let other : k ≢ i = omega arith in get_or-set_other joined i k x d other ∙ h.done k below)
           (get_or-set_same joined i x d inside ∙ (e ∙ ap (λ a. join a (get_or right i d)) (h.rest i (omega arith))));
       rest = λ k le. let other : k ≢ i = omega arith in get_or-set_other joined i k x d other ∙ h.rest k (omega arith);
     }
 
-pub joining_all : {X : Type 0} (join : X → X → X) (P : X → Type 0) (d : X) (left right joined : List X) (i : ℕ) → length left ≡ i
-    → IsJoining join P d left right joined i → joined ≡ joined_list join left right
-joining_all join P d left right joined i e h =
+pub joining_all : {X : Type 0} (join : X → X → X) (d : X) (left right joined : List X) (i : ℕ) → length left ≡ i
+    → IsJoining join d left right joined i → joined ≡ joined_list join left right
+joining_all join d left right joined i e h =
     let long = joined_list-length join left right h.same in
     ext_get_or d joined (joined_list join left right) (omega (arith, h.whole)) (λ k lt. h.done k (omega (arith, h.whole)) ∙ sym (joined_list-index join d left right k h.same (omega (arith, h.whole))))
 
@@ -57,16 +54,16 @@ joined_alone f [] = refl
 joined_alone f (x ∷ s) = ap (λ (t : List _). f x ∷ t) (joined_alone f s)
 
 -- a list whose first i elements are changed, and whose others are those of the old one
-abbrev pub IsChanging : {X : Type 0} → (X → X) → (X → Type 0) → X → List X → List X → ℕ → Type 0
-IsChanging f P d old changed i = IsJoining (λ x y. f x) P d old old changed i
+abbrev pub IsChanging : {X : Type 0} → (X → X) → X → List X → List X → ℕ → Type 0
+IsChanging f d old changed i = IsJoining (λ x y. f x) d old old changed i
 
-pub changing_none : {X : Type 0} (f : X → X) (P : X → Type 0) (d : X) (old : List X) → All P old → IsChanging f P d old old 0
-changing_none f P d old proper = joining_none (λ x y. f x) P d old old refl proper
+pub changing_none : {X : Type 0} (f : X → X) (d : X) (old : List X) → IsChanging f d old old 0
+changing_none f d old = joining_none (λ x y. f x) d old old refl
 
-pub changing_more : {X : Type 0} (f : X → X) (P : X → Type 0) (d : X) (old changed : List X) (i : ℕ) (x : X) → i < length changed
-    → IsChanging f P d old changed i → x ≡ f (get_or changed i d) → P x → IsChanging f P d old (set changed i x) (i + 1)
-changing_more f P d old changed i x lt h e p = joining_more (λ x y. f x) P d old old changed i x (omega (arith, lt, h.whole)) h e p
+pub changing_more : {X : Type 0} (f : X → X) (d : X) (old changed : List X) (i : ℕ) (x : X) → i < length changed
+    → IsChanging f d old changed i → x ≡ f (get_or changed i d) → IsChanging f d old (set changed i x) (i + 1)
+changing_more f d old changed i x lt h e = joining_more (λ x y. f x) d old old changed i x (omega (arith, lt, h.whole)) h e
 
-pub changing_all : {X : Type 0} (f : X → X) (P : X → Type 0) (d : X) (old changed : List X) (i : ℕ) → length changed ≡ i
-    → IsChanging f P d old changed i → changed ≡ map f old
-changing_all f P d old changed i e h = joining_all (λ x y. f x) P d old old changed i (omega (arith, e, h.whole)) h ∙ joined_alone f old
+pub changing_all : {X : Type 0} (f : X → X) (d : X) (old changed : List X) (i : ℕ) → length changed ≡ i
+    → IsChanging f d old changed i → changed ≡ map f old
+changing_all f d old changed i e h = joining_all (λ x y. f x) d old old changed i (omega (arith, e, h.whole)) h ∙ joined_alone f old

@@ -1,6 +1,6 @@
 -- The order in which states are joined doesn't matter: the two of a join may change places (`commutes`), and so may the second
 -- and the third that come (`exchanges`), which together give every order.
-use Rattle.std.proofs.Common.{◌≡◌, ℕ, min, max, ℤ, Bool, true, false, cond, eqb, List, [], ◌∷◌, Some, None, refl, sym, ap, ◌∙◌, subst, arith, rules}
+use Rattle.std.proofs.Common.{◌≡◌, ℕ, ℤ, Bool, true, false, cond, eqb, List, [], ◌∷◌, Some, None, refl, sym, ap, ◌∙◌, subst, arith, rules}
 use Rattle.std.specs.Prelude.{bit_and}
 use Rattle.std.specs.Ordering.{int_eq}
 use Rattle.std.specs.Cmp.{both_ways}
@@ -13,6 +13,7 @@ use Rattle.std.proofs.lemmas.Bool.Decides.{nat_tests, Decides-int_eq}
 use Rattle.std.proofs.lemmas.Int.{ints}
 use Rattle.ebpf_range.specs.declared.range.Range.{Range}
 use Rattle.ebpf_range.specs.Interval.{hull}
+use Rattle.ebpf_range.proofs.Spans.{same_ends}
 use Rattle.ebpf_state.specs.declared.value.Abs.{Abs}
 use Rattle.ebpf_state.specs.declared.value.Abs.TheVariants.{Unset, Num, Stk, Ctx, Ob, May}
 use Rattle.ebpf_state.specs.declared.word.Word.{Word}
@@ -26,16 +27,10 @@ use Rattle.ebpf_state.proofs.Stacks.{joined_nothing}
 
 -- the ends of ranges, in any order
 hull_commutes : (a b : Range) → hull a b ≡ hull b a
-hull_commutes a b = rw (min_comm a.lo b.lo, max_comm a.hi b.hi) refl
+hull_commutes a b = same_ends (hull a b) (hull b a) (min_comm a.lo b.lo) (max_comm a.hi b.hi)
 
 hull_exchanges : (a b c : Range) → hull (hull a b) c ≡ hull (hull a c) b
-hull_exchanges a b c = rw (low, high) refl
-  where
-    low : min (min a.lo b.lo) c.lo ≡ min (min a.lo c.lo) b.lo
-    low = omega arith
-
-    high : max (max a.hi b.hi) c.hi ≡ max (max a.hi c.hi) b.hi
-    high = omega arith
+hull_exchanges a b c = same_ends (hull (hull a b) c) (hull (hull a c) b) (omega arith) (omega arith)
 
 min_commutes : (a b : ℤ) → int_min a b ≡ int_min b a
 min_commutes a b = grind (arith, ints)

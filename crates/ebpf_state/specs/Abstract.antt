@@ -1,5 +1,5 @@
 -- What is known of one value.
-use Rattle.std.specs.Prelude.{◌≤◌, Bool, true, false, if◌then◌else◌, ◌==◌}
+use Rattle.std.specs.Prelude.{Bool, true, false, if◌then◌else◌, ◌==◌}
 use Rattle.std.specs.Int.{int_min, int_max}
 use Rattle.std.specs.Ordering.{int_eq}
 use Rattle.ebpf_range.specs.Interval.{hull}
@@ -28,8 +28,3 @@ joined_value (Ctx a b) (Ctx c d) = Ctx (int_min a c) (int_max b d)
 joined_value (Ob r a b) (Ob q c d) = if r == q then Ob r (int_min a c) (int_max b d) else Unset
 joined_value (May r) (May q) = if r == q then May r else Unset
 joined_value _ _ = Unset
-
--- a range has its ends in order
-abbrev pub IsProper : Abs → Type 0
-IsProper (Num a) = a.lo ≤ a.hi
-IsProper _ = Unit {0}

@@ -3,7 +3,6 @@ use Rattle.std.specs.Prelude.{◌≡◌, ◌≤◌, List, length, map, All}
 use Rattle.ebpf_state.specs.declared.value.Abs.{Abs}
 use Rattle.ebpf_state.specs.declared.word.Word.{Word}
 use Rattle.ebpf_state.specs.declared.held.Held.{Held}
-use Rattle.ebpf_state.specs.Abstract.{IsProper}
 use Rattle.ebpf_state.specs.Ascending.{IsAscending}
 use Rattle.ebpf_state.specs.Words.{IsProperWord}
 
@@ -17,6 +16,5 @@ pub record StateView : Type 0 where
 pub record AreFacts (registers : List Abs) (words : List Word) (held : List Held) : Type 0 where
   pub registers_are : length registers ≡ 11
   pub few : length words ≤ 64
-  pub proper : All IsProper registers
-  pub proper_words : All IsProperWord words
+  pub proper : All IsProperWord words
   pub ascending : IsAscending (map (λ h. h.call) held)

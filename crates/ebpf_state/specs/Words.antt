@@ -4,7 +4,7 @@ use Rattle.ebpf_state.specs.declared.value.Abs.{Abs}
 use Rattle.ebpf_state.specs.declared.value.Abs.TheVariants.{Unset, Num}
 use Rattle.ebpf_state.specs.declared.word.Word.{Word}
 use Rattle.ebpf_state.specs.declared.word.Word.TheVariants.{Spill, Bytes}
-use Rattle.ebpf_state.specs.Abstract.{joined_value, IsProper}
+use Rattle.ebpf_state.specs.Abstract.{joined_value}
 
 -- a spill of a value, or a word of which nothing is known
 abbrev pub spill_or_nothing : Abs → Word
@@ -22,8 +22,7 @@ joined_word _ _ = Bytes 0
 -- a spill is of something: a word of which nothing is known has no byte set
 abbrev pub IsProperWord : Word → Type 0
 IsProperWord (Spill Unset) = ⊥
-IsProperWord (Spill value) = IsProper value
-IsProperWord (Bytes mask) = Unit {0}
+IsProperWord _ = Unit {0}
 
 -- the 64 words of a stack, of which these are the topmost; nothing is known of the others
 abbrev pub all_words : List Word → List Word

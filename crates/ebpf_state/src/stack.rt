@@ -5,7 +5,6 @@
 
 ghost use Rattle.std.specs.Prelude.{◌≡◌, ◌≤◌, ◌<◌, ◌^◌, length, All, IfOk, IfErr, IfSome, ◌+◌, OnOk, Some, slice_set, slice_index_or, ◌-◌};
 ghost use Rattle.ebpf_state.specs.declared.word.Word.{Word};
-ghost use Rattle.ebpf_state.specs.Abstract.{IsProper};
 ghost use Rattle.ebpf_state.specs.Words.{all_words, IsProperWord};
 ghost use Rattle.ebpf_state.specs.Stack.{bytes_in, place_of, is_whole_word, covered, word_of, may_point, is_unset_in, is_split_in, read_fault};
 ghost use Rattle.ebpf_state.specs.Stack.{loaded_range, loaded_number, loaded_word, loaded_at, overwritten, written, written_at, stored_words};
@@ -187,8 +186,7 @@ fn read_fault(place: usize, bytes: usize, words: &[Word]) -> Option<StackFault>
 /// What is known of a loaded number of n bytes, at most 8: with its sign above them it may be any of 64 bits.
 pub fn loaded_range(bytes: usize, signed: bool) -> Range
     requires { bytes ≤ 8 }
-    ensures value { result ≡ loaded_range bytes signed }
-    ensures ordered { result.lo ≤ result.hi }
+    ensures { result ≡ loaded_range bytes signed }
 {
     let bits = if signed { 64 } else { 8 * bytes };
     Range {
@@ -199,8 +197,7 @@ pub fn loaded_range(bytes: usize, signed: bool) -> Range
 
 fn loaded_number(fault: Option<StackFault>, bytes: usize, signed: bool) -> Result<Abs, StackFault>
     requires { bytes ≤ 8 }
-    ensures value { result ≡ loaded_number fault bytes signed }
-    ensures proper { IfOk result IsProper }
+    ensures { result ≡ loaded_number fault bytes signed }
 {
     match fault {
         Some(fault) => Err(fault),
@@ -219,8 +216,7 @@ pub(crate) fn load_at(
     requires bytes { bytes ≤ 8 }
     requires few { length words.now ≤ 64 }
     requires proper { All IsProperWord words.now }
-    ensures value { result ≡ loaded_at (Some place) bytes signed (all_words words.now) }
-    ensures proper { IfOk result IsProper }
+    ensures { result ≡ loaded_at (Some place) bytes signed (all_words words.now) }
 {
     if is_whole_word(place, bytes)
         && let Word::Spill(value) = known_word(words, place / 8)
@@ -326,8 +322,7 @@ pub(crate) fn store_at(
     requires some { 0 < bytes }
     requires bytes { bytes ≤ 8 }
     requires few { length words.old.items ≤ 64 }
-    requires proper_words { All IsProperWord words.old.items }
-    requires proper { IsProper value }
+    requires proper { All IsProperWord words.old.items }
     ensures value { IfOk result (λ _. all_words words.new.items ≡ stored_words place bytes value (all_words words.old.items)) }
     ensures same { IfErr result (λ _. all_words words.new.items ≡ all_words words.old.items) }
     ensures few { length words.new.items ≤ 64 }

@@ -4,8 +4,8 @@
 //! all of them have in common, and which references all of them hold. Where two paths meet, their states are joined: what
 //! both know stays, what only one knows is forgotten.
 //!
-//! *The invariant.* There are eleven registers; at most 64 words, each of them a spill of something or a mask; ranges have
-//! their ends in order; references ascend by their calls.
+//! *The invariant.* There are eleven registers; at most 64 words, each of them a spill of something or a mask; references
+//! ascend by their calls.
 //!
 //! *The reason.* A state has only what an instruction's rule asks for, and forgetting is always sound: a state that knows less
 //! refuses more. Most programs use few words of the stack, so only the topmost ones are kept, down to the lowest of which
@@ -14,7 +14,7 @@
 ghost use Rattle.std.specs.Prelude.{◌≡◌, ◌≤◌, ◌<◌, true, All, length, map, IfOk, OnOk, OnErr, Some};
 ghost use Rattle.ebpf_state.specs.declared.value.Abs.{Abs};
 ghost use Rattle.ebpf_state.specs.declared.word.Word.{Word};
-ghost use Rattle.ebpf_state.specs.Abstract.{joined_value, IsProper};
+ghost use Rattle.ebpf_state.specs.Abstract.{joined_value};
 ghost use Rattle.ebpf_state.specs.Words.{joined_word, all_words, IsProperWord};
 ghost use Rattle.ebpf_state.specs.States.{joined_list, is_same_held};
 ghost use Rattle.ebpf_state.specs.References.{settled_value, settled_word, forgotten_value, forgotten_word};
@@ -161,15 +161,13 @@ impl State {
 
     /// What is known of a register.
     pub fn reg(&self, register: Reg) -> Abs
-        ensures value { result ≡ register_of self.now register }
-        ensures proper { IsProper result }
+        ensures { result ≡ register_of self.now register }
     {
         self.facts.registers[register.number()]
     }
 
     /// Says what is known of a register from now on.
     pub fn set(&mut self, register: Reg, value: Abs)
-        requires { IsProper value }
         ensures { self.new ≡ with_register self.old register value }
     {
         let number = register.number();
@@ -222,8 +220,7 @@ impl State {
     /// `Bounds` where the bytes are not all of the stack, else `UnsetByte` where one of them may be unset, else
     /// `SplitPointer` where one is part of a pointer, or of an answer not compared yet.
     pub fn load(&self, size: Size, signed: bool, offset: i64) -> Result<Abs, StackFault>
-        ensures value { result ≡ loaded self.now size signed offset }
-        ensures proper { IfOk result IsProper }
+        ensures { result ≡ loaded self.now size signed offset }
     {
         let bytes = bytes_in(size);
         match place_of(offset, bytes) {
@@ -238,7 +235,6 @@ impl State {
     /// `Bounds` where the bytes are not all of the stack, else `SplitPointer` where a pointer, or an answer not compared
     /// yet, would not be an aligned word; `NoMemory` where an allocation failed. The state stays as it is.
     pub fn store(&mut self, size: Size, offset: i64, value: Abs) -> Result<(), StoreFault>
-        requires proper { IsProper value }
         ensures { Stores (stored self.old size offset value) self.old self.new result }
     {
         let bytes = bytes_in(size);
@@ -303,10 +299,7 @@ pub fn is_same_held(left: &[Held], right: &[Held]) -> bool
 }
 
 fn join_registers(left: &mut [Abs; 11], right: &[Abs; 11])
-    requires left { All IsProper left.old }
-    requires right { All IsProper right.now }
-    ensures value { left.new ≡ joined_list joined_value left.old right.now }
-    ensures proper { All IsProper left.new }
+    ensures { left.new ≡ joined_list joined_value left.old right.now }
 {
     for i in 0..11 {
         left[i].join_with(&right[i]);
@@ -315,9 +308,7 @@ fn join_registers(left: &mut [Abs; 11], right: &[Abs; 11])
 
 // Says in each register whether the answer of a call is null.
 fn settle_registers(registers: &mut [Abs; 11], call: u16, null: bool)
-    requires { All IsProper registers.old }
-    ensures value { registers.new ≡ map (settled_value call null) registers.old }
-    ensures proper { All IsProper registers.new }
+    ensures { registers.new ≡ map (settled_value call null) registers.old }
 {
     for i in 0..11 {
         registers[i] = registers[i].settle(call, null);
@@ -337,9 +328,7 @@ fn settle_words(words: &mut Vec<Word>, call: u16, null: bool)
 
 // Forgets in each register what points to the object of a call, or may.
 fn forget_registers(registers: &mut [Abs; 11], call: u16)
-    requires { All IsProper registers.old }
-    ensures value { registers.new ≡ map (forgotten_value call) registers.old }
-    ensures proper { All IsProper registers.new }
+    ensures { registers.new ≡ map (forgotten_value call) registers.old }
 {
     for i in 0..11 {
         registers[i] = registers[i].forget(call);
@@ -361,8 +350,7 @@ fn forget_words(words: &mut Vec<Word>, call: u16)
 fn join_words(left: &mut [Word], right: &[Word])
     requires few_left { length left.old ≤ 64 }
     requires few_right { length right.now ≤ 64 }
-    requires proper_left { All IsProperWord left.old }
-    requires proper_right { All IsProperWord right.now }
+    requires proper { All IsProperWord left.old }
     ensures value { all_words left.new ≡ joined_list joined_word (all_words left.old) (all_words right.now) }
     ensures len { length left.new ≡ length left.old }
     ensures proper { All IsProperWord left.new }
@@ -378,8 +366,7 @@ fn join_words(left: &mut [Word], right: &[Word])
 // Joins words that lie side by side.
 fn join_each(here: &mut [Word], there: &[Word])
     requires same { length here.old ≡ length there.now }
-    requires here { All IsProperWord here.old }
-    requires there { All IsProperWord there.now }
+    requires proper { All IsProperWord here.old }
     ensures value { here.new ≡ joined_list joined_word here.old there.now }
     ensures len { length here.new ≡ length here.old }
     ensures proper { All IsProperWord here.new }

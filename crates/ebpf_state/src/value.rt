@@ -1,7 +1,7 @@
 //! Abstract values.
 
 ghost use Rattle.std.specs.Prelude.{◌≡◌};
-ghost use Rattle.ebpf_state.specs.Abstract.{joined_value, is_unset, is_pointer, is_may, IsProper};
+ghost use Rattle.ebpf_state.specs.Abstract.{joined_value, is_unset, is_pointer, is_may};
 ghost use Rattle.ebpf_state.specs.References.{settled_value, forgotten_value};
 
 use ebpf_range::range::{Range, hull};
@@ -56,10 +56,7 @@ impl Abs {
 
     /// What is known where two paths meet, one of which knows each: `Unset`, where the two have nothing in common.
     pub fn join(self, other: Abs) -> Abs
-        requires left { IsProper self }
-        requires right { IsProper other }
-        ensures value { result ≡ joined_value self other }
-        ensures proper { IsProper result }
+        ensures { result ≡ joined_value self other }
     {
         match (self, other) {
             (Abs::Num(a), Abs::Num(b)) => Abs::Num(hull(a, b)),
@@ -73,10 +70,7 @@ impl Abs {
 
     /// Joins another value into this one. Where both are numbers only the ends change; where nothing is known, nothing does.
     pub(crate) fn join_with(&mut self, other: &Abs)
-        requires left { IsProper self.old }
-        requires right { IsProper other.now }
-        ensures value { self.new ≡ joined_value self.old other.now }
-        ensures proper { IsProper self.new }
+        ensures { self.new ≡ joined_value self.old other.now }
     {
         match (&mut *self, other) {
             (Abs::Unset, _) => {}
@@ -87,9 +81,7 @@ impl Abs {
 
     /// What is known once the answer of a call is known to be null, or not to be.
     pub(crate) fn settle(self, call: u16, null: bool) -> Abs
-        requires { IsProper self }
-        ensures value { result ≡ settled_value call null self }
-        ensures proper { IsProper result }
+        ensures { result ≡ settled_value call null self }
     {
         match self {
             Abs::May(r) if r == call => if null {
@@ -103,9 +95,7 @@ impl Abs {
 
     /// What is known once the object of a call was given back.
     pub(crate) fn forget(self, call: u16) -> Abs
-        requires { IsProper self }
-        ensures value { result ≡ forgotten_value call self }
-        ensures proper { IsProper result }
+        ensures { result ≡ forgotten_value call self }
     {
         match self {
             Abs::Ob(r, _, _) if r == call => Abs::Unset,

@@ -1,7 +1,6 @@
 //! What is known of the words of the stack.
 
 ghost use Rattle.std.specs.Prelude.{◌≡◌};
-ghost use Rattle.ebpf_state.specs.Abstract.{IsProper};
 ghost use Rattle.ebpf_state.specs.References.{settled_word, forgotten_word};
 ghost use Rattle.ebpf_state.specs.Words.{joined_word, spill_or_nothing, IsProperWord};
 
@@ -21,8 +20,6 @@ pub enum Word {
 impl Word {
     /// What is known where two paths meet, one of which knows each.
     pub fn join(self, other: Word) -> Word
-        requires left { IsProperWord self }
-        requires right { IsProperWord other }
         ensures value { result ≡ joined_word self other }
         ensures proper { IsProperWord result }
     {
@@ -37,8 +34,6 @@ impl Word {
 
     /// Joins another word into this one. Most are two numbers, of which only the ends change.
     pub(crate) fn join_with(&mut self, other: &Word)
-        requires left { IsProperWord self.old }
-        requires right { IsProperWord other.now }
         ensures value { self.new ≡ joined_word self.old other.now }
         ensures proper { IsProperWord self.new }
     {
@@ -64,7 +59,6 @@ impl Word {
 
     /// What is known once the object of a call was given back.
     pub(crate) fn forget(self, call: u16) -> Word
-        requires { IsProperWord self }
         ensures value { result ≡ forgotten_word call self }
         ensures proper { IsProperWord result }
     {
@@ -77,7 +71,6 @@ impl Word {
 
 // A spill of a value, or a word of which nothing is known.
 pub(crate) fn spill_or_nothing(value: Abs) -> Word
-    requires { IsProper value }
     ensures value { result ≡ spill_or_nothing value }
     ensures proper { IsProperWord result }
 {

@@ -1,5 +1,5 @@
--- A state before a slot has all registers, what it knows of their numbers has its ends in order and below 2^64, and the answers
--- that it knows are those of calls below the slot: the rules keep this.
+-- A state before a slot has all registers, what it knows of their numbers lies below 2^64, and the answers that it knows are
+-- those of calls below the slot: the rules keep this.
 use Rattle.std.proofs.Common.{◌≡◌, ℕ, zero, suc, ◌+◌, ◌/◌, ◌<◌, ◌≤◌, ℤ, Bool, true, false, eqb, List, [], ◌∷◌, length, get_or, set, Option, Some, None, Result, Ok, Err, refl, ◌∙◌, arith, length-set, rules}
 use Rattle.std.specs.Prelude.{All, ◌==◌, ◌&&◌, not}
 use Rattle.std.specs.Ordering.{int_eq}
@@ -75,7 +75,7 @@ full_weaker slot higher s le h = record {
 -- ---- joins
 
 hull_bounded : (a b : Range) → IsBounded a → IsBounded b → IsBounded (hull a b)
-hull_bounded a b h k = (omega (arith, h.0, k.0), omega (arith, h.1, k.1))
+hull_bounded a b h k = omega (arith, h, k)
 
 joined_bounded : (slot : ℕ) (a b : Abs) → IsBoundedValue slot a → IsBoundedValue slot b → IsBoundedValue slot (joined_value a b)
 joined_bounded slot (Num a) (Num b) h k = hull_bounded a b h k
@@ -119,7 +119,7 @@ joined_words_bounded slot s t h k = joined_all joined_word (IsBoundedWord slot) 
 -- ---- answers that were compared with null
 
 answer_bounded : (slot call : ℕ) (null : Bool) → IsBoundedValue slot (answer_known call null)
-answer_bounded slot call true = (omega arith, omega arith)
+answer_bounded slot call true = omega arith
 answer_bounded slot call false = tt
 
 settled_bounded : (slot call : ℕ) (null : Bool) (a : Abs) → IsBoundedValue slot a → IsBoundedValue slot (settled_value call null a)
@@ -217,11 +217,11 @@ stored-full slot s size offset value h b = at (place_of offset (bytes_in size)) 
 -- ---- loads
 
 loaded_range_bounded : (size : Size) (signed : Bool) → IsBounded (loaded_range (bytes_in size) signed)
-loaded_range_bounded size true = (omega arith, omega arith)
-loaded_range_bounded size.B false = (omega arith, omega arith)
-loaded_range_bounded size.H false = (omega arith, omega arith)
-loaded_range_bounded size.W false = (omega arith, omega arith)
-loaded_range_bounded size.D false = (omega arith, omega arith)
+loaded_range_bounded size true = omega arith
+loaded_range_bounded size.B false = omega arith
+loaded_range_bounded size.H false = omega arith
+loaded_range_bounded size.W false = omega arith
+loaded_range_bounded size.D false = omega arith
 
 abbrev pub IsBoundedLoad : ℕ → Result Abs StackFault → Type 0
 IsBoundedLoad slot (Ok a) = IsBoundedValue slot a

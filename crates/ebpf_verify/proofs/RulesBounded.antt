@@ -1,5 +1,5 @@
--- What the rules send has all registers, and its numbers' ranges in order and below 2^64.
-use Rattle.std.proofs.Common.{ℕ, suc, ◌<◌, ◌≤◌, ◌^◌, ℤ, ◌+ℤ◌, Bool, true, false, Option, Some, None, arith, Result, Ok, Err}
+-- What the rules send has all registers, and its numbers' ranges lie below 2^64.
+use Rattle.std.proofs.Common.{ℕ, suc, ◌<◌, ◌^◌, ℤ, ◌+ℤ◌, Bool, true, false, Option, Some, None, arith, Result, Ok, Err}
 use Rattle.std.specs.Prelude.{FitsSigned, unwrap_or, IfSome}
 use Rattle.std.specs.Int.{w32}
 use Rattle.std.proofs.lemmas.Int.{ints}
@@ -18,9 +18,8 @@ use Rattle.ebpf_insn.specs.Encoding.{IsDefined, IsSource}
 use Rattle.ebpf_range.specs.declared.range.Range.{Range}
 use Rattle.ebpf_range.specs.Interval.{low, constant}
 use Rattle.ebpf_range.specs.Results.{extension_range, negation_range, swap_range}
-use Rattle.ebpf_range.specs.Refinements.{refinement}
 use Rattle.ebpf_range.proofs.ResultLemmas.{IsBounded, result-bounded, low-bounded, extension-bounded, negation-bounded, swap-bounded}
-use Rattle.ebpf_range.proofs.RefinementLemmas.{refinement-ordered, refinement-below}
+use Rattle.ebpf_range.proofs.RefinementLemmas.{refinement-below}
 use Rattle.ebpf_state.specs.declared.value.Abs.{Abs}
 use Rattle.ebpf_state.specs.declared.value.Abs.TheVariants.{Unset, Num, Stk, Ctx, Ob, May}
 use Rattle.ebpf_state.specs.StateView.{StateView}
@@ -49,7 +48,7 @@ IsFullState slot (Some s) = IsFull slot s
 -- ---- arithmetic
 
 constant_bounded : (n : ℕ) → n < 2 ^ 64 → IsBounded (constant n)
-constant_bounded n lt = (omega arith, lt)
+constant_bounded n lt = lt
 
 pub immediate-below : (width : Width) (z : ℤ) → FitsSigned w32 z → immediate width z < 2 ^ 64
 immediate-below W32 z fits = omega (arith, ints)
@@ -120,15 +119,9 @@ with_operands-full slot left right None s h both = tt
 with_operands-full slot left right (Some p) s h both =
     with_operand-full slot (with_register s left (Num p.0)) right p.1 (with_register-full slot s left (Num p.0) h both.0) both.1
 
-both_bounded : (known : Option (Range × Range)) → IfSome known (λ p. (p.0.lo ≤ p.0.hi) × (p.1.lo ≤ p.1.hi))
-    → IfSome known (λ p. (p.0.hi < 2 ^ 64) × (p.1.hi < 2 ^ 64)) → AreBounded known
-both_bounded None h k = tt
-both_bounded (Some p) h k = ((h.0, k.0), (h.1, k.1))
-
 refined_bounded : (slot : ℕ) (c : Cond) (width : Width) (a b : Abs) (taken : Bool) → IsBoundedValue slot a → IsBoundedValue slot b
     → AreBounded (refined_values c width a b taken)
-refined_bounded slot c width (Num a) (Num b) taken h k =
-    both_bounded (refinement c width a b taken) (refinement-ordered c width a b taken h.0 k.0) (refinement-below (2 ^ 64) c width a b taken h.1 k.1)
+refined_bounded slot c width (Num a) (Num b) taken h k = refinement-below (2 ^ 64) c width a b taken h k
 refined_bounded slot c width _ _ taken h k = tt
 
 comparison-full : (slot : ℕ) (test : Option ℕ) (c : Cond) (width : Width) (left : Reg) (right : Source) (taken : Bool) (s : StateView)
@@ -165,9 +158,9 @@ store_full slot size offset _ value s h b = tt
 
 operation-full : (slot : ℕ) (i : Insn) (s : StateView) → IsDefined i → IsFull slot s → IsFullState slot (after_operation i s)
 operation-full slot (insn.Alu width o dst src) s defined h = with_register-full slot s dst (result_of width o (register_of s dst) (operand s width src)) h (result_bounded slot width o (register_of s dst) (operand s width src) (register_bounded slot s dst h) (operand_bounded slot s width src defined h))
-operation-full slot (insn.Sext width bits dst src) s defined h = with_register-full slot s dst (unary_value (extension_range width bits) (register_of s src)) h (unary_bounded slot (extension_range width bits) (register_of s src) (extension-bounded width bits) (register_bounded slot s src h))
-operation-full slot (insn.Neg width dst) s defined h = with_register-full slot s dst (unary_value (negation_range width) (register_of s dst)) h (unary_bounded slot (negation_range width) (register_of s dst) (negation-bounded width) (register_bounded slot s dst h))
-operation-full slot (insn.Swap order bits dst) s defined h = with_register-full slot s dst (unary_value (swap_range order bits) (register_of s dst)) h (unary_bounded slot (swap_range order bits) (register_of s dst) (swap-bounded order bits) (register_bounded slot s dst h))
+operation-full slot (insn.Sext width bits dst src) s defined h = with_register-full slot s dst (unary_value (extension_range width bits) (register_of s src)) h (unary_bounded slot (extension_range width bits) (register_of s src) (λ a b. extension-bounded width bits a) (register_bounded slot s src h))
+operation-full slot (insn.Neg width dst) s defined h = with_register-full slot s dst (unary_value (negation_range width) (register_of s dst)) h (unary_bounded slot (negation_range width) (register_of s dst) (λ a b. negation-bounded width a) (register_bounded slot s dst h))
+operation-full slot (insn.Swap order bits dst) s defined h = with_register-full slot s dst (unary_value (swap_range order bits) (register_of s dst)) h (unary_bounded slot (swap_range order bits) (register_of s dst) (λ a b. swap-bounded order bits a) (register_bounded slot s dst h))
 operation-full slot (insn.Wide dst value) s defined h = with_register-full slot s dst (Num (constant value)) h (constant_bounded value defined)
 operation-full slot (insn.Load size signed dst base offset) s defined h =
     with_register-full slot s dst (loaded_value size signed offset (register_of s base) s) h (load_bounded slot size signed offset (register_of s base) s h)

@@ -2,7 +2,6 @@
 
 ghost use Rattle.std.specs.Prelude.{◌≡◌, ◌≤◌, OnOk, IfOk, IfErr, Some, None};
 ghost use Rattle.ebpf_state.specs.declared.value.Abs.{Abs};
-ghost use Rattle.ebpf_state.specs.Abstract.{IsProper};
 ghost use Rattle.ebpf_verify.specs.Branches.{operand, null_test, comparison_refusal, with_operands, is_null_where};
 
 use crate::fault::VerifyCode;
@@ -36,8 +35,7 @@ impl Branch {
 
 /// What is known of a second operand.
 pub(crate) fn operand(state: &State, width: Width, source: Source) -> Abs
-    ensures value { result ≡ operand state.now width source }
-    ensures proper { IsProper result }
+    ensures { result ≡ operand state.now width source }
 {
     match source {
         Source::Register(register) => state.reg(register),
@@ -57,12 +55,9 @@ pub(crate) fn null_test(width: Width, cond: Cond, left: Abs, right: Source) -> O
 
 /// The operands of a comparison that is no null test, which are two numbers, or the first code that refuses it.
 pub(crate) fn compared(left: Abs, right: Abs) -> Result<(Range, Range), VerifyCode>
-    requires left { IsProper left }
-    requires right { IsProper right }
     ensures fine { OnOk result (comparison_refusal left right ≡ None) }
     ensures left { IfOk result (λ p. left ≡ Abs.Num p.0) }
     ensures right { IfOk result (λ p. right ≡ Abs.Num p.1) }
-    ensures ordered { IfOk result (λ p. (p.0.lo ≤ p.0.hi) × (p.1.lo ≤ p.1.hi)) }
     ensures refused { IfErr result (λ code. comparison_refusal left right ≡ Some code) }
 {
     match (left, right) {
@@ -74,8 +69,6 @@ pub(crate) fn compared(left: Abs, right: Abs) -> Result<(Range, Range), VerifyCo
 
 /// Says in the state what is known of both operands from now on. The left register is written first.
 pub(crate) fn set_operands(state: &mut State, left: Reg, right: Source, known: (Range, Range))
-    requires left { known.0.lo ≤ known.0.hi }
-    requires right { known.1.lo ≤ known.1.hi }
     ensures { with_operands left right (Some known) state.old ≡ Some state.new }
 {
     state.set(left, Abs::Num(known.0));

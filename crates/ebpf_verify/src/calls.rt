@@ -5,7 +5,6 @@ ghost use Rattle.ebpf_insn.specs.declared.program.TheConstants.{MAX_SLOTS};
 ghost use Rattle.ebpf_insn.specs.declared.register.Reg.{Reg};
 ghost use Rattle.ebpf_range.specs.Interval.{constant};
 ghost use Rattle.ebpf_state.specs.declared.value.Abs.{Abs};
-ghost use Rattle.ebpf_state.specs.Abstract.{IsProper};
 ghost use Rattle.ebpf_state.specs.States.{register_of};
 ghost use Rattle.ebpf_operation.specs.Helpers.{helper_of};
 ghost use Rattle.ebpf_verify.specs.Calls.{new_refusal, free_refusal, emit_refusal, is_that, swap_refusal, call_refusal, with_result, after_new, after_free, after_swap, after_call};
@@ -135,7 +134,6 @@ fn call_swap(decl: Decl, kinds: usize, slot: usize, state: &mut State) -> Result
 
 // Says what is known of the result of a call, and that r1 to r5 are lost.
 fn set_result(state: &mut State, value: Abs)
-    requires { IsProper value }
     ensures { state.new ≡ with_result value state.old }
 {
     state.set(Reg::R1, Abs::Unset);

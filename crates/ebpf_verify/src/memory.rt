@@ -2,7 +2,6 @@
 
 ghost use Rattle.std.specs.Prelude.{◌≡◌, ◌<◌, ◌^◌, ◌+ℤ◌, ◌≤ℤ◌, if◌then◌else◌, pos, negsuc, IfOk, IfErr, IfSome, OnOk, Some, None, Ok, Err};
 ghost use Rattle.ebpf_insn.specs.declared.program.TheConstants.{MAX_SLOTS};
-ghost use Rattle.ebpf_state.specs.Abstract.{IsProper};
 ghost use Rattle.ebpf_state.specs.Stack.{bytes_in, place_of, loaded, loaded_range, stored};
 ghost use Rattle.ebpf_verify.specs.Memory.{is_number, stack_code, refused_access, is_in_bounds, size_held};
 ghost use Rattle.ebpf_verify.specs.Memory.{load_refusal, loaded_value, reading_refusal};
@@ -52,7 +51,6 @@ pub(crate) fn load_value(
     ensures refused { IfErr result (λ code. load_refusal context rows.now load.size load.signed load.dst load.offset base state.now ≡ Some code) }
     ensures fine { OnOk result (load_refusal context rows.now load.size load.signed load.dst load.offset base state.now ≡ None) }
     ensures value { IfOk result (λ value. value ≡ loaded_value load.size load.signed load.offset base state.now) }
-    ensures proper { IfOk result IsProper }
 {
     if base.is_unset() {
         Err(VerifyCode::UnsetRegister)
@@ -78,7 +76,6 @@ fn read(
     ensures refused { IfErr result (λ code. reading_refusal context rows.now load.size load.signed load.offset base state.now ≡ Some code) }
     ensures fine { OnOk result (reading_refusal context rows.now load.size load.signed load.offset base state.now ≡ None) }
     ensures value { IfOk result (λ value. value ≡ loaded_value load.size load.signed load.offset base state.now) }
-    ensures proper { IfOk result IsProper }
 {
     match base {
         Abs::Stk(k) => read_stack(load, k, state),
@@ -96,9 +93,8 @@ fn read(
 
 // What is known of bytes of the context or of an object of this length; `None` where one of them may be outside.
 fn read_bytes(load: Load, len: u32, low: i64, high: i64) -> Option<Abs>
-    ensures value { let bytes = bytes_in load.size in
+    ensures { let bytes = bytes_in load.size in
         result ≡ (if is_in_bounds len low high load.offset bytes then Some (Abs.Num (loaded_range bytes load.signed)) else None) }
-    ensures proper { IfSome result IsProper }
 {
     let bytes = bytes_in(load.size);
     if is_in_bounds(len, low, high, load.offset, bytes) {
@@ -112,7 +108,6 @@ fn read_bytes(load: Load, len: u32, low: i64, high: i64) -> Option<Abs>
 fn read_stack(load: Load, k: i64, state: &State) -> Result<Abs, VerifyCode>
     ensures refused { IfErr result (λ code. refused_access (loaded state.now load.size load.signed (k +ℤ load.offset)) ≡ Some code) }
     ensures value { IfOk result (λ value. loaded state.now load.size load.signed (k +ℤ load.offset) ≡ Ok value) }
-    ensures proper { IfOk result IsProper }
 {
     let at = stack_offset(k, load.offset, load.size);
     match state.load(load.size, load.signed, at) {
@@ -247,8 +242,7 @@ fn store_on_stack(
     slot: usize,
     state: &mut State,
 ) -> Result<(), VerifyFault>
-    requires inside { slot < MAX_SLOTS }
-    requires proper { IsProper value }
+    requires { slot < MAX_SLOTS }
     ensures known { OnOk result (stored state.old store.size (k +ℤ store.offset) value ≡ Ok state.new) }
     ensures refused { IfErr result (IsSlotFault slot (refused_access (stored state.old store.size (k +ℤ store.offset) value))) }
 {

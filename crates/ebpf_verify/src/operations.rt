@@ -3,7 +3,6 @@
 ghost use Rattle.std.specs.Prelude.{◌≡◌, ◌≤◌, OnOk, IfOk, IfErr, IfSome, Some, None, unwrap_or};
 ghost use Rattle.ebpf_range.specs.Interval.{constant};
 ghost use Rattle.ebpf_state.specs.declared.value.Abs.{Abs};
-ghost use Rattle.ebpf_state.specs.Abstract.{IsProper};
 ghost use Rattle.ebpf_state.specs.States.{register_of};
 ghost use Rattle.ebpf_verify.specs.Operations.{is_frame_pointer, constant_refusal, mov64_refusal, unary_refusal, binary_refusal};
 ghost use Rattle.ebpf_verify.specs.Operations.{makes_stack_offset_vary, moving_refusal, add64_refusal, sub64_refusal, alu_refusal};
@@ -28,10 +27,8 @@ pub(crate) fn alu_value(
     right: Abs,
     state: &State,
 ) -> Result<Abs, VerifyCode>
-    requires { IsProper right }
     ensures fine { OnOk result (alu_refusal width op (register_of state.now dst) right dst ≡ None) }
     ensures value { IfOk result (λ value. value ≡ result_of width op (register_of state.now dst) right) }
-    ensures proper { IfOk result IsProper }
     ensures refused { IfErr result (λ code. alu_refusal width op (register_of state.now dst) right dst ≡ Some code) }
 {
     match (width, op) {
@@ -47,7 +44,6 @@ pub(crate) fn alu_value(
 pub(crate) fn constant_value(value: u64, dst: Reg) -> Result<Abs, VerifyCode>
     ensures fine { OnOk result (constant_refusal dst ≡ None) }
     ensures value { IfOk result (λ known. known ≡ Abs.Num (constant value)) }
-    ensures proper { IfOk result IsProper }
     ensures refused { IfErr result (λ code. constant_refusal dst ≡ Some code) }
 {
     if is_frame_pointer(dst) {
@@ -74,10 +70,8 @@ fn mov64(src: Abs, dst: Reg) -> Result<Abs, VerifyCode>
 
 /// The operand of an operation on one number, `mov` at 32 bits, `movsx`, `neg` and `end`, or the first code that refuses it.
 pub(crate) fn one_number(src: Abs, dst: Reg) -> Result<Range, VerifyCode>
-    requires { IsProper src }
     ensures fine { OnOk result (unary_refusal src dst ≡ None) }
     ensures value { IfOk result (λ a. src ≡ Abs.Num a) }
-    ensures ordered { IfOk result (λ a. a.lo ≤ a.hi) }
     ensures refused { IfErr result (λ code. unary_refusal src dst ≡ Some code) }
 {
     match src {
@@ -91,11 +85,8 @@ pub(crate) fn one_number(src: Abs, dst: Reg) -> Result<Range, VerifyCode>
 
 // An operation on two numbers, which most operands are.
 fn binary(op: AluOp, width: Width, left: Abs, right: Abs, dst: Reg) -> Result<Abs, VerifyCode>
-    requires left { IsProper left }
-    requires right { IsProper right }
     ensures fine { OnOk result (binary_refusal left right dst ≡ None) }
     ensures value { IfOk result (λ value. value ≡ binary_value op width left right) }
-    ensures proper { IfOk result IsProper }
     ensures refused { IfErr result (λ code. binary_refusal left right dst ≡ Some code) }
 {
     if let (Abs::Num(a), Abs::Num(b)) = (left, right) {
@@ -116,11 +107,8 @@ fn binary(op: AluOp, width: Width, left: Abs, right: Abs, dst: Reg) -> Result<Ab
 // `add` at 64 bits adds two numbers, or moves a pointer by a number. Two numbers come first, since they are most of what is
 // added.
 fn add64(left: Abs, right: Abs, dst: Reg) -> Result<Abs, VerifyCode>
-    requires left { IsProper left }
-    requires right { IsProper right }
     ensures fine { OnOk result (add64_refusal left right dst ≡ None) }
     ensures value { IfOk result (λ value. value ≡ unwrap_or (sum_value left right) Abs.Unset) }
-    ensures proper { IfOk result IsProper }
     ensures refused { IfErr result (λ code. add64_refusal left right dst ≡ Some code) }
 {
     match (left, right) {
@@ -140,11 +128,8 @@ fn add64(left: Abs, right: Abs, dst: Reg) -> Result<Abs, VerifyCode>
 
 // `sub` at 64 bits takes a number from a number, or moves a pointer back by a number. Two numbers come first here too.
 fn sub64(left: Abs, right: Abs, dst: Reg) -> Result<Abs, VerifyCode>
-    requires left { IsProper left }
-    requires right { IsProper right }
     ensures fine { OnOk result (sub64_refusal left right dst ≡ None) }
     ensures value { IfOk result (λ value. value ≡ unwrap_or (difference_value left right) Abs.Unset) }
-    ensures proper { IfOk result IsProper }
     ensures refused { IfErr result (λ code. sub64_refusal left right dst ≡ Some code) }
 {
     match (left, right) {
@@ -171,10 +156,8 @@ fn moving(
     moves_stack_by_unknown: bool,
     value: Option<Abs>,
 ) -> Result<Abs, VerifyCode>
-    requires { IfSome value IsProper }
     ensures fine { OnOk result (moving_refusal left right dst moves_by_pointer moves_stack_by_unknown value ≡ None) }
     ensures value { IfOk result (λ known. known ≡ unwrap_or value Abs.Unset) }
-    ensures proper { IfOk result IsProper }
     ensures refused { IfErr result (λ code. moving_refusal left right dst moves_by_pointer moves_stack_by_unknown value ≡ Some code) }
 {
     if left.is_unset() || right.is_unset() {

@@ -1,7 +1,6 @@
 //! Sums and differences at 64 bits, in which a pointer may be moved by a number.
 
 ghost use Rattle.std.specs.Prelude.{◌≡◌, ◌^◌, ◌≤ℤ◌, IfSome, Some, pos, negsuc};
-ghost use Rattle.ebpf_state.specs.Abstract.{IsProper};
 ghost use Rattle.ebpf_verify.specs.Pointers.{signed_ends, moved_end, moved_by, opposite_ends, moved, moved_back, sum_value, difference_value};
 
 use ebpf_insn::insn::{AluOp, Width};
@@ -12,10 +11,7 @@ use ebpf_state::value::Abs;
 /// What is known of the sum of two values at 64 bits, or `None` where a pointer would be moved by a number of unknown
 /// sign or too far, or no sum of the two has a meaning.
 pub(crate) fn sum_value(left: Abs, right: Abs) -> Option<Abs>
-    requires left { IsProper left }
-    requires right { IsProper right }
-    ensures value { result ≡ sum_value left right }
-    ensures proper { IfSome result IsProper }
+    ensures { result ≡ sum_value left right }
 {
     match (left, right) {
         (Abs::Num(a), Abs::Num(b)) => Some(Abs::Num(alu(AluOp::Add, Width::W64, a, b))),
@@ -28,10 +24,7 @@ pub(crate) fn sum_value(left: Abs, right: Abs) -> Option<Abs>
 /// What is known of the difference of two values at 64 bits, or `None` where a pointer would be moved back by a number of
 /// unknown sign or too far, or the difference has no meaning.
 pub(crate) fn difference_value(left: Abs, right: Abs) -> Option<Abs>
-    requires left { IsProper left }
-    requires right { IsProper right }
-    ensures value { result ≡ difference_value left right }
-    ensures proper { IfSome result IsProper }
+    ensures { result ≡ difference_value left right }
 {
     match (left, right) {
         (Abs::Num(a), Abs::Num(b)) => Some(Abs::Num(alu(AluOp::Sub, Width::W64, a, b))),
@@ -42,8 +35,7 @@ pub(crate) fn difference_value(left: Abs, right: Abs) -> Option<Abs>
 
 // A pointer moved by a number of the range.
 fn moved(pointer: Abs, by: Range) -> Option<Abs>
-    ensures value { result ≡ moved pointer by }
-    ensures proper { IfSome result IsProper }
+    ensures { result ≡ moved pointer by }
 {
     let (low, high) = signed_ends(by)?;
     moved_by(pointer, low as i128, high as i128)
@@ -51,8 +43,7 @@ fn moved(pointer: Abs, by: Range) -> Option<Abs>
 
 // A pointer moved back by a number of the range.
 fn moved_back(pointer: Abs, by: Range) -> Option<Abs>
-    ensures value { result ≡ moved_back pointer by }
-    ensures proper { IfSome result IsProper }
+    ensures { result ≡ moved_back pointer by }
 {
     let (low, high) = signed_ends(by)?;
     moved_by(pointer, 0 - high as i128, 0 - low as i128)
@@ -64,8 +55,7 @@ fn moved_by(pointer: Abs, low: i128, high: i128) -> Option<Abs>
     requires low_high { low ≤ℤ pos (2 ^ 64) }
     requires high_low { negsuc (2 ^ 64) ≤ℤ high }
     requires high_high { high ≤ℤ pos (2 ^ 64) }
-    ensures value { result ≡ moved_by pointer (Some (low, high)) }
-    ensures proper { IfSome result IsProper }
+    ensures { result ≡ moved_by pointer (Some (low, high)) }
 {
     match pointer {
         Abs::Stk(k) => Some(Abs::Stk(moved_end(k, low)?)),

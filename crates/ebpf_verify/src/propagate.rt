@@ -228,8 +228,6 @@ fn refine_on(
     edges: Edges,
     entries: &mut Vec<EntryState>,
 ) -> Result<(), AllocError>
-    requires left { a.lo ≤ a.hi }
-    requires right { b.lo ≤ b.hi }
     requires fall { IfSome edges.fall (λ to. to < length entries.old.items) }
     requires jump { IfSome edges.jump (λ to. to < length entries.old.items) }
     ensures len { length entries.new.items ≡ length entries.old.items }
@@ -263,10 +261,6 @@ fn send_both(
     edges: Edges,
     entries: &mut Vec<EntryState>,
 ) -> Result<(), AllocError>
-    requires taken_left { taken.0.lo ≤ taken.0.hi }
-    requires taken_right { taken.1.lo ≤ taken.1.hi }
-    requires passed_left { passed.0.lo ≤ passed.0.hi }
-    requires passed_right { passed.1.lo ≤ passed.1.hi }
     requires fall { IfSome edges.fall (λ to. to < length entries.old.items) }
     requires jump { IfSome edges.jump (λ to. to < length entries.old.items) }
     ensures len { length entries.new.items ≡ length entries.old.items }

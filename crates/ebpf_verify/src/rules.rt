@@ -6,7 +6,6 @@ ghost use Rattle.ebpf_insn.specs.declared.insn.Source.{Source};
 ghost use Rattle.ebpf_insn.specs.declared.insn.Width.{Width};
 ghost use Rattle.ebpf_insn.specs.declared.register.Reg.{Reg};
 ghost use Rattle.ebpf_state.specs.declared.value.Abs.{Abs};
-ghost use Rattle.ebpf_state.specs.Abstract.{IsProper};
 ghost use Rattle.ebpf_state.specs.States.{register_of, with_register};
 ghost use Rattle.ebpf_verify.specs.Branches.{operand};
 ghost use Rattle.ebpf_verify.specs.Operations.{unary_refusal, alu_refusal, result_of};
@@ -59,7 +58,6 @@ pub(crate) fn operation(
     requires other { (width : Width) (op : AluOp) (dst : Reg) (src : Source) → insn.now ≡ Insn.Alu width op dst src → ⊥ }
     ensures fine { OnOk result (refusal decl rows.now insn.now state.now ≡ None) }
     ensures value { IfOk result (λ written. after_operation insn.now state.now ≡ Some (with_register state.now written.0 written.1)) }
-    ensures proper { IfOk result (λ written. IsProper written.1) }
     ensures refused { IfErr result (λ code. refusal decl rows.now insn.now state.now ≡ Some code) }
 {
     match *insn {
@@ -87,7 +85,6 @@ fn changed(insn: &Insn, state: &State) -> Result<(Reg, Range), VerifyCode>
     requires { ChangesNumber insn.now }
     ensures fine { OnOk result ((decl : Decl) (rows : List KindRow) → refusal decl rows insn.now state.now ≡ None) }
     ensures value { IfOk result (λ written. after_operation insn.now state.now ≡ Some (with_register state.now written.0 (Abs.Num written.1))) }
-    ensures ordered { IfOk result (λ written. written.1.lo ≤ written.1.hi) }
     ensures refused { IfErr result (λ code. (decl : Decl) (rows : List KindRow) → refusal decl rows insn.now state.now ≡ Some code) }
 {
     match *insn {
@@ -107,7 +104,6 @@ fn changed(insn: &Insn, state: &State) -> Result<(Reg, Range), VerifyCode>
 fn number(state: &State, src: Reg, dst: Reg) -> Result<Range, VerifyCode>
     ensures fine { OnOk result (unary_refusal (register_of state.now src) dst ≡ None) }
     ensures value { IfOk result (λ a. register_of state.now src ≡ Abs.Num a) }
-    ensures ordered { IfOk result (λ a. a.lo ≤ a.hi) }
     ensures refused { IfErr result (λ code. unary_refusal (register_of state.now src) dst ≡ Some code) }
 {
     one_number(state.reg(src), dst)

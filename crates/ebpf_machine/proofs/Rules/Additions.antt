@@ -35,7 +35,7 @@ numbers_fit calls o width a b m n bound_a bound_b h k = record {
   v = Number (result_at o width m n);
   is = refl;
   fits = tt;
-  of = (result-sound o width a b m n bound_a.1 bound_b.1 h k, lt_of_lt_of_le (result-below o width m n) (modulus-at_most width));
+  of = (result-sound o width a b m n bound_a bound_b h k, lt_of_lt_of_le (result-below o width m n) (modulus-at_most width));
 }
 
 some_of : (o : Option Abs) → is_none o ≡ false → (q : Abs) × (o ≡ Some q)

@@ -78,7 +78,7 @@ comparison_sound calls slot condition width left right src x y fine bound_left b
     let first = neither (is_pointer left) (is_may left) more.0 in
     let v = number_value calls left x set.0 first.1 first.0 h in
     let w = number_value calls right y set.1 rest.1 more.1 k in
-    refined_numbers calls condition width left right src x y v.0 w.0 v.1 w.1 v.2 v.3 w.2 w.3 (subst (IsBoundedValue slot) v.3 bound_left).1 (subst (IsBoundedValue slot) w.3 bound_right).1 (v.4, v.5) (w.4, w.5)
+    refined_numbers calls condition width left right src x y v.0 w.0 v.1 w.1 v.2 v.3 w.2 w.3 (subst (IsBoundedValue slot) v.3 bound_left) (subst (IsBoundedValue slot) w.3 bound_right) (v.4, v.5) (w.4, w.5)
 
 -- a register of which something else is known, which speaks of its value too
 with_known : (s : StateView) (frame : Frame ℕ) (objects : List ObjectView) (r : Reg) (a : Abs) → length s.registers ≡ 11

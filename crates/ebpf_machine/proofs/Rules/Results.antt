@@ -85,16 +85,16 @@ copy_sound calls right y dst fine k fits =
 
 -- mov at 32 bits keeps the low half
 low_row : IsRow low (kept_at W32)
-low_row = record { holds = λ a n bound h. low_at-sound W32 a n bound.1 h; below = λ n. low_fits n } where
+low_row = record { holds = λ a n bound h. low_at-sound W32 a n bound h; below = λ n. low_fits n } where
   low_fits : (n : ℕ) → kept_at W32 n < 2 ^ 64
   low_fits n = omega arith
 
 -- the operations on one number, and their rows
 pub extension_row : (width : Width) (bits : ℕ) → IsRow (extension_range width bits) (extension_at width bits)
-extension_row width bits = record { holds = λ a n bound h. extension-sound width bits a n bound.1 h; below = λ n. lt_of_lt_of_le (extension-below width bits n) (modulus-at_most width) }
+extension_row width bits = record { holds = λ a n bound h. extension-sound width bits a n bound h; below = λ n. lt_of_lt_of_le (extension-below width bits n) (modulus-at_most width) }
 
 pub negation_row : (width : Width) → IsRow (negation_range width) (negation_at width)
-negation_row width = record { holds = λ a n bound h. negation-sound width a n bound.1 h; below = λ n. lt_of_lt_of_le (result-below op.Sub width 0 n) (modulus-at_most width) }
+negation_row width = record { holds = λ a n bound h. negation-sound width a n bound h; below = λ n. lt_of_lt_of_le (result-below op.Sub width 0 n) (modulus-at_most width) }
 
 pub swap_row : (order : Order) (bits : ℕ) → IsRow (swap_range order bits) (swap_of order bits)
 swap_row order bits = record { holds = λ a n bound h. swap-sound order bits a n h; below = λ n. lt_of_lt_of_le (swap-below order bits n) (swapped_bits-few bits) }

@@ -1,11 +1,7 @@
 use Rattle.std.proofs.Common.{Option, sym, subst, arith}
 use Rattle.ebpf_range.specs.declared.range.Range.{Range}
-use Rattle.ebpf_range.proofs.RefinementLemmas.{Keeps, AreOrdered, refinement-keeps, refinement-ordered}
+use Rattle.ebpf_range.proofs.RefinementLemmas.{Keeps, refinement-keeps}
 use Rattle.ebpf_range.proofs.branches.refine.Goals as goal
-
-pub returns-clause-ordered : goal.returns-clause-ordered
-returns-clause-ordered c =
-    subst (λ (r : Option (Range × Range)). AreOrdered r) (sym c.refinement.ensures) (refinement-ordered c.args.cond c.args.width c.args.a c.args.b c.args.taken c.requires.left c.requires.right)
 
 pub returns-clause-keeps : goal.returns-clause-keeps
 returns-clause-keeps c = λ x y h k e.

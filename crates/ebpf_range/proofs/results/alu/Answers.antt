@@ -1,4 +1,4 @@
-use Rattle.std.proofs.Common.{◌≡◌, ◌<◌, ap₂, sym, subst, ◌∙◌, le_refl, le_trans, arith}
+use Rattle.std.proofs.Common.{◌≡◌, ◌<◌, ap₂, sym, subst, ◌∙◌, arith}
 use Rattle.ebpf_insn.specs.Arithmetic.{modulus, result_at}
 use Rattle.ebpf_range.specs.declared.range.Range.{Range}
 use Rattle.ebpf_range.specs.Interval.{IsWithin}
@@ -12,13 +12,7 @@ value c = c.row_or_constant.ensures ∙ ap₂ (row_or_constant c.args.op c.args.
 pub returns-clause-holds : goal.returns-clause-holds
 returns-clause-holds c = λ x y h k. subst (IsWithin (result_at c.args.op c.args.width x y)) (sym (value c)) (result-sound c.args.op c.args.width c.args.a c.args.b x y (omega arith) (omega arith) h k)
 
--- a range that holds a number is ordered
-pub returns-clause-ordered : goal.returns-clause-ordered
-returns-clause-ordered c =
-    let low = returns-clause-holds c c.args.a.lo c.args.b.lo (le_refl c.args.a.lo, c.requires.left) (le_refl c.args.b.lo, c.requires.right) in
-    le_trans low.0 low.1
-
 pub returns-clause-below : goal.returns-clause-below
 returns-clause-below c =
     subst (λ (r : Range). r.hi < modulus c.args.width) (sym c.row_or_constant.ensures)
-    (row_or_constant-below c.args.op c.args.width c.low_at.result c.low_at-2.result c.low_at-2.ensures.ordered c.low_at.ensures.below c.low_at-2.ensures.below)
+    (row_or_constant-below c.args.op c.args.width c.low_at.result c.low_at-2.result c.low_at.ensures.below c.low_at-2.ensures.below)

@@ -4,4 +4,4 @@ use Rattle.ebpf_state.proofs.JoinLists.{IsChanging}
 use Rattle.ebpf_state.proofs.held.mark_tested.Given as goal
 
 abbrev pub invariant-loop-i : goal.invariant-loop-i
-invariant-loop-i l = IsChanging (tested_reference l.fn.call) (λ h. Unit {0}) (record { call = 0; kind = 0; tested = false }) l.fn.held.items l.held.items l.i
+invariant-loop-i l = IsChanging (tested_reference l.fn.call) (record { call = 0; kind = 0; tested = false }) l.fn.held.items l.held.items l.i

@@ -1,8 +1,7 @@
 use Rattle.ebpf_state.specs.References.{forgotten_value}
-use Rattle.ebpf_state.specs.Abstract.{IsProper}
 use Rattle.ebpf_state.specs.declared.value.Abs.TheVariants.{Unset}
 use Rattle.ebpf_state.proofs.JoinLists.{IsChanging}
 use Rattle.ebpf_state.proofs.state.forget_registers.Given as goal
 
 abbrev pub invariant-loop-i : goal.invariant-loop-i
-invariant-loop-i l = IsChanging (forgotten_value l.fn.call) IsProper Unset l.fn.registers l.registers l.i
+invariant-loop-i l = IsChanging (forgotten_value l.fn.call) Unset l.fn.registers l.registers l.i

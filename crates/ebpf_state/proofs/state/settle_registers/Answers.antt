@@ -1,16 +1,17 @@
-use Rattle.std.proofs.Common.{arith}
+use Rattle.std.proofs.Common.{◌<◌, ◌∙◌, ap, arith, length}
+use Rattle.std.proofs.lemmas.List.{get_or_default}
 use Rattle.ebpf_state.specs.References.{settled_value}
-use Rattle.ebpf_state.specs.Abstract.{IsProper}
 use Rattle.ebpf_state.specs.declared.value.Abs.TheVariants.{Unset}
 use Rattle.ebpf_state.proofs.JoinLists.{changing_none, changing_more, changing_all}
 use Rattle.ebpf_state.proofs.state.settle_registers.Goals as goal
 
 pub loop-i-init : goal.loop-i-init
-loop-i-init c = changing_none (settled_value c.args.call c.args.null) IsProper Unset c.args.registers.now c.requires
+loop-i-init c = changing_none (settled_value c.args.call c.args.null) Unset c.args.registers.now
 
 pub loop-i-preserved : goal.loop-i-preserved
 loop-i-preserved c =
-    changing_more (settled_value c.args.call c.args.null) IsProper Unset c.args.registers.now c.loop-i.registers c.loop-i.i c.settle.result (omega (arith, c.loop-i.invariant.whole)) c.loop-i.invariant c.settle.ensures.value c.settle.ensures.proper
+    let inside : c.loop-i.i < length c.loop-i.registers = omega (arith, c.loop-i.invariant.whole) in
+    changing_more (settled_value c.args.call c.args.null) Unset c.args.registers.now c.loop-i.registers c.loop-i.i c.settle.result inside c.loop-i.invariant (c.settle.ensures ∙ ap (settled_value c.args.call c.args.null) (get_or_default c.loop-i.registers c.loop-i.i _ Unset inside))
 
-pub returns-clause-value : goal.returns-clause-value
-returns-clause-value c = changing_all (settled_value c.args.call c.args.null) IsProper Unset c.args.registers.now c.loop-i.registers c.loop-i.i (omega (arith, c.loop-i.invariant.whole)) c.loop-i.invariant
+pub returns : goal.returns
+returns c = changing_all (settled_value c.args.call c.args.null) Unset c.args.registers.now c.loop-i.registers c.loop-i.i (omega (arith, c.loop-i.invariant.whole)) c.loop-i.invariant

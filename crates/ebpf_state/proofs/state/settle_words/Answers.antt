@@ -1,5 +1,6 @@
 use Rattle.std.proofs.Common.{arith, ◌<◌, length, ap, ◌∙◌}
 use Rattle.std.proofs.lemmas.List.{get_or_read}
+use Rattle.std.proofs.lemmas.List.Elements.{All-set}
 use Rattle.ebpf_state.specs.References.{settled_word}
 use Rattle.ebpf_state.specs.Words.{IsProperWord}
 use Rattle.ebpf_state.specs.declared.word.Word.TheVariants.{Spill}
@@ -8,13 +9,13 @@ use Rattle.ebpf_state.proofs.JoinLists.{changing_none, changing_more, changing_a
 use Rattle.ebpf_state.proofs.state.settle_words.Goals as goal
 
 pub loop-i-init : goal.loop-i-init
-loop-i-init c = changing_none (settled_word c.args.call c.args.null) IsProperWord (Spill Unset) c.args.words.now.items c.requires
+loop-i-init c = (changing_none (settled_word c.args.call c.args.null) (Spill Unset) c.args.words.now.items, c.requires)
 
 pub loop-i-preserved : goal.loop-i-preserved
 loop-i-preserved c =
-    let inside : c.loop-i.i < length c.loop-i.words.items = omega (arith, c.loop-i.invariant.whole) in
+    let inside : c.loop-i.i < length c.loop-i.words.items = omega (arith, c.loop-i.invariant.0.whole) in
     let read = get_or_read c.loop-i.words.items c.loop-i.i _ inside c.index.ensures (Spill Unset) in
-    changing_more (settled_word c.args.call c.args.null) IsProperWord (Spill Unset) c.args.words.now.items c.loop-i.words.items c.loop-i.i c.settle.result inside c.loop-i.invariant (c.settle.ensures.value ∙ ap (settled_word c.args.call c.args.null) read) c.settle.ensures.proper
+    (changing_more (settled_word c.args.call c.args.null) (Spill Unset) c.args.words.now.items c.loop-i.words.items c.loop-i.i c.settle.result inside c.loop-i.invariant.0 (c.settle.ensures.value ∙ ap (settled_word c.args.call c.args.null) read), All-set IsProperWord c.loop-i.words.items c.loop-i.i _ c.settle.ensures.proper c.loop-i.invariant.1)
 
 pub returns-clause-value : goal.returns-clause-value
-returns-clause-value c = changing_all (settled_word c.args.call c.args.null) IsProperWord (Spill Unset) c.args.words.now.items c.loop-i.words.items c.loop-i.i (omega (arith, c.loop-i.invariant.whole)) c.loop-i.invariant
+returns-clause-value c = changing_all (settled_word c.args.call c.args.null) (Spill Unset) c.args.words.now.items c.loop-i.words.items c.loop-i.i (omega (arith, c.loop-i.invariant.0.whole)) c.loop-i.invariant.0

@@ -1,3 +1,4 @@
+use Rattle.std.specs.Prelude.{All}
 use Rattle.ebpf_state.specs.References.{settled_word}
 use Rattle.ebpf_state.specs.Words.{IsProperWord}
 use Rattle.ebpf_state.specs.declared.word.Word.TheVariants.{Spill}
@@ -6,4 +7,4 @@ use Rattle.ebpf_state.proofs.JoinLists.{IsChanging}
 use Rattle.ebpf_state.proofs.state.settle_words.Given as goal
 
 abbrev pub invariant-loop-i : goal.invariant-loop-i
-invariant-loop-i l = IsChanging (settled_word l.fn.call l.fn.null) IsProperWord (Spill Unset) l.fn.words.items l.words.items l.i
+invariant-loop-i l = IsChanging (settled_word l.fn.call l.fn.null) (Spill Unset) l.fn.words.items l.words.items l.i × All IsProperWord l.words.items

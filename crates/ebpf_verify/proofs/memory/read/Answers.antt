@@ -10,10 +10,10 @@ inside true value code = refl
 inside false value code = tt
 
 pub returns-in-Ctx-clause-value : goal.returns-in-Ctx-clause-value
-returns-in-Ctx-clause-value c = rw (c.ok_or.ensures.value, c.read_bytes.ensures.value, c.in-Ctx.is) (inside _ _ _)
+returns-in-Ctx-clause-value c = rw (c.ok_or.ensures.value, c.read_bytes.ensures, c.in-Ctx.is) (inside _ _ _)
 
 pub returns-in-Ob-clause-value : goal.returns-in-Ob-clause-value
-returns-in-Ob-clause-value c = rw (c.ok_or-in-Ob.ensures.value, c.read_bytes-in-Ob.ensures.value, c.size_held.ensures, c.in-Ob.is) (inside _ _ _)
+returns-in-Ob-clause-value c = rw (c.ok_or-in-Ob.ensures.value, c.read_bytes-in-Ob.ensures, c.size_held.ensures, c.in-Ob.is) (inside _ _ _)
 
 -- the code of an access that is outside, where the code's test is the rule's
 outside : {A E : Type 0} (tested wanted : Bool) (value : A) (code : E) → tested ≡ wanted
@@ -40,22 +40,22 @@ pub returns-in-Ctx-clause-refused : goal.returns-in-Ctx-clause-refused
 returns-in-Ctx-clause-refused c =
     let low : SFits w64 c.in-Ctx.low = search (ints, rules) in
     let high : SFits w64 c.in-Ctx.high = search (ints, rules) in
-    rw (c.ok_or.ensures.value, c.read_bytes.ensures.value, c.in-Ctx.is) (outside _ _ _ _ (same_test c.args.context _ c.in-Ctx.low c.in-Ctx.high _ low high))
+    rw (c.ok_or.ensures.value, c.read_bytes.ensures, c.in-Ctx.is) (outside _ _ _ _ (same_test c.args.context _ c.in-Ctx.low c.in-Ctx.high _ low high))
 
 pub returns-in-Ob-clause-refused : goal.returns-in-Ob-clause-refused
 returns-in-Ob-clause-refused c =
     let low : SFits w64 c.in-Ob.low = search (ints, rules) in
     let high : SFits w64 c.in-Ob.high = search (ints, rules) in
-    rw (c.ok_or-in-Ob.ensures.value, c.read_bytes-in-Ob.ensures.value, c.size_held.ensures, c.in-Ob.is) (outside _ _ _ _ (same_test _ _ c.in-Ob.low c.in-Ob.high _ low high))
+    rw (c.ok_or-in-Ob.ensures.value, c.read_bytes-in-Ob.ensures, c.size_held.ensures, c.in-Ob.is) (outside _ _ _ _ (same_test _ _ c.in-Ob.low c.in-Ob.high _ low high))
 
 pub returns-in-Ctx-clause-fine : goal.returns-in-Ctx-clause-fine
 returns-in-Ctx-clause-fine c =
     let low : SFits w64 c.in-Ctx.low = search (ints, rules) in
     let high : SFits w64 c.in-Ctx.high = search (ints, rules) in
-    rw (c.ok_or.ensures.value, c.read_bytes.ensures.value, c.in-Ctx.is) (not_outside _ _ _ _ (same_test c.args.context _ c.in-Ctx.low c.in-Ctx.high _ low high))
+    rw (c.ok_or.ensures.value, c.read_bytes.ensures, c.in-Ctx.is) (not_outside _ _ _ _ (same_test c.args.context _ c.in-Ctx.low c.in-Ctx.high _ low high))
 
 pub returns-in-Ob-clause-fine : goal.returns-in-Ob-clause-fine
 returns-in-Ob-clause-fine c =
     let low : SFits w64 c.in-Ob.low = search (ints, rules) in
     let high : SFits w64 c.in-Ob.high = search (ints, rules) in
-    rw (c.ok_or-in-Ob.ensures.value, c.read_bytes-in-Ob.ensures.value, c.size_held.ensures, c.in-Ob.is) (not_outside _ _ _ _ (same_test _ _ c.in-Ob.low c.in-Ob.high _ low high))
+    rw (c.ok_or-in-Ob.ensures.value, c.read_bytes-in-Ob.ensures, c.size_held.ensures, c.in-Ob.is) (not_outside _ _ _ _ (same_test _ _ c.in-Ob.low c.in-Ob.high _ low high))

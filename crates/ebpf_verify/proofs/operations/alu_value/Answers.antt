@@ -34,10 +34,10 @@ is_binary c = elim c.in_default.branch [
 ]
 
 pub returns-in_default-clause-refused : goal.returns-in_default-clause-refused
-returns-in_default-clause-refused c = rw (← c.reg-in_default.ensures.value, (is_binary c).refusal) c.binary.ensures.refused
+returns-in_default-clause-refused c = rw (← c.reg-in_default.ensures, (is_binary c).refusal) c.binary.ensures.refused
 
 pub returns-in_default-clause-fine : goal.returns-in_default-clause-fine
-returns-in_default-clause-fine c = rw (← c.reg-in_default.ensures.value, (is_binary c).refusal) c.binary.ensures.fine
+returns-in_default-clause-fine c = rw (← c.reg-in_default.ensures, (is_binary c).refusal) c.binary.ensures.fine
 
 pub returns-in_default-clause-value : goal.returns-in_default-clause-value
-returns-in_default-clause-value c = rw (← c.reg-in_default.ensures.value, (is_binary c).value) c.binary.ensures.value
+returns-in_default-clause-value c = rw (← c.reg-in_default.ensures, (is_binary c).value) c.binary.ensures.value

@@ -6,4 +6,4 @@ use Rattle.ebpf_state.proofs.state.State.forget.Goals as goal
 pub returns : goal.returns
 returns c =
     let was = c.deref_mut-facts.ensures.value in
-    rw (← c.self.view_is, c.forget_registers.ensures.value, c.forget_words.ensures.value, c.forget_held.ensures.value, was, all_words-map (forgotten_word c.args.call) c.self.inside.facts.value.words.items refl) refl
+    rw (← c.self.view_is, c.forget_registers.ensures, c.forget_words.ensures.value, c.forget_held.ensures.value, was, all_words-map (forgotten_word c.args.call) c.self.inside.facts.value.words.items refl) refl

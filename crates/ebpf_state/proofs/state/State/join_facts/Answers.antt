@@ -20,9 +20,8 @@ invariant_of-self c =
     let kept = ap (λ (n : ℕ). take n written) (sym (c.join_words.ensures.len ∙ c.deref_mut.ensures.len)) ∙ take-append_seam c.join_words.new.left (drop (length c.join_words.new.left) c.deref_mut-here.result.now.words.items) in
     subst (λ (ws : List Word). AreFacts c.join_registers.new.left ws c.deref_mut-here.result.now.held.items) (sym kept)
     (record {
-      registers_are = ap length c.join_registers.ensures.value ∙ (joined_list-length joined_value _ _ (mine ∙ sym theirs) ∙ mine);
+      registers_are = ap length c.join_registers.ensures ∙ (joined_list-length joined_value _ _ (mine ∙ sym theirs) ∙ mine);
       few = omega (arith, long, c.self.invariant.few);
-      proper = c.join_registers.ensures.proper;
-      proper_words = c.join_words.ensures.proper;
+      proper = c.join_words.ensures.proper;
       ascending = subst (λ (f : Facts). IsAscending (map (λ (h : Held). h.call) f.held.items)) (sym c.deref_mut-here.ensures.value) c.self.invariant.ascending;
     })

@@ -1,7 +1,5 @@
 use Rattle.std.proofs.Common.{◌∙◌, length-set, set, subst, sym}
-use Rattle.std.proofs.lemmas.List.Elements.{All-set}
 use Rattle.ebpf_state.specs.declared.state.Facts.{Facts}
-use Rattle.ebpf_state.specs.Abstract.{IsProper}
 use Rattle.ebpf_state.specs.StateView.{AreFacts}
 use Rattle.ebpf_state.proofs.state.State.set.Goals as goal
 
@@ -11,7 +9,6 @@ invariant_of-self c =
     (record {
       registers_are = length-set c.self.inside.facts.value.registers c.number-number.result c.args.value ∙ c.self.invariant.registers_are;
       few = c.self.invariant.few;
-      proper = All-set IsProper c.self.inside.facts.value.registers c.number-number.result c.args.value c.requires c.self.invariant.proper;
-      proper_words = c.self.invariant.proper_words;
+      proper = c.self.invariant.proper;
       ascending = c.self.invariant.ascending;
     })

@@ -6,4 +6,4 @@ use Rattle.ebpf_state.proofs.state.State.settle.Goals as goal
 pub returns : goal.returns
 returns c =
     let was = c.deref_mut-facts.ensures.value in
-    rw (← c.self.view_is, c.settle_registers.ensures.value, c.settle_words.ensures.value, c.settle_held.ensures.value, was, all_words-map (settled_word c.args.call c.args.null) c.self.inside.facts.value.words.items refl) refl
+    rw (← c.self.view_is, c.settle_registers.ensures, c.settle_words.ensures.value, c.settle_held.ensures.value, was, all_words-map (settled_word c.args.call c.args.null) c.self.inside.facts.value.words.items refl) refl

@@ -1,12 +1,10 @@
 use Rattle.std.proofs.Common.{List, refl, subst, sym, arith}
 use Rattle.std.specs.Prelude.{All, map}
-use Rattle.std.proofs.lemmas.List.Elements.{All-from_recursion, All-nil}
+use Rattle.std.proofs.lemmas.List.Elements.{All-nil}
 use Rattle.ebpf_state.specs.declared.held.Held.{Held}
 use Rattle.ebpf_state.specs.declared.state.Facts.{Facts}
-use Rattle.ebpf_state.specs.Abstract.{IsProper}
 use Rattle.ebpf_state.specs.Ascending.{IsAscending}
 use Rattle.ebpf_state.specs.Words.{IsProperWord}
-use Rattle.ebpf_state.specs.States.{first_state}
 use Rattle.ebpf_state.specs.StateView.{AreFacts}
 use Rattle.ebpf_state.proofs.state.State.start.Goals as goal
 
@@ -16,7 +14,6 @@ invariant_of-result c =
     (record {
       registers_are = refl;
       few = omega arith;
-      proper = All-from_recursion IsProper first_state.registers (tt, (tt, (tt, (tt, (tt, (tt, (tt, (tt, (tt, (tt, (tt, tt)))))))))));
-      proper_words = subst (All IsProperWord) (sym c.new.ensures.items) (All-nil IsProperWord);
+      proper = subst (All IsProperWord) (sym c.new.ensures.items) (All-nil IsProperWord);
       ascending = subst (λ (hs : List Held). IsAscending (map (λ (h : Held). h.call) hs)) (sym c.new-2.ensures.items) tt;
     })

@@ -1,0 +1,7 @@
+use Rattle.std.proofs.Common.{nat_lt, ◌||◌, arith}
+use Rattle.std.proofs.lemmas.Bool.Decides.{nat_tests}
+use Rattle.ebpf_range.proofs.Spans.{two_spans}
+use Rattle.ebpf_range.proofs.branches.after_eq.Goals as goal
+
+pub returns : goal.returns
+returns c = two_spans (nat_lt c.args.a.hi c.args.b.lo || nat_lt c.args.b.hi c.args.a.lo) _ _ _ _ _ _ (grind (arith, nat_tests)) c.max.ensures c.min.ensures c.max.ensures c.min.ensures
