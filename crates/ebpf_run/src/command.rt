@@ -63,7 +63,7 @@ pub struct Request<'a> {
 pub enum Task<'a> {
     One(OneOptions<'a>),
     List(ListOptions<'a>),
-    Explain(OneOptions<'a>),
+    Explain(ExplainOptions<'a>),
     Graph(GraphOptions<'a>),
     LayOut(LayOutOptions<'a>),
     Assemble,
@@ -73,28 +73,44 @@ pub enum Task<'a> {
     Stream(Format),
 }
 
-/// The options of `one`, and of `explain` and `graph`, which run nothing.
+/// A program, and what it is judged by.
 #[derive(Clone, Copy)]
-pub struct OneOptions<'a> {
+pub struct JudgedOptions<'a> {
     /// What the input is.
     pub source: Source<'a>,
     /// The context as hex, or `-` for the empty one.
     pub context: &'a str,
     /// The most objects that the program may hold at one time, 0 to 64.
     pub held: u8,
+}
+
+/// The options of `one`.
+#[derive(Clone, Copy)]
+pub struct OneOptions<'a> {
+    /// The program.
+    pub judged: JudgedOptions<'a>,
     /// Whether each call of `new` is answered null.
     pub nulls: bool,
-    /// Whether `explain` lists the lines of C of an object file.
+    /// How the answer is written.
+    pub format: Format,
+}
+
+/// The options of `explain`.
+#[derive(Clone, Copy)]
+pub struct ExplainOptions<'a> {
+    /// The program.
+    pub judged: JudgedOptions<'a>,
+    /// Whether the lines of C of an object file are listed too.
     pub lines: bool,
-    /// How the answer of `one` or `explain` is written.
+    /// How the answer is written.
     pub format: Format,
 }
 
 /// The options of `graph`.
 #[derive(Clone, Copy)]
 pub struct GraphOptions<'a> {
-    /// Those that `one` has too.
-    pub one: OneOptions<'a>,
+    /// The program.
+    pub judged: JudgedOptions<'a>,
     /// Whether what is known before each block is written too.
     pub states: bool,
 }
@@ -177,8 +193,9 @@ fn one_command<'a>(alloc: Global) -> Result<Command<'a>, AllocError> {
     let one = Command::new(alloc, "one")
         .about("Runs the program whose hex is in FILE or on standard input")
         .after_help(ONE_EXAMPLE)
-        .arg(json_option(alloc))?;
-    with_options_of_one(alloc, one)
+        .arg(json_option(alloc))?
+        .arg(nulls_option(alloc))?;
+    with_judged_program(alloc, one)
 }
 
 fn explain_command<'a>(alloc: Global) -> Result<Command<'a>, AllocError> {
@@ -189,7 +206,7 @@ fn explain_command<'a>(alloc: Global) -> Result<Command<'a>, AllocError> {
         .after_help(EXPLAIN_EXAMPLE)
         .arg(json_option(alloc))?
         .arg(lines_option(alloc)?)?;
-    with_options_of_one(alloc, explain)
+    with_judged_program(alloc, explain)
 }
 
 fn graph_command<'a>(alloc: Global) -> Result<Command<'a>, AllocError> {
@@ -199,7 +216,7 @@ fn graph_command<'a>(alloc: Global) -> Result<Command<'a>, AllocError> {
         )
         .after_help(GRAPH_EXAMPLE)
         .arg(states_option(alloc))?;
-    with_options_of_one(alloc, graph)
+    with_judged_program(alloc, graph)
 }
 
 fn states_option<'a>(alloc: Global) -> Arg<'a> {
@@ -209,11 +226,9 @@ fn states_option<'a>(alloc: Global) -> Arg<'a> {
         .help("Writes what is known before each block")
 }
 
-fn with_options_of_one<'a>(alloc: Global, command: Command<'a>) -> Result<Command<'a>, AllocError> {
-    let command = command
-        .arg(context_option(alloc))?
-        .arg(held_option(alloc))?
-        .arg(nulls_option(alloc))?;
+// With a program, and what it is judged by.
+fn with_judged_program<'a>(alloc: Global, command: Command<'a>) -> Result<Command<'a>, AllocError> {
+    let command = command.arg(context_option(alloc))?.arg(held_option(alloc))?;
     with_program(alloc, command)
 }
 
@@ -385,13 +400,9 @@ pub fn request_of<'a>(matches: &ArgMatches<'a>) -> Option<Request<'a>> {
 // The command of this name, with the options that are given.
 fn task_of<'a>(name: &str, given: &ArgMatches<'a>) -> Option<Task<'a>> {
     match name {
-        "one" => Some(Task::One(one_options(given, false, format_of(given)))),
+        "one" => Some(Task::One(one_options(given))),
         "list" => Some(Task::List(list_options(given))),
-        "explain" => Some(Task::Explain(one_options(
-            given,
-            given.get_flag("source"),
-            format_of(given),
-        ))),
+        "explain" => Some(Task::Explain(explain_options(given))),
         "graph" => Some(Task::Graph(graph_options(given))),
         "lay-out" => Some(Task::LayOut(lay_out_options(given))),
         "assemble" => Some(Task::Assemble),
@@ -414,22 +425,37 @@ fn file_of<'a>(name: &str, given: &ArgMatches<'a>) -> Option<&'a str> {
     }
 }
 
-// The options of `one`, whether lines of C are listed, and how the answer is written.
-fn one_options<'a>(given: &ArgMatches<'a>, lines: bool, format: Format) -> OneOptions<'a> {
-    OneOptions {
+// The program, and what it is judged by.
+fn judged_options<'a>(given: &ArgMatches<'a>) -> JudgedOptions<'a> {
+    JudgedOptions {
         source: source_of(given),
         context: given.get_str("context").unwrap_or("-"),
         held: given.get_one::<u8>("held").unwrap_or(0),
+    }
+}
+
+// The options of `one`.
+fn one_options<'a>(given: &ArgMatches<'a>) -> OneOptions<'a> {
+    OneOptions {
+        judged: judged_options(given),
         nulls: given.get_flag("nulls"),
-        lines,
-        format,
+        format: format_of(given),
+    }
+}
+
+// The options of `explain`.
+fn explain_options<'a>(given: &ArgMatches<'a>) -> ExplainOptions<'a> {
+    ExplainOptions {
+        judged: judged_options(given),
+        lines: given.get_flag("source"),
+        format: format_of(given),
     }
 }
 
 // The options of `graph`.
 fn graph_options<'a>(given: &ArgMatches<'a>) -> GraphOptions<'a> {
     GraphOptions {
-        one: one_options(given, false, Format::Text),
+        judged: judged_options(given),
         states: given.get_flag("states"),
     }
 }

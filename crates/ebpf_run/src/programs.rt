@@ -1,6 +1,8 @@
 //! The commands over one program, by what their input is.
 
-use crate::command::{GraphOptions, LayOutOptions, ListOptions, OneOptions};
+use crate::command::{
+    ExplainOptions, GraphOptions, JudgedOptions, LayOutOptions, ListOptions, OneOptions,
+};
 use crate::plain::{list, one};
 use crate::source::Source;
 use ebpf_command::done::{Done, EngineFault};
@@ -25,13 +27,15 @@ pub fn perform_one<R: Read, W: Write>(
     options: OneOptions<'_>,
 ) -> Result<Done, EngineFault> {
     let OneOptions {
+        judged,
+        nulls,
+        format,
+    } = options;
+    let JudgedOptions {
         source,
         context,
         held,
-        nulls,
-        format,
-        ..
-    } = options;
+    } = judged;
     match (source, format) {
         (Source::Program(Form::Hex), Format::Text) => {
             one(alloc, reader, writer, context, held, nulls)
@@ -70,16 +74,18 @@ pub fn perform_explain<R: Read, W: Write>(
     alloc: Global,
     reader: &mut R,
     writer: &mut W,
-    options: OneOptions<'_>,
+    options: ExplainOptions<'_>,
 ) -> Result<Done, EngineFault> {
-    let OneOptions {
+    let ExplainOptions {
+        judged,
+        lines,
+        format,
+    } = options;
+    let JudgedOptions {
         source,
         context,
         held,
-        lines,
-        format,
-        ..
-    } = options;
+    } = judged;
     match source {
         Source::Program(form) => explain(alloc, reader, writer, format, form, context, held),
         Source::Object(name) => {
@@ -95,13 +101,12 @@ pub fn perform_graph<R: Read, W: Write>(
     writer: &mut W,
     options: GraphOptions<'_>,
 ) -> Result<Done, EngineFault> {
-    let GraphOptions { one, states } = options;
-    let OneOptions {
+    let GraphOptions { judged, states } = options;
+    let JudgedOptions {
         source,
         context,
         held,
-        ..
-    } = one;
+    } = judged;
     match source {
         Source::Program(form) => graph(alloc, reader, writer, form, context, held, states),
         Source::Object(name) => graph_object(alloc, reader, writer, name, context, held, states),
