@@ -1,5 +1,6 @@
 -- What the searches found, in the words of the definitions.
-use Rattle.std.proofs.Common.{◌≡◌, ◌<◌, ◌/◌, ℕ, Bool, false, true, List, length, Option, sym, ap, subst, ◌∙◌, arith, inl, inr}
+use Rattle.std.proofs.Common.{◌≡◌, ◌<◌, ◌≤◌, ◌+◌, ◌/◌, ℕ, Bool, false, true, List, [], length, take, drop, cond, Option, sym, ap, subst, ◌∙◌, arith, inl, inr}
+use Rattle.std.proofs.lemmas.List.{length-take, length-drop}
 use Rattle.std.proofs.lemmas.Bool.Decides.{eqb_tells, nat_tests}
 use Rattle.ebpf_object_file.specs.declared.header.Header.{Header}
 use Rattle.ebpf_object_file.specs.declared.symbol.Symbol.{Symbol}
@@ -8,12 +9,12 @@ use Rattle.ebpf_object_file.specs.declared.outside.Place.{Place}
 use Rattle.ebpf_object_file.specs.declared.section.Wanted.TheVariants.{RelocationsFor, AddendsFor}
 use Rattle.ebpf_object_file.specs.Header.{header_of}
 use Rattle.ebpf_object_file.specs.First.{NoneBelow, IsFirst, IsOnly, Finds}
-use Rattle.ebpf_object_file.specs.Section.{sections_in, wanted_in, bytes_of}
+use Rattle.ebpf_object_file.specs.Section.{section_of, sections_in, wanted_in, has_no_bytes, bytes_of}
 use Rattle.ebpf_object_file.specs.Symbol.{symbol_of, is_function, is_function_named}
 use Rattle.ebpf_object_file.specs.Relocation.{relocation_of, reaches}
 use Rattle.ebpf_object_file.specs.File.{named_in}
 use Rattle.ebpf_object_file.specs.Outside.{IsReached, IsReachedFirst}
-use Rattle.ebpf_object_file.specs.Function.{IsPlace}
+use Rattle.ebpf_object_file.specs.Function.{code_of, IsPlace}
 
 true_false : (b : Bool) → b ≡ true → b ≡ false → ⊥
 true_false true t f = absurd (cc)
@@ -79,3 +80,25 @@ pub place_section : (file symbols : List ℕ) (number : ℕ) (p : Place) (h : He
 place_section file symbols number p h same function is =
     let count : h.sections ≡ sections_in file = ap (λ (x : Header). x.sections) same in
     subst (λ (n : ℕ). p.section < n) count (subst (λ (n : ℕ). n < h.sections) (sym is.section) (section_inside h.sections (symbol_of symbols number) function))
+
+-- a section's bytes are no more than the file's
+contents_within : (file : List ℕ) (none : Bool) (offset size : ℕ) → length (cond none [] (take size (drop offset file))) ≤ length file
+contents_within file true offset size = omega arith
+contents_within file false offset size = rw (length-take size (drop offset file), length-drop offset file) omega arith
+
+taken_within : (n : ℕ) (l : List ℕ) → length (take n l) ≤ n
+taken_within n l = rw (length-take n l) omega arith
+
+inside_by : (from size value room code bytes file : ℕ) → from ≡ value → size ≡ room → code ≤ size → value + room ≤ bytes → bytes ≤ file → from + code ≤ file
+inside_by from size value room code bytes file a b c d e = omega arith
+
+-- the bytes of a place are in the file
+pub place_within : (file symbols : List ℕ) (number : ℕ) (p : Place) (code : List ℕ) → IsPlace file symbols number p → code ≡ code_of file p
+    → p.from + length code ≤ length file
+place_within file symbols number p code is same =
+    let s = symbol_of symbols number in
+    let section = section_of file s.section in
+    let inside : s.value + s.size ≤ length (bytes_of file s.section) = grind (arith, nat_tests) in
+    let short : length code ≤ p.size = subst (λ (x : List ℕ). length x ≤ p.size) (sym same) (taken_within p.size _) in
+    inside_by p.from p.size s.value s.size (length code) (length (bytes_of file s.section)) (length file) is.from is.size short inside
+    (contents_within file (has_no_bytes section) section.offset section.size)

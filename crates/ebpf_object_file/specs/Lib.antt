@@ -8,9 +8,9 @@ pub mod Relocation
 pub mod Call
 pub mod File
 pub mod Naming
-pub mod Outside
-pub mod Function
 pub mod Lines
 pub mod Source
+pub mod Outside
+pub mod Function
 pub mod Sentences
 pub mod Shown

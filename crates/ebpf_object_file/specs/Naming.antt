@@ -17,15 +17,23 @@ addend_at bytes offset = cond (nat_le (offset + 8) (length bytes)) (field 4 byte
 abbrev pub is_data_at : ℕ → ℕ → Symbol → Bool
 is_data_at section at s = s.info % 16 == 1 && s.section == section && nat_le s.value at && nat_lt at (s.value + s.size)
 
--- the name of the data that was found in a section, or else that of the section, which is in the section of number e_shstrndx
-abbrev pub data_name : List ℕ → List ℕ → List ℕ → ℕ → Option ℕ → List ℕ
-data_name file symbols strings section None = text_at (bytes_of file (field 2 file 62)) (section_of file section).name name_limit
-data_name file symbols strings section (Some k) = text_at strings (symbol_of symbols k).name name_limit
+-- the number of the data that a symbol means: of the symbol of a section, the first data there at the addend
+abbrev pub IsDataOf : (file symbols : List ℕ) → Symbol → ℕ → Option ℕ → Type 0
+IsDataOf file symbols s addend meant =
+    ((is_of_section (sections_in file) s ≡ false) × (meant ≡ None))
+    ⊎ ((is_of_section (sections_in file) s ≡ true) × Finds (λ k. is_data_at s.section addend (symbol_of symbols k)) (length symbols / 24) meant)
 
--- The name of a symbol. That of a section has the name of the first data there at the addend.
-abbrev pub IsNameOf : List ℕ → List ℕ → List ℕ → Symbol → ℕ → List ℕ → Type 0
-IsNameOf file symbols strings s addend name =
-    ((is_of_section (sections_in file) s ≡ false) × (name ≡ text_at strings s.name name_limit))
-    ⊎ ((is_of_section (sections_in file) s ≡ true) × (found : Option ℕ)
-    × Finds (λ k. is_data_at s.section addend (symbol_of symbols k)) (length symbols / 24) found
-    × (name ≡ data_name file symbols strings s.section found))
+-- how many bytes that data has, or else the symbol
+abbrev pub size_of : List ℕ → Symbol → Option ℕ → ℕ
+size_of symbols s None = s.size
+size_of symbols s (Some k) = (symbol_of symbols k).size
+
+-- the name of the symbol of a section is in the section of number e_shstrndx
+abbrev pub name_of_none : (file strings : List ℕ) → Symbol → List ℕ
+name_of_none file strings s =
+    cond (is_of_section (sections_in file) s) (text_at (bytes_of file (field 2 file 62)) (section_of file s.section).name name_limit) (text_at strings s.name name_limit)
+
+-- the name of that data, or else of the symbol
+abbrev pub name_of : (file symbols strings : List ℕ) → Symbol → Option ℕ → List ℕ
+name_of file symbols strings s None = name_of_none file strings s
+name_of file symbols strings s (Some k) = text_at strings (symbol_of symbols k).name name_limit

@@ -1,5 +1,5 @@
 -- What a function's bytes refer to outside of them: by a relocation, or by a call of a place.
-use Rattle.std.specs.Prelude.{ℕ, ◌≡◌, ◌<◌, ◌-◌, ◌/◌, ◌%◌, true, List, [], length, Option, Some, None, ◌==◌, cond}
+use Rattle.std.specs.Prelude.{ℕ, Bool, ◌≡◌, ◌<◌, ◌+◌, ◌-◌, ◌*◌, ◌/◌, ◌%◌, true, List, [], ◌∷◌, length, Option, Some, None, ◌==◌, ◌||◌, cond}
 use Rattle.ebpf_object_file.specs.declared.symbol.Symbol.{Symbol}
 use Rattle.ebpf_object_file.specs.declared.outside.Place.{Place}
 use Rattle.ebpf_object_file.specs.declared.outside.Outside.{Outside}
@@ -16,14 +16,31 @@ use Rattle.ebpf_object_file.specs.Symbol.{symbol_of, symbol_or_null, is_in_file}
 use Rattle.ebpf_object_file.specs.Relocation.{relocation_of, reaches}
 use Rattle.ebpf_object_file.specs.Call.{is_call, called_at, is_called}
 use Rattle.ebpf_object_file.specs.File.{name_limit}
-use Rattle.ebpf_object_file.specs.Naming.{addend_at, IsNameOf}
+use Rattle.ebpf_object_file.specs.Naming.{addend_at, name_of, size_of, IsDataOf}
+use Rattle.ebpf_object_file.specs.Source.{named_section}
 
--- What a symbol is, by the flags of its section: SHF_EXECINSTR is 4, SHF_WRITE is 1.
-abbrev pub target_by : ℕ → Target
-target_by flags = cond (flags / 4 % 2 == 1) target.Function (cond (flags % 2 == 1) target.Variable target.Table)
+-- ".maps" and "maps": the section of a number has maps
+abbrev pub is_maps : List ℕ → ℕ → Bool
+is_maps file i = named_section file (46 ∷ 109 ∷ 97 ∷ 112 ∷ 115 ∷ []) i || named_section file (109 ∷ 97 ∷ 112 ∷ 115 ∷ []) i
 
-abbrev pub target_of : List ℕ → Symbol → Target
-target_of file s = cond (is_in_file (sections_in file) s) (target_by (section_of file s.section).flags) target.External
+-- the bytes of a number
+abbrev pub is_scalar : ℕ → Bool
+is_scalar size = size == 1 || size == 2 || size == 4 || size == 8
+
+-- What data of that many bytes is, by the flags of its section: SHF_EXECINSTR is 4, SHF_WRITE is 1, SHF_STRINGS is 32.
+abbrev pub target_by : (flags size : ℕ) → Target
+target_by flags size =
+    cond (flags / 4 % 2 == 1) target.Function
+    (cond (flags % 2 == 1) target.Variable
+    (cond (flags / 32 % 2 == 1) target.StringLiteral
+    (cond (is_scalar size) target.Scalar target.Table)))
+
+abbrev pub target_in : List ℕ → (section size : ℕ) → Target
+target_in file section size = cond (is_maps file section) target.Map (target_by (section_of file section).flags size)
+
+-- what a symbol is, which means the data of a number, if there is such
+abbrev pub target_of : (file symbols : List ℕ) → Symbol → Option ℕ → Target
+target_of file symbols s meant = cond (is_in_file (sections_in file) s) (target_in file s.section (size_of symbols s meant)) target.External
 
 -- a relocation reaches the place: one of a section of relocations for its section
 pub record IsReached (file : List ℕ) (p : Place) (r : Relocation) : Type 0 where
@@ -56,13 +73,17 @@ IsRelocationFault file p fault.RelocationsTwice =
     NoneBelow (wanted_in file (AddendsFor p.section)) (sections_in file) × AreTwo (wanted_in file (RelocationsFor p.section)) (sections_in file)
 IsRelocationFault file p _ = ⊥
 
--- What the first relocation refers to: its slot, from the function's first, and its symbol.
+-- What the first relocation refers to: its place, its slot, from the function's first, and its symbol.
 pub record IsRelocated (file symbols strings : List ℕ) (p : Place) (o : Outside) : Type 0 where
   pub relocation : Relocation
   pub first : IsReachedFirst file p relocation
+  pub place : o.place ≡ p
+  pub at : o.at ≡ relocation.offset
   pub slot : o.slot ≡ (relocation.offset - p.from) / 8
-  pub target : o.target ≡ target_of file (symbol_or_null symbols relocation.symbol)
-  pub name : IsNameOf file symbols strings (symbol_or_null symbols relocation.symbol) (addend_at (bytes_of file p.section) relocation.offset) o.name.bytes.now
+  pub meant : Option ℕ
+  pub is_meant : IsDataOf file symbols (symbol_or_null symbols relocation.symbol) (addend_at (bytes_of file p.section) relocation.offset) meant
+  pub target : o.target ≡ target_of file symbols (symbol_or_null symbols relocation.symbol) meant
+  pub name : o.name.bytes.now ≡ name_of file symbols strings (symbol_or_null symbols relocation.symbol) meant
 
 -- the name of the symbol of a number, where there is one
 abbrev pub name_found : List ℕ → List ℕ → Option ℕ → List ℕ
@@ -72,6 +93,8 @@ name_found symbols strings (Some k) = text_at strings (symbol_of symbols k).name
 -- What the first call of a place refers to: its slot, and the first function that begins at that place.
 pub record IsCalling (symbols strings : List ℕ) (sections : ℕ) (p : Place) (code : List ℕ) (o : Outside) : Type 0 where
   pub first : IsFirst (is_call code) (length code / 8) o.slot
+  pub place : o.place ≡ p
+  pub at : o.at ≡ p.from + 8 * o.slot
   pub target : o.target ≡ target.Function
   pub called : Option ℕ
   pub found : Finds (λ k. is_called sections p.section (called_at code p.from o.slot) (symbol_of symbols k)) (length symbols / 24) called

@@ -76,9 +76,12 @@ verb target.Function = codes "calls"
 verb _ = codes "uses"
 
 abbrev pub mending : Target → List ℕ
-mending target.Table = codes "a table outside the function: pass it in the context, or pack it into a number"
-mending target.Variable = codes "a variable outside the function: pass it in the context"
+mending target.Map = codes "a map: pass what it has in the context, or keep an object on a shelf"
 mending target.Function = codes "a function of the file: make it static inline, and compile with -O2"
+mending target.Variable = codes "a variable outside the function: pass it in the context"
+mending target.StringLiteral = codes "a string: compare byte by byte, as starts_with of ebpf_program.h does"
+mending target.Scalar = codes "a constant of the size of a number: make it a macro or an enum, or pack a table of that size into a number"
+mending target.Table = codes "a table outside the function: pass it in the context, or pack it into a number"
 mending target.External = codes "which is not in the file: define it as static inline, and compile with -O2"
 
 -- the slot, the symbol, and what mends it

@@ -67,7 +67,7 @@ fn verb(target: Target) -> &'static str
 {
     match target {
         Target::Function => "calls",
-        Target::Table | Target::Variable | Target::External => "uses",
+        _ => "uses",
     }
 }
 
@@ -76,12 +76,18 @@ fn mending(target: Target) -> &'static str
     ensures { result.now ≡ mending target }
 {
     match target {
-        Target::Table =>
-            "a table outside the function: pass it in the context, or pack it into a number",
-        Target::Variable => "a variable outside the function: pass it in the context",
+        Target::Map => "a map: pass what it has in the context, or keep an object on a shelf",
         Target::Function => {
             "a function of the file: make it static inline, and compile with -O2"
         }
+        Target::Variable => "a variable outside the function: pass it in the context",
+        Target::StringLiteral => {
+            "a string: compare byte by byte, as starts_with of ebpf_program.h does"
+        }
+        Target::Scalar =>
+            "a constant of the size of a number: make it a macro or an enum, or pack a table of that size into a number",
+        Target::Table =>
+            "a table outside the function: pass it in the context, or pack it into a number",
         Target::External => {
             "which is not in the file: define it as static inline, and compile with -O2"
         }

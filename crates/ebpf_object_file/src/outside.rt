@@ -1,13 +1,12 @@
 //! What a function's bytes refer to outside of them.
 
-ghost use Rattle.std.specs.Prelude.{◌≡◌, ◌≤◌, ◌<◌, ◌+◌, ◌/◌, ◌^◌, length, IfOk, IfErr, MatchOption};
+ghost use Rattle.std.specs.Prelude.{◌≡◌, ◌≤◌, ◌<◌, ◌+◌, ◌/◌, length, IfOk, IfErr, MatchOption};
 ghost use Rattle.ebpf_object_file.specs.First.{IsFirst};
 ghost use Rattle.ebpf_object_file.specs.Header.{header_of};
 ghost use Rattle.ebpf_object_file.specs.Section.{sections_in};
-ghost use Rattle.ebpf_object_file.specs.Symbol.{is_in_file};
 ghost use Rattle.ebpf_object_file.specs.Call.{is_call};
-ghost use Rattle.ebpf_object_file.specs.File.{IsOpen, AreFunctions, name_limit};
-ghost use Rattle.ebpf_object_file.specs.Outside.{target_of, IsReachedFirst, IsReached, HasNone, IsRelocationFault, IsRelocated, IsCalling};
+ghost use Rattle.ebpf_object_file.specs.File.{IsOpen, AreFunctions};
+ghost use Rattle.ebpf_object_file.specs.Outside.{is_maps, target_by, target_of, IsReachedFirst, HasNone, IsRelocationFault, IsRelocated, IsCalling};
 
 use crate::call::{called_at, find_called};
 use crate::fault::FileFault;
@@ -16,8 +15,8 @@ use crate::header::Header;
 use crate::relocation::{Relocation, find_relocation, relocation_of};
 use crate::section::{Count, Wanted, bytes_of, count_sections, section_of};
 use crate::symbol::{Symbol, symbol_of, symbol_or_null};
-use crate::symbol_name::{addend_at, name_of};
-use crate::text::text_at;
+use crate::symbol_name::{addend_at, data_of, name_of, size_of};
+use crate::text::{is_named, text_at};
 
 /// Where a function is.
 #[derive(Clone, Copy)]
@@ -30,15 +29,21 @@ pub struct Place {
     pub size: u64,
 }
 
-/// What a symbol is, by the section that it is in.
+/// What a symbol is, by the section that it is in. The order is that in which the tests are made, but for what isn't in the file.
 #[derive(Clone, Copy)]
 pub enum Target {
-    /// Data that isn't written (`SHF_WRITE` isn't set): a constant table, or a string.
-    Table,
-    /// Data that may be written (`SHF_WRITE`): a global or static variable.
-    Variable,
+    /// A map, as programs for the kernel define it: in the section `.maps` or `maps`.
+    Map,
     /// A function (`SHF_EXECINSTR`).
     Function,
+    /// Data that may be written (`SHF_WRITE`): a global or static variable.
+    Variable,
+    /// A string literal, which compilers put among others (`SHF_STRINGS`).
+    StringLiteral,
+    /// A constant as large as a number: 1, 2, 4 or 8 bytes.
+    Scalar,
+    /// Other data that isn't written: a constant table.
+    Table,
     /// What the file doesn't define.
     External,
 }
@@ -46,6 +51,10 @@ pub enum Target {
 /// A slot that needs another part of the file.
 #[derive(Clone, Copy)]
 pub struct Outside<'a> {
+    /// Where the function is that the slot is in.
+    pub place: Place,
+    /// Where the slot is, in bytes from the section's first.
+    pub at: u64,
     /// The slot, from the function's first.
     pub slot: u64,
     pub target: Target,
@@ -53,23 +62,50 @@ pub struct Outside<'a> {
     pub name: Name<'a>,
 }
 
-// What a symbol is.
-fn target_of(file: &[u8], header: Header, symbol: Symbol) -> Target
+// Whether a section is one of maps.
+fn is_maps(file: &[u8], header: Header, index: u16) -> bool
     requires file { IsOpen file.now }
     requires header { header ≡ header_of file.now }
-    ensures { result ≡ target_of file.now symbol }
+    requires index { index < sections_in file.now }
+    ensures { result ≡ is_maps file.now index }
 {
-    if !symbol.is_in_file(header.sections) {
-        return Target::External;
-    }
-    let flags = section_of(file, header, symbol.section).flags;
+    let names = bytes_of(file, header, header.names);
+    let name = section_of(file, header, index).name as usize;
+    is_named(names, name, b".maps") || is_named(names, name, b"maps")
+}
+
+// What data of that many bytes is, by the flags of its section.
+fn target_by(flags: u64, size: u64) -> Target
+    ensures { result ≡ target_by flags size }
+{
     if flags / 4 % 2 == 1 {
         Target::Function
     } else if flags % 2 == 1 {
         Target::Variable
+    } else if flags / 32 % 2 == 1 {
+        Target::StringLiteral
+    } else if size == 1 || size == 2 || size == 4 || size == 8 {
+        Target::Scalar
     } else {
         Target::Table
     }
+}
+
+// What a symbol is, which means the data of a number, if there is such.
+fn target_of(functions: Functions<'_>, symbol: Symbol, meant: Option<usize>) -> Target
+    requires functions { AreFunctions functions.file.now functions }
+    requires meant { MatchOption meant Unit (λ k. k < length functions.symbols.now / 24) }
+    ensures { result ≡ target_of functions.entry.file.now functions.entry.symbols.now symbol meant }
+{
+    let Functions { file, header, .. } = functions;
+    if !symbol.is_in_file(header.sections) {
+        return Target::External;
+    }
+    if is_maps(file, header, symbol.section) {
+        return Target::Map;
+    }
+    let flags = section_of(file, header, symbol.section).flags;
+    target_by(flags, size_of(functions.symbols, symbol, meant))
 }
 
 // The first relocation that reaches a place, `None` where none does.
@@ -114,11 +150,14 @@ pub(crate) fn relocated<'a>(
     let Functions { file, header, .. } = functions;
     let symbol = symbol_or_null(functions.symbols, relocation.symbol as usize);
     let addend = addend_at(bytes_of(file, header, place.section), relocation.offset);
+    let meant = data_of(functions, symbol, addend);
     Outside {
+        place,
+        at: relocation.offset,
         slot: relocation.offset.saturating_sub(place.from) / 8,
-        target: target_of(file, header, symbol),
+        target: target_of(functions, symbol, meant),
         name: Name {
-            bytes: name_of(functions, symbol, addend),
+            bytes: name_of(functions, symbol, meant),
         },
     }
 }
@@ -132,6 +171,7 @@ pub(crate) fn calling<'a>(
 ) -> Outside<'a>
     requires functions { AreFunctions functions.file.now functions }
     requires slot { IsFirst (is_call code.now) (length code.now / 8) slot }
+    requires inside { place.from + length code.now ≤ length functions.file.now }
     ensures { IsCalling functions.entry.symbols.now functions.entry.strings.now functions.entry.header.sections place code.now result }
 {
     let at = called_at(code, place.from, slot);
@@ -149,6 +189,8 @@ pub(crate) fn calling<'a>(
         }
     };
     Outside {
+        place,
+        at: place.from + 8 * slot as u64,
         slot: slot as u64,
         target: Target::Function,
         name: Name { bytes },

@@ -1,10 +1,10 @@
 //! The name of what a relocation refers to.
 
-ghost use Rattle.std.specs.Prelude.{◌≡◌, ◌≤◌, ◌<◌, ◌+◌, ◌/◌, length};
+ghost use Rattle.std.specs.Prelude.{◌≡◌, ◌<◌, ◌/◌, length, MatchOption};
 ghost use Rattle.ebpf_object_file.specs.First.{Finds};
 ghost use Rattle.ebpf_object_file.specs.Symbol.{symbol_of as nth_symbol};
 ghost use Rattle.ebpf_object_file.specs.File.{AreFunctions};
-ghost use Rattle.ebpf_object_file.specs.Naming.{addend_at, is_data_at, IsNameOf};
+ghost use Rattle.ebpf_object_file.specs.Naming.{addend_at, is_data_at, name_of, size_of, IsDataOf};
 
 use crate::field::{is_inside, u32_at};
 use crate::functions::{Functions, MOST_NAME};
@@ -46,10 +46,37 @@ fn find_data(table: &[u8], section: u16, at: u32) -> Option<usize>
     None
 }
 
-// The name of a symbol. Where it is that of a section, the name of the data at the addend, or else of the section.
-pub(crate) fn name_of<'a>(functions: Functions<'a>, symbol: Symbol, addend: u32) -> &'a [u8]
+// The number of the data that a symbol means: of the symbol of a section, the first data there at the addend.
+pub(crate) fn data_of(functions: Functions<'_>, symbol: Symbol, addend: u32) -> Option<usize>
     requires functions { AreFunctions functions.file.now functions }
-    ensures { IsNameOf functions.entry.file.now functions.entry.symbols.now functions.entry.strings.now symbol addend result.now }
+    ensures { IsDataOf functions.entry.file.now functions.entry.symbols.now symbol addend result }
+{
+    if !symbol.is_of_section(functions.header.sections) {
+        return None;
+    }
+    find_data(functions.symbols, symbol.section, addend)
+}
+
+// How many bytes that data has, or else the symbol.
+pub(crate) fn size_of(table: &[u8], symbol: Symbol, meant: Option<usize>) -> u64
+    requires { MatchOption meant Unit (λ k. k < length table.now / 24) }
+    ensures { result ≡ size_of table.now symbol meant }
+{
+    match meant {
+        None => symbol.size,
+        Some(number) => symbol_of(table, number).size,
+    }
+}
+
+// The name of that data, or else of the symbol.
+pub(crate) fn name_of<'a>(
+    functions: Functions<'a>,
+    symbol: Symbol,
+    meant: Option<usize>,
+) -> &'a [u8]
+    requires functions { AreFunctions functions.file.now functions }
+    requires meant { MatchOption meant Unit (λ k. k < length functions.symbols.now / 24) }
+    ensures { result.now ≡ name_of functions.entry.file.now functions.entry.symbols.now functions.entry.strings.now symbol meant }
 {
     let Functions {
         file,
@@ -57,18 +84,13 @@ pub(crate) fn name_of<'a>(functions: Functions<'a>, symbol: Symbol, addend: u32)
         symbols,
         strings,
     } = functions;
+    if let Some(number) = meant {
+        return text_at(strings, symbol_of(symbols, number).name as usize, MOST_NAME);
+    }
     if !symbol.is_of_section(header.sections) {
         return text_at(strings, symbol.name as usize, MOST_NAME);
     }
-    match find_data(symbols, symbol.section, addend) {
-        None => {
-            let names = bytes_of(file, header, header.names);
-            let section = section_of(file, header, symbol.section);
-            text_at(names, section.name as usize, MOST_NAME)
-        }
-        Some(number) => {
-            let name = symbol_of(symbols, number).name;
-            text_at(strings, name as usize, MOST_NAME)
-        }
-    }
+    let names = bytes_of(file, header, header.names);
+    let section = section_of(file, header, symbol.section);
+    text_at(names, section.name as usize, MOST_NAME)
 }

@@ -1,6 +1,6 @@
 use Rattle.std.proofs.Common.{refl, inl, inr, subst, List, ℕ}
 use Rattle.ebpf_object_file.specs.Outside.{IsCalling, HasNone}
-use Rattle.ebpf_object_file.proofs.Places.{place_section}
+use Rattle.ebpf_object_file.proofs.Places.{place_section, place_within}
 use Rattle.ebpf_object_file.proofs.function.function_at.Goals as goal
 
 pub returns-in-Ok-Some-clause-refused : goal.returns-in-Ok-Some-clause-refused
@@ -19,3 +19,8 @@ pub relocated-outside-requires-clause-section : goal.relocated-outside-requires-
 relocated-outside-requires-clause-section c =
     place_section c.args.functions.file.now c.args.functions.symbols.now c.args.number c.in-Ok.function.place c.args.functions.header
     c.requires.functions.header c.requires.function c.in-Ok.ensures.found.place
+
+pub calling-outside-requires-clause-inside : goal.calling-outside-requires-clause-inside
+calling-outside-requires-clause-inside c =
+    place_within c.args.functions.file.now c.args.functions.symbols.now c.args.number c.in-Ok.function.place c.in-Ok.function.code.now
+    c.in-Ok.ensures.found.place c.in-Ok.ensures.found.code
