@@ -68,4 +68,69 @@ EBPF_INLINE void *swap(enum ebpf_kind shelf, void *given)
     return ebpf_helper_swap(shelf, given);
 }
 
+// Whether these bytes come first at an address: starts_with(context, "GET "). The text is a literal of at most 16 bytes; a longer one does
+// not compile. Each byte becomes an immediate, so the program needs no string.
+#define starts_with(at, text) \
+    ebpf_starts_with((const ebpf_byte *)(at), text, sizeof(text) - sizeof(char[sizeof(text) <= 17 ? 1 : -1]))
+
+EBPF_INLINE int ebpf_starts_with(const ebpf_byte *at, const char *text, ebpf_number length)
+{
+    int same = 1;
+#define EBPF_SAME(n) if (n < length) same &= at[n] == (ebpf_byte)text[n];
+    EBPF_SAME(0) EBPF_SAME(1) EBPF_SAME(2) EBPF_SAME(3) EBPF_SAME(4) EBPF_SAME(5) EBPF_SAME(6) EBPF_SAME(7)
+    EBPF_SAME(8) EBPF_SAME(9) EBPF_SAME(10) EBPF_SAME(11) EBPF_SAME(12) EBPF_SAME(13) EBPF_SAME(14) EBPF_SAME(15)
+#undef EBPF_SAME
+    return same;
+}
+
+// The numbers of each kind of object.
+EBPF_INLINE ebpf_number ebpf_numbers(enum ebpf_kind kind)
+{
+    return kind == CELL ? 2 : kind == RECORD ? 8 : 64;
+}
+
+#ifdef __clang__
+#define EBPF_UNROLL _Pragma("unroll")
+#else
+#define EBPF_UNROLL _Pragma("GCC unroll 64")
+#endif
+
+// Adds the numbers of an object to those of another, gives the first back, and does nothing where it is null.
+EBPF_INLINE void ebpf_add_and_free(enum ebpf_kind kind, ebpf_number *sums, ebpf_number *more)
+{
+    if (more) {
+        EBPF_UNROLL
+        for (ebpf_number i = 0; i < ebpf_numbers(kind); i++) sums[i] += more[i];
+        free(more);
+    }
+}
+
+// Emits the numbers of an object, and gives it back.
+EBPF_INLINE void ebpf_emit_and_free(enum ebpf_kind kind, ebpf_number *sums)
+{
+    EBPF_UNROLL
+    for (ebpf_number i = 0; i < ebpf_numbers(kind); i++) emit(sums[i]);
+    free(sums);
+}
+
+// Adds the numbers of an object to those on the shelf of its kind, and gives it up. A program that takes an object off a shelf, changes it
+// and puts it back loses what another worker put there in between. This one loses nothing: an object that it finds on the shelf is merged
+// with what it finds there next, and put back in its turn. After four turns in which others came between, what is left over is emitted,
+// number by number. So the numbers on the shelf and those that were emitted add up to all that was given. The program holds two objects at
+// a time: --held 2.
+EBPF_INLINE void shelve_sums(enum ebpf_kind kind, void *object)
+{
+    ebpf_number *sums = object;
+#define EBPF_SHELVE \
+    { \
+        ebpf_number *found = swap(kind, sums); \
+        if (!found) return; \
+        ebpf_add_and_free(kind, found, swap(kind, 0)); \
+        sums = found; \
+    }
+    EBPF_SHELVE EBPF_SHELVE EBPF_SHELVE EBPF_SHELVE
+#undef EBPF_SHELVE
+    ebpf_emit_and_free(kind, sums);
+}
+
 #endif

@@ -15,7 +15,7 @@ use Rattle.ebpf_command.specs.declared.input.TheConstants.{MAX_INPUT}
 use Rattle.ebpf_command.specs.Response.{Response, refused_response, clean_response}
 use Rattle.ebpf_command.specs.Writing.{Responding, Writes}
 use Rattle.ebpf_assemble.specs.SlotsText.{slot_lines}
-use Rattle.ebpf_assemble.specs.FaultText.{assembly_fault_lines, long_text_lines}
+use Rattle.ebpf_assemble.specs.FaultText.{IsFaultText, long_text_lines}
 
 -- the slots of a program
 abbrev pub AreSlotsOf : List (Option Insn) → Response → Type 0
@@ -32,7 +32,9 @@ pub record IsOfNone (text : List ℕ) (response : Response) : Type 0 where
   pub fault : AssemblyFault
   pub is : IsAssemblyFault text fault
   pub none : fault ≢ NoMemory
-  pub told : response ≡ refused_response (assembly_fault_lines fault)
+  pub lines : List ℕ
+  pub words : IsFaultText text fault lines
+  pub told : response ≡ refused_response lines
 
 -- an input has at most `MAX_INPUT` bytes
 abbrev pub long_fault : List ℕ → Option FaultCode

@@ -1,10 +1,10 @@
 //! The command `assemble`.
 
-ghost use Rattle.std.specs.Prelude.{◌≡◌, ◌≢◌, IfOk, IfErr};
+ghost use Rattle.std.specs.Prelude.{◌≡◌, ◌≢◌, ℕ, List, IfOk, IfErr};
 ghost use Rattle.ebpf_command.specs.declared.done.EngineFault.TheVariants.{Output};
 ghost use Rattle.ebpf_command.specs.Response.{refused_response};
 ghost use Rattle.ebpf_command.specs.Writing.{Writes, WritesBeginning, Reads};
-ghost use Rattle.ebpf_assemble.specs.FaultText.{long_text_lines, assembly_fault_lines};
+ghost use Rattle.ebpf_assemble.specs.FaultText.{long_text_lines, IsFaultText};
 ghost use Rattle.ebpf_assemble.specs.AssembleText.{Assembles, AreSlotsOf, WritesEachText, WritesEachListing};
 
 use crate::fault_text::assembly_fault_text;
@@ -54,7 +54,7 @@ fn assemble_input(alloc: Global, input: &[u8]) -> Result<Answer, AllocError>
     match assemble_text(alloc, input) {
         Ok(program) => answer_slots(alloc, &program),
         Err(AssemblyFault::NoMemory) => Err(AllocError),
-        Err(fault) => answer_fault(alloc, fault),
+        Err(fault) => answer_fault(alloc, input, fault),
     }
 }
 
@@ -82,11 +82,11 @@ fn answer_slots(alloc: Global, program: &Program) -> Result<Answer, AllocError>
 }
 
 // The answer to a text that is of no program.
-fn answer_fault(alloc: Global, fault: AssemblyFault) -> Result<Answer, AllocError>
-    ensures { IfOk result (λ answer. answer ≡ refused_response (assembly_fault_lines fault)) }
+fn answer_fault(alloc: Global, input: &[u8], fault: AssemblyFault) -> Result<Answer, AllocError>
+    ensures { IfOk result (λ answer. (lines : List ℕ) × IsFaultText input.now fault lines × (answer ≡ refused_response lines)) }
 {
     Ok(Answer {
-        text: assembly_fault_text(alloc, fault)?,
+        text: assembly_fault_text(alloc, input, fault)?,
         done: Done::Refused,
     })
 }

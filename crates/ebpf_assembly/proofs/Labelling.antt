@@ -1,9 +1,9 @@
 -- The labels of a text, line by line, and the lines without them.
-use Rattle.std.proofs.Common.{◌≡◌, ◌≢◌, ℕ, ◌+◌, ◌<◌, ◌≤◌, Bool, true, false, ◌==◌, if◌then◌else◌, List, [], ◌∷◌, ◌++◌, length, get_or, drop, take, map, Option, Some, None, option_map, Bor, refl, sym, ap, ◌∙◌, append_assoc, append-nil, arith}
+use Rattle.std.proofs.Common.{◌≡◌, ◌≢◌, ℕ, ◌+◌, ◌<◌, ◌≤◌, Bool, true, false, ◌==◌, if◌then◌else◌, List, [], ◌∷◌, ◌++◌, length, get_or, slice_index_or, drop, take, map, Option, Some, None, option_map, Bor, refl, sym, ap, ◌∙◌, append_assoc, append-nil, arith}
 use Rattle.std.specs.Prelude.{codes}
 use Rattle.std.specs.Option.{MatchOption}
 use Rattle.std.specs.List.{take-map}
-use Rattle.std.proofs.lemmas.List.{at_drop_more, at_drop_all, take_all, length-map}
+use Rattle.std.proofs.lemmas.List.{at_drop_more, at_drop_all, take_all, length-map, get_or_default, get_or_past}
 use Rattle.ebpf_assembly.specs.Lines.{words}
 use Rattle.std.specs.Str.{bytes_eq}
 use Rattle.ebpf_assembly.specs.declared.label.Label.{Label}
@@ -174,3 +174,11 @@ some_first n labels = sym (take-map named_by_label n labels)
 
 pub all_first : (n : ℕ) (labels : List Label) → length labels ≤ n → names_of labels ≡ take n (names_of labels)
 all_first n labels few = sym (take_all n (names_of labels) (omega (arith, few, length-map labels named_by_label)))
+
+-- the line that a search came to is the one of its number
+pub line_there : (lines : List (List ℕ)) (n number : ℕ) (line : List ℕ) → n < length lines → line ≡ get_or lines n line → number ≡ n
+    → line ≡ slice_index_or lines number []
+line_there lines n number line inside here same = here ∙ (get_or_default lines n line [] inside ∙ ap (λ (k : ℕ). get_or lines k []) (sym same))
+
+pub line_past : (lines : List (List ℕ)) (number : ℕ) → length lines ≤ number → [] ≡ slice_index_or lines number []
+line_past lines number past = sym (get_or_past lines number [] past)

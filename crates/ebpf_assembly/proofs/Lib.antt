@@ -16,3 +16,4 @@ pub mod Drafts
 pub mod Faulty
 pub mod Labelling
 pub mod WithoutLabels
+pub mod Misfits

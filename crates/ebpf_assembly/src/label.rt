@@ -110,7 +110,7 @@ fn slots_of_word(word: &[u8]) -> usize
 }
 
 // What comes before the colon that a word ends with.
-fn before_colon(word: &[u8]) -> Option<&[u8]>
+pub(crate) fn before_colon(word: &[u8]) -> Option<&[u8]>
     ensures { option_map (λ label. label.now) result ≡ before_colon word.now }
 {
     label(word)
@@ -126,7 +126,8 @@ pub(crate) fn name_in(word: &[u8]) -> Option<&[u8]>
     before_colon(word)
 }
 
-fn is_lettered(word: &[u8]) -> bool
+// Whether a word begins with a letter.
+pub(crate) fn is_lettered(word: &[u8]) -> bool
     ensures { result ≡ is_lettered word.now }
 {
     match word {

@@ -8,13 +8,15 @@
 //! where it is negative, and an offset always with one. There are no other writings of a number.
 //!
 //! [`assemble::assemble`] accepts exactly these texts, and else names the first line at fault and why. The listing of a program is
-//! such a text, and of no other program: so assembling it gives the program again.
+//! such a text, and of no other program: so assembling it gives the program again. [`cause::cause_of`] looks at the line at fault again,
+//! word by word.
 //!
 //! To be read in this order: `fault`, `words`, `number`, `operand`, `kind`, `operands`, `insn`, `line`, `label`, `plain`, `assemble`,
-//! `laws`.
+//! `cause`, `laws`.
 #![tactic(auto)]
 
 pub mod assemble;
+pub mod cause;
 pub mod fault;
 mod insn;
 mod kind;

@@ -2,3 +2,4 @@ pub mod TextLemmas
 pub mod FaultLemmas
 pub mod MeetingLemmas
 pub mod LostLemmas
+pub mod LossLemmas

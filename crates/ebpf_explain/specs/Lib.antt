@@ -17,5 +17,6 @@ pub mod CallFaults
 pub mod Mendings
 pub mod VerifySentences
 pub mod Meeting
+pub mod Loss
 pub mod Reasons
 pub mod Why

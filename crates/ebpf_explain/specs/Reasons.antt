@@ -13,6 +13,8 @@ use Rattle.ebpf_verify.specs.Comers.{comers}
 use Rattle.ebpf_verify.specs.Entry.{entry_in}
 use Rattle.ebpf_verify.specs.Subject.{Subject}
 use Rattle.ebpf_explain.specs.FlowSentences.{flow_sentence}
+use Rattle.ebpf_explain.specs.declared.loss.Loss.{Loss}
+use Rattle.ebpf_explain.specs.Loss.{losing, loss_sentence}
 use Rattle.ebpf_explain.specs.Meeting.{meeting_sentence}
 use Rattle.ebpf_explain.specs.VerifySentences.{verify_sentence}
 
@@ -30,5 +32,10 @@ reason (Some i) (Known s) cs slot code decl rows = verify_sentence slot i s code
 reason (Some i) Conflict cs slot code decl rows = meeting_sentence slot cs rows
 reason _ _ cs slot code decl rows = []
 
+abbrev pub reason_by : Option Loss → Subject → List EntryState → ℕ → VerifyCode → List ℕ
+reason_by None s entries slot code = reason (insn_at s.program slot) (entry_in entries slot) (comers s.program slot) slot code s.decl s.rows
+reason_by (Some loss) s entries slot code = loss_sentence slot loss (comers s.program loss.at)
+
+-- of a register that is read unset, where its values were lost, if it had any
 abbrev pub reason_at : Subject → List EntryState → ℕ → VerifyCode → List ℕ
-reason_at s entries slot code = reason (insn_at s.program slot) (entry_in entries slot) (comers s.program slot) slot code s.decl s.rows
+reason_at s entries slot code = reason_by (losing s.program entries slot code) s entries slot code

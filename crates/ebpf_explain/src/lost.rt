@@ -139,14 +139,14 @@ fn add_if_lost(
 }
 
 // Whether each state that comes knows something of a place, and the join of them nothing.
-fn is_lost(place: Place, comers: &[Comer], joined: &State) -> bool
+pub(crate) fn is_lost(place: Place, comers: &[Comer], joined: &State) -> bool
     ensures { result ≡ is_lost place comers.now joined.now }
 {
     value_at(place, joined).is_unset() && first_without(place, comers).is_none()
 }
 
 // The first that comes and knows nothing of a place.
-fn first_without(place: Place, comers: &[Comer]) -> Option<usize>
+pub(crate) fn first_without(place: Place, comers: &[Comer]) -> Option<usize>
     ensures { result ≡ first_without place comers.now }
 {
     comers
@@ -199,7 +199,11 @@ pub(crate) fn write_place_name(text: &mut String, place: Place) -> Result<(), Al
 }
 
 // The value that comes first, and one that can't be joined with it, or else the last.
-fn write_apart(text: &mut String, place: Place, comers: &[Comer]) -> Result<(), AllocError>
+pub(crate) fn write_apart(
+    text: &mut String,
+    place: Place,
+    comers: &[Comer],
+) -> Result<(), AllocError>
     ensures { OnOk result (string_bytes text.new ≡ string_bytes text.old ++ apart_from place (slice_get comers.now 0) comers.now) }
 {
     let Some(first) = comers.get(0) else {

@@ -1,10 +1,11 @@
 //! Why a slot of a program is refused, by what is there and what comes there.
 
-ghost use Rattle.std.specs.Prelude.{◌≡◌, ◌++◌, OnOk, string_bytes};
+ghost use Rattle.std.specs.Prelude.{◌≡◌, ◌++◌, None, OnOk, string_bytes};
 ghost use Rattle.ebpf_verify.specs.Looked.{subject_of};
-ghost use Rattle.ebpf_explain.specs.Reasons.{misled_in, reason_at};
+ghost use Rattle.ebpf_explain.specs.Reasons.{misled_in, reason_at, reason_by};
 
 use crate::flow_sentence::write_flow_sentence;
+use crate::loss::{loss_of, write_loss};
 use crate::meeting::write_meeting;
 use crate::verify_sentence::write_verify_sentence;
 use ebpf_flow::fault::FlowCode;
@@ -35,8 +36,8 @@ pub fn write_misled(
 }
 
 /// Writes after a text why an instruction is refused, by what comes to its slot, as [`write_verify_sentence`] does. Where paths
-/// meet that hold different objects, it writes which two those are, and what each holds. It writes nothing where no instruction begins
-/// there, nothing comes or the slot was not looked at.
+/// meet that hold different objects, it writes which two those are, and what each holds; where a register is read whose values were
+/// lost, where that was, and two of them. It writes nothing where no instruction begins there, nothing comes or the slot was not looked at.
 ///
 /// # Errors
 /// It fails only where an allocation fails, and a part of the line may be written then.
@@ -48,6 +49,22 @@ pub fn write_reason(
     code: VerifyCode,
 ) -> Result<(), AllocError>
     ensures { OnOk result (string_bytes text.new ≡ string_bytes text.old ++ reason_at (subject_of looked.now) looked.now.entries.now slot code) }
+{
+    if let Some(loss) = loss_of(alloc, looked, slot, code)? {
+        return write_loss(alloc, text, looked, slot, loss);
+    }
+    write_reason_at(alloc, text, looked, slot, code)
+}
+
+// Why an instruction is refused that reads no register whose values were lost.
+fn write_reason_at(
+    alloc: Global,
+    text: &mut String,
+    looked: &Looked,
+    slot: usize,
+    code: VerifyCode,
+) -> Result<(), AllocError>
+    ensures { OnOk result (string_bytes text.new ≡ string_bytes text.old ++ reason_by None (subject_of looked.now) looked.now.entries.now slot code) }
 {
     let Some(insn) = looked.flowed.program().at(slot) else {
         return Ok(());

@@ -6,10 +6,10 @@ use Rattle.ebpf_object_file.specs.declared.object_fault.ObjectFault.{ObjectFault
 use Rattle.ebpf_command.specs.declared.done.Done.{Done}
 use Rattle.ebpf_command.specs.declared.done.EngineFault.{EngineFault}
 use Rattle.ebpf_command.specs.Input.{read_of}
-use Rattle.ebpf_command.specs.Response.{Response, refused_response}
+use Rattle.ebpf_command.specs.Response.{Response}
 use Rattle.ebpf_command.specs.Writing.{Responding, Writes, WritesBeginning}
 use Rattle.ebpf_command.proofs.Written.{CutsLong, response_through, begun_through}
-use Rattle.ebpf_one.specs.ObjectText.{IsTaken, IsTakenFault, RespondsObject, Answers, object_fault_lines}
+use Rattle.ebpf_one.specs.ObjectText.{IsTaken, IsTakenFault, RespondsFault, RespondsObject, Answers}
 
 pub read_long : (file : List ℕ) → 1048577 < length file → length (read_of file) ≡ 1048577
 read_long file long = length-take-le 1048577 file (omega (arith, long))
@@ -34,7 +34,7 @@ of_taken format P name file bytes response is h = inl (bytes, is, h)
 
 -- or why none are
 pub of_fault : (format : Format) (P : Responding) (name : List ℕ) (file : List ℕ) (e : ObjectFault) (response : Response) → IsTakenFault name file e
-    → response ≡ refused_response (object_fault_lines format e) → RespondsObject format P name file response
+    → RespondsFault format file e response → RespondsObject format P name file response
 of_fault format P name file e response is h = inr (e, is, h)
 
 -- so what was answered of what was read is what the command writes

@@ -15,7 +15,7 @@ use Rattle.ebpf_command.specs.Writing.{Responding}
 use Rattle.ebpf_one.specs.declared.form.Form.TheVariants.{Raw}
 use Rattle.ebpf_one.specs.declared.sourced.Sourced.{Sourced}
 use Rattle.ebpf_one.specs.ExplainText.{ExplainsTo, ExplainsWith}
-use Rattle.ebpf_one.specs.ObjectText.{IsTakenFault, object_fault_lines}
+use Rattle.ebpf_one.specs.ObjectText.{IsTakenFault, RespondsFault, object_fault_lines}
 
 -- the slots are explained with the line that holds at each
 pub record ExplainsLined (format : Format) (listed : Bool) (l : Lines) (f : Function) (context : List ℕ) (held : ℕ) (response : Response) : Type 0 where
@@ -43,4 +43,4 @@ abbrev pub ExplainsObject : Format → Bool → List ℕ → ℕ → List ℕ �
 ExplainsObject format listed context held name file response =
     ((1048576 < length file) × ExplainsTo format Raw context held file response)
     ⊎ ((length file ≤ 1048576) × (f : Function) × IsWanted file name f × ExplainsFunction format listed context held file f response)
-    ⊎ ((e : ObjectFault) × IsTakenFault name file e × (response ≡ refused_response (object_fault_lines format e)))
+    ⊎ ((e : ObjectFault) × IsTakenFault name file e × RespondsFault format file e response)

@@ -21,7 +21,7 @@ use Rattle.ebpf_command.specs.Writing.{Responding}
 use Rattle.ebpf_one.specs.declared.form.Form.TheVariants.{Raw}
 use Rattle.ebpf_one.specs.Formats.{insn_in, refused_in}
 use Rattle.ebpf_one.specs.ListText.{RespondsList}
-use Rattle.ebpf_one.specs.ObjectText.{IsTakenFault, object_fault_lines}
+use Rattle.ebpf_one.specs.ObjectText.{IsTakenFault, RespondsFault, object_fault_lines}
 use Rattle.ebpf_one.specs.Sourced.{heading, held_before}
 
 abbrev pub slot_text : Format → Lines → List (Option Line) → List (Option Insn) → ℕ → List ℕ
@@ -56,4 +56,4 @@ abbrev pub RespondsSource : Format → List ℕ → Responding
 RespondsSource format name file response =
     ((1048576 < length file) × RespondsList format Raw file response)
     ⊎ ((length file ≤ 1048576) × (f : Function) × IsWanted file name f × SourcesFunction format file f response)
-    ⊎ ((e : ObjectFault) × IsTakenFault name file e × (response ≡ refused_response (object_fault_lines format e)))
+    ⊎ ((e : ObjectFault) × IsTakenFault name file e × RespondsFault format file e response)

@@ -10,7 +10,7 @@ ghost use Rattle.ebpf_one.specs.ExplainObject.{ExplainsLined, ExplainsUnread, Ex
 
 use crate::explain::explain_input;
 use crate::form::Form;
-use crate::object::answer_object_fault;
+use crate::object::{answer_file_fault, answer_object_fault};
 use crate::sourced::Sourced;
 use ebpf_command::answer::{Answer, respond};
 use ebpf_command::done::{Done, EngineFault};
@@ -19,7 +19,6 @@ use ebpf_command::input::MAX_INPUT;
 use ebpf_object_file::fault::FileFault;
 use ebpf_object_file::function::{Function, wanted_function};
 use ebpf_object_file::lines::{Line, Lines};
-use ebpf_object_file::object_fault::ObjectFault;
 use ebpf_object_file::source::lines_of;
 use std::alloc::{AllocError, Global};
 use std::io::{Read, Write};
@@ -67,7 +66,7 @@ fn explain_unread(
     ensures { IfOk result (ExplainsUnread format listed fault function.entry context.now held) }
 {
     if listed {
-        answer_object_fault(alloc, format, ObjectFault::File(fault))
+        answer_file_fault(alloc, format, fault)
     } else {
         explain_input(alloc, format, Form::Raw, function.code, context, held, None)
     }
@@ -109,7 +108,7 @@ fn explain_file(
     }
     match wanted_function(file, name.as_bytes()) {
         Ok(function) => explain_function(alloc, format, file, function, context, held, listed),
-        Err(fault) => answer_object_fault(alloc, format, fault),
+        Err(fault) => answer_object_fault(alloc, format, file, fault),
     }
 }
 

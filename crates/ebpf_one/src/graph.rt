@@ -99,7 +99,7 @@ fn graph_of_file(
 {
     match taken(function, file) {
         Ok(bytes) => graph_input(alloc, Form::Raw, bytes, context, held, states),
-        Err(fault) => answer_object_fault(alloc, Format::Text, fault),
+        Err(fault) => answer_object_fault(alloc, Format::Text, file, fault),
     }
 }
 

@@ -1,16 +1,20 @@
 //! The slots of a function of an object file, or why there are none.
 
-ghost use Rattle.std.specs.Prelude.{◌≡◌, IfOk, IfErr, string_bytes};
+ghost use Rattle.std.specs.Prelude.{◌≡◌, ◌++◌, ℕ, List, IfOk, IfErr, OnOk, string_bytes};
+ghost use Rattle.ebpf_object_file.specs.declared.object_fault.ObjectFault.TheVariants as ObjectFault;
 ghost use Rattle.ebpf_command.specs.Response.{refused_response};
-ghost use Rattle.ebpf_one.specs.ObjectText.{IsTaken, IsTakenFault, object_fault_lines};
+ghost use Rattle.ebpf_one.specs.ObjectText.{IsTaken, IsTakenFault, IsUnder, RespondsFault, object_fault_lines};
 
+use crate::sourced::write_place;
 use ebpf_command::answer::Answer;
 use ebpf_command::done::Done;
 use ebpf_command::format::Format;
 use ebpf_command::input::MAX_INPUT;
 use ebpf_command::json::write_why;
+use ebpf_object_file::fault::FileFault;
 use ebpf_object_file::function::wanted_function;
 use ebpf_object_file::object_fault::ObjectFault;
+use ebpf_object_file::source::lines_of;
 use std::alloc::{AllocError, Global};
 
 /// The slots of the function that is asked for, as bytes. A file with more bytes than an input may have is given back as it is, since
@@ -31,18 +35,57 @@ pub(crate) fn taken<'a>(name: &str, file: &'a [u8]) -> Result<&'a [u8], ObjectFa
     }
 }
 
-/// The answer where there are none: the line of the fault, and its sentence. It fails only where an allocation fails.
+/// The answer where there are none: the line of the fault, its sentence and, of a slot that needs another part of the file, the line of C
+/// that holds there. It fails only where an allocation fails.
 pub(crate) fn answer_object_fault(
     alloc: Global,
     format: Format,
+    file: &[u8],
     fault: ObjectFault<'_>,
 ) -> Result<Answer, AllocError>
-    ensures { IfOk result (λ answer. answer ≡ refused_response (object_fault_lines format fault.entry)) }
+    ensures { IfOk result (RespondsFault format file.now fault.entry) }
 {
+    let mut text = object_fault_text(alloc, format, fault)?;
+    write_under(format, &mut text, file, fault)?;
     Ok(Answer {
-        text: object_fault_text(alloc, format, fault)?,
+        text,
         done: Done::Refused,
     })
+}
+
+/// The answer to a file of which a part can't be read: the line of the fault, and its sentence. It fails only where an allocation fails.
+pub(crate) fn answer_file_fault(
+    alloc: Global,
+    format: Format,
+    fault: FileFault,
+) -> Result<Answer, AllocError>
+    ensures { IfOk result (λ answer. answer ≡ refused_response (object_fault_lines format (ObjectFault.File fault))) }
+{
+    Ok(Answer {
+        text: object_fault_text(alloc, format, ObjectFault::File(fault))?,
+        done: Done::Refused,
+    })
+}
+
+// The line of C under the sentence of a slot, where the file has lines that can be read.
+fn write_under(
+    format: Format,
+    text: &mut String,
+    file: &[u8],
+    fault: ObjectFault<'_>,
+) -> Result<(), AllocError>
+    ensures { OnOk result ((under : List ℕ) × IsUnder format file.now fault.entry under × (string_bytes text.new ≡ string_bytes text.old ++ under)) }
+{
+    let ObjectFault::Outside(outside) = fault else {
+        return Ok(());
+    };
+    match lines_of(file, outside.place.section) {
+        Ok(Some(lines)) => {
+            let line = lines.at(outside.place.from, outside.at);
+            write_place(format, text, lines, line)
+        }
+        Ok(None) | Err(_) => Ok(()),
+    }
 }
 
 // The line of the fault, and its sentence.

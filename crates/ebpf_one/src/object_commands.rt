@@ -59,7 +59,7 @@ fn one_of(
 {
     match taken(function, file) {
         Ok(bytes) => answer_input(alloc, format, Form::Raw, bytes, context, held, nulls),
-        Err(fault) => answer_object_fault(alloc, format, fault),
+        Err(fault) => answer_object_fault(alloc, format, file, fault),
     }
 }
 
@@ -91,7 +91,7 @@ fn list_of(alloc: Global, format: Format, file: &[u8], function: &str) -> Result
 {
     match taken(function, file) {
         Ok(bytes) => list_input(alloc, format, Form::Raw, bytes),
-        Err(fault) => answer_object_fault(alloc, format, fault),
+        Err(fault) => answer_object_fault(alloc, format, file, fault),
     }
 }
 
@@ -128,6 +128,6 @@ fn lay_out_of(
 {
     match taken(function, file) {
         Ok(bytes) => lay_out_input(alloc, format, Form::Raw, bytes),
-        Err(fault) => answer_object_fault(alloc, format, fault),
+        Err(fault) => answer_object_fault(alloc, format, file, fault),
     }
 }

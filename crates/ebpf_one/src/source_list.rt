@@ -16,7 +16,7 @@ use crate::form::Form;
 use crate::in_format::answer_refused;
 use crate::json_text::write_object_at;
 use crate::list::list_input;
-use crate::object::answer_object_fault;
+use crate::object::{answer_file_fault, answer_object_fault};
 use crate::sourced::{held_at, held_before, write_heading};
 use ebpf_command::answer::{Answer, respond};
 use ebpf_command::codes::RefusalCode;
@@ -28,7 +28,6 @@ use ebpf_insn::fault::DecodeFault;
 use ebpf_insn::program::Program;
 use ebpf_object_file::function::{Function, wanted_function};
 use ebpf_object_file::lines::{Line, Lines};
-use ebpf_object_file::object_fault::ObjectFault;
 use ebpf_object_file::source::lines_of;
 use ebpf_text::line::line;
 use std::alloc::{AllocError, Global};
@@ -138,7 +137,7 @@ fn source_function(
         Ok(Some(lines)) => {
             source_bytes(alloc, format, function.code, lines, function.place.from)
         }
-        Err(fault) => answer_object_fault(alloc, format, ObjectFault::File(fault)),
+        Err(fault) => answer_file_fault(alloc, format, fault),
     }
 }
 
@@ -156,7 +155,7 @@ fn source_input(
     }
     match wanted_function(file, name.as_bytes()) {
         Ok(function) => source_function(alloc, format, file, function),
-        Err(fault) => answer_object_fault(alloc, format, fault),
+        Err(fault) => answer_object_fault(alloc, format, file, fault),
     }
 }
 

@@ -160,8 +160,8 @@ pub(crate) fn write_listed(
     }
 }
 
-// Writes a line with its column, where there is one.
-fn write_place(
+/// Writes a line with its column, where there is one. It fails only where an allocation fails.
+pub(crate) fn write_place(
     format: Format,
     text: &mut String,
     lines: Lines<'_>,
