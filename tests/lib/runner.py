@@ -4,10 +4,11 @@
     ./test program      the tests of the built program: some three minutes
     ./test NAME..       these tests
     ./test --list       what each test does
+    ./test --help       this text
 
-What the tests need is looked for first. What is missing is installed where that can be done, as root on Debian and its kin; where it can't, the
-command that installs it is written, and nothing runs unless all tests can do without it. The status is 0 where every test passed, 1 where one
-failed, and 2 where something is missing or the command line can't be read.
+What the tests need is looked for first. What is missing is installed if that can be done, as root on Debian and its kin; if it can't, the
+command that installs it is written, and nothing runs unless all tests can do without it. A test that has run for a minute is named, with what it
+does. The status is 0 if every test passed, 1 if one failed, and 2 if something is missing or the command line can't be read.
 """
 
 import os
@@ -15,6 +16,7 @@ import re
 import shutil
 import subprocess
 import sys
+import threading
 import time
 from pathlib import Path
 from typing import NamedTuple
@@ -22,6 +24,7 @@ from typing import NamedTuple
 TOP = Path(__file__).resolve().parents[2]
 NEEDED = {'gcc', 'g++', 'valgrind'}
 USEFUL = {'jq', 'parallel', 'perl', 'pkg-config', 'man', 'bwrap', 'dh', 'lintian', 'dot'}  # what needs it is left out where it isn't there
+LONG = 60  # seconds after which a test is named that is still running
 PACKAGES = {'man': 'man-db', 'bwrap': 'bubblewrap', 'dh': 'debhelper', 'dot': 'graphviz'}  # of Debian; each other has the tool's name
 
 
@@ -99,7 +102,7 @@ def has_tools():
 def has_toolchain():
     """Whether the toolchain is there, and one whose words the tests know."""
     if not shutil.which('rt'):
-        print('test: there is no rt: README.md says where the toolchain comes from', file=sys.stderr)
+        print('test: there is no rt: README.md says how to get the toolchain', file=sys.stderr)
         return False
     sys.path.insert(0, str(TOP / 'tools'))
     import kit  # pylint: disable=import-outside-toplevel
@@ -111,10 +114,14 @@ def has_toolchain():
 def passes(test):
     """Whether a test passes. One that doesn't is named, with the way to run it alone."""
     began = time.monotonic()
+    reminder = threading.Timer(LONG, print, [f'test: {test.name} is still running: {about(test)}'], {'flush': True})
+    reminder.daemon = True
+    reminder.start()
     status = subprocess.run(test.words, cwd=TOP, stdin=subprocess.DEVNULL, check=False).returncode
+    reminder.cancel()
     if status:
         print(f'test: {test.name} failed with status {status}; alone it is run by: ./test {test.name}', file=sys.stderr)
-    elif time.monotonic() - began > 60:
+    elif time.monotonic() - began > LONG:
         print(f'test: {test.name} took {(time.monotonic() - began) / 60:.0f} minutes', flush=True)
     return status == 0
 
@@ -130,6 +137,9 @@ def chosen(names):
 
 def main(names):
     sys.dont_write_bytecode = True
+    if names == ['--help']:
+        print(__doc__.strip())
+        return 0
     if names == ['--list']:
         for test in TESTS:
             print(f'{test.name:<17}{about(test)}')
