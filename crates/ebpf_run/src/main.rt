@@ -24,6 +24,7 @@ use clap::Error;
 use clap::error::ErrorKind;
 use ebpf_assemble::assemble::assemble;
 use ebpf_command::done::{Done, EngineFault};
+use ebpf_command::input::MAX_INPUT;
 use ebpf_script::check_script::check_script;
 use ebpf_script::explained_check::explained_check;
 use ebpf_script::meter::{Meter, NoMeter};
@@ -45,6 +46,9 @@ const FAILED: u8 = 1;
 
 // The command line can't be read, or asks for nothing that there is.
 const MISTAKEN: u8 = 2;
+
+// What is read of a script that is too long: one byte more than one may have.
+const MOST_READ: u64 = MAX_INPUT as u64 + 1;
 
 fn main(rt: HostRuntime) -> ExitCode {
     match run(&rt) {
@@ -120,7 +124,7 @@ fn perform<R: AllocGlobal + Clock + Eprint + Input + Print + Threads + Wait + Sy
         Task::Assemble => assemble(alloc, reader, &mut writer),
         Task::Check(options) => perform_check(alloc, reader, &mut writer, options),
         Task::Replay(format) => replay_script(alloc, reader, &mut writer, format),
-        Task::Run(options) => run_jobs(rt, reader, &mut writer, options),
+        Task::Run(options) => run_or_advise(rt, reader, &mut writer, options),
         Task::Stream(format) => stream(alloc, reader, &mut rt.reader(), &mut writer, format),
     }?;
     Ok(match done {
@@ -142,6 +146,24 @@ fn perform_check<I: Read, W: Write>(
     } else {
         check_script(alloc, reader, writer, format)
     }
+}
+
+// Does the jobs of a script. If it is refused because it is too long (S1), prints what takes such a script.
+fn run_or_advise<R: AllocGlobal + Clock + Eprint + Threads + Wait + Sync, I: Read, W: Write>(
+    rt: &R,
+    reader: &mut I,
+    writer: &mut W,
+    options: RunOptions,
+) -> Result<Done, EngineFault> {
+    let mut input = reader.take(MOST_READ);
+    let done = run_jobs(rt, &mut input, writer, options)?;
+    if input.limit() == 0 {
+        // The text is written; nobody is left to tell where standard error is closed.
+        let _ = eprintln!(rt;
+            "ebpf_run: the script has more than {MAX_INPUT} bytes: run-many cuts such a script, and runs the parts"
+        );
+    }
+    Ok(done)
 }
 
 // Does the jobs of a script, and prints what the caches and the workers did where that is asked for.
