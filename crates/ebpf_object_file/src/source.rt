@@ -74,6 +74,8 @@ fn lines_in<'a>(btf: &'a [u8], ext: &'a [u8], name: &[u8]) -> Result<Option<Line
 pub fn lines_of(file: &[u8], section: u16) -> Result<Option<Lines<'_>>, FileFault>
     ensures found { IfOk result (λ r. MatchOption r (HasNoLinesOf file.now section) (λ l. AreLinesOf file.now section l)) }
     ensures refused { IfErr result (λ e. IsLinesOfFault file.now section e) }
+    // A file that can't be read, or that has no such section, is a fault.
+    ensures there { IfOk result (λ r. IsOpen file.now × (section < sections_in file.now)) }
 {
     let header = match open(file) {
         Ok(header) => header,
