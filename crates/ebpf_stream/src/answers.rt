@@ -1,9 +1,9 @@
 //! The answers to the lines of a stream.
 
-ghost use Rattle.std.specs.Prelude.{◌≡◌, ◌≢◌, ◌+◌, ◌++◌, ℕ, List, None, Some, length, map, slice_get, string_bytes, IfOk, OnOk, OnErr, IfErr, true};
+ghost use Rattle.std.specs.Prelude.{◌≡◌, ◌≢◌, ◌⊎◌, ◌≤◌, ◌^◌, ◌+◌, ◌++◌, ℕ, List, None, Some, length, map, slice_get, string_bytes, IfOk, OnOk, OnErr, IfErr, true};
 ghost use Rattle.ebpf_host.specs.Stocks.{stock_of};
 ghost use Rattle.ebpf_command.specs.Json.{fault_in};
-ghost use Rattle.ebpf_command.specs.declared.done.EngineFault.TheVariants.{Output};
+ghost use Rattle.ebpf_command.specs.declared.done.EngineFault.TheVariants.{Input, Output};
 ghost use Rattle.ebpf_script.specs.ReadScripts.{parsed_script};
 ghost use Rattle.ebpf_stream.specs.Answering.{IsAnswered, IsDone, position_of, report_in, start};
 ghost use Rattle.ebpf_stream.specs.Feeding.{set_up};
@@ -66,7 +66,7 @@ impl Answers {
     /// Answers a line.
     ///
     /// # Errors
-    /// `NoMemory` where an allocation failed; `Input` where the line's number would be 2^64. It is not answered then.
+    /// `NoMemory` if an allocation failed; `Input` if the line's number, or its job's, would be 2^64. The line is not answered then.
     pub(crate) fn answer(
         &mut self,
         alloc: Global,
@@ -76,6 +76,8 @@ impl Answers {
         ensures answered { OnOk result ((here : List ℕ) × IsAnswered (set_up setup.now) line.now (position_of self.old) (position_of self.new) here × (string_bytes self.new.text ≡ string_bytes self.old.text ++ here)) }
         ensures text { OnErr result (string_bytes self.new.text ≡ string_bytes self.old.text) }
         ensures fault { IfErr result (λ fault. fault ≢ Output) }
+        // Only a number that can't be counted ends a stream so.
+        ensures due { IfErr result (λ fault. fault ≡ Input → (2 ^ 64 ≤ self.old.place.lines + 1) ⊎ (2 ^ 64 ≤ self.old.place.jobs + 1)) }
     {
         let Some(lines) = self.place.lines.checked_add(1) else {
             return Err(EngineFault::Input);
@@ -121,6 +123,7 @@ impl Answers {
         ensures done { OnOk result ((here : List ℕ) × IsDone (set_up setup.now) (Some job.now) (position_of self.old) (position_of self.new) here × (string_bytes self.new.text ≡ string_bytes self.old.text ++ here)) }
         ensures text { OnErr result (string_bytes self.new.text ≡ string_bytes self.old.text) }
         ensures fault { IfErr result (λ fault. fault ≢ Output) }
+        ensures due { IfErr result (λ fault. fault ≡ Input → 2 ^ 64 ≤ self.old.place.jobs + 1) }
     {
         let Some(jobs) = self.place.jobs.checked_add(1) else {
             return Err(EngineFault::Input);
