@@ -2,7 +2,7 @@
 use Rattle.ebpf_shelves.specs.declared.object.Object.{Object}
 use Rattle.ebpf_machine.specs.Kinds.{known_kinds}
 use Rattle.ebpf_machine.specs.Store.{Store}
-use Rattle.ebpf_one.specs.Store.{IsOut, out_of_kind}
+use Rattle.ebpf_shelves.specs.Store.{IsOut, out_of_kind}
 use Rattle.ebpf_cover.specs.declared.replaying.Replaying.{Replaying}
 
 abbrev pub answering : Store Replaying Object

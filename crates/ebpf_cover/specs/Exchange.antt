@@ -2,8 +2,8 @@
 use Rattle.std.specs.Prelude.{◌≡◌, ◌≢◌, ◌+◌, ℕ, List, Option, IfSome}
 use Rattle.ebpf_shelves.specs.declared.object.Object.{Object}
 use Rattle.ebpf_machine.specs.Store.{one_of}
-use Rattle.ebpf_one.specs.declared.store.Entry.{Entry}
-use Rattle.ebpf_one.specs.Store.{IsOut, out_of_kind}
+use Rattle.ebpf_shelves.specs.declared.store.Entry.{Entry}
+use Rattle.ebpf_shelves.specs.Store.{IsOut, out_of_kind}
 
 -- what is got, if it is an object, is out from then on, in a slot of its own; what is given is no longer out; all else stays out
 pub record IsExchange (given got : Option Object) (shelf : ℕ) (old new : List Entry) : Type 0 where

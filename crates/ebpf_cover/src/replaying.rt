@@ -3,13 +3,13 @@
 ghost use Rattle.std.specs.Prelude.{◌≡◌, ◌<◌, None, length, IfSome};
 ghost use Rattle.ebpf_insn.specs.declared.program.TheConstants.{MAX_SLOTS};
 ghost use Rattle.ebpf_machine.specs.Kinds.{known_kinds};
-ghost use Rattle.ebpf_one.specs.Store.{IsOut, out_of_kind};
+ghost use Rattle.ebpf_shelves.specs.Store.{IsOut, out_of_kind};
 ghost use Rattle.ebpf_cover.specs.Exchange.{IsExchange};
 
 use ebpf_machine::objects::Objects;
 use ebpf_machine::report::Reply;
-use ebpf_one::store::Store;
 use ebpf_shelves::object::Object;
+use ebpf_shelves::store::Store;
 use std::alloc::Global;
 
 /// A store for one run. The call of number n is answered as the reply of number n says, while memory lasts: a call of `new` is granted
@@ -76,7 +76,7 @@ impl<'r> Replaying<'r> {
 impl<'r> Objects for Replaying<'r> {
     ghost use Rattle.std.specs.Prelude.{◌≡◌, ◌<◌, ◌+◌, length, IfSome, IfNone};
     ghost use Rattle.ebpf_machine.specs.Kinds.{known_kinds};
-    ghost use Rattle.ebpf_one.specs.Store.{IsOut, out_of_kind};
+    ghost use Rattle.ebpf_shelves.specs.Store.{IsOut, out_of_kind};
     ghost use Rattle.ebpf_insn.specs.declared.program.TheConstants.{MAX_SLOTS};
     ghost use Rattle.ebpf_cover.specs.Answering.{answering};
     ghost use Rattle.ebpf_cover.specs.Exchange.{IsExchange};

@@ -2,9 +2,9 @@
 //!
 //! What each writes is a function of what it reads and of its options, errors included, and it writes nothing else: that is the contract of
 //! [`one::one`], of [`list::list`] and of [`explain::explain`], which rest on the contracts of the crates below. This crate adds what they
-//! ask for, the lines of their texts, and the store of objects of a single run.
+//! ask for and the lines of their texts.
 //!
-//! To be read in this order: `form`, `program_text`, `request`, `store`, `alone`, `text`, `json_text`, `in_format`, `answer`, `one`,
+//! To be read in this order: `form`, `program_text`, `request`, `alone`, `text`, `json_text`, `in_format`, `answer`, `one`,
 //! `list`, `input_faults`, `explain_json`, `sourced`, `explain`, `lay_out`, `object`, `object_commands`, `source_list`, `explain_object`,
 //! `graph`.
 #![tactic(auto)]
@@ -28,5 +28,4 @@ mod program_text;
 mod request;
 pub mod source_list;
 mod sourced;
-pub mod store;
 mod text;

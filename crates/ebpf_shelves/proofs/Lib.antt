@@ -1,1 +1,4 @@
 pub mod Shelving
+pub mod Slots
+pub mod Granting
+pub mod Standing

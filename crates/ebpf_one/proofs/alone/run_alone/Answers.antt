@@ -1,7 +1,7 @@
 use Rattle.std.proofs.Common.{[], sym, ◌∙◌, arith}
 use Rattle.ebpf_machine.proofs.WholeRuns.Starts.{starts}
-use Rattle.ebpf_one.specs.Going.{granting, told_on}
-use Rattle.ebpf_one.proofs.Granting.{IsFine, fine_before, fine_last, next_slot}
+use Rattle.ebpf_shelves.specs.Going.{granting, told_on}
+use Rattle.ebpf_shelves.proofs.Granting.{IsFine, fine_before, fine_last, next_slot}
 use Rattle.ebpf_one.proofs.Solo.{report_solo, starts_alone}
 use Rattle.ebpf_one.proofs.alone.run_alone.Goals as goal
 

@@ -6,8 +6,8 @@ use Rattle.ebpf_machine.specs.declared.report.Reply.{Reply}
 use Rattle.ebpf_machine.specs.declared.report.Reply.TheVariants as reply
 use Rattle.ebpf_machine.specs.Whole.{granted, refused}
 use Rattle.ebpf_machine.specs.Store.{reply_to_swap}
-use Rattle.ebpf_one.specs.declared.store.Entry.{Entry}
-use Rattle.ebpf_one.specs.Going.{Granting, GoesBy, granting}
+use Rattle.ebpf_shelves.specs.declared.store.Entry.{Entry}
+use Rattle.ebpf_shelves.specs.Going.{Granting, GoesBy, granting}
 
 -- a call of new that was granted a slot
 pub granted_goes : {H : Type 0} (nulls short nulls' short' : Bool) (table table' : List Entry) (entry : Entry) (object : H)

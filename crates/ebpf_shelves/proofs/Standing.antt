@@ -9,9 +9,9 @@ use Rattle.ebpf_machine.proofs.Lists.ListLemmas.{get_push, get_set_other}
 use Rattle.ebpf_shelves.specs.declared.object.Object.{Object}
 use Rattle.ebpf_shelves.specs.Shelves.{FitsOn, IsExchanged, IsOff, on_shelf}
 use Rattle.ebpf_shelves.proofs.Shelving.{away_from, away_of, in_some, some_by}
-use Rattle.ebpf_one.specs.declared.store.Entry.{Entry}
-use Rattle.ebpf_one.specs.Store.{AreStanding, IsOut, marked, out_of_kind}
-use Rattle.ebpf_one.proofs.Slots.{flag_in, given_counted, got_counted, marked_other, marked_same}
+use Rattle.ebpf_shelves.specs.declared.store.Entry.{Entry}
+use Rattle.ebpf_shelves.specs.Store.{AreStanding, IsOut, marked, out_of_kind}
+use Rattle.ebpf_shelves.proofs.Slots.{flag_in, given_counted, got_counted, marked_other, marked_same}
 
 -- what is on a shelf, by the table
 abbrev Stands : List Entry → (shelf slot : ℕ) → Type 0

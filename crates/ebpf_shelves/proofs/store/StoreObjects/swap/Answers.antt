@@ -1,10 +1,10 @@
 use Rattle.std.proofs.Common.{List, true, length, ap, ◌∙◌, sym, subst}
 use Rattle.std.specs.Prelude.{IfSome, ◌<◌}
-use Rattle.ebpf_one.specs.declared.store.Entry.{Entry}
-use Rattle.ebpf_one.proofs.Shelving.{IsSwapped, given_off, got_inside, swapped}
-use Rattle.ebpf_one.specs.Store.{marked}
-use Rattle.ebpf_one.proofs.store.StoreObjects.swap.Goals.{After-mark-2}
-use Rattle.ebpf_one.proofs.store.StoreObjects.swap.Goals as goal
+use Rattle.ebpf_shelves.specs.declared.store.Entry.{Entry}
+use Rattle.ebpf_shelves.proofs.Standing.{IsSwapped, given_off, got_inside, swapped}
+use Rattle.ebpf_shelves.specs.Store.{marked}
+use Rattle.ebpf_shelves.proofs.store.StoreObjects.swap.Goals.{After-mark-2}
+use Rattle.ebpf_shelves.proofs.store.StoreObjects.swap.Goals as goal
 
 pub exchange-got-requires-clause-apart : goal.exchange-got-requires-clause-apart
 exchange-got-requires-clause-apart c = let s = c.args.self.now in given_off s.table.items s.shelves c.args.shelf c.args.given s.standing c.requires.given

@@ -1,7 +1,7 @@
 use Rattle.std.proofs.Common.{refl}
-use Rattle.ebpf_one.proofs.Granting.{granted_goes}
-use Rattle.ebpf_one.proofs.Slots.{granted_out, granted_apart, granted_others, granted_counted}
-use Rattle.ebpf_one.proofs.store.StoreObjects.take.Goals as goal
+use Rattle.ebpf_shelves.proofs.Granting.{granted_goes}
+use Rattle.ebpf_shelves.proofs.Slots.{granted_out, granted_apart, granted_others, granted_counted}
+use Rattle.ebpf_shelves.proofs.store.StoreObjects.take.Goals as goal
 
 pub returns-in-Some-clause-out : goal.returns-in-Some-clause-out
 returns-in-Some-clause-out c = let granted = c.in-Some.ensures in

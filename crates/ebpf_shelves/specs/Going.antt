@@ -4,7 +4,7 @@ use Rattle.std.proofs.Common.{cond, refl, sym, ap, ◌∙◌, add_assoc, add-zer
 use Rattle.std.proofs.lemmas.List.Sums.{sum_by-append}
 use Rattle.ebpf_machine.specs.declared.report.Reply.{Reply}
 use Rattle.ebpf_machine.specs.Whole.{granted, refused, is_granted, is_null}
-use Rattle.ebpf_one.specs.declared.store.Entry.{Entry}
+use Rattle.ebpf_shelves.specs.declared.store.Entry.{Entry}
 
 -- what is compared of a store: whether it answers calls of new null, whether memory ran out, and how many slots it granted
 pub record Granting : Type 0 where

@@ -1,5 +1,5 @@
-use Rattle.ebpf_one.proofs.Shelving.{stands_granted}
-use Rattle.ebpf_one.proofs.store.Store.grant.Goals as goal
+use Rattle.ebpf_shelves.proofs.Standing.{stands_granted}
+use Rattle.ebpf_shelves.proofs.store.Store.grant.Goals as goal
 
 pub invariant_of-self : goal.invariant_of-self
 invariant_of-self c =

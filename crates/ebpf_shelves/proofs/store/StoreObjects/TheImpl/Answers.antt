@@ -1,9 +1,9 @@
 -- An exchange keeps the laws of swap.
 use Rattle.std.proofs.Common.{refl}
 use Rattle.ebpf_shelves.proofs.Shelving.{fetched, missed, left, left_elsewhere}
-use Rattle.ebpf_one.proofs.Granting.{swapped_goes}
-use Rattle.ebpf_one.proofs.Shelving.{swapped}
-use Rattle.ebpf_one.proofs.store.StoreObjects.TheImpl.Goals as goal
+use Rattle.ebpf_shelves.proofs.Granting.{swapped_goes}
+use Rattle.ebpf_shelves.proofs.Standing.{swapped}
+use Rattle.ebpf_shelves.proofs.store.StoreObjects.TheImpl.Goals as goal
 
 pub swap-tells : goal.swap-tells
 swap-tells c =

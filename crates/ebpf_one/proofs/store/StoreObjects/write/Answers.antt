@@ -1,5 +1,0 @@
-use Rattle.ebpf_one.specs.Going.{none_told}
-use Rattle.ebpf_one.proofs.store.StoreObjects.write.Goals as goal
-
-pub returns-clause-goes : goal.returns-clause-goes
-returns-clause-goes c = none_told _
