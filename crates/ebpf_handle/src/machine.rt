@@ -1,6 +1,7 @@
 //! What C keeps of a machine.
 
 ghost use Rattle.std.specs.Prelude.{◌≡◌, Option, Some, None};
+ghost use Rattle.std.specs.Borrow.{sem};
 ghost use Rattle.std.specs.Option.{MatchOption};
 ghost use Rattle.ebpf_handle.specs.Ownership.{held};
 ghost use Rattle.ebpf_host.specs.declared.machine.Machine.{Machine};
@@ -28,6 +29,8 @@ impl Model for MachineHandle {
 unsafe impl Send for MachineHandle {}
 
 impl MachineHandle {
+    ghost use Rattle.ebpf_handle.specs.Lending.{MachineLends};
+
     fn of_held(from: Held<Machine>) -> MachineHandle
         ensures { result.value ≡ from.value }
     {
@@ -42,6 +45,18 @@ impl MachineHandle {
         Held {
             at: at as *mut Machine,
         }
+    }
+
+    /// Lends what it holds, if anything. The handle's word stays as it is.
+    pub fn get_mut(&mut self) -> Option<&mut Machine>
+        ensures* writes_back { sem 𝓛 (MachineLends self.entry result) }
+        ensures held { MatchOption result (self.old.value ≡ None) (λ m. self.old.value ≡ Some m.now) }
+    {
+        let at = self.at as *mut Machine;
+        if at.is_null() {
+            return None;
+        }
+        Some(unsafe { &mut *at })
     }
 
     /// Takes the box out, and leaves the handle empty.

@@ -1,6 +1,7 @@
 //! What C keeps of a program.
 
 ghost use Rattle.std.specs.Prelude.{◌≡◌, Option, Some, None};
+ghost use Rattle.std.specs.Borrow.{sem};
 ghost use Rattle.std.specs.Option.{MatchOption};
 ghost use Rattle.std.specs.declared.alloc.Global.{Global};
 ghost use Rattle.std.specs.declared.sync.Arc.{Arc};
@@ -31,6 +32,8 @@ impl Model for ProgramHandle {
 unsafe impl Send for ProgramHandle {}
 
 impl ProgramHandle {
+    ghost use Rattle.ebpf_handle.specs.Lending.{ProgramLends};
+
     fn of_held(from: Held<Arc<Program>>) -> ProgramHandle
         ensures { result.value ≡ from.value }
     {
@@ -45,6 +48,18 @@ impl ProgramHandle {
         Held {
             at: at as *mut Arc<Program>,
         }
+    }
+
+    /// Lends what it holds, if anything. The handle's word stays as it is.
+    pub fn get_mut(&mut self) -> Option<&mut Arc<Program>>
+        ensures* writes_back { sem 𝓛 (ProgramLends self.entry result) }
+        ensures held { MatchOption result (self.old.value ≡ None) (λ p. self.old.value ≡ Some p.now) }
+    {
+        let at = self.at as *mut Arc<Program>;
+        if at.is_null() {
+            return None;
+        }
+        Some(unsafe { &mut *at })
     }
 
     /// Takes the box out, and leaves the handle empty.
