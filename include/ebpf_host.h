@@ -6,14 +6,16 @@
  *
  * Handles. A handle is a struct of one word. Set it to zero before its first call ("ebpf_program p = {0};"), pass it by address, never
  * copy it, and free it at the end. An empty handle may be passed to every function: the call returns EBPF_EMPTY, and freeing it does
- * nothing. A call that fails leaves a handle as it was.
+ * nothing. A call that fails leaves a handle as it was, and writes nothing else: what a report, an output, a text or a refusal points to
+ * is as it was before, but for a refusal and its text where the call returns EBPF_REFUSED.
  *
  * Pointers. A pointer with a length has to point to that many items, which nothing else touches during the call; with length 0 it may be
  * null. No two of the pointers of one call may overlap, but for two that are only read.
  *
- * Threads. Nothing here starts a thread, takes a lock or keeps a global. A handle is used by one thread, which may differ from call to
- * call where something orders the calls (a lock, a join). Threads that run at the same time have handles of their own: a machine each,
- * and by ebpf_program_share a handle each of one program.
+ * Threads. Nothing here starts a thread, takes a lock or keeps a global. A handle is used by one thread at a time, which may differ from
+ * call to call where something orders the calls (a lock, a join). Threads that run at the same time have handles of their own: a machine
+ * each, and by ebpf_program_share a handle each of one program. ebpf_machine_run writes the word of no handle, so the handles of several
+ * threads may lie side by side, as in an array: only loads, shares into a handle, ebpf_machine_new and frees write a word.
  *
  * Memory comes from malloc, realloc and free. Where there is none, the call answers EBPF_NO_MEMORY. Not to be called from a signal
  * handler, nor between fork and exec in a process with threads. */
@@ -70,7 +72,7 @@ typedef struct ebpf_machine { void *word; } ebpf_machine;
 typedef struct ebpf_refusal {
     char code[4];    /* the code, as "V8" or "O1", followed by zeros */
     uint32_t slot;   /* the lowest slot of eight bytes that is at fault, 0 for O1 to O3 */
-    uint64_t length; /* how many bytes the sentence has */
+    uint64_t length; /* how many bytes the sentence has, without the zero that ends it */
 } ebpf_refusal;
 
 /* What a run did. */
@@ -90,22 +92,22 @@ typedef struct ebpf_report {
  * bytes, 0 to 4096, and may hold at most `held` objects at one time, 0 to 64. What the handle held before is freed.
  *
  * EBPF_REFUSED: the bytes are refused; *refusal says by which code and where, and text begins with a sentence that says why, a line
- * indented by two blanks, as far as text_length bytes have room; no zero ends it. 1,024 bytes are mostly enough. EBPF_DECLARATION,
- * EBPF_NO_MEMORY. */
-ebpf_status ebpf_program_load(ebpf_program *program, const uint8_t *bytes, size_t length, uint32_t context, uint8_t held,
+ * indented by two blanks, and a zero, as far as text_length bytes have room: where refusal->length < text_length, text may be printed
+ * by %s. 1,024 bytes are mostly enough. EBPF_DECLARATION: context or held is too large. EBPF_NO_MEMORY. */
+ebpf_status ebpf_program_load(ebpf_program *program, const uint8_t *bytes, size_t length, uint32_t context, uint32_t held,
                               char *text, size_t text_length, ebpf_refusal *refusal);
 
 /* Loads a function of an object file that a compiler made (clang -target bpfel -c), whose bytes are given: the function of that name, or
  * the file's only function where name_length is 0. Its slots are loaded as by ebpf_program_load.
  *
- * EBPF_REFUSED also where the file has no such program, with the code O1 where the file can't be read, O2 where no function has the name, O3
- * where no name is given and there are several functions, and O4 where a slot needs another part of the file. The file is judged before
- * the declaration. */
+ * EBPF_REFUSED also where the file has no such program, with the code O1 where the file can't be read, or the name is too long (more than
+ * 255 bytes), O2 where no function has the name, O3 where no name is given and there are several functions, and O4 where a slot needs
+ * another part of the file. The file is judged before the declaration. */
 ebpf_status ebpf_program_load_elf(ebpf_program *program, const uint8_t *bytes, size_t length, const char *name, size_t name_length,
-                                  uint32_t context, uint8_t held, char *text, size_t text_length, ebpf_refusal *refusal);
+                                  uint32_t context, uint32_t held, char *text, size_t text_length, ebpf_refusal *refusal);
 
-/* Makes `other` a second handle of the same program, which is not verified again. What it held before is freed. Both handles are
- * written: neither may be in another call meanwhile, and the two must differ. EBPF_EMPTY: `program` holds nothing. EBPF_NO_MEMORY. */
+/* Makes `other` a second handle of the same program, which is not verified again. What it held before is freed. Neither handle may be in
+ * another call meanwhile, and the two must differ. EBPF_EMPTY: `program` holds nothing. EBPF_NO_MEMORY. */
 ebpf_status ebpf_program_share(ebpf_program *other, ebpf_program *program);
 
 /* Frees a handle, which is empty then, and with the last one its program. */
@@ -124,14 +126,19 @@ ebpf_status ebpf_machine_reap(ebpf_machine *machine);
 /* Runs a program on a context, limit instructions at most; no program does more than 4,096. A run that has not exited by then is given
  * up, which is not an error. Its numbers of output are written to output, as far as output_length of them have room; report->outputs says
  * how many there were. A call of new that finds no page or no memory is answered null, which is not an error. What the run leaves on a
- * shelf is there for the next run on the machine. EBPF_CONTEXT, EBPF_EMPTY, EBPF_NO_MEMORY: nothing was run. */
+ * shelf is there for the next run on the machine.
+ *
+ * CAUTION: A RUN THAT IS GIVEN UP TAKES WITH IT WHAT IT HAD TAKEN OFF A SHELF. The shelf is then empty, the object is given back, and its
+ * contents are lost. With a limit of at least the program's number of instructions (4,096 is always enough) no run is given up.
+ *
+ * EBPF_CONTEXT, EBPF_EMPTY, EBPF_NO_MEMORY: nothing was run, and output and report are as they were: test the status, not the report. */
 ebpf_status ebpf_machine_run(ebpf_machine *machine, ebpf_program *program, const uint8_t *context, size_t context_length,
                              uint64_t limit, uint64_t *output, size_t output_length, ebpf_report *report);
 
 /* The library's own functions take no null pointer. The names of those with a length mean these from here on, which pass one that isn't
  * null where the length is 0. A caller that doesn't compile this header, as from Python, has to do so itself. */
 static inline ebpf_status ebpf_program_load_or_null(ebpf_program *program, const uint8_t *bytes, size_t length, uint32_t context,
-                                                    uint8_t held, char *text, size_t text_length, ebpf_refusal *refusal) {
+                                                    uint32_t held, char *text, size_t text_length, ebpf_refusal *refusal) {
     uint8_t no_bytes = 0;
     char no_text = 0;
     return ebpf_program_load(program, bytes || length ? bytes : &no_bytes, length, context, held,
@@ -140,7 +147,7 @@ static inline ebpf_status ebpf_program_load_or_null(ebpf_program *program, const
 #define ebpf_program_load ebpf_program_load_or_null
 
 static inline ebpf_status ebpf_program_load_elf_or_null(ebpf_program *program, const uint8_t *bytes, size_t length, const char *name,
-                                                        size_t name_length, uint32_t context, uint8_t held, char *text, size_t text_length,
+                                                        size_t name_length, uint32_t context, uint32_t held, char *text, size_t text_length,
                                                         ebpf_refusal *refusal) {
     uint8_t no_bytes = 0;
     char no_text = 0;

@@ -43,16 +43,37 @@ static size_t bytes_of(const char *digits, uint8_t *bytes) {
     return length;
 }
 
-static ebpf_status load(const char *digits, uint32_t context, uint8_t held) {
+/* Fills what a call may write, so that a later look finds what it wrote. */
+static void mark(void) {
+    memset(text, 'x', sizeof text), memset(&refusal, 'x', sizeof refusal);
+    memset(output, 'x', sizeof output), memset(&report, 'x', sizeof report);
+}
+
+static int is_marked(const void *bytes, size_t length) {
+    for (size_t i = 0; i < length; i++)
+        if (((const char *)bytes)[i] != 'x') return 0;
+    return 1;
+}
+
+static ebpf_status load(const char *digits, uint32_t context, uint32_t held) {
     uint8_t bytes[512];
     size_t length = bytes_of(digits, bytes);
-    return ebpf_program_load(&program, bytes, length, context, held, text, sizeof text, &refusal);
+    mark();
+    ebpf_status status = ebpf_program_load(&program, bytes, length, context, held, text, sizeof text, &refusal);
+    /* only a refusal is told, and its sentence ends with a zero */
+    assert(status == EBPF_REFUSED ? strlen(text) == refusal.length : is_marked(text, sizeof text) && is_marked(&refusal, sizeof refusal));
+    return status;
 }
 
 static ebpf_status run(const char *context, uint64_t limit) {
     uint8_t bytes[16];
     size_t length = bytes_of(context, bytes);
-    return ebpf_machine_run(&machine, &program, bytes, length, limit, output, 4, &report);
+    void *words[] = {machine.word, program.word};
+    mark();
+    ebpf_status status = ebpf_machine_run(&machine, &program, bytes, length, limit, output, 4, &report);
+    assert(machine.word == words[0] && program.word == words[1]);
+    assert(status == EBPF_DONE || (is_marked(output, sizeof output) && is_marked(&report, sizeof report))); /* nothing was run */
+    return status;
 }
 
 /* takes a cell, reads back the 5 that it wrote there, and returns it; 0 where it gets none */
@@ -72,6 +93,7 @@ static void each_status(void) {
     assert(ebpf_machine_new(&machine, 1) == EBPF_DONE);
     assert(run("", 9) == EBPF_EMPTY);
     assert(load(READ, 4097, 0) == EBPF_DECLARATION && load(READ, 4, 65) == EBPF_DECLARATION);
+    assert(load(READ, 4, 256) == EBPF_DECLARATION && load(READ, 4, UINT32_MAX) == EBPF_DECLARATION); /* no number is cut */
     assert(load(READ, 3, 0) == EBPF_REFUSED);
     assert(!strcmp(refusal.code, "V8") && refusal.slot == 0 && refusal.length > 20);
     assert(!strncmp(text, "  slot 0 reads 4 bytes", 22));
@@ -124,7 +146,7 @@ static unsigned each_refusal(const char *path) {
     for (; fread(&row, sizeof row, 1, file) == 1; rows++) {
         assert(row.length <= sizeof bytes && fread(bytes, 1, row.length, file) == row.length);
         memset(&refusal, 0xff, sizeof refusal);
-        assert(ebpf_program_load(&program, bytes, row.length, row.context, (uint8_t)row.held, text, sizeof text, &refusal) == EBPF_REFUSED);
+        assert(ebpf_program_load(&program, bytes, row.length, row.context, row.held, text, sizeof text, &refusal) == EBPF_REFUSED);
         assert(!memcmp(refusal.code, row.code, 4) && refusal.slot == row.slot);
     }
     assert(feof(file) && !program.word);
@@ -132,13 +154,20 @@ static unsigned each_refusal(const char *path) {
     return rows;
 }
 
-/* a sentence is cut where there is no more room, and nothing after it is written */
+/* A sentence is cut where there is no more room, and nothing after it is written. Where it fits with a zero, that is written too. */
 static void a_short_text(void) {
     uint8_t bytes[16];
     size_t length = bytes_of(READ, bytes);
     char room[6] = "......";
     assert(ebpf_program_load(&program, bytes, length, 3, 0, room, 4, &refusal) == EBPF_REFUSED);
     assert(!memcmp(room, "  sl..", 6));
+    char fits[256];
+    size_t whole = (size_t)refusal.length;
+    for (size_t more = 0; more < 3; more++) {
+        memset(fits, 'x', sizeof fits);
+        assert(ebpf_program_load(&program, bytes, length, 3, 0, fits, whole + more, &refusal) == EBPF_REFUSED && refusal.length == whole);
+        assert(fits[whole - 1] == '\n' && fits[whole] == (more ? 0 : 'x') && fits[whole + 1] == 'x');
+    }
 }
 
 static uint8_t object[1 << 14];
@@ -152,9 +181,12 @@ static void read_object(const char *path) {
     fclose(file);
 }
 
-static ebpf_status load_function(const char *name, uint32_t context, uint8_t held) {
-    memset(&refusal, 0xff, sizeof refusal);
-    return ebpf_program_load_elf(&program, object, object_length, name, strlen(name), context, held, text, sizeof text, &refusal);
+static ebpf_status load_function(const char *name, uint32_t context, uint32_t held) {
+    mark();
+    size_t length = strlen(name);
+    ebpf_status status = ebpf_program_load_elf(&program, object, object_length, name, length, context, held, text, sizeof text, &refusal);
+    assert(status == EBPF_REFUSED ? strlen(text) == refusal.length : is_marked(text, sizeof text) && is_marked(&refusal, sizeof refusal));
+    return status;
 }
 
 /* whether a function is refused with a code, at a slot, with a line that begins so */
@@ -173,6 +205,9 @@ static void each_object(char **paths) {
     assert(load_function("checksum", 4097, 0) == EBPF_DECLARATION && load_function("checksum", 16, 65) == EBPF_DECLARATION);
     assert(refuses("", 16, "O3", 0, "  the file has more than one function: name one of checksum, largest\n"));
     assert(refuses("larges", 4097, "O2", 0, "  the file has no function of that name; it has checksum, largest\n"));
+    char longest[257];
+    memset(longest, 'n', 256), longest[256] = 0;
+    assert(refuses(longest, 16, "O1", 0, "  ") && refuses(longest + 1, 16, "O2", 0, "  "));
     assert(refuses("largest", 15, "V8", 7, "  slot 7 reads 4 bytes"));
     object_length = 63;
     assert(refuses("largest", 16, "O1", 0, "  the file has fewer than the 64 bytes of an ELF header\n"));

@@ -15,7 +15,7 @@ filter_bytes, packets = (open(path, "rb").read() for path in sys.argv[2:4])
 program, machine = ctypes.c_void_p(), ctypes.c_void_p()  # empty handles
 why, refusal, report, none = ctypes.create_string_buffer(1024), ctypes.create_string_buffer(16), Report(), (ctypes.c_uint64 * 1)()
 size = ctypes.c_size_t
-status = library.ebpf_program_load(ctypes.byref(program), filter_bytes, size(len(filter_bytes)), 24, ctypes.c_uint8(0), why, size(1024), refusal)
+status = library.ebpf_program_load(ctypes.byref(program), filter_bytes, size(len(filter_bytes)), 24, ctypes.c_uint32(0), why, size(1024), refusal)
 if status:
     sys.exit(why.value.decode() if status == 1 else f"status {status}")
 assert library.ebpf_machine_new(ctypes.byref(machine), 1) == 0

@@ -1,5 +1,5 @@
 -- What becomes of bytes that are loaded as a program.
-use Rattle.std.specs.Prelude.{◌≡◌, ◌<◌, ◌⊎◌, ℕ, List, string_bytes}
+use Rattle.std.specs.Prelude.{◌≡◌, ◌<◌, ◌≤◌, ◌⊎◌, ℕ, List, string_bytes}
 use Rattle.ebpf_state.specs.declared.kinds.KindRow.{KindRow}
 use Rattle.ebpf_state.specs.Kinds.{AreKinds}
 use Rattle.ebpf_verify.specs.declared.decl.Decl.{Decl}
@@ -34,8 +34,8 @@ pub record IsRefusedAs (bytes : List ℕ) (context held : ℕ) (r : Refusal) : T
   pub judged : IsJudgedWith bytes context held (Refused r.code r.slot)
   pub why : IsWhy bytes judged.decl judged.rows (string_bytes r.sentence)
 
--- why they are not loaded
+-- why they are not loaded: memory is asked for only where what is declared is in range
 abbrev pub IsLoadFault : List ℕ → (context held : ℕ) → LoadFault → Type 0
 IsLoadFault bytes context held (fault.Refused r) = IsRefusedAs bytes context held r
 IsLoadFault bytes context held fault.Declaration = (4096 < context) ⊎ (64 < held)
-IsLoadFault bytes context held fault.NoMemory = Unit {0}
+IsLoadFault bytes context held fault.NoMemory = (context ≤ 4096) × (held ≤ 64)

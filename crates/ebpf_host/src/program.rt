@@ -1,11 +1,12 @@
 //! A program that a host has loaded.
 
-ghost use Rattle.std.specs.Prelude.{◌≡◌, ◌≤◌, length, IfOk, IfErr};
+ghost use Rattle.std.specs.Prelude.{◌≡◌, ◌≤◌, ◌↔◌, length, IsSome, IfSome, IfOk, IfErr};
 ghost use Rattle.ebpf_insn.specs.declared.program.TheConstants.{MAX_SLOTS};
 ghost use Rattle.ebpf_insn.specs.Program.{instructions};
 ghost use Rattle.ebpf_machine.specs.Kinds.{known_kinds};
 ghost use Rattle.ebpf_machine.specs.World.{kinds_of};
 ghost use Rattle.ebpf_host.specs.Loading.{IsLoaded, IsLoadFault, IsRefusedAs, IsJudgedWith};
+ghost use Rattle.ebpf_verify.specs.declared.decl.TheConstants.{MAX_CONTEXT, MAX_HELD};
 ghost use Rattle.ebpf_verify.specs.Verdict.{AreRows};
 
 use crate::refusal::{LoadFault, Refusal};
@@ -13,7 +14,7 @@ use ebpf_command::codes::RefusalCode;
 use ebpf_command::judge::{Judged, judge};
 use ebpf_explain::why::write_why;
 use ebpf_state::kinds::kinds;
-use ebpf_verify::decl::Decl;
+use ebpf_verify::decl::{Decl, MAX_HELD};
 use ebpf_verify::verified::Verified;
 use std::alloc::{AllocError, Global};
 
@@ -32,11 +33,11 @@ impl Program {
     /// # Errors
     /// `Declaration` where one of the two numbers is too large; `Refused` where the bytes are no program of which no run traps; `NoMemory`
     /// where an allocation failed.
-    pub fn load(alloc: Global, bytes: &[u8], context: u32, held: u8) -> Result<Program, LoadFault>
+    pub fn load(alloc: Global, bytes: &[u8], context: u32, held: u32) -> Result<Program, LoadFault>
         ensures loaded { IfOk result (λ p. IsLoaded bytes.now context held p.verified) }
         ensures refused { IfErr result (IsLoadFault bytes.now context held) }
     {
-        let Some(decl) = Decl::new(context, held) else {
+        let Some(decl) = declared(context, held) else {
             return Err(LoadFault::Declaration);
         };
         let rows = kinds();
@@ -76,4 +77,15 @@ impl Program {
     {
         self.verified.decl().context
     }
+}
+
+// What is declared, `None` where a number is out of its range.
+fn declared(context: u32, held: u32) -> Option<Decl>
+    ensures some { IsSome result ↔ ((context ≤ MAX_CONTEXT) × (held ≤ MAX_HELD)) }
+    ensures value { IfSome result (λ d. (d.context ≡ context) × (d.held ≡ held)) }
+{
+    if held > MAX_HELD as u32 {
+        return None;
+    }
+    Decl::new(context, held as u8)
 }

@@ -23,6 +23,10 @@ fault_line e = codes "  " ++ (object_sentence e ++ codes "\n")
 abbrev pub HasFunction : (file name : List ℕ) → Type 0
 HasFunction file name = (f : Function) × IsWanted file name f
 
+-- the file has no such function, or can't be read
+abbrev pub HasFault : (file name : List ℕ) → Type 0
+HasFault file name = (e : ObjectFault) × IsWantedFault file name e
+
 -- the file has the function, whose slots are accepted, as this program
 abbrev pub IsFunctionLoaded : (file name : List ℕ) (context held : ℕ) → Subject → Type 0
 IsFunctionLoaded file name context held s = (f : Function) × IsWanted file name f × IsLoaded f.code.now context held s

@@ -8,6 +8,7 @@ use Rattle.ebpf_machine.specs.declared.report.Report.{Report}
 use Rattle.ebpf_machine.specs.Whole.{is_granted, is_null, is_fetched}
 use Rattle.ebpf_host.specs.declared.refusal.Refusal.{Refusal}
 use Rattle.ebpf_host.specs.declared.stocks.Stocks.{Stocks}
+use Rattle.ebpf_host.specs.Finding.{AreFound}
 use Rattle.ebpf_host.specs.Leaving.{AreLeft}
 use Rattle.ebpf_host.specs.Loading.{IsRefusedAs}
 use Rattle.ebpf_host.specs.Reports.{IsReportWithin}
@@ -25,12 +26,12 @@ is_empty Granted = false
 abbrev pub copied : {X : Type 0} → List X → List X → List X
 copied items room = take (length room) items ++ drop (length items) room
 
--- a code, a slot and a sentence, as far as there is room
+-- a code, a slot and a sentence with a zero after it, as far as there is room; the zero is not counted
 pub record IsTold (code : List ℕ) (slot : ℕ) (sentence room text : List ℕ) (told : Refused) : Type 0 where
   pub code_is : told.code ≡ copied code (0 ∷ 0 ∷ 0 ∷ 0 ∷ [])
   pub slot_is : told.slot ≡ slot
   pub length_is : told.length ≡ length sentence
-  pub text_is : text ≡ copied sentence room
+  pub text_is : text ≡ copied (sentence ++ 0 ∷ []) room
 
 -- a refusal
 pub record IsRefusalTold (bytes : List ℕ) (context held : ℕ) (room text : List ℕ) (told : Refused) : Type 0 where
@@ -42,6 +43,7 @@ pub record IsRefusalTold (bytes : List ℕ) (context held : ℕ) (room text : Li
 pub record IsReportTold (old new : Stocks) (s : Subject) (context : List ℕ) (limit : ℕ) (room output : List ℕ) (told : Reported) : Type 0 where
   pub report : Report
   pub is : IsReportWithin s context limit report
+  pub found : AreFound old s context report
   pub left : AreLeft old new s context report
   pub exited : told.exited ≡ is_some report.exit
   pub exit : told.exit ≡ unwrap_or report.exit 0

@@ -1,6 +1,6 @@
 //! Machines, as C makes them, runs programs on them, and frees them.
 
-ghost use Rattle.std.specs.Prelude.{◌≡◌, ◌≢◌, ◌⊎◌, ◌<◌, ℕ, None, length};
+ghost use Rattle.std.specs.Prelude.{◌≡◌, ◌≢◌, ◌⊎◌, ◌<◌, ◌↔◌, ℕ, None, length};
 ghost use Rattle.std.specs.Arc.{arc_value};
 ghost use Rattle.std.specs.Option.{MatchOption};
 ghost use Rattle.vmem_arena.specs.declared.arena.TheConstants.{MAX_PAGES};
@@ -22,7 +22,7 @@ use vmem_arena::ArenaFault;
 #[unsafe(no_mangle)]
 pub extern "C" fn ebpf_machine_new(alloc: Global, machine: &mut MachineHandle, pages: u32) -> u32
     ensures made { result ≡ 0 → MatchOption machine.new.value ⊥ (λ m. (m.arena.pages ≡ pages) × ((kind : ℕ) → (stock_of m kind).shelf ≡ None)) }
-    ensures pages { result ≡ 3 → (pages ≡ 0) ⊎ (MAX_PAGES < pages) }
+    ensures pages { (result ≡ 3) ↔ ((pages ≡ 0) ⊎ (MAX_PAGES < pages)) }
     ensures statuses { (result ≡ 0) ⊎ (result ≡ 3) ⊎ (result ≡ 6) }
     ensures kept { result ≢ 0 → machine.new.value ≡ machine.old.value }
 {
@@ -49,26 +49,24 @@ pub extern "C" fn ebpf_machine_free(alloc: Global, machine: &mut MachineHandle)
 
 /// Gives the pages of a machine on which there is no object that is held or is on a shelf back to its arena.
 #[unsafe(no_mangle)]
-pub extern "C" fn ebpf_machine_reap(alloc: Global, machine: &mut MachineHandle) -> u32
+pub extern "C" fn ebpf_machine_reap(machine: &mut MachineHandle) -> u32
     ensures told { MatchOption machine.old.value (result ≡ 5) (λ _. result ≡ 0) }
     ensures shelves { MachineGoes ShelvesStay machine.old.value machine.new.value }
     ensures pages { MachineGoes PagesStay machine.old.value machine.new.value }
 {
-    match machine.take(alloc) {
+    match machine.get_mut() {
         None => EMPTY,
-        Some(mut held) => {
+        Some(held) => {
             held.reap();
-            machine.put(alloc, held);
             DONE
         }
     }
 }
 
 /// Runs a program on a context, `limit` instructions at most, and reports what it did: by `report`, and its output by `output`, as far as
-/// there is room.
+/// there is room. It writes the word of neither handle, so that handles may lie side by side.
 #[unsafe(no_mangle)]
 pub extern "C" fn ebpf_machine_run(
-    alloc: Global,
     machine: &mut MachineHandle,
     program: &mut ProgramHandle,
     context: &[u8],
@@ -79,21 +77,19 @@ pub extern "C" fn ebpf_machine_run(
     ensures report { result ≡ 0 → IsRunTold program.old.value machine.old.value machine.new.value context.now limit output.old output.new report.new }
     ensures pages { MachineGoes PagesStay machine.old.value machine.new.value }
     ensures unchanged { result ≢ 0 → machine.new.value ≡ machine.old.value }
+    ensures unmade { result ≢ 0 → (output.new ≡ output.old) × (report.new ≡ report.old) }
     ensures context { result ≡ 4 → MatchOption program.old.value ⊥ (λ p. length context.now ≢ (arc_value p).verified.decl.context) }
+    ensures memory { result ≡ 6 → MatchOption program.old.value ⊥ (λ p. length context.now ≡ (arc_value p).verified.decl.context) }
     ensures empty { MatchOption machine.old.value (result ≡ 5) (λ _. MatchOption program.old.value (result ≡ 5) (λ _. (result ≡ 0) ⊎ (result ≡ 4) ⊎ (result ≡ 6))) }
     ensures kept { program.new.value ≡ program.old.value }
 {
-    let Some(mut held) = machine.take(alloc) else {
+    let Some(held) = machine.get_mut() else {
         return EMPTY;
     };
-    let Some(loaded) = program.take(alloc) else {
-        machine.put(alloc, held);
+    let Some(loaded) = program.get_mut() else {
         return EMPTY;
     };
-    let status = run_held(&mut held, &loaded, context, limit, output, report);
-    machine.put(alloc, held);
-    program.put(alloc, loaded);
-    status
+    run_held(held, loaded, context, limit, output, report)
 }
 
 // The same with what the handles hold.
@@ -108,7 +104,9 @@ fn run_held(
     ensures report { result ≡ 0 → IsReportTold machine.old machine.new program.now.verified context.now limit output.old output.new report.new }
     ensures pages { machine.new.arena.pages ≡ machine.old.arena.pages }
     ensures unchanged { result ≢ 0 → machine.new ≡ machine.old }
+    ensures unmade { result ≢ 0 → (output.new ≡ output.old) × (report.new ≡ report.old) }
     ensures context { result ≡ 4 → length context.now ≢ program.now.verified.decl.context }
+    ensures memory { result ≡ 6 → length context.now ≡ program.now.verified.decl.context }
     ensures statuses { (result ≡ 0) ⊎ (result ≡ 4) ⊎ (result ≡ 6) }
 {
     match machine.run_in_place(program, context, limit) {

@@ -1,10 +1,10 @@
 //! Programs, as C loads and frees them.
 
-ghost use Rattle.std.specs.Prelude.{◌≡◌, ◌≢◌, ◌⊎◌, ◌<◌, None};
+ghost use Rattle.std.specs.Prelude.{◌≡◌, ◌≢◌, ◌⊎◌, ◌<◌, ◌≤◌, None};
 ghost use Rattle.std.specs.Arc.{arc_value};
 ghost use Rattle.std.specs.Option.{MatchOption};
 ghost use Rattle.ebpf_host.specs.Loading.{IsLoaded};
-ghost use Rattle.ebpf_host_c.specs.Objects.{HasFunction, IsFunctionLoaded, IsFunctionRefused};
+ghost use Rattle.ebpf_host_c.specs.Objects.{HasFault, HasFunction, IsFunctionLoaded, IsFunctionRefused};
 ghost use Rattle.ebpf_host_c.specs.Told.{IsRefusalTold};
 
 use crate::share::keep;
@@ -16,21 +16,23 @@ use ebpf_host::refusal::LoadFault;
 use ebpf_object_file::function::wanted_function;
 use std::alloc::{AllocError, Global};
 
-/// Loads a program, and frees what the handle held before. A refusal is reported by `refused`, and its sentence by `text`, as far as there
-/// is room.
+/// Loads a program, and frees what the handle held before. A refusal is reported by `refused`, and its sentence by `text` with a zero
+/// after it, as far as there is room.
 #[unsafe(no_mangle)]
 pub extern "C" fn ebpf_program_load(
     alloc: Global,
     program: &mut ProgramHandle,
     bytes: &[u8],
     context: u32,
-    held: u8,
+    held: u32,
     text: &mut [u8],
     refused: &mut Refused,
 ) -> u32
     ensures loaded { result ≡ 0 → MatchOption program.new.value ⊥ (λ p. IsLoaded bytes.now context held (arc_value p).verified) }
     ensures refused { result ≡ 1 → IsRefusalTold bytes.now context held text.old text.new refused.new }
+    ensures untold { result ≢ 1 → (text.new ≡ text.old) × (refused.new ≡ refused.old) }
     ensures declaration { result ≡ 2 → (4096 < context) ⊎ (64 < held) }
+    ensures memory { result ≡ 6 → (context ≤ 4096) × (held ≤ 64) }
     ensures statuses { (result ≡ 0) ⊎ (result ≡ 1) ⊎ (result ≡ 2) ⊎ (result ≡ 6) }
     ensures kept { result ≢ 0 → program.new.value ≡ program.old.value }
 {
@@ -54,14 +56,16 @@ pub extern "C" fn ebpf_program_load_elf(
     bytes: &[u8],
     name: &[u8],
     context: u32,
-    held: u8,
+    held: u32,
     text: &mut [u8],
     refused: &mut Refused,
 ) -> u32
     ensures loaded { result ≡ 0 → MatchOption program.new.value ⊥ (λ p. IsFunctionLoaded bytes.now name.now context held (arc_value p).verified) }
     ensures refused { result ≡ 1 → IsFunctionRefused bytes.now name.now context held text.old text.new refused.new }
+    ensures untold { result ≢ 1 → (text.new ≡ text.old) × (refused.new ≡ refused.old) }
     // The file is judged first.
     ensures declaration { result ≡ 2 → HasFunction bytes.now name.now × ((4096 < context) ⊎ (64 < held)) }
+    ensures memory { result ≡ 6 → HasFault bytes.now name.now ⊎ ((context ≤ 4096) × (held ≤ 64)) }
     ensures statuses { (result ≡ 0) ⊎ (result ≡ 1) ⊎ (result ≡ 2) ⊎ (result ≡ 6) }
     ensures kept { result ≢ 0 → program.new.value ≡ program.old.value }
 {

@@ -36,12 +36,10 @@ pub extern "C" fn ebpf_program_share(
     ensures unchanged { result ≢ 0 → other.new.value ≡ other.old.value }
     ensures kept { program.new.value ≡ program.old.value }
 {
-    let Some(held) = program.take(alloc) else {
-        return EMPTY;
-    };
-    let status = share_held(alloc, other, &held);
-    program.put(alloc, held);
-    status
+    match program.get_mut() {
+        None => EMPTY,
+        Some(held) => share_held(alloc, other, held),
+    }
 }
 
 // The same with what the handle holds.

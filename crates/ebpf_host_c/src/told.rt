@@ -1,6 +1,6 @@
 //! What C is given: why bytes are refused, and what a run did.
 
-ghost use Rattle.std.specs.Prelude.{◌≡◌, OnOk, filter, is_some, length, string_bytes, unwrap_or};
+ghost use Rattle.std.specs.Prelude.{◌≡◌, ◌++◌, ◌∷◌, [], OnOk, OnErr, filter, is_some, length, string_bytes, unwrap_or};
 ghost use Rattle.ebpf_machine.specs.Whole.{is_granted, is_null, is_fetched};
 ghost use Rattle.ebpf_command.specs.Codes.{refusal_name};
 ghost use Rattle.ebpf_object_file.specs.Sentences.{object_code};
@@ -22,7 +22,7 @@ pub struct Refused {
     pub code: [u8; 4],
     /// The lowest slot that is at fault, 0 where the file is.
     pub slot: u32,
-    /// How many bytes the sentence has.
+    /// How many bytes the sentence has, without the zero after it.
     pub length: u64,
 }
 
@@ -61,13 +61,23 @@ fn copy<T: Copy>(items: &[T], room: &mut [T])
     }
 }
 
+// Copies a sentence and a zero after it, as far as there is room.
+fn copy_ended(sentence: &[u8], text: &mut [u8])
+    ensures { text.new ≡ copied (sentence.now ++ 0 ∷ []) text.old }
+{
+    copy(sentence, text);
+    if sentence.len() < text.len() {
+        text[sentence.len()] = 0;
+    }
+}
+
 // Tells a code, a slot and a sentence.
 fn tell(code: &str, slot: u32, sentence: &[u8], text: &mut [u8], refused: &mut Refused)
     ensures { IsTold code.now slot sentence.now text.old text.new refused.new }
 {
     let mut letters = [0; 4];
     copy(code.as_bytes(), &mut letters);
-    copy(sentence, text);
+    copy_ended(sentence, text);
     *refused = Refused {
         code: letters,
         slot,
@@ -107,7 +117,8 @@ pub(crate) fn tell_fault(
     text: &mut [u8],
     refused: &mut Refused,
 ) -> Result<(), AllocError>
-    ensures { OnOk result (IsTold (object_code fault.entry) (fault_slot fault.entry) (fault_line fault.entry) text.old text.new refused.new) }
+    ensures told { OnOk result (IsTold (object_code fault.entry) (fault_slot fault.entry) (fault_line fault.entry) text.old text.new refused.new) }
+    ensures unchanged { OnErr result ((text.new ≡ text.old) × (refused.new ≡ refused.old)) }
 {
     let line = format!(in alloc; "  {fault}\n")?;
     tell(fault.code(), slot_of(fault), line.as_bytes(), text, refused);

@@ -1,0 +1,5 @@
+use Rattle.std.proofs.Common.{inl}
+use Rattle.ebpf_host_c.proofs.program.ebpf_program_load_elf.Goals as goal
+
+pub returns-in-Err-tell_fault-clause-memory : goal.returns-in-Err-tell_fault-clause-memory
+returns-in-Err-tell_fault-clause-memory c = λ _. inl (c.in-Err.fault, c.in-Err.ensures.refused)
