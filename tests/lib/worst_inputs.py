@@ -163,7 +163,7 @@ WORST = [
           b'', lambda at: slot(0x65, 9, 0, -30000, -2**31).hex().encode() if at < SLOTS else b'#' * MOST,
           0, each('{}: jsgt64 r9, -2147483648, -30000\n')),
     Worst('assemble: jumps to no label, among many', ['assemble'], each('a{:04}: exit\n')(256).encode(), lambda _: b'ja a0256\n',
-          2, lambda _: 'fault A2 line 257\n  this is not an instruction\n'),
+          2, lambda _: 'fault A2 line 257\n  operand 1 is the name of no label\n'),
     Worst('check: branches over a full stack', ['check'], b'', lambda at: line_of(at, 1, 64, BRANCHES),
           2, each(f'{{}} refused V17 {SLOTS - 1}\n')),
     Worst('check: names that look alike', ['check'], b'', lambda at: line_of(f'{ALIKE}{at:08x}', 0, 0, b''),
