@@ -2,7 +2,8 @@
 
 use crate::store::{Given, Store, Sums};
 use ebpf_machine::report::{Reply, Report};
-use ebpf_machine::whole::run_to_exit;
+use ebpf_machine::whole::run_in_place;
+use ebpf_machine::workspace::Workspace;
 use ebpf_verify::verified::Verified;
 use std::alloc::{AllocError, Global};
 use std::marker::Brand;
@@ -29,9 +30,12 @@ fn alone_in<L: Ledger>(
     blank: Blank,
 ) -> Result<(Report, Sums), AllocError> {
     let mut store = Store::<L>::new(alloc, given, blank);
-    let Ok(report) = run_to_exit(alloc, verified, context, &mut store) else {
+    let workspace = Workspace::new(alloc)?;
+    let Ok(ended) = run_in_place(workspace, verified, &context, &mut store) else {
         return Err(AllocError);
     };
+    let (report, workspace) = ended.report();
+    workspace.free();
     let sums = store.sums().ok_or(AllocError)?;
     Ok((report, sums))
 }
