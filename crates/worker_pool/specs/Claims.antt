@@ -1,5 +1,5 @@
 -- What a call of new, free or swap does to the seat of a worker.
-use Rattle.std.specs.Prelude.{◌≡◌, ℕ, ◌+◌, ◌==◌, not, List, [], ◌∷◌, ◌++◌, length, count_by, Option, Some, None, IfSome, option_map}
+use Rattle.std.specs.Prelude.{◌≡◌, ◌≢◌, ◌⊎◌, ℕ, ◌+◌, ◌==◌, not, List, [], ◌∷◌, ◌++◌, length, count_by, Option, Some, None, IfSome, option_map}
 use Rattle.object_cache.specs.ShelfView.{one_if}
 use Rattle.owners_table.specs.Owning.{Holds, SeatView, without}
 use Rattle.ebpf_object.specs.Object.{kind_of, slot_of}
@@ -40,3 +40,8 @@ HasSwapped given got word held held' = HasPassed (option_map slot_of given) (opt
 -- what is given is held, and of the shelf's kind
 abbrev pub IsSwappable : Option Object → (shelf : ℕ) (held : List (ℕ × ℕ)) → Type 0
 IsSwappable given shelf held = IfSome given (λ g. Holds (slot_of g) held × (kind_of g ≡ shelf))
+
+-- a fetch is noted of a stray: its slot was found to be another's than the shelf's, or what was left on the shelf was in this slot too
+abbrev pub IsStray : (shelf : ℕ) (left : Option ℕ) (slot : ℕ) (fetches fetches' : List (ℕ × ℕ)) → Type 0
+IsStray shelf left slot fetches fetches' =
+    (found : ℕ) × (fetches' ≡ fetches ++ (slot, found) ∷ []) × ((found ≢ shelf + 1) ⊎ (left ≡ Some slot))

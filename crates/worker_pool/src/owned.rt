@@ -12,7 +12,7 @@ ghost use Rattle.owners_table.specs.Marking.{mark_word};
 ghost use Rattle.owners_table.specs.Owning.{Holds, without};
 ghost use Rattle.owners_table.specs.declared.mark.TheConstants.{SHELVES, WORDS_OF_A_RUN};
 ghost use Rattle.owners_table.specs.declared.owners.TheConstants.{ARENA_SLOTS};
-ghost use Rattle.worker_pool.specs.Claims.{IsClaimed, shelved_by, lost};
+ghost use Rattle.worker_pool.specs.Claims.{IsClaimed, IsStray, shelved_by, lost};
 ghost use Rattle.ebpf_object.specs.Object.{bytes_of, kind_of, slot_of};
 ghost use Rattle.slab_layer.specs.Images.{patched};
 
@@ -115,6 +115,7 @@ impl Owned {
         ensures apart { OnOk result (left ≢ Some (slot_of object)) }
         ensures no_stray { OnOk result (client.new.strays ≡ client.old.strays) }
         ensures back { IfErr result (λ o. o ≡ object) }
+        ensures due { OnErr result (IsStray shelf left (slot_of object) client.old.seat.fetches client.new.seat.fetches) }
         ensures stray { OnErr result ((client.new.seat.held ≡ client.old.seat.held) × (client.new.strays ≡ client.old.strays + 1)) }
         ensures notes { (client.new.seat.notes ≡ client.old.seat.notes) × (length client.new.seat.fetches ≡ length client.old.seat.fetches + 1) }
         ensures table { client.new.seat.table ≡ client.old.seat.table }

@@ -1,12 +1,12 @@
 //! The store of a worker's runs.
 
-ghost use Rattle.std.specs.Prelude.{◌≡◌, ◌≤◌, ◌<◌, ◌+◌, ◌^◌, ℕ, [], length, option_map, IfSome};
+ghost use Rattle.std.specs.Prelude.{◌≡◌, ◌≤◌, ◌<◌, ◌+◌, ◌^◌, ◌⊎◌, ℕ, [], length, option_map, IfSome, IfNone};
 ghost use Rattle.ebpf_machine.specs.Store.{one_of};
 ghost use Rattle.object_cache.specs.ShelfView.{one_if};
 ghost use Rattle.owners_table.specs.Marking.{mark_word};
 ghost use Rattle.owners_table.specs.Owning.{Holds};
 ghost use Rattle.owners_table.specs.declared.mark.TheConstants.{SHELVES, WORDS_OF_A_RUN};
-ghost use Rattle.worker_pool.specs.Claims.{HasSwapped, IsSwappable, less};
+ghost use Rattle.worker_pool.specs.Claims.{HasSwapped, IsStray, IsSwappable, less};
 ghost use Rattle.worker_pool.specs.Hands.{unused_hands};
 ghost use Rattle.worker_pool.specs.Counts.{all_allocs, all_come, all_gone, all_gets, outs_of};
 ghost use Rattle.worker_pool.specs.Going.{HasAnswered, GoesBy, answered_on, none_answered, tools_of};
@@ -66,9 +66,9 @@ impl<'a, L: Names, R: Wait> Store<'a, L, R> {
 }
 
 impl<'a, L: Names, R: Wait> Objects for Store<'a, L, R> {
-    ghost use Rattle.std.specs.Prelude.{◌≡◌, ◌<◌, ◌+◌, ℕ, option_map, IfSome};
+    ghost use Rattle.std.specs.Prelude.{◌≡◌, ◌<◌, ◌+◌, ◌⊎◌, ℕ, option_map, IfSome, IfNone};
     ghost use Rattle.owners_table.specs.Marking.{mark_word};
-    ghost use Rattle.worker_pool.specs.Claims.{HasSwapped, IsSwappable};
+    ghost use Rattle.worker_pool.specs.Claims.{HasSwapped, IsStray, IsSwappable};
     ghost use Rattle.ebpf_machine.specs.Kinds.{known_kinds};
     ghost use Rattle.ebpf_machine.specs.Store.{one_of};
     ghost use Rattle.object_cache.specs.ShelfView.{one_if};
@@ -131,6 +131,8 @@ impl<'a, L: Names, R: Wait> Objects for Store<'a, L, R> {
         requires given { IsSwappable given shelf self.old.client.seat.held }
         ensures seat { HasSwapped given result (mark_word self.old.client.job at) self.old.client.seat.held self.new.client.seat.held }
         ensures kind { IfSome result (λ h. kind_of h ≡ shelf) }
+        // Where nothing is got, a stray is counted only with its cause.
+        ensures due { IfNone result ((self.new.client.strays ≡ self.old.client.strays) ⊎ ((slot : ℕ) × IsStray shelf (option_map slot_of given) slot self.old.client.seat.fetches self.new.client.seat.fetches)) }
         ensures goes { HasAnswered (tools_of self.old.stocks self.old.client) (tools_of self.new.stocks self.new.client) 0 0 (one_if result) }
         ensures outs { (k : ℕ) → outs_of (hands_of self.new.stocks) k + one_of given shelf k ≡
             outs_of (hands_of self.old.stocks) k + one_of result shelf k }

@@ -1,4 +1,4 @@
-use Rattle.std.proofs.Common.{◌≡◌, ℕ, length, sym, ap, ◌∙◌, arith}
+use Rattle.std.proofs.Common.{◌≡◌, ◌≢◌, ◌⊎◌, inr, ℕ, ◌+◌, List, [], ◌∷◌, ◌++◌, Option, Some, length, sym, subst, ap, ◌∙◌, arith}
 use Rattle.object_cache.specs.ShelfView.{one_if}
 use Rattle.owners_table.specs.Marking.{mark_word}
 use Rattle.owners_table.specs.Owning.{Holds}
@@ -59,6 +59,16 @@ returns-in-Ok-clause-seat g c =
     passed_some slot_of c.args.given c.slot_in-left.result held left (first_of c.args.given (λ o. Holds (slot_of o) held) (λ o. kind_of o ≡ c.args.shelf) c.requires.given)
     (slot_of c.in-Ok.owned) (slot_of c.in-Some.object) (mark_word c.args.self.now.client.job c.args.at) (mark_word c.shelved-given.new.client.job c.args.at) c.shelved-given.new.client.seat.held c.fetch.new.client.seat.held
     (s.held ∙ ap (λ l. less l held) (sym left)) (ap slot_of (sym c.in-Ok.ensures.object)) (ap (λ (j : ℕ). mark_word j c.args.at) s.rest.2) f.fetched.0 f.fetched.1 f.apart
+
+pub returns-in-Err-clause-due : goal.returns-in-Err-clause-due
+returns-in-Err-clause-due g c =
+    let f = c.in-Err.ensures.due in
+    let fetches = c.shelved-given.ensures.notes.1 in
+    let slot = slot_of c.in-Some.object in
+    let found = f.0 in
+    let noted = f.1 ∙ ap (λ (ns : List (ℕ × ℕ)). ns ++ (slot, found) ∷ []) fetches in
+    let why = subst (λ (left : Option ℕ). (found ≢ c.args.shelf + 1) ⊎ (left ≡ Some slot)) c.slot_in-left.ensures f.2 in
+    inr (slot, (found, noted, why))
 
 pub returns-in_default-clause-goes : goal.returns-in_default-clause-goes
 returns-in_default-clause-goes g c =
