@@ -143,6 +143,14 @@ def ledgers(records=0):
     return ''.join(f'kind {kind} slots {slots} held 0\n' for kind, slots in enumerate((0, records, 0)))
 
 
+def covered_text(jobs):
+    """What `run --covered` writes of the programs of `PROGRAMS` and of that many jobs, of each program in turn."""
+    counts = [(at, jobs // PROGRAMS + (at < jobs % PROGRAMS)) for at in range(PROGRAMS)]
+    lines = [f'p{at} accepted 2\n' for at in range(PROGRAMS)] + [f'job {at} exit 0 executed 2 peak 0\n' for at in range(jobs)] + [CACHES]
+    lines += [f'covered p{at} slot 0 executed {count}: mov64 r0, 0\ncovered p{at} slot 1 executed {count}: exit\n' for at, count in counts]
+    return ''.join(lines)
+
+
 # the last lines of `run`, where no object was granted
 CACHES = ''.join(f'cache {name} allocs 0 frees 0 nulls 0 missing 0\n' for name in ('cell', 'record', 'block'))
 
@@ -152,6 +160,9 @@ ALIKE = 'ACmk5m0-k71p6U3odA2TtdvX'
 
 EMITS = EMIT * 2046 + ZERO + EXIT  # 4,094 slots
 BRANCHES, SWAPS = of_branches(), of_swaps()
+PROGRAMS = 9_500
+COVERED = Worst('run --covered: jobs of many programs', ['run', '--covered'], b''.join(line_of(f'p{at}', 0, 0, ZERO + EXIT) for at in range(PROGRAMS)),
+                lambda at: b'run p%d -\n' % (at % PROGRAMS), 0, covered_text)
 NO_PART = lambda _: b''
 
 WORST = [
@@ -181,6 +192,7 @@ WORST = [
           0, each('job {} exit 0 executed 4096 peak 0\n', 'a accepted 4096\n', CACHES)),
     Worst('run: jobs with room for blocks', ['run'], line_of('a', 0, 1, SWAPS), lambda _: b'run a -\n',
           0, each('job {} exit 0 executed 2730 peak 0\n', 'a accepted 4094\n', CACHES)),
+    COVERED,
     Worst('one: an object file with many symbols', ['one', '--elf', '--function', 'b'], of_symbols(43_000), NO_PART,
           0, lambda _: 'accepted 2\nexit 0 executed 2 peak 0\n'),
     Worst('one: an object file with many relocations', ['one', '--elf', '--function', 'a'], of_relocations(65_000), NO_PART,

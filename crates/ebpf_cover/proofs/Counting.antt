@@ -1,9 +1,13 @@
 -- A run that is counted instruction by instruction: its counts are those of the run alone, whatever replies come after its own.
-use Rattle.std.proofs.Common.{◌≡◌, ℕ, zero, suc, ◌+◌, ◌<◌, ◌==◌, get_or, true, ◌&&◌, not, cond, Bool, List, [], Option, Some, None, option_map, refl, sym, ap, ◌∙◌, subst, append_assoc, arith, add-zero, add-one}
-use Rattle.std.specs.Prelude.{IfNone}
+use Rattle.std.proofs.Common.{◌≡◌, ℕ, zero, suc, ◌+◌, ◌<◌, ◌==◌, get_or, true, false, ◌&&◌, not, cond, Bool, List, [], length, Option, Some, None, option_map, refl, sym, ap, ◌∙◌, subst, append_assoc, arith, add-zero, add-one}
+use Rattle.std.specs.Prelude.{IfNone, is_none}
 use Rattle.std.proofs.lemmas.Bool.Decides.{nat_tests}
 use Rattle.ebpf_verify.specs.Subject.{Subject}
-use Rattle.ebpf_machine.specs.World.{Going, kinds_of}
+use Rattle.ebpf_insn.specs.declared.insn.Insn.{Insn}
+use Rattle.ebpf_insn.specs.Program.{insn_at}
+use Rattle.ebpf_insn.proofs.ProgramLemmas.{insn_at_within}
+use Rattle.ebpf_machine.specs.Sound.{IsGoing, IsWellStated}
+use Rattle.ebpf_machine.specs.World.{Status, Going, kinds_of}
 use Rattle.ebpf_machine.specs.Alone.{Replies, replies_from, alone_after}
 use Rattle.ebpf_machine.specs.Replies.{replies_of, replies_in, more_than}
 use Rattle.ebpf_machine.specs.View.{RunView, view_in, stepped}
@@ -20,7 +24,7 @@ use Rattle.ebpf_machine.proofs.World.Steps.{next_of}
 use Rattle.ebpf_machine.proofs.WholeRuns.Told.{HaveSizes, IsUnderWay, sized_out, under_way}
 use Rattle.ebpf_cover.specs.declared.tally.Tally.{Tally}
 use Rattle.ebpf_cover.specs.Covered.{IsRunCounted, times, slot_after, is_slot, is_at, leaves}
-use Rattle.ebpf_cover.specs.Stretches.{goes_on, IsTally, IsNoted, begun_at, executed_so_far, taken_so_far}
+use Rattle.ebpf_cover.specs.Stretches.{goes_on, IsTally, IsNoted, slots_in, begun_at, executed_so_far, taken_so_far}
 use Rattle.ebpf_cover.proofs.Stretching.{IsStretch, stretch_at, is_within, passed_more}
 use Rattle.ebpf_cover.proofs.GoingOn.{straight_on}
 
@@ -78,6 +82,26 @@ there : (v : RunView) (n : ℕ) (subject : Subject) (context : List ℕ) (replie
     → view_in (alone_after v.executed v.subject v.context replies).world 0 ≡ Some v → slot_after subject context replies n ≡ Some v.pc
 there v n subject context replies executed same_subject same_context seen =
     rw (← executed, ← same_subject, ← same_context) (ap (option_map (λ (u : RunView). u.pc)) seen)
+
+-- ---- a run that goes on is at one of its program's slots
+
+some_inside : (p : List (Option Insn)) (k : ℕ) → is_none (insn_at p k) ≡ false → k < length p
+some_inside p k some = by (insn_at p k) refl some where
+  by : (i : Option Insn) → insn_at p k ≡ i → is_none i ≡ false → k < length p
+  by None e is = absurd (cc)
+  by (Some i) e is = insn_at_within p k i e
+
+pub inside_tally : {S H : Type 0} (o : Store S H) (first now : S) (subject : Subject) (context : List ℕ) (r : RunState H) (t : Tally) (at : ℕ) → IsUnderWay o first now subject context r
+    → r.exit ≡ None → IsTally subject.program t → at ≡ r.pc → at < slots_in t
+inside_tally o first now subject context r t at under going tally is = omega (arith, is, here, tally.long, ap (λ (s : Subject). length s.program) under.subject_is) where
+  v : RunView
+  v = seen_in o now r
+
+  stated : IsGoing v
+  stated = subst (λ (status : Status). IsWellStated status v) (ap status_of going) under.sound.stated
+
+  here : r.pc < length r.subject.program
+  here = some_inside r.subject.program r.pc stated.inside
 
 -- ---- counts of a run under way
 

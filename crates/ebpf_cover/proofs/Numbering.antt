@@ -4,21 +4,20 @@ use Rattle.std.proofs.lemmas.Bool.Decides.{nat_tests}
 use Rattle.std.proofs.lemmas.List.{get_or-set_same, get_or-set_other, get_or_past, length-set}
 use Rattle.std.proofs.lemmas.Bool.{cases_eq, cases_lt}
 use Rattle.ebpf_insn.specs.declared.insn.Insn.{Insn}
-use Rattle.ebpf_insn.specs.declared.program.TheConstants.{MAX_SLOTS}
 use Rattle.ebpf_insn.specs.Program.{insn_at}
 use Rattle.ebpf_insn.proofs.ProgramLemmas.{insn_at_within}
 use Rattle.ebpf_flow.specs.Edges.{edges_of}
 use Rattle.ebpf_cover.specs.declared.tally.Tally.{Tally}
-use Rattle.ebpf_cover.specs.Stretches.{is_only, goes_on, AreStraight, passed, IsTally, begun_at, executed_so_far}
+use Rattle.ebpf_cover.specs.Stretches.{is_only, goes_on, AreStraight, passed, IsTally, slots_in, begun_at, executed_so_far}
 
 -- ---- from the last slot down
 
 -- the numbers of all slots but the first ones of a program
 pub record AreNumbered (p : List (Option Insn)) (slots past : ℕ) (numbers : List ℕ) : Type 0 where
-  pub long : length numbers ≡ MAX_SLOTS
+  pub long : length numbers ≡ slots
   pub none : (slot : ℕ) → slot + past < slots → get_or numbers slot 0 ≡ 0
   pub done : (slot : ℕ) → slots ≤ slot + past → get_or numbers slot 0 ≡ cond (goes_on p slot) (get_or numbers (slot + 1) 0 + 1) 0
-  pub inside : (slot : ℕ) → slot < MAX_SLOTS → slot + get_or numbers slot 0 < MAX_SLOTS
+  pub inside : (slot : ℕ) → slot < slots → slot + get_or numbers slot 0 < slots
 
 -- no instruction is past the end
 off_past : (p : List (Option Insn)) (slot : ℕ) → length p ≤ slot → goes_on p slot ≡ false
@@ -27,7 +26,7 @@ off_past p slot past = by (insn_at p slot) refl where
   by None e = ap (λ (i : Option Insn). is_only (edges_of i slot).fall (edges_of i slot).jump (slot + 1)) e
   by (Some i) e = absurd (let few = insn_at_within p slot i e in omega (arith, few, past))
 
-pub none_numbered : (p : List (Option Insn)) (slots : ℕ) (numbers : List ℕ) → slots ≡ length p → length numbers ≡ MAX_SLOTS → ((slot : ℕ) → get_or numbers slot 0 ≡ 0) → AreNumbered p slots 0 numbers
+pub none_numbered : (p : List (Option Insn)) (slots : ℕ) (numbers : List ℕ) → slots ≡ length p → length numbers ≡ slots → ((slot : ℕ) → get_or numbers slot 0 ≡ 0) → AreNumbered p slots 0 numbers
 none_numbered p slots numbers all long zeros = record {
   long = long;
   none = λ slot few. zeros slot;
@@ -36,9 +35,9 @@ none_numbered p slots numbers all long zeros = record {
 }
 
 -- the one before goes straight on
-pub one_numbered : (p : List (Option Insn)) (slots past at number : ℕ) (numbers : List ℕ) → at + past + 1 ≡ slots → at + 1 < slots → slots ≤ MAX_SLOTS → goes_on p at ≡ true
+pub one_numbered : (p : List (Option Insn)) (slots past at number : ℕ) (numbers : List ℕ) → at + past + 1 ≡ slots → at + 1 < slots → goes_on p at ≡ true
     → number ≡ get_or numbers (at + 1) 0 + 1 → AreNumbered p slots past numbers → AreNumbered p slots (past + 1) (set numbers at number)
-one_numbered p slots past at number numbers here more few on is h = record {
+one_numbered p slots past at number numbers here more on is h = record {
   long = length-set numbers at number ∙ h.long;
   none = λ slot below. other slot (omega (arith, below, here)) ∙ h.none slot (omega (arith, below));
   done = λ slot above. done slot above (cases_eq slot at);
@@ -49,7 +48,7 @@ one_numbered p slots past at number numbers here more few on is h = record {
     other slot ne = get_or-set_other numbers at slot number 0 ne
 
     same : get_or (set numbers at number) at 0 ≡ number
-    same = get_or-set_same numbers at number 0 (omega (arith, more, few, h.long))
+    same = get_or-set_same numbers at number 0 (omega (arith, more, h.long))
 
     next : get_or (set numbers at number) (at + 1) 0 ≡ get_or numbers (at + 1) 0
     next = other (at + 1) (omega arith)
@@ -59,9 +58,9 @@ one_numbered p slots past at number numbers here more few on is h = record {
     done slot above (inl e) = rw (e, on) (same ∙ is ∙ sym (ap (λ (n : ℕ). n + 1) next))
     done slot above (inr ne) = other slot ne ∙ h.done slot (omega (arith, above, here, ne)) ∙ sym (ap (λ (n : ℕ). cond {A = ℕ} (goes_on p slot) (n + 1) 0) (other (slot + 1) (omega (arith, above, here, ne))))
 
-    inside : (slot : ℕ) → slot < MAX_SLOTS → (slot ≡ at) ⊎ (slot ≢ at) → slot + get_or (set numbers at number) slot 0 < MAX_SLOTS
+    inside : (slot : ℕ) → slot < slots → (slot ≡ at) ⊎ (slot ≢ at) → slot + get_or (set numbers at number) slot 0 < slots
     inside slot below (inl e) =
-        let after = h.inside (at + 1) (omega (arith, more, few)) in
+        let after = h.inside (at + 1) (omega (arith, more)) in
         let this = ap (λ (k : ℕ). get_or (set numbers at number) k 0) e in
         omega (arith, after, this, same, is, e)
     inside slot below (inr ne) = let was = h.inside slot below in let this = other slot ne in omega (arith, was, this)
@@ -87,7 +86,7 @@ all_numbered p slots past numbers all h = λ slot. h.done slot (omega (arith, al
 
 -- the slots below this one have their counts
 pub record AreSummed (p : List (Option Insn)) (t : Tally) (upto : ℕ) (executed : List ℕ) : Type 0 where
-  pub long : length executed ≡ MAX_SLOTS
+  pub long : length executed ≡ slots_in t
   pub done : (slot : ℕ) → slot < upto → get_or executed slot 0 ≡ executed_so_far p t slot
   pub left : (slot : ℕ) → upto ≤ slot → get_or executed slot 0 ≡ begun_at t slot
 
@@ -148,23 +147,23 @@ off_by p t slot number h is none = by (goes_on p slot) (h.straight slot) where
   by false e = refl
 
 -- past the last slot nothing is counted
-last_number : (p : List (Option Insn)) (t : Tally) → IsTally p t → (slot : ℕ) → MAX_SLOTS ≤ suc slot → get_or t.straight.items slot 0 ≤ 0
-last_number p t h slot past = by (cases_lt slot MAX_SLOTS) where
-  by : (slot < MAX_SLOTS) ⊎ (MAX_SLOTS ≤ slot) → get_or t.straight.items slot 0 ≤ 0
+last_number : (p : List (Option Insn)) (t : Tally) → IsTally p t → (slot : ℕ) → slots_in t ≤ suc slot → get_or t.straight.items slot 0 ≤ 0
+last_number p t h slot past = by (cases_lt slot (slots_in t)) where
+  by : (slot < slots_in t) ⊎ (slots_in t ≤ slot) → get_or t.straight.items slot 0 ≤ 0
   by (inl below) = let inside = h.wide.inside slot below in omega (arith, inside, past)
-  by (inr above) = let none = get_or_past t.straight.items slot 0 (omega (arith, above, h.wide.straight)) in omega (arith, none)
+  by (inr above) = let none = get_or_past t.straight.items slot 0 above in omega (arith, none)
 
-none_past : (p : List (Option Insn)) (t : Tally) → IsTally p t → (slot : ℕ) → MAX_SLOTS ≤ slot → executed_so_far p t slot ≡ 0
+none_past : (p : List (Option Insn)) (t : Tally) → IsTally p t → (slot : ℕ) → slots_in t ≤ slot → executed_so_far p t slot ≡ 0
 unfolding passed
-none_past p t h zero past = absurd (omega (arith, past))
+none_past p t h zero past = get_or_past t.begun.items 0 0 (omega (arith, past, h.wide.begun))
 none_past p t h (suc slot) past =
     let none = get_or_past t.begun.items (suc slot) 0 (omega (arith, past, h.wide.begun)) in
     let off = ap (λ (b : Bool). cond {A = ℕ} b (executed_so_far p t slot) 0) (off_by p t slot _ h refl (last_number p t h slot past)) in
     omega (arith, none, off)
 
-pub all_summed : (p : List (Option Insn)) (t : Tally) (upto : ℕ) (executed : List ℕ) → IsTally p t → MAX_SLOTS ≤ upto → AreSummed p t upto executed
+pub all_summed : (p : List (Option Insn)) (t : Tally) (upto : ℕ) (executed : List ℕ) → IsTally p t → slots_in t ≤ upto → AreSummed p t upto executed
     → (slot : ℕ) → get_or executed slot 0 ≡ executed_so_far p t slot
-all_summed p t upto executed h all sums slot = by (cases_lt slot MAX_SLOTS) where
-  by : (slot < MAX_SLOTS) ⊎ (MAX_SLOTS ≤ slot) → get_or executed slot 0 ≡ executed_so_far p t slot
+all_summed p t upto executed h all sums slot = by (cases_lt slot (slots_in t)) where
+  by : (slot < slots_in t) ⊎ (slots_in t ≤ slot) → get_or executed slot 0 ≡ executed_so_far p t slot
   by (inl below) = sums.done slot (omega (arith, below, all))
   by (inr past) = get_or_past executed slot 0 (omega (arith, past, sums.long)) ∙ sym (none_past p t h slot past)

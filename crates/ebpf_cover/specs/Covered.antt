@@ -1,6 +1,6 @@
 -- Which instructions runs executed, and where they went on elsewhere than at the next slot.
-use Rattle.std.specs.Prelude.{◌≡◌, ℕ, zero, suc, ◌+◌, ◌==◌, ◌&&◌, not, cond, Bool, false, List, [], ◌∷◌, length, get_or, Option, Some, None, option_map}
-use Rattle.ebpf_insn.specs.declared.program.TheConstants.{MAX_SLOTS}
+use Rattle.std.specs.Prelude.{◌≡◌, ℕ, zero, suc, ◌+◌, ◌==◌, ◌&&◌, not, cond, Bool, false, List, [], ◌∷◌, length, get_or, slice_get, Option, Some, None, option_map}
+use Rattle.ebpf_insn.specs.declared.insn.Insn.{Insn}
 use Rattle.ebpf_verify.specs.Subject.{Subject}
 use Rattle.ebpf_machine.specs.declared.report.Report.{Report}
 use Rattle.ebpf_machine.specs.Alone.{Replies, alone_after}
@@ -56,10 +56,10 @@ taken_in s program jobs reports slot = sum_of (λ job r. taken_by s job.context 
 
 -- ---- counts
 
--- there is a count for each slot that a program can have
-pub record AreLong (c : Counts) : Type 0 where
-  pub executed : length c.executed.items ≡ MAX_SLOTS
-  pub taken : length c.taken.items ≡ MAX_SLOTS
+-- there is a count for each slot of the program
+pub record AreLong (p : List (Option Insn)) (c : Counts) : Type 0 where
+  pub executed : length c.executed.items ≡ length p
+  pub taken : length c.taken.items ≡ length p
 
 abbrev pub executed_at : Counts → ℕ → ℕ
 executed_at c slot = get_or c.executed.items slot 0
@@ -74,6 +74,11 @@ pub record IsRunCounted (s : Subject) (context : List ℕ) (r : Report) (execute
 
 -- the counts of a program over all jobs
 pub record AreCounts (s : Subject) (program : ℕ) (jobs : List Job) (reports : List Report) (c : Counts) : Type 0 where
-  pub long : AreLong c
+  pub long : AreLong s.program c
   pub executed : (slot : ℕ) → executed_at c slot ≡ executed_in s program jobs reports slot
   pub taken : (slot : ℕ) → taken_at c slot ≡ taken_in s program jobs reports slot
+
+-- there are counts for each program, those over all jobs
+pub record AreAllCounts (subjects : List Subject) (jobs : List Job) (reports : List Report) (all : List Counts) : Type 0 where
+  pub long : length all ≡ length subjects
+  pub each : (program : ℕ) (s : Subject) (c : Counts) → slice_get subjects program ≡ Some s → slice_get all program ≡ Some c → AreCounts s program jobs reports c

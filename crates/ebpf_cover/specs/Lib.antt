@@ -1,4 +1,5 @@
 pub mod Covered
 pub mod Stretches
+pub mod Tallies
 pub mod Exchange
 pub mod Answering

@@ -1,7 +1,6 @@
 -- Stretches of a program: instructions that lead to the slot after them and nowhere else, and the one after them.
 use Rattle.std.specs.Prelude.{◌≡◌, ℕ, zero, suc, ◌+◌, ◌<◌, ◌==◌, ◌&&◌, not, cond, Bool, false, List, length, get_or, Option, Some, None}
 use Rattle.ebpf_insn.specs.declared.insn.Insn.{Insn}
-use Rattle.ebpf_insn.specs.declared.program.TheConstants.{MAX_SLOTS}
 use Rattle.ebpf_flow.specs.Edges.{edges_at}
 use Rattle.ebpf_cover.specs.declared.tally.Tally.{Tally}
 
@@ -26,16 +25,20 @@ passed on begun (suc slot) = begun (suc slot) + cond (on slot) (passed on begun 
 
 -- ---- a tally of stretches
 
--- it has a number for each slot that a program can have, and a stretch ends at one of them
+-- how many slots it is of
+abbrev pub slots_in : Tally → ℕ
+slots_in t = length t.straight.items
+
+-- it has a number for each of them, and a stretch ends at one of them
 pub record IsWide (t : Tally) : Type 0 where
-  pub straight : length t.straight.items ≡ MAX_SLOTS
-  pub begun : length t.begun.items ≡ MAX_SLOTS
-  pub taken : length t.taken.items ≡ MAX_SLOTS
-  pub inside : (slot : ℕ) → slot < MAX_SLOTS → slot + get_or t.straight.items slot 0 < MAX_SLOTS
+  pub begun : length t.begun.items ≡ slots_in t
+  pub taken : length t.taken.items ≡ slots_in t
+  pub inside : (slot : ℕ) → slot < slots_in t → slot + get_or t.straight.items slot 0 < slots_in t
 
 -- it is of stretches of this program
 pub record IsTally (p : List (Option Insn)) (t : Tally) : Type 0 where
   pub wide : IsWide t
+  pub long : slots_in t ≡ length p
   pub straight : AreStraight p t.straight.items
 
 abbrev pub begun_at : Tally → ℕ → ℕ

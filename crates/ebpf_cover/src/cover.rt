@@ -1,17 +1,21 @@
-//! The counts of a program over jobs that were done.
+//! The counts of each program over jobs that were done.
+//!
+//! *The idea.* There is a tally for each program, as long as the program, and one walk over the jobs: each is counted in the tally of its
+//! program. So the time is that of the jobs, however many programs there are.
 
 ghost use Rattle.std.specs.Prelude.{◌≡◌, ◌<◌, ◌≤◌, ◌+◌, None, length, true, IfOk};
 ghost use Rattle.ebpf_insn.specs.declared.program.TheConstants.{MAX_SLOTS};
 ghost use Rattle.ebpf_insn.specs.Program.{instructions};
 ghost use Rattle.ebpf_machine.specs.World.{kinds_of};
-ghost use Rattle.ebpf_machine.specs.Kinds.{known_kinds};
+ghost use Rattle.ebpf_machine.specs.Kinds.{AreKnown, known_kinds};
 ghost use Rattle.ebpf_machine.specs.Sound.{IsAlone};
 ghost use Rattle.ebpf_machine.specs.Step.{seen_in};
 ghost use Rattle.ebpf_machine.specs.Store.{AreOut};
 ghost use Rattle.ebpf_machine.specs.Turns.{AreTurns};
 ghost use Rattle.ebpf_cover.specs.Answering.{answering};
-ghost use Rattle.ebpf_cover.specs.Covered.{AreCounts, IsRunCounted};
+ghost use Rattle.ebpf_cover.specs.Covered.{AreAllCounts, IsRunCounted};
 ghost use Rattle.ebpf_cover.specs.Stretches.{IsTally, executed_so_far, taken_so_far};
+ghost use Rattle.ebpf_cover.specs.Tallies.{AreBlank, AreSums, AreTallies};
 
 use crate::counts::Counts;
 use crate::replaying::Replaying;
@@ -25,21 +29,20 @@ use ebpf_verify::verified::Verified;
 use std::alloc::{AllocError, Global};
 use worker_pool::{FEW_ANSWERS, JobReport, Jobs, PackedReports};
 
-/// Counts what the jobs of the program of this number executed, by their reports: each is run once more, alone.
+/// Counts what the jobs of each program executed, by their reports: each is run once more, alone.
 ///
-/// It fails only where memory runs out, or a count would not fit 64 bits.
+/// It fails only if memory runs out, or a count would not fit 64 bits.
 pub fn cover(
     alloc: Global,
-    program: usize,
-    verified: &Verified,
+    accepted: &[Verified],
     jobs: &Jobs,
     reports: &PackedReports,
-) -> Result<Counts, AllocError>
-    requires known { kinds_of verified.now.rows ≡ known_kinds }
+) -> Result<Vec<Counts>, AllocError>
+    requires known { AreKnown accepted.now }
     requires all { length reports.now ≡ length jobs.now }
-    ensures { IfOk result (AreCounts verified.now program jobs.now reports.now) }
+    ensures { IfOk result (λ all. AreAllCounts accepted.now jobs.now reports.now all.items) }
 {
-    let mut tally = Tally::none(alloc, verified)?;
+    let mut tallies = blank_tallies(alloc, accepted)?;
     let mut workspace = Workspace::new(alloc)?;
     let mut left = reports.iter();
     'covered: for index in 0..jobs.len() {
@@ -47,12 +50,43 @@ pub fn cover(
             unreachable!()
         };
         let job = jobs.job(index);
-        if job.program == program {
-            workspace = count_run(alloc, workspace, verified, job.context, report, &mut tally)?;
+        let program = job.program;
+        if program < accepted.len() {
+            let verified = &accepted[program];
+            let tally = &mut tallies[program];
+            workspace = count_run(alloc, workspace, verified, job.context, report, tally)?;
         }
     }
     workspace.free();
-    tally.counts(verified)
+    sum_up(alloc, accepted, &tallies)
+}
+
+// A tally of nothing for each program. It fails only if an allocation fails.
+fn blank_tallies(alloc: Global, accepted: &[Verified]) -> Result<Vec<Tally>, AllocError>
+    ensures tallies { IfOk result (λ ts. AreTallies accepted.now ts.items) }
+    ensures blank { IfOk result (λ ts. AreBlank accepted.now ts.items) }
+{
+    let mut tallies = Vec::new(alloc);
+    'made: for program in 0..accepted.len() {
+        tallies.push(Tally::none(alloc, &accepted[program])?)?;
+    }
+    Ok(tallies)
+}
+
+// The counts that the tallies come to. It fails only if memory runs out, or a count would not fit 64 bits.
+fn sum_up(
+    alloc: Global,
+    accepted: &[Verified],
+    tallies: &[Tally],
+) -> Result<Vec<Counts>, AllocError>
+    requires { AreTallies accepted.now tallies.now }
+    ensures { IfOk result (λ all. AreSums accepted.now tallies.now all.items) }
+{
+    let mut all = Vec::new(alloc);
+    'summed: for program in 0..tallies.len() {
+        all.push(tallies[program].counts(alloc, &accepted[program])?)?;
+    }
+    Ok(all)
 }
 
 // Counts what one run executed, by its report, in the memory of another, and gives the memory back. It fails only where memory runs

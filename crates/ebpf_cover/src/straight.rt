@@ -4,19 +4,18 @@ ghost use Rattle.std.specs.Prelude.{◌≡◌, ◌+◌, ◌<◌, ℕ, true, leng
 ghost use Rattle.ebpf_insn.specs.declared.program.TheConstants.{MAX_SLOTS};
 ghost use Rattle.ebpf_cover.specs.Stretches.{AreStraight, goes_on};
 
-use ebpf_insn::program::MAX_SLOTS;
 use ebpf_verify::verified::Verified;
 use std::alloc::{AllocError, Global};
 
-/// For each slot that a program can have, how many instructions from there on lead to the slot after them and nowhere else. It fails
-/// only where an allocation fails.
+/// For each slot of a program, how many instructions from there on lead to the slot after them and nowhere else. It fails only if an
+/// allocation fails.
 pub(crate) fn straight_in(alloc: Global, verified: &Verified) -> Result<Vec<u16>, AllocError>
     ensures straight { IfOk result (λ s. AreStraight verified.now.program s.items) }
-    ensures inside { IfOk result (λ s. (slot : ℕ) → slot < MAX_SLOTS → slot + get_or s.items slot 0 < MAX_SLOTS) }
-    ensures long { IfOk result (λ s. length s.items ≡ MAX_SLOTS) }
+    ensures inside { IfOk result (λ s. (slot : ℕ) → slot < length s.items → slot + get_or s.items slot 0 < length s.items) }
+    ensures long { IfOk result (λ s. length s.items ≡ length verified.now.program) }
 {
-    let mut straight = vec![in alloc; 0; MAX_SLOTS]?;
     let slots = verified.program().slots();
+    let mut straight = vec![in alloc; 0; slots]?;
     'slots: for past in 0..slots {
         let slot = slots - 1 - past;
         if goes_on(verified, slot) {

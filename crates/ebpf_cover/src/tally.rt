@@ -5,17 +5,15 @@
 //! summed up once, at the end.
 
 ghost use Rattle.std.specs.Prelude.{◌≡◌, ℕ, ◌+◌, ◌<◌, ◌==◌, cond, length, get_or, IfOk, OnOk};
-ghost use Rattle.ebpf_insn.specs.declared.program.TheConstants.{MAX_SLOTS};
 ghost use Rattle.ebpf_cover.specs.Covered.{AreLong, executed_at, taken_at};
-ghost use Rattle.ebpf_cover.specs.Stretches.{IsNoted, IsTally, IsWide, begun_at, executed_so_far, taken_so_far};
+ghost use Rattle.ebpf_cover.specs.Stretches.{IsNoted, IsTally, IsWide, begun_at, executed_so_far, slots_in, taken_so_far};
 
 use crate::counts::Counts;
 use crate::straight::straight_in;
-use ebpf_insn::program::MAX_SLOTS;
 use ebpf_verify::verified::Verified;
 use std::alloc::{AllocError, Global};
 
-/// For each slot that a program can have: how many instructions from there on go straight on, how often a stretch began there, and how
+/// For each slot of a program: how many instructions from there on go straight on, how often a stretch began there, and how
 /// often one ended there and did not go on to the next slot.
 #[derive(Drop)]
 pub(crate) struct Tally {
@@ -31,19 +29,20 @@ impl Tally {
         ensures begun { IfOk result (λ t. (slot : ℕ) → begun_at t slot ≡ 0) }
         ensures taken { IfOk result (λ t. (slot : ℕ) → taken_so_far t slot ≡ 0) }
     {
+        let slots = verified.program().slots();
         Ok(Tally {
             straight: straight_in(alloc, verified)?,
-            begun: vec![in alloc; 0; MAX_SLOTS]?,
-            taken: vec![in alloc; 0; MAX_SLOTS]?,
+            begun: vec![in alloc; 0; slots]?,
+            taken: vec![in alloc; 0; slots]?,
         })
     }
 
     /// How many instructions from a slot on lead to the slot after them and nowhere else.
     pub(crate) fn straight_from(&self, slot: usize) -> usize
-        requires inside { slot < MAX_SLOTS }
+        requires inside { slot < slots_in self.now }
         requires wide { IsWide self.now }
         ensures value { result ≡ get_or self.now.straight.items slot 0 }
-        ensures inside { slot + result < MAX_SLOTS }
+        ensures inside { slot + result < slots_in self.now }
     {
         self.straight[slot] as usize
     }
@@ -52,8 +51,8 @@ impl Tally {
     /// 64 bits.
     pub(crate) fn note(&mut self, first: usize, last: usize, next: usize) -> Result<(), AllocError>
         requires wide { IsWide self.old }
-        requires first { first < MAX_SLOTS }
-        requires last { last < MAX_SLOTS }
+        requires first { first < slots_in self.old }
+        requires last { last < slots_in self.old }
         ensures noted { OnOk result (IsNoted first last next self.old self.new) }
         ensures wide { IsWide self.new }
         ensures straight { self.new.straight.items ≡ self.old.straight.items }
@@ -65,21 +64,17 @@ impl Tally {
         Ok(())
     }
 
-    /// The counts that the stretches come to. It fails only where a count would not fit 64 bits.
-    pub(crate) fn counts(self, verified: &Verified) -> Result<Counts, AllocError>
-        requires { IsTally verified.now.program self }
-        ensures long { IfOk result AreLong }
-        ensures executed { IfOk result (λ c. (slot : ℕ) → executed_at c slot ≡ executed_so_far verified.now.program self slot) }
-        ensures taken { IfOk result (λ c. (slot : ℕ) → taken_at c slot ≡ taken_so_far self slot) }
+    /// The counts that the stretches come to. It fails only if an allocation fails, or a count would not fit 64 bits.
+    pub(crate) fn counts(&self, alloc: Global, verified: &Verified) -> Result<Counts, AllocError>
+        requires { IsTally verified.now.program self.now }
+        ensures long { IfOk result (AreLong verified.now.program) }
+        ensures executed { IfOk result (λ c. (slot : ℕ) → executed_at c slot ≡ executed_so_far verified.now.program self.now slot) }
+        ensures taken { IfOk result (λ c. (slot : ℕ) → taken_at c slot ≡ taken_so_far self.now slot) }
     {
-        let Tally {
-            straight,
-            begun,
-            taken,
-        } = self;
-        let mut executed = begun;
-        'slots: for slot in 1..MAX_SLOTS {
-            if straight[slot - 1] > 0 {
+        let taken = Vec::from_slice(alloc, &self.taken)?;
+        let mut executed = Vec::from_slice(alloc, &self.begun)?;
+        'slots: for slot in 1..self.straight.len() {
+            if self.straight[slot - 1] > 0 {
                 let before = executed[slot - 1];
                 add(&mut executed, slot, before)?;
             }

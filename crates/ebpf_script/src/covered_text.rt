@@ -2,7 +2,6 @@
 
 ghost use Rattle.std.specs.Prelude.{◌≡◌, ◌++◌, length, map, string_bytes, OnOk};
 ghost use Rattle.ebpf_machine.specs.Kinds.{AreKnown};
-ghost use Rattle.ebpf_insn.specs.declared.program.TheConstants.{MAX_SLOTS};
 ghost use Rattle.ebpf_cover.specs.Covered.{AreLong, executed_at, taken_at};
 ghost use Rattle.ebpf_script.specs.CoveredLines.{counts_members, counts_words, covered_in, covered_line, covered_lines, covered_object, instruction_member, is_branch, programs_from, slots_from, taken_member};
 ghost use Rattle.std.specs.Option.{option_copied};
@@ -55,12 +54,13 @@ fn write_covered(
     requires all { length reports.now ≡ length jobs.now }
     ensures { OnOk result (string_bytes text.new ≡ string_bytes text.old ++ programs_from format jobs.now reports.now 0 (map named programs.now.entries) accepted.now) }
 {
+    let all = cover(alloc, accepted, jobs, reports)?;
     let mut program = 0;
     for (name, _) in programs.iter() {
         if program < accepted.len() {
             let verified = &accepted[program];
-            let counts = cover(alloc, program, verified, jobs, reports)?;
-            write_slots(text, format, name.as_str(), verified.program(), &counts)?;
+            let counts = &all[program];
+            write_slots(text, format, name.as_str(), verified.program(), counts)?;
             program += 1;
         }
     }
@@ -75,7 +75,7 @@ fn write_slots(
     program: &Program,
     counts: &Counts,
 ) -> Result<(), AllocError>
-    requires { AreLong counts.now }
+    requires { AreLong program.now counts.now }
     ensures { OnOk result (string_bytes text.new ≡ string_bytes text.old ++ slots_from format name.now (executed_at counts.now) (taken_at counts.now) 0 program.now) }
 {
     for slot in 0..program.slots() {

@@ -1,9 +1,9 @@
-use Rattle.std.proofs.Common.{◌≡◌, ℕ, get_or, ap, sym, ◌∙◌, subst, rules}
+use Rattle.std.proofs.Common.{◌≡◌, ℕ, None, length, get_or, ap, sym, ◌∙◌, subst, rules}
 use Rattle.ebpf_machine.specs.RunState.{RunState}
 use Rattle.ebpf_machine.proofs.WholeRuns.Starts.{starts}
 use Rattle.ebpf_cover.specs.Answering.{answering}
 use Rattle.ebpf_cover.specs.Stretches.{AreStraight}
-use Rattle.ebpf_cover.proofs.Counting.{none_counted, stretch_counted, run_counted}
+use Rattle.ebpf_cover.proofs.Counting.{none_counted, stretch_counted, run_counted, inside_tally}
 use Rattle.ebpf_cover.proofs.cover.count_run.Goals as goal
 
 pub counting-init : goal.counting-init
@@ -16,6 +16,11 @@ counting-init c =
           (ap (λ (r : RunState _). r.executed) c.in-Ok.ensures.started);
     }
 
+pub straight_from-more-requires-clause-inside : goal.straight_from-more-requires-clause-inside
+straight_from-more-requires-clause-inside c =
+    let going : c.counting.run.exit ≡ None = search rules in
+    inside_tally answering _ _ c.args.verified.now _ c.counting.run c.counting.tally c.pc-first.result c.counting.invariant.counted.under going c.counting.invariant.tally c.pc-first.ensures.value
+
 pub counting-preserved : goal.counting-preserved
 counting-preserved c =
     let was = c.counting.tally in
@@ -23,6 +28,7 @@ counting-preserved c =
     let straight = ap (λ (slot : ℕ). get_or was.straight.items slot 0) (sym c.pc-first.ensures.value) ∙ sym c.straight_from-more.ensures.value in record {
       tally = record {
         wide = c.in_ok-note.ensures.wide;
+        long = ap length c.in_ok-note.ensures.straight ∙ c.counting.invariant.tally.long;
         straight = subst (AreStraight c.args.verified.now.program) (sym c.in_ok-note.ensures.straight) c.counting.invariant.tally.straight;
       };
       counted =

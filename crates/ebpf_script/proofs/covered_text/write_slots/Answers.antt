@@ -11,11 +11,10 @@ loop-slot-preserved c =
     let counts = c.args.counts.now in
     let slot = c.loop-slot.slot in
     let inside : slot < length c.args.program.now = subst (λ n. slot < n) c.slots-slot-end.ensures.value c.loop-slot-test.true in
-    let bound = c.slots-slot-end.ensures.bound in
     let executed : c.index-executed.result.now ≡ executed_at counts slot =
-    c.index-executed.ensures ∙ get_or_default_zero counts.executed.items slot c.index-executed.result.now (omega (arith, c.loop-slot-test.true, bound, c.requires.executed)) in
+    c.index-executed.ensures ∙ get_or_default_zero counts.executed.items slot c.index-executed.result.now (omega (arith, inside, c.requires.executed)) in
     let taken : c.index-taken.result.now ≡ taken_at counts slot =
-    c.index-taken.ensures ∙ get_or_default_zero counts.taken.items slot c.index-taken.result.now (omega (arith, c.loop-slot-test.true, bound, c.requires.taken)) in
+    c.index-taken.ensures ∙ get_or_default_zero counts.taken.items slot c.index-taken.result.now (omega (arith, inside, c.requires.taken)) in
     let written : string_bytes c.write_slot.new.text ≡ string_bytes c.loop-slot.text ++ covered_in c.args.format c.args.name.now slot (executed_at counts slot) (taken_at counts slot) (insn_at c.args.program.now slot) =
     c.in_ok-write_slot.ensures ∙ (λ n. string_bytes c.loop-slot.text ++ covered_in c.args.format c.args.name.now slot (executed n) (taken n) (c.at.ensures n)) in
     slot_next c.args.format c.args.name.now (executed_at counts) (taken_at counts) slot c.args.program.now _ (string_bytes c.loop-slot.text) (string_bytes c.write_slot.new.text) inside written c.loop-slot.invariant
