@@ -10,7 +10,7 @@ ghost use Rattle.ebpf_host.specs.Stocks.{stock_of};
 
 use crate::program::Program;
 use crate::stock::Counts;
-use crate::stocks::Stocks;
+use crate::stocks::{Stocks, WORDS_APART};
 use crate::within::run_within;
 use ebpf_machine::ended::Ended;
 use ebpf_machine::report::Report;
@@ -26,9 +26,12 @@ use vmem_arena::{Arena, ArenaFault};
 /// program; what a run leaves on a shelf is there for the next. All of it ends with the machine.
 pub struct Machine {
     alloc: Global,
+    // It and `after` keep what other threads use off the lines of the processor's cache on which runs write here.
+    before: [u64; WORDS_APART],
     stocks: Box<Stocks>,
     // None before the first run, and after one that found no memory.
     workspace: Option<Workspace<Object>>,
+    after: [u64; WORDS_APART],
 }
 
 impl Model for Machine {
@@ -54,8 +57,10 @@ impl Machine {
         match Box::new(alloc, Stocks::new(alloc, arena)) {
             Ok(stocks) => Ok(Machine {
                 alloc,
+                before: [0; WORDS_APART],
                 stocks,
                 workspace: None,
+                after: [0; WORDS_APART],
             }),
             Err(failed) => {
                 failed.value.end();
@@ -134,7 +139,7 @@ impl Machine {
     {
         match mem::replace(&mut self.workspace, None) {
             Some(workspace) => Ok(workspace),
-            None => Workspace::new(self.alloc),
+            None => Workspace::apart(self.alloc),
         }
     }
 
@@ -172,8 +177,10 @@ impl Drop for Machine {
     fn drop(self) {
         let Machine {
             alloc: _,
+            before: _,
             stocks,
             workspace,
+            after: _,
         } = self;
         Box::into_inner(stocks).end();
         if let Some(workspace) = workspace {

@@ -13,12 +13,18 @@ use slab_layer::{BlockKind, CellKind, Kind, RecordKind};
 use std::alloc::Global;
 use vmem_arena::{Arena, MAX_PAGES};
 
+/// How many words are unused before and after what a run writes: 128 bytes, two lines of the processor's cache, since they may be fetched
+/// together. So what two machines write is on no line of both, wherever an allocator puts them.
+pub(crate) const WORDS_APART: usize = 16;
+
 /// An arena, and a stock of each kind that gets its pages there. They must be ended.
 pub struct Stocks {
+    before: [u64; WORDS_APART],
     pub(crate) arena: Arena,
     pub(crate) cells: Stock<CellKind>,
     pub(crate) records: Stock<RecordKind>,
     pub(crate) blocks: Stock<BlockKind>,
+    after: [u64; WORDS_APART],
 }
 
 impl Stocks {
@@ -28,10 +34,12 @@ impl Stocks {
         ensures arena { result.arena ≡ arena }
     {
         Stocks {
+            before: [0; WORDS_APART],
             arena,
             cells: Stock::new(alloc),
             records: Stock::new(alloc),
             blocks: Stock::new(alloc),
+            after: [0; WORDS_APART],
         }
     }
 
@@ -51,6 +59,7 @@ impl Stocks {
             cells,
             records,
             blocks,
+            ..
         } = self;
         match kind {
             0 => match cells.take(arena) {
@@ -119,6 +128,7 @@ impl Stocks {
             cells,
             records,
             blocks,
+            ..
         } = self;
         reap_all(cells, arena);
         reap_all(records, arena);
@@ -148,10 +158,12 @@ impl Stocks {
     /// Ends the stocks, with all their objects.
     pub(crate) fn end(self) {
         let Stocks {
+            before: _,
             arena: _,
             cells,
             records,
             blocks,
+            after: _,
         } = self;
         cells.end();
         records.end();

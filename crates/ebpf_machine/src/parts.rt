@@ -7,9 +7,20 @@ use crate::registers::Registers;
 use crate::report::Reply;
 use crate::stack::Stack;
 
+/// How many bytes are unused before and after what a run writes, where that is on lines of the processor's cache of its own: two lines,
+/// since they may be fetched together.
+pub(crate) const BYTES_APART: usize = 128;
+
+/// How many items of eight bytes or more take as much.
+pub(crate) const ITEMS_APART: usize = 16;
+
 /// A run's own, but for its program, of which nothing is promised: `crate::run::Run` says what always holds of both.
 #[derive(Drop)]
 pub(crate) struct Parts<H> {
+    // It and `after` keep what other threads write off the lines of what is between them.
+    pub(crate) before: [u64; ITEMS_APART],
+    // Whether the lists leave as much room unused after their items.
+    pub(crate) is_apart: bool,
     pub(crate) context: Vec<u8>,
     pub(crate) pc: usize,
     pub(crate) registers: Registers,
@@ -21,6 +32,7 @@ pub(crate) struct Parts<H> {
     pub(crate) exit: Option<u64>,
     pub(crate) executed: u64,
     pub(crate) peak: u64,
+    pub(crate) after: [u64; ITEMS_APART],
 }
 
 impl<H> Parts<H> {

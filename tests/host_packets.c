@@ -1,0 +1,74 @@
+/* A host of some threads that run one program, each on a machine of its own. The machines, and a handle of the program for each, lie side
+ * by side in an array, as docs/EMBEDDING.md shows it. The words: the program's slots as hex, the bytes of its context, how many objects it
+ * holds, how many threads there are, and how many runs each does. It writes the nanoseconds that the runs took. */
+#include <assert.h>
+#include <pthread.h>
+#include <stdio.h>
+#include <stdlib.h>
+#include <string.h>
+#include <time.h>
+
+#include "ebpf_host.h"
+
+enum { MOST_THREADS = 64, MOST_CONTEXT = 4096 };
+
+struct worker {
+    ebpf_program program;
+    ebpf_machine machine;
+};
+
+static struct worker workers[MOST_THREADS];
+static pthread_t threads[MOST_THREADS];
+static pthread_barrier_t start;
+static uint8_t packet[MOST_CONTEXT];
+static uint32_t context, held;
+static unsigned long runs;
+
+/* what each thread writes between its runs is on its own stack */
+static void *work(void *argument) {
+    struct worker *worker = argument;
+    ebpf_report report = {0};
+    uint64_t output[8], outputs = 0;
+    pthread_barrier_wait(&start);
+    for (unsigned long i = 0; i < runs; i++) {
+        assert(ebpf_machine_run(&worker->machine, &worker->program, packet, context, UINT64_MAX, output, 8, &report) == EBPF_DONE);
+        assert(report.exited && report.refused == 0);
+        outputs += report.outputs;
+    }
+    return (void *)(uintptr_t)outputs;
+}
+
+static long long now(void) {
+    struct timespec time;
+    clock_gettime(CLOCK_MONOTONIC, &time);
+    return time.tv_sec * 1000000000ll + time.tv_nsec;
+}
+
+int main(int count, char **words) {
+    assert(count == 6);
+    static uint8_t slots[32768];
+    size_t length = strlen(words[1]) / 2;
+    assert(length <= sizeof slots);
+    for (size_t i = 0; i < length; i++) assert(sscanf(words[1] + 2 * i, "%2hhx", &slots[i]) == 1);
+    context = (uint32_t)atoi(words[2]), held = (uint32_t)atoi(words[3]);
+    int many = atoi(words[4]);
+    runs = strtoul(words[5], NULL, 10);
+    assert(context <= MOST_CONTEXT && many >= 1 && many <= MOST_THREADS);
+    if (context == 24) packet[0] = 0x45, packet[9] = 6, packet[22] = 0x1f, packet[23] = 0x40; /* by TCP to port 8000 */
+
+    ebpf_program program = {0};
+    ebpf_refusal refusal;
+    assert(ebpf_program_load(&program, slots, length, context, held, NULL, 0, &refusal) == EBPF_DONE);
+    for (int i = 0; i < many; i++) {
+        assert(ebpf_program_share(&workers[i].program, &program) == EBPF_DONE && ebpf_machine_new(&workers[i].machine, 4) == EBPF_DONE);
+    }
+    assert(pthread_barrier_init(&start, NULL, (unsigned)many + 1) == 0);
+    for (int i = 0; i < many; i++) assert(pthread_create(&threads[i], NULL, work, &workers[i]) == 0);
+    pthread_barrier_wait(&start);
+    long long began = now();
+    for (int i = 0; i < many; i++) assert(pthread_join(threads[i], NULL) == 0);
+    printf("%lld\n", now() - began);
+    for (int i = 0; i < many; i++) ebpf_machine_free(&workers[i].machine), ebpf_program_free(&workers[i].program);
+    ebpf_program_free(&program);
+    return 0;
+}
