@@ -20,7 +20,7 @@ flow_words i slots JumpOutside =
     codes "jumps " ++ (jump_text i ++ (codes " slots from the next one, but the program has " ++ (decimal slots ++ codes " slots: make it lead to one of them")))
 flow_words i slots JumpIntoWide = codes "jumps " ++ (jump_text i ++ codes " slots from the next one, into the second half of a wide instruction: make it lead to an instruction")
 flow_words i slots JumpBackward =
-    codes "jumps back by " ++ (jump_text i ++ codes " slots: programs only go forward, so unroll loops, and lay blocks out in the order in which they run")
+    codes "jumps back by " ++ (jump_text i ++ codes " slots: programs only go forward: unroll a loop, or have lay-out put the blocks in order where there is none")
 flow_words i slots FallsOffEnd = codes "continues past the last slot: end the program with exit"
 flow_words i slots Unreachable = codes "cannot be reached from slot 0 by going forward: remove it, or make an earlier jump lead to it"
 

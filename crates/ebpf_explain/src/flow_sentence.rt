@@ -56,7 +56,7 @@ fn write_words(
             text.push_str("jumps back by ")?;
             write_jump(text, insn)?;
             text.push_str(
-                " slots: programs only go forward, so unroll loops, and lay blocks out in the order in which they run",
+                " slots: programs only go forward: unroll a loop, or have lay-out put the blocks in order where there is none",
             )
         }
         FlowCode::FallsOffEnd => text.push_str(
