@@ -39,7 +39,7 @@ fn bytes_of(rt: &impl Abort, alloc: Global, digits: &str) -> Vec<u8> {
 }
 
 // A program that is accepted.
-fn loaded(rt: &impl Abort, alloc: Global, digits: &str, context: u32, held: u8) -> Program {
+fn loaded(rt: &impl Abort, alloc: Global, digits: &str, context: u32, held: u32) -> Program {
     let bytes = bytes_of(rt, alloc, digits);
     match Program::load(alloc, &bytes, context, held) {
         Ok(program) => program,
