@@ -14,6 +14,11 @@ SECONDS = 60  # an example that takes longer has failed
 REFUSED = re.compile(r'(?:\S+ )?refused [IFV]\d+ \d+|fault [SAO]\d line \d+|stopped E\d+ \d+|\{(?:"program":"[\w-]+",)?"(?:refused|fault|stopped)":.*')
 
 
+def calling(program, command):
+    """A command that calls this program in place of the one that the documents call, which may be the one without proof."""
+    return command.replace(f'{PROGRAM} --unproved', PROGRAM).replace(PROGRAM, program)
+
+
 class Example(NamedTuple):
     place: str  # the file, and the line of the command
     command: str

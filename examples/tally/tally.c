@@ -1,6 +1,6 @@
 // Counts a reading among the eighths of 0 to 255, in a record on a shelf that any number of workers share: 0, or 1 where there is no record
 // for it. The context is the reading, a byte.
-#include "../include/ebpf_program.h"
+#include "../../include/ebpf_program.h"
 
 unsigned long tally(const ebpf_byte *reading)
 {
