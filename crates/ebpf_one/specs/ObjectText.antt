@@ -51,9 +51,10 @@ IsUnder format file (object.Outside o) under =
 IsUnder format file _ under = under ≡ []
 
 -- the response to a file that has no such program
-abbrev pub RespondsFault : Format → (file : List ℕ) → ObjectFault → Response → Type 0
-RespondsFault format file e response =
-    (under : List ℕ) × IsUnder format file e under × (response ≡ refused_response (object_fault_lines format e ++ under))
+pub record RespondsFault (format : Format) (file : List ℕ) (e : ObjectFault) (response : Response) : Type 0 where
+  pub under : List ℕ
+  pub is_under : IsUnder format file e under
+  pub told : response ≡ refused_response (object_fault_lines format e ++ under)
 
 -- by a command's response to raw bytes
 abbrev pub RespondsObject : Format → Responding → List ℕ → Responding

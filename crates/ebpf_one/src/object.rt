@@ -84,7 +84,8 @@ fn write_under(
             let line = lines.at(outside.place.from, outside.at);
             write_place(format, text, lines, line)
         }
-        Ok(None) | Err(_) => Ok(()),
+        Ok(None) => Ok(()),
+        Err(_) => Ok(()),
     }
 }
 
