@@ -28,6 +28,7 @@ from assembly import encoded
 from built import TESTS
 
 TABLE = TESTS / 'commands.txt'
+ADVICE = 'ebpf_run: the script has more than 1048576 bytes: run-many cuts such a script, and runs the parts\n'
 
 
 class Case(NamedTuple):
@@ -36,6 +37,11 @@ class Case(NamedTuple):
     given: bytes
     status: int
     text: bytes
+
+    @property
+    def error(self):
+        """What the program says on standard error: of a script that is too long to be run, what cuts it."""
+        return ADVICE if self.calls[0][0] == b'run' and self.text == b'fault S1 line 0\n' else ''
 
 
 def plain(part):
